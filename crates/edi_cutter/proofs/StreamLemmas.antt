@@ -6,7 +6,7 @@ use Rattle.edi_segments.specs.Characters.{is_break}
 use Rattle.edi_segments.specs.Reading.{breaks_len}
 use Rattle.edi_segments.specs.Advice.{without_breaks}
 use Rattle.edi_cutter.specs.Positions.{position_after}
-use Rattle.edi_cutter.specs.Cuts.{Cutting, is_whole, pending, interchange, IsOpen, IsInterchange, IsPending}
+use Rattle.edi_cutter.specs.Cuts.{Cutting, is_whole, pending_bytes, interchange, IsOpen, IsInterchange, IsPending}
 use Rattle.edi_cutter.specs.Streams.{HasNone, AreCuts, Feeds, FeedsAll, stream_of, CutsTheStream, CutsAreOne}
 use Rattle.edi_cutter.proofs.FeedLemmas.{nothing_open}
 use Rattle.edi_cutter.proofs.FirstLemmas.{first_is_one}
@@ -61,39 +61,39 @@ some_bytes bytes (good, whole, before) none = false≢true (sym nothing_open ∙
 
 -- what is pending is a front of an interchange, without line breaks in front
 record Pends (c : Cutting) : Type 0 where
-  open_ : IsPending (pending c)
-  front : breaks_len (pending c) ≡ 0
+  open_ : IsPending (pending_bytes c)
+  front : breaks_len (pending_bytes c) ≡ 0
 
-pending_is : (c : Cutting) (bytes : List ℕ) → c ≡ record { text = bytes; fault = None } → is_whole bytes ≡ false → pending c ≡ bytes
-pending_is c bytes is going = ap pending is ∙ rw going refl
+pending_is : (c : Cutting) (bytes : List ℕ) → c ≡ record { text = bytes; fault = None } → is_whole bytes ≡ false → pending_bytes c ≡ bytes
+pending_is c bytes is going = ap pending_bytes is ∙ rw going refl
 
-nothing_pending : (c : Cutting) (bytes : List ℕ) → c ≡ record { text = bytes; fault = None } → is_whole bytes ≡ true → pending c ≡ []
-nothing_pending c bytes is whole = ap pending is ∙ rw whole refl
+nothing_pending : (c : Cutting) (bytes : List ℕ) → c ≡ record { text = bytes; fault = None } → is_whole bytes ≡ true → pending_bytes c ≡ []
+nothing_pending c bytes is whole = ap pending_bytes is ∙ rw whole refl
 
 interchange_is : (c : Cutting) (bytes : List ℕ) → c ≡ record { text = bytes; fault = None } → is_whole bytes ≡ true → interchange c ≡ bytes
 interchange_is c bytes is whole = ap interchange is ∙ rw whole refl
 
 -- ---- one piece
 
-feeds_cut : (interchanges : List (List ℕ)) (c new : Cutting) (piece : List ℕ) → Feeds c piece interchanges new → AreCuts (pending c ++ piece) interchanges (pending new) × Pends new
+feeds_cut : (interchanges : List (List ℕ)) (c new : Cutting) (piece : List ℕ) → Feeds c piece interchanges new → AreCuts (pending_bytes c ++ piece) interchanges (pending_bytes new) × Pends new
 feeds_cut [] c new piece (pends, is) =
-    let text : List ℕ = without_breaks (pending c ++ piece) in
-    let same : pending new ≡ text = pending_is new text is pends.0.1 in
-    let here : IsPending (pending new) = subst IsPending (sym same) pends in
-    ((same, has_none (pending new) here), record { open_ = here; front = ap breaks_len same ∙ none_left (pending c ++ piece) })
+    let text : List ℕ = without_breaks (pending_bytes c ++ piece) in
+    let same : pending_bytes new ≡ text = pending_is new text is pends.0.1 in
+    let here : IsPending (pending_bytes new) = subst IsPending (sym same) pends in
+    ((same, has_none (pending_bytes new) here), record { open_ = here; front = ap breaks_len same ∙ none_left (pending_bytes c ++ piece) })
 feeds_cut (first ∷ others) c new piece (n, next, (some, within, done, is), first_is, rest) =
-    let text : List ℕ = without_breaks (pending c ++ take n piece) in
+    let text : List ℕ = without_breaks (pending_bytes c ++ take n piece) in
     let later = feeds_cut others next new (drop n piece) rest in
     let first_text : first ≡ text = first_is ∙ interchange_is next text is done.1 in
-    let nothing : pending next ≡ [] = nothing_pending next text is done.1 in
-    let whole : without_breaks (pending c ++ piece) ≡ text ++ drop n piece =
-    ap without_breaks (ap (λ (t : List ℕ). pending c ++ t) (sym (take-append-drop n piece)) ∙ sym (append_assoc (pending c) (take n piece) (drop n piece)))
-    ∙ without_more (pending c ++ take n piece) (drop n piece) (some_bytes text done) in (
+    let nothing : pending_bytes next ≡ [] = nothing_pending next text is done.1 in
+    let whole : without_breaks (pending_bytes c ++ piece) ≡ text ++ drop n piece =
+    ap without_breaks (ap (λ (t : List ℕ). pending_bytes c ++ t) (sym (take-append-drop n piece)) ∙ sym (append_assoc (pending_bytes c) (take n piece) (drop n piece)))
+    ∙ without_more (pending_bytes c ++ take n piece) (drop n piece) (some_bytes text done) in (
       (
         drop n piece,
         subst IsInterchange (sym first_text) done,
         whole ∙ ap (λ (t : List ℕ). t ++ drop n piece) (sym first_text),
-        subst (λ (q : List ℕ). AreCuts (q ++ drop n piece) others (pending new)) nothing later.0,
+        subst (λ (q : List ℕ). AreCuts (q ++ drop n piece) others (pending_bytes new)) nothing later.0,
       ),
       later.1,
     )
@@ -115,28 +115,28 @@ cuts_append (first ∷ here) later stream rest more end (behind, is, whole, cuts
     no_front [] b e = refl
     no_front (x ∷ a) b e = absurd cc
 
-feeds_all : (pieces interchanges : List (List ℕ)) (c new : Cutting) → Pends c → FeedsAll c pieces interchanges new → AreCuts (pending c ++ stream_of pieces) interchanges (pending new)
+feeds_all : (pieces interchanges : List (List ℕ)) (c new : Cutting) → Pends c → FeedsAll c pieces interchanges new → AreCuts (pending_bytes c ++ stream_of pieces) interchanges (pending_bytes new)
 feeds_all [] interchanges c new pends (none, same) =
-    let stays : pending new ≡ pending c = ap pending same in
-    let rest : pending new ≡ without_breaks (pending c ++ []) = stays ∙ sym (without_none (pending c) pends.front) ∙ ap without_breaks (sym (append-nil (pending c))) in
-    subst (λ (is : List (List ℕ)). AreCuts (pending c ++ []) is (pending new)) (sym none) (rest, has_none (pending new) (subst IsPending (sym stays) pends.open_))
+    let stays : pending_bytes new ≡ pending_bytes c = ap pending_bytes same in
+    let rest : pending_bytes new ≡ without_breaks (pending_bytes c ++ []) = stays ∙ sym (without_none (pending_bytes c) pends.front) ∙ ap without_breaks (sym (append-nil (pending_bytes c))) in
+    subst (λ (is : List (List ℕ)). AreCuts (pending_bytes c ++ []) is (pending_bytes new)) (sym none) (rest, has_none (pending_bytes new) (subst IsPending (sym stays) pends.open_))
 feeds_all (piece ∷ pieces) interchanges c new pends (here, later, next, feeds, others, is) =
     let one = feeds_cut here c next piece feeds in
     let more = feeds_all pieces later next new one.1 others in
-    let all = cuts_append here later (pending c ++ piece) (pending next) (stream_of pieces) (pending new) one.0 more in
-    subst (λ (is : List (List ℕ)). AreCuts (pending c ++ (piece ++ stream_of pieces)) is (pending new)) (sym is)
-    (subst (λ (t : List ℕ). AreCuts t (here ++ later) (pending new)) (append_assoc (pending c) piece (stream_of pieces)) all)
+    let all = cuts_append here later (pending_bytes c ++ piece) (pending_bytes next) (stream_of pieces) (pending_bytes new) one.0 more in
+    subst (λ (is : List (List ℕ)). AreCuts (pending_bytes c ++ (piece ++ stream_of pieces)) is (pending_bytes new)) (sym is)
+    (subst (λ (t : List ℕ). AreCuts t (here ++ later) (pending_bytes new)) (append_assoc (pending_bytes c) piece (stream_of pieces)) all)
 
 nothing_pends : IsPending []
 unfolding position_after
 nothing_pends = ((refl, refl), λ m h. absurd (omega (arith, h)))
 
-starts_open : (c : Cutting) → pending c ≡ [] → Pends c
+starts_open : (c : Cutting) → pending_bytes c ≡ [] → Pends c
 starts_open c none = record { open_ = subst IsPending (sym none) nothing_pends; front = ap breaks_len none }
 
 pub cuts_the_stream : CutsTheStream
 cuts_the_stream c new pieces interchanges none feeds =
-    subst (λ (q : List ℕ). AreCuts (q ++ stream_of pieces) interchanges (pending new)) none (feeds_all pieces interchanges c new (starts_open c none) feeds)
+    subst (λ (q : List ℕ). AreCuts (q ++ stream_of pieces) interchanges (pending_bytes new)) none (feeds_all pieces interchanges c new (starts_open c none) feeds)
 
 -- ---- one list of interchanges
 

@@ -2,7 +2,7 @@
 use Rattle.std.specs.Prelude.{◌≡◌, ℕ, List, [], ◌∷◌, ◌++◌, take, drop, None, Some}
 use Rattle.std.specs.List.{flat_map}
 use Rattle.edi_segments.specs.Advice.{without_breaks}
-use Rattle.edi_cutter.specs.Cuts.{Cutting, pending, interchange, IsInterchange, Answers}
+use Rattle.edi_cutter.specs.Cuts.{Cutting, pending_bytes, interchange, IsInterchange, Answers}
 
 -- no front of the bytes is an interchange
 abbrev pub HasNone : List ℕ → Type 0
@@ -25,9 +25,9 @@ AreCuts stream interchanges rest = CutsFrom (EndsWith rest) stream interchanges
 
 -- the interchanges that calls of `feed` give for a piece, each with what the one before left of it, until it is used up
 abbrev pub Feeds : Cutting → List ℕ → List (List ℕ) → Cutting → Type 0
-Feeds c piece [] new = Answers (pending c) piece new None
+Feeds c piece [] new = Answers (pending_bytes c) piece new None
 Feeds c piece (first ∷ others) new =
-    (n : ℕ) × (next : Cutting) × Answers (pending c) piece next (Some n) × (first ≡ interchange next)
+    (n : ℕ) × (next : Cutting) × Answers (pending_bytes c) piece next (Some n) × (first ≡ interchange next)
     × Feeds next (drop n piece) others new
 
 -- the interchanges of pieces, one after the other
@@ -45,8 +45,8 @@ stream_of pieces = flat_map (λ piece. piece) pieces
 -- its rest.
 abbrev pub CutsTheStream : Type 0
 CutsTheStream =
-    (c new : Cutting) (pieces interchanges : List (List ℕ)) → pending c ≡ [] → FeedsAll c pieces interchanges new
-    → AreCuts (stream_of pieces) interchanges (pending new)
+    (c new : Cutting) (pieces interchanges : List (List ℕ)) → pending_bytes c ≡ [] → FeedsAll c pieces interchanges new
+    → AreCuts (stream_of pieces) interchanges (pending_bytes new)
 
 -- A stream has one list of interchanges and one rest. So these depend on the stream alone, however it is cut into
 -- pieces.

@@ -10,7 +10,7 @@ use Rattle.edi_segments.specs.Tokens.{is_service}
 use Rattle.edi_segments.specs.Advice.{default_service}
 use Rattle.edi_segments.specs.Text.{Content, IsSameSegment, SpellsByte, Spells, ElementText, ElementsText, SegmentText, SegmentsText}
 use Rattle.edi_segments.specs.Interchange.{InterchangeText}
-use Rattle.edi_segments.specs.Spelling.{spelled_byte, spelling, is_empty_value, is_empty_element, composite, elements_text, segment_text, segments_text, Writing, begun, with_element, with_elements, with_segment}
+use Rattle.edi_segments.specs.Spelling.{spelled_byte, spelling, is_empty_value, is_empty_element, composite, elements_text, segment_text, segments_text, Writing, with_tag, with_element, with_elements, with_segment}
 use Rattle.edi_segments.specs.Written.{IsWritableSegment, AreSameSegments, WritesSegments, ReadsBack}
 use Rattle.edi_segments.proofs.AdviceLemmas.{interchange_complete}
 
@@ -46,8 +46,8 @@ either_way false text others none = refl
 segment_written : (w : Writing) (segment : Content) → (with_segment w segment).text ≡ w.text ++ segment_text segment
 segment_written w segment =
     let tagged : List ℕ = w.text ++ segment.tag in
-    let stands : take (with_elements (begun w segment.tag) segment.elements).kept (with_elements (begun w segment.tag) segment.elements).text ≡ tagged ++ elements_text segment.elements =
-    elements_kept (begun w segment.tag) segment.elements (omega arith) ∙ either_way (list_all is_empty_element segment.elements) tagged (elements_text segment.elements) (nothing_kept segment.elements) in
+    let stands : take (with_elements (with_tag w segment.tag) segment.elements).kept (with_elements (with_tag w segment.tag) segment.elements).text ≡ tagged ++ elements_text segment.elements =
+    elements_kept (with_tag w segment.tag) segment.elements (omega arith) ∙ either_way (list_all is_empty_element segment.elements) tagged (elements_text segment.elements) (nothing_kept segment.elements) in
     ap (λ (t : List ℕ). t ++ 39 ∷ []) stands ∙ simp append_assoc
 
 pub writes_segments : WritesSegments

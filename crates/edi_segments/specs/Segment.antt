@@ -39,5 +39,5 @@ components_left components =
     (parts_of components.service components.service.component false text.now)) components.rest []
 
 -- the value as an array of that length, if it has that length
-abbrev pub fixed : ℕ → List ℕ → Option (List ℕ)
-fixed size value = if length value == size then Some value else None
+abbrev pub value_of_length : ℕ → List ℕ → Option (List ℕ)
+value_of_length size value = if length value == size then Some value else None

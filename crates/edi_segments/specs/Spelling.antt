@@ -64,8 +64,8 @@ abbrev pub nothing_written : Writing
 nothing_written = record { text = []; kept = 0; is_open = false }
 
 -- the tag of a segment more
-abbrev pub begun : Writing → List ℕ → Writing
-begun w tag = record { text = w.text ++ tag; kept = length (w.text ++ tag); is_open = true }
+abbrev pub with_tag : Writing → List ℕ → Writing
+with_tag w tag = record { text = w.text ++ tag; kept = length (w.text ++ tag); is_open = true }
 
 -- an element more
 abbrev pub with_element : Writing → List (List ℕ) → Writing
@@ -90,4 +90,4 @@ with_elements w (element ∷ elements) = with_elements (with_element w element) 
 
 -- a segment more
 abbrev pub with_segment : Writing → Content → Writing
-with_segment w segment = with_terminator (with_elements (begun w segment.tag) segment.elements)
+with_segment w segment = with_terminator (with_elements (with_tag w segment.tag) segment.elements)

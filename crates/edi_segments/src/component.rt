@@ -20,7 +20,7 @@ pub struct Component<'a> {
 }
 
 impl<'a> Component<'a> {
-    ghost use Rattle.edi_segments.specs.Segment.{value, bytes_left, fixed};
+    ghost use Rattle.edi_segments.specs.Segment.{value, bytes_left, value_of_length};
 
     pub(crate) fn new(service: Service, text: &'a [u8]) -> Component<'a>
         ensures { value result ≡ value_of service false text.now }
@@ -131,7 +131,7 @@ impl<'a> Component<'a> {
 
     /// The value as an array, if it has exactly that many bytes.
     pub fn fixed<const N: usize>(&self) -> Option<[u8; N]>
-        ensures { result ≡ fixed N (value self.now) }
+        ensures { result ≡ value_of_length N (value self.now) }
     {
         match self.plain() {
             Some(bytes) => <[u8; N]>::try_from(bytes).ok(),
@@ -141,7 +141,7 @@ impl<'a> Component<'a> {
 
     /// The same, also if release characters stand in the text.
     fn fixed_by_bytes<const N: usize>(&self) -> Option<[u8; N]>
-        ensures { result ≡ fixed N (value self.now) }
+        ensures { result ≡ value_of_length N (value self.now) }
     {
         let mut text = [0; N];
         let mut len = 0;

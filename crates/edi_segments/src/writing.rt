@@ -3,7 +3,7 @@ ghost use Rattle.std.specs.Prelude.{◌≡◌, ◌≤◌, ℕ, List, length, map
 ghost use Rattle.edi_segments.specs.Advice.{default_service};
 ghost use Rattle.edi_segments.specs.Characters.{is_data_byte};
 ghost use Rattle.edi_segments.specs.Segment.{value};
-ghost use Rattle.edi_segments.specs.Spelling.{Writing, IsSegmentTag, nothing_written, begun, with_element, with_terminator, spelling, is_empty_value, spelled_byte, composite, IsWritable};
+ghost use Rattle.edi_segments.specs.Spelling.{Writing, IsSegmentTag, nothing_written, with_tag, with_element, with_terminator, spelling, is_empty_value, spelled_byte, composite, IsWritable};
 ghost use Rattle.edi_segments.specs.Tokens.{is_service};
 
 use crate::component::Component;
@@ -43,7 +43,7 @@ impl SegmentWriter {
     pub fn begin(&mut self, tag: &[u8; 3]) -> Result<(), AllocError>
         requires tag { IsSegmentTag tag.now }
         requires between { self.old.is_open ≡ false }
-        ensures ok { OnOk result (self.new ≡ begun self.old tag.now) }
+        ensures ok { OnOk result (self.new ≡ with_tag self.old tag.now) }
         ensures err { OnErr result (self.new ≡ self.old) }
     {
         self.text.extend_from_slice(tag)?;

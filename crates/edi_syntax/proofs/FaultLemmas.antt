@@ -8,7 +8,7 @@ use Rattle.std.proofs.lemmas.Bool.{cases_Bool, le-ltb, not-false, and_parts, leb
 use Rattle.std.proofs.lemmas.Option.{cond_some, option_and_then_some}
 use Rattle.edi_segments.specs.Text.{Content}
 use Rattle.edi_segments.specs.Advice.{has_bad_advice}
-use Rattle.edi_segments.specs.Segment.{fixed}
+use Rattle.edi_segments.specs.Segment.{value_of_length}
 use Rattle.edi_segments.specs.Interchange.{segments_in, is_segment_text, read_fault}
 use Rattle.edi_segments.specs.declared.interchange.SyntaxFault.{SyntaxFault}
 use Rattle.edi_segments.specs.declared.interchange.SyntaxFault.TheVariants.{Service, Segment, NoEnvelope, Group, Version, Number, Moment, Test, MessageFrame, SegmentCount, MessageReference, Empty, ControlCount, ControlReference}
@@ -151,12 +151,12 @@ of_body text none =
 
 -- ---- arrays of digits
 
-pub no_array : (size : ℕ) (value : List ℕ) → None ≡ fixed size value → nat_eq (length value) size ≡ false
+pub no_array : (size : ℕ) (value : List ℕ) → None ≡ value_of_length size value → nat_eq (length value) size ≡ false
 no_array size value is = refused (nat_eq (length value) size) is
   where
     refused : (b : Bool) → None ≡ cond b (Some value) None → b ≡ false
     refused true e = absurd cc
     refused false e = refl
 
-pub array_is : (size : ℕ) (value array : List ℕ) → Some array ≡ fixed size value → (nat_eq (length value) size ≡ true) × (value ≡ array)
+pub array_is : (size : ℕ) (value array : List ℕ) → Some array ≡ value_of_length size value → (nat_eq (length value) size ≡ true) × (value ≡ array)
 array_is size value array is = cond_some (nat_eq (length value) size) value array (sym is)

@@ -197,7 +197,7 @@ pub(crate) fn tell_unread<E: Write>(rt: &HostRuntime, errors: &mut Port<E>, path
 
 /// Tells a person which input file can't be read, and why.
 pub(crate) fn tell_unread_cause<E: Write>(rt: &HostRuntime, errors: &mut Port<E>, path: &str) {
-    if is_looked_at(rt) {
+    if stderr_is_terminal(rt) {
         tell_cause(rt.alloc(), errors, cause_of_unread(rt, path));
     }
 }
@@ -221,7 +221,7 @@ pub(crate) fn tell_store_cause<E: Write>(
     path: &str,
     fault: &TableFault,
 ) {
-    if is_looked_at(rt) {
+    if stderr_is_terminal(rt) {
         tell_cause(rt.alloc(), errors, cause_of(rt, path, fault));
     }
 }
@@ -234,7 +234,7 @@ pub(crate) fn tell_not_now<E: Write>(
     fault: Option<&TableFault>,
 ) {
     match fault {
-        Some(fault) if is_looked_at(rt) => {
+        Some(fault) if stderr_is_terminal(rt) => {
             let _ = errors.write_all(b"not now: ");
             tell_cause(rt.alloc(), errors, cause_of(rt, path, fault));
         }
@@ -249,6 +249,6 @@ fn tell_cause<E: Write>(alloc: Global, errors: &mut Port<E>, cause: Cause<'_>) {
 }
 
 /// Whether a person looks at the stream of errors: only then it is told more than faults.
-pub(crate) fn is_looked_at(rt: &HostRuntime) -> bool {
+pub(crate) fn stderr_is_terminal(rt: &HostRuntime) -> bool {
     rt.stderr().is_terminal()
 }

@@ -1,5 +1,5 @@
 use crate::causes::{
-    is_looked_at, tell_not_now, tell_store, tell_store_cause, tell_unread, tell_unread_cause,
+    stderr_is_terminal, tell_not_now, tell_store, tell_store_cause, tell_unread, tell_unread_cause,
     tell_with,
 };
 use crate::explain::explain;
@@ -94,7 +94,7 @@ fn is_of_report(words: &[&str], fault: &CommandFault) -> bool {
 
 /// Tells a person the kinds of reports.
 fn tell_kinds<E: Write>(rt: &HostRuntime, errors: &mut Port<E>) {
-    if is_looked_at(rt) {
+    if stderr_is_terminal(rt) {
         tell(errors, "KIND is ");
         tell(errors, REPORT_KINDS);
         tell(errors, "; KEY is required from `container` on\n");
@@ -128,7 +128,7 @@ fn deliver_all<R: Read, W: Write, E: Write>(
     writer: &mut Port<W>,
     errors: &mut Port<E>,
 ) -> u8 {
-    let watch = DeliveryWatch::new(rt, is_looked_at(rt), store);
+    let watch = DeliveryWatch::new(rt, stderr_is_terminal(rt), store);
     let (status, ended) = deliver_over(rt, store, Unknown, &watch, reader, writer, errors);
     match ended.err() {
         Some(fault) => tell_store_cause(rt, errors, store, &fault),
@@ -218,7 +218,7 @@ pub(crate) fn serve<W: Write, E: Write>(
     writer: &mut Port<W>,
     errors: &mut Port<E>,
 ) -> u8 {
-    let log = RequestLog::new(rt, log || is_looked_at(rt), store);
+    let log = RequestLog::new(rt, log || stderr_is_terminal(rt), store);
     match serve_over(rt, store, Unknown, service, &log, writer, errors) {
         Ok((status, _desk)) => status,
         Err(fault) => tell_store(rt, errors, store, &fault),

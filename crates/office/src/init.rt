@@ -1,4 +1,4 @@
-use crate::causes::{is_looked_at, tell_store, tell_unread, tell_with};
+use crate::causes::{stderr_is_terminal, tell_store, tell_unread, tell_with};
 use office_commands::{DONE, NO_STORE, REFUSED, make_store as make_over, print};
 use office_setup::{MOST_PARTNERS, Setup};
 use office_setup_files::{SetupFault, WrongRecord, first_wrong, read_setup};
@@ -63,7 +63,7 @@ fn refuse<E: Write>(
         return tell_with(errors, "setup: Memory\n", REFUSED);
     };
     let status = tell_with(errors, text.as_str(), REFUSED);
-    if errors.flush().is_ok() && is_looked_at(rt) {
+    if errors.flush().is_ok() && stderr_is_terminal(rt) {
         if let Ok(place) = place_of(rt.alloc(), fault, partners, blocks) {
             let _ = errors.write_all(place.as_bytes());
         }

@@ -11,7 +11,7 @@ ghost use Rattle.office_admission.specs.Refusals.{rejection, refusal_of, Refused
 
 use edi_messages::write_rejection;
 use edi_syntax::Head;
-use office_replies::{Fault, Response, refused, text_of};
+use office_replies::{Fault, Response, refused_body, text_of};
 use std::alloc::{AllocError, Global};
 
 /// Why a text is not taken.
@@ -75,6 +75,6 @@ fn rejection(
 {
     let contrl = write_rejection(alloc, head, error)?;
     let contrl = text_of(alloc, &contrl)?;
-    let body = refused(alloc, contrl.as_str(), fault.name())?;
+    let body = refused_body(alloc, contrl.as_str(), fault.name())?;
     Ok(Response::RefusedWithContrl { fault, body })
 }

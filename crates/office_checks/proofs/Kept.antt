@@ -6,7 +6,7 @@ use Rattle.std.proofs.lemmas.List.FromFn.{map-range_with_len_more, get_or-map-ra
 use Rattle.std.proofs.Math.Seq.{take-append_seam, drop-append_seam}
 use Rattle.edi_messages.specs.declared.codes.PartnerKind.{PartnerKind}
 use Rattle.office_rows.specs.Rows.{Partner}
-use Rattle.office_rows.specs.Opened.{Numbered}
+use Rattle.office_rows.specs.Opened.{NumberKept}
 use Rattle.office_rows.specs.Office.{taken_numbers, AreWaiting, IsKeptFor, AreKept, AreAccounts}
 use Rattle.office_checks.specs.Accounts.{accounts_in}
 use Rattle.office_checks.specs.Contents.{number_content, partner_content}
@@ -17,13 +17,13 @@ use Rattle.office_checks.proofs.Lists.{next_of, one_more}
 
 -- ---- one partner's
 
-own_append : (id : ℕ) (a b : List Numbered) → AreOwn id a → AreOwn id b → AreOwn id (a ++ b)
+own_append : (id : ℕ) (a b : List NumberKept) → AreOwn id a → AreOwn id b → AreOwn id (a ++ b)
 own_append id [] b x y = y
 own_append id (r ∷ a) b x y = (x.0, own_append id a b x.1 y)
 
 pub own_more : (id : ℕ) (rows : List NumberRow) (i : ℕ) (d row : NumberRow) → i < length rows → row ≡ get_or rows i d → row.partner ≡ id → AreOwn id (map number_content (take i rows)) → AreOwn id (map number_content (take (i + 1) rows))
 own_more id rows i d row low at is before =
-    let P : List Numbered → Type 0 = AreOwn id in
+    let P : List NumberKept → Type 0 = AreOwn id in
     subst P (sym (map-append number_content (take i rows) (row ∷ [])) ∙ ap (map number_content) (sym (one_more rows i d row low at))) (own_append id (map number_content (take i rows)) (number_content row ∷ []) before (is, tt))
 
 pub begins_else : (id : ℕ) (rows : List NumberRow) (i : ℕ) (d row : NumberRow) → i < length rows → row ≡ get_or rows i d → row.partner ≢ id → BeginsElse id (map number_content (drop i rows))
@@ -40,26 +40,26 @@ own_taken : (id : ℕ) (numbers : List ℕ) → AreOwn id (map (λ number. recor
 own_taken id [] = tt
 own_taken id (n ∷ numbers) = (refl, own_taken id numbers)
 
-own_waiting : (id above : ℕ) (rows : List Numbered) → AreWaiting id above rows → AreOwn id rows
+own_waiting : (id above : ℕ) (rows : List NumberKept) → AreWaiting id above rows → AreOwn id rows
 own_waiting id above [] w = tt
 own_waiting id above (r ∷ rows) w = (w.0, own_waiting id r.number rows w.4)
 
-own_kept : (partner : Partner) (rows : List Numbered) → IsKeptFor partner rows → AreOwn partner.id rows
+own_kept : (partner : Partner) (rows : List NumberKept) → IsKeptFor partner rows → AreOwn partner.id rows
 own_kept partner rows k =
-    let P : List Numbered → Type 0 = AreOwn partner.id in
+    let P : List NumberKept → Type 0 = AreOwn partner.id in
     subst P (sym k.are) (own_append partner.id (taken_numbers partner) k.waiting (own_taken partner.id (range_with_len 1 (partner.next - 1))) (own_waiting partner.id partner.next k.waiting k.wait))
 
 -- two lists that are cut where the partner's end are cut alike
-one_cut : (id : ℕ) (a b c d : List Numbered) → a ++ b ≡ c ++ d → AreOwn id a → BeginsElse id b → AreOwn id c → BeginsElse id d → (a ≡ c) × (b ≡ d)
+one_cut : (id : ℕ) (a b c d : List NumberKept) → a ++ b ≡ c ++ d → AreOwn id a → BeginsElse id b → AreOwn id c → BeginsElse id d → (a ≡ c) × (b ≡ d)
 one_cut id [] b [] d e x y z w = (refl, e)
 one_cut id [] [] (r ∷ c) d e x y z w = absurd (cc)
 one_cut id [] (s ∷ b) (r ∷ c) d e x y z w =
     let same : s ≡ r = cc in
-    absurd (y (ap (λ (n : Numbered). n.partner) same ∙ z.0))
+    absurd (y (ap (λ (n : NumberKept). n.partner) same ∙ z.0))
 one_cut id (r ∷ a) b [] [] e x y z w = absurd (cc)
 one_cut id (r ∷ a) b [] (s ∷ d) e x y z w =
     let same : s ≡ r = cc in
-    absurd (w (ap (λ (n : Numbered). n.partner) same ∙ x.0))
+    absurd (w (ap (λ (n : NumberKept). n.partner) same ∙ x.0))
 one_cut id (r ∷ a) b (s ∷ c) d e x y z w =
     let same : r ≡ s = cc in
     let tails : a ++ b ≡ c ++ d = cc in
@@ -68,24 +68,24 @@ one_cut id (r ∷ a) b (s ∷ c) d e x y z w =
 
 -- ---- the partners after it
 
-abbrev BeginsFrom : ℕ → List Numbered → Type 0
+abbrev BeginsFrom : ℕ → List NumberKept → Type 0
 BeginsFrom id [] = Unit {0}
 BeginsFrom id (row ∷ rows) = id ≤ row.partner
 
-from_joined : (id : ℕ) (own others : List Numbered) → AreOwn id own → BeginsFrom (id + 1) others → BeginsFrom id (own ++ others)
+from_joined : (id : ℕ) (own others : List NumberKept) → AreOwn id own → BeginsFrom (id + 1) others → BeginsFrom id (own ++ others)
 from_joined id [] [] x y = tt
 from_joined id [] (r ∷ others) x y = omega (arith, y)
 from_joined id (r ∷ own) others x y = omega (arith, x.0)
 
-begins_from : (id : ℕ) (partners : List Partner) (accounts : List (List ℕ × PartnerKind)) (rows : List Numbered) → AreAccounts id partners accounts → AreKept partners rows → BeginsFrom id rows
-begins_from id [] accounts rows are kept = let P : List Numbered → Type 0 = BeginsFrom id in subst P (sym kept) tt
+begins_from : (id : ℕ) (partners : List Partner) (accounts : List (List ℕ × PartnerKind)) (rows : List NumberKept) → AreAccounts id partners accounts → AreKept partners rows → BeginsFrom id rows
+begins_from id [] accounts rows are kept = let P : List NumberKept → Type 0 = BeginsFrom id in subst P (sym kept) tt
 begins_from id (p ∷ partners) [] rows are kept = absurd are
 begins_from id (p ∷ partners) (a ∷ accounts) rows are kept =
-    let P : List Numbered → Type 0 = BeginsFrom id in
+    let P : List NumberKept → Type 0 = BeginsFrom id in
     let Q : ℕ → Type 0 = λ n. AreOwn n kept.0 in
     subst P (sym kept.2) (from_joined id kept.0 kept.1 (subst Q are.0 (own_kept p kept.0 kept.3)) (begins_from (id + 1) partners accounts kept.1 are.5 kept.4))
 
-else_of : (id : ℕ) (rows : List Numbered) → BeginsFrom (id + 1) rows → BeginsElse id rows
+else_of : (id : ℕ) (rows : List NumberKept) → BeginsFrom (id + 1) rows → BeginsElse id rows
 else_of id [] f = tt
 else_of id (r ∷ rows) f = λ e. absurd (omega (arith, e, f))
 
@@ -109,7 +109,7 @@ module _ (partner next : ℕ) (rows : List NumberRow) (above i : ℕ) (d row : N
       let is : test ≡ true = tells.1 (rest.0, rest.1, rest.2, rest.3) in
       cc
 
-abbrev taken_from : ℕ → ℕ → ℕ → List Numbered
+abbrev taken_from : ℕ → ℕ → ℕ → List NumberKept
 taken_from partner first count = map (λ number. record { partner = partner; number = number; is_taken = true }) (range_with_len first count)
 
 module _ (partner : ℕ) (rows : List NumberRow) (i : ℕ) (d row : NumberRow) (low : i < length rows) (at : row ≡ get_or rows i d) (test : Bool)
@@ -124,9 +124,9 @@ module _ (partner : ℕ) (rows : List NumberRow) (i : ℕ) (d row : NumberRow) (
   pub taken_not : test ≡ false → map number_content rows ≡ taken_from partner 1 (length rows) → ⊥
   taken_not isnt all =
       let here : number_content row ≡ record { partner = partner; number = i + 1; is_taken = true } =
-      ap number_content at ∙ sym (get_or-map number_content rows i d (number_content d) low) ∙ ap (λ (l : List Numbered). get_or l i (number_content d)) all
+      ap number_content at ∙ sym (get_or-map number_content rows i d (number_content d) low) ∙ ap (λ (l : List NumberKept). get_or l i (number_content d)) all
       ∙ get_or-map-range_with_len (λ number. record { partner = partner; number = number; is_taken = true }) 1 (length rows) i (i + 1) (number_content d) low (omega arith) in
-      let is : test ≡ true = tells.1 (ap (λ (n : Numbered). n.partner) here, ap (λ (n : Numbered). n.number) here, ap (λ (n : Numbered). n.is_taken) here) in
+      let is : test ≡ true = tells.1 (ap (λ (n : NumberKept). n.partner) here, ap (λ (n : NumberKept). n.number) here, ap (λ (n : NumberKept). n.is_taken) here) in
       cc
 
 -- ---- both parts of one partner's
@@ -146,14 +146,14 @@ module _ (p : Partner) (rows taken waiting : List NumberRow) where
     waiting = map number_content waiting;
     wait = wait;
     are = ap (map number_content) (sym (take-append-drop (p.next - 1) rows) ∙ ap (λ (l : List NumberRow). l ++ drop (p.next - 1) rows) (sym front) ∙ ap (λ (l : List NumberRow). taken ++ l) (sym back))
-        ∙ map-append number_content taken waiting ∙ ap (λ (l : List Numbered). l ++ map number_content waiting) (are ∙ ap (taken_from p.id 1) long);
+        ∙ map-append number_content taken waiting ∙ ap (λ (l : List NumberKept). l ++ map number_content waiting) (are ∙ ap (taken_from p.id 1) long);
   }
 
   pub parts_of : length taken ≡ p.next - 1 → taken ≡ take (p.next - 1) rows → waiting ≡ drop (p.next - 1) rows → IsKeptFor p (map number_content rows)
       → (map number_content taken ≡ taken_from p.id 1 (length taken)) × AreWaiting p.id p.next (map number_content waiting)
   parts_of long front back kept =
       let first : length (taken_numbers p) ≡ p.next - 1 = length-map-range_with_len (λ number. record { partner = p.id; number = number; is_taken = true }) 1 (p.next - 1) in
-      let W : List Numbered → Type 0 = AreWaiting p.id p.next in
+      let W : List NumberKept → Type 0 = AreWaiting p.id p.next in
       let left : map number_content taken ≡ taken_numbers p =
       ap (map number_content) front ∙ sym (take-map number_content (p.next - 1) rows) ∙ ap (take (p.next - 1)) kept.are ∙ ap (λ n. take n (taken_numbers p ++ kept.waiting)) (sym first) ∙ take-append_seam (taken_numbers p) kept.waiting in
       let right : kept.waiting ≡ map number_content waiting =
@@ -162,13 +162,13 @@ module _ (p : Partner) (rows taken waiting : List NumberRow) where
 
 -- ---- partner after partner
 
-step_to : (id : ℕ) (p : Partner) (partners : List Partner) (a : List ℕ × PartnerKind) (accounts : List (List ℕ × PartnerKind)) (own others : List Numbered) → AreAccounts id (p ∷ partners) (a ∷ accounts)
+step_to : (id : ℕ) (p : Partner) (partners : List Partner) (a : List ℕ × PartnerKind) (accounts : List (List ℕ × PartnerKind)) (own others : List NumberKept) → AreAccounts id (p ∷ partners) (a ∷ accounts)
     → AreOwn p.id own → BeginsElse p.id others → AreKept (p ∷ partners) (own ++ others) → IsKeptFor p own × AreKept partners others
 step_to id p partners a accounts own others are x y kept =
     let B : ℕ → Type 0 = λ n. BeginsElse n kept.1 in
     let cut = one_cut p.id kept.0 kept.1 own others (sym kept.2) (own_kept p kept.0 kept.3) (subst B (sym are.0) (else_of id kept.1 (begins_from (id + 1) partners accounts kept.1 are.5 kept.4))) x y in
-    let P : List Numbered → Type 0 = IsKeptFor p in
-    let Q : List Numbered → Type 0 = AreKept partners in
+    let P : List NumberKept → Type 0 = IsKeptFor p in
+    let Q : List NumberKept → Type 0 = AreKept partners in
     (subst P cut.0 kept.3, subst Q cut.1 kept.4)
 
 module _ (partners : List PartnerRow) (numbers rest own others : List NumberRow) (i n : ℕ) (d partner : PartnerRow) (low : i < length partners) (at : partner ≡ get_or partners i d)
@@ -191,7 +191,7 @@ module _ (partners : List PartnerRow) (numbers rest own others : List NumberRow)
       → IsKeptFor (partner_content partner) (map number_content own) × AreKept (map partner_content (drop (i + 1) partners)) (map number_content others)
   parts all =
       let P : List PartnerRow → Type 0 = λ l. AreKept (map partner_content l) (map number_content rest) in
-      let Q : List Numbered → Type 0 = AreKept (partner_content partner ∷ map partner_content (drop (i + 1) partners)) in
+      let Q : List NumberKept → Type 0 = AreKept (partner_content partner ∷ map partner_content (drop (i + 1) partners)) in
       let O : List NumberRow → Type 0 = λ l. AreOwn partner.id (map number_content l) in
       let B : List NumberRow → Type 0 = λ l. BeginsElse partner.id (map number_content l) in
       step_to (i + 1) (partner_content partner) (map partner_content (drop (i + 1) partners)) _ (accounts_in (drop (i + 1) partners)) (map number_content own) (map number_content others) these

@@ -3,7 +3,7 @@ use Rattle.std.specs.Prelude.{map, string_bytes}
 use Rattle.terminal_core.specs.declared.change.Place.{Place}
 use Rattle.terminal_core.specs.Rows.{visit_content}
 use Rattle.office_rows.specs.Rows.{Partner, PlaceContent, Setting, listing_content}
-use Rattle.office_rows.specs.Opened.{Numbered, OpenedRows}
+use Rattle.office_rows.specs.Opened.{NumberKept, OpenedRows}
 use Rattle.office_checks.specs.declared.numbers.NumberRow.{NumberRow}
 use Rattle.office_checks.specs.declared.restoring.OpenedTables.{OpenedTables}
 use Rattle.office_checks.specs.declared.numbers.PartnerRow.{PartnerRow}
@@ -12,7 +12,7 @@ use Rattle.office_checks.specs.declared.settings.Setting as read
 abbrev pub partner_content : PartnerRow → Partner
 partner_content row = record { id = row.id; code = string_bytes row.code; kind = row.kind; next = row.next }
 
-abbrev pub number_content : NumberRow → Numbered
+abbrev pub number_content : NumberRow → NumberKept
 number_content row = record { partner = row.partner; number = row.number; is_taken = row.is_taken }
 
 abbrev pub place_content : Place → PlaceContent

@@ -17,8 +17,8 @@ abbrev pub flag : Text → Rule
 flag name = record (new_rule name) { long = Some name; action = Some SetTrue }
 
 -- an option with a value, as --ahead N, which may be left out
-abbrev pub valued : Text → Rule
-valued name = record (new_rule name) { long = Some name; action = Some Set; value_names = 1 }
+abbrev pub valued_option : Text → Rule
+valued_option name = record (new_rule name) { long = Some name; action = Some Set; value_names = 1 }
 
 -- init DB PARTNERS BLOCKS
 unfoldable pub init_app : App
@@ -33,7 +33,7 @@ deliver_app = with_rule (with_rule (new_app (codes "deliver")) (word (codes "DB"
 unfoldable pub serve_app : App
 serve_app =
     with_rule (with_rule (with_rule (with_rule (with_rule (new_app (codes "serve")) (word (codes "DB")))
-    (word (codes "PORT"))) (word (codes "COUNT"))) (flag (codes "log"))) (valued (codes "ahead"))
+    (word (codes "PORT"))) (word (codes "COUNT"))) (flag (codes "log"))) (valued_option (codes "ahead"))
 
 -- report DB KIND [KEY]
 unfoldable pub report_app : App
@@ -55,7 +55,7 @@ migrate_app = with_rule (with_rule (new_app (codes "migrate")) (word (codes "OLD
 
 -- explain FILE [--partners PARTNERS]
 unfoldable pub explain_app : App
-explain_app = with_rule (with_rule (new_app (codes "explain")) (word (codes "FILE"))) (valued (codes "partners"))
+explain_app = with_rule (with_rule (new_app (codes "explain")) (word (codes "FILE"))) (valued_option (codes "partners"))
 
 -- demo
 unfoldable pub demo_app : App

@@ -16,27 +16,27 @@ use Rattle.office_command_line.specs.declared.command_reading.Request.{Request}
 use Rattle.office_command_line.specs.declared.command_reading.Request.TheVariants as request
 
 -- a request, whatever memory holds its texts
-pub data Asked : Type 0 where
-  init : Text → Text → Text → Asked
-  deliver : Text → Text → Asked
-  serve : Text → ℕ → ℕ → Bool → (ahead : Option ℕ) → Asked
-  report : Text → ReportKind → Option Text → Asked
-  texts : Text → (from : ℕ) → Asked
-  account : Text → Text → Text → Asked
-  migrate : Text → Text → Asked
-  explain : Text → (partners : Option Text) → Asked
-  demo : Asked
+pub data RequestContent : Type 0 where
+  init : Text → Text → Text → RequestContent
+  deliver : Text → Text → RequestContent
+  serve : Text → ℕ → ℕ → Bool → (ahead : Option ℕ) → RequestContent
+  report : Text → ReportKind → Option Text → RequestContent
+  texts : Text → (from : ℕ) → RequestContent
+  account : Text → Text → Text → RequestContent
+  migrate : Text → Text → RequestContent
+  explain : Text → (partners : Option Text) → RequestContent
+  demo : RequestContent
 
-abbrev pub request_asked : Request → Asked
-request_asked (request.Init store partners blocks) = init store.now partners.now blocks.now
-request_asked (request.Deliver store file) = deliver store.now file.now
-request_asked (request.Serve store port count log ahead) = serve store.now port count log ahead
-request_asked (request.Report store kind key) = report store.now kind (option_map (λ text. text.now) key)
-request_asked (request.Texts store from) = texts store.now from
-request_asked (request.Account store code kind) = account store.now code.now kind.now
-request_asked (request.Migrate old new) = migrate old.now new.now
-request_asked (request.Explain file partners) = explain file.now (option_map (λ text. text.now) partners)
-request_asked request.Demo = demo
+abbrev pub request_content : Request → RequestContent
+request_content (request.Init store partners blocks) = init store.now partners.now blocks.now
+request_content (request.Deliver store file) = deliver store.now file.now
+request_content (request.Serve store port count log ahead) = serve store.now port count log ahead
+request_content (request.Report store kind key) = report store.now kind (option_map (λ text. text.now) key)
+request_content (request.Texts store from) = texts store.now from
+request_content (request.Account store code kind) = account store.now code.now kind.now
+request_content (request.Migrate old new) = migrate old.now new.now
+request_content (request.Explain file partners) = explain file.now (option_map (λ text. text.now) partners)
+request_content request.Demo = demo
 
 -- ---- numbers
 
@@ -94,16 +94,16 @@ wants_key Metrics = false
 
 -- ---- what the words of a subcommand ask for
 
-abbrev pub init_asked : List Row → Option Asked
-init_asked rows =
+abbrev pub init_request : List Row → Option RequestContent
+init_request rows =
     option_and_then (λ (store : Text).
     option_and_then (λ (partners : Text).
     option_map (λ (blocks : Text). init store partners blocks) (first_of (codes "BLOCKS") rows))
     (first_of (codes "PARTNERS") rows))
     (first_of (codes "DB") rows)
 
-abbrev pub deliver_asked : List Row → Option Asked
-deliver_asked rows = option_and_then
+abbrev pub deliver_request : List Row → Option RequestContent
+deliver_request rows = option_and_then
     (λ (store : Text). option_map (λ (file : Text). deliver store file) (first_of (codes "FILE") rows))
     (first_of (codes "DB") rows)
 
@@ -113,8 +113,8 @@ is_set name rows = option_map_or (λ (text : Text). bytes_eq text (codes "true")
 
 -- a port from 1 to 65535, from 1 to 1,000,000 connections, whether a log is wanted, and how far above its next number a
 -- partner's may be
-abbrev pub serve_asked : List Row → Option Asked
-serve_asked rows =
+abbrev pub serve_request : List Row → Option RequestContent
+serve_request rows =
     option_and_then (λ (store : Text).
     option_and_then (λ (port : ℕ).
     option_and_then (λ (count : ℕ).
@@ -125,12 +125,12 @@ serve_asked rows =
     (first_of (codes "DB") rows)
 
 -- the key is there if it is wanted, and nowhere else
-abbrev pub report_with : Text → ReportKind → Option Text → Option Asked
+abbrev pub report_with : Text → ReportKind → Option Text → Option RequestContent
 report_with store kind None = if wants_key kind then None else Some (report store kind None)
 report_with store kind (Some key) = if wants_key kind then Some (report store kind (Some key)) else None
 
-abbrev pub report_asked : List Row → Option Asked
-report_asked rows =
+abbrev pub report_request : List Row → Option RequestContent
+report_request rows =
     option_and_then (λ (store : Text).
     option_and_then (λ (kind : ReportKind). report_with store kind (first_of (codes "KEY") rows))
     (option_and_then kind_said (first_of (codes "KIND") rows)))
@@ -144,47 +144,47 @@ from_said (Some text) =
     else if slice_index text 0 == digit_zero then None
     else number_upto 999999999 text
 
-abbrev pub texts_asked : List Row → Option Asked
+abbrev pub texts_asked : List Row → Option RequestContent
 texts_asked rows = option_and_then
     (λ (store : Text). option_map (λ (from : ℕ). texts store from) (from_said (first_of (codes "FROM") rows)))
     (first_of (codes "DB") rows)
 
 -- the code and the kind as they stand: whether they are any is not asked here
-abbrev pub account_asked : List Row → Option Asked
-account_asked rows =
+abbrev pub account_request : List Row → Option RequestContent
+account_request rows =
     option_and_then (λ (store : Text).
     option_and_then (λ (code : Text).
     option_map (λ (kind : Text). account store code kind) (first_of (codes "KIND") rows))
     (first_of (codes "CODE") rows))
     (first_of (codes "DB") rows)
 
-abbrev pub migrate_asked : List Row → Option Asked
-migrate_asked rows = option_and_then
+abbrev pub migrate_request : List Row → Option RequestContent
+migrate_request rows = option_and_then
     (λ (old : Text). option_map (λ (new : Text). migrate old new) (first_of (codes "NEW") rows))
     (first_of (codes "OLD") rows)
 
 -- the partners' file may be left out
-abbrev pub explain_asked : List Row → Option Asked
+abbrev pub explain_asked : List Row → Option RequestContent
 explain_asked rows =
     option_map (λ (file : Text). explain file (first_of (codes "partners") rows)) (first_of (codes "FILE") rows)
 
 -- what a subcommand and its words ask for
-abbrev pub asked_by : Text → List Row → Option Asked
-asked_by name rows =
-    if bytes_eq name (codes "init") then init_asked rows
-    else if bytes_eq name (codes "deliver") then deliver_asked rows
-    else if bytes_eq name (codes "serve") then serve_asked rows
-    else if bytes_eq name (codes "report") then report_asked rows
+abbrev pub request_by : Text → List Row → Option RequestContent
+request_by name rows =
+    if bytes_eq name (codes "init") then init_request rows
+    else if bytes_eq name (codes "deliver") then deliver_request rows
+    else if bytes_eq name (codes "serve") then serve_request rows
+    else if bytes_eq name (codes "report") then report_request rows
     else if bytes_eq name (codes "texts") then texts_asked rows
-    else if bytes_eq name (codes "account") then account_asked rows
-    else if bytes_eq name (codes "migrate") then migrate_asked rows
+    else if bytes_eq name (codes "account") then account_request rows
+    else if bytes_eq name (codes "migrate") then migrate_request rows
     else if bytes_eq name (codes "explain") then explain_asked rows
     else if bytes_eq name (codes "demo") then Some demo
     else None
 
 -- what the subcommand that was met asks for
-abbrev pub met_asks : Option (Text × List Row) → Option Asked
-met_asks met = option_and_then (λ (m : Text × List Row). asked_by m.0 m.1) met
+abbrev pub request_met : Option (Text × List Row) → Option RequestContent
+request_met met = option_and_then (λ (m : Text × List Row). request_by m.0 m.1) met
 
 -- how a subcommand is called
 abbrev pub usage_line : Text → Text
@@ -202,23 +202,23 @@ usage_of (Some met) = usage_line met.0
 -- the subcommand that was met asks for nothing, and its usage is told
 abbrev pub RefusesMet : Option (Text × List Row) → CommandFault → Type 0
 RefusesMet met (Words error) = ⊥
-RefusesMet met (Values line) = (met_asks met ≡ None) × (line.now ≡ usage_of met)
+RefusesMet met (Values line) = (request_met met ≡ None) × (line.now ≡ usage_of met)
 RefusesMet met Memory = ⊥
 
 -- what `clap` states for the words
-abbrev pub words_ask : List Text → Option Asked
-words_ask words = met_asks (subcommand_of office_app words)
+abbrev pub request_of_words : List Text → Option RequestContent
+request_of_words words = request_met (subcommand_of office_app words)
 
 -- `clap` takes the words, and they ask for that
-abbrev pub WordsAsk : List Text → Asked → Type 0
-WordsAsk words what = (fault_of office_app words ≡ []) × (words_ask words ≡ Some what)
+abbrev pub WordsAsk : List Text → RequestContent → Type 0
+WordsAsk words what = (fault_of office_app words ≡ []) × (request_of_words words ≡ Some what)
 
 -- why words ask for nothing: a fault that `clap` finds in them, a call for help or for the version being one; or it
 -- takes them, and they are no request; or memory was refused
 abbrev pub RefusesWords : List Text → CommandFault → Type 0
 RefusesWords words (Words error) = IsAmong (kind_of error) (fault_of office_app words)
 RefusesWords words (Values line) =
-    (fault_of office_app words ≡ []) × (words_ask words ≡ None) × (line.now ≡ usage_of (subcommand_of office_app words))
+    (fault_of office_app words ≡ []) × (request_of_words words ≡ None) × (line.now ≡ usage_of (subcommand_of office_app words))
 RefusesWords words Memory = Unit {0}
 
 -- help and the version are results

@@ -1,7 +1,7 @@
 ghost use Rattle.std.specs.Prelude.{◌≡◌, IfOk, true, false};
 ghost use Rattle.clap.specs.Words.{app_of, rule_of};
 ghost use Rattle.clap.specs.declared.builder.command.Command.TheViews.{out-Command};
-ghost use Rattle.office_command_line.specs.Commands.{word, word_if_any, flag, valued, init_app, deliver_app, serve_app, report_app, texts_app, account_app, migrate_app, explain_app, demo_app, office_app};
+ghost use Rattle.office_command_line.specs.Commands.{word, word_if_any, flag, valued_option, init_app, deliver_app, serve_app, report_app, texts_app, account_app, migrate_app, explain_app, demo_app, office_app};
 
 use clap::{Arg, ArgAction, Command};
 use office_queries::program_version;
@@ -220,7 +220,7 @@ fn word_if_any<'a>(alloc: Global, id: &'a str, help: &'a str) -> Arg<'a>
 
 /// An option with a value, which may be left out.
 fn valued<'a>(alloc: Global, name: &'a str, value: &'a str, help: &'a str) -> Arg<'a>
-    ensures rule { rule_of result ≡ valued name.entry.now }
+    ensures rule { rule_of result ≡ valued_option name.entry.now }
     ensures local { result.global ≡ false }
 {
     Arg::new(alloc, name)

@@ -2,7 +2,7 @@ ghost use Rattle.std.specs.Option.{option_map};
 ghost use Rattle.edi_segments.specs.Bytes.{digit_zero};
 ghost use Rattle.std.specs.Prelude.{◌≡◌, ◌==◌, slice_index, IfOk, IfErr, map};
 ghost use Rattle.clap.specs.Words.{found_of, rows_of, subcommand_rows_of, first_of};
-ghost use Rattle.office_command_line.specs.Requests.{request_asked, init_asked, account_asked, migrate_asked, explain_asked, deliver_asked, serve_asked, report_asked, report_with, texts_asked, from_said, asked_by, met_asks, is_set, kind_said, usage_line, wants_key, RefusesWords, RefusesMet, WordsAsk, number_if_any, number_upto};
+ghost use Rattle.office_command_line.specs.Requests.{request_content, init_request, account_request, migrate_request, explain_asked, deliver_request, serve_request, report_request, report_with, texts_asked, from_said, request_by, request_met, is_set, kind_said, usage_line, wants_key, RefusesWords, RefusesMet, WordsAsk, number_if_any, number_upto};
 
 use crate::builders::office_command;
 use clap::error::ErrorKind;
@@ -135,7 +135,7 @@ pub enum Request<'a> {
 
 /// What the words of a command line ask for, of which the first is the program's name.
 pub fn read_command<'a>(alloc: Global, words: &'a [&'a str]) -> Result<Request<'a>, CommandFault>
-    ensures ok { IfOk result (λ request. WordsAsk (map (λ word. word.now) words.entry.now) (request_asked request)) }
+    ensures ok { IfOk result (λ request. WordsAsk (map (λ word. word.now) words.entry.now) (request_content request)) }
     ensures err { IfErr result (RefusesWords (map (λ word. word.now) words.entry.now)) }
 {
     let Ok(office) = office_command(alloc) else {
@@ -152,7 +152,7 @@ pub fn read_command<'a>(alloc: Global, words: &'a [&'a str]) -> Result<Request<'
 
 /// What the matches ask for.
 fn request_in<'a>(matches: &ArgMatches<'a>) -> Result<Request<'a>, CommandFault>
-    ensures ok { IfOk result (λ request. met_asks (subcommand_rows_of matches.now) ≡ Some (request_asked request)) }
+    ensures ok { IfOk result (λ request. request_met (subcommand_rows_of matches.now) ≡ Some (request_content request)) }
     ensures err { IfErr result (RefusesMet (subcommand_rows_of matches.now)) }
 {
     let Some((name, inner)) = matches.subcommand() else {
@@ -177,7 +177,7 @@ fn usage_of(name: &str) -> &'static str
 }
 
 fn request_by<'a>(name: &str, inner: &ArgMatches<'a>) -> Option<Request<'a>>
-    ensures { option_map request_asked result ≡ asked_by name.now (rows_of (found_of inner.now)) }
+    ensures { option_map request_content result ≡ request_by name.now (rows_of (found_of inner.now)) }
 {
     match name {
         "init" => init_in(inner),
@@ -194,7 +194,7 @@ fn request_by<'a>(name: &str, inner: &ArgMatches<'a>) -> Option<Request<'a>>
 }
 
 fn init_in<'a>(matches: &ArgMatches<'a>) -> Option<Request<'a>>
-    ensures { option_map request_asked result ≡ init_asked (rows_of (found_of matches.now)) }
+    ensures { option_map request_content result ≡ init_request (rows_of (found_of matches.now)) }
 {
     let store = text_of(matches, "DB")?;
     let partners = text_of(matches, "PARTNERS")?;
@@ -207,7 +207,7 @@ fn init_in<'a>(matches: &ArgMatches<'a>) -> Option<Request<'a>>
 }
 
 fn deliver_in<'a>(matches: &ArgMatches<'a>) -> Option<Request<'a>>
-    ensures { option_map request_asked result ≡ deliver_asked (rows_of (found_of matches.now)) }
+    ensures { option_map request_content result ≡ deliver_request (rows_of (found_of matches.now)) }
 {
     let store = text_of(matches, "DB")?;
     let file = text_of(matches, "FILE")?;
@@ -215,7 +215,7 @@ fn deliver_in<'a>(matches: &ArgMatches<'a>) -> Option<Request<'a>>
 }
 
 fn serve_in<'a>(matches: &ArgMatches<'a>) -> Option<Request<'a>>
-    ensures { option_map request_asked result ≡ serve_asked (rows_of (found_of matches.now)) }
+    ensures { option_map request_content result ≡ serve_request (rows_of (found_of matches.now)) }
 {
     let store = text_of(matches, "DB")?;
     let port = number_upto(65535, text_of(matches, "PORT")?)?;
@@ -231,7 +231,7 @@ fn serve_in<'a>(matches: &ArgMatches<'a>) -> Option<Request<'a>>
 }
 
 fn report_in<'a>(matches: &ArgMatches<'a>) -> Option<Request<'a>>
-    ensures { option_map request_asked result ≡ report_asked (rows_of (found_of matches.now)) }
+    ensures { option_map request_content result ≡ report_request (rows_of (found_of matches.now)) }
 {
     let store = text_of(matches, "DB")?;
     let kind = kind_of(text_of(matches, "KIND")?)?;
@@ -239,7 +239,7 @@ fn report_in<'a>(matches: &ArgMatches<'a>) -> Option<Request<'a>>
 }
 
 fn texts_in<'a>(matches: &ArgMatches<'a>) -> Option<Request<'a>>
-    ensures { option_map request_asked result ≡ texts_asked (rows_of (found_of matches.now)) }
+    ensures { option_map request_content result ≡ texts_asked (rows_of (found_of matches.now)) }
 {
     let store = text_of(matches, "DB")?;
     let from = from_said(text_of(matches, "FROM"))?;
@@ -247,7 +247,7 @@ fn texts_in<'a>(matches: &ArgMatches<'a>) -> Option<Request<'a>>
 }
 
 fn account_in<'a>(matches: &ArgMatches<'a>) -> Option<Request<'a>>
-    ensures { option_map request_asked result ≡ account_asked (rows_of (found_of matches.now)) }
+    ensures { option_map request_content result ≡ account_request (rows_of (found_of matches.now)) }
 {
     let store = text_of(matches, "DB")?;
     let code = text_of(matches, "CODE")?;
@@ -256,7 +256,7 @@ fn account_in<'a>(matches: &ArgMatches<'a>) -> Option<Request<'a>>
 }
 
 fn migrate_in<'a>(matches: &ArgMatches<'a>) -> Option<Request<'a>>
-    ensures { option_map request_asked result ≡ migrate_asked (rows_of (found_of matches.now)) }
+    ensures { option_map request_content result ≡ migrate_request (rows_of (found_of matches.now)) }
 {
     let old = text_of(matches, "OLD")?;
     let new = text_of(matches, "NEW")?;
@@ -264,7 +264,7 @@ fn migrate_in<'a>(matches: &ArgMatches<'a>) -> Option<Request<'a>>
 }
 
 fn explain_in<'a>(matches: &ArgMatches<'a>) -> Option<Request<'a>>
-    ensures { option_map request_asked result ≡ explain_asked (rows_of (found_of matches.now)) }
+    ensures { option_map request_content result ≡ explain_asked (rows_of (found_of matches.now)) }
 {
     let file = text_of(matches, "FILE")?;
     let partners = text_of(matches, "partners");
@@ -273,7 +273,7 @@ fn explain_in<'a>(matches: &ArgMatches<'a>) -> Option<Request<'a>>
 
 /// The report, if a key is given where one is wanted and nowhere else.
 fn report_with<'a>(store: &'a str, kind: ReportKind, key: Option<&'a str>) -> Option<Request<'a>>
-    ensures { option_map request_asked result
+    ensures { option_map request_content result
         ≡ report_with store.entry.now kind (option_map (λ text. text.now) key.entry) }
 {
     if wants_key(kind) == key.is_some() {

@@ -12,7 +12,7 @@ use Rattle.office_replies.specs.declared.deliver.Worst.{Worst}
 use Rattle.office_desk.specs.Calls.{Leads}
 use Rattle.office_desk.specs.Desks.{IsSound, StandsFor}
 use Rattle.office_desk.proofs.CallLemmas.{answered_all}
-use Rattle.office_replies.specs.Delivering.{Answered, LeadsOn}
+use Rattle.office_replies.specs.Delivering.{AreAnswered, LeadsOn}
 use Rattle.office_stream.specs.Streams.{PortBytes, Streams}
 use Rattle.office_stream.specs.Faults.{MatchFault}
 use Rattle.office_stream.specs.declared.stream.StreamFault.{StreamFault}
@@ -24,7 +24,7 @@ use Rattle.office_commands.specs.Demo.{OpensDemo, DemoLeft, IsOfPorts, port_fail
 
 -- what a stream from such a desk on leaves behind
 pub left_by : (ports : PortBytes) (opening desk : MemoryDesk) (fault : StreamFault) → OpensDemo opening
-    → Streams (Answered (StandsFor over_memory (setup_content opening.setup)) (AnswersNext (setup_content opening.setup)) [] desk) ports (Err fault) → DemoLeft ports (Stream fault)
+    → Streams (AreAnswered (StandsFor over_memory (setup_content opening.setup)) (AnswersNext (setup_content opening.setup)) [] desk) ports (Err fault) → DemoLeft ports (Stream fault)
 left_by ports opening desk Read opens began = record { opening = opening; desk = desk; opens = opens; began = began }
 left_by ports opening desk Turns opens began = record { opening = opening; desk = desk; opens = opens; began = began }
 left_by ports opening desk Write opens delivered = record { opening = opening; desk = desk; opens = opens; delivered = delivered }
@@ -56,8 +56,8 @@ left_for_turns Turns turns positive AfterRead AfterWrite Kept Written Many Ended
 -- what a stream to such a desk did, which is sound in the end
 pub answered_in_memory : (ports : PortBytes) (opening desk : MemoryDesk) (outcome : Result Worst StreamFault) → OpensDemo opening
     → Streams (λ texts responses. LeadsOn (Leads over_memory) opening texts responses desk) ports outcome
-    → Streams (Answered (StandsFor over_memory (setup_content opening.setup)) (AnswersNext (setup_content opening.setup)) [] desk) ports outcome
+    → Streams (AreAnswered (StandsFor over_memory (setup_content opening.setup)) (AnswersNext (setup_content opening.setup)) [] desk) ports outcome
 answered_in_memory ports opening desk outcome opens =
     streams_as (λ texts responses. LeadsOn (Leads over_memory) opening texts responses desk)
-    (Answered (StandsFor over_memory (setup_content opening.setup)) (AnswersNext (setup_content opening.setup)) [] desk)
+    (AreAnswered (StandsFor over_memory (setup_content opening.setup)) (AnswersNext (setup_content opening.setup)) [] desk)
     (λ texts responses led. answered_all over_memory opening desk texts responses led (memory_sound desk) (setup_content opening.setup) [] opens.opens.stands) ports outcome

@@ -24,7 +24,7 @@ use Rattle.office_reports.specs.Visits.{visit_report}
 use Rattle.office_lookups.specs.Containers.{container_report}
 use Rattle.office_lookups.specs.Metrics.{metrics_text}
 use Rattle.office_picture.specs.Picture.{IsPicture}
-use Rattle.office_desk.specs.Reports.{AreLookedUp, TellsOf, TellsAfter, TellsNext, TellsPartner, TellsPartners, TellsReplyOf, DeskTells, contrl_told, ticket_of, partner_called}
+use Rattle.office_desk.specs.Reports.{AreLookedUp, TellsOf, TellsAfter, TellsNext, TellsPartner, TellsPartners, TellsReplyOf, DeskTells, contrl_for_partner, ticket_of, partner_called}
 use Rattle.office_desk.specs.declared.desk.Desk.{Desk}
 use Rattle.office_desk.proofs.AlikeLemmas.{answers_alike}
 use Rattle.office_commands.proofs.NowAlike.{now_alike}
@@ -60,7 +60,7 @@ module _ (one other : SetupContent) (says : SaysSame one other) where
   of_alike state rows query.Calls found told = told
   of_alike state rows (query.Work call side) found told = told
   of_alike state rows (query.Contrl partner number) found told =
-      told ∙ ap (contrl_told rows number) (called_alike (string_bytes partner))
+      told ∙ ap (contrl_for_partner rows number) (called_alike (string_bytes partner))
   of_alike state rows query.Picture found told =
       (told.0, told.1, subst (λ blocks. IsPicture state other.terminal blocks told.0) says.blocks (subst (λ name. IsPicture state name one.blocks told.0) says.terminal told.2))
   of_alike state rows (query.Partner code) found told =

@@ -33,7 +33,7 @@ use Rattle.office_desk.specs.Reports.{DeskTells, TellsAfter}
 use Rattle.office_desk.specs.declared.desk.Desk.{Desk}
 use Rattle.office_commands.specs.Delivering.{BeginsAt, OpensOn, StandsAlike}
 use Rattle.office_commands.specs.Ending.{Prints, Tells as TellsText}
-use Rattle.office_commands.specs.Serving.{EndsServing, listening_line, served_line, IsServed, AreServed, put_off, HasNoEvent, MayBeThere, HoldsServed, LeadsNamed, EnrolsNamed, LeadsWhile, EnrolsWhile, AreServedBy, IsServedOver}
+use Rattle.office_commands.specs.Serving.{EndsServing, listening_line, served_line, IsServed, AreServed, postponed_event, HasNoEvent, MayBeThere, HoldsServed, LeadsNamed, EnrolsNamed, LeadsWhile, EnrolsWhile, AreServedBy, IsServedOver}
 use Rattle.office_commands.proofs.AccountLemmas.{account_alike}
 use Rattle.office_commands.proofs.ReportLemmas.{after_alike}
 use Rattle.office_commands.proofs.StreamLemmas.{answer_alike, stand_alike}
@@ -106,7 +106,7 @@ LeftBy content es Pends db = IsAfter content es db ⊎ ((event : Event) × Pends
 
 -- what is pending behind a step: what was before, if the step is no event, or the step
 abbrev PendsBehind : (Event → Type 0) → Step → Event → Type 0
-PendsBehind Pends step event = (Pends event × ((es : List Event) → with_step es step ≡ es)) ⊎ (put_off step ≡ Some event)
+PendsBehind Pends step event = (Pends event × ((es : List Event) → with_step es step ≡ es)) ⊎ (postponed_event step ≡ Some event)
 
 told_of : {D : Type 0} {g : Ghosts D} (content : SetupContent) (es : List Event) (desk : Desk (FileStore D g) over_files) → StandsFor over_files content es desk → (query : Query)
     (found : Result (Option (List ℕ)) NotNow) → Tells (DeskTells over_files desk query) found → Tells (TellsAfter content es query) found

@@ -5,7 +5,7 @@ use Rattle.sqlite.specs.Files.{over_files}
 use Rattle.sqlite.specs.Recovery.{Image}
 use Rattle.sqlite.specs.declared.FileStore.{FileStore}
 use Rattle.edi_segments.specs.Interchange.{interchange_of}
-use Rattle.office_replies.specs.Delivering.{Answered, AnswersEach, LeadsOn, with_answered, events_behind}
+use Rattle.office_replies.specs.Delivering.{AreAnswered, AnswersEach, LeadsOn, with_answered, events_behind}
 use Rattle.office_replies.specs.Events.{Event}
 use Rattle.office_replies.specs.declared.deliver.Response.{Response}
 use Rattle.office_replies.specs.declared.deliver.Response.TheVariants.{Taken, Repeat, Waiting, Clash, Refused, RefusedWithContrl, NotNow}
@@ -58,7 +58,7 @@ module _ {D : Type 0} (stands stands' : List Event → D → Type 0) (answers an
   each_also es (text ∷ texts) (response ∷ responses) each =
       (answer es text response each.0, each_also (with_answered es text response) texts responses each.1)
 
-  pub answered_also : (es : List Event) (desk : D) (texts : List (List ℕ)) (responses : List Response) → Answered stands answers es desk texts responses → Answered stands' answers' es desk texts responses
+  pub answered_also : (es : List Event) (desk : D) (texts : List (List ℕ)) (responses : List Response) → AreAnswered stands answers es desk texts responses → AreAnswered stands' answers' es desk texts responses
   answered_also es desk texts responses answered = record {
     each = each_also es texts responses answered.each;
     stands_now = stand (events_behind es texts responses) desk answered.stands_now;

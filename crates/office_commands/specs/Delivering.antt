@@ -7,7 +7,7 @@ use Rattle.sqlite.specs.Recovery.{Image}
 use Rattle.sqlite.specs.State.{State}
 use Rattle.sqlite.specs.Tree.{Trees}
 use Rattle.sqlite.specs.declared.FileStore.{FileStore}
-use Rattle.office_replies.specs.Delivering.{Answered, LeadsOn}
+use Rattle.office_replies.specs.Delivering.{AreAnswered, LeadsOn}
 use Rattle.office_replies.specs.Events.{Event}
 use Rattle.office_replies.specs.declared.deliver.Response.{Response}
 use Rattle.office_setup.specs.Given.{IsGiven}
@@ -49,6 +49,6 @@ module _ {D : Type 0} {g : Ghosts D} where
     pub opens : OpensOn image opened
     pub led : LeadsOn (Leads over_files) opened texts responses desk
     pub answered : IsSound over_files desk → (content : SetupContent) (es : List Event) → BeginsAt image content es →
-        Answered (StandsAlike content) (AnswersNext content) es desk texts responses
+        AreAnswered (StandsAlike content) (AnswersNext content) es desk texts responses
     pub leaves : IsSound over_files desk → (content : SetupContent) (es : List Event) → BeginsAt image content es →
         LeavesAlike content es texts responses (state over_files desk.conn)

@@ -13,7 +13,7 @@ use Rattle.office_desk.specs.Answers.{AnswersNext}
 use Rattle.office_desk.specs.Desks.{StandsFor}
 use Rattle.office_commands.specs.Opening.{MemoryDesk, OpensEmpty}
 use Rattle.office_replies.specs.declared.deliver.Worst.{Worst}
-use Rattle.office_replies.specs.Delivering.{Answered}
+use Rattle.office_replies.specs.Delivering.{AreAnswered}
 use Rattle.office_stream.specs.Streams.{PortBytes, Streamed, Began, Delivered}
 use Rattle.office_stream.specs.declared.stream.StreamFault.TheVariants.{Read, Write, Turns}
 use Rattle.office_commands.specs.declared.demo.DemoFault.{DemoFault}
@@ -58,7 +58,7 @@ pub record DemoRuns (ports : PortBytes) (worst : Worst) : Type 0 where
   pub opening : MemoryDesk
   pub desk : MemoryDesk
   pub opens : OpensDemo opening
-  pub streamed : Streamed (Answered (StandsFor over_memory (setup_content opening.setup))
+  pub streamed : Streamed (AreAnswered (StandsFor over_memory (setup_content opening.setup))
       (AnswersNext (setup_content opening.setup)) [] desk) ports worst
 
 -- All interchanges of what was read were delivered to such a desk and answered by their lines.
@@ -66,7 +66,7 @@ pub record DemoBegan (ports : PortBytes) : Type 0 where
   pub opening : MemoryDesk
   pub desk : MemoryDesk
   pub opens : OpensDemo opening
-  pub began : Began (Answered (StandsFor over_memory (setup_content opening.setup))
+  pub began : Began (AreAnswered (StandsFor over_memory (setup_content opening.setup))
       (AnswersNext (setup_content opening.setup)) [] desk) ports
 
 -- They were delivered to such a desk as far as lines could be written, of which the last was cut short.
@@ -74,7 +74,7 @@ pub record DemoDelivered (ports : PortBytes) : Type 0 where
   pub opening : MemoryDesk
   pub desk : MemoryDesk
   pub opens : OpensDemo opening
-  pub delivered : Delivered (Answered (StandsFor over_memory (setup_content opening.setup))
+  pub delivered : Delivered (AreAnswered (StandsFor over_memory (setup_content opening.setup))
       (AnswersNext (setup_content opening.setup)) [] desk) ports
 
 -- What was done before a fault. If the desk did not open, nothing was read or written. A read that failed leaves what

@@ -13,7 +13,7 @@ use Rattle.office_rows.specs.Rows.{Rows}
 use Rattle.office_rows.specs.Stored.{HasRows}
 use Rattle.office_rows.specs.Tables.{office_schema}
 use Rattle.office_loading.specs.Tables.{Loads}
-use Rattle.office_queries.specs.Keys.{query_asked, query_of}
+use Rattle.office_queries.specs.Keys.{query_content, query_of}
 use Rattle.office_queries.specs.declared.query.Query.{Query}
 use Rattle.office_queries.specs.declared.query.ReportKind.{ReportKind}
 use Rattle.office_desk.specs.Reports.{TellsOf, TellsAfter}
@@ -49,7 +49,7 @@ pub record Reports (is_found : Option (List ℕ) → Type 0) (prints : List ℕ 
 abbrev pub TellsKey : (tells : Query → Option (List ℕ) → Type 0) → ReportKind → List ℕ → Option (List ℕ) → Type 0
 TellsKey tells kind key found =
     ((query_of kind key ≡ None) × (found ≡ None))
-    ⊎ ((query : Query) × (query_of kind key ≡ Some (query_asked query)) × tells query found)
+    ⊎ ((query : Query) × (query_of kind key ≡ Some (query_content query)) × tells query found)
 
 abbrev pub office_database : Trees → Database
 office_database db = record { schema = office_schema; trees = db }

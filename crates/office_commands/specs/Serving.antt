@@ -47,10 +47,10 @@ AreServed content es (step ∷ steps) = IsServed content es step × AreServed co
 -- ---- what a crash leaves
 
 -- the event that was asked for, where the answer was `not now`
-abbrev pub put_off : Step → Option Event
-put_off (delivery text response.NotNow) = Some (delivered text)
-put_off (account code kind account_answer.NotNow) = Some (added code kind)
-put_off other = None
+abbrev pub postponed_event : Step → Option Event
+postponed_event (delivery text response.NotNow) = Some (delivered text)
+postponed_event (account code kind account_answer.NotNow) = Some (added code kind)
+postponed_event other = None
 
 -- there is no event among them
 abbrev pub HasNoEvent : List Step → Type 0
@@ -59,7 +59,7 @@ HasNoEvent steps = (es : List Event) → events_after es steps ≡ es
 -- it was asked for and answered `not now`, and no event came behind it
 abbrev pub MayBeThere : List Step → Event → Type 0
 MayBeThere [] event = ⊥
-MayBeThere (step ∷ steps) event = ((put_off step ≡ Some event) × HasNoEvent steps) ⊎ MayBeThere steps event
+MayBeThere (step ∷ steps) event = ((postponed_event step ≡ Some event) × HasNoEvent steps) ⊎ MayBeThere steps event
 
 -- a store holds the rows after the events that were answered, and perhaps one that was put off behind them, whole
 abbrev pub HoldsServed : SetupContent → List Event → List Step → Trees → Type 0

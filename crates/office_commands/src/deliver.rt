@@ -216,7 +216,7 @@ fn find<S: Alter + Drop>(
     ensures looks { OnlyLooks S.Store desk.old desk.new }
 {
     match read_query(alloc, kind, key)? {
-        Some(query) => desk.told(alloc, &query),
+        Some(query) => desk.find_report(alloc, &query),
         None => Ok(None),
     }
 }

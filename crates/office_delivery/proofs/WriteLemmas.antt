@@ -10,7 +10,7 @@ use Rattle.sqlite.proofs.StateLemmas.{survives_then}
 use Rattle.sqlite_trees.specs.declared.store.Store.{Ghosts}
 use Rattle.terminal_core.specs.Rows.{ChangeContent, visit_opened}
 use Rattle.office_rows.specs.Rows.{Rows}
-use Rattle.office_rows.specs.Effects.{with_kept, with_reply, with_next, with_change}
+use Rattle.office_rows.specs.Effects.{with_waiting, with_reply, with_next, with_change}
 use Rattle.office_rows.specs.Steps.{Steps}
 use Rattle.office_rows.proofs.StepLemmas.{on_ok, steps_then, steps_same, stores}
 use Rattle.office_tables.specs.Faults.{IsOfStore}
@@ -99,20 +99,20 @@ changes_then_reply partner number reply (c ∷ changes) rows =
 -- kept with its reply, and then what it changed, and then the number behind it
 pub writes_first : {X Y Z : Type 0} (partner : ℕ) (text : List ℕ) (taken : TakenContent) (a b c d : State) (x : X) (y : Y) (result : Result Z TableFault)
     → Writes (with_kept_reply partner taken.number text taken.reply) a b (Ok x) → WritesIfOpen (with_changes taken.changes) b c (Ok y)
-    → Writes (with_next partner (taken.number + 1)) c d result → Writes (λ rows. with_interchange partner taken (with_kept partner taken.number text rows)) a d result
+    → Writes (with_next partner (taken.number + 1)) c d result → Writes (λ rows. with_interchange partner taken (with_waiting partner taken.number text rows)) a d result
 writes_first partner text taken a b c d x y result kept changed next =
     let number = taken.number in
     let both = writes_then_if_open (with_kept_reply partner number text taken.reply) (with_changes taken.changes) a b c x (Ok y) kept changed in
     let whole = writes_then (λ rows. with_changes taken.changes (with_kept_reply partner number text taken.reply rows)) (with_next partner (number + 1)) a c d y result both next in
     writes_same (λ rows. with_next partner (number + 1) (with_changes taken.changes (with_kept_reply partner number text taken.reply rows)))
-    (λ rows. with_interchange partner taken (with_kept partner number text rows)) a d result
-    (λ rows. ap (with_next partner (number + 1)) (changes_then_reply partner number taken.reply taken.changes (with_kept partner number text rows))) whole
+    (λ rows. with_interchange partner taken (with_waiting partner number text rows)) a d result
+    (λ rows. ap (with_next partner (number + 1)) (changes_then_reply partner number taken.reply taken.changes (with_waiting partner number text rows))) whole
 
 -- a run whose first text is taken at once, and then those behind it
 pub writes_run : {X Y : Type 0} (partner number : ℕ) (text : List ℕ) (taken behind : List TakenContent) (first : TakenContent) (a b c : State) (x : X) (result : Result Y TableFault)
-    → first.number ≡ number → taken ≡ first ∷ behind → Writes (λ rows. with_interchange partner first (with_kept partner first.number text rows)) a b (Ok x)
+    → first.number ≡ number → taken ≡ first ∷ behind → Writes (λ rows. with_interchange partner first (with_waiting partner first.number text rows)) a b (Ok x)
     → WritesIfOpen (with_interchanges partner behind) b c result → Writes (with_run partner number text taken) a c result
 writes_run partner number text taken behind first a b c x result same is one more =
-    writes_same (λ rows. with_interchanges partner behind (with_interchange partner first (with_kept partner first.number text rows))) (with_run partner number text taken) a c result
+    writes_same (λ rows. with_interchanges partner behind (with_interchange partner first (with_waiting partner first.number text rows))) (with_run partner number text taken) a c result
     (λ rows i. with_run partner (same i) text (sym is i) rows)
-    (writes_then_if_open (λ rows. with_interchange partner first (with_kept partner first.number text rows)) (with_interchanges partner behind) a b c x result one more)
+    (writes_then_if_open (λ rows. with_interchange partner first (with_waiting partner first.number text rows)) (with_interchanges partner behind) a b c x result one more)

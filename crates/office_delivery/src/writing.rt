@@ -2,7 +2,7 @@ ghost use Rattle.std.specs.Prelude.{◌≡◌, ◌<◌, All, map, false, OnOk, O
 ghost use Rattle.office_delivery.specs.Taken.{taken_content, taken_contents};
 ghost use Rattle.office_delivery.specs.Writing.{IsUndone, WritesWhole};
 ghost use Rattle.office_history.specs.Cascade.{with_changes, with_interchange, with_interchanges, with_run};
-ghost use Rattle.office_rows.specs.Effects.{with_kept, with_partner};
+ghost use Rattle.office_rows.specs.Effects.{with_waiting, with_partner};
 ghost use Rattle.office_tables.specs.Faults.{IsOfStore};
 ghost use Rattle.office_tables.specs.Writes.{Writes, WritesIfOpen};
 ghost use Rattle.sqlite.specs.Held.{state};
@@ -52,7 +52,7 @@ fn write_first<S: Alter>(
     requires { taken.now.number < 1000000000 }
     ensures same_reference { tx.new.conn.ghost_name ≡ tx.old.conn.ghost_name }
     ensures writes { Writes (λ rows. with_interchange partner (taken_content taken.now)
-        (with_kept partner taken.now.number text.now rows)) (state S.Store tx.old.conn.now)
+        (with_waiting partner taken.now.number text.now rows)) (state S.Store tx.old.conn.now)
         (state S.Store tx.new.conn.now) result }
 {
     keep_taken(tx, partner, taken.number, text, taken.reply.as_str())?;
@@ -134,7 +134,7 @@ pub fn write_early<S: Alter>(
     text: &[u8],
 ) -> Result<(), TableFault>
     requires idle { (state S.Store conn.old).in_transaction ≡ false }
-    ensures writes { WritesWhole (with_kept partner number text.now) (state S.Store conn.old) (state S.Store conn.new) result }
+    ensures writes { WritesWhole (with_waiting partner number text.now) (state S.Store conn.old) (state S.Store conn.new) result }
     ensures undone { HasCleanDisk (state S.Store conn.new) → IsTrue (state S.Store conn.new).is_open →
         OnErr result ((state S.Store conn.new).now ≡ (state S.Store conn.old).committed) }
 {

@@ -7,7 +7,7 @@ use Rattle.edi_segments.specs.Interchange.{interchange_of, segments_in}
 use Rattle.edi_syntax.specs.Envelope.{header_of}
 use Rattle.partner_core.specs.Deliveries.{Delivery, delivery, first_text, run}
 use Rattle.partner_core.specs.Order.{state}
-use Rattle.partner_core.specs.Answers.{Told, Taken, Repeat, Waiting, Clash, is_other, answer_of}
+use Rattle.partner_core.specs.Answers.{AnswerModel, Taken, Repeat, Waiting, Clash, is_other, answer_of}
 use Rattle.terminal_core.specs.Versions.{newest}
 use Rattle.office_admission.specs.Admission.{admission}
 use Rattle.office_admission.specs.Refusals.{refusal_of}
@@ -15,10 +15,10 @@ use Rattle.office_replies.specs.Events.{Event}
 use Rattle.office_replies.specs.declared.deliver.Fault.{Fault}
 use Rattle.office_setup.specs.Setups.{SetupContent, parties_in}
 use Rattle.office_history.specs.After.{SaysSame, content_after, deliveries_of, machine_after, opening_of, taking_in}
-use Rattle.office_history.specs.Laws.{told_of}
+use Rattle.office_history.specs.Laws.{answer_model_of}
 pub use Rattle.office_history.proofs.Alike.{codes_after}
 use Rattle.office_history.proofs.Alike.{after_with_codes, delivered_with_codes, now_with_codes, opening_like, reply_like, state_like, taking_with_codes, with_codes}
-use Rattle.office_desk.specs.Answers.{code_of, told_answer, answer_at, answer_to}
+use Rattle.office_desk.specs.Answers.{code_of, answer_by_model, answer_at, answer_to}
 use Rattle.office_desk.specs.Alike.{AnswersAlike}
 
 module _ (content : SetupContent) (table : CodeTable) (same : table_texts table ≡ table_texts content.codes) (es : List Event) where
@@ -45,7 +45,7 @@ module _ (content : SetupContent) (table : CodeTable) (same : table_texts table 
       (reply_like newest content es (opening_of (with_codes table now)) (opening_of now) D d.partner d.number like)
       (reply_like newest content es (opening_of (with_codes table now)) (opening_of now) (D ++ d ∷ []) d.partner d.number like)
 
-  told_same : (partner number : ℕ) (sent : List ℕ) → told_of other es partner number sent ≡ told_of content es partner number sent
+  told_same : (partner number : ℕ) (sent : List ℕ) → answer_model_of other es partner number sent ≡ answer_model_of content es partner number sent
   told_same partner number sent =
       (λ i. answer_of (taking_with_codes newest content es table i) (opening_of (now_with_codes es content table i)) (delivered_with_codes es content table i) (delivery partner number (interchange_of sent)))
       ∙ by_codes (delivery partner number (interchange_of sent))
@@ -53,7 +53,7 @@ module _ (content : SetupContent) (table : CodeTable) (same : table_texts table 
   at_same : (sent : List ℕ) (place : Result (ℕ × ℕ) Fault) → answer_at other es sent place ≡ answer_at content es sent place
   at_same sent (Err fault) = ap (λ (k : SetupContent). refusal_of (parties_in k) (header_of (segments_in (interchange_of sent))) fault) (now_with_codes es content table)
   at_same sent (Ok place) =
-      ap₂ (λ (k : SetupContent) (told : Told). told_answer (code_of (parties_in k) place.0) place.1 told) (now_with_codes es content table) (told_same place.0 place.1 sent)
+      ap₂ (λ (k : SetupContent) (told : AnswerModel). answer_by_model (code_of (parties_in k) place.0) place.1 told) (now_with_codes es content table) (told_same place.0 place.1 sent)
 
   answers_same : (sent : List ℕ) → answer_to other es sent ≡ answer_to content es sent
   answers_same sent =

@@ -18,24 +18,24 @@ use Rattle.office_delivery.specs.Reading.{IsSame}
 use Rattle.office_delivery.specs.Writing.{Commits}
 use Rattle.office_delivery.specs.Taken.{taken_content, taken_contents}
 use Rattle.office_delivery.specs.declared.running.Taken.{Taken}
-use Rattle.office_desk.specs.Answers.{told_answer}
+use Rattle.office_desk.specs.Answers.{answer_by_model}
 use Rattle.office_desk.specs.Telling.{TakesNext}
 use Rattle.office_desk.specs.declared.beside.Beside.{Beside}
 
 pub taken_is : (body : String Global) (reply : List ℕ) (number : ℕ) (code : List ℕ) → string_bytes body ≡ answer_text (codes "taken") number code reply →
-    content_of (response.Taken body) ≡ told_answer code number (told.Taken (Some reply))
+    content_of (response.Taken body) ≡ answer_by_model code number (told.Taken (Some reply))
 taken_is body reply number code is = rw is refl
 
 pub repeat_is : (body : String Global) (reply : List ℕ) (number : ℕ) (code : List ℕ) → string_bytes body ≡ answer_text (codes "repeat") number code reply →
-    content_of (response.Repeat body) ≡ told_answer code number (told.Repeat (Some reply))
+    content_of (response.Repeat body) ≡ answer_by_model code number (told.Repeat (Some reply))
 repeat_is body reply number code is = rw is refl
 
 pub waiting_is : (body : String Global) (next number : ℕ) (code : List ℕ) → string_bytes body ≡ waiting_text next number code →
-    content_of (response.Waiting body) ≡ told_answer code number (told.Waiting next)
+    content_of (response.Waiting body) ≡ answer_by_model code number (told.Waiting next)
 waiting_is body next number code is = rw is refl
 
 pub clash_is : (body : String Global) (number : ℕ) (code : List ℕ) → string_bytes body ≡ clash_text number code →
-    content_of (response.Clash body) ≡ told_answer code number told.Clash
+    content_of (response.Clash body) ≡ answer_by_model code number told.Clash
 clash_is body number code is = rw is refl
 
 -- ---- a run

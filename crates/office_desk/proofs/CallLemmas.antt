@@ -2,7 +2,7 @@
 use Rattle.std.proofs.Common.{ℕ, List, [], ◌∷◌, sym, subst}
 use Rattle.sqlite.specs.Held.{state}
 use Rattle.sqlite_trees.specs.declared.store.Store.{Ghosts}
-use Rattle.office_replies.specs.Delivering.{Answered, LeadsOn, with_answered}
+use Rattle.office_replies.specs.Delivering.{AreAnswered, LeadsOn, with_answered}
 use Rattle.office_replies.specs.Events.{Event}
 use Rattle.office_replies.specs.declared.deliver.Response.{Response}
 use Rattle.office_setup.specs.Setups.{SetupContent}
@@ -20,7 +20,7 @@ module _ {S : Type 0} (g : Ghosts S) where
   sound_before old new (text ∷ texts) (response ∷ responses) (next, call, rest) sound = call.stays (sound_before next new texts responses rest sound)
 
   pub answered_all : (old new : Desk S g) (texts : List (List ℕ)) (responses : List Response) → LeadsOn (Leads g) old texts responses new → IsSound g new →
-      (content : SetupContent) (es : List Event) → StandsFor g content es old → Answered (StandsFor g content) (AnswersNext content) es new texts responses
+      (content : SetupContent) (es : List Event) → StandsFor g content es old → AreAnswered (StandsFor g content) (AnswersNext content) es new texts responses
   answered_all old new [] [] same sound content es stands = record { each = tt; stands_now = subst (StandsFor g content es) (sym same) stands }
   answered_all old new [] (response ∷ responses) none sound content es stands = absurd none
   answered_all old new (text ∷ texts) [] none sound content es stands = absurd none

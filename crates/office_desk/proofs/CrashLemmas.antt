@@ -9,7 +9,7 @@ use Rattle.office_replies.specs.declared.deliver.Fault.{Fault}
 use Rattle.office_replies.specs.declared.deliver.Response.{Response}
 use Rattle.office_replies.specs.declared.deliver.Response.TheVariants as response
 use Rattle.office_rows.specs.Rows.{Rows}
-use Rattle.office_rows.specs.Effects.{with_kept}
+use Rattle.office_rows.specs.Effects.{with_waiting}
 use Rattle.office_rows.specs.Stored.{HasRows, StoresRows}
 use Rattle.office_rows.proofs.StepLemmas.{stores}
 use Rattle.office_setup.specs.Given.{IsGiven}
@@ -56,10 +56,10 @@ module _ (content : SetupContent) (es : List Event) (sent : List ℕ) where
       record { rows = is.rows; are = is.are; after = (used_adds content es is.rows sent partner number kept is.after is_for here).rows_are }
 
   pub early_after : (rows : Rows) (text : List ℕ) (partner number next : ℕ) (db : Trees) → AreAfter content es rows → Comes content es sent (delivery partner number text) → text_in rows partner number ≡ None →
-      next ≡ run (deliveries_of content es) partner + 1 → next < number → StoresRows (with_kept partner number text rows) db → IsAfter content (es ++ delivered sent ∷ []) db
+      next ≡ run (deliveries_of content es) partner + 1 → next < number → StoresRows (with_waiting partner number text rows) db → IsAfter content (es ++ delivered sent ∷ []) db
   early_after rows text partner number next db after comes free is later are = record {
-    rows = with_kept partner number (interchange_of sent) rows;
-    are = subst (λ t. StoresRows (with_kept partner number t rows) db) comes.text_is are;
+    rows = with_waiting partner number (interchange_of sent) rows;
+    are = subst (λ t. StoresRows (with_waiting partner number t rows) db) comes.text_is are;
     after = (early_adds content es rows sent partner number after comes.is_for free (omega (arith, is, later))).rows_are;
   }
 

@@ -6,7 +6,7 @@ use Rattle.sqlite.specs.Held.{state}
 use Rattle.sqlite_trees.specs.declared.store.Store.{Ghosts}
 use Rattle.edi_segments.specs.Interchange.{interchange_of, segments_in}
 use Rattle.edi_syntax.specs.Envelope.{header_of}
-use Rattle.partner_core.specs.Answers.{Told}
+use Rattle.partner_core.specs.Answers.{AnswerModel}
 use Rattle.partner_core.specs.Answers as told
 use Rattle.office_replies.specs.Events.{Event, delivered}
 use Rattle.office_replies.specs.Contents.{GivesOrNotNow, content_of}
@@ -22,13 +22,13 @@ use Rattle.office_admission.specs.Outcomes.{IsRefused, fault_in}
 use Rattle.office_admission.specs.Refusals.{refusal_of, MayBeNotNow, RefusedSurely}
 use Rattle.office_admission.specs.declared.refusal.Refusal.{Refusal}
 use Rattle.office_history.specs.After.{content_after, parties_in}
-use Rattle.office_history.specs.Laws.{told_of}
+use Rattle.office_history.specs.Laws.{answer_model_of}
 use Rattle.office_history.proofs.Lawful.{now_same, refused_adds}
-use Rattle.office_desk.specs.Answers.{AnswersNext, told_answer, answer_at, answer_to, code_of}
+use Rattle.office_desk.specs.Answers.{AnswersNext, answer_by_model, answer_at, answer_to, code_of}
 use Rattle.office_desk.proofs.Admitted.{refused_for}
 use Rattle.office_desk.specs.Telling.{Answers, Comes, Holds}
 use Rattle.office_desk.specs.Desks.{StandsFor}
-use Rattle.office_desk.specs.Kept.{AnswersAt, AnswersByKept, AnswersOver, NotedFor, Office}
+use Rattle.office_desk.specs.Kept.{AnswersAt, AnswersByKept, AnswersOver, IsNotedFor, Office}
 use Rattle.office_desk.specs.Noting.{IsNow, NotesFault, NotesMemory}
 use Rattle.office_desk.specs.Offices.{DeskHolds}
 use Rattle.office_desk.specs.declared.beside.Beside.{Beside}
@@ -52,12 +52,12 @@ not_fine e = absurd cc
 not_refused : worst.NotNow ≡ worst.Refused → ⊥
 not_refused e = absurd cc
 
-never_now : (code : List ℕ) (number : ℕ) (kind : Told) → content_of response.NotNow ≡ told_answer code number kind → ⊥
+never_now : (code : List ℕ) (number : ℕ) (kind : AnswerModel) → content_of response.NotNow ≡ answer_by_model code number kind → ⊥
 never_now code number told.Clash e = not_refused (ap (λ answer. answer.how_bad) e)
 never_now code number kind e = not_fine (ap (λ answer. answer.how_bad) e)
 
 -- what is told is told now
-pub is_now : (given : Response) (code : List ℕ) (number : ℕ) (kind : Told) → content_of given ≡ told_answer code number kind → IsNow given
+pub is_now : (given : Response) (code : List ℕ) (number : ℕ) (kind : AnswerModel) → content_of given ≡ answer_by_model code number kind → IsNow given
 is_now response.NotNow code number kind e = absurd (never_now code number kind e)
 is_now given code number kind e = tt
 
@@ -96,7 +96,7 @@ module _ {S : Type 0} (g : Ghosts S) (content : SetupContent) (es : List Event) 
   answers_or_not sent response.NotNow now db there gives surely before after = (not_now_surely parties (interchange_of sent) surely, before)
   answers_or_not sent given now db there gives surely before after = (gives, after)
 
-  answers_now : (sent : List ℕ) (given : Response) (now : SetupContent) (db : Database) (there : Option Beside) (code : List ℕ) (number : ℕ) (kind : Told) → content_of given ≡ told_answer code number kind →
+  answers_now : (sent : List ℕ) (given : Response) (now : SetupContent) (db : Database) (there : Option Beside) (code : List ℕ) (number : ℕ) (kind : AnswerModel) → content_of given ≡ answer_by_model code number kind →
       content_of given ≡ answer_to content es sent → Holds content (es ++ delivered sent ∷ []) now db there → Next sent given now db there
   answers_now sent response.NotNow now db there code number kind e is after = absurd (never_now code number kind e)
   answers_now sent given now db there code number kind e is after = (is, after)
@@ -133,9 +133,9 @@ module _ {S : Type 0} (g : Ghosts S) (content : SetupContent) (es : List Event) 
   taken_in sent text given old db there partner number code is stands admits is_code takes =
       let comes = comes_for sent text old partner number is stands admits in
       let told = takes stands comes in
-      let kind = told_of content es partner number sent in
+      let kind = answer_model_of content es partner number sent in
       let named : code ≡ code_of parties partner = is_code ∙ ap (λ P. code_of P partner) (parties_now old stands) in
-      let here : content_of given ≡ told_answer (code_of parties partner) number kind = told.answers ∙ ap (λ c. told_answer c number kind) named in
+      let here : content_of given ≡ answer_by_model (code_of parties partner) number kind = told.answers ∙ ap (λ c. answer_by_model c number kind) named in
       answers_now sent given (setup_content old.setup) db there (code_of parties partner) number kind here
       (subst (λ place. content_of given ≡ answer_at content es sent place) (sym comes.is_for) here) told.holds
 
@@ -158,7 +158,7 @@ module _ {S : Type 0} (g : Ghosts S) (content : SetupContent) (es : List Event) 
 
 -- ---- over any office
 
-over : {S : Type 0} (g : Ghosts S) (old : Office) (sent : List ℕ) (given : Response) (desk : Desk S g) (code : List ℕ) (number : ℕ) (kind : Told) → content_of given ≡ told_answer code number kind →
+over : {S : Type 0} (g : Ghosts S) (old : Office) (sent : List ℕ) (given : Response) (desk : Desk S g) (code : List ℕ) (number : ℕ) (kind : AnswerModel) → content_of given ≡ answer_by_model code number kind →
     AnswersAt g (admission (parties_of desk.setup) (interchange_of sent)) (interchange_of sent) old given desk → AnswersOver g old sent given desk
 over g old sent response.NotNow desk code number kind e by = absurd (never_now code number kind e)
 over g old sent given desk code number kind e by = by
@@ -179,7 +179,7 @@ module _ {S : Type 0} (g : Ghosts S) where
       at : (given : Response) → GivesOrNotNow (refusal_of (parties_of desk.setup) (header_of (segments_in (interchange_of sent))) (fault_in refusal)) given → RefusedSurely (parties_of desk.setup) (interchange_of sent) given →
           admission (parties_of desk.setup) (interchange_of sent) ≡ Err (fault_in refusal) → NotesMemory given was desk.last_fault → AnswersOver g old sent given desk
       at response.NotNow e surely here noted =
-          (not_now_surely (parties_of desk.setup) (interchange_of sent) surely, subst (λ place. NotedFor place old.rows desk.last_fault) (sym here) noted, holds)
+          (not_now_surely (parties_of desk.setup) (interchange_of sent) surely, subst (λ place. IsNotedFor place old.rows desk.last_fault) (sym here) noted, holds)
       at given e surely here noted = told given e here
 
   pub answers_over : (old : Office) (sent text : List ℕ) (given : Response) (desk : Desk S g) (partner number : ℕ) (code : List ℕ) → text ≡ interchange_of sent →

@@ -16,7 +16,7 @@ use Rattle.terminal_core.specs.State.{TerminalState}
 use Rattle.office_rows.specs.Rows.{Partner, Interchange, Rows}
 use Rattle.office_rows.specs.Effects.{is_pair}
 use Rattle.office_rows.specs.Office.{AreAccounts}
-use Rattle.office_rows.specs.Opening.{setting, tables_version}
+use Rattle.office_rows.specs.Opening.{setting_row, tables_version}
 use Rattle.office_rows.specs.Shown.{AreNexts, columns_at}
 use Rattle.office_rows.specs.Stored.{columns_of}
 use Rattle.office_rows.specs.Tables as table
@@ -62,11 +62,11 @@ nexts_fit db content terminal loads high =
 version_shown : (db : Database) (content : SetupContent) (terminal : TerminalState) → Loads db content terminal → HasVersion db
 version_shown db content terminal loads =
     let it = loads.1.settings in
-    let version = setting_values (setting (codes "version") tables_version) in
+    let version = setting_values (setting_row (codes "version") tables_version) in
     let inside : Contains (map setting_values loads.0.settings) version = subst (λ l. Contains (map setting_values l) version) (sym loads.2.settings) (7, omega arith, refl) in
     let r = has_mapped (columns_at (0 ∷ 1 ∷ [])) it.by_key version (subst (λ l. Has l version) it.is (has_contained _ version inside)) in
     let whole : version ≡ r.0 = r.2 ∙ full db _ it r.0 r.1 in
-    subst (Contains (map (columns_of table.setting) (db.trees table.setting.tree))) (sym whole)
+    subst (Contains (map (columns_of table.setting_table) (db.trees table.setting_table.tree))) (sym whole)
     (Contains-permutation _ _ r.0 (IsPermutation-sym _ _ it.same) (contains_had it.by_key r.0 r.1))
 
 -- what shows an office is opened, but for want of store or memory

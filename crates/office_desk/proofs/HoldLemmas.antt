@@ -9,7 +9,7 @@ use Rattle.std.proofs.lemmas.Simd.{map-map}
 use Rattle.sqlite.specs.Effect.{Database}
 use Rattle.sqlite.specs.State.{State}
 use Rattle.edi_segments.specs.Interchange.{interchange_of}
-use Rattle.partner_core.specs.Answers.{Told, Waiting, answer_by}
+use Rattle.partner_core.specs.Answers.{AnswerModel, Waiting, answer_by}
 use Rattle.partner_core.specs.Deliveries.{delivery, run}
 use Rattle.partner_core.specs.Numbered.{with_number}
 use Rattle.partner_core.specs.Standings.{standing_of, is_same_text}
@@ -19,7 +19,7 @@ use Rattle.office_replies.specs.Events.{Event, delivered}
 use Rattle.office_replies.specs.Contents.{content_of}
 use Rattle.office_replies.specs.declared.deliver.Response.{Response}
 use Rattle.office_rows.specs.Rows.{Interchange, Rows}
-use Rattle.office_rows.specs.Effects.{with_kept}
+use Rattle.office_rows.specs.Effects.{with_waiting}
 use Rattle.office_rows.specs.Stored.{HasRows}
 use Rattle.office_setup.specs.Parties.{partner_kinds}
 use Rattle.office_setup.specs.Setups.{SetupContent, setup_content}
@@ -29,13 +29,13 @@ use Rattle.office_tables.specs.declared.interchanges.Kept.{Kept}
 use Rattle.office_taking.specs.Taking.{MachineState, machine_of}
 use Rattle.office_history.specs.Cascade.{AreTakenFrom, text_in, texts_with, with_run}
 use Rattle.office_history.specs.After.{AreAfter, AreKeptOnce, content_after, deliveries_of, machine_after, machine_with, parties_in, reply_in, reply_if_any}
-use Rattle.office_history.specs.Laws.{AddsRun, IsFor, AnswersBy, told_of}
+use Rattle.office_history.specs.Laws.{AddsRun, IsFor, AnswersBy, answer_model_of}
 use Rattle.office_history.proofs.Lawful.{early_adds, next_adds, now_same, used_adds}
 use Rattle.office_history.proofs.Telling.{answers, text_within}
 use Rattle.office_delivery.specs.Taking.{IsNumbered}
 use Rattle.office_delivery.specs.Writing.{Commits}
 use Rattle.office_delivery.proofs.ReadLemmas.{one_kept, text_kept}
-use Rattle.office_desk.specs.Answers.{told_answer}
+use Rattle.office_desk.specs.Answers.{answer_by_model}
 use Rattle.office_desk.specs.Beside.{IsAt, IsBeside, nexts_after}
 use Rattle.office_desk.specs.Telling.{Answers, Comes, Holds, TakesNext}
 use Rattle.office_desk.specs.declared.beside.Beside.{Beside}
@@ -66,8 +66,8 @@ numbered content es rows partner after = record { kept_once = after.kept_once; n
 -- ---- the answers
 
 module _ (content : SetupContent) (es : List Event) (rows : Rows) (sent : List ℕ) (partner number : ℕ) (after : AreAfter content es rows) (is_for : IsFor content es sent partner number) where
-  abbrev told : Told
-  told = told_of content es partner number sent
+  abbrev told : AnswerModel
+  told = answer_model_of content es partner number sent
 
   abbrev by_rows : AnswersBy content es rows sent partner number
   by_rows = answers content es rows sent partner number after is_for
@@ -107,7 +107,7 @@ beside_same content es sent (Some there) same runs beside =
 
 pub used_answers : (content : SetupContent) (es : List Event) (sent text : List ℕ) (partner number next : ℕ) (code : List ℕ) (kept : Kept) (response : Response) (now : SetupContent) (was db : Database) (there : Option Beside) →
     (holds : Holds content es now was there) → was ≡ db → Comes content es sent (delivery partner number text) → IsKept partner number holds.rows (Some kept) → next ≡ run (deliveries_of content es) partner + 1 →
-    content_of response ≡ told_answer code number (answer_by (standing_of next number (Some kept.text.items) text) next (option_map string_bytes kept.reply) None) →
+    content_of response ≡ answer_by_model code number (answer_by (standing_of next number (Some kept.text.items) text) next (option_map string_bytes kept.reply) None) →
     Answers content es sent (delivery partner number text) code response now db there
 used_answers content es sent text partner number next code kept response now was db there holds same comes is next_of told =
     let rows = holds.rows in
@@ -115,7 +115,7 @@ used_answers content es sent text partner number next code kept response now was
     let adds = used_adds content es rows sent partner number kept.text.items holds.after comes.is_for used in
     let answer = used_told content es rows sent partner number holds.after comes.is_for kept.text.items (option_map string_bytes kept.reply) next used (reply_kept partner number rows kept holds.after.kept_once is) next_of in
     record {
-      answers = told ∙ ap (λ t. told_answer code number (answer_by (standing_of next number (Some kept.text.items) t) next (option_map string_bytes kept.reply) None)) comes.text_is ∙ ap (told_answer code number) (sym answer);
+      answers = told ∙ ap (λ t. answer_by_model code number (answer_by (standing_of next number (Some kept.text.items) t) next (option_map string_bytes kept.reply) None)) comes.text_is ∙ ap (answer_by_model code number) (sym answer);
       holds = record {
         given = holds.given;
         now_is = now_same content es sent ∙ holds.now_is;
@@ -128,7 +128,7 @@ used_answers content es sent text partner number next code kept response now was
 
 pub early_answers : (content : SetupContent) (es : List Event) (sent text : List ℕ) (partner number next : ℕ) (code : List ℕ) (response : Response) (now : SetupContent) (old new : State) (there : Option Beside) →
     (holds : Holds content es now old.committed there) → Comes content es sent (delivery partner number text) → text_in holds.rows partner number ≡ None →
-    next ≡ run (deliveries_of content es) partner + 1 → next < number → content_of response ≡ told_answer code number (Waiting next) → Commits (with_kept partner number text) old new →
+    next ≡ run (deliveries_of content es) partner + 1 → next < number → content_of response ≡ answer_by_model code number (Waiting next) → Commits (with_waiting partner number text) old new →
     Answers content es sent (delivery partner number text) code response now new.committed there
 early_answers content es sent text partner number next code response now old new there holds comes free is later told wrote =
     let rows = holds.rows in
@@ -136,12 +136,12 @@ early_answers content es sent text partner number next code response now old new
     let adds = early_adds content es rows sent partner number holds.after comes.is_for free beyond in
     let answer = (answers content es rows sent partner number holds.after comes.is_for).early free beyond in
     record {
-      answers = told ∙ ap (told_answer code number) (ap Waiting is ∙ sym answer);
+      answers = told ∙ ap (answer_by_model code number) (ap Waiting is ∙ sym answer);
       holds = record {
         given = holds.given;
         now_is = now_same content es sent ∙ holds.now_is;
-        rows = with_kept partner number (interchange_of sent) rows;
-        has = subst (λ t. HasRows (with_kept partner number t rows) new.committed) comes.text_is (wrote.rows rows holds.has);
+        rows = with_waiting partner number (interchange_of sent) rows;
+        has = subst (λ t. HasRows (with_waiting partner number t rows) new.committed) comes.text_is (wrote.rows rows holds.has);
         after = adds.rows_are;
         beside = beside_same content es sent there adds.machine adds.runs holds.beside;
       };
@@ -183,7 +183,7 @@ next_answers setup content es sent text partner number next code response now le
     let adds = next_adds content es rows sent partner number (takes.first ∷ takes.later) machine holds.given holds.after comes.is_for free number_is here in
     let answer = (answers content es rows sent partner number holds.after comes.is_for).next takes.first takes.later machine holds.given free number_is here in
     record {
-      answers = takes.answers ∙ ap (told_answer code number) (sym answer);
+      answers = takes.answers ∙ ap (answer_by_model code number) (sym answer);
       holds = record {
         given = holds.given;
         now_is = now_same content es sent ∙ holds.now_is;

@@ -15,7 +15,7 @@ use Rattle.partner_core.specs.declared.runs.Standing.TheVariants.{Known, Other, 
 use Rattle.office_replies.specs.Contents.{content_of}
 use Rattle.office_replies.specs.declared.deliver.Response.{Response}
 use Rattle.office_rows.specs.Rows.{Interchange, Rows}
-use Rattle.office_rows.specs.Effects.{is_pair, with_kept}
+use Rattle.office_rows.specs.Effects.{is_pair, with_waiting}
 use Rattle.office_rows.specs.Shown.{AreNexts}
 use Rattle.office_rows.specs.Stored.{HasRows}
 use Rattle.office_setup.specs.Setups.{SetupContent, setup_content}
@@ -32,7 +32,7 @@ use Rattle.office_loading.specs.Tables.{Loads}
 use Rattle.office_delivery.specs.Taking.{IsNumbered}
 use Rattle.office_delivery.specs.Writing.{Commits}
 use Rattle.office_delivery.proofs.ReadLemmas.{text_kept}
-use Rattle.office_desk.specs.Answers.{told_answer}
+use Rattle.office_desk.specs.Answers.{answer_by_model}
 use Rattle.office_desk.specs.Beside.{IsOf}
 use Rattle.office_desk.specs.Kept.{Office, TakesIn, AnswersByKept, AnswersOrStays}
 use Rattle.office_desk.specs.Offices.{HoldsOffice}
@@ -67,7 +67,7 @@ module _ (content : SetupContent) (old : Office) (db : Database) (before : Optio
   used_takes d false next reply is = (refl, refl)
 
   pub used_by_kept : (d : Delivery) (code : List ℕ) (kept : Kept) (response : Response) (db' : Database) (there : Beside) (next : ℕ) → db' ≡ db → IsOf old.rows old.terminal there → IsNextOf d.partner old.rows next → IsKept d.partner d.number old.rows (Some kept) →
-      content_of response ≡ told_answer code d.number (answer_by (standing_of next d.number (Some kept.text.items) d.text) next (option_map string_bytes kept.reply) None) →
+      content_of response ≡ answer_by_model code d.number (answer_by (standing_of next d.number (Some kept.text.items) d.text) next (option_map string_bytes kept.reply) None) →
       AnswersByKept content d code old response db' (Some there)
   used_by_kept d code kept response db' there next same is_of is_next is told =
       let once = office_once content old.rows old.terminal db before holds in
@@ -88,12 +88,12 @@ module _ (content : SetupContent) (old : Office) (db : Database) (before : Optio
 
   pub early_by_kept : (d : Delivery) (code : List ℕ) (response : Response) (was end : State) (there : Beside) (next : ℕ) → was.committed ≡ db → IsOf old.rows old.terminal there → IsNextOf d.partner old.rows next →
       text_in old.rows d.partner d.number ≡ None → next < d.number → d.number ≤ 999999999 → 1 ≤ d.partner → d.partner ≤ length content.partners →
-      content_of response ≡ told_answer code d.number (Waiting next) → Commits (with_kept d.partner d.number d.text) was end → AnswersByKept content d code old response end.committed (Some there)
+      content_of response ≡ answer_by_model code d.number (Waiting next) → Commits (with_waiting d.partner d.number d.text) was end → AnswersByKept content d code old response end.committed (Some there)
   early_by_kept d code response was end there next same beside is_next free later high one most told wrote =
-      let has : HasRows (with_kept d.partner d.number d.text old.rows) end.committed = wrote.rows old.rows (subst (HasRows old.rows) (sym same) holds.has) in
+      let has : HasRows (with_waiting d.partner d.number d.text old.rows) end.committed = wrote.rows old.rows (subst (HasRows old.rows) (sym same) holds.has) in
       let in_turn = wrote.rows (in_order old.rows holds.loads.0) (subst (HasRows (in_order old.rows holds.loads.0)) (sym same) (has_in_order old.rows holds.loads.0 db holds.has holds.loads.1)) in
       let follows = next_follows content old.rows accounts d.partner next is_next in
-      let new : Office = record old { rows = with_kept d.partner d.number d.text old.rows } in
+      let new : Office = record old { rows = with_waiting d.partner d.number d.text old.rows } in
       let by_none : TakesIn (standing_of next d.number None d.text) content d next (Waiting next) old new =
       subst (λ is. TakesIn (cond is Early Next) content d next (Waiting next) old new) (sym (lt-ltb next d.number later)) (refl, refl) in
       record {
@@ -190,7 +190,7 @@ failed_stays Q content old d code (Err fault) db there is why holds = (why fault
 
 pub early_or_stays : (content : SetupContent) (old : Office) (d : Delivery) (code : List ℕ) (r : Result Response TableFault) (was end : State) (there : Beside) (next : ℕ) →
     HoldsOffice content old.rows old.terminal was.committed (Some there) → IsNextOf d.partner old.rows next → text_in old.rows d.partner d.number ≡ None → next < d.number → d.number ≤ 999999999 → 1 ≤ d.partner → d.partner ≤ length content.partners →
-    IfOk r (λ response. content_of response ≡ told_answer code d.number (Waiting next)) → OnOk r (Commits (with_kept d.partner d.number d.text) was end) → OnErr r (end.committed ≡ was.committed) → IfErr r IsOfStore →
+    IfOk r (λ response. content_of response ≡ answer_by_model code d.number (Waiting next)) → OnOk r (Commits (with_waiting d.partner d.number d.text) was end) → OnErr r (end.committed ≡ was.committed) → IfErr r IsOfStore →
     AnswersOrStays content d code old r end.committed (Some there)
 early_or_stays content old d code (Ok response) was end there next holds is_next free later high one most told wrote same why =
     early_by_kept content old was.committed (Some there) holds d code response was end there next refl holds.beside is_next free later high one most told wrote

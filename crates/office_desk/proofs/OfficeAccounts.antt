@@ -10,12 +10,12 @@ use Rattle.edi_messages.specs.declared.codes.PartnerKind.{PartnerKind}
 use Rattle.partner_core.specs.Numbered.{with_number}
 use Rattle.terminal_core.specs.State.{TerminalState}
 use Rattle.office_rows.specs.Rows.{Partner, Rows}
-use Rattle.office_rows.specs.Values.{number, interchange_values, partner_values}
+use Rattle.office_rows.specs.Values.{number_value, interchange_values, partner_values}
 use Rattle.office_rows.specs.Stored.{HasRows}
 use Rattle.office_rows.specs.Shown.{AreNexts, columns_at}
-use Rattle.office_rows.specs.Opened.{numbered}
+use Rattle.office_rows.specs.Opened.{number_kept}
 use Rattle.office_rows.specs.Office.{AreKept}
-use Rattle.office_rows.specs.Tables.{partner as partners_table}
+use Rattle.office_rows.specs.Tables.{partner_table as partners_table}
 use Rattle.office_rows.proofs.Listed.{unmapped}
 use Rattle.office_setup.specs.Setups.{SetupContent}
 use Rattle.office_tables.specs.Answers.{IsNextOf, has_id}
@@ -47,7 +47,7 @@ keeps_accounts content rows terminal db has loads =
     let same : shown.partners ≡ in_order.0 = same_records (λ _. Unit {0}) partner_values partner_one shown.partners in_order.0 (λ _ _. tt) (λ _ _. tt) in_order.2 in
     let table = shows.numbers.shown in
     let placed = unmapped interchange_values rows.interchanges table.by_key (IsPermutation-trans _ _ _ has.rows_are.interchanges.same table.same) in
-    let numbers : shown.numbers ≡ map numbered placed.0 =
+    let numbers : shown.numbers ≡ map number_kept placed.0 =
     shows.numbers.are ∙ numbers_same shows.numbers.interchanges placed.0 (table.is ∙ ap (map (columns_at (0 ∷ 1 ∷ 3 ∷ []))) placed.2) in (
       record {
         runs = its.runs;

@@ -12,10 +12,10 @@ use Rattle.terminal_core.specs.Versions.{newest}
 use Rattle.office_rows.specs.Rows.{Rows}
 use Rattle.office_rows.specs.Values.{partner_values, visit_values, place_values, line_values, setting_values, block_values}
 use Rattle.office_rows.specs.Stored.{HasRows, Holds, columns_of}
-use Rattle.office_rows.specs.Effects.{with_kept}
+use Rattle.office_rows.specs.Effects.{with_waiting}
 use Rattle.office_rows.specs.Shown.{ShowsTable, columns_at}
 use Rattle.office_rows.specs.Opened.{OpenedRows, Shows}
-use Rattle.office_rows.specs.Tables.{partner, visit, place, listed, block, setting}
+use Rattle.office_rows.specs.Tables.{partner_table, visit_table, place_table, listing_table, block_table, setting_table}
 use Rattle.office_setup.specs.Setups.{SetupContent}
 use Rattle.office_history.specs.Cascade.{text_in}
 use Rattle.office_history.proofs.Afters.{once_with, pair_is, reply_with, text_with}
@@ -55,13 +55,13 @@ has_in_order rows shown db has shows = record {
   schema = has.schema;
   lists = has.lists;
   rows_are = record {
-    partners = holds_shown partner (0 ∷ 1 ∷ 2 ∷ 3 ∷ []) (0 ∷ []) partner_values rows.partners shown.partners db (λ p. refl) has.rows_are.partners shows.partners;
+    partners = holds_shown partner_table (0 ∷ 1 ∷ 2 ∷ 3 ∷ []) (0 ∷ []) partner_values rows.partners shown.partners db (λ p. refl) has.rows_are.partners shows.partners;
     interchanges = has.rows_are.interchanges;
-    visits = holds_shown visit (0 ∷ 1 ∷ 2 ∷ 3 ∷ 4 ∷ 5 ∷ 6 ∷ 7 ∷ 8 ∷ 9 ∷ 10 ∷ 11 ∷ 12 ∷ 13 ∷ 14 ∷ []) (0 ∷ []) visit_values rows.visits shown.visits db (λ v. refl) has.rows_are.visits shows.visits;
-    places = holds_shown place (0 ∷ 1 ∷ 2 ∷ []) (0 ∷ []) place_values rows.places shown.places db (λ p. refl) has.rows_are.places shows.places;
-    lines = holds_shown listed (0 ∷ 1 ∷ 2 ∷ 3 ∷ 4 ∷ 5 ∷ []) (0 ∷ 1 ∷ 2 ∷ 3 ∷ []) line_values rows.lines shown.lines db (λ l. refl) has.rows_are.lines shows.lines;
-    settings = holds_shown setting (0 ∷ 1 ∷ []) (0 ∷ []) setting_values rows.settings shown.settings db (λ s. refl) has.rows_are.settings shows.settings;
-    blocks = holds_shown block (0 ∷ 1 ∷ 2 ∷ 3 ∷ []) (0 ∷ []) block_values rows.blocks shown.blocks db (λ b. refl) has.rows_are.blocks shows.blocks;
+    visits = holds_shown visit_table (0 ∷ 1 ∷ 2 ∷ 3 ∷ 4 ∷ 5 ∷ 6 ∷ 7 ∷ 8 ∷ 9 ∷ 10 ∷ 11 ∷ 12 ∷ 13 ∷ 14 ∷ []) (0 ∷ []) visit_values rows.visits shown.visits db (λ v. refl) has.rows_are.visits shows.visits;
+    places = holds_shown place_table (0 ∷ 1 ∷ 2 ∷ []) (0 ∷ []) place_values rows.places shown.places db (λ p. refl) has.rows_are.places shows.places;
+    lines = holds_shown listing_table (0 ∷ 1 ∷ 2 ∷ 3 ∷ 4 ∷ 5 ∷ []) (0 ∷ 1 ∷ 2 ∷ 3 ∷ []) line_values rows.lines shown.lines db (λ l. refl) has.rows_are.lines shows.lines;
+    settings = holds_shown setting_table (0 ∷ 1 ∷ []) (0 ∷ []) setting_values rows.settings shown.settings db (λ s. refl) has.rows_are.settings shows.settings;
+    blocks = holds_shown block_table (0 ∷ 1 ∷ 2 ∷ 3 ∷ []) (0 ∷ []) block_values rows.blocks shown.blocks db (λ b. refl) has.rows_are.blocks shows.blocks;
   };
 }
 
@@ -95,7 +95,7 @@ module _ (rows : Rows) (p k : ℕ) (text : List ℕ) (free : text_in rows p k �
   is_here q j = (p == q) && (k == j)
 
   -- one that waits is kept among the others
-  keeps_early : (count : ℕ) (runs : ℕ → ℕ) → 1 ≤ p → p ≤ count → k ≤ 999999999 → runs p + 1 < k → KeepsNumbers count runs rows → KeepsNumbers count runs (with_kept p k text rows)
+  keeps_early : (count : ℕ) (runs : ℕ → ℕ) → 1 ≤ p → p ≤ count → k ≤ 999999999 → runs p + 1 < k → KeepsNumbers count runs rows → KeepsNumbers count runs (with_waiting p k text rows)
   keeps_early count runs one most high far keeps = record {
     once = once_with rows p k text free keeps.once;
     within = λ q j t e. within q j t (is_here q j) refl (sym (text_with rows p k text free q j) ∙ e);
@@ -123,12 +123,12 @@ module _ (rows : Rows) (p k : ℕ) (text : List ℕ) (free : text_in rows p k �
       not_next q false e = cond-false (is_here q (runs q + 1)) (Some text) (text_in rows q (runs q + 1)) e ∙ keeps.free q
 
 pub early_loads : (content : SetupContent) (rows : Rows) (p k : ℕ) (text : List ℕ) (terminal : TerminalState) (db db' : Database) → (has : HasRows rows db) → (loads : Loads db content terminal) →
-    HasRows (with_kept p k text (in_order rows loads.0)) db' → 1 ≤ p → p ≤ length content.partners → k ≤ 999999999 → (keeps_accounts content rows terminal db has loads).0.runs p + 1 < k → text_in rows p k ≡ None → Loads db' content terminal
+    HasRows (with_waiting p k text (in_order rows loads.0)) db' → 1 ≤ p → p ≤ length content.partners → k ≤ 999999999 → (keeps_accounts content rows terminal db has loads).0.runs p + 1 < k → text_in rows p k ≡ None → Loads db' content terminal
 early_loads content rows p k text terminal db db' has loads has' one most high far free =
     let placed : Rows = in_order rows loads.0 in
     let runs = (keeps_accounts content rows terminal db has loads).0.runs in
     let office = office_of content rows terminal db has loads in
-    loaded content runs (with_kept p k text placed) terminal db'
+    loaded content runs (with_waiting p k text placed) terminal db'
     (record {
       given = office.given;
       partners = office.partners;

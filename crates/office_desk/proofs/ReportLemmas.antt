@@ -14,7 +14,7 @@ use Rattle.office_setup.specs.Parties.{Parties, partner_codes, partner_from}
 use Rattle.office_setup.specs.Setups.{setup_content}
 use Rattle.office_setup.specs.declared.setup.Setup.{Setup}
 use Rattle.office_lookups.specs.Contrls.{contrl_in}
-use Rattle.office_desk.specs.Reports.{TellsReply, partner_called, reply_text, ticket_told}
+use Rattle.office_desk.specs.Reports.{TellsReply, partner_called, reply_text, ticket_if_taken}
 use Rattle.office_desk.proofs.DeliverLemmas.{parties_same}
 use Rattle.office_desk.proofs.HoldLemmas.{reply_kept}
 
@@ -38,15 +38,15 @@ module _ (rows : Rows) (partner number : ℕ) (once : AreKeptOnce rows.interchan
   told_nothing code none = subst (λ t. TellsReply rows code partner number t (reply_in rows partner number) None) (sym (no_text partner number rows none)) refl
 
   pub ticket_there : (code : List ℕ) (visits : List VisitContent) (kept : Option Kept) (text : List ℕ) → IsKept partner number rows kept → is_some (option_and_then (λ (k : Kept). k.reply) kept) ≡ true →
-      text ≡ ticket_text code (record { partner = partner; number = number }) visits → Some text ≡ ticket_told visits code partner number (reply_in rows partner number)
+      text ≡ ticket_text code (record { partner = partner; number = number }) visits → Some text ≡ ticket_if_taken visits code partner number (reply_in rows partner number)
   ticket_there code visits kept text is there told =
       let found = some_of (option_and_then (λ (k : Kept). k.reply) kept) there in
-      ap Some told ∙ sym (ap (ticket_told visits code partner number) (reply_of_kept kept is ∙ ap (option_map string_bytes) found.1))
+      ap Some told ∙ sym (ap (ticket_if_taken visits code partner number) (reply_of_kept kept is ∙ ap (option_map string_bytes) found.1))
 
   pub no_ticket : (code : List ℕ) (visits : List VisitContent) (kept : Option Kept) → IsKept partner number rows kept → is_some (option_and_then (λ (k : Kept). k.reply) kept) ≡ false →
-      None ≡ ticket_told visits code partner number (reply_in rows partner number)
+      None ≡ ticket_if_taken visits code partner number (reply_in rows partner number)
   no_ticket code visits kept is none =
-      sym (ap (ticket_told visits code partner number) (reply_of_kept kept is ∙ ap (option_map string_bytes) (none_of (option_and_then (λ (k : Kept). k.reply) kept) none)))
+      sym (ap (ticket_if_taken visits code partner number) (reply_of_kept kept is ∙ ap (option_map string_bytes) (none_of (option_and_then (λ (k : Kept). k.reply) kept) none)))
 
   -- the CONTRL of the reply that is kept
   pub contrl_kept : (kept : Option Kept) (reply : Option (List ℕ)) → IsKept partner number rows kept → reply ≡ option_map string_bytes (option_and_then (λ (k : Kept). k.reply) kept) →

@@ -8,7 +8,7 @@ use Rattle.std.proofs.lemmas.Bool.{cond-true, cond-false, eq-eqb, ne_eqb}
 use Rattle.std.proofs.lemmas.List.Sorted.{Contains-permutation, IsPermutation-map, IsPermutation-sym}
 use Rattle.edi_messages.specs.declared.codes.PartnerKind.{PartnerKind}
 use Rattle.office_rows.specs.Rows.{Partner, Rows}
-use Rattle.office_rows.specs.Effects.{with_kept}
+use Rattle.office_rows.specs.Effects.{with_waiting}
 use Rattle.office_rows.specs.Shown.{AreNexts}
 use Rattle.office_taking.specs.Taking.{MachineState, interchange_taken}
 use Rattle.office_history.specs.After.{accounts_from}
@@ -53,7 +53,7 @@ module _ (p : ℕ) (texts : ℕ → Option (List ℕ)) where
 -- the accounts behind a run
 pub accounts_raised : (p number : ℕ) (texts : ℕ → Option (List ℕ)) (text : List ℕ) (old new : MachineState) (first : TakenContent) (later : List TakenContent) (rows : Rows) → AreTakenFrom p texts number old (first ∷ later) new →
     (with_run p number text (first ∷ later) rows).partners ≡ map (raised p (number + length (first ∷ later))) rows.partners
-accounts_raised p number texts text old new first later rows taken = run_raised p texts number old new first later (with_kept p number text rows) taken
+accounts_raised p number texts text old new first later rows taken = run_raised p texts number old new first later (with_waiting p number text rows) taken
 
 -- ---- the numbers
 

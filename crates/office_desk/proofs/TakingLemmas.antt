@@ -9,14 +9,14 @@ use Rattle.partner_core.specs.Deliveries.{Delivery, run}
 use Rattle.office_replies.specs.Contents.{content_of}
 use Rattle.office_replies.specs.Events.{Event, delivered}
 use Rattle.office_replies.specs.declared.deliver.Response.{Response}
-use Rattle.office_rows.specs.Effects.{with_kept}
+use Rattle.office_rows.specs.Effects.{with_waiting}
 use Rattle.office_rows.specs.Stored.{HasRows}
 use Rattle.office_setup.specs.Setups.{SetupContent}
 use Rattle.office_tables.specs.declared.table_fault.TableFault.{TableFault}
 use Rattle.office_history.specs.After.{deliveries_of}
 use Rattle.office_history.specs.Cascade.{text_in}
 use Rattle.office_delivery.specs.Writing.{Commits, IsWhole}
-use Rattle.office_desk.specs.Answers.{told_answer}
+use Rattle.office_desk.specs.Answers.{answer_by_model}
 use Rattle.office_desk.specs.Crashes.{Leaves, LeavesEither}
 use Rattle.office_desk.specs.Taking.{AnswersOrHolds, LeavesTaken}
 use Rattle.office_desk.specs.Telling.{Comes, Holds}
@@ -40,13 +40,13 @@ module _ (content : SetupContent) (es : List Event) where
 
   module _ (d : Delivery) (code : List ℕ) (now : SetupContent) (old new : State) (there : Option Beside) (next : ℕ) (holds : Holds content es now old.committed there) (free : text_in holds.rows d.partner d.number ≡ None)
       (is : next ≡ run (deliveries_of content es) d.partner + 1) (later : next < d.number) where
-    pub early_events : (r : Result Response TableFault) → IfOk r (λ response. content_of response ≡ told_answer code d.number (Waiting next)) → OnOk r (Commits (with_kept d.partner d.number d.text) old new) →
+    pub early_events : (r : Result Response TableFault) → IfOk r (λ response. content_of response ≡ answer_by_model code d.number (Waiting next)) → OnOk r (Commits (with_waiting d.partner d.number d.text) old new) →
         OnErr r (new.committed ≡ old.committed) → AnswersOrHolds content es d code r now new.committed there
     early_events (Ok response) told wrote same = λ sent comes. early_answers content es sent d.text d.partner d.number next code response now old new there holds comes free is later told wrote
     early_events (Err fault) told wrote same = held_with holds new.committed there (subst (HasRows holds.rows) (sym same) holds.has) holds.beside
 
-    pub early_leaves : (sent : List ℕ) (r : Result Response TableFault) → Comes content es sent d → Leaves content es old → IfOk r (λ response. content_of response ≡ told_answer code d.number (Waiting next)) →
-        OnOk r (Commits (with_kept d.partner d.number d.text) old new) → ((db : Trees) → new.may_leave db → old.may_leave db ⊎ IsWhole (with_kept d.partner d.number d.text) old db) →
+    pub early_leaves : (sent : List ℕ) (r : Result Response TableFault) → Comes content es sent d → Leaves content es old → IfOk r (λ response. content_of response ≡ answer_by_model code d.number (Waiting next)) →
+        OnOk r (Commits (with_waiting d.partner d.number d.text) old new) → ((db : Trees) → new.may_leave db → old.may_leave db ⊎ IsWhole (with_waiting d.partner d.number d.text) old db) →
         LeavesTaken content es sent r new
     early_leaves sent (Ok response) comes leaves told wrote crash =
         let after = (early_answers content es sent d.text d.partner d.number next code response now old new there holds comes free is later told wrote).holds in

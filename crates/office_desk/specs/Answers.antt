@@ -3,7 +3,7 @@ use Rattle.std.specs.Prelude.{◌≡◌, ℕ, List, [], Result, Ok, Err, codes}
 use Rattle.std.specs.Option.{unwrap_or}
 use Rattle.edi_segments.specs.Interchange.{interchange_of, segments_in}
 use Rattle.edi_syntax.specs.Envelope.{header_of}
-use Rattle.partner_core.specs.Answers.{Told}
+use Rattle.partner_core.specs.Answers.{AnswerModel}
 use Rattle.partner_core.specs.Answers as told
 use Rattle.partner_core.specs.Numbered.{with_number}
 use Rattle.office_replies.specs.Events.{Event}
@@ -19,7 +19,7 @@ use Rattle.office_setup.specs.Setups.{SetupContent, parties_in}
 use Rattle.office_admission.specs.Admission.{admission}
 use Rattle.office_admission.specs.Accounts.{content_after}
 use Rattle.office_admission.specs.Refusals.{refusal_of, MayBeNotNow}
-use Rattle.office_history.specs.Laws.{told_of}
+use Rattle.office_history.specs.Laws.{answer_model_of}
 
 -- the answer to an interchange of the partner with a code that is taken, with its reply
 abbrev pub taken_answer : List ℕ → ℕ → List ℕ → AnswerContent
@@ -31,11 +31,11 @@ repeat_answer code number reply =
     answer_with kinds.Repeat 200 (answer_text (codes "repeat") number code reply) worst.Fine
 
 -- what the runs tell of a number of the partner with a code
-abbrev pub told_answer : List ℕ → ℕ → Told → AnswerContent
-told_answer code number (told.Taken reply) = taken_answer code number (unwrap_or reply [])
-told_answer code number (told.Repeat reply) = repeat_answer code number (unwrap_or reply [])
-told_answer code number (told.Waiting next) = answer_with kinds.Waiting 202 (waiting_text next number code) worst.Fine
-told_answer code number told.Clash = answer_with kinds.Clash 409 (clash_text number code) worst.Refused
+abbrev pub answer_by_model : List ℕ → ℕ → AnswerModel → AnswerContent
+answer_by_model code number (told.Taken reply) = taken_answer code number (unwrap_or reply [])
+answer_by_model code number (told.Repeat reply) = repeat_answer code number (unwrap_or reply [])
+answer_by_model code number (told.Waiting next) = answer_with kinds.Waiting 202 (waiting_text next number code) worst.Fine
+answer_by_model code number told.Clash = answer_with kinds.Clash 409 (clash_text number code) worst.Refused
 
 abbrev pub code_of : Parties → ℕ → List ℕ
 code_of parties partner = unwrap_or (with_number parties.partners partner) []
@@ -44,8 +44,8 @@ abbrev pub answer_at : SetupContent → List Event → List ℕ → Result (ℕ 
 answer_at content es sent (Err fault) =
     refusal_of (parties_in (content_after content es)) (header_of (segments_in (interchange_of sent))) fault
 answer_at content es sent (Ok place) =
-    told_answer (code_of (parties_in (content_after content es)) place.0) place.1
-    (told_of content es place.0 place.1 sent)
+    answer_by_model (code_of (parties_in (content_after content es)) place.0) place.1
+    (answer_model_of content es place.0 place.1 sent)
 
 -- the answer to a text that is delivered after those events, by the accounts so far
 abbrev pub answer_to : SetupContent → List Event → List ℕ → AnswerContent

@@ -7,7 +7,7 @@ use Rattle.sqlite_trees.specs.declared.store.Store.{Ghosts}
 use Rattle.edi_segments.specs.Interchange.{interchange_of}
 use Rattle.terminal_core.specs.State.{TerminalState}
 use Rattle.office_replies.specs.Adding.{Adds}
-use Rattle.office_replies.specs.Delivering.{Answered, Delivers, LeadsOn}
+use Rattle.office_replies.specs.Delivering.{AreAnswered, Delivers, LeadsOn}
 use Rattle.office_replies.specs.Events.{Event}
 use Rattle.office_replies.specs.declared.accounts.AccountAnswer.{AccountAnswer}
 use Rattle.office_replies.specs.declared.deliver.Response.{Response}
@@ -94,7 +94,7 @@ abbrev pub DeliveriesAreAnswered : {S : Type 0} → Ghosts S → Type 0
 DeliveriesAreAnswered {S} g =
     (old new : Desk S g) (texts : List (List ℕ)) (responses : List Response) →
     LeadsOn (Leads g) old texts responses new → IsSound g new → (content : SetupContent) (es : List Event) →
-    StandsFor g content es old → Answered (StandsFor g content) (AnswersNext content) es new texts responses
+    StandsFor g content es old → AreAnswered (StandsFor g content) (AnswersNext content) es new texts responses
 
 -- what a crash leaves behind them, of a desk that stands after some events
 abbrev pub DeliveriesOutlastCrashes : {S : Type 0} → Ghosts S → Type 0

@@ -5,7 +5,7 @@ use Rattle.sqlite.specs.Held.{state}
 use Rattle.sqlite_trees.specs.declared.store.Store.{Ghosts}
 use Rattle.edi_segments.specs.Interchange.{interchange_of, segments_in}
 use Rattle.edi_syntax.specs.Envelope.{header_of}
-use Rattle.partner_core.specs.Answers.{Told, Taken, Waiting, Clash, answer_by}
+use Rattle.partner_core.specs.Answers.{AnswerModel, Taken, Waiting, Clash, answer_by}
 use Rattle.partner_core.specs.Deliveries.{Delivery, delivery}
 use Rattle.partner_core.specs.Standings.{standing_of}
 use Rattle.partner_core.specs.declared.runs.Standing.{Standing}
@@ -16,7 +16,7 @@ use Rattle.office_replies.specs.declared.deliver.Fault.{Fault}
 use Rattle.office_replies.specs.declared.deliver.Response.{Response}
 use Rattle.office_replies.specs.declared.deliver.Response.TheVariants as response
 use Rattle.office_rows.specs.Rows.{Rows}
-use Rattle.office_rows.specs.Effects.{with_kept}
+use Rattle.office_rows.specs.Effects.{with_waiting}
 use Rattle.office_setup.specs.Parties.{parties_of}
 use Rattle.office_setup.specs.Setups.{SetupContent, setup_content}
 use Rattle.office_admission.specs.Admission.{admission}
@@ -27,7 +27,7 @@ use Rattle.office_tables.specs.declared.table_fault.TableFault.{TableFault}
 use Rattle.office_tables.specs.declared.table_fault.TableFault.TheVariants.{Memory}
 use Rattle.office_history.specs.After.{machine_with, reply_in}
 use Rattle.office_history.specs.Cascade.{TakenContent, AreTakenFrom, text_in, texts_with, with_run}
-use Rattle.office_desk.specs.Answers.{code_of, told_answer}
+use Rattle.office_desk.specs.Answers.{code_of, answer_by_model}
 use Rattle.office_desk.specs.Offices.{DeskHolds, HoldsOffice}
 use Rattle.office_desk.specs.declared.beside.Beside.{Beside}
 use Rattle.office_desk.specs.declared.desk.Desk.{Desk}
@@ -40,7 +40,7 @@ pub record Office : Type 0 where
 -- ---- what a delivery makes of an office
 
 -- it is taken, and the texts that become next by it; it is told with its own reply
-pub record IsRunTaken (content : SetupContent) (d : Delivery) (told : Told) (old new : Office) : Type 0 where
+pub record IsRunTaken (content : SetupContent) (d : Delivery) (told : AnswerModel) (old new : Office) : Type 0 where
   pub first : TakenContent
   pub later : List TakenContent
   pub taken : AreTakenFrom d.partner (texts_with old.rows d.partner d.number d.text) d.number
@@ -53,12 +53,12 @@ abbrev pub standing_in : Office → Delivery → (next : ℕ) → Standing
 standing_in old d next = standing_of next d.number (text_in old.rows d.partner d.number) d.text
 
 -- by that standing: what is used leaves the office, what is early is kept, and what is next is taken
-abbrev pub TakesIn : Standing → SetupContent → Delivery → (next : ℕ) → Told → (old new : Office) → Type 0
+abbrev pub TakesIn : Standing → SetupContent → Delivery → (next : ℕ) → AnswerModel → (old new : Office) → Type 0
 TakesIn Known content d next told old new =
     (told ≡ answer_by Known next (reply_in old.rows d.partner d.number) None) × (new ≡ old)
 TakesIn Other content d next told old new = (told ≡ Clash) × (new ≡ old)
 TakesIn Early content d next told old new =
-    (told ≡ Waiting next) × (new ≡ record old { rows = with_kept d.partner d.number d.text old.rows })
+    (told ≡ Waiting next) × (new ≡ record old { rows = with_waiting d.partner d.number d.text old.rows })
 TakesIn Next content d next told old new = (d.number ≡ next) × IsRunTaken content d told old new
 
 -- ---- what is answered
@@ -69,10 +69,10 @@ pub record AnswersByKept (content : SetupContent) (d : Delivery) (code : List �
     (db : Database) (there : Option Beside) : Type 0 where
   pub next : ℕ
   pub is_next : IsNextOf d.partner old.rows next
-  pub told : Told
+  pub told : AnswerModel
   pub new : Office
   pub takes : TakesIn (standing_in old d next) content d next told old new
-  pub answers : content_of response ≡ told_answer code d.number told
+  pub answers : content_of response ≡ answer_by_model code d.number told
   pub holds : HoldsOffice content new.rows new.terminal db there
 
 -- it is answered so, or the call failed and the office is held as it was: the store failed, or memory was refused, or
@@ -97,16 +97,16 @@ AnswersAt g (Ok place) text old given desk =
 
 -- why that is answered NotNow, as the desk notes it: a refusal for want of memory; what is admitted by its store too,
 -- or by a reply kept under its number that is no text
-abbrev pub NotedFor : Result (ℕ × ℕ) Fault → Rows → Option TableFault → Type 0
-NotedFor (Err refused) rows noted = noted ≡ Some Memory
-NotedFor (Ok place) rows noted =
+abbrev pub IsNotedFor : Result (ℕ × ℕ) Fault → Rows → Option TableFault → Type 0
+IsNotedFor (Err refused) rows noted = noted ≡ Some Memory
+IsNotedFor (Ok place) rows noted =
     (fault : TableFault) × (noted ≡ Some fault) × IsOfStoreOr (HasUnfitReply place.0 place.1 rows) fault
 
 -- what is delivered to a desk over that office is answered so, or NotNow if that may be, and the office stays
 abbrev pub AnswersOver : {S : Type 0} (g : Ghosts S) → Office → List ℕ → Response → Desk S g → Type 0
 AnswersOver g old sent response.NotNow desk =
     MayBeNotNow (parties_of desk.setup) (interchange_of sent)
-    × NotedFor (admission (parties_of desk.setup) (interchange_of sent)) old.rows desk.last_fault
+    × IsNotedFor (admission (parties_of desk.setup) (interchange_of sent)) old.rows desk.last_fault
     × DeskHolds g desk old.rows old.terminal
 AnswersOver g old sent given desk =
     AnswersAt g (admission (parties_of desk.setup) (interchange_of sent)) (interchange_of sent) old given desk

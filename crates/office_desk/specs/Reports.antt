@@ -63,21 +63,21 @@ TellsReplyOf rows code number (Some partner) found =
 -- ---- tickets
 
 -- what was taken has a ticket
-abbrev pub ticket_told : List VisitContent → List ℕ → ℕ → ℕ → (reply : Option (List ℕ)) → Option (List ℕ)
-ticket_told visits code partner number None = None
-ticket_told visits code partner number (Some reply) =
+abbrev pub ticket_if_taken : List VisitContent → List ℕ → ℕ → ℕ → (reply : Option (List ℕ)) → Option (List ℕ)
+ticket_if_taken visits code partner number None = None
+ticket_if_taken visits code partner number (Some reply) =
     Some (ticket_text code (record { partner = partner; number = number }) visits)
 
 abbrev pub ticket_of : List VisitContent → Rows → List ℕ → ℕ → Option ℕ → Option (List ℕ)
 ticket_of visits rows code number None = None
-ticket_of visits rows code number (Some partner) = ticket_told visits code partner number (reply_in rows partner number)
+ticket_of visits rows code number (Some partner) = ticket_if_taken visits code partner number (reply_in rows partner number)
 
 -- ---- CONTRLs
 
 -- the CONTRL of the reply that is kept, if it was taken
-abbrev pub contrl_told : Rows → ℕ → Option ℕ → Option (List ℕ)
-contrl_told rows number None = None
-contrl_told rows number (Some partner) = option_and_then contrl_in (reply_in rows partner number)
+abbrev pub contrl_for_partner : Rows → ℕ → Option ℕ → Option (List ℕ)
+contrl_for_partner rows number None = None
+contrl_for_partner rows number (Some partner) = option_and_then contrl_in (reply_in rows partner number)
 
 -- ---- partners
 
@@ -141,7 +141,7 @@ TellsOf content state rows query.Partners found = TellsPartners rows content.par
 TellsOf content state rows query.Blocks found = (text : List ℕ) × (found ≡ Some text) × IsBlocksReport state text
 TellsOf content state rows query.Calls found = found ≡ Some (calls_text state.lines)
 TellsOf content state rows (query.Contrl partner number) found =
-    found ≡ contrl_told rows number (partner_called content (string_bytes partner))
+    found ≡ contrl_for_partner rows number (partner_called content (string_bytes partner))
 TellsOf content state rows (query.Partner code) found =
     TellsPartner rows content.partners (partner_called content (string_bytes code)) found
 TellsOf content state rows (query.Next code) found = TellsNext rows (partner_called content (string_bytes code)) found

@@ -17,8 +17,8 @@ use Rattle.office_setup.specs.declared.setup.Setup.{Setup}
 use Rattle.office_taking.specs.Taking.{MachineState, machine_of}
 use Rattle.office_history.specs.After.{AreAfter, content_after}
 use Rattle.office_history.specs.Cascade.{TakenContent, AreTakenFrom, texts_with, with_run}
-use Rattle.office_history.specs.Laws.{IsFor, told_of}
-use Rattle.office_desk.specs.Answers.{told_answer}
+use Rattle.office_history.specs.Laws.{IsFor, answer_model_of}
+use Rattle.office_desk.specs.Answers.{answer_by_model}
 use Rattle.office_desk.specs.Beside.{IsBeside}
 use Rattle.office_desk.specs.declared.beside.Beside.{Beside}
 use Rattle.office_desk.specs.declared.taking.Delivery.{Delivery as Delivered}
@@ -32,7 +32,7 @@ pub record TakesNext (rows : Rows) (d : Delivery) (code : List ℕ) (setup : Set
   pub taken : AreTakenFrom d.partner (texts_with rows d.partner d.number d.text) d.number
       (machine_of setup old.terminal) (first ∷ later) (machine_of setup new.terminal)
   pub raised : new.nexts.items ≡ slice_set old.nexts.items (d.partner - 1) (d.number + length (first ∷ later))
-  pub answers : content_of response ≡ told_answer code d.number (Taken (Some first.reply))
+  pub answers : content_of response ≡ answer_by_model code d.number (Taken (Some first.reply))
   pub has : HasRows (with_run d.partner d.number d.text (first ∷ later) rows) end.committed
   pub is_open : IsTrue end.is_open
   pub alone : (db : Trees) → end.may_leave db → db ≡ end.committed.trees
@@ -63,7 +63,7 @@ pub record Comes (content : SetupContent) (es : List Event) (sent : List ℕ) (d
 -- the response to the partner with a code is what is to be told of it, and these are held behind it
 pub record Answers (content : SetupContent) (es : List Event) (sent : List ℕ) (d : Delivery) (code : List ℕ)
     (response : Response) (now : SetupContent) (db : Database) (there : Option Beside) : Type 0 where
-  pub answers : content_of response ≡ told_answer code d.number (told_of content es d.partner d.number sent)
+  pub answers : content_of response ≡ answer_by_model code d.number (answer_model_of content es d.partner d.number sent)
   pub holds : Holds content (es ++ delivered sent ∷ []) now db there
 
 -- the delivery that the code's is

@@ -64,7 +64,7 @@ pub(crate) fn add_new<S: Alter>(
 {
     let body = account_added(alloc, id, code)?;
     let grown = setup.with_account(alloc, code, kind)?;
-    let longer = lengthened(beside.take())?;
+    let longer = with_new_account(beside.take())?;
     write_account(conn, id, code, kind)?;
     *setup = grown;
     *beside = longer;
@@ -72,7 +72,7 @@ pub(crate) fn add_new<S: Alter>(
 }
 
 /// What stands beside the tables, with the number of a partner more, which has sent nothing; none if there is none.
-fn lengthened(beside: Option<Beside>) -> Result<Option<Beside>, AllocError>
+fn with_new_account(beside: Option<Beside>) -> Result<Option<Beside>, AllocError>
     ensures { IfOk result (IsLengthened beside) }
 {
     match beside {

@@ -1,10 +1,10 @@
 ghost use Rattle.std.specs.Option.{option_map, option_and_then};
 ghost use Rattle.std.specs.Prelude.{◌≡◌, None, Some, IfOk, string_bytes, ◌≤◌, ◌⊎◌, IfErr, is_some, length, OnOk};
 ghost use Rattle.office_delivery.specs.Reading.{OnlyReads};
-ghost use Rattle.office_desk.specs.Answers.{told_answer};
+ghost use Rattle.office_desk.specs.Answers.{answer_by_model};
 ghost use Rattle.office_desk.specs.Causes.{AsksUnreadable};
 ghost use Rattle.office_desk.specs.Noting.{Notes, NotesMemory};
-ghost use Rattle.office_desk.specs.Reports.{TellsOf, TellsReply, reply_text, ticket_told, IsOpenFor};
+ghost use Rattle.office_desk.specs.Reports.{TellsOf, TellsReply, reply_text, ticket_if_taken, IsOpenFor};
 ghost use Rattle.office_history.specs.After.{AreKeptOnce, reply_in};
 ghost use Rattle.office_history.specs.Cascade.{text_in};
 ghost use Rattle.office_lookups.specs.Contrls.{contrl_in};
@@ -29,7 +29,7 @@ use crate::taking::Delivery;
 use office_lookups::{blocks_report, calls_report, container_report, contrl_in, work_report};
 use office_picture::picture;
 use office_queries::{NotNow, Query};
-use office_replies::{Response, answered, clash, waiting};
+use office_replies::{Response, clash_body, taken_body, waiting_body};
 use office_reports::{list_report, ticket, visit_report, yard_csv, yard_report};
 use office_setup::Setup;
 use office_tables::{Kept, TableFault, kept, next_of};
@@ -45,7 +45,7 @@ pub(crate) fn answer_used(
     next: u32,
     delivery: &Delivery<'_>,
 ) -> Result<Response, AllocError>
-    ensures { IfOk result (λ response. content_of response ≡ told_answer delivery.now.code.now delivery.now.number
+    ensures { IfOk result (λ response. content_of response ≡ answer_by_model delivery.now.code.now delivery.now.number
         (answer_by (standing_of next delivery.now.number (Some kept.text.items) delivery.now.text.now) next
         (option_map string_bytes kept.reply) None)) }
 {
@@ -62,7 +62,7 @@ fn answer_known(
     next: u32,
     delivery: &Delivery<'_>,
 ) -> Result<Response, AllocError>
-    ensures { IfOk result (λ response. content_of response ≡ told_answer delivery.now.code.now delivery.now.number
+    ensures { IfOk result (λ response. content_of response ≡ answer_by_model delivery.now.code.now delivery.now.number
         (answer_by Known next (option_map string_bytes reply) None)) }
 {
     match reply {
@@ -77,17 +77,17 @@ fn answer_repeat(
     delivery: &Delivery<'_>,
 ) -> Result<Response, AllocError>
     ensures { IfOk result (λ response.
-        content_of response ≡ told_answer delivery.now.code.now delivery.now.number (Repeat (Some reply.now))) }
+        content_of response ≡ answer_by_model delivery.now.code.now delivery.now.number (Repeat (Some reply.now))) }
 {
-    let body = answered(alloc, "repeat", delivery.number, delivery.code, reply)?;
+    let body = taken_body(alloc, "repeat", delivery.number, delivery.code, reply)?;
     Ok(Response::Repeat(body))
 }
 
 fn answer_clash(alloc: Global, delivery: &Delivery<'_>) -> Result<Response, AllocError>
     ensures { IfOk result (λ response.
-        content_of response ≡ told_answer delivery.now.code.now delivery.now.number Clash) }
+        content_of response ≡ answer_by_model delivery.now.code.now delivery.now.number Clash) }
 {
-    let body = clash(alloc, delivery.number, delivery.code)?;
+    let body = clash_body(alloc, delivery.number, delivery.code)?;
     Ok(Response::Clash(body))
 }
 
@@ -98,9 +98,9 @@ pub(crate) fn answer_waiting(
     delivery: &Delivery<'_>,
 ) -> Result<Response, AllocError>
     ensures { IfOk result (λ response.
-        content_of response ≡ told_answer delivery.now.code.now delivery.now.number (Waiting next)) }
+        content_of response ≡ answer_by_model delivery.now.code.now delivery.now.number (Waiting next)) }
 {
-    let body = waiting(alloc, next, delivery.number, delivery.code)?;
+    let body = waiting_body(alloc, next, delivery.number, delivery.code)?;
     Ok(Response::Waiting(body))
 }
 
@@ -228,7 +228,7 @@ fn tell_ticket<S: Alter>(
     ensures told { HasCleanDisk (state S.Store conn.new) → IfOk result (λ found. (rows : Rows) →
         HasRows rows (state S.Store conn.old).now → AreKeptOnce rows.interchanges →
         option_map string_bytes found
-        ≡ ticket_told terminal.now.visits code.now partner number (reply_in rows partner number)) }
+        ≡ ticket_if_taken terminal.now.visits code.now partner number (reply_in rows partner number)) }
     ensures fault { HasCleanDisk (state S.Store conn.new) → IfErr result (λ fault. (rows : Rows) →
         HasRows rows (state S.Store conn.old).now → IsOfStoreOr (HasUnfitReply partner number rows) fault) }
     ensures reads { Reads (state S.Store conn.old) (state S.Store conn.new) result }
@@ -287,7 +287,7 @@ fn tell_kept(
 {
     let Kept { text: _, reply } = kept;
     match reply {
-        Some(reply) => answered(alloc, "repeat", number, code, &reply),
-        None => waiting(alloc, next, number, code),
+        Some(reply) => taken_body(alloc, "repeat", number, code, &reply),
+        None => waiting_body(alloc, next, number, code),
     }
 }

@@ -6,7 +6,7 @@ ghost use Rattle.office_setup.specs.Setups.{SetupContent, setup_content};
 use crate::accounts::{AccountStanding, add_new};
 use crate::answers::{note_memory, noted, tell};
 use crate::beside::{Beside, beside_of, load_beside};
-use crate::taking::{Delivery, asked, judge_account, take_in};
+use crate::taking::{Delivery, account_from, judge_account, take_in};
 use edi_segments::interchange_text;
 use office_admission::admit;
 use office_queries::{NotNow, Query, Report};
@@ -126,7 +126,11 @@ impl<S: Alter + Drop> Desk<S> {
     }
 
     /// What the rows tell at a query, if there is something. No row changes.
-    pub fn told(&mut self, alloc: Global, query: &Query) -> Result<Option<String>, TableFault>
+    pub fn find_report(
+        &mut self,
+        alloc: Global,
+        query: &Query,
+    ) -> Result<Option<String>, TableFault>
         ensures told { IsSound S.Store self.new →
             IfOk result (λ found. DeskTells S.Store self.old query.now (option_map string_bytes found)) }
         ensures fault { IsSound S.Store self.new → IfErr result (λ fault. (rows : Rows) (terminal : TerminalState) →
@@ -150,7 +154,7 @@ impl<S: Alter + Drop> Desk<S> {
         ensures looks { Looks S.Store self.old query.now
             (result_map_both (option_map string_bytes) (λ refusal. refusal) result) self.new }
     {
-        let told = self.told(alloc, query);
+        let told = self.find_report(alloc, query);
         noted(&mut self.last_fault, told)
     }
 
@@ -198,7 +202,7 @@ impl<S: Alter + Drop> Desk<S> {
     {
         let is_idle = self.conn.is_autocommit();
         prove!(is_idle);
-        let Some((code, kind)) = asked(code, kind) else {
+        let Some((code, kind)) = account_from(code, kind) else {
             return AccountAnswer::Refused(AccountFault::Partner);
         };
         match judge_account(&self.setup, code, kind) {

@@ -2,13 +2,13 @@ ghost use Rattle.std.specs.Prelude.{◌≡◌, None, Some, false, IfOk, IsTrue, 
 ghost use Rattle.office_admission.specs.Accounts.{AccountPair, account_answer, added_as, by_number, by_own_kind, refused_for};
 ghost use Rattle.office_delivery.specs.Writing.{EndsIdle, WritesWhole};
 ghost use Rattle.office_desk.specs.Accounts.{standing_content};
-ghost use Rattle.office_desk.specs.Answers.{told_answer};
+ghost use Rattle.office_desk.specs.Answers.{answer_by_model};
 ghost use Rattle.office_desk.specs.Finding.{IsFound, IsNotFound};
 ghost use Rattle.office_desk.specs.Noting.{IsNow};
 ghost use Rattle.office_desk.specs.Taking.{IsDelivered, IsNew, TakesDelivery, TakesRun};
 ghost use Rattle.office_desk.specs.Telling.{delivery_of};
 ghost use Rattle.office_replies.specs.Contents.{content_of};
-ghost use Rattle.office_rows.specs.Effects.{with_kept};
+ghost use Rattle.office_rows.specs.Effects.{with_waiting};
 ghost use Rattle.office_setup.specs.Given.{IsGiven};
 ghost use Rattle.office_setup.specs.Kinds.{kind_named};
 ghost use Rattle.office_setup.specs.Limits.{most_partners};
@@ -28,7 +28,7 @@ use crate::beside::{Beside, beside_of};
 use edi_messages::PartnerKind;
 use office_admission::Admitted;
 use office_delivery::{take_run, write_early, write_run};
-use office_replies::{AccountFault, Response, answered};
+use office_replies::{AccountFault, Response, taken_body};
 use office_setup::{MOST_PARTNERS, Setup, kind_named, party_code};
 use office_tables::{Kept, TableFault, kept};
 use office_taking::Tally;
@@ -111,7 +111,7 @@ fn take_new<S: Alter>(
     }
     if next < delivery.number {
         *beside = Some(there);
-        return take_early(alloc, conn, next, delivery);
+        return keep_early(alloc, conn, next, delivery);
     }
     let (answer, now) = take_next(alloc, conn, setup, there, delivery, last_taken)?;
     *beside = Some(now);
@@ -161,7 +161,7 @@ pub(crate) fn look<S: Alter>(
 }
 
 /// A code and a kind as they came, if they are of a partner's form.
-pub(crate) fn asked<'a>(code: &'a [u8], kind: &[u8]) -> Option<(&'a str, PartnerKind)>
+pub(crate) fn account_from<'a>(code: &'a [u8], kind: &[u8]) -> Option<(&'a str, PartnerKind)>
     ensures { MatchOption result
         ((accounts : List AccountPair) → account_answer accounts code.now kind.now ≡ refused_for fault.Partner)
         (λ p. (p.0.now ≡ code.now) × IsTrue (is_party_code p.0.now) × (kind_named kind.now ≡ Some p.1)) }
@@ -210,7 +210,7 @@ fn judge_new(count: usize) -> AccountStanding
 }
 
 /// Keeps a text whose number is beyond the partner's next.
-pub(crate) fn take_early<S: Alter>(
+pub(crate) fn keep_early<S: Alter>(
     alloc: Global,
     conn: &mut Connection<S>,
     next: u32,
@@ -218,8 +218,8 @@ pub(crate) fn take_early<S: Alter>(
 ) -> Result<Response, TableFault>
     requires idle { (state S.Store conn.old).in_transaction ≡ false }
     ensures told { IfOk result (λ response.
-        content_of response ≡ told_answer delivery.now.code.now delivery.now.number (Waiting next)) }
-    ensures writes { WritesWhole (with_kept delivery.now.admitted.partner delivery.now.number delivery.now.text.now)
+        content_of response ≡ answer_by_model delivery.now.code.now delivery.now.number (Waiting next)) }
+    ensures writes { WritesWhole (with_waiting delivery.now.admitted.partner delivery.now.number delivery.now.text.now)
         (state S.Store conn.old) (state S.Store conn.new) result }
 {
     let partner = delivery.admitted.partner;
@@ -263,7 +263,7 @@ pub(crate) fn take_next<S: Alter>(
         number,
         &mut tally,
     )?;
-    let body = answered(alloc, "taken", number, code, taken[0].reply.as_str())?;
+    let body = taken_body(alloc, "taken", number, code, taken[0].reply.as_str())?;
     write_run(conn, admitted.partner, number, delivery.text, &taken)?;
     beside.raise(admitted.partner, taken[taken.len() - 1].number + 1);
     *last_taken = tally;

@@ -25,7 +25,7 @@ use Rattle.partner_core.specs.Order.{state, order}
 use Rattle.yard_core.specs.declared.placements.Placement.{Placement}
 use Rattle.yard_core.specs.Decisions.{Refusal, yard_without, yard_with_move}
 use Rattle.yard_core.specs.YardMap.{YardMap}
-use Rattle.terminal_core.specs.Versions.{spares}
+use Rattle.terminal_core.specs.Versions.{spares_empty}
 use Rattle.terminal_core.specs.declared.change.Version.{Version}
 use Rattle.terminal_core.specs.declared.visits.Departure.{Departure}
 use Rattle.terminal_core.specs.declared.lines.LineState.{LineState}
@@ -40,7 +40,7 @@ use Rattle.terminal_core.specs.declared.visits.Way.{Way}
 use Rattle.terminal_core.specs.declared.visits.Way.TheVariants.{Gate, Ship}
 use Rattle.terminal_core.specs.Rows.{VisitContent}
 use Rattle.terminal_core.specs.State.{TerminalState, LineContent, line_of, is_in, is_open_visit}
-use Rattle.terminal_core.specs.Step.{Stepped, with_refusal, step_by, yard_with_entry, is_full, visit_of, after_entry, entered_at, closed_visit, after_departure, departed_at, departure_by, moved_at, listed_at, then_line_done_at, by_line, by_state}
+use Rattle.terminal_core.specs.Step.{StepResult, with_refusal, step_by, yard_with_entry, is_full, visit_of, after_entry, after_entry_at, closed_visit, after_departure, after_departure_at, departure_by, after_move_at, after_listing_at, then_line_done_at, by_line, by_state}
 use Rattle.terminal_core.proofs.Changing.{either}
 use Rattle.terminal_core.proofs.Indexed.{mapped_at}
 use Rattle.terminal_core.proofs.Numbered.{contained, found_at}
@@ -49,7 +49,7 @@ use Rattle.office_replies.specs.declared.deliver.Fault.{Fault}
 use Rattle.office_setup.specs.Parties.{Parties}
 use Rattle.office_setup.specs.Setups.{SetupContent, parties_in}
 use Rattle.office_rows.specs.Office.{HasAccounts}
-use Rattle.office_taking.specs.Taking.{MachineState, cleared, cleared_for, list_replaced, line_taken_by, lines_taken_by, verdict_on_by, messages_taken_by, codes_for, source_in, nothing_taken, taken_at_by, taken_of_by, interchange_taken_by}
+use Rattle.office_taking.specs.Taking.{MachineState, clearing_of, clearing_for, list_replaced, line_taken_by, lines_taken_by, verdict_on_by, messages_taken_by, codes_for, source_in, nothing_taken, taken_at_by, taken_of_by, interchange_taken_by}
 use Rattle.office_taking.specs.Readings.{reading_by}
 use Rattle.office_taking.proofs.Reaching.{terminal_alone}
 use Rattle.office_replies.specs.Events.{Event}
@@ -64,10 +64,10 @@ abbrev pub AreAccounted : ℕ → TerminalState → Type 0
 AreAccounted count state = (visit : VisitContent) → Contains state.visits visit → HasAccounts count visit
 
 module _ (version : Version) (count : ℕ) where
-  abbrev Keeps : Stepped → Type 0
+  abbrev Keeps : StepResult → Type 0
   Keeps after = AreAccounted count after.state
 
-  entered_keeps : (state : TerminalState) (way : Way) (source : Source) (entry : EntryContent) (r : Result (YardMap × Slot) Refusal) → source.partner ≤ count → AreAccounted count state → Keeps (entered_at state way source entry r)
+  entered_keeps : (state : TerminalState) (way : Way) (source : Source) (entry : EntryContent) (r : Result (YardMap × Slot) Refusal) → source.partner ≤ count → AreAccounted count state → Keeps (after_entry_at state way source entry r)
   entered_keeps state way source entry (Err refusal) has are = are
   entered_keeps state way source entry (Ok (y, slot)) has are = λ visit inside. elim (Contains-push_cases state.visits (visit_of state way source entry slot) visit inside) [
     | inl old ↦ are visit old
@@ -76,13 +76,13 @@ module _ (version : Version) (count : ℕ) where
 
   enters_keeps : (state : TerminalState) (way : Way) (source : Source) (entry : EntryContent) → source.partner ≤ count → AreAccounted count state → Keeps (after_entry version state way source entry)
   enters_keeps state way source entry has are =
-      either Keeps (is_full state) (with_refusal state VisitLimit) (entered_at state way source entry (yard_with_entry version state.yard entry)) are (entered_keeps state way source entry (yard_with_entry version state.yard entry) has are)
+      either Keeps (is_full state) (with_refusal state VisitLimit) (after_entry_at state way source entry (yard_with_entry version state.yard entry)) are (entered_keeps state way source entry (yard_with_entry version state.yard entry) has are)
 
   closed_has : (departure : Departure) (v : VisitContent) (is : Bool) → departure.source.partner ≤ count → HasAccounts count v → HasAccounts count (cond is (record v { departure = Some departure }) v)
   closed_has departure v true has old = record { came = old.came; left = has }
   closed_has departure v false has old = old
 
-  departed_keeps : (state : TerminalState) (b : BoxNumber) (departure : Departure) (r : Result (YardMap × Placement) Refusal) → departure.source.partner ≤ count → AreAccounted count state → Keeps (departed_at state b departure r)
+  departed_keeps : (state : TerminalState) (b : BoxNumber) (departure : Departure) (r : Result (YardMap × Placement) Refusal) → departure.source.partner ≤ count → AreAccounted count state → Keeps (after_departure_at state b departure r)
   departed_keeps state b departure (Err refusal) has are = are
   departed_keeps state b departure (Ok (y, s)) has are = λ visit inside.
       let row = mapped_at (closed_visit departure b) state.visits inside.0 visit (found_at (map (closed_visit departure b) state.visits) visit inside) in
@@ -91,30 +91,30 @@ module _ (version : Version) (count : ℕ) where
   departs_keeps : (state : TerminalState) (way : Way) (source : Source) (b : BoxNumber) (moment : CivilMoment) → source.partner ≤ count → AreAccounted count state → Keeps (after_departure state way source b moment)
   departs_keeps state way source b moment has are = departed_keeps state b (departure_by way source moment) (yard_without state.yard b) has are
 
-  moved_keeps : (state : TerminalState) (b : BoxNumber) (slot : Slot) (r : Result YardMap Refusal) → AreAccounted count state → Keeps (moved_at state b slot r)
+  moved_keeps : (state : TerminalState) (b : BoxNumber) (slot : Slot) (r : Result YardMap Refusal) → AreAccounted count state → Keeps (after_move_at state b slot r)
   moved_keeps state b slot (Ok y) are = are
   moved_keeps state b slot (Err refusal) are = are
 
-  listed_keeps : (state : TerminalState) (call : CallContent) (side : Side) (b : BoxNumber) (port : List ℕ) (o : Option LineContent) → AreAccounted count state → Keeps (listed_at state call side b port o)
+  listed_keeps : (state : TerminalState) (call : CallContent) (side : Side) (b : BoxNumber) (port : List ℕ) (o : Option LineContent) → AreAccounted count state → Keeps (after_listing_at state call side b port o)
   listed_keeps state call side b port (Some line) are = are
   listed_keeps state call side b port None are = are
 
-  then_keeps : (call : CallContent) (side : Side) (b : BoxNumber) (line : LineContent) (after : Stepped) (o : Outcome) → Keeps after → Keeps (then_line_done_at call side b line after o)
+  then_keeps : (call : CallContent) (side : Side) (b : BoxNumber) (line : LineContent) (after : StepResult) (o : Outcome) → Keeps after → Keeps (then_line_done_at call side b line after o)
   then_keeps call side b line after (Refused reason) are = are
   then_keeps call side b line after o are = are
 
-  state_keeps : (state : TerminalState) (call : CallContent) (side : Side) (b : BoxNumber) (line : LineContent) (after : Stepped) (s : LineState) → AreAccounted count state → Keeps after → Keeps (by_state state call side b line after s)
+  state_keeps : (state : TerminalState) (call : CallContent) (side : Side) (b : BoxNumber) (line : LineContent) (after : StepResult) (s : LineState) → AreAccounted count state → Keeps after → Keeps (by_state state call side b line after s)
   state_keeps state call side b line after LineIsDone are then = are
   state_keeps state call side b line after Pending are then = then_keeps call side b line after after.outcome then
 
-  line_keeps : (state : TerminalState) (call : CallContent) (side : Side) (b : BoxNumber) (o : Option LineContent) (after : Stepped) → AreAccounted count state → Keeps after → Keeps (by_line state call side b o after)
+  line_keeps : (state : TerminalState) (call : CallContent) (side : Side) (b : BoxNumber) (o : Option LineContent) (after : StepResult) → AreAccounted count state → Keeps after → Keeps (by_line state call side b o after)
   line_keeps state call side b None after are then = are
   line_keeps state call side b (Some line) after are then = state_keeps state call side b line after line.state are then
 
   step_keeps : (state : TerminalState) (source : Source) (order : OrderContent) → source.partner ≤ count → AreAccounted count state → Keeps (step_by version state source order)
   step_keeps state source (gate_in entry) has are = either Keeps (is_in state entry.number) (with_refusal state AlreadyIn) (after_entry version state Gate source entry) are (enters_keeps state Gate source entry has are)
   step_keeps state source (gate_out b moment) has are = departs_keeps state Gate source b moment has are
-  step_keeps state source (move b slot) has are = moved_keeps state b slot (yard_with_move (spares version) state.yard b slot) are
+  step_keeps state source (move b slot) has are = moved_keeps state b slot (yard_with_move (spares_empty version) state.yard b slot) are
   step_keeps state source (list_discharge call b) has are = listed_keeps state call Discharge b [] (line_of state call Discharge b) are
   step_keeps state source (list_load call b port) has are = listed_keeps state call Load b port (line_of state call Load b) are
   step_keeps state source (discharge call entry) has are =
@@ -134,12 +134,12 @@ module _ (version : Version) (count : ℕ) where
   lines_keep state source [] has are = are
   lines_keep state source (line ∷ lines) has are = lines_keep (line_taken_by version state source line).0 source lines has (read_keeps state source line has are)
 
-  cleared_keeps : (state : TerminalState) (list : Option (CallContent × Side)) → AreAccounted count state → AreAccounted count (cleared state list).state
+  cleared_keeps : (state : TerminalState) (list : Option (CallContent × Side)) → AreAccounted count state → AreAccounted count (clearing_of state list).state
   cleared_keeps state None are = are
   cleared_keeps state (Some list) are = are
 
   verdict_keeps : (state : TerminalState) (source : Source) (read : Result MessageContent MessageFault) → source.partner ≤ count → AreAccounted count state → AreAccounted count (verdict_on_by version state source read).0
-  verdict_keeps state source (Ok content) has are = lines_keep (cleared_for state content).state source content.lines has (cleared_keeps state (list_replaced content) are)
+  verdict_keeps state source (Ok content) has are = lines_keep (clearing_for state content).state source content.lines has (cleared_keeps state (list_replaced content) are)
   verdict_keeps state source (Err fault) has are = are
 
   messages_keep : (state : TerminalState) (codes : Codes) (source : Source) (opened : CivilMoment) (messages : List Message) → source.partner ≤ count → AreAccounted count state → AreAccounted count (messages_taken_by version state codes source opened messages).0

@@ -31,7 +31,7 @@ use Rattle.office_taking.specs.Taking.{MachineState, interchange_taken}
 use Rattle.office_taking.specs.Laws.{IsSoundMachine, KeepsSound}
 use Rattle.office_taking.proofs.Reaching.{runs_sound}
 use Rattle.office_rows.specs.Rows.{Interchange, Rows}
-use Rattle.office_rows.specs.Effects.{is_pair, with_kept}
+use Rattle.office_rows.specs.Effects.{is_pair, with_waiting}
 use Rattle.office_history.specs.After.{opening_of, empty_yard, accounts_from, reply_if_any, reply_in, AreKeptOnce, AreRowsOf}
 use Rattle.office_history.specs.Cascade.{text_in, TakenContent, texts_with, with_run, AreTakenFrom}
 use Rattle.office_history.specs.Laws.{AreRowsByKey}
@@ -87,23 +87,23 @@ reply_end false text p k (Some i) = refl
 pub pair_is : (p k q j : ℕ) → ((p == q) && (k == j)) ≡ true → (q ≡ p) × (j ≡ k)
 pair_is p k q j e = let parts = and_parts (p == q) (k == j) e in (sym (eqb-true p q parts.0), sym (eqb-true k j parts.1))
 
-pub text_with : (rows : Rows) (p k : ℕ) (text : List ℕ) → text_in rows p k ≡ None → (q j : ℕ) → text_in (with_kept p k text rows) q j ≡ (if (p == q) && (k == j) then Some text else text_in rows q j)
+pub text_with : (rows : Rows) (p k : ℕ) (text : List ℕ) → text_in rows p k ≡ None → (q j : ℕ) → text_in (with_waiting p k text rows) q j ≡ (if (p == q) && (k == j) then Some text else text_in rows q j)
 text_with rows p k text free q j =
     ap (option_map (λ (i : Interchange). i.body)) (find-append (is_pair q j) rows.interchanges (waiting p k text ∷ []))
     ∙ text_end ((p == q) && (k == j)) text p k (find (is_pair q j) rows.interchanges) (λ e. let is = pair_is p k q j e in ap (λ r. text_in rows r j) is.0 ∙ ap (text_in rows p) is.1 ∙ free)
 
-pub reply_with : (rows : Rows) (p k : ℕ) (text : List ℕ) (q j : ℕ) → reply_in (with_kept p k text rows) q j ≡ reply_in rows q j
+pub reply_with : (rows : Rows) (p k : ℕ) (text : List ℕ) (q j : ℕ) → reply_in (with_waiting p k text rows) q j ≡ reply_in rows q j
 reply_with rows p k text q j =
     ap (option_and_then (λ (i : Interchange). reply_if_any i.reply)) (find-append (is_pair q j) rows.interchanges (waiting p k text ∷ []))
     ∙ reply_end ((p == q) && (k == j)) text p k (find (is_pair q j) rows.interchanges)
 
-pub once_with : (rows : Rows) (p k : ℕ) (text : List ℕ) → text_in rows p k ≡ None → AreKeptOnce rows.interchanges → AreKeptOnce (with_kept p k text rows).interchanges
+pub once_with : (rows : Rows) (p k : ℕ) (text : List ℕ) → text_in rows p k ≡ None → AreKeptOnce rows.interchanges → AreKeptOnce (with_waiting p k text rows).interchanges
 once_with rows p k text free once q j =
     once_more (is_pair q j) rows.interchanges (waiting p k text) ((p == q) && (k == j)) refl (once q j)
     (λ e. let is = pair_is p k q j e in none_found (is_pair q j) rows.interchanges (ap (λ r. find (is_pair r j) rows.interchanges) is.0 ∙ ap (λ r. find (is_pair p r) rows.interchanges) is.1 ∙ none_mapped (λ (i : Interchange). i.body) (find (is_pair p k) rows.interchanges) free))
 
 pub early_keeps : (version : Version) (taking : Taking MachineState) (now : SetupContent) (D : List Delivery) (p k : ℕ) (text : List ℕ) (rows : Rows) → AreRowsOf version taking now D rows → text_in rows p k ≡ None → run D p + 1 < k
-    → AreRowsOf version taking now (D ++ delivery p k text ∷ []) (with_kept p k text rows)
+    → AreRowsOf version taking now (D ++ delivery p k text ∷ []) (with_waiting p k text rows)
 early_keeps version taking now D p k text rows are free early =
     let d = delivery p k text in
     let adds = adds_text taking (opening_of now) D d (ap is_some (sym (are.texts p k) ∙ free)) early in
@@ -162,7 +162,7 @@ module _ (accounts : List (List ℕ × PartnerKind)) (runs : ℕ → ℕ) (machi
     (partners : rows.partners ≡ accounts_from 1 (λ q. runs q + 1) accounts) (whole : IsWhole machine.terminal) (by_key : AreRowsByKey rows (rows_of machine.terminal)) (once : AreKeptOnce rows.interchanges)
     (waits : (j : ℕ) → runs p + 1 ≤ j → reply_in rows p j ≡ None) (free : text_in rows p k ≡ None) (is_next : k ≡ runs p + 1) (from : AreTakenFrom p (texts_with rows p k text) k machine taken machine') where
   abbrev kept : Rows
-  kept = with_kept p k text rows
+  kept = with_waiting p k text rows
 
   abbrev left : Rows
   left = with_run p k text taken rows

@@ -48,12 +48,12 @@ use Rattle.office_setup.specs.Given.{IsGiven}
 use Rattle.office_setup.specs.Setups.{SetupContent, parties_in}
 use Rattle.office_taking.specs.Laws.{ChangesTerminalAlone}
 use Rattle.office_taking.specs.Taking.{MachineState, verdict_on_by, report_on, before_message, messages_taken_by, codes_for, source_in, nothing_taken, reply_to, taken_at_by, taken_of_by, interchange_taken_by}
-use Rattle.office_taking.specs.Readings.{unweighed, reading_by}
+use Rattle.office_taking.specs.Readings.{unweighed_reading, reading_by}
 use Rattle.office_rows.specs.Rows.{Rows}
 use Rattle.office_rows.specs.Opened.{OpenedRows, Shows}
 use Rattle.office_rows.specs.Office.{IsOffice}
 use Rattle.office_rows.specs.Stored.{HasRows}
-use Rattle.office_rows.specs.Opening.{setting, settings_in, version_text, code_names, settings_named}
+use Rattle.office_rows.specs.Opening.{setting_row, settings_in, version_text, code_names, settings_named}
 use Rattle.std.specs.Prelude.{codes, decimal}
 use Rattle.office_history.specs.After.{SaysSame, migration_in, taking_by, taking_in, opening_of, AreRowsOf, AreAfterBy, AreAfter}
 use Rattle.office_history.specs.Laws.{Reopens}
@@ -109,8 +109,8 @@ module _ (t u : CodeTable) (same : SameTexts t u) (kind : PartnerKind) where
 
   reading_by_same : (version : Version) (opened : CivilMoment) (message : Message) → reading_by version one opened message ≡ reading_by version two opened message
   reading_by_same First opened message = λ i.
-      if replaces_list message && option_map_or is_list (kind_same message i) false then Err fault.Function else unweighed (reading_same opened message i)
-  reading_by_same Second opened message = ap unweighed (reading_same opened message)
+      if replaces_list message && option_map_or is_list (kind_same message i) false then Err fault.Function else unweighed_reading (reading_same opened message i)
+  reading_by_same Second opened message = ap unweighed_reading (reading_same opened message)
   reading_by_same Third opened message = reading_same opened message
 
   -- ---- an interchange
@@ -213,7 +213,7 @@ opening_like other content says = record {
 
 settings_same : (version : Version) (other content : SetupContent) → SaysSame other content → settings_in version other ≡ settings_in version content
 settings_same version other content says i =
-    setting (codes "version") (version_text version) ∷ setting (codes "terminal") (says.terminal i) ∷ setting (codes "visits") (decimal (says.limit i)) ∷ settings_named code_names (says.codes i)
+    setting_row (codes "version") (version_text version) ∷ setting_row (codes "terminal") (says.terminal i) ∷ setting_row (codes "visits") (decimal (says.limit i)) ∷ settings_named code_names (says.codes i)
 
 -- ---- the same with other codes
 

@@ -21,7 +21,7 @@ use Rattle.terminal_core.specs.declared.lines.Side.{Side}
 use Rattle.terminal_core.specs.declared.lines.Side.TheVariants.{Load, Discharge}
 use Rattle.terminal_core.specs.Rows.{ChangeContent, visit_opened, visit_closed, placed_at, moved_to, removed_from, listed_on, line_done, unlisted}
 use Rattle.terminal_core.specs.State.{LineContent, LineKey, Lines, line_key, side_code}
-use Rattle.terminal_core.specs.Changes.{Standing, standing_in, standing_elsewhere, TerminalRows, with_line_done, rows_with, all_changed, IsApplicable, AreApplicable}
+use Rattle.terminal_core.specs.Changes.{Standing, standing_in, standing_elsewhere, TerminalRows, with_line_done, rows_with, rows_with_all, IsApplicable, AreApplicable}
 use Rattle.terminal_core.proofs.Boxes.{same_bytes}
 use Rattle.terminal_core.proofs.Counted.{counted_more, none_if, one_if}
 use Rattle.terminal_core.proofs.Open.{none_counted}
@@ -373,7 +373,7 @@ change_agrees rows (unlisted call side container) placed listed fits = record {
       omega arith;
 }
 
-pub changes_agree : (changes : List ChangeContent) (rows : Rows) (terminal : TerminalRows) → AreRowsByKey rows terminal → AreApplicable terminal changes → AreRowsByKey (with_changes changes rows) (all_changed terminal changes)
+pub changes_agree : (changes : List ChangeContent) (rows : Rows) (terminal : TerminalRows) → AreRowsByKey rows terminal → AreApplicable terminal changes → AreRowsByKey (with_changes changes rows) (rows_with_all terminal changes)
 changes_agree [] rows terminal are fits = are
 changes_agree (change ∷ changes) rows terminal are fits =
     changes_agree changes (with_change change rows) (rows_with terminal change) (first terminal are.same are fits.0) fits.1

@@ -23,7 +23,7 @@ use Rattle.partner_core.specs.Machine.{Taking}
 use Rattle.partner_core.specs.Order.{state, order}
 use Rattle.yard_core.specs.declared.placements.Placement.{Placement}
 use Rattle.yard_core.specs.declared.placements.Stowed.{Stowed}
-use Rattle.yard_core.specs.Decisions.{Refusal, present, is_same_slot, misfit_of, first_fit, blocker_of, unless_buried, with_misfit, with_slot as with_first_slot, yard_with, yard_without, removed_at, yard_with_move, shifted_at}
+use Rattle.yard_core.specs.Decisions.{Refusal, present, is_same_slot, misfit_of, first_fit, blocker_of, unless_buried, with_misfit, with_slot as with_first_slot, yard_with, yard_without, yard_without_at, yard_with_move, yard_with_move_at}
 use Rattle.yard_core.specs.YardMap.{Boxes, YardMap, yard_map, placement, placement_of, stowed}
 use Rattle.terminal_core.specs.declared.visits.Departure.{Departure}
 use Rattle.terminal_core.specs.declared.lines.LineState.{LineState}
@@ -37,8 +37,8 @@ use Rattle.terminal_core.specs.declared.change.Source.{Source}
 use Rattle.terminal_core.specs.declared.visits.Way.{Way}
 use Rattle.terminal_core.specs.declared.visits.Way.TheVariants.{Gate, Ship}
 use Rattle.terminal_core.specs.State.{TerminalState, LineContent, line_of, is_in}
-use Rattle.terminal_core.specs.Step.{Stepped, with_refusal, step_by, yard_with_entry, settled_in, with_slot, is_full, after_entry, entered_at, after_departure, departed_at, departure_by, moved_at, listed_at, then_line_done_at, by_line, by_state}
-use Rattle.terminal_core.specs.Versions.{spares}
+use Rattle.terminal_core.specs.Step.{StepResult, with_refusal, step_by, yard_with_entry, yard_with_entry_in, with_slot, is_full, after_entry, after_entry_at, after_departure, after_departure_at, departure_by, after_move_at, after_listing_at, then_line_done_at, by_line, by_state}
+use Rattle.terminal_core.specs.Versions.{spares_empty}
 use Rattle.terminal_core.specs.declared.change.Version.{Version}
 use Rattle.terminal_core.proofs.Changing.{either}
 use Rattle.office_admission.specs.Admission.{admission, is_for}
@@ -47,7 +47,7 @@ use Rattle.office_setup.specs.Setups.{SetupContent}
 use Rattle.office_history.specs.After.{taking_in}
 use Rattle.office_history.proofs.Likeness.{kept_over}
 use Rattle.office_history.proofs.Places.{placed, in_force}
-use Rattle.office_taking.specs.Taking.{MachineState, cleared, cleared_for, list_replaced, line_taken_by, lines_taken_by, verdict_on_by, messages_taken_by, codes_for, source_in, nothing_taken, taken_at_by, taken_of_by, interchange_taken_by}
+use Rattle.office_taking.specs.Taking.{MachineState, clearing_of, clearing_for, list_replaced, line_taken_by, lines_taken_by, verdict_on_by, messages_taken_by, codes_for, source_in, nothing_taken, taken_at_by, taken_of_by, interchange_taken_by}
 use Rattle.office_taking.specs.Readings.{reading_by}
 
 -- ---- plan and limit
@@ -90,15 +90,15 @@ first_plan y None b length is_laden = tt
 first_plan y (Some slot) b length is_laden = refl
 
 module _ (version : Version) where
-  settled_plan : (y : YardMap) (entry : EntryContent) (o : Option Slot) → IfSlot y (settled_in version y entry o)
+  settled_plan : (y : YardMap) (entry : EntryContent) (o : Option Slot) → IfSlot y (yard_with_entry_in version y entry o)
   settled_plan y entry (Some slot) =
       let s = placement (length_of entry.size_type) slot in
-      let misfit = misfit_of (spares version && entry.is_laden) y.plan y.boxes s in
-      slot_plan y slot (yard_with (spares version) y entry.number (length_of entry.size_type) entry.is_laden slot)
+      let misfit = misfit_of (spares_empty version && entry.is_laden) y.plan y.boxes s in
+      slot_plan y slot (yard_with (spares_empty version) y entry.number (length_of entry.size_type) entry.is_laden slot)
       (either (IfYard y) (is_some (finite_map.get y.boxes entry.number)) (Err present) (with_misfit misfit (yard_map y.plan (finite_map.insert y.boxes entry.number (stowed s entry.is_laden)))) tt
       (misfit_plan y misfit (finite_map.insert y.boxes entry.number (stowed s entry.is_laden))))
   settled_plan y entry None =
-      let first = first_fit (spares version && entry.is_laden) y.plan y.boxes (length_of entry.size_type) in
+      let first = first_fit (spares_empty version && entry.is_laden) y.plan y.boxes (length_of entry.size_type) in
       either (IfSlot y) (is_some (finite_map.get y.boxes entry.number)) (Err present) (with_first_slot first y entry.number (length_of entry.size_type) entry.is_laden) tt
       (first_plan y first entry.number (length_of entry.size_type) entry.is_laden)
 
@@ -110,63 +110,63 @@ module _ (version : Version) where
   unburied_yard y None r h = h
   unburied_yard y (Some blocker) r h = tt
 
-  removed_plan : (y : YardMap) (b : BoxNumber) (o : Option Placement) → IfStood y (removed_at o y b)
+  removed_plan : (y : YardMap) (b : BoxNumber) (o : Option Placement) → IfStood y (yard_without_at o y b)
   removed_plan y b None = tt
   removed_plan y b (Some s) = unburied y (blocker_of y.boxes s) (Ok (yard_map y.plan (finite_map.remove y.boxes b), s)) refl
 
-  shifted_plan : (y : YardMap) (b : BoxNumber) (slot : Slot) (o : Option Stowed) → IfYard y (shifted_at (spares version) o y b slot)
+  shifted_plan : (y : YardMap) (b : BoxNumber) (slot : Slot) (o : Option Stowed) → IfYard y (yard_with_move_at (spares_empty version) o y b slot)
   shifted_plan y b slot None = tt
   shifted_plan y b slot (Some w) =
       let moved = placement w.placement.length slot in
-      let misfit = misfit_of (spares version && (w.is_laden && not (is_same_slot slot w.placement.slot))) y.plan (finite_map.remove y.boxes b) moved in
+      let misfit = misfit_of (spares_empty version && (w.is_laden && not (is_same_slot slot w.placement.slot))) y.plan (finite_map.remove y.boxes b) moved in
       unburied_yard y (blocker_of y.boxes w.placement) (with_misfit misfit (yard_map y.plan (finite_map.insert y.boxes b (stowed moved w.is_laden))))
       (misfit_plan y misfit (finite_map.insert y.boxes b (stowed moved w.is_laden)))
 
   -- ---- an order
 
-  abbrev Stays : TerminalState → Stepped → Type 0
+  abbrev Stays : TerminalState → StepResult → Type 0
   Stays old after = OnGround old after.state
 
-  entered_stays : (state : TerminalState) (way : Way) (source : Source) (entry : EntryContent) (r : Result (YardMap × Slot) Refusal) → IfSlot state.yard r → Stays state (entered_at state way source entry r)
+  entered_stays : (state : TerminalState) (way : Way) (source : Source) (entry : EntryContent) (r : Result (YardMap × Slot) Refusal) → IfSlot state.yard r → Stays state (after_entry_at state way source entry r)
   entered_stays state way source entry (Ok (y, slot)) h = record { plan = h; limit = refl }
   entered_stays state way source entry (Err refusal) h = still state
 
   enters_stays : (state : TerminalState) (way : Way) (source : Source) (entry : EntryContent) → Stays state (after_entry version state way source entry)
   enters_stays state way source entry =
-      either (Stays state) (is_full state) (with_refusal state VisitLimit) (entered_at state way source entry (yard_with_entry version state.yard entry)) (still state)
+      either (Stays state) (is_full state) (with_refusal state VisitLimit) (after_entry_at state way source entry (yard_with_entry version state.yard entry)) (still state)
       (entered_stays state way source entry (yard_with_entry version state.yard entry) (settled_plan state.yard entry entry.slot))
 
-  departed_stays : (state : TerminalState) (b : BoxNumber) (departure : Departure) (r : Result (YardMap × Placement) Refusal) → IfStood state.yard r → Stays state (departed_at state b departure r)
+  departed_stays : (state : TerminalState) (b : BoxNumber) (departure : Departure) (r : Result (YardMap × Placement) Refusal) → IfStood state.yard r → Stays state (after_departure_at state b departure r)
   departed_stays state b departure (Ok (y, s)) h = record { plan = h; limit = refl }
   departed_stays state b departure (Err refusal) h = still state
 
   departs_stays : (state : TerminalState) (way : Way) (source : Source) (b : BoxNumber) (moment : CivilMoment) → Stays state (after_departure state way source b moment)
   departs_stays state way source b moment = departed_stays state b (departure_by way source moment) (yard_without state.yard b) (removed_plan state.yard b (placement_of state.yard.boxes b))
 
-  moved_stays : (state : TerminalState) (b : BoxNumber) (slot : Slot) (r : Result YardMap Refusal) → IfYard state.yard r → Stays state (moved_at state b slot r)
+  moved_stays : (state : TerminalState) (b : BoxNumber) (slot : Slot) (r : Result YardMap Refusal) → IfYard state.yard r → Stays state (after_move_at state b slot r)
   moved_stays state b slot (Ok y) h = record { plan = h; limit = refl }
   moved_stays state b slot (Err refusal) h = still state
 
-  listed_stays : (state : TerminalState) (call : CallContent) (side : Side) (b : BoxNumber) (port : List ℕ) (o : Option LineContent) → Stays state (listed_at state call side b port o)
+  listed_stays : (state : TerminalState) (call : CallContent) (side : Side) (b : BoxNumber) (port : List ℕ) (o : Option LineContent) → Stays state (after_listing_at state call side b port o)
   listed_stays state call side b port (Some line) = still state
   listed_stays state call side b port None = record { plan = refl; limit = refl }
 
-  then_stays : (state : TerminalState) (call : CallContent) (side : Side) (b : BoxNumber) (line : LineContent) (after : Stepped) (o : Outcome) → Stays state after → Stays state (then_line_done_at call side b line after o)
+  then_stays : (state : TerminalState) (call : CallContent) (side : Side) (b : BoxNumber) (line : LineContent) (after : StepResult) (o : Outcome) → Stays state after → Stays state (then_line_done_at call side b line after o)
   then_stays state call side b line after (Refused reason) h = h
   then_stays state call side b line after o h = record { plan = h.plan; limit = h.limit }
 
-  state_stays : (state : TerminalState) (call : CallContent) (side : Side) (b : BoxNumber) (line : LineContent) (after : Stepped) (s : LineState) → Stays state after → Stays state (by_state state call side b line after s)
+  state_stays : (state : TerminalState) (call : CallContent) (side : Side) (b : BoxNumber) (line : LineContent) (after : StepResult) (s : LineState) → Stays state after → Stays state (by_state state call side b line after s)
   state_stays state call side b line after LineIsDone h = still state
   state_stays state call side b line after Pending h = then_stays state call side b line after after.outcome h
 
-  line_stays : (state : TerminalState) (call : CallContent) (side : Side) (b : BoxNumber) (o : Option LineContent) (after : Stepped) → Stays state after → Stays state (by_line state call side b o after)
+  line_stays : (state : TerminalState) (call : CallContent) (side : Side) (b : BoxNumber) (o : Option LineContent) (after : StepResult) → Stays state after → Stays state (by_line state call side b o after)
   line_stays state call side b None after h = still state
   line_stays state call side b (Some line) after h = state_stays state call side b line after line.state h
 
   step_stays : (state : TerminalState) (source : Source) (order : OrderContent) → Stays state (step_by version state source order)
   step_stays state source (gate_in entry) = either (Stays state) (is_in state entry.number) (with_refusal state AlreadyIn) (after_entry version state Gate source entry) (still state) (enters_stays state Gate source entry)
   step_stays state source (gate_out b moment) = departs_stays state Gate source b moment
-  step_stays state source (move b slot) = moved_stays state b slot (yard_with_move (spares version) state.yard b slot) (shifted_plan state.yard b slot (finite_map.get state.yard.boxes b))
+  step_stays state source (move b slot) = moved_stays state b slot (yard_with_move (spares_empty version) state.yard b slot) (shifted_plan state.yard b slot (finite_map.get state.yard.boxes b))
   step_stays state source (list_discharge call b) = listed_stays state call Discharge b [] (line_of state call Discharge b)
   step_stays state source (list_load call b port) = listed_stays state call Load b port (line_of state call Load b)
   step_stays state source (discharge call entry) =
@@ -188,13 +188,13 @@ module _ (version : Version) where
       let next : TerminalState = (line_taken_by version state source line).0 in
       on state next (lines_taken_by version next source lines).0 (read_stays state source line) (lines_stay next source lines)
 
-  cleared_stays : (state : TerminalState) (list : Option (CallContent × Side)) → OnGround state (cleared state list).state
+  cleared_stays : (state : TerminalState) (list : Option (CallContent × Side)) → OnGround state (clearing_of state list).state
   cleared_stays state None = still state
   cleared_stays state (Some list) = record { plan = refl; limit = refl }
 
   verdict_stays : (state : TerminalState) (source : Source) (read : Result MessageContent MessageFault) → OnGround state (verdict_on_by version state source read).0
   verdict_stays state source (Ok content) =
-      let next : TerminalState = (cleared_for state content).state in
+      let next : TerminalState = (clearing_for state content).state in
       on state next (lines_taken_by version next source content.lines).0 (cleared_stays state (list_replaced content)) (lines_stay next source content.lines)
   verdict_stays state source (Err fault) = still state
 

@@ -4,31 +4,31 @@ use Rattle.std.specs.List.{range_with_len, AllByRecursion}
 use Rattle.std.proofs.lemmas.Bool.{cases_order}
 use Rattle.edi_messages.specs.declared.codes.PartnerKind.{PartnerKind}
 use Rattle.office_rows.specs.Rows.{Partner}
-use Rattle.office_rows.specs.Opened.{Numbered}
+use Rattle.office_rows.specs.Opened.{NumberKept}
 use Rattle.office_rows.specs.Office.{AreAccounts, AreWaiting, AreKept, taken_numbers}
 use Rattle.office_history.specs.After.{accounts_from}
 
 -- ---- in the order of partners and numbers
 
 -- the first is above that number of the partner, or of a partner behind it
-abbrev pub Starts : ℕ → ℕ → List Numbered → Type 0
+abbrev pub Starts : ℕ → ℕ → List NumberKept → Type 0
 Starts p above [] = Unit {0}
 Starts p above (n ∷ ns) = (p < n.partner) ⊎ ((n.partner ≡ p) × (above < n.number))
 
-abbrev pub Rise : List Numbered → Type 0
+abbrev pub Rise : List NumberKept → Type 0
 Rise [] = Unit {0}
 Rise (n ∷ ns) = Starts n.partner n.number ns × Rise ns
 
-abbrev From : ℕ → List Numbered → Type 0
+abbrev From : ℕ → List NumberKept → Type 0
 From p [] = Unit {0}
 From p (n ∷ ns) = p ≤ n.partner
 
-abbrev pub Has : ℕ → ℕ → List Numbered → Type 0
+abbrev pub Has : ℕ → ℕ → List NumberKept → Type 0
 Has p k [] = ⊥
 Has p k (n ∷ ns) = ((n.partner ≡ p) × (n.number ≡ k)) ⊎ Has p k ns
 
 -- what is kept is one of so many partners', and was taken if it is within the partner's run
-pub record IsWithinRuns (count : ℕ) (runs : ℕ → ℕ) (n : Numbered) : Type 0 where
+pub record IsWithinRuns (count : ℕ) (runs : ℕ → ℕ) (n : NumberKept) : Type 0 where
   pub partner_low : 1 ≤ n.partner
   pub partner_high : n.partner ≤ count
   pub low : 1 ≤ n.number
@@ -37,7 +37,7 @@ pub record IsWithinRuns (count : ℕ) (runs : ℕ → ℕ) (n : Numbered) : Type
   pub waits : runs n.partner < n.number → (runs n.partner + 1 < n.number) × (n.is_taken ≡ false)
 
 -- what follows in order is behind
-has_after : (q m : ℕ) (ns : List Numbered) (p k : ℕ) → Starts q m ns → Rise ns → Has p k ns → (q < p) ⊎ ((p ≡ q) × (m < k))
+has_after : (q m : ℕ) (ns : List NumberKept) (p k : ℕ) → Starts q m ns → Rise ns → Has p k ns → (q < p) ⊎ ((p ≡ q) × (m < k))
 has_after q m [] p k starts rise has = absurd has
 has_after q m (n ∷ ns) p k starts rise (inl here) = elim starts [
   | inl far ↦ inl (omega (arith, here.0, far))
@@ -48,7 +48,7 @@ has_after q m (n ∷ ns) p k starts rise (inr later) = elim (has_after n.partner
   | inr own ↦ elim starts [ inl far ↦ inl (omega (arith, own.0, far)) | inr near ↦ inr (own.0 ∙ near.0, omega (arith, own.1, near.1)) ]
 ]
 
-abbrev pub taken_by : ℕ → ℕ → Numbered
+abbrev pub taken_by : ℕ → ℕ → NumberKept
 taken_by partner number = record { partner = partner; number = number; is_taken = true }
 
 module _ (count : ℕ) (runs : ℕ → ℕ) where
@@ -56,19 +56,19 @@ module _ (count : ℕ) (runs : ℕ → ℕ) where
   next p = runs p + 1
 
   -- each number within the runs of partners behind that one is there
-  abbrev pub IsComplete : ℕ → List Numbered → Type 0
+  abbrev pub IsComplete : ℕ → List NumberKept → Type 0
   IsComplete p ns = (q k : ℕ) → p < q → 1 ≤ k → k ≤ runs q → Has q k ns
 
-  behind : (p : ℕ) (n : Numbered) (ns : List Numbered) → n.partner ≡ p → IsComplete p (n ∷ ns) → IsComplete p ns
+  behind : (p : ℕ) (n : NumberKept) (ns : List NumberKept) → n.partner ≡ p → IsComplete p (n ∷ ns) → IsComplete p ns
   behind p n ns own there q k far one within = elim (there q k far one within) [
     | inl here ↦ absurd (omega (arith, far, here.0, own))
     | inr later ↦ later
   ]
 
   -- those that wait for a partner, and those of the partners behind it
-  record Parts (p above : ℕ) (ns : List Numbered) : Type 0 where
-    waiting : List Numbered
-    others : List Numbered
+  record Parts (p above : ℕ) (ns : List NumberKept) : Type 0 where
+    waiting : List NumberKept
+    others : List NumberKept
     are : ns ≡ waiting ++ others
     wait : AreWaiting p above waiting
     from : From (p + 1) others
@@ -76,7 +76,7 @@ module _ (count : ℕ) (runs : ℕ → ℕ) where
     all : AllByRecursion (IsWithinRuns count runs) others
     there : IsComplete p others
 
-  waiting_first : (p above : ℕ) (ns : List Numbered) → runs p < above → Starts p above ns → Rise ns → AllByRecursion (IsWithinRuns count runs) ns → IsComplete p ns → Parts p above ns
+  waiting_first : (p above : ℕ) (ns : List NumberKept) → runs p < above → Starts p above ns → Rise ns → AllByRecursion (IsWithinRuns count runs) ns → IsComplete p ns → Parts p above ns
   waiting_first p above [] far starts rise all there = record { waiting = []; others = []; are = refl; wait = tt; from = tt; rise = tt; all = tt; there = there }
   waiting_first p above (n ∷ ns) far (inl beyond) rise all there = record { waiting = []; others = n ∷ ns; are = refl; wait = tt; from = omega arith; rise = rise; all = all; there = there }
   waiting_first p above (n ∷ ns) far (inr own) rise all there =
@@ -96,9 +96,9 @@ module _ (count : ℕ) (runs : ℕ → ℕ) where
       }
 
   -- those that were taken of a partner, from a number on, those that wait, and those of the partners behind it
-  record Own (p above many : ℕ) (ns : List Numbered) : Type 0 where
-    waiting : List Numbered
-    others : List Numbered
+  record Own (p above many : ℕ) (ns : List NumberKept) : Type 0 where
+    waiting : List NumberKept
+    others : List NumberKept
     are : ns ≡ (map (taken_by p) (range_with_len (above + 1) many) ++ waiting) ++ others
     wait : AreWaiting p (next p) waiting
     from : From (p + 1) others
@@ -106,7 +106,7 @@ module _ (count : ℕ) (runs : ℕ → ℕ) where
     all : AllByRecursion (IsWithinRuns count runs) others
     there : IsComplete p others
 
-  past_run : (p above : ℕ) (ns : List Numbered) → above ≡ runs p → Starts p above ns → AllByRecursion (IsWithinRuns count runs) ns → Starts p (next p) ns
+  past_run : (p above : ℕ) (ns : List NumberKept) → above ≡ runs p → Starts p above ns → AllByRecursion (IsWithinRuns count runs) ns → Starts p (next p) ns
   past_run p above [] e starts all = tt
   past_run p above (n ∷ ns) e (inl beyond) all = inl beyond
   past_run p above (n ∷ ns) e (inr own) all =
@@ -116,14 +116,14 @@ module _ (count : ℕ) (runs : ℕ → ℕ) where
       inr (own.0, omega (arith, its.0))
 
   -- the number is the first
-  is_first : (p above : ℕ) (n : Numbered) (ns : List Numbered) → Starts p above (n ∷ ns) → Rise (n ∷ ns) → Has p (above + 1) (n ∷ ns) → (n.partner ≡ p) × (n.number ≡ above + 1)
+  is_first : (p above : ℕ) (n : NumberKept) (ns : List NumberKept) → Starts p above (n ∷ ns) → Rise (n ∷ ns) → Has p (above + 1) (n ∷ ns) → (n.partner ≡ p) × (n.number ≡ above + 1)
   is_first p above n ns starts rise (inl here) = here
   is_first p above n ns starts rise (inr later) = elim (has_after n.partner n.number ns p (above + 1) rise.0 rise.1 later) [
     | inl beyond ↦ elim starts [ inl far ↦ absurd (omega (arith, beyond, far)) | inr near ↦ absurd (omega (arith, beyond, near.0)) ]
     | inr own ↦ elim starts [ inl far ↦ absurd (omega (arith, own.0, far)) | inr near ↦ absurd (omega (arith, own.1, near.1)) ]
   ]
 
-  taken_first : (p above many : ℕ) (ns : List Numbered) → above + many ≡ runs p → Starts p above ns → Rise ns → AllByRecursion (IsWithinRuns count runs) ns
+  taken_first : (p above many : ℕ) (ns : List NumberKept) → above + many ≡ runs p → Starts p above ns → Rise ns → AllByRecursion (IsWithinRuns count runs) ns
       → ((k : ℕ) → above < k → k ≤ runs p → Has p k ns) → IsComplete p ns → Own p above many ns
   taken_first p above zero ns e starts rise all own_there there =
       let end : above ≡ runs p = omega arith in
@@ -151,18 +151,18 @@ module _ (count : ℕ) (runs : ℕ → ℕ) where
         there = rest.there;
       }
 
-  start : (p : ℕ) (ns : List Numbered) → From p ns → AllByRecursion (IsWithinRuns count runs) ns → Starts p 0 ns
+  start : (p : ℕ) (ns : List NumberKept) → From p ns → AllByRecursion (IsWithinRuns count runs) ns → Starts p 0 ns
   start p [] from all = tt
   start p (n ∷ ns) from all = elim (cases_order p n.partner) [
     | inl same ↦ inr (sym same, omega (arith, all.0.low))
     | inr o ↦ elim o [ inl far ↦ inl far | inr before ↦ absurd (omega arith) ]
   ]
 
-  none_left : (id : ℕ) (ns : List Numbered) → id ≡ count + 1 → From id ns → AllByRecursion (IsWithinRuns count runs) ns → ns ≡ []
+  none_left : (id : ℕ) (ns : List NumberKept) → id ≡ count + 1 → From id ns → AllByRecursion (IsWithinRuns count runs) ns → ns ≡ []
   none_left id [] e from all = refl
   none_left id (n ∷ ns) e from all = absurd (omega (arith, all.0.partner_high))
 
-  kept_from : (id low : ℕ) (accounts : List (List ℕ × PartnerKind)) (ns : List Numbered) → low + 1 ≡ id → id + length accounts ≡ count + 1 → From id ns → Rise ns → AllByRecursion (IsWithinRuns count runs) ns → IsComplete low ns
+  kept_from : (id low : ℕ) (accounts : List (List ℕ × PartnerKind)) (ns : List NumberKept) → low + 1 ≡ id → id + length accounts ≡ count + 1 → From id ns → Rise ns → AllByRecursion (IsWithinRuns count runs) ns → IsComplete low ns
       → AreKept (accounts_from id next accounts) ns
   kept_from id low [] ns e ends from rise all there = none_left id ns (omega arith) from all
   kept_from id low (account ∷ accounts) ns e ends from rise all there =
@@ -177,12 +177,12 @@ module _ (count : ℕ) (runs : ℕ → ℕ) where
         kept_from (id + 1) id accounts own.others refl (omega arith) own.from own.rise own.all own.there,
       )
 
-  first_account : (ns : List Numbered) → AllByRecursion (IsWithinRuns count runs) ns → From 1 ns
+  first_account : (ns : List NumberKept) → AllByRecursion (IsWithinRuns count runs) ns → From 1 ns
   first_account [] all = tt
   first_account (n ∷ ns) all = all.0.partner_low
 
   -- what is kept in order is that of all the accounts
-  pub all_kept : (accounts : List (List ℕ × PartnerKind)) (ns : List Numbered) → length accounts ≡ count → Rise ns → AllByRecursion (IsWithinRuns count runs) ns → IsComplete 0 ns → AreKept (accounts_from 1 next accounts) ns
+  pub all_kept : (accounts : List (List ℕ × PartnerKind)) (ns : List NumberKept) → length accounts ≡ count → Rise ns → AllByRecursion (IsWithinRuns count runs) ns → IsComplete 0 ns → AreKept (accounts_from 1 next accounts) ns
   all_kept accounts ns counted rise all there = kept_from 1 0 accounts ns refl (omega arith) (first_account ns all) rise all there
 
 -- ---- the accounts

@@ -14,9 +14,9 @@ use Rattle.partner_core.proofs.Firsts.{none_of}
 use Rattle.terminal_core.proofs.Counted.{found_is, one_place}
 use Rattle.terminal_core.proofs.Numbered.{contained}
 use Rattle.office_rows.specs.Rows.{Partner, Interchange, Rows}
-use Rattle.office_rows.specs.Values.{number, interchange_values}
+use Rattle.office_rows.specs.Values.{number_value, interchange_values}
 use Rattle.office_rows.specs.Effects.{is_pair}
-use Rattle.office_rows.specs.Opened.{Numbered, numbered}
+use Rattle.office_rows.specs.Opened.{NumberKept, number_kept}
 use Rattle.office_rows.specs.Office.{AreAccounts, AreWaiting, AreKept}
 use Rattle.office_history.specs.After.{AreKeptOnce, accounts_from, reply_if_any, reply_in}
 use Rattle.office_history.specs.Cascade.{text_in}
@@ -73,10 +73,10 @@ module _ (count : ℕ) (runs : ℕ → ℕ) (high : (p : ℕ) → runs p ≤ 999
   abbrev next : ℕ → ℕ
   next p = runs p + 1
 
-  abbrev AreWithin : List Numbered → Type 0
+  abbrev AreWithin : List NumberKept → Type 0
   AreWithin ns = AllByRecursion (IsWithinRuns count runs) ns
 
-  within_both : (ns ms : List Numbered) → AreWithin ns → AreWithin ms → AreWithin (ns ++ ms)
+  within_both : (ns ms : List NumberKept) → AreWithin ns → AreWithin ms → AreWithin (ns ++ ms)
   within_both [] ms one two = two
   within_both (n ∷ ns) ms one two = (one.0, within_both ns ms one.1 two)
 
@@ -94,7 +94,7 @@ module _ (count : ℕ) (runs : ℕ → ℕ) (high : (p : ℕ) → runs p ≤ 999
     taken_within p (from + 1) many one most (omega arith) (omega (arith, below)),
   )
 
-  waiting_within : (p above : ℕ) (ns : List Numbered) → 1 ≤ p → p ≤ count → runs p + 1 ≤ above → AreWaiting p above ns → AreWithin ns
+  waiting_within : (p above : ℕ) (ns : List NumberKept) → 1 ≤ p → p ≤ count → runs p + 1 ≤ above → AreWaiting p above ns → AreWithin ns
   waiting_within p above [] one most beyond wait = tt
   waiting_within p above (n ∷ ns) one most beyond wait =
       let own : n.partner ≡ p = wait.0 in
@@ -111,7 +111,7 @@ module _ (count : ℕ) (runs : ℕ → ℕ) (high : (p : ℕ) → runs p ≤ 999
         waiting_within p n.number ns one most (omega (arith, far, beyond)) wait.4,
       )
 
-  kept_within : (id : ℕ) (accounts : List (List ℕ × PartnerKind)) (ns : List Numbered) → 1 ≤ id → id + length accounts ≡ count + 1 → AreKept (accounts_from id next accounts) ns → AreWithin ns
+  kept_within : (id : ℕ) (accounts : List (List ℕ × PartnerKind)) (ns : List NumberKept) → 1 ≤ id → id + length accounts ≡ count + 1 → AreKept (accounts_from id next accounts) ns → AreWithin ns
   kept_within id [] ns one ends kept = subst AreWithin (sym kept) tt
   kept_within id (account ∷ accounts) ns one ends kept =
       let its = kept.3 in
@@ -122,12 +122,12 @@ module _ (count : ℕ) (runs : ℕ → ℕ) (high : (p : ℕ) → runs p ≤ 999
       subst AreWithin (sym (kept.2 ∙ ap (λ l. l ++ kept.1) its.are))
       (within_both _ kept.1 own (kept_within (id + 1) accounts kept.1 (omega arith) (omega (arith, ends)) kept.4))
 
-  has_left : (p k : ℕ) (ns ms : List Numbered) → Has p k ns → Has p k (ns ++ ms)
+  has_left : (p k : ℕ) (ns ms : List NumberKept) → Has p k ns → Has p k (ns ++ ms)
   has_left p k [] ms has = absurd has
   has_left p k (n ∷ ns) ms (inl here) = inl here
   has_left p k (n ∷ ns) ms (inr later) = inr (has_left p k ns ms later)
 
-  has_right : (p k : ℕ) (ns ms : List Numbered) → Has p k ms → Has p k (ns ++ ms)
+  has_right : (p k : ℕ) (ns ms : List NumberKept) → Has p k ms → Has p k (ns ++ ms)
   has_right p k [] ms has = has
   has_right p k (n ∷ ns) ms has = inr (has_right p k ns ms has)
 
@@ -141,7 +141,7 @@ module _ (count : ℕ) (runs : ℕ → ℕ) (high : (p : ℕ) → runs p ≤ 999
     ]
   ]
 
-  kept_has : (id : ℕ) (accounts : List (List ℕ × PartnerKind)) (ns : List Numbered) (p k : ℕ) → AreKept (accounts_from id next accounts) ns → id ≤ p → p < id + length accounts → 1 ≤ k → k ≤ runs p → Has p k ns
+  kept_has : (id : ℕ) (accounts : List (List ℕ × PartnerKind)) (ns : List NumberKept) (p k : ℕ) → AreKept (accounts_from id next accounts) ns → id ≤ p → p < id + length accounts → 1 ≤ k → k ≤ runs p → Has p k ns
   kept_has id [] ns p k kept low below one within = absurd (omega (arith, low, below))
   kept_has id (account ∷ accounts) ns p k kept low below one within =
       let its = kept.3 in
@@ -182,19 +182,19 @@ replies (byte ∷ bytes) = sym (ap not (ne_eqb (length (byte ∷ bytes)) 0 (λ n
 
 -- ---- from what is kept in order
 
-within_at : (P : Numbered → Type 0) (zs : List Interchange) (i : Interchange) (k : ℕ) → AllByRecursion P (map numbered zs) → k < length zs → slice_index_or zs k i ≡ i → P (numbered i)
+within_at : (P : NumberKept → Type 0) (zs : List Interchange) (i : Interchange) (k : ℕ) → AllByRecursion P (map number_kept zs) → k < length zs → slice_index_or zs k i ≡ i → P (number_kept i)
 within_at P [] i k all below is = absurd (omega (arith, below))
-within_at P (z ∷ zs) i zero all below is = subst (λ x. P (numbered x)) is all.0
+within_at P (z ∷ zs) i zero all below is = subst (λ x. P (number_kept x)) is all.0
 within_at P (z ∷ zs) i (suc k) all below is = within_at P zs i k all.1 (omega (arith, below)) is
 
-has_in : (zs : List Interchange) (p k : ℕ) → Has p k (map numbered zs) → (i : Interchange) × Contains zs i × (i.partner ≡ p) × (i.number ≡ k)
+has_in : (zs : List Interchange) (p k : ℕ) → Has p k (map number_kept zs) → (i : Interchange) × Contains zs i × (i.partner ≡ p) × (i.number ≡ k)
 has_in [] p k has = absurd has
 has_in (z ∷ zs) p k (inl here) = (z, head_in z zs, here.0, here.1)
 has_in (z ∷ zs) p k (inr later) = let rest = has_in zs p k later in (rest.0, tail_in z rest.0 zs rest.1, rest.2, rest.3)
 
 module _ (count : ℕ) (runs : ℕ → ℕ) (rows : Rows) (zs : List Interchange) (same : IsPermutation rows.interchanges zs) (once : AreKeptOnce rows.interchanges)
-    (all : AllByRecursion (IsWithinRuns count runs) (map numbered zs)) (has : (p k : ℕ) → 1 ≤ k → k ≤ runs p → Has p k (map numbered zs)) where
-  its_within : (i : Interchange) → Contains rows.interchanges i → IsWithinRuns count runs (numbered i)
+    (all : AllByRecursion (IsWithinRuns count runs) (map number_kept zs)) (has : (p k : ℕ) → 1 ≤ k → k ≤ runs p → Has p k (map number_kept zs)) where
+  its_within : (i : Interchange) → Contains rows.interchanges i → IsWithinRuns count runs (number_kept i)
   its_within i inside =
       let there = Contains-permutation rows.interchanges zs i same inside in
       within_at (IsWithinRuns count runs) zs i there.0 all there.1 there.2
@@ -244,12 +244,12 @@ module _ (count : ℕ) (runs : ℕ → ℕ) (rows : Rows) (zs : List Interchange
 
 -- the accounts and what is kept for them, in order
 pub kept_numbers : (partners : List Partner) (accounts : List (List ℕ × PartnerKind)) (rows : Rows) (zs : List Interchange) (its : HaveRuns 1 partners accounts) → IsPermutation rows.interchanges zs → AreKeptOnce rows.interchanges →
-    AreKept partners (map numbered zs) → KeepsNumbers (length accounts) its.runs rows
+    AreKept partners (map number_kept zs) → KeepsNumbers (length accounts) its.runs rows
 kept_numbers partners accounts rows zs its same once kept =
     let runs = its.runs in
-    let here : AreKept (accounts_from 1 (λ p. runs p + 1) accounts) (map numbered zs) = subst (λ l. AreKept l (map numbered zs)) its.are kept in
+    let here : AreKept (accounts_from 1 (λ p. runs p + 1) accounts) (map number_kept zs) = subst (λ l. AreKept l (map number_kept zs)) its.are kept in
     keeps_numbers (length accounts) runs rows zs same once
-    (kept_within (length accounts) runs its.high 1 accounts (map numbered zs) (omega arith) (omega arith) here)
+    (kept_within (length accounts) runs its.high 1 accounts (map number_kept zs) (omega arith) (omega arith) here)
     (λ p k one within. elim (cases_order p 0) [
       | inl none ↦ absurd (omega (arith, one, within, its.below p (omega (arith, none))))
       | inr o ↦ elim o [
@@ -257,7 +257,7 @@ kept_numbers partners accounts rows zs its same once kept =
         | inr some ↦ elim (cases_order p (1 + length accounts)) [
           | inl last ↦ absurd (omega (arith, one, within, its.beyond p (omega (arith, last))))
           | inr far ↦ elim far [
-            | inl inside ↦ kept_has (length accounts) runs its.high 1 accounts (map numbered zs) p k here (omega (arith, some)) inside one within
+            | inl inside ↦ kept_has (length accounts) runs its.high 1 accounts (map number_kept zs) p k here (omega (arith, some)) inside one within
             | inr past ↦ absurd (omega (arith, one, within, its.beyond p (omega (arith, past))))
           ]
         ]
@@ -273,7 +273,7 @@ same_number : (m n : ℕ) → m ≡ n → nat_cmp m n ≡ Equal
 same_number m n same = grind (arith, nat_tests)
 
 -- of two pairs in order the second isn't before the first
-pair_order : (p k q j : ℕ) → is_lt (ordering_then (value_cmp (number q) (number p)) (ordering_then (value_cmp (number j) (number k)) Equal)) ≡ false → (p < q) ⊎ ((q ≡ p) × (k ≤ j))
+pair_order : (p k q j : ℕ) → is_lt (ordering_then (value_cmp (number_value q) (number_value p)) (ordering_then (value_cmp (number_value j) (number_value k)) Equal)) ≡ false → (p < q) ⊎ ((q ≡ p) × (k ≤ j))
 pair_order p k q j after =
     let whole : is_lt (ordering_then (nat_cmp q p) (ordering_then (nat_cmp j k) Equal)) ≡ false =
     sym (ap₂ (λ a b. is_lt (ordering_then a (ordering_then b Equal))) (number_order q p) (number_order j k)) ∙ after in
@@ -303,7 +303,7 @@ apart : (p k : ℕ) (i j : Interchange) (zs : List Interchange) → count_by (is
 apart p k i j zs once one two = let bad : ◌≡◌ {A = ℕ} 0 1 = one_place (is_pair p k) (i ∷ j ∷ zs) 0 1 i j once refl refl one two in absurd (omega arith)
 
 -- in order they rise
-rise_of : (zs : List Interchange) → InTurn pair_values zs → ((p k : ℕ) → count_by (is_pair p k) zs ≤ 1) → Rise (map numbered zs)
+rise_of : (zs : List Interchange) → InTurn pair_values zs → ((p k : ℕ) → count_by (is_pair p k) zs ≤ 1) → Rise (map number_kept zs)
 rise_of [] turn once = tt
 rise_of (i ∷ []) turn once = (tt, tt)
 rise_of (i ∷ j ∷ zs) turn once = (starts (pair_order i.partner i.number j.partner j.number turn.0), rise_of (j ∷ zs) turn.1 (λ p k. fewer (is_pair p k) i (j ∷ zs) (once p k)))
@@ -315,12 +315,12 @@ rise_of (i ∷ j ∷ zs) turn once = (starts (pair_order i.partner i.number j.pa
       | inr o ↦ elim o [ inl below ↦ inr (near.0, below) | inr above ↦ absurd (omega (arith, near.1, above)) ]
     ]
 
-has_at : (zs : List Interchange) (i : Interchange) (k : ℕ) → k < length zs → slice_index_or zs k i ≡ i → Has i.partner i.number (map numbered zs)
+has_at : (zs : List Interchange) (i : Interchange) (k : ℕ) → k < length zs → slice_index_or zs k i ≡ i → Has i.partner i.number (map number_kept zs)
 has_at [] i k below is = absurd (omega arith)
 has_at (z ∷ zs) i zero below is = inl (ap (λ (x : Interchange). x.partner) is, ap (λ (x : Interchange). x.number) is)
 has_at (z ∷ zs) i (suc k) below is = inr (has_at zs i k (omega arith) is)
 
-all_numbered : (P : Numbered → Type 0) (zs : List Interchange) → ((i : Interchange) → Contains zs i → P (numbered i)) → AllByRecursion P (map numbered zs)
+all_numbered : (P : NumberKept → Type 0) (zs : List Interchange) → ((i : Interchange) → Contains zs i → P (number_kept i)) → AllByRecursion P (map number_kept zs)
 all_numbered P [] each = tt
 all_numbered P (z ∷ zs) each = (each z (head_in z zs), all_numbered P zs (λ i inside. each i (tail_in z i zs inside)))
 
@@ -343,7 +343,7 @@ module _ (count : ℕ) (runs : ℕ → ℕ) (rows : Rows) (keeps : KeepsNumbers 
     | inr o ↦ elim o [ inl below ↦ below | inr above ↦ absurd (omega (arith, above, beyond)) ]
   ]
 
-  within_runs : (i : Interchange) → Contains rows.interchanges i → IsWithinRuns count runs (numbered i)
+  within_runs : (i : Interchange) → Contains rows.interchanges i → IsWithinRuns count runs (number_kept i)
   within_runs i inside =
       let range = keeps.within i.partner i.number i.body (own_text i inside) in
       record {
@@ -359,13 +359,13 @@ module _ (count : ℕ) (runs : ℕ → ℕ) (rows : Rows) (keeps : KeepsNumbers 
   body_found None e = cc
   body_found (Some i) e = (i, refl)
 
-  complete : (zs : List Interchange) → IsPermutation rows.interchanges zs → IsComplete count runs 0 (map numbered zs)
+  complete : (zs : List Interchange) → IsPermutation rows.interchanges zs → IsComplete count runs 0 (map number_kept zs)
   complete zs same q k far one within =
       let there = body_found (find (is_pair q k) rows.interchanges) (keeps.there q k one within) in
       let pair = found_pair rows q k there.0 there.1 in
       let inside : Contains zs there.0 = Contains-permutation rows.interchanges zs there.0 same pair.0 in
-      let has : Has there.0.partner there.0.number (map numbered zs) = has_at zs there.0 inside.0 inside.1 inside.2 in
-      subst (λ m. Has q m (map numbered zs)) pair.2 (subst (λ r. Has r there.0.number (map numbered zs)) pair.1 has)
+      let has : Has there.0.partner there.0.number (map number_kept zs) = has_at zs there.0 inside.0 inside.1 inside.2 in
+      subst (λ m. Has q m (map number_kept zs)) pair.2 (subst (λ r. Has r there.0.number (map number_kept zs)) pair.1 has)
 
   once_in : (zs : List Interchange) → IsPermutation rows.interchanges zs → (p k : ℕ) → count_by (is_pair p k) zs ≤ 1
   once_in zs same p k =
@@ -373,8 +373,8 @@ module _ (count : ℕ) (runs : ℕ → ℕ) (rows : Rows) (keeps : KeepsNumbers 
       subst (λ n. n ≤ 1) (sym one) (keeps.once p k)
 
   pub numbers_kept : (accounts : List (List ℕ × PartnerKind)) (zs : List Interchange) → length accounts ≡ count → IsPermutation rows.interchanges zs → InTurn (is_before (0 ∷ 1 ∷ []) interchange_values) zs →
-      AreKept (accounts_from 1 (λ p. runs p + 1) accounts) (map numbered zs)
+      AreKept (accounts_from 1 (λ p. runs p + 1) accounts) (map number_kept zs)
   numbers_kept accounts zs counted same turn =
-      all_kept count runs accounts (map numbered zs) counted (rise_of zs turn (once_in zs same))
+      all_kept count runs accounts (map number_kept zs) counted (rise_of zs turn (once_in zs same))
       (all_numbered (IsWithinRuns count runs) zs (λ i inside. within_runs i (Contains-permutation zs rows.interchanges i (IsPermutation-sym rows.interchanges zs same) inside)))
       (complete zs same)

@@ -13,7 +13,7 @@ use Rattle.partner_core.specs.Order.{state, order, reply_of}
 use Rattle.partner_core.proofs.Growths.{adds_nothing, adds_text, other_run-stays}
 use Rattle.partner_core.proofs.OnePartner.{run_of_none}
 use Rattle.yard_core.specs.declared.placements.Stowed.{Stowed}
-use Rattle.yard_core.specs.YardMap.{placed}
+use Rattle.yard_core.specs.YardMap.{placement_if_any}
 use Rattle.terminal_core.specs.Changes.{standing_in, rows_of}
 use Rattle.yard_core.specs.declared.placements.Placement.{Placement}
 use Rattle.terminal_core.specs.Step.{number_of_visit}
@@ -26,7 +26,7 @@ use Rattle.office_admission.proofs.Adding.{content_on, given_after}
 use Rattle.office_replies.specs.Events.{Event, delivered}
 use Rattle.office_replies.specs.declared.deliver.Fault.{Fault}
 use Rattle.office_rows.specs.Rows.{Rows}
-use Rattle.office_rows.specs.Effects.{with_kept}
+use Rattle.office_rows.specs.Effects.{with_waiting}
 use Rattle.office_rows.specs.Opening.{partners_from, opening_rows}
 use Rattle.office_setup.specs.Given.{IsGiven}
 use Rattle.office_setup.specs.Setups.{SetupContent, parties_in}
@@ -60,7 +60,7 @@ opening_after content = record {
   replies = λ p k. sym (none_replied content p k);
   kept_once = λ p k. omega arith;
   terminal =
-      (λ i. record { visits = []; places = λ q. sym (ap (λ (w : Option Stowed). option_map (λ (s : Placement). standing_in (number_of_visit (open_visit (opening_of content).terminal q)) s.slot) (placed w)) (finite_map.get-empty (slice_cmp nat_cmp) q)) i; lines = finite_map.empty })
+      (λ i. record { visits = []; places = λ q. sym (ap (λ (w : Option Stowed). option_map (λ (s : Placement). standing_in (number_of_visit (open_visit (opening_of content).terminal q)) s.slot) (placement_if_any w)) (finite_map.get-empty (slice_cmp nat_cmp) q)) i; lines = finite_map.empty })
       ∙ ap (λ (m : MachineState). rows_of m.terminal) (sym (none_ordered content));
   placed_once = λ q. omega arith;
   listed_once = λ c s b. omega arith;
@@ -113,13 +113,13 @@ module _ (content : SetupContent) (es : List Event) (sent : List ℕ) where
         runs = λ q. ap (λ E. run E q) same ∙ adds.runs q;
       }
 
-  adds_early : (rows : Rows) (p k : ℕ) → AreAfter content es rows → IsFor content es sent p k → text_in rows p k ≡ None → run D p + 1 < k → AddsWaiting content es sent (with_kept p k text rows)
+  adds_early : (rows : Rows) (p k : ℕ) → AreAfter content es rows → IsFor content es sent p k → text_in rows p k ≡ None → run D p + 1 < k → AddsWaiting content es sent (with_waiting p k text rows)
   adds_early rows p k are for free early =
       let d = delivery p k text in
       let same = admitted_more content es sent p k for in
       let adds = adds_text taking (opening_of now) D d (ap is_some (sym (are.texts p k) ∙ free)) early in
       record {
-        rows_are = after_rows (D ++ d ∷ []) (with_kept p k text rows) same (early_keeps newest taking now D p k text rows are free early);
+        rows_are = after_rows (D ++ d ∷ []) (with_waiting p k text rows) same (early_keeps newest taking now D p k text rows are free early);
         machine = after_machine (D ++ d ∷ []) same ∙ adds.state_is;
         runs = λ q. ap (λ E. run E q) same ∙ adds.runs q;
       }

@@ -44,22 +44,22 @@ use Rattle.terminal_core.proofs.Lined.{order, keys_total, keys_apart, same_key}
 use Rattle.office_setup.specs.Setups.{SetupContent}
 use Rattle.std.specs.Str.{bytes_eq}
 use Rattle.office_rows.specs.Rows.{Partner, PlaceContent, ListingContent, Setting}
-use Rattle.office_rows.specs.Values.{number, kind_code, partner_values, way_code, laden_code, state_code, out_by, out_partner, out_number, out_at, visit_values, place_values, line_values, setting_values, block_values}
+use Rattle.office_rows.specs.Values.{number_value, kind_code, partner_values, way_code, laden_code, state_code, out_by, out_partner, out_number, out_at, visit_values, place_values, line_values, setting_values, block_values}
 use Rattle.office_rows.specs.Effects.{stands_for, is_line}
 use Rattle.office_rows.specs.ByKey.{standing_by, lines_by, line_entry, ArePlacedOnce, AreListedOnce}
-use Rattle.office_rows.specs.Opening.{setting}
+use Rattle.office_rows.specs.Opening.{setting_row}
 use Rattle.office_rows.specs.Opened.{OpenedRows, Shows}
 use Rattle.office_rows.specs.Shown.{columns_at, ShowsTable}
 use Rattle.office_rows.proofs.Listed.{unmapped}
 use Rattle.office_rows.specs.Office.{settings_by_name, AreAccounts, IsOffice}
-use Rattle.office_rows.specs.Tables.{partner, visit, place, listed, block, setting as settings_table}
+use Rattle.office_rows.specs.Tables.{partner_table, visit_table, place_table, listing_table, block_table, setting_table as settings_table}
 use Rattle.office_history.specs.After.{SaysSame, accounts_from}
 use Rattle.office_history.proofs.ByKeys.{key_of, said, finds, line_tied, none_found}
 use Rattle.office_history.proofs.Shown.{found_same, found_only, Rises, rising_same, same_records}
 
 -- ---- columns
 
-pub number_one : (m n : ℕ) → number m ≡ number n → m ≡ n
+pub number_one : (m n : ℕ) → number_value m ≡ number_value n → m ≡ n
 number_one m n e = cc
 
 pub text_one : (s t : List ℕ) → ◌≡◌ {A = Value} (Text s) (Text t) → s ≡ t
@@ -295,8 +295,8 @@ lines_same xs ys once same =
 abbrev is_named : List ℕ → Setting → Bool
 is_named name s = bytes_eq s.name name
 
-value_one : (name v w : List ℕ) → ◌≡◌ {A = Option Setting} (Some (setting name v)) (Some (setting name w)) → v ≡ w
-value_one name v w e = let same : setting name v ≡ setting name w = cc in ap (λ (s : Setting). s.value) same
+value_one : (name v w : List ℕ) → ◌≡◌ {A = Option Setting} (Some (setting_row name v)) (Some (setting_row name w)) → v ≡ w
+value_one name v w e = let same : setting_row name v ≡ setting_row name w = cc in ap (λ (s : Setting). s.value) same
 
 -- ---- two offices that one database shows
 
@@ -317,7 +317,7 @@ module _ (db : Database) (one two : OpenedRows) (content other : SetupContent) (
 
   both_visits : one.visits ≡ two.visits
   both_visits =
-      let in_order = shown_twice visit (0 ∷ 1 ∷ 2 ∷ 3 ∷ 4 ∷ 5 ∷ 6 ∷ 7 ∷ 8 ∷ 9 ∷ 10 ∷ 11 ∷ 12 ∷ 13 ∷ 14 ∷ []) (0 ∷ []) visit_values one.visits two.visits db shows.visits also.visits in
+      let in_order = shown_twice visit_table (0 ∷ 1 ∷ 2 ∷ 3 ∷ 4 ∷ 5 ∷ 6 ∷ 7 ∷ 8 ∷ 9 ∷ 10 ∷ 11 ∷ 12 ∷ 13 ∷ 14 ∷ []) (0 ∷ []) visit_values one.visits two.visits db shows.visits also.visits in
       let same : two.visits ≡ in_order.0 = same_records IsFormedVisit visit_values visit_one two.visits in_order.0
       (λ v inside. second.formed.visits v (subst (λ l. Contains l v) other_visits_of inside))
       (λ v inside. office.formed.visits v (subst (λ l. Contains l v) visits_of (Contains-permutation in_order.0 one.visits v (IsPermutation-sym one.visits in_order.0 in_order.1) inside)))
@@ -328,7 +328,7 @@ module _ (db : Database) (one two : OpenedRows) (content other : SetupContent) (
 
   both_places : standing_by one.places ≡ standing_by two.places
   both_places =
-      let in_order = shown_twice place (0 ∷ 1 ∷ 2 ∷ []) (0 ∷ []) place_values one.places two.places db shows.places also.places in
+      let in_order = shown_twice place_table (0 ∷ 1 ∷ 2 ∷ []) (0 ∷ []) place_values one.places two.places db shows.places also.places in
       let same : two.places ≡ in_order.0 = same_records (λ (p : PlaceContent). IsNamed p.slot) place_values place_one two.places in_order.0
       (named_place two.places own second.placed_once (ap (λ (r : TerminalRows). r.places) second.terminal) second.formed)
       (λ p inside. named_place one.places state office.placed_once (ap (λ (r : TerminalRows). r.places) office.terminal) office.formed p
@@ -338,13 +338,13 @@ module _ (db : Database) (one two : OpenedRows) (content other : SetupContent) (
 
   both_lines : lines_by one.lines ≡ lines_by two.lines
   both_lines =
-      let in_order = shown_twice listed (0 ∷ 1 ∷ 2 ∷ 3 ∷ 4 ∷ 5 ∷ []) (0 ∷ 1 ∷ 2 ∷ 3 ∷ []) line_values one.lines two.lines db shows.lines also.lines in
+      let in_order = shown_twice listing_table (0 ∷ 1 ∷ 2 ∷ 3 ∷ 4 ∷ 5 ∷ []) (0 ∷ 1 ∷ 2 ∷ 3 ∷ []) line_values one.lines two.lines db shows.lines also.lines in
       let same : two.lines ≡ in_order.0 = same_records (λ _. Unit {0}) line_values line_one two.lines in_order.0 (λ _ _. tt) (λ _ _. tt) in_order.2 in
       sym (ap lines_by same ∙ lines_same one.lines in_order.0 office.listed_once in_order.1)
 
   both_blocks : content.blocks ≡ other.blocks
   both_blocks =
-      let in_order = shown_twice block (0 ∷ 1 ∷ 2 ∷ 3 ∷ []) (0 ∷ []) block_values one.blocks two.blocks db shows.blocks also.blocks in
+      let in_order = shown_twice block_table (0 ∷ 1 ∷ 2 ∷ 3 ∷ []) (0 ∷ []) block_values one.blocks two.blocks db shows.blocks also.blocks in
       let same : two.blocks ≡ in_order.0 = same_records (λ _. Unit {0}) block_values block_one two.blocks in_order.0 (λ _ _. tt) (λ _ _. tt) in_order.2 in
       let shuffled : IsPermutation content.blocks other.blocks = subst (IsPermutation content.blocks) (sym same ∙ second.blocks) (subst (λ l. IsPermutation l in_order.0) office.blocks in_order.1) in
       rising_same letter_key 0 content.blocks other.blocks (blocks_rise 0 content.blocks office.given.by_letter office.given.plan.apart (any_head content.blocks))
@@ -378,7 +378,7 @@ module _ (db : Database) (one two : OpenedRows) (content other : SetupContent) (
 
   both_accounts : one.partners ≡ two.partners
   both_accounts =
-      let in_order = shown_twice partner (0 ∷ 1 ∷ 2 ∷ 3 ∷ []) (0 ∷ []) partner_values one.partners two.partners db shows.partners also.partners in
+      let in_order = shown_twice partner_table (0 ∷ 1 ∷ 2 ∷ 3 ∷ []) (0 ∷ []) partner_values one.partners two.partners db shows.partners also.partners in
       let same : two.partners ≡ in_order.0 = same_records (λ _. Unit {0}) partner_values partner_one two.partners in_order.0 (λ _ _. tt) (λ _ _. tt) in_order.2 in
       rising_same (λ (p : Partner). p.id) 0 one.partners two.partners (given_rise 1 0 one.partners content.partners refl office.accounts) (given_rise 1 0 two.partners other.partners refl second.accounts)
       (subst (IsPermutation one.partners) (sym same) in_order.1)

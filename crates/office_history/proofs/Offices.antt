@@ -23,14 +23,14 @@ use Rattle.office_replies.specs.Events.{Event}
 use Rattle.office_setup.specs.Given.{IsGiven}
 use Rattle.office_setup.specs.Setups.{SetupContent}
 use Rattle.office_rows.specs.Rows.{Partner, Interchange, PlaceContent, ListingContent, Setting, Rows}
-use Rattle.office_rows.specs.Values.{number, partner_values, interchange_values, visit_values, place_values, line_values, setting_values, block_values}
+use Rattle.office_rows.specs.Values.{number_value, partner_values, interchange_values, visit_values, place_values, line_values, setting_values, block_values}
 use Rattle.office_rows.specs.Stored.{AreRows, HasRows}
 use Rattle.office_rows.specs.Effects.{stands_for, is_line}
-use Rattle.office_rows.specs.Opened.{numbered, reply_values, OpenedRows, Shows}
+use Rattle.office_rows.specs.Opened.{number_kept, reply_values, OpenedRows, Shows}
 use Rattle.office_rows.specs.Office.{settings_by_name, AreAccounts, AreKept, HasAccounts, IsOffice}
 use Rattle.office_rows.specs.Opening.{version_text, settings_in}
 use Rattle.office_rows.specs.Migrated.{migrated_settings}
-use Rattle.office_rows.specs.Tables.{partner, interchange, visit, place, listed, block, setting as settings_table}
+use Rattle.office_rows.specs.Tables.{partner_table, interchange_table, visit_table, place_table, listing_table, block_table, setting_table as settings_table}
 use Rattle.office_taking.specs.Taking.{MachineState}
 use Rattle.partner_core.specs.Machine.{Taking}
 use Rattle.terminal_core.specs.Versions.{newest}
@@ -60,7 +60,7 @@ greater_first : (m n : ℕ) → n < m → nat_cmp m n ≡ Greater
 greater_first m n below = grind (arith, nat_tests)
 
 -- a greater number isn't before
-not_before : (m n : ℕ) (rest : Ordering) → n < m → is_lt (ordering_then (value_cmp (number m) (number n)) rest) ≡ false
+not_before : (m n : ℕ) (rest : Ordering) → n < m → is_lt (ordering_then (value_cmp (number_value m) (number_value n)) rest) ≡ false
 not_before m n rest below = ap (λ o. is_lt (ordering_then o rest)) (number_order m n ∙ greater_first m n below)
 
 -- nor a text of a greater byte
@@ -181,7 +181,7 @@ module _ (version : Version) (content : SetupContent) (runs : ℕ → ℕ) (rows
   abbrev shown_with : List Interchange → List PlaceContent → List ListingContent → OpenedRows
   shown_with interchanges places lines = record {
     partners = rows.partners;
-    numbers = map numbered interchanges;
+    numbers = map number_kept interchanges;
     visits = rows.visits;
     places = places;
     lines = lines;
@@ -196,17 +196,17 @@ module _ (version : Version) (content : SetupContent) (runs : ℕ → ℕ) (rows
 
     shows : Shows db shown
     shows = record {
-      partners = shows_records partner (0 ∷ 1 ∷ 2 ∷ 3 ∷ []) (0 ∷ []) partner_values partner_values rows.partners rows.partners db (λ p. refl) has.partners (IsPermutation-refl rows.partners) partners_in_turn;
+      partners = shows_records partner_table (0 ∷ 1 ∷ 2 ∷ 3 ∷ []) (0 ∷ []) partner_values partner_values rows.partners rows.partners db (λ p. refl) has.partners (IsPermutation-refl rows.partners) partners_in_turn;
       numbers = record {
         interchanges = interchanges.0;
-        shown = shows_records interchange (0 ∷ 1 ∷ 3 ∷ []) (0 ∷ 1 ∷ []) interchange_values reply_values rows.interchanges interchanges.0 db (λ i. refl) has.interchanges interchanges.1 interchanges.2;
+        shown = shows_records interchange_table (0 ∷ 1 ∷ 3 ∷ []) (0 ∷ 1 ∷ []) interchange_values reply_values rows.interchanges interchanges.0 db (λ i. refl) has.interchanges interchanges.1 interchanges.2;
         are = refl;
       };
-      visits = shows_records visit (0 ∷ 1 ∷ 2 ∷ 3 ∷ 4 ∷ 5 ∷ 6 ∷ 7 ∷ 8 ∷ 9 ∷ 10 ∷ 11 ∷ 12 ∷ 13 ∷ 14 ∷ []) (0 ∷ []) visit_values visit_values rows.visits rows.visits db (λ v. refl) has.visits (IsPermutation-refl rows.visits) visits_in_turn;
-      places = shows_records place (0 ∷ 1 ∷ 2 ∷ []) (0 ∷ []) place_values place_values rows.places places.0 db (λ p. refl) has.places places.1 places.2;
-      lines = shows_records listed (0 ∷ 1 ∷ 2 ∷ 3 ∷ 4 ∷ 5 ∷ []) (0 ∷ 1 ∷ 2 ∷ 3 ∷ []) line_values line_values rows.lines lines.0 db (λ l. refl) has.lines lines.1 lines.2;
+      visits = shows_records visit_table (0 ∷ 1 ∷ 2 ∷ 3 ∷ 4 ∷ 5 ∷ 6 ∷ 7 ∷ 8 ∷ 9 ∷ 10 ∷ 11 ∷ 12 ∷ 13 ∷ 14 ∷ []) (0 ∷ []) visit_values visit_values rows.visits rows.visits db (λ v. refl) has.visits (IsPermutation-refl rows.visits) visits_in_turn;
+      places = shows_records place_table (0 ∷ 1 ∷ 2 ∷ []) (0 ∷ []) place_values place_values rows.places places.0 db (λ p. refl) has.places places.1 places.2;
+      lines = shows_records listing_table (0 ∷ 1 ∷ 2 ∷ 3 ∷ 4 ∷ 5 ∷ []) (0 ∷ 1 ∷ 2 ∷ 3 ∷ []) line_values line_values rows.lines lines.0 db (λ l. refl) has.lines lines.1 lines.2;
       settings = shows_records settings_table (0 ∷ 1 ∷ []) (0 ∷ []) setting_values setting_values rows.settings (settings_shown version content) db (λ s. refl) has.settings are.settings (settings_in_turn version content);
-      blocks = shows_records block (0 ∷ 1 ∷ 2 ∷ 3 ∷ []) (0 ∷ []) block_values block_values rows.blocks rows.blocks db (λ b. refl) has.blocks (IsPermutation-refl rows.blocks) blocks_in_turn;
+      blocks = shows_records block_table (0 ∷ 1 ∷ 2 ∷ 3 ∷ []) (0 ∷ []) block_values block_values rows.blocks rows.blocks db (λ b. refl) has.blocks (IsPermutation-refl rows.blocks) blocks_in_turn;
     }
 
     office : (settings : List Setting) → settings ≡ settings_by_name content → IsOffice (record shown { settings = settings }) content state
@@ -215,7 +215,7 @@ module _ (version : Version) (content : SetupContent) (runs : ℕ → ℕ) (rows
       settings = named;
       blocks = are.blocks;
       accounts = subst (λ l. AreAccounts 1 l content.partners) (sym are.partners) (accounts_are 1 runs content.partners are.high);
-      kept = subst (λ l. AreKept l (map numbered interchanges.0)) (sym are.partners) (numbers_kept (length content.partners) runs rows are.keeps content.partners interchanges.0 refl interchanges.1 interchanges.2);
+      kept = subst (λ l. AreKept l (map number_kept interchanges.0)) (sym are.partners) (numbers_kept (length content.partners) runs rows are.keeps content.partners interchanges.0 refl interchanges.1 interchanges.2);
       plan = are.plan;
       limit = are.limit;
       whole = are.whole;

@@ -12,7 +12,7 @@ use Rattle.office_rows.specs.Rows.{Partner, Interchange, Rows}
 use Rattle.office_rows.specs.Values.{interchange_values}
 use Rattle.office_rows.specs.Stored.{HasRows}
 use Rattle.office_rows.specs.Effects.{is_pair}
-use Rattle.office_rows.specs.Opened.{Numbered, OpenedRows, Shows, numbered, reply_values}
+use Rattle.office_rows.specs.Opened.{NumberKept, OpenedRows, Shows, number_kept, reply_values}
 use Rattle.office_rows.specs.Office.{AreAccounts, AreWaiting, AreKept, IsOffice}
 use Rattle.office_rows.specs.Shown.{columns_at}
 use Rattle.office_rows.proofs.Listed.{unmapped}
@@ -51,7 +51,7 @@ climbs_on key low mid high (x ∷ xs) ys one two = (one.0, climbs_on key (key x)
 abbrev place_of : ℕ → ℕ → ℕ
 place_of partner number = partner * 1000000000 + number
 
-abbrev place : Numbered → ℕ
+abbrev place : NumberKept → ℕ
 place n = place_of n.partner n.number
 
 taken_climb : (partner from many low high : ℕ) → low < place_of partner from → place_of partner from + many ≤ high + 1 → Climbs place low (map (taken_by partner) (range_with_len from many)) high
@@ -59,7 +59,7 @@ taken_climb partner from zero low high above below = omega (arith, above, below)
 taken_climb partner from (suc many) low high above below =
     (above, taken_climb partner (from + 1) many (place_of partner from) high (omega arith) (omega (arith, below)))
 
-waiting_climb : (partner above : ℕ) (ns : List Numbered) → above ≤ 1000000000 → AreWaiting partner above ns → Climbs place (place_of partner above) ns (place_of partner 1000000000)
+waiting_climb : (partner above : ℕ) (ns : List NumberKept) → above ≤ 1000000000 → AreWaiting partner above ns → Climbs place (place_of partner above) ns (place_of partner 1000000000)
 waiting_climb partner above [] within wait = omega (arith, within)
 waiting_climb partner above (n ∷ ns) within wait =
     let own : n.partner ≡ partner = wait.0 in
@@ -68,7 +68,7 @@ waiting_climb partner above (n ∷ ns) within wait =
     let rest = waiting_climb partner n.number ns (omega (arith, high)) wait.4 in
     (omega (arith, own, beyond), subst (λ p. Climbs place (place_of p n.number) ns (place_of partner 1000000000)) (sym own) rest)
 
-kept_rise : (id : ℕ) (partners : List Partner) (accounts : List (List ℕ × PartnerKind)) (ns : List Numbered) → AreAccounts id partners accounts → AreKept partners ns → Rises place (place_of id 0) ns
+kept_rise : (id : ℕ) (partners : List Partner) (accounts : List (List ℕ × PartnerKind)) (ns : List NumberKept) → AreAccounts id partners accounts → AreKept partners ns → Rises place (place_of id 0) ns
 kept_rise id [] accounts ns are kept = subst (Rises place (place_of id 0)) (sym kept) tt
 kept_rise id (partner ∷ partners) [] ns are kept = absurd are
 kept_rise id (partner ∷ partners) (account ∷ accounts) ns are kept =
@@ -86,14 +86,14 @@ kept_rise id (partner ∷ partners) (account ∷ accounts) ns are kept =
 
 -- ---- the interchanges
 
-numbered_one : (i j : Interchange) → reply_values i ≡ columns_at (0 ∷ 1 ∷ 3 ∷ []) (interchange_values j) → numbered i ≡ numbered j
+numbered_one : (i j : Interchange) → reply_values i ≡ columns_at (0 ∷ 1 ∷ 3 ∷ []) (interchange_values j) → number_kept i ≡ number_kept j
 numbered_one i j e =
     let partner : i.partner ≡ j.partner = number_one i.partner j.partner (ap (λ r. column r 0) e) in
     let own : i.number ≡ j.number = number_one i.number j.number (ap (λ r. column r 1) e) in
     let reply : i.reply ≡ j.reply = text_one i.reply j.reply (ap (λ r. column r 2) e) in
-    λ k. numbered (record { partner = partner k; number = own k; body = i.body; reply = reply k })
+    λ k. number_kept (record { partner = partner k; number = own k; body = i.body; reply = reply k })
 
-pub numbers_same : (xs ys : List Interchange) → map reply_values xs ≡ map (columns_at (0 ∷ 1 ∷ 3 ∷ [])) (map interchange_values ys) → map numbered xs ≡ map numbered ys
+pub numbers_same : (xs ys : List Interchange) → map reply_values xs ≡ map (columns_at (0 ∷ 1 ∷ 3 ∷ [])) (map interchange_values ys) → map number_kept xs ≡ map number_kept ys
 numbers_same [] [] e = refl
 numbers_same [] (y ∷ ys) e = cc
 numbers_same (x ∷ xs) [] e = cc
@@ -105,7 +105,7 @@ numbers_same (x ∷ xs) (y ∷ ys) e =
 abbrev place_in : Interchange → ℕ
 place_in i = place_of i.partner i.number
 
-rises_in : (low : ℕ) (xs : List Interchange) → Rises place low (map numbered xs) → Rises place_in low xs
+rises_in : (low : ℕ) (xs : List Interchange) → Rises place low (map number_kept xs) → Rises place_in low xs
 rises_in low [] rises = tt
 rises_in low (x ∷ xs) rises = (rises.0, rises_in (place_in x) xs rises.1)
 
@@ -118,8 +118,8 @@ kept_once db rows shown content state has shows office partner number =
     let its = shows.numbers in
     let table = its.shown in
     let placed = unmapped interchange_values rows.interchanges table.by_key (IsPermutation-trans _ _ _ has.rows_are.interchanges.same table.same) in
-    let same : map numbered its.interchanges ≡ map numbered placed.0 = numbers_same its.interchanges placed.0 (table.is ∙ ap (map (columns_at (0 ∷ 1 ∷ 3 ∷ []))) placed.2) in
-    let rise : Rises place (place_of 1 0) (map numbered placed.0) = subst (Rises place (place_of 1 0)) (its.are ∙ same) (kept_rise 1 shown.partners content.partners shown.numbers office.accounts office.kept) in
+    let same : map number_kept its.interchanges ≡ map number_kept placed.0 = numbers_same its.interchanges placed.0 (table.is ∙ ap (map (columns_at (0 ∷ 1 ∷ 3 ∷ []))) placed.2) in
+    let rise : Rises place (place_of 1 0) (map number_kept placed.0) = subst (Rises place (place_of 1 0)) (its.are ∙ same) (kept_rise 1 shown.partners content.partners shown.numbers office.accounts office.kept) in
     let one : count_by (is_pair partner number) placed.0 ≡ count_by (is_pair partner number) rows.interchanges =
     sum_by-IsPermutation (λ i. cond (is_pair partner number i) 1 0) rows.interchanges placed.0 placed.1 in
     subst (λ n. n ≤ 1) one (one_at place_in (is_pair partner number) (place_of partner number) (pair_at partner number) (place_of 1 0) placed.0 (rises_in (place_of 1 0) placed.0 rise))

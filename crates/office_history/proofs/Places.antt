@@ -21,7 +21,7 @@ use Rattle.office_taking.specs.Laws.{ChangesTerminalAlone, KeepsSound}
 use Rattle.office_taking.specs.Taking.{MachineState, interchange_taken, interchange_taken_by}
 use Rattle.office_taking.proofs.Reaching.{by_place_alone, by_place_sound, keeps_sound, terminal_alone}
 use Rattle.office_rows.specs.Rows.{Rows}
-use Rattle.office_history.specs.After.{behind, migration_in, taking_by, taking_in, content_after, deliveries_of, opening_of, AreRowsOf}
+use Rattle.office_history.specs.After.{with_earlier_event, migration_in, taking_by, taking_in, content_after, deliveries_of, opening_of, AreRowsOf}
 use Rattle.office_history.specs.Laws.{IsFor}
 use Rattle.office_history.proofs.Afters.{GoesOn}
 
@@ -57,15 +57,15 @@ alone_in version content es = in_force ChangesTerminalAlone terminal_alone (λ b
 
 delivered_stays : (es : List Event) (sent : List ℕ) → migration_in (es ++ delivered sent ∷ []) ≡ migration_in es
 delivered_stays [] sent = refl
-delivered_stays (delivered text ∷ es) sent = ap (behind (delivered text)) (delivered_stays es sent)
+delivered_stays (delivered text ∷ es) sent = ap (with_earlier_event (delivered text)) (delivered_stays es sent)
 delivered_stays (migrated version ∷ es) sent = refl
-delivered_stays (added code kind ∷ es) sent = ap (behind (added code kind)) (delivered_stays es sent)
+delivered_stays (added code kind ∷ es) sent = ap (with_earlier_event (added code kind)) (delivered_stays es sent)
 
 added_stays : (es : List Event) (its own : List ℕ) → migration_in (es ++ added its own ∷ []) ≡ migration_in es
 added_stays [] its own = refl
-added_stays (delivered text ∷ es) its own = ap (behind (delivered text)) (added_stays es its own)
+added_stays (delivered text ∷ es) its own = ap (with_earlier_event (delivered text)) (added_stays es its own)
 added_stays (migrated version ∷ es) its own = refl
-added_stays (added code kind ∷ es) its own = ap (behind (added code kind)) (added_stays es its own)
+added_stays (added code kind ∷ es) its own = ap (with_earlier_event (added code kind)) (added_stays es its own)
 
 pub taking_delivered : (version : Version) (content : SetupContent) (es : List Event) (sent : List ℕ) → taking_in version content (es ++ delivered sent ∷ []) ≡ taking_in version content es
 unfolding taking_in
@@ -81,15 +81,15 @@ no_rules_before version content = refl
 
 -- ---- a migration
 
-none_behind : (event : Event) (o : Option (Version × List Event)) → behind event o ≡ None → o ≡ None
+none_behind : (event : Event) (o : Option (Version × List Event)) → with_earlier_event event o ≡ None → o ≡ None
 none_behind event None e = refl
 none_behind event (Some migration) e = cc
 
 first_migration : (es : List Event) (version : Version) → migration_in es ≡ None → migration_in (es ++ migrated version ∷ []) ≡ Some (version, es)
 first_migration [] version none = refl
-first_migration (delivered text ∷ es) version none = ap (behind (delivered text)) (first_migration es version (none_behind (delivered text) (migration_in es) none))
+first_migration (delivered text ∷ es) version none = ap (with_earlier_event (delivered text)) (first_migration es version (none_behind (delivered text) (migration_in es) none))
 first_migration (migrated other ∷ es) version none = cc
-first_migration (added code kind ∷ es) version none = ap (behind (added code kind)) (first_migration es version (none_behind (added code kind) (migration_in es) none))
+first_migration (added code kind ∷ es) version none = ap (with_earlier_event (added code kind)) (first_migration es version (none_behind (added code kind) (migration_in es) none))
 
 pub taking_unmigrated : (version : Version) (content : SetupContent) (es : List Event) → migration_in es ≡ None → taking_in version content es ≡ interchange_taken_by version
 unfolding taking_in
@@ -122,7 +122,7 @@ record IsSplit (es before : List Event) : Type 0 where
   later : List Event
   is : es ≡ before ++ later
 
-split_behind : (event : Event) (es : List Event) (o : Option (Version × List Event)) (migration : Version × List Event) → ((m : Version × List Event) → o ≡ Some m → IsSplit es m.1) → behind event o ≡ Some migration → IsSplit (event ∷ es) migration.1
+split_behind : (event : Event) (es : List Event) (o : Option (Version × List Event)) (migration : Version × List Event) → ((m : Version × List Event) → o ≡ Some m → IsSplit es m.1) → with_earlier_event event o ≡ Some migration → IsSplit (event ∷ es) migration.1
 split_behind event es None migration rest e = cc
 split_behind event es (Some m) migration rest e =
     let own : (m.0, event ∷ m.1) ≡ migration = cc in

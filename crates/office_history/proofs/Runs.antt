@@ -14,7 +14,7 @@ use Rattle.partner_core.specs.Cascade.{TakesTexts}
 use Rattle.partner_core.proofs.Cascades.{takes_one_more}
 use Rattle.terminal_core.specs.Rows.{ChangeContent, visit_opened}
 use Rattle.terminal_core.specs.State.{IsWhole}
-use Rattle.terminal_core.specs.Changes.{TerminalRows, rows_of, all_changed, AreApplicable}
+use Rattle.terminal_core.specs.Changes.{TerminalRows, rows_of, rows_with_all, AreApplicable}
 use Rattle.terminal_core.proofs.Counted.{found_is}
 use Rattle.office_admission.specs.Admission.{admission, is_for}
 use Rattle.office_replies.proofs.Ready.{reply_is_some}
@@ -162,7 +162,7 @@ leaves_one p t machine text rows whole are once there replies changes =
     let after = with_changes t.changes rows in
     let terminal : TerminalRows = rows_of (interchange_taken machine p text).0.terminal in
     let by_key : AreRowsByKey after terminal =
-    subst (λ r. AreRowsByKey after r) (ap (all_changed (rows_of machine.terminal)) changes ∙ leads.turned)
+    subst (λ r. AreRowsByKey after r) (ap (rows_with_all (rows_of machine.terminal)) changes ∙ leads.turned)
     (changes_agree t.changes rows (rows_of machine.terminal) are (subst (λ c. AreApplicable (rows_of machine.terminal) c) (sym changes) leads.applicable)) in
     let said : t.reply ≢ [] = λ none. reply_says machine p text (sym replies ∙ none) in
     let same : (q k : ℕ) → find (is_pair q k) (map (replied p t.number t.reply) after.interchanges) ≡ option_map (replied p t.number t.reply) (find (is_pair q k) rows.interchanges) =

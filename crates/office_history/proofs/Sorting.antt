@@ -17,7 +17,7 @@ use Rattle.sqlite.specs.Query.{key_cmp}
 use Rattle.sqlite_value.specs.Keys.{ascending}
 use Rattle.sqlite_value.specs.Order.{value_cmp}
 use Rattle.sqlite_value.proofs.OrderLemmas.{value_cmp_total, value_cmp-Int, value_cmp-Text}
-use Rattle.office_rows.specs.Values.{number}
+use Rattle.office_rows.specs.Values.{number_value}
 use Rattle.office_rows.specs.Stored.{Holds}
 use Rattle.office_rows.specs.Shown.{columns_at, ShowsTable}
 
@@ -109,7 +109,7 @@ before_one_way key values a b less = at (keys_cmp key (values a) (values b)) ref
     at Equal e is = cc
     at Greater e is = cc
 
-pub number_order : (m n : ℕ) → value_cmp (number m) (number n) ≡ nat_cmp m n
+pub number_order : (m n : ℕ) → value_cmp (number_value m) (number_value n) ≡ nat_cmp m n
 number_order m n = let same : nat_cmp m n ≡ int_cmp (pos m) (pos n) = grind (arith, ints) in value_cmp-Int (pos m) (pos n) ∙ sym same
 
 pub text_order : (s t : List ℕ) → value_cmp (Text s) (Text t) ≡ slice_cmp nat_cmp s t

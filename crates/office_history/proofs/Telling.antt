@@ -34,7 +34,7 @@ use Rattle.office_taking.proofs.Forming.{number_within}
 use Rattle.office_rows.specs.Rows.{Partner, Rows}
 use Rattle.office_history.specs.After.{opening_of, taking_in, machine_after, accounts_from, reply_in, AreAfter}
 use Rattle.office_history.specs.Cascade.{text_in, TakenContent, texts_with, AreTakenFrom}
-use Rattle.office_history.specs.Laws.{IsFor, told_of, AnswersBy}
+use Rattle.office_history.specs.Laws.{IsFor, answer_model_of, AnswersBy}
 use Rattle.office_history.proofs.Afters.{answered, first_reply}
 use Rattle.office_history.proofs.Places.{sound_in, goes_on, numbered_more}
 
@@ -125,11 +125,11 @@ module _ (content : SetupContent) (es : List Event) (rows : Rows) (sent : List �
   abbrev after : Option (List ℕ)
   after = reply_of (taking_in newest content es) (opening_of (content_after content es)) (D ++ delivery p k text ∷ []) p k
 
-  told : told_of content es p k sent ≡ answer_by (standing_of (run D p + 1) k (text_in rows p k) text) (run D p + 1) (reply_in rows p k) after
+  told : answer_model_of content es p k sent ≡ answer_by (standing_of (run D p + 1) k (text_in rows p k) text) (run D p + 1) (reply_in rows p k) after
   told = answered newest (taking_in newest content es) (content_after content es) D p k text rows are (within (parties_in (content_after content es)) text p k for).2
 
   by_standing : (o : Option (List ℕ)) (standing : Standing) → text_in rows p k ≡ o → standing_of (run D p + 1) k o text ≡ standing
-      → told_of content es p k sent ≡ answer_by standing (run D p + 1) (reply_in rows p k) after
+      → answer_model_of content es p k sent ≡ answer_by standing (run D p + 1) (reply_in rows p k) after
   by_standing o standing is stands =
       told ∙ ap (λ o. answer_by (standing_of (run D p + 1) k o text) (run D p + 1) (reply_in rows p k) after) is ∙ ap (λ s. answer_by s (run D p + 1) (reply_in rows p k) after) stands
 

@@ -54,16 +54,16 @@ pub record SaysSame (one other : SetupContent) : Type 0 where
 
 -- ---- the rules by place
 
-abbrev pub behind : Event → Option (Version × List Event) → Option (Version × List Event)
-behind event None = None
-behind event (Some migration) = Some (migration.0, event ∷ migration.1)
+abbrev pub with_earlier_event : Event → Option (Version × List Event) → Option (Version × List Event)
+with_earlier_event event None = None
+with_earlier_event event (Some migration) = Some (migration.0, event ∷ migration.1)
 
 -- the first migration: the version of the store that was brought to the newest, and the events before it
 abbrev pub migration_in : List Event → Option (Version × List Event)
 migration_in [] = None
 migration_in (migrated version ∷ later) = Some (version, [])
-migration_in (delivered text ∷ later) = behind (delivered text) (migration_in later)
-migration_in (added code kind ∷ later) = behind (added code kind) (migration_in later)
+migration_in (delivered text ∷ later) = with_earlier_event (delivered text) (migration_in later)
+migration_in (added code kind ∷ later) = with_earlier_event (added code kind) (migration_in later)
 
 abbrev pub taking_by : Version → SetupContent → Option (Version × List Event) → Taking MachineState
 taking_by version content None = interchange_taken_by version

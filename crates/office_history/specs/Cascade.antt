@@ -4,7 +4,7 @@ use Rattle.std.specs.Prelude.{◌≡◌, ℕ, ◌+◌, ◌==◌, if◌then◌els
 use Rattle.std.specs.Option.{option_map}
 use Rattle.terminal_core.specs.Rows.{ChangeContent}
 use Rattle.office_rows.specs.Rows.{Interchange, Rows}
-use Rattle.office_rows.specs.Effects.{is_pair, with_kept, with_taken, with_change}
+use Rattle.office_rows.specs.Effects.{is_pair, with_waiting, with_taken, with_change}
 use Rattle.office_taking.specs.Taking.{MachineState, interchange_taken, interchange_changes}
 
 -- the text that is kept under a partner's number
@@ -31,7 +31,7 @@ with_interchanges partner taken rows =
 
 -- a text is kept under its number, and then it and those behind it are taken
 abbrev pub with_run : ℕ → ℕ → List ℕ → List TakenContent → Rows → Rows
-with_run partner number text taken rows = with_interchanges partner taken (with_kept partner number text rows)
+with_run partner number text taken rows = with_interchanges partner taken (with_waiting partner number text rows)
 
 -- the texts that are kept for a partner, and the one that was delivered under its number
 abbrev pub texts_with : Rows → ℕ → ℕ → List ℕ → ℕ → Option (List ℕ)

@@ -4,9 +4,9 @@ use Rattle.edi_messages.specs.declared.codes.PartnerKind.{PartnerKind}
 use Rattle.edi_segments.specs.Interchange.{interchange_of}
 use Rattle.edi_syntax.specs.Numbers.{last_number}
 use Rattle.partner_core.specs.Deliveries.{delivery, run}
-use Rattle.partner_core.specs.Answers.{Told, answer_of, Taken, Repeat, Waiting, Clash}
+use Rattle.partner_core.specs.Answers.{AnswerModel, answer_of, Taken, Repeat, Waiting, Clash}
 use Rattle.terminal_core.specs.Rows.{ChangeContent}
-use Rattle.terminal_core.specs.Changes.{TerminalRows, all_changed, AreApplicable}
+use Rattle.terminal_core.specs.Changes.{TerminalRows, rows_with_all, AreApplicable}
 use Rattle.office_admission.specs.Admission.{admission}
 use Rattle.office_admission.specs.Accounts.{content_after, account_answer, added_as}
 use Rattle.office_admission.specs.Deliveries.{deliveries_of}
@@ -20,7 +20,7 @@ use Rattle.office_rows.specs.Rows.{Partner, Rows}
 use Rattle.office_rows.specs.Stored.{AreRows, HasRows}
 use Rattle.office_rows.specs.Opened.{OpenedRows, Shows}
 use Rattle.office_rows.specs.Office.{IsOffice}
-use Rattle.office_rows.specs.Effects.{with_kept, with_partner}
+use Rattle.office_rows.specs.Effects.{with_waiting, with_partner}
 use Rattle.office_rows.specs.Opening.{opening_rows}
 use Rattle.office_rows.specs.Migrated.{migrated_settings, migrated_rows}
 use Rattle.office_rows.specs.ByKey.{terminal_rows, ArePlacedOnce, AreListedOnce}
@@ -46,7 +46,7 @@ abbrev pub ChangesAgree : Type 0
 ChangesAgree =
     (rows : Rows) (terminal : TerminalRows) (changes : List ChangeContent) → AreRowsByKey rows terminal →
     AreApplicable terminal changes
-    → AreRowsByKey (with_changes changes rows) (all_changed terminal changes)
+    → AreRowsByKey (with_changes changes rows) (rows_with_all terminal changes)
 
 -- ---- before anything was delivered
 
@@ -115,7 +115,7 @@ EarlyAddsWaiting =
     (content : SetupContent) (es : List Event) (rows : Rows) (sent : List ℕ) (partner number : ℕ) →
     AreAfter content es rows → IsFor content es sent partner number
     → text_in rows partner number ≡ None → run (deliveries_of content es) partner + 1 < number
-    → AddsWaiting content es sent (with_kept partner number (interchange_of sent) rows)
+    → AddsWaiting content es sent (with_waiting partner number (interchange_of sent) rows)
 
 -- the text that is next is taken, and each that becomes next by it
 pub record AddsRun (content : SetupContent) (es : List Event) (sent : List ℕ) (partner count : ℕ) (rows : Rows)
@@ -168,8 +168,8 @@ MigrationGoesOn =
 -- ---- answers
 
 -- what is told of the text under that number, after those events
-abbrev pub told_of : SetupContent → List Event → ℕ → ℕ → List ℕ → Told
-told_of content es partner number sent =
+abbrev pub answer_model_of : SetupContent → List Event → ℕ → ℕ → List ℕ → AnswerModel
+answer_model_of content es partner number sent =
     answer_of (taking_in newest content es) (opening_of (content_after content es)) (deliveries_of content es)
     (delivery partner number (interchange_of sent))
 
@@ -177,19 +177,19 @@ told_of content es partner number sent =
 pub record AnswersBy (content : SetupContent) (es : List Event) (rows : Rows) (sent : List ℕ)
     (partner number : ℕ) : Type 0 where
   pub clash : (kept : List ℕ) → text_in rows partner number ≡ Some kept → (kept ≡ interchange_of sent → ⊥) →
-      told_of content es partner number sent ≡ Clash
+      answer_model_of content es partner number sent ≡ Clash
   pub repeat : (reply : List ℕ) → text_in rows partner number ≡ Some (interchange_of sent) →
       reply_in rows partner number ≡ Some reply
-      → told_of content es partner number sent ≡ Repeat (Some reply)
+      → answer_model_of content es partner number sent ≡ Repeat (Some reply)
   pub waits : text_in rows partner number ≡ Some (interchange_of sent) → reply_in rows partner number ≡ None
-      → told_of content es partner number sent ≡ Waiting (run (deliveries_of content es) partner + 1)
+      → answer_model_of content es partner number sent ≡ Waiting (run (deliveries_of content es) partner + 1)
   pub early : text_in rows partner number ≡ None → run (deliveries_of content es) partner + 1 < number
-      → told_of content es partner number sent ≡ Waiting (run (deliveries_of content es) partner + 1)
+      → answer_model_of content es partner number sent ≡ Waiting (run (deliveries_of content es) partner + 1)
   pub next : (first : TakenContent) (later : List TakenContent) (machine : MachineState) → IsGiven content
       → text_in rows partner number ≡ None → number ≡ run (deliveries_of content es) partner + 1
       → AreTakenFrom partner (texts_with rows partner number (interchange_of sent)) number
       (machine_after content es) (first ∷ later) machine
-      → told_of content es partner number sent ≡ Taken (Some first.reply)
+      → answer_model_of content es partner number sent ≡ Taken (Some first.reply)
 
 abbrev pub RowsAnswer : Type 0
 RowsAnswer =

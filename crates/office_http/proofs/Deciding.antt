@@ -9,7 +9,7 @@ use Rattle.httparse.specs.Spans.{IsRequestAt}
 use Rattle.httparse.specs.declared.spans.HeaderSpan.{HeaderSpan}
 use Rattle.httparse.proofs.GrammarLemmas.{ReadsRequest-append, request_unique}
 use Rattle.office_http.specs.Heads.{IsHead, FindsHead, most_head_bytes}
-use Rattle.office_http.specs.Deciding.{wanted_behind, WantsMore, Decides, EndsWhenDecided, HeadsDecide, FullRoomDecides}
+use Rattle.office_http.specs.Deciding.{wanted_bytes_after, WantsMore, Decides, EndsWhenDecided, HeadsDecide, FullRoomDecides}
 use Rattle.office_http.specs.declared.head.FoundHead.{FoundHead}
 
 -- of two fronts of a stream the shorter is a front of the longer
@@ -35,12 +35,12 @@ one_read stream given left before after is wants few bytes rest at decides = eli
 
 -- what decides a request whose head wants something behind it has all of that
 whole_head : (stream bytes rest left : List ℕ) (head : RequestHead) → IsHead stream head left → stream ≡ bytes ++ rest → Decides bytes →
-    0 < wanted_behind head → length (print_request head) + wanted_behind head ≤ length bytes
-whole_head stream bytes rest left head is at decides wants = elim (cases_Bool (nat_le (length (print_request head) + wanted_behind head) (length bytes))) [
-  | inl enough ↦ leb-true (length (print_request head) + wanted_behind head) (length bytes) enough
+    0 < wanted_bytes_after head → length (print_request head) + wanted_bytes_after head ≤ length bytes
+whole_head stream bytes rest left head is at decides wants = elim (cases_Bool (nat_le (length (print_request head) + wanted_bytes_after head) (length bytes))) [
+  | inl enough ↦ leb-true (length (print_request head) + wanted_bytes_after head) (length bytes) enough
   | inr fewer ↦
       let print = print_request head in
-      let few = leb-false (length (print_request head) + wanted_behind head) (length bytes) fewer in
+      let few = leb-false (length (print_request head) + wanted_bytes_after head) (length bytes) fewer in
       let count : ℕ = length bytes - length print in
       let part = take count left in
       let front : List ℕ = print ++ part in
@@ -57,13 +57,13 @@ whole_head stream bytes rest left head is at decides wants = elim (cases_Bool (n
 -- the reads of a head, and those of what is wanted behind it, of which some came with the head
 pub body_read : (stream came left : List ℕ) (head : RequestHead) (before between after filled : ℕ) → IsHead stream head (came ++ left) →
     filled ≡ length (print_request head) + length came → EndsWhenDecided stream before between → between ≤ before + filled →
-    after ≤ between + (wanted_behind head - length came) → EndsWhenDecided stream before after
-body_read stream came left head before between after filled is size in_time few more bytes rest at decides = elim (cases_Bool (nat_le (wanted_behind head) (length came))) [
+    after ≤ between + (wanted_bytes_after head - length came) → EndsWhenDecided stream before after
+body_read stream came left head before between after filled is size in_time few more bytes rest at decides = elim (cases_Bool (nat_le (wanted_bytes_after head) (length came))) [
   | inl enough ↦
-      let all = leb-true (wanted_behind head) (length came) enough in
+      let all = leb-true (wanted_bytes_after head) (length came) enough in
       omega (arith, in_time bytes rest at decides, more)
   | inr fewer ↦
-      let less = leb-false (wanted_behind head) (length came) fewer in
+      let less = leb-false (wanted_bytes_after head) (length came) fewer in
       let whole = whole_head stream bytes rest (came ++ left) head is at decides (omega (arith, less)) in
       omega (arith, whole, more, few, size)
 ]
@@ -89,7 +89,7 @@ pub body_read_known : (known left : Option (List ℕ)) (buffer : List ℕ) (head
     IfSome known (λ stream. FindsHead stream left buffer headers (Some found)) → IfSome known (λ stream. EndsWhenDecided stream before between) →
     found.filled ≤ length buffer → between ≤ before + found.filled →
     ((head : RequestHead) → IsRequestAt (take found.filled buffer) headers found.spans head →
-    after ≤ between + (wanted_behind head - length (drop found.spans.len (take found.filled buffer)))) →
+    after ≤ between + (wanted_bytes_after head - length (drop found.spans.len (take found.filled buffer)))) →
     IfSome known (λ stream. EndsWhenDecided stream before after)
 body_read_known None left buffer headers found before between after finds in_time inside few more = tt
 body_read_known (Some stream) None buffer headers found before between after finds in_time inside few more = absurd finds
@@ -107,7 +107,7 @@ heads_decide bytes head rest is enough more (inl (none, may, room)) =
     none head (rest ++ more) (ReadsRequest-append bytes head rest more is.reads)
 heads_decide bytes head rest is enough more (inr (head', rest', is', few)) =
     let same = request_unique (bytes ++ more) head head' (rest ++ more) rest' (ReadsRequest-append bytes head rest more is.reads) is'.reads in
-    let wanted : wanted_behind head ≡ wanted_behind head' = ap wanted_behind same.0 in
+    let wanted : wanted_bytes_after head ≡ wanted_bytes_after head' = ap wanted_bytes_after same.0 in
     let size : length rest + length more ≡ length rest' = sym (length-append rest more) ∙ ap length same.1 in
     omega (arith, few, enough, wanted, size)
 

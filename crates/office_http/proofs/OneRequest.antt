@@ -5,7 +5,7 @@ use Rattle.httparse.specs.Grammar.{RequestHead}
 use Rattle.httparse.proofs.GrammarLemmas.{request_unique}
 use Rattle.office_pages.specs.declared.notices.Notice.{Notice}
 use Rattle.office_pages.specs.declared.notices.Notice.TheVariants.{NotHere}
-use Rattle.office_queries.specs.Keys.{Asked}
+use Rattle.office_queries.specs.Keys.{QueryContent}
 use Rattle.office_queries.specs.declared.query.ReportKind.{ReportKind}
 use Rattle.office_http.specs.Requests.{IsDelivery, IsOwnDelivery, IsAccount, IsReport, Gets, nothing_in, refused_in, Names, Posts, PostsFrom, PostsOwn, PostsBy, PostsAccount, AsksAt, AsksWith, IsSameRequest, HeadsAreOne, RequestsAreOne}
 use Rattle.office_http.specs.Senders.{sender_at}
@@ -72,7 +72,7 @@ same_account account (Report view kind query) request' is is' = absurd is
 same_account account (Noticed notice) request' is is' = absurd is
 same_account account (Refused refusal) request' is is' = absurd is
 
-same_report : (view : View) (kind : ReportKind) (what : Asked) (request request' : Request) → IsReport view kind what request → IsReport view kind what request' →
+same_report : (view : View) (kind : ReportKind) (what : QueryContent) (request request' : Request) → IsReport view kind what request → IsReport view kind what request' →
     IsSameRequest request request'
 same_report view kind what (Delivery body) request' is is' = absurd is
 same_report view kind what (OwnDelivery own) request' is is' = absurd is
@@ -99,7 +99,7 @@ same_refused : (view : View) (refusal : Refusal) (request request' : Request) �
 same_refused view NotFound request request' is is' = same_nothing view NotHere request request' is is'
 same_refused view other request request' is is' = same_refusal other request request' is is'
 
-same_get : (view : View) (kind : ReportKind) (what : Result Asked Notice) (request request' : Request) → Gets view kind what request → Gets view kind what request' →
+same_get : (view : View) (kind : ReportKind) (what : Result QueryContent Notice) (request request' : Request) → Gets view kind what request → Gets view kind what request' →
     IsSameRequest request request'
 same_get view kind (Ok what) request request' is is' = same_report view kind what request request' is is'
 same_get view kind (Err notice) request request' is is' = same_nothing view notice request request' is is'

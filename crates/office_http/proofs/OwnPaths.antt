@@ -22,7 +22,7 @@ use Rattle.office_http.specs.OwnPaths.{Brings, OwnPathsAreOwn}
 use Rattle.office_http.specs.Requests.{IsDelivery, IsOwnDelivery, PostsFrom, PostsOwn, PostsBy, AsksAt, AsksWith}
 use Rattle.office_http.specs.Targets.{path_of}
 use Rattle.office_http.specs.Routes.{endpoint_of, partner_key_in}
-use Rattle.office_http.specs.Senders.{named_by, sender_by, sender_at}
+use Rattle.office_http.specs.Senders.{sender_and_number_by, sender_by, sender_at}
 use Rattle.office_http.specs.declared.routes.Endpoint.{Endpoint}
 use Rattle.office_http.specs.declared.routes.Endpoint.TheVariants.{PartnerInterchanges}
 use Rattle.office_http.specs.declared.response.Refusal.{Refusal}
@@ -87,13 +87,13 @@ module _ (code text : List ℕ) (request : Request) (brings : Brings text reques
       partner_from 1 code parties.partners ≡ Some partner
   by_sender body (Some fault) own bad named from =
       let header = header_of (segments_in (interchange_of body)) in
-      let nobody : sender_at code (interchange_of body) ≡ Nobody = ap (λ (f : Option SyntaxFault). sender_by code (named_by f header)) bad in
+      let nobody : sender_at code (interchange_of body) ≡ Nobody = ap (λ (f : Option SyntaxFault). sender_by code (sender_and_number_by f header)) bad in
       let same : body ≡ text = brings_body body text request (subst (λ (s : Sender). PostsFrom s code body request) nobody from) brings in
       absurd (never_admitted parties (interchange_of text) fault partner number (ap (λ (t : List ℕ). head_fault_of (interchange_of t)) (sym same) ∙ bad) admitted)
   by_sender body None true sound named from =
       let header = header_of (segments_in (interchange_of body)) in
       let own : sender_at code (interchange_of body) ≡ Own (number_in header) =
-      ap (λ (f : Option SyntaxFault). sender_by code (named_by f header)) sound ∙ ap (λ (b : Bool). cond b (Own (number_in header)) Another) named in
+      ap (λ (f : Option SyntaxFault). sender_by code (sender_and_number_by f header)) sound ∙ ap (λ (b : Bool). cond b (Own (number_in header)) Another) named in
       let same : body ≡ text = brings_own code body text (number_in header) request (subst (λ (s : Sender). PostsFrom s code body request) own from) brings in
       let is : sender header 1 ≡ code = (bytes_eq-Decides (sender header 1) code).0 named in
       ap (λ (c : List ℕ). partner_from 1 c parties.partners) (sym is)
@@ -102,7 +102,7 @@ module _ (code text : List ℕ) (request : Request) (brings : Brings text reques
   by_sender body None false sound named from =
       let header = header_of (segments_in (interchange_of body)) in
       let another : sender_at code (interchange_of body) ≡ Another =
-      ap (λ (f : Option SyntaxFault). sender_by code (named_by f header)) sound ∙ ap (λ (b : Bool). cond b (Own (number_in header)) Another) named in
+      ap (λ (f : Option SyntaxFault). sender_by code (sender_and_number_by f header)) sound ∙ ap (λ (b : Bool). cond b (Own (number_in header)) Another) named in
       absurd (brings_nothing text request _ brings (subst (λ (s : Sender). PostsFrom s code body request) another from))
 
   by_post : (said : Result ℕ Refusal) (rest : List ℕ) → PostsOwn code said rest request → partner_from 1 code parties.partners ≡ Some partner

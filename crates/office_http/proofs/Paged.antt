@@ -5,7 +5,7 @@ use Rattle.httparse.specs.Grammar.{RequestHead}
 use Rattle.office_pages.specs.declared.notices.Notice.{Notice}
 use Rattle.office_pages.specs.declared.notices.Notice.TheVariants.{NotHere}
 use Rattle.office_pages.specs.Pages.{has_page}
-use Rattle.office_queries.specs.Keys.{Asked, yard, yard_table, partners, blocks, calls, picture, health, metrics, visits, container, list, work, ticket, reply, contrl, one_partner, next_number, query_asked, query_of, container_of, list_of, interchange_of, partner_of}
+use Rattle.office_queries.specs.Keys.{QueryContent, yard, yard_table, partners, blocks, calls, picture, health, metrics, visits, container, list, work, ticket, reply, contrl, one_partner, next_number, query_content, query_of, container_of, list_of, interchange_of, partner_of}
 use Rattle.office_queries.specs.declared.query.Query.{Query}
 use Rattle.office_queries.specs.declared.query.Query.TheVariants as query
 use Rattle.office_queries.specs.declared.query.ReportKind.{ReportKind}
@@ -23,7 +23,7 @@ use Rattle.office_http.specs.declared.requests.Request.{Request}
 use Rattle.office_http.specs.declared.requests.Request.TheVariants.{Delivery, OwnDelivery, Account, Report, Noticed, Refused}
 use Rattle.office_http.proofs.OneRequest.{heads_are_one}
 
-abbrev asked_paged : Asked → Bool
+abbrev asked_paged : QueryContent → Bool
 asked_paged yard_table = false
 asked_paged picture = false
 asked_paged health = false
@@ -31,7 +31,7 @@ asked_paged metrics = false
 asked_paged (next_number code) = false
 asked_paged other = true
 
-by_query : (of : Query) → has_page of ≡ asked_paged (query_asked of)
+by_query : (of : Query) → has_page of ≡ asked_paged (query_content of)
 by_query query.Yard = refl
 by_query query.YardTable = refl
 by_query (query.Visits number) = refl
@@ -51,16 +51,16 @@ by_query query.Health = refl
 by_query query.Metrics = refl
 
 -- of the empty key
-by_empty : (b : Bool) (asked what : Asked) → cond b (Some asked) None ≡ Some what → asked_paged what ≡ asked_paged asked
+by_empty : (b : Bool) (asked what : QueryContent) → cond b (Some asked) None ≡ Some what → asked_paged what ≡ asked_paged asked
 by_empty true asked what is = let same : asked ≡ what = cc in ap asked_paged (sym same)
 by_empty false asked what is = cc
 
 -- of one that names something
-by_name : {A : Type 0} (o : Option A) (f : A → Asked) (what : Asked) (paged : Bool) → ((a : A) → asked_paged (f a) ≡ paged) → option_map f o ≡ Some what → asked_paged what ≡ paged
+by_name : {A : Type 0} (o : Option A) (f : A → QueryContent) (what : QueryContent) (paged : Bool) → ((a : A) → asked_paged (f a) ≡ paged) → option_map f o ≡ Some what → asked_paged what ≡ paged
 by_name None f what paged each is = cc
 by_name (Some a) f what paged each is = let same : f a ≡ what = cc in ap asked_paged (sym same) ∙ each a
 
-by_kind : (of : ReportKind) (key : List ℕ) (what : Asked) → query_of of key ≡ Some what → asked_paged what ≡ is_paged of
+by_kind : (of : ReportKind) (key : List ℕ) (what : QueryContent) → query_of of key ≡ Some what → asked_paged what ≡ is_paged of
 by_kind kind.Yard key what is = by_empty (length key == 0) yard what is
 by_kind kind.YardTable key what is = by_empty (length key == 0) yard_table what is
 by_kind kind.Visits key what is = by_name (container_of key) visits what true (λ n. refl) is
@@ -79,7 +79,7 @@ by_kind kind.Health key what is = by_empty (length key == 0) health what is
 by_kind kind.Metrics key what is = by_empty (length key == 0) metrics what is
 
 pub pages_are_one : PagesAreOne
-pages_are_one of key asked is = by_query asked ∙ by_kind of key (query_asked asked) is
+pages_are_one of key asked is = by_query asked ∙ by_kind of key (query_content asked) is
 
 -- ---- pages only look
 
@@ -128,7 +128,7 @@ refusal_looks : (of : View) (refusal : Refusal) (request : Request) → request 
 refusal_looks of NotFound request is = nothing_looks of NotHere request is
 refusal_looks of other request is = refused_looks request other is
 
-report_asks : (of : View) (about : ReportKind) (what : Asked) (request : Request) → IsReport of about what request → OnlyLooks request
+report_asks : (of : View) (about : ReportKind) (what : QueryContent) (request : Request) → IsReport of about what request → OnlyLooks request
 report_asks of about what (Report way kind asked) is = tt
 report_asks of about what (Noticed notice) is = tt
 report_asks of about what (Refused refusal) is = tt
@@ -136,7 +136,7 @@ report_asks of about what (Delivery body) is = absurd is
 report_asks of about what (OwnDelivery own) is = absurd is
 report_asks of about what (Account key) is = absurd is
 
-get_looks : (of : View) (about : ReportKind) (what : Result Asked Notice) (request : Request) → Gets of about what request → OnlyLooks request
+get_looks : (of : View) (about : ReportKind) (what : Result QueryContent Notice) (request : Request) → Gets of about what request → OnlyLooks request
 get_looks of about (Ok what) request gets = report_asks of about what request gets
 get_looks of about (Err notice) request gets = nothing_looks of notice request gets
 

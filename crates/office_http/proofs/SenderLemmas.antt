@@ -10,7 +10,7 @@ use Rattle.edi_syntax.specs.Faults.{head_fault_of}
 use Rattle.edi_syntax.specs.Header.{sender, control_number}
 use Rattle.office_admission.specs.Admission.{number_in}
 use Rattle.office_http.specs.Requests.{IsDelivery, Posts, PostsFrom, PostsOwn, PostsBy}
-use Rattle.office_http.specs.Senders.{named_by, sender_by, sender_at}
+use Rattle.office_http.specs.Senders.{sender_and_number_by, sender_by, sender_at}
 use Rattle.office_http.specs.declared.response.Refusal.{Refusal}
 use Rattle.office_http.specs.declared.response.Refusal.TheVariants.{NotNow}
 use Rattle.office_http.specs.declared.requests.Request.{Request}
@@ -25,7 +25,7 @@ names_own code text segments number sound same equal numbered =
     let header = header_of (segments_in text) in
     let named : bytes_eq (sender header 1) code ≡ true = ap (λ (s : List Content). bytes_eq (sender (header_of s) 1) code) (sym same) ∙ equal in
     let own : control_number header ≡ Some number = ap (λ (s : List Content). control_number (header_of s)) (sym same) ∙ numbered in
-    sym (ap (λ (f : Option SyntaxFault). sender_by code (named_by f header)) sound ∙ ap (λ (b : Bool). cond b (Own (number_in header)) Another) named
+    sym (ap (λ (f : Option SyntaxFault). sender_by code (sender_and_number_by f header)) sound ∙ ap (λ (b : Bool). cond b (Own (number_in header)) Another) named
     ∙ ap (λ (n : Option ℕ). Own (unwrap_or n 0)) own)
 
 pub names_another : (code text : List ℕ) (segments : List Content) → head_fault_of text ≡ None → segments ≡ segments_in text →
@@ -33,10 +33,10 @@ pub names_another : (code text : List ℕ) (segments : List Content) → head_fa
 names_another code text segments sound same other =
     let header = header_of (segments_in text) in
     let named : bytes_eq (sender header 1) code ≡ false = ap (λ (s : List Content). bytes_eq (sender (header_of s) 1) code) (sym same) ∙ other in
-    sym (ap (λ (f : Option SyntaxFault). sender_by code (named_by f header)) sound ∙ ap (λ (b : Bool). cond b (Own (number_in header)) Another) named)
+    sym (ap (λ (f : Option SyntaxFault). sender_by code (sender_and_number_by f header)) sound ∙ ap (λ (b : Bool). cond b (Own (number_in header)) Another) named)
 
 pub names_nobody : (code text : List ℕ) (fault : SyntaxFault) → head_fault_of text ≡ Some fault → Nobody ≡ sender_at code text
-names_nobody code text fault is = sym (ap (λ (f : Option SyntaxFault). sender_by code (named_by f (header_of (segments_in text)))) is)
+names_nobody code text fault is = sym (ap (λ (f : Option SyntaxFault). sender_by code (sender_and_number_by f (header_of (segments_in text)))) is)
 
 -- ---- what it comes to
 

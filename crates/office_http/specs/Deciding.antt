@@ -16,15 +16,15 @@ body_size (Ok size) = size
 
 -- how many bytes are wanted behind a head, by where it goes to: the body of a delivery, or of an
 -- account
-abbrev pub wanted_at : Result Endpoint Refusal → RequestHead → ℕ
-wanted_at (Err refusal) head = 0
-wanted_at (Ok endpoint.Interchanges) head = body_size (body_length (map name_and_value head.fields))
-wanted_at (Ok endpoint.PartnerInterchanges) head = body_size (body_length (map name_and_value head.fields))
-wanted_at (Ok endpoint.Accounts) head = body_size (body_length (map name_and_value head.fields))
-wanted_at (Ok (endpoint.Report kind)) head = 0
+abbrev pub wanted_bytes_at : Result Endpoint Refusal → RequestHead → ℕ
+wanted_bytes_at (Err refusal) head = 0
+wanted_bytes_at (Ok endpoint.Interchanges) head = body_size (body_length (map name_and_value head.fields))
+wanted_bytes_at (Ok endpoint.PartnerInterchanges) head = body_size (body_length (map name_and_value head.fields))
+wanted_bytes_at (Ok endpoint.Accounts) head = body_size (body_length (map name_and_value head.fields))
+wanted_bytes_at (Ok (endpoint.Report kind)) head = 0
 
-unfoldable pub wanted_behind : RequestHead → ℕ
-wanted_behind head = wanted_at (endpoint_of head.method head.target) head
+unfoldable pub wanted_bytes_after : RequestHead → ℕ
+wanted_bytes_after head = wanted_bytes_at (endpoint_of head.method head.target) head
 
 -- they aren't a head yet, and may become one within the limit of bytes
 abbrev pub WantsHead : List ℕ → Type 0
@@ -33,7 +33,7 @@ WantsHead bytes = HasNoRequest bytes × MayBecomeRequest bytes × (length bytes 
 -- they have a head, and behind it fewer bytes than are wanted
 abbrev pub WantsBody : List ℕ → Type 0
 WantsBody bytes =
-    (head : RequestHead) × (rest : List ℕ) × IsHead bytes head rest × (length rest < wanted_behind head)
+    (head : RequestHead) × (rest : List ℕ) × IsHead bytes head rest × (length rest < wanted_bytes_after head)
 
 -- more has to be read behind them
 abbrev pub WantsMore : List ℕ → Type 0
@@ -55,7 +55,7 @@ EndsWhenDecided stream before after =
 abbrev pub HeadsDecide : Type 0
 HeadsDecide =
     (bytes : List ℕ) (head : RequestHead) (rest : List ℕ) → IsHead bytes head rest
-    → wanted_behind head ≤ length rest → Decides bytes
+    → wanted_bytes_after head ≤ length rest → Decides bytes
 
 -- So do as many bytes as a head may have, if none is at their front.
 abbrev pub FullRoomDecides : Type 0

@@ -10,7 +10,7 @@ use Rattle.office_pages.specs.Pages.{has_page}
 use Rattle.office_pages.specs.Typed.{typed}
 use Rattle.office_pages.specs.declared.notices.Notice.{Notice}
 use Rattle.office_pages.specs.declared.notices.Notice.TheVariants.{NotHere}
-use Rattle.office_queries.specs.Keys.{Asked, container, next_number, query_asked, query_of}
+use Rattle.office_queries.specs.Keys.{QueryContent, container, next_number, query_content, query_of}
 use Rattle.office_queries.specs.declared.query.ReportKind.{ReportKind}
 use Rattle.office_http.specs.Heads.{IsHead, HasNoHead}
 use Rattle.office_queries.specs.declared.query.Query.{Query}
@@ -39,7 +39,7 @@ IsDelivery text other = ⊥
 -- it asks that the text is delivered, by the partner of that code and under that number
 abbrev pub IsOwnDelivery : (code : List ℕ) → (number : ℕ) → (text : List ℕ) → Request → Type 0
 IsOwnDelivery code number text (OwnDelivery own) =
-    (query_asked own.next ≡ next_number code) × (own.number ≡ number) × (own.text.items ≡ text)
+    (query_content own.next ≡ next_number code) × (own.number ≡ number) × (own.text.items ≡ text)
 IsOwnDelivery code number text other = ⊥
 
 -- it asks that the account of that code and kind is added
@@ -48,8 +48,8 @@ IsAccount account (Account key) = account_named key ≡ account
 IsAccount account other = ⊥
 
 -- it asks for that report, shown so
-abbrev pub IsReport : View → ReportKind → Asked → Request → Type 0
-IsReport view kind what (Report way of query) = (way ≡ view) × (of ≡ kind) × (query_asked query ≡ what)
+abbrev pub IsReport : View → ReportKind → QueryContent → Request → Type 0
+IsReport view kind what (Report way of query) = (way ≡ view) × (of ≡ kind) × (query_content query ≡ what)
 IsReport view kind what other = ⊥
 
 -- where there is nothing a text is refused, and a page tells why
@@ -65,17 +65,17 @@ refused_in view other = Refused other
 -- ---- what is asked for at an endpoint
 
 -- the container whose number was typed
-abbrev pub sought : Result BoxNumber Notice → Result Asked Notice
+abbrev pub sought : Result BoxNumber Notice → Result QueryContent Notice
 sought (Ok number) = Ok (container number)
 sought (Err notice) = Err notice
 
 -- what a target asks for of a report: the container whose number was typed, or what the key in its path says
-abbrev pub asked_in : View → ReportKind → List ℕ → Result Asked Notice
+abbrev pub asked_in : View → ReportKind → List ℕ → Result QueryContent Notice
 asked_in view.Find kind target = sought (typed (typed_in target))
 asked_in other kind target = ok_or (option_and_then (query_of kind) (key_in kind (path_of target))) NotHere
 
 -- a report of what is asked for, or there is nothing
-abbrev pub Gets : View → ReportKind → Result Asked Notice → Request → Type 0
+abbrev pub Gets : View → ReportKind → Result QueryContent Notice → Request → Type 0
 Gets view kind (Ok what) request = IsReport view kind what request
 Gets view kind (Err notice) request = request ≡ nothing_in view notice
 
@@ -146,10 +146,10 @@ Asks stream request =
 abbrev pub IsSameRequest : Request → Request → Type 0
 IsSameRequest (Delivery body) (Delivery other) = body.items ≡ other.items
 IsSameRequest (OwnDelivery own) (OwnDelivery other) =
-    (query_asked own.next ≡ query_asked other.next) × (own.number ≡ other.number) × (own.text.items ≡ other.text.items)
+    (query_content own.next ≡ query_content other.next) × (own.number ≡ other.number) × (own.text.items ≡ other.text.items)
 IsSameRequest (Account key) (Account other) = account_named key ≡ account_named other
 IsSameRequest (Report view kind query) (Report way of other) =
-    (view ≡ way) × (kind ≡ of) × (query_asked query ≡ query_asked other)
+    (view ≡ way) × (kind ≡ of) × (query_content query ≡ query_content other)
 IsSameRequest (Noticed notice) (Noticed other) = notice ≡ other
 IsSameRequest (Refused refusal) (Refused other) = refusal ≡ other
 IsSameRequest one other = ⊥
@@ -171,7 +171,7 @@ RequestsAreOne =
 -- Whether a report has a page is the same by its kind, before its key is read, and by the query that its key asks for.
 abbrev pub PagesAreOne : Type 0
 PagesAreOne =
-    (kind : ReportKind) (key : List ℕ) (query : Query) → query_of kind key ≡ Some (query_asked query)
+    (kind : ReportKind) (key : List ℕ) (query : Query) → query_of kind key ≡ Some (query_content query)
     → has_page query ≡ is_paged kind
 
 -- ---- pages only look

@@ -3,7 +3,7 @@ ghost use Rattle.std.specs.Prelude.{◌≡◌, ◌⊎◌, ◌≤◌, ◌+◌, �
 ghost use Rattle.edi_segments.specs.Interchange.{most_bytes};
 ghost use Rattle.httparse.specs.Grammar.{RequestHead};
 ghost use Rattle.httparse.specs.Spans.{header_bytes, IsRequestAt, IsRequestWithin, IsSectionWithin};
-ghost use Rattle.office_http.specs.Deciding.{body_size, EndsWhenDecided, wanted_behind};
+ghost use Rattle.office_http.specs.Deciding.{body_size, EndsWhenDecided, wanted_bytes_after};
 ghost use Rattle.office_http.specs.Fields.{body_length};
 ghost use Rattle.office_http.specs.Heads.{most_request_reads};
 ghost use Rattle.office_http.specs.Ports.{ReadsUpTo};
@@ -80,7 +80,7 @@ fn read_asked<R: Read>(
     ensures reads { ReadsUpTo most_bytes reader.old reader.new result }
     ensures decided { (head : RequestHead) → IsRequestAt (take found.filled buffer.now) headers.now found.spans head
         → reader.new.reads
-        ≤ reader.old.reads + (wanted_behind head - length (drop found.spans.len (take found.filled buffer.now))) }
+        ≤ reader.old.reads + (wanted_bytes_after head - length (drop found.spans.len (take found.filled buffer.now))) }
 {
     let read = &buffer[..found.filled];
     let Ok(target) = str::from_utf8(found.spans.path.of(read)) else {

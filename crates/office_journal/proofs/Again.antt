@@ -19,8 +19,8 @@ use Rattle.office_admission.specs.Deliveries.{deliveries_of}
 use Rattle.office_admission.proofs.Adding.{content_on, deliveries_on}
 use Rattle.office_taking.specs.Taking.{MachineState, interchange_taken_by}
 use Rattle.office_rows.specs.Rows.{Rows}
-use Rattle.office_history.specs.After.{opening_of, behind, migration_in, taking_by, taking_in, accounts_from, AreRowsOf, AreAfter}
-use Rattle.office_history.specs.Laws.{told_of}
+use Rattle.office_history.specs.After.{opening_of, with_earlier_event, migration_in, taking_by, taking_in, accounts_from, AreRowsOf, AreAfter}
+use Rattle.office_history.specs.Laws.{answer_model_of}
 use Rattle.office_history.proofs.Places.{taking_unmigrated}
 use Rattle.office_history.proofs.Telling.{delivered_within}
 use Rattle.office_journal.specs.Kept.{kept_after, kept}
@@ -36,7 +36,7 @@ same_kept one other es fs same =
 
 -- ---- no migration
 
-none_behind : (event : Event) (o : Option (Version × List Event)) → behind event o ≡ None → o ≡ None
+none_behind : (event : Event) (o : Option (Version × List Event)) → with_earlier_event event o ≡ None → o ≡ None
 none_behind event None e = refl
 none_behind event (Some migration) e = cc
 
@@ -48,7 +48,7 @@ later_none (added code kind ∷ es) later none = later_none es later (none_behin
 
 again_none : (texts : List (List ℕ)) (later : List Event) → migration_in later ≡ None → migration_in (delivered_all texts ++ later) ≡ None
 again_none [] later none = none
-again_none (text ∷ texts) later none = ap (behind (delivered text)) (again_none texts later none)
+again_none (text ∷ texts) later none = ap (with_earlier_event (delivered text)) (again_none texts later none)
 
 -- ---- the rows
 
@@ -124,7 +124,7 @@ each_is_new content es before later d all =
     let free : first_text before d.partner d.number ≡ None =
     none_of (first_text before d.partner d.number) (new_among before later d (ap kept (sym all) ∙ kept_twice (deliveries_of content es) ∙ all)) in
     let within = delivered_within content es d.partner d.number d.text this.first in
-    let same : told_of now fs d.partner d.number d.text ≡ answer_of (taking_in newest now fs) (opening_of (content_after now fs)) before d =
+    let same : answer_model_of now fs d.partner d.number d.text ≡ answer_of (taking_in newest now fs) (opening_of (content_after now fs)) before d =
     λ i. answer_of (taking_in newest now fs) (opening_of (content_after now fs)) (delivered_before i) (delivery d.partner d.number (this.stripped i)) in
     elim (answered (taking_in newest now fs) (opening_of (content_after now fs)) before d within.2 free) [
       | inl taken ↦ inl (taken.0, same ∙ taken.1)
@@ -137,23 +137,23 @@ accounts_none : (es : List Event) → migration_in (accounts_in es) ≡ None
 accounts_none [] = refl
 accounts_none (delivered text ∷ es) = accounts_none es
 accounts_none (migrated version ∷ es) = accounts_none es
-accounts_none (added code kind ∷ es) = ap (behind (added code kind)) (accounts_none es)
+accounts_none (added code kind ∷ es) = ap (with_earlier_event (added code kind)) (accounts_none es)
 
 none_joined : (es later : List Event) → migration_in es ≡ None → migration_in later ≡ None → migration_in (es ++ later) ≡ None
 none_joined [] later none none' = none'
 none_joined (delivered text ∷ es) later none none' =
-    ap (behind (delivered text)) (none_joined es later (none_behind (delivered text) (migration_in es) none) none')
+    ap (with_earlier_event (delivered text)) (none_joined es later (none_behind (delivered text) (migration_in es) none) none')
 none_joined (migrated version ∷ es) later none none' = cc
 none_joined (added code kind ∷ es) later none none' =
-    ap (behind (added code kind)) (none_joined es later (none_behind (added code kind) (migration_in es) none) none')
+    ap (with_earlier_event (added code kind)) (none_joined es later (none_behind (added code kind) (migration_in es) none) none')
 
 earlier_none : (es later : List Event) → migration_in (es ++ later) ≡ None → migration_in es ≡ None
 earlier_none [] later none = refl
 earlier_none (delivered text ∷ es) later none =
-    ap (behind (delivered text)) (earlier_none es later (none_behind (delivered text) (migration_in (es ++ later)) none))
+    ap (with_earlier_event (delivered text)) (earlier_none es later (none_behind (delivered text) (migration_in (es ++ later)) none))
 earlier_none (migrated version ∷ es) later none = cc
 earlier_none (added code kind ∷ es) later none =
-    ap (behind (added code kind)) (earlier_none es later (none_behind (added code kind) (migration_in (es ++ later)) none))
+    ap (with_earlier_event (added code kind)) (earlier_none es later (none_behind (added code kind) (migration_in (es ++ later)) none))
 
 -- Accounts keep the journal, so an office with those of now has the journal of the earlier events.
 module _ (content : SetupContent) (earlier later : List Event) where
@@ -199,9 +199,9 @@ following content es count none high =
 -- what comes after the first migration, or where there is none, leaves the rules as they are
 first_stays : (earlier later : List Event) → migration_in later ≡ None → migration_in (earlier ++ later) ≡ migration_in earlier
 first_stays [] later none = none
-first_stays (delivered text ∷ earlier) later none = ap (behind (delivered text)) (first_stays earlier later none)
+first_stays (delivered text ∷ earlier) later none = ap (with_earlier_event (delivered text)) (first_stays earlier later none)
 first_stays (migrated version ∷ earlier) later none = refl
-first_stays (added code kind ∷ earlier) later none = ap (behind (added code kind)) (first_stays earlier later none)
+first_stays (added code kind ∷ earlier) later none = ap (with_earlier_event (added code kind)) (first_stays earlier later none)
 
 rules_stay : (content : SetupContent) (earlier later : List Event) → migration_in later ≡ None → taking_in newest content (earlier ++ later) ≡ taking_in newest content earlier
 unfolding taking_in

@@ -8,7 +8,7 @@ use Rattle.std.proofs.lemmas.List.{append-nil, length-append}
 use Rattle.std.proofs.lemmas.List.Elements.{All-from_recursion}
 use Rattle.partner_core.specs.Machine.{Taking}
 use Rattle.partner_core.specs.Deliveries.{Delivery, first_text, is_under, is_used, run}
-use Rattle.partner_core.specs.Order.{numbers_between, made_next, order, text_under, state_after, reply_among, state, reply_of}
+use Rattle.partner_core.specs.Order.{numbers_between, numbers_made_next, order, text_under, state_after, reply_among, state, reply_of}
 use Rattle.partner_core.specs.Answers.{answer_of, is_other, Taken, Repeat, Waiting, Clash}
 use Rattle.partner_core.specs.Growth.{ComesToSame}
 use Rattle.partner_core.proofs.Unbroken.{used_within_run, free_after_run, beyond_run, run_is}
@@ -43,8 +43,8 @@ run-more ds es a d q =
     (λ k l m. ap is_some (firsts-more ds es a d q k) ∙ used_within_run (es ++ d ∷ []) q k l m)
     (firsts-more ds es a d q (run (es ++ d ∷ []) q + 1) ∙ free_after_run (es ++ d ∷ []) q)
 
-made_next-alike : (ds es : List Delivery) → Alike ds es → (d : Delivery) → made_next ds d ≡ made_next es d
-unfolding made_next
+made_next-alike : (ds es : List Delivery) → Alike ds es → (d : Delivery) → numbers_made_next ds d ≡ numbers_made_next es d
+unfolding numbers_made_next
 made_next-alike ds es a d = λ i. numbers_between d.partner (run-alike ds es a d.partner i) (run-more ds es a d d.partner i)
 
 pub alike-more : (ds es : List Delivery) → Alike ds es → (d : Delivery) → Alike (ds ++ d ∷ []) (es ++ d ∷ [])

@@ -11,11 +11,11 @@ use Rattle.office_admission.specs.Deliveries.{deliveries_of}
 use Rattle.office_admission.proofs.Adding.{account_adds, migration_adds}
 use Rattle.sqlite.specs.declared.types.Value.TheVariants.{Blob}
 use Rattle.sqlite.specs.Order.{Row, column}
-use Rattle.office_rows.specs.Tables.{interchange}
+use Rattle.office_rows.specs.Tables.{interchange_table}
 use Rattle.office_rows.specs.Values.{interchange_values}
 use Rattle.office_rows.specs.Stored.{columns_of}
 use Rattle.office_rows.specs.Rows.{Interchange, Rows}
-use Rattle.office_rows.specs.Effects.{is_pair, with_kept, with_change}
+use Rattle.office_rows.specs.Effects.{is_pair, with_waiting, with_change}
 use Rattle.office_history.specs.Cascade.{text_in, TakenContent, with_changes, with_interchange, with_interchanges}
 use Rattle.office_history.specs.Laws.{IsFor}
 use Rattle.office_history.proofs.Lawful.{opening_after, refused_adds, used_adds, early_adds, next_adds}
@@ -40,7 +40,7 @@ shown_bodies : (interchanges : List Interchange) → map (λ c. column c 2) (map
 shown_bodies [] = refl
 shown_bodies (i ∷ interchanges) = ap (λ bodies. Blob i.body ∷ bodies) (shown_bodies interchanges)
 
-stored_bodies : (stored : List Row) → map (λ c. column c 2) (map (columns_of interchange) stored) ≡ map (λ r. column r 3) stored
+stored_bodies : (stored : List Row) → map (λ c. column c 2) (map (columns_of interchange_table) stored) ≡ map (λ r. column r 3) stored
 stored_bodies [] = refl
 stored_bodies (r ∷ stored) = ap (λ bodies. column r 3 ∷ bodies) (stored_bodies stored)
 
@@ -119,7 +119,7 @@ used_stays_in_order content es rows sent partner number first are for there = re
 
 kept_shown : (content : SetupContent) (es : List Event) (rows : Rows) (sent : List ℕ) (partner number : ℕ) → AreAfterInOrder content es rows → IsFor content es sent partner number
     → text_in rows partner number ≡ None
-    → AreInOrder content (es ++ delivered sent ∷ []) (with_kept partner number (interchange_of sent) rows)
+    → AreInOrder content (es ++ delivered sent ∷ []) (with_waiting partner number (interchange_of sent) rows)
 kept_shown content es rows sent partner number are for free =
     map-append as_delivery rows.interchanges (record { partner = partner; number = number; body = interchange_of sent; reply = [] } ∷ [])
     ∙ ap (λ ds. ds ++ delivery partner number (interchange_of sent) ∷ []) are.in_order
@@ -135,7 +135,7 @@ pub next_adds_in_order : NextAddsInOrder
 next_adds_in_order content es rows sent partner number taken machine given are for free next from = record {
   after = (next_adds content es rows sent partner number taken machine given are.after for free next from).rows_are;
   in_order =
-      taken_shown partner taken (with_kept partner number (interchange_of sent) rows)
+      taken_shown partner taken (with_waiting partner number (interchange_of sent) rows)
       ∙ kept_shown content es rows sent partner number are for free;
 }
 

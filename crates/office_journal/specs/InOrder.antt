@@ -15,10 +15,10 @@ use Rattle.office_admission.specs.Deliveries.{deliveries_of}
 use Rattle.office_taking.specs.Taking.{MachineState}
 use Rattle.sqlite.specs.declared.types.Value.TheVariants.{Blob}
 use Rattle.sqlite.specs.Order.{Row, column}
-use Rattle.office_rows.specs.Tables.{interchange}
+use Rattle.office_rows.specs.Tables.{interchange_table}
 use Rattle.office_rows.specs.Values.{interchange_values}
 use Rattle.office_rows.specs.Rows.{Interchange, Rows}
-use Rattle.office_rows.specs.Effects.{with_kept, with_partner}
+use Rattle.office_rows.specs.Effects.{with_waiting, with_partner}
 use Rattle.office_rows.specs.Opening.{opening_rows}
 use Rattle.office_rows.specs.Migrated.{migrated_rows}
 use Rattle.office_history.specs.Cascade.{text_in, TakenContent, texts_with, with_run, AreTakenFrom}
@@ -55,7 +55,7 @@ BodiesAreJournal =
 abbrev pub StoredIsJournal : Type 0
 StoredIsJournal =
     (content : SetupContent) (es : List Event) (rows : Rows) (stored : List Row) → AreAfterInOrder content es rows
-    → AreInPlace interchange interchange_values rows.interchanges stored
+    → AreInPlace interchange_table interchange_values rows.interchanges stored
     → ArePlaced 1 stored × (map (λ r. column r 3) stored ≡ map Blob (kept_texts content es))
 
 -- the rows that opening a store writes
@@ -84,7 +84,7 @@ EarlyAddsInOrder =
     (content : SetupContent) (es : List Event) (rows : Rows) (sent : List ℕ) (partner number : ℕ) →
     AreAfterInOrder content es rows → IsFor content es sent partner number
     → text_in rows partner number ≡ None → run (deliveries_of content es) partner + 1 < number
-    → AreAfterInOrder content (es ++ delivered sent ∷ []) (with_kept partner number (interchange_of sent) rows)
+    → AreAfterInOrder content (es ++ delivered sent ∷ []) (with_waiting partner number (interchange_of sent) rows)
 
 -- so is the text that is next; that it and others are taken moves no interchange
 abbrev pub NextAddsInOrder : Type 0

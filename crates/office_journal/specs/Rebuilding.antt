@@ -1,6 +1,6 @@
 -- An office that is made again, or followed, by its journal.
 use Rattle.std.specs.Prelude.{◌≡◌, ◌⊎◌, ℕ, ◌+◌, ◌≤◌, Option, map, List, ◌∷◌, ◌++◌, length, take}
-use Rattle.partner_core.specs.Answers.{Told, Taken, Waiting}
+use Rattle.partner_core.specs.Answers.{AnswerModel, Taken, Waiting}
 use Rattle.partner_core.specs.Deliveries.{Delivery, run}
 use Rattle.office_replies.specs.Events.{Event}
 use Rattle.office_setup.specs.Setups.{SetupContent}
@@ -8,7 +8,7 @@ use Rattle.office_admission.specs.Accounts.{content_after}
 use Rattle.office_admission.specs.Deliveries.{deliveries_of}
 use Rattle.office_rows.specs.Rows.{Rows}
 use Rattle.office_history.specs.After.{machine_after, AreAfter}
-use Rattle.office_history.specs.Laws.{HasNoMigration, told_of}
+use Rattle.office_history.specs.Laws.{HasNoMigration, answer_model_of}
 use Rattle.office_journal.specs.Kept.{kept}
 use Rattle.office_journal.specs.Journal.{text_of, kept_texts, texts_since, delivered_all, accounts_in}
 
@@ -18,7 +18,7 @@ pub record IsSameOffice (one : SetupContent) (es : List Event) (other : SetupCon
   pub back : (rows : Rows) → AreAfter other fs rows → AreAfter one es rows
   pub machine : machine_after one es ≡ machine_after other fs
   pub answers : (partner number : ℕ) (sent : List ℕ) →
-      told_of one es partner number sent ≡ told_of other fs partner number sent
+      answer_model_of one es partner number sent ≡ answer_model_of other fs partner number sent
 
 -- two offices with the same set-up and accounts so far, and the same journal
 pub record HasSameJournal (one : SetupContent) (es : List Event) (other : SetupContent) (fs : List Event) : Type 0 where
@@ -41,9 +41,9 @@ Rebuilding =
 
 -- how the text of a delivery is answered by an office with the accounts so far, to which the texts of those before it
 -- were delivered
-abbrev pub told_after : SetupContent → List Event → List Delivery → Delivery → Told
+abbrev pub told_after : SetupContent → List Event → List Delivery → Delivery → AnswerModel
 told_after content es before d =
-    told_of (content_after content es) (delivered_all (map text_of before)) d.partner d.number d.text
+    answer_model_of (content_after content es) (delivered_all (map text_of before)) d.partner d.number d.text
 
 -- each text of the journal is taken or waits: none is a repeat or a clash
 abbrev pub EachIsNew : Type 0

@@ -24,10 +24,10 @@ use Rattle.sqlite_rules.specs.Cast.{cast, cast_row}
 use Rattle.sqlite_rules.specs.Calls.{ids_of}
 use Rattle.sqlite_rules.specs.declared.error.Rowids.TheVariants.{Chosen, Given}
 use Rattle.sqlite_rules.specs.Edit.{edit_of, Applies, numbered, without_all, put_all, id_in}
-use Rattle.office_rows.specs.Tables.{interchange, office_schema}
+use Rattle.office_rows.specs.Tables.{interchange_table, office_schema}
 use Rattle.office_rows.specs.Rows.{Interchange, Rows}
-use Rattle.office_rows.specs.Values.{number, interchange_values}
-use Rattle.office_rows.specs.Effects.{is_pair, with_kept, with_reply}
+use Rattle.office_rows.specs.Values.{number_value, interchange_values}
+use Rattle.office_rows.specs.Effects.{is_pair, with_waiting, with_reply}
 use Rattle.office_rows.specs.Stored.{columns_of, HasRows}
 use Rattle.office_rows.proofs.EditLemmas.{updated, put_all_shaped, without_all_shaped}
 use Rattle.office_rows.proofs.WriteLemmas.{cast_null, cast_int, equal_numbers, passes, inserts, updates, rows_of}
@@ -165,15 +165,15 @@ module _ {A : Type 0} (table : Table) (values : A → Row) (records : List A) (o
 
 pub adds_in_place : AddsInPlace
 adds_in_place old new interchanges i held it =
-    inserted interchange interchange_values interchanges old new (Null ∷ interchange_values i) i held cast_null (λ n. simp cast_int) it
+    inserted interchange_table interchange_values interchanges old new (Null ∷ interchange_values i) i held cast_null (λ n. simp cast_int) it
 
 -- what is said of the columns, whatever tests and terms find and write the rows
 replies_by : (old new : Trees) (rows : Rows) (partner number_of : ℕ) (reply : List ℕ) (p : Row → Bool) → ((r : Row) → p r ≡ is_row_of partner number_of r) → InterchangesAreInPlace rows.interchanges old
-    → (found : List Row) → IsPermutation (map (replied reply) (filter p (old interchange.tree))) found
-    → Applies office_schema Enforced old (edit_of old interchange (ids_of found) Given 1 found) new
+    → (found : List Row) → IsPermutation (map (replied reply) (filter p (old interchange_table.tree))) found
+    → Applies office_schema Enforced old (edit_of old interchange_table (ids_of found) Given 1 found) new
     → InterchangesAreInPlace (with_reply partner number_of reply rows).interchanges new
 replies_by old new rows partner number_of reply p finding held found finds applies =
-    updated_in_place interchange interchange_values rows.interchanges old new held p (replied reply)
+    updated_in_place interchange_table interchange_values rows.interchanges old new held p (replied reply)
     (λ c. says c 0 partner && says c 1 number_of) (λ c. cast kind.Integer (column c 0) ∷ cast kind.Integer (column c 1) ∷ column c 2 ∷ Text reply ∷ [])
     (is_pair partner number_of) (λ i. record i { reply = reply })
     (λ r. refl) (λ r n is. ap (cast kind.Integer) is ∙ cast_int (pos n)) finding (λ r. refl)
@@ -189,14 +189,14 @@ others_keep_places old new edit applies other = applies.tables.1.0 (λ e. other 
 -- ---- the statements, for the calls that execute them
 
 pub keeps_in_place : (old new : State) (rows : Rows) (count partner number_of : ℕ) (body : List ℕ) → HasRows rows old.now → InterchangesAreInPlace rows.interchanges old.now.trees
-    → Executes texts.insert_interchange (number partner ∷ number number_of ∷ Blob body ∷ []) old new (Ok count)
-    → InterchangesAreInPlace (with_kept partner number_of body rows).interchanges new.now.trees
+    → Executes texts.insert_interchange (number_value partner ∷ number_value number_of ∷ Blob body ∷ []) old new (Ok count)
+    → InterchangesAreInPlace (with_waiting partner number_of body rows).interchanges new.now.trees
 keeps_in_place old new rows count partner number_of body has held h =
     let a : Interchange = record { partner = partner; number = number_of; body = body; reply = [] } in
-    let params = number partner ∷ number number_of ∷ Blob body ∷ [] in
+    let params = number_value partner ∷ number_value number_of ∷ Blob body ∷ [] in
     let text = statement_of texts.insert_interchange (understood office_schema texts.insert_interchange) in
     let w = runs_as texts.insert_interchange params old new office_schema has.schema (Insert 1 (Values texts.insert_interchange_terms 5)) texts.insert_interchange_is texts.insert_interchange_plain count h in
-    let it = inserts old new has.schema 1 interchange refl refl params text count texts.insert_interchange_terms 5 w in
+    let it = inserts old new has.schema 1 interchange_table refl refl params text count texts.insert_interchange_terms 5 w in
     adds_in_place old.now.trees new.now.trees rows.interchanges a held it.edits.applies
 
 pub copies_in_place : (old new : State) (rows : Rows) (count : ℕ) (a : Interchange) → HasRows rows old.now → InterchangesAreInPlace rows.interchanges old.now.trees
@@ -206,7 +206,7 @@ copies_in_place old new rows count a has held h =
     let params = interchange_values a in
     let text = statement_of texts.insert_whole (understood office_schema texts.insert_whole) in
     let w = runs_as texts.insert_whole params old new office_schema has.schema (Insert 1 (Values texts.insert_whole_terms 5)) texts.insert_whole_is texts.insert_whole_plain count h in
-    let it = inserts old new has.schema 1 interchange refl refl params text count texts.insert_whole_terms 5 w in
+    let it = inserts old new has.schema 1 interchange_table refl refl params text count texts.insert_whole_terms 5 w in
     adds_in_place old.now.trees new.now.trees rows.interchanges a held it.edits.applies
 
 and_true : (b : Bool) → (b && true) ≡ b
@@ -214,11 +214,11 @@ and_true true = refl
 and_true false = refl
 
 pub update_replies_in_place : (old new : State) (rows : Rows) (count partner number_of : ℕ) (reply : List ℕ) → HasRows rows old.now → InterchangesAreInPlace rows.interchanges old.now.trees
-    → Executes texts.update_reply (number partner ∷ number number_of ∷ Text reply ∷ []) old new (Ok count)
+    → Executes texts.update_reply (number_value partner ∷ number_value number_of ∷ Text reply ∷ []) old new (Ok count)
     → InterchangesAreInPlace (with_reply partner number_of reply rows).interchanges new.now.trees
 update_replies_in_place old new rows count partner number_of reply has held h =
-    let params = number partner ∷ number number_of ∷ Text reply ∷ [] in
+    let params = number_value partner ∷ number_value number_of ∷ Text reply ∷ [] in
     let text = statement_of texts.update_reply (understood office_schema texts.update_reply) in
     let w = runs_as texts.update_reply params old new office_schema has.schema (Update 1 (record { lets = []; body = rows_of 2 texts.update_reply_tests texts.update_reply_shown })) texts.update_reply_is texts.update_reply_plain count h in
-    let it = updates old new has.schema 1 interchange refl refl params text count texts.update_reply_tests texts.update_reply_shown (λ trees. refl) w in
+    let it = updates old new has.schema 1 interchange_table refl refl params text count texts.update_reply_tests texts.update_reply_shown (λ trees. refl) w in
     replies_by old.now.trees new.now.trees rows partner number_of reply (passes params texts.update_reply_tests) (λ r. ap (λ b. says r 1 partner && b) (and_true (says r 2 number_of))) held it.answer it.answers it.edits.applies

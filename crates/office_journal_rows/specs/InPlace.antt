@@ -13,9 +13,9 @@ use Rattle.sqlite_schema.specs.declared.schema.Keys.TheVariants.{Enforced}
 use Rattle.sqlite_rules.specs.Calls.{ids_of}
 use Rattle.sqlite_rules.specs.declared.error.Rowids.TheVariants.{Chosen, Given}
 use Rattle.sqlite_rules.specs.Edit.{Edit, edit_of, Applies}
-use Rattle.office_rows.specs.Tables.{interchange, office_schema}
+use Rattle.office_rows.specs.Tables.{interchange_table, office_schema}
 use Rattle.office_rows.specs.Rows.{Interchange, Rows}
-use Rattle.office_rows.specs.Values.{number, interchange_values}
+use Rattle.office_rows.specs.Values.{number_value, interchange_values}
 use Rattle.office_rows.specs.Effects.{with_reply}
 use Rattle.office_rows.specs.Stored.{columns_of}
 use Rattle.office_journal_rows.specs.Places.{ArePlaced}
@@ -29,14 +29,14 @@ pub record AreInPlace {A : Type 0} (table : Table) (values : A → Row) (records
 -- the interchanges of these rows stand so in the trees
 abbrev pub InterchangesAreInPlace : List Interchange → Trees → Type 0
 InterchangesAreInPlace interchanges trees =
-    AreInPlace interchange interchange_values interchanges (trees interchange.tree)
+    AreInPlace interchange_table interchange_values interchanges (trees interchange_table.tree)
 
 -- ---- one is inserted
 
 -- an INSERT puts in the interchange, and leaves its rowid to the table
 abbrev pub Adds : Interchange → Trees → Trees → Type 0
 Adds i old new =
-    Applies office_schema Enforced old (edit_of old interchange [] Chosen 0 ((Null ∷ interchange_values i) ∷ [])) new
+    Applies office_schema Enforced old (edit_of old interchange_table [] Chosen 0 ((Null ∷ interchange_values i) ∷ [])) new
 
 -- it is the last, under the next rowid
 abbrev pub AddsInPlace : Type 0
@@ -49,7 +49,7 @@ AddsInPlace =
 
 -- the column has this number
 abbrev pub says : Row → ℕ → ℕ → Bool
-says row at n = is_true (binary (Compare Eq Binary) (column row at) (number n))
+says row at n = is_true (binary (Compare Eq Binary) (column row at) (number_value n))
 
 -- the row is that of the partner's number
 abbrev pub is_row_of : ℕ → ℕ → Row → Bool
@@ -62,8 +62,8 @@ replied reply row = column row 0 ∷ column row 0 ∷ column row 1 ∷ column ro
 -- an UPDATE takes the rows of the partner's number out, and puts them in under the same rowids with the reply
 pub record Replies (partner number_of : ℕ) (reply : List ℕ) (old new : Trees) : Type 0 where
   pub found : List Row
-  pub finds : IsPermutation (map (replied reply) (filter (is_row_of partner number_of) (old interchange.tree))) found
-  pub applies : Applies office_schema Enforced old (edit_of old interchange (ids_of found) Given 1 found) new
+  pub finds : IsPermutation (map (replied reply) (filter (is_row_of partner number_of) (old interchange_table.tree))) found
+  pub applies : Applies office_schema Enforced old (edit_of old interchange_table (ids_of found) Given 1 found) new
 
 -- each interchange stands where it stood
 abbrev pub RepliesInPlace : Type 0
@@ -77,5 +77,5 @@ RepliesInPlace =
 abbrev pub OthersKeepPlaces : Type 0
 OthersKeepPlaces =
     (old new : Trees) (edit : Edit) → Applies office_schema Enforced old edit new
-    → edit.table.tree ≢ interchange.tree
-    → new interchange.tree ≡ old interchange.tree
+    → edit.table.tree ≢ interchange_table.tree
+    → new interchange_table.tree ≡ old interchange_table.tree

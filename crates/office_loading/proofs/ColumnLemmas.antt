@@ -11,7 +11,7 @@ use Rattle.box6346.specs.declared.size_type.SizeFault.{SizeFault}
 use Rattle.edi_moments.specs.Moments.{CivilMoment, moment_of, moment_digits}
 use Rattle.sqlite.specs.declared.types.Value.{Value}
 use Rattle.sqlite.specs.declared.types.Value.TheVariants.{Text}
-use Rattle.office_loading.specs.Decoded.{Said}
+use Rattle.office_loading.specs.Decoded.{IsSaid}
 use Rattle.office_loading.specs.Columns.{SaysContainer, SaysSize, SaysMoment}
 
 chosen : {E : Type 0} (f k : Bool) (text read : List ℕ) (e d : E) → Ok read ≡ (if f then (if k then Ok text else Err d) else Err e) → (read ≡ text) × IsTrue (f && k)
@@ -30,7 +30,7 @@ container_read value text read said is =
     let p = chosen (container.has_form text) (container.is_checked text) text read _ _ is in
     (said ∙ (λ i. Text (sym p.0 i)), subst (λ t. IsTrue (container.is_number t)) (sym p.0) p.1)
 
-pub container_refused : (value : Value) (text : List ℕ) (fault : NumberFault) → value ≡ Text text → Err fault ≡ number_of text → ¬ Said SaysContainer value
+pub container_refused : (value : Value) (text : List ℕ) (fault : NumberFault) → value ≡ Text text → Err fault ≡ number_of text → ¬ IsSaid SaysContainer value
 unfolding number_of container.is_number
 container_refused value text fault said is (b, says) =
     let same : b ≡ text = let e = says.0 in cc in
@@ -42,7 +42,7 @@ size_read value text read said is =
     let p = chosen (size.has_form text) (size.has_length text) text read _ _ is in
     (said ∙ (λ i. Text (sym p.0 i)), subst (λ t. IsTrue (size.is_size t)) (sym p.0) p.1)
 
-pub size_refused : (value : Value) (text : List ℕ) (fault : SizeFault) → value ≡ Text text → Err fault ≡ size_of text → ¬ Said SaysSize value
+pub size_refused : (value : Value) (text : List ℕ) (fault : SizeFault) → value ≡ Text text → Err fault ≡ size_of text → ¬ IsSaid SaysSize value
 unfolding size_of size.is_size
 size_refused value text fault said is (b, says) =
     let same : b ≡ text = let e = says.0 in cc in
@@ -55,7 +55,7 @@ moment_read value text digits moment said written read same =
     (said ∙ ap Text (sym is ∙ written), ap moment_of (sym written) ∙ read)
 
 pub moment_refused : (value : Value) (text digits : List ℕ) (moment : CivilMoment) → value ≡ Text text → digits ≡ moment_digits moment → Some moment ≡ moment_of text
-    → false ≡ bytes_eq digits text → ¬ Said SaysMoment value
+    → false ≡ bytes_eq digits text → ¬ IsSaid SaysMoment value
 moment_refused value text digits moment said written parsed other (m, says) =
     let is : text ≡ moment_digits m = let e = says.0 in cc in
     let read = says.1 in

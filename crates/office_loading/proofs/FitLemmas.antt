@@ -22,7 +22,7 @@ use Rattle.yard_core.specs.declared.plan.Block.{Block}
 use Rattle.yard_core.specs.Plan.{IsSized}
 use Rattle.office_setup.specs.Given.{is_party_byte, is_party_code}
 use Rattle.office_rows.specs.Rows.{Partner}
-use Rattle.office_rows.specs.Opened.{Numbered}
+use Rattle.office_rows.specs.Opened.{NumberKept}
 use Rattle.office_rows.specs.Office.{AreAccounts, AreWaiting, AreKept, taken_numbers}
 use Rattle.office_loading.specs.Fits.{FitsPartner, FitsNumber, FitsSource, FitsExit, FitsVisit, FitsBlock}
 
@@ -78,7 +78,7 @@ taken_fit : (partner from count : ℕ) → partner ≤ 1000 → from + count ≤
 taken_fit partner from zero small few = tt
 taken_fit partner from (suc count) small few = (record { partner = omega arith; number = omega arith }, taken_fit partner (from + 1) count small (omega arith))
 
-waiting_fit : (partner above : ℕ) (numbers : List Numbered) → partner ≤ 1000 → AreWaiting partner above numbers → AllByRecursion FitsNumber numbers
+waiting_fit : (partner above : ℕ) (numbers : List NumberKept) → partner ≤ 1000 → AreWaiting partner above numbers → AllByRecursion FitsNumber numbers
 waiting_fit partner above [] small wait = tt
 waiting_fit partner above (n ∷ numbers) small wait =
     let is = wait.0 in
@@ -89,7 +89,7 @@ all_joined : {X : Type 0} (P : X → Type 0) (xs ys : List X) → AllByRecursion
 all_joined P [] ys p q = q
 all_joined P (x ∷ xs) ys p q = (p.0, all_joined P xs ys p.1 q)
 
-pub numbers_fit : (id : ℕ) (partners : List Partner) (accounts : List (List ℕ × PartnerKind)) (numbers : List Numbered) → AreAccounts id partners accounts → id + length accounts ≤ 1000 → AreKept partners numbers → AllByRecursion FitsNumber numbers
+pub numbers_fit : (id : ℕ) (partners : List Partner) (accounts : List (List ℕ × PartnerKind)) (numbers : List NumberKept) → AreAccounts id partners accounts → id + length accounts ≤ 1000 → AreKept partners numbers → AllByRecursion FitsNumber numbers
 numbers_fit id [] accounts numbers are few kept = subst (AllByRecursion FitsNumber) (sym kept) tt
 numbers_fit id (p ∷ partners) [] numbers are few kept = absurd are
 numbers_fit id (p ∷ partners) (a ∷ accounts) numbers are few kept =

@@ -17,7 +17,7 @@ use Rattle.sqlite_value.specs.Order.{value_cmp}
 use Rattle.sqlite_value.proofs.OrderLemmas.{value_cmp-Int, value_cmp-Text}
 use Rattle.sqlite_rules.specs.Lists.{Has}
 use Rattle.sqlite_rules.proofs.ListLemmas.{has_contained, contains_had}
-use Rattle.office_rows.specs.Values.{number}
+use Rattle.office_rows.specs.Values.{number_value}
 use Rattle.office_rows.specs.Shown.{columns_at, ShowsTable}
 use Rattle.office_loading.proofs.ShownLemmas.{keys_cmp, one_answer, same_rows}
 use Rattle.office_loading.proofs.TableLemmas.{has_mapped}
@@ -30,8 +30,8 @@ both_equal Greater b h = absurd cc
 naturals : (m n : ℕ) → int_cmp (pos m) (pos n) ≡ Equal → m ≡ n
 naturals m n h = grind (arith, ints, nat_tests)
 
-pub number_tied : (m n : ℕ) (rest : Ordering) → ordering_then (value_cmp (number m) (number n)) rest ≡ Equal → (m ≡ n) × (rest ≡ Equal)
-number_tied m n rest h = let p = both_equal (value_cmp (number m) (number n)) rest h in (naturals m n (sym (value_cmp-Int (pos m) (pos n)) ∙ p.0), p.1)
+pub number_tied : (m n : ℕ) (rest : Ordering) → ordering_then (value_cmp (number_value m) (number_value n)) rest ≡ Equal → (m ≡ n) × (rest ≡ Equal)
+number_tied m n rest h = let p = both_equal (value_cmp (number_value m) (number_value n)) rest h in (naturals m n (sym (value_cmp-Int (pos m) (pos n)) ∙ p.0), p.1)
 
 pub text_tied : (s t : List ℕ) (rest : Ordering) → ordering_then (value_cmp (Text s) (Text t)) rest ≡ Equal → (s ≡ t) × (rest ≡ Equal)
 text_tied s t rest h =

@@ -16,7 +16,7 @@ use Rattle.office_rows.specs.Tables as table
 use Rattle.office_rows.specs.Rows.{Interchange}
 use Rattle.office_rows.specs.Values.{partner_values, visit_values, place_values, line_values, setting_values, block_values}
 use Rattle.office_rows.specs.ByKey.{standing_by, lines_by}
-use Rattle.office_rows.specs.Opened.{numbered, reply_values, OpenedRows, Shows}
+use Rattle.office_rows.specs.Opened.{number_kept, reply_values, OpenedRows, Shows}
 use Rattle.office_rows.specs.Office.{IsOffice}
 use Rattle.office_checks.specs.Refusals.{RefusesTables}
 use Rattle.office_loading.specs.Fits.{FitsPartner, FitsVisit, FitsPlace, FitsLine, FitsSetting, FitsBlock}
@@ -33,7 +33,7 @@ use Rattle.office_loading.proofs.NumberLemmas.{all_from, interchanges_differ}
 use Rattle.office_loading.proofs.PlaceLemmas.{place_fits, places_differ}
 use Rattle.office_loading.proofs.LineLemmas.{line_fits, lines_differ}
 
-pub replies_same : (is js : List Interchange) → map reply_values is ≡ map reply_values js → map numbered is ≡ map numbered js
+pub replies_same : (is js : List Interchange) → map reply_values is ≡ map reply_values js → map number_kept is ≡ map number_kept js
 replies_same [] [] same = refl
 replies_same [] (j ∷ js) same = absurd cc
 replies_same (i ∷ is) [] same = absurd cc
@@ -43,7 +43,7 @@ replies_same (i ∷ is) (j ∷ js) same =
     let partner : i.partner ≡ j.partner = cc in
     let n : i.number ≡ j.number = cc in
     let reply : i.reply ≡ j.reply = cc in
-    ap₂ (λ a l. a ∷ l) (λ k. numbered (record { partner = partner k; number = n k; body = []; reply = reply k })) (replies_same is js rest)
+    ap₂ (λ a l. a ∷ l) (λ k. number_kept (record { partner = partner k; number = n k; body = []; reply = reply k })) (replies_same is js rest)
 
 module _ (rows : OpenedRows) (content : SetupContent) (state : TerminalState) (office : IsOffice rows content state) where
   visits_are : rows.visits ≡ state.visits
@@ -82,15 +82,15 @@ module _ (rows : OpenedRows) (content : SetupContent) (state : TerminalState) (o
   module _ (db : Database) (shown : Shows db rows) (other : OpenedRows) (that : Shows db other) (fits : FitsRows other) where
     one_partners : rows.partners ≡ other.partners
     one_partners =
-        let same = one_showing table.partner (0 ∷ 1 ∷ 2 ∷ 3 ∷ []) (0 ∷ []) (λ r. refl) db partner_values rows.partners other.partners shown.partners that.partners (λ x y p q tied.
+        let same = one_showing table.partner_table (0 ∷ 1 ∷ 2 ∷ 3 ∷ []) (0 ∷ []) (λ r. refl) db partner_values rows.partners other.partners shown.partners that.partners (λ x y p q tied.
         ap partner_values (ids_differ 1 rows.partners content.partners x y office.accounts p q (number_tied x.id y.id Equal tied).0)) in
-        one_reading table.partner (0 ∷ 1 ∷ 2 ∷ 3 ∷ []) (0 ∷ []) (λ r. refl) db partner_values FitsPartner one_partner rows.partners other.partners office_fits.partners fits.partners same
+        one_reading table.partner_table (0 ∷ 1 ∷ 2 ∷ 3 ∷ []) (0 ∷ []) (λ r. refl) db partner_values FitsPartner one_partner rows.partners other.partners office_fits.partners fits.partners same
 
     one_numbers : rows.numbers ≡ other.numbers
     one_numbers =
         let is = shown.numbers.interchanges in
         let js = that.numbers.interchanges in
-        let same = one_showing table.interchange (0 ∷ 1 ∷ 3 ∷ []) (0 ∷ 1 ∷ []) (λ r. refl) db reply_values is js shown.numbers.shown that.numbers.shown (λ x y p q tied.
+        let same = one_showing table.interchange_table (0 ∷ 1 ∷ 3 ∷ []) (0 ∷ 1 ∷ []) (λ r. refl) db reply_values is js shown.numbers.shown that.numbers.shown (λ x y p q tied.
         let a = number_tied x.partner y.partner _ tied in
         let b = number_tied x.number y.number Equal a.1 in
         ap reply_values (interchanges_differ rows.partners content.partners rows.numbers is office.accounts office.kept shown.numbers.are x y p q a.0 b.0)) in
@@ -98,39 +98,39 @@ module _ (rows : OpenedRows) (content : SetupContent) (state : TerminalState) (o
 
     one_visits : rows.visits ≡ other.visits
     one_visits =
-        let same = one_showing table.visit (0 ∷ 1 ∷ 2 ∷ 3 ∷ 4 ∷ 5 ∷ 6 ∷ 7 ∷ 8 ∷ 9 ∷ 10 ∷ 11 ∷ 12 ∷ 13 ∷ 14 ∷ []) (0 ∷ []) (λ r. refl) db visit_values rows.visits other.visits shown.visits that.visits (λ x y p q tied.
+        let same = one_showing table.visit_table (0 ∷ 1 ∷ 2 ∷ 3 ∷ 4 ∷ 5 ∷ 6 ∷ 7 ∷ 8 ∷ 9 ∷ 10 ∷ 11 ∷ 12 ∷ 13 ∷ 14 ∷ []) (0 ∷ []) (λ r. refl) db visit_values rows.visits other.visits shown.visits that.visits (λ x y p q tied.
         ap visit_values (visits_differ 0 state.visits x y office.whole.numbered (subst (λ l. Has l x) visits_are p) (subst (λ l. Has l y) visits_are q) (number_tied x.number y.number Equal tied).0)) in
-        one_reading table.visit (0 ∷ 1 ∷ 2 ∷ 3 ∷ 4 ∷ 5 ∷ 6 ∷ 7 ∷ 8 ∷ 9 ∷ 10 ∷ 11 ∷ 12 ∷ 13 ∷ 14 ∷ []) (0 ∷ []) (λ r. refl) db visit_values FitsVisit one_visit rows.visits other.visits office_fits.visits fits.visits same
+        one_reading table.visit_table (0 ∷ 1 ∷ 2 ∷ 3 ∷ 4 ∷ 5 ∷ 6 ∷ 7 ∷ 8 ∷ 9 ∷ 10 ∷ 11 ∷ 12 ∷ 13 ∷ 14 ∷ []) (0 ∷ []) (λ r. refl) db visit_values FitsVisit one_visit rows.visits other.visits office_fits.visits fits.visits same
 
     one_places : rows.places ≡ other.places
     one_places =
-        let same = one_showing table.place (0 ∷ 1 ∷ 2 ∷ []) (0 ∷ []) (λ r. refl) db place_values rows.places other.places shown.places that.places (λ x y p q tied.
+        let same = one_showing table.place_table (0 ∷ 1 ∷ 2 ∷ []) (0 ∷ []) (λ r. refl) db place_values rows.places other.places shown.places that.places (λ x y p q tied.
         ap place_values (places_differ rows.places x y office.placed_once p q (text_tied x.container y.container Equal tied).0)) in
-        one_reading table.place (0 ∷ 1 ∷ 2 ∷ []) (0 ∷ []) (λ r. refl) db place_values FitsPlace one_place rows.places other.places office_fits.places fits.places same
+        one_reading table.place_table (0 ∷ 1 ∷ 2 ∷ []) (0 ∷ []) (λ r. refl) db place_values FitsPlace one_place rows.places other.places office_fits.places fits.places same
 
     one_lines : rows.lines ≡ other.lines
     one_lines =
-        let same = one_showing table.listed (0 ∷ 1 ∷ 2 ∷ 3 ∷ 4 ∷ 5 ∷ []) (0 ∷ 1 ∷ 2 ∷ 3 ∷ []) (λ r. refl) db line_values rows.lines other.lines shown.lines that.lines (λ x y p q tied.
+        let same = one_showing table.listing_table (0 ∷ 1 ∷ 2 ∷ 3 ∷ 4 ∷ 5 ∷ []) (0 ∷ 1 ∷ 2 ∷ 3 ∷ []) (λ r. refl) db line_values rows.lines other.lines shown.lines that.lines (λ x y p q tied.
         let a = text_tied x.call.vessel y.call.vessel _ tied in
         let b = text_tied x.call.voyage y.call.voyage _ a.1 in
         let c = number_tied _ _ _ b.1 in
         let d = text_tied x.container y.container Equal c.1 in
         ap line_values (lines_differ rows.lines x y office.listed_once p q (sym a.0) (sym b.0) (sym c.0) (sym d.0))) in
-        one_reading table.listed (0 ∷ 1 ∷ 2 ∷ 3 ∷ 4 ∷ 5 ∷ []) (0 ∷ 1 ∷ 2 ∷ 3 ∷ []) (λ r. refl) db line_values FitsLine one_line rows.lines other.lines office_fits.lines fits.lines same
+        one_reading table.listing_table (0 ∷ 1 ∷ 2 ∷ 3 ∷ 4 ∷ 5 ∷ []) (0 ∷ 1 ∷ 2 ∷ 3 ∷ []) (λ r. refl) db line_values FitsLine one_line rows.lines other.lines office_fits.lines fits.lines same
 
     one_settings : rows.settings ≡ other.settings
     one_settings =
-        let same = one_showing table.setting (0 ∷ 1 ∷ []) (0 ∷ []) (λ r. refl) db setting_values rows.settings other.settings shown.settings that.settings (λ x y p q tied.
+        let same = one_showing table.setting_table (0 ∷ 1 ∷ []) (0 ∷ []) (λ r. refl) db setting_values rows.settings other.settings shown.settings that.settings (λ x y p q tied.
         settings_tied content x y (subst (λ l. Has l x) office.settings p) (subst (λ l. Has l y) office.settings q) tied) in
-        one_reading table.setting (0 ∷ 1 ∷ []) (0 ∷ []) (λ r. refl) db setting_values FitsSetting one_setting rows.settings other.settings office_fits.settings fits.settings same
+        one_reading table.setting_table (0 ∷ 1 ∷ []) (0 ∷ []) (λ r. refl) db setting_values FitsSetting one_setting rows.settings other.settings office_fits.settings fits.settings same
 
     one_blocks : rows.blocks ≡ other.blocks
     one_blocks =
-        let same = one_showing table.block (0 ∷ 1 ∷ 2 ∷ 3 ∷ []) (0 ∷ []) (λ r. refl) db block_values rows.blocks other.blocks shown.blocks that.blocks (λ x y p q tied.
+        let same = one_showing table.block_table (0 ∷ 1 ∷ 2 ∷ 3 ∷ []) (0 ∷ []) (λ r. refl) db block_values rows.blocks other.blocks shown.blocks that.blocks (λ x y p q tied.
         let text = (text_tied (x.letter ∷ []) (y.letter ∷ []) Equal tied).0 in
         let letter : x.letter ≡ y.letter = cc in
         ap block_values (blocks_differ content.blocks x y office.given.plan.apart (subst (λ l. Has l x) office.blocks p) (subst (λ l. Has l y) office.blocks q) letter)) in
-        one_reading table.block (0 ∷ 1 ∷ 2 ∷ 3 ∷ []) (0 ∷ []) (λ r. refl) db block_values FitsBlock one_block rows.blocks other.blocks office_fits.blocks fits.blocks same
+        one_reading table.block_table (0 ∷ 1 ∷ 2 ∷ 3 ∷ []) (0 ∷ []) (λ r. refl) db block_values FitsBlock one_block rows.blocks other.blocks office_fits.blocks fits.blocks same
 
     pub office_one : rows ≡ other
     office_one = λ i. record {

@@ -4,7 +4,7 @@ use Rattle.std.specs.List.{AllByRecursion, list_any}
 use Rattle.sqlite.specs.Order.{Row}
 use Rattle.sqlite.specs.Effect.{Database}
 use Rattle.terminal_core.specs.declared.change.Version.TheVariants.{First, Second}
-use Rattle.office_rows.specs.Tables.{setting}
+use Rattle.office_rows.specs.Tables.{setting_table}
 use Rattle.office_rows.specs.Rows.{Setting}
 use Rattle.office_rows.specs.Opening.{version_text}
 use Rattle.office_rows.specs.Bare.{with_weights}
@@ -24,7 +24,7 @@ use Rattle.office_loading.proofs.VersionLemmas.{version_there, version_absent, s
 
 -- ---- the version
 
-module _ (db : Database) (answer : List Row) (it : ShowsTable setting (0 ∷ 1 ∷ []) (0 ∷ []) db answer) where
+module _ (db : Database) (answer : List Row) (it : ShowsTable setting_table (0 ∷ 1 ∷ []) (0 ∷ []) db answer) where
   either : (first second : Bool) → list_any (names_version (version_text First)) answer ≡ first → list_any (names_version (version_text Second)) answer ≡ second → (first || second) ≡ true → HasOlder db
   either true second one two some = inl (version_there db answer it (version_text First) one)
   either false true one two some = inr (version_there db answer it (version_text Second) two)

@@ -17,7 +17,7 @@ use Rattle.terminal_core.specs.declared.restoring.RestoreFault.{RestoreFault}
 use Rattle.terminal_core.specs.declared.restoring.RestoreFault.TheVariants as restoring
 use Rattle.terminal_core.specs.declared.change.Version.TheVariants.{First, Second, Third}
 use Rattle.office_setup.specs.Setups.{SetupContent}
-use Rattle.office_rows.specs.Tables.{setting}
+use Rattle.office_rows.specs.Tables.{setting_table}
 use Rattle.office_rows.specs.Rows.{Setting}
 use Rattle.office_rows.specs.Values.{setting_values}
 use Rattle.office_rows.specs.Opening.{version_text, tables_version}
@@ -109,13 +109,13 @@ pub renamed_all : (settings : List Setting) → map setting_values (migrated_set
 renamed_all [] = refl
 renamed_all (s ∷ settings) = ap₂ (λ r l. r ∷ l) (renamed_as s (names_older s.name s.value)) (renamed_all settings)
 
-module _ (db : Database) (settings : List Setting) (it : ShowsTable setting (0 ∷ 1 ∷ []) (0 ∷ []) db (map setting_values settings)) where
-  renamed_shown : ShowsTable setting (0 ∷ 1 ∷ []) (0 ∷ []) (renamed db) (map setting_values (migrated_settings settings))
+module _ (db : Database) (settings : List Setting) (it : ShowsTable setting_table (0 ∷ 1 ∷ []) (0 ∷ []) db (map setting_values settings)) where
+  renamed_shown : ShowsTable setting_table (0 ∷ 1 ∷ []) (0 ∷ []) (renamed db) (map setting_values (migrated_settings settings))
   renamed_shown =
       let stored = db.trees 11 in
       record {
         by_key = map renamed_columns it.by_key;
-        same = subst (λ l. IsPermutation l (map renamed_columns it.by_key)) (map-map renamed_columns (columns_of setting) stored ∙ sym (map-map (columns_of setting) renamed_row stored)) (IsPermutation-map renamed_columns _ _ it.same);
+        same = subst (λ l. IsPermutation l (map renamed_columns it.by_key)) (map-map renamed_columns (columns_of setting_table) stored ∙ sym (map-map (columns_of setting_table) renamed_row stored)) (IsPermutation-map renamed_columns _ _ it.same);
         ordered = IsSorted-map (keys_cmp (0 ∷ [])) renamed_columns it.by_key it.ordered;
         is = renamed_all settings ∙ ap (map renamed_columns) it.is ∙ map-map renamed_columns (columns_at (0 ∷ 1 ∷ [])) it.by_key ∙ sym (map-map (columns_at (0 ∷ 1 ∷ [])) renamed_columns it.by_key);
       }

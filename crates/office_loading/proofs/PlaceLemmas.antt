@@ -10,7 +10,7 @@ use Rattle.box6346.specs.declared.box_number.BoxNumber.{BoxNumber}
 use Rattle.box6346.proofs.SlotNames.{names_are_read_again_lem}
 use Rattle.yard_core.specs.declared.placements.Placement.{Placement}
 use Rattle.yard_core.specs.declared.placements.Stowed.{Stowed}
-use Rattle.yard_core.specs.YardMap.{placed, placement_of}
+use Rattle.yard_core.specs.YardMap.{placement_if_any, placement_of}
 use Rattle.terminal_core.specs.Changes.{Standing, standing_in, standing_of}
 use Rattle.terminal_core.specs.Forms.{IsWellFormed}
 use Rattle.terminal_core.specs.Rows.{VisitContent}
@@ -39,7 +39,7 @@ found_place places p once has =
     let found = found_is (stands_for p.container) places some.0 some.1 in
     some.1 ∙ ap Some (one_passes (stands_for p.container) places some.0 p (once p.container) (contained places found.0 some.0 found.1) inside found.2 (own_place p))
 
-placed_some : (o : Option Stowed) → is_some (placed o) ≡ is_some o
+placed_some : (o : Option Stowed) → is_some (placement_if_any o) ≡ is_some o
 placed_some None = refl
 placed_some (Some w) = refl
 

@@ -21,7 +21,7 @@ use Rattle.office_setup.specs.Given.{IsGiven}
 use Rattle.terminal_core.specs.declared.change.Version.{Version}
 use Rattle.terminal_core.specs.declared.change.Version.TheVariants.{First, Second, Third}
 use Rattle.office_rows.specs.Rows.{Setting}
-use Rattle.office_rows.specs.Opening.{version_text, setting, tables_version}
+use Rattle.office_rows.specs.Opening.{version_text, setting_row, tables_version}
 use Rattle.office_rows.specs.Values.{setting_values}
 use Rattle.office_rows.specs.Office.{settings_by_name}
 use Rattle.office_loading.specs.Fits.{FitsSetting}
@@ -42,7 +42,7 @@ coded texts h = elim (cases_Bool (list_all is_code texts)) [
   | inr some ↦ absurd (let e = rw some at h in cc)
 ]
 
-named : (name value : List ℕ) → list_all is_printable name ≡ true → IsUtf8 value → FitsSetting (setting name value)
+named : (name value : List ℕ) → list_all is_printable name ≡ true → IsUtf8 value → FitsSetting (setting_row name value)
 named name value plain is = record { name = utf8_from is_printable printable_small name plain; value = is }
 
 pub settings_fit : (content : SetupContent) → IsGiven content → AllByRecursion FitsSetting (settings_by_name content)

@@ -8,15 +8,15 @@ use Rattle.sqlite.specs.Table.{Table}
 use Rattle.sqlite.specs.Effect.{Database}
 use Rattle.sqlite_rules.specs.Lists.{Has}
 use Rattle.sqlite_rules.proofs.ListLemmas.{has_contained}
-use Rattle.office_rows.specs.Tables.{interchange}
+use Rattle.office_rows.specs.Tables.{interchange_table}
 use Rattle.office_rows.specs.Rows.{Interchange}
-use Rattle.office_rows.specs.Opened.{Numbered, numbered, reply_values, ShowsNumbers}
+use Rattle.office_rows.specs.Opened.{NumberKept, number_kept, reply_values, ShowsNumbers}
 use Rattle.office_rows.specs.Shown.{columns_at, ShowsTable}
 use Rattle.office_tables.specs.declared.table_fault.TableFault.{TableFault}
 use Rattle.office_tables.specs.declared.table_fault.TableFault.TheVariants.{Store, Damaged, Version, Memory}
 use Rattle.office_tables.specs.Faults.{IsOfStore}
 use Rattle.office_tables.proofs.FaultLemmas.{of_store_or}
-use Rattle.office_loading.specs.Decoded.{Said, FailsOne, DecodesAll}
+use Rattle.office_loading.specs.Decoded.{IsSaid, FailsOne, DecodesAll}
 use Rattle.office_loading.specs.Columns.{SaysNumbered}
 use Rattle.office_loading.specs.Fits.{FitsNumber}
 use Rattle.office_loading.specs.Tables.{FailsTable, ReadsTable}
@@ -68,29 +68,29 @@ module _ (own shown : List ℕ) (whole : (r : Row) → columns_at own (columns_a
           let rest = all_said rows read (λ one h. mine one (inr h)) all.1 in
           (ap₂ (λ r l. r ∷ l) first rest.0, (all.0.1, rest.1))
 
-      unsaid : (one : Row) → Contains answer one → ¬ Said SaysOne one → (all : List C) → ShowsAll all → ¬ AllByRecursion Fits all
+      unsaid : (one : Row) → Contains answer one → ¬ IsSaid SaysOne one → (all : List C) → ShowsAll all → ¬ AllByRecursion Fits all
       unsaid one there none all that = λ fits.
           let c = has_mapped values all one (also_shown (map values all) that one there) in
           none (c.0, (own_here one (has_contained answer one there) ∙ c.2, all_in Fits all c.0 fits c.1))
 
-      none_said : (fault : TableFault) → FailsOne (Said SaysOne) answer fault → FailsTable Fits ShowsAll fault
+      none_said : (fault : TableFault) → FailsOne (IsSaid SaysOne) answer fault → FailsTable Fits ShowsAll fault
       none_said Damaged h = unsaid h.0 h.1 h.2
       none_said Memory h = h
       none_said Version h = absurd h
       none_said (Store error) h = absurd h
 
-      pub reads_table : (given : List Row) → given ≡ answer → (result : Result (Vec X Z) TableFault) → DecodesAll (λ row x. SaysOne row (content x)) (Said SaysOne) given result → ReadsTable content Fits ShowsAll result
+      pub reads_table : (given : List Row) → given ≡ answer → (result : Result (Vec X Z) TableFault) → DecodesAll (λ row x. SaysOne row (content x)) (IsSaid SaysOne) given result → ReadsTable content Fits ShowsAll result
       reads_table given same (Ok read) all = let r = all_said answer read.items own_here (subst (λ l. AllZip (λ row x. SaysOne row (content x)) l read.items) same all) in (subst (ShowsTable table shown key db) r.0 it, r.1)
-      reads_table given same (Err fault) h = none_said fault (subst (λ l. FailsOne (Said SaysOne) l fault) same h)
+      reads_table given same (Err fault) h = none_said fault (subst (λ l. FailsOne (IsSaid SaysOne) l fault) same h)
 
 -- ---- interchanges, of whose columns not all are shown
 
-module _ (db : Database) (answer : List Row) (it : ShowsTable interchange (0 ∷ 1 ∷ 3 ∷ []) (0 ∷ 1 ∷ []) db answer) {X : Type 0} (Z : Type 0) (content : X → Numbered) where
+module _ (db : Database) (answer : List Row) (it : ShowsTable interchange_table (0 ∷ 1 ∷ 3 ∷ []) (0 ∷ 1 ∷ []) db answer) {X : Type 0} (Z : Type 0) (content : X → NumberKept) where
   number_here : (one : Row) → Has answer one → columns_at (0 ∷ 1 ∷ 2 ∷ []) one ≡ one
-  number_here = own_here (0 ∷ 1 ∷ 2 ∷ []) (0 ∷ 1 ∷ 3 ∷ []) (λ r. refl) interchange (0 ∷ 1 ∷ []) (λ r. refl) db answer it
+  number_here = own_here (0 ∷ 1 ∷ 2 ∷ []) (0 ∷ 1 ∷ 3 ∷ []) (λ r. refl) interchange_table (0 ∷ 1 ∷ []) (λ r. refl) db answer it
 
   numbers_said : (rows : List Row) (read : List X) → ((one : Row) → Has rows one → columns_at (0 ∷ 1 ∷ 2 ∷ []) one ≡ one) → AllZip (λ row x. SaysNumbered row (content x)) rows read
-      → (is : List Interchange) × (rows ≡ map reply_values is) × (map content read ≡ map numbered is) × AllByRecursion FitsNumber (map content read)
+      → (is : List Interchange) × (rows ≡ map reply_values is) × (map content read ≡ map number_kept is) × AllByRecursion FitsNumber (map content read)
   numbers_said [] [] mine all = ([], refl, refl, tt)
   numbers_said [] (x ∷ read) mine all = absurd all
   numbers_said (row ∷ rows) [] mine all = absurd all
@@ -100,21 +100,21 @@ module _ (db : Database) (answer : List Row) (it : ShowsTable interchange (0 ∷
       let rest = numbers_said rows read (λ one h. mine one (inr h)) all.1 in
       (i ∷ rest.0, ap₂ (λ r l. r ∷ l) first rest.1, ap₂ (λ n l. n ∷ l) all.0.2 rest.2, (all.0.3, rest.3))
 
-  number_unsaid : (one : Row) → Contains answer one → ¬ Said SaysNumbered one → (all : List Numbered) → ShowsNumbers db all → ¬ AllByRecursion FitsNumber all
+  number_unsaid : (one : Row) → Contains answer one → ¬ IsSaid SaysNumbered one → (all : List NumberKept) → ShowsNumbers db all → ¬ AllByRecursion FitsNumber all
   number_unsaid one there none all that = λ fits.
-      let other = also_shown (0 ∷ 1 ∷ 2 ∷ []) (0 ∷ 1 ∷ 3 ∷ []) (λ r. refl) interchange (0 ∷ 1 ∷ []) (λ r. refl) db answer it (map reply_values that.interchanges) that.shown one there in
+      let other = also_shown (0 ∷ 1 ∷ 2 ∷ []) (0 ∷ 1 ∷ 3 ∷ []) (λ r. refl) interchange_table (0 ∷ 1 ∷ []) (λ r. refl) db answer it (map reply_values that.interchanges) that.shown one there in
       let i = has_mapped reply_values that.interchanges one other in
-      let fit = all_in FitsNumber (map numbered that.interchanges) (numbered i.0) (subst (AllByRecursion FitsNumber) that.are fits) (mapped_has numbered that.interchanges i.0 i.1) in
-      none (numbered i.0, (i.0, number_here one (has_contained answer one there) ∙ i.2, refl, fit))
+      let fit = all_in FitsNumber (map number_kept that.interchanges) (number_kept i.0) (subst (AllByRecursion FitsNumber) that.are fits) (mapped_has number_kept that.interchanges i.0 i.1) in
+      none (number_kept i.0, (i.0, number_here one (has_contained answer one there) ∙ i.2, refl, fit))
 
-  no_number : (fault : TableFault) → FailsOne (Said SaysNumbered) answer fault → FailsTable FitsNumber (ShowsNumbers db) fault
+  no_number : (fault : TableFault) → FailsOne (IsSaid SaysNumbered) answer fault → FailsTable FitsNumber (ShowsNumbers db) fault
   no_number Damaged h = number_unsaid h.0 h.1 h.2
   no_number Memory h = h
   no_number Version h = absurd h
   no_number (Store error) h = absurd h
 
-  pub reads_numbers : (given : List Row) → given ≡ answer → (result : Result (Vec X Z) TableFault) → DecodesAll (λ row x. SaysNumbered row (content x)) (Said SaysNumbered) given result → ReadsTable content FitsNumber (ShowsNumbers db) result
+  pub reads_numbers : (given : List Row) → given ≡ answer → (result : Result (Vec X Z) TableFault) → DecodesAll (λ row x. SaysNumbered row (content x)) (IsSaid SaysNumbered) given result → ReadsTable content FitsNumber (ShowsNumbers db) result
   reads_numbers given same (Ok read) all =
       let r = numbers_said answer read.items number_here (subst (λ l. AllZip (λ row x. SaysNumbered row (content x)) l read.items) same all) in
-      (record { interchanges = r.0; shown = subst (ShowsTable interchange (0 ∷ 1 ∷ 3 ∷ []) (0 ∷ 1 ∷ []) db) r.1 it; are = r.2 }, r.3)
-  reads_numbers given same (Err fault) h = no_number fault (subst (λ l. FailsOne (Said SaysNumbered) l fault) same h)
+      (record { interchanges = r.0; shown = subst (ShowsTable interchange_table (0 ∷ 1 ∷ 3 ∷ []) (0 ∷ 1 ∷ []) db) r.1 it; are = r.2 }, r.3)
+  reads_numbers given same (Err fault) h = no_number fault (subst (λ l. FailsOne (IsSaid SaysNumbered) l fault) same h)

@@ -11,9 +11,9 @@ use Rattle.sqlite.specs.Order.{Row, column}
 use Rattle.sqlite.specs.Effect.{Database}
 use Rattle.sqlite_rules.specs.Lists.{Has}
 use Rattle.sqlite_rules.proofs.ListLemmas.{has_contained, contains_had, some_has, some_from}
-use Rattle.office_rows.specs.Tables.{setting}
+use Rattle.office_rows.specs.Tables.{setting_table}
 use Rattle.office_rows.specs.Rows.{Setting}
-use Rattle.office_rows.specs.Opening.{setting as setting_of}
+use Rattle.office_rows.specs.Opening.{setting_row as setting_of}
 use Rattle.office_rows.specs.Values.{setting_values}
 use Rattle.office_rows.specs.Stored.{columns_of}
 use Rattle.office_rows.specs.Shown.{columns_at, ShowsTable}
@@ -37,14 +37,14 @@ text_is text (Int n) holds = absurd cc
 text_is text (Real x) holds = absurd cc
 text_is text (Blob b) holds = absurd cc
 
-module _ (db : Database) (answer : List Row) (it : ShowsTable setting (0 ∷ 1 ∷ []) (0 ∷ []) db answer) where
+module _ (db : Database) (answer : List Row) (it : ShowsTable setting_table (0 ∷ 1 ∷ []) (0 ∷ []) db answer) where
   pub full : (r : Row) → Has it.by_key r → columns_at (0 ∷ 1 ∷ []) r ≡ r
   full r has =
       let stored = has_contained _ r (Contains-permutation _ _ r (IsPermutation-sym _ _ it.same) (contains_had it.by_key r has)) in
-      let s = has_mapped (columns_of setting) (db.trees setting.tree) r stored in
+      let s = has_mapped (columns_of setting_table) (db.trees setting_table.tree) r stored in
       subst (λ l. columns_at (0 ∷ 1 ∷ []) l ≡ l) (sym s.2) refl
 
-  pub version_there : (text : List ℕ) → list_any (names_version text) answer ≡ true → Names text (db.trees setting.tree)
+  pub version_there : (text : List ℕ) → list_any (names_version text) answer ≡ true → Names text (db.trees setting_table.tree)
   version_there text holds =
       let one = some_has (names_version text) answer holds in
       let r = has_mapped (columns_at (0 ∷ 1 ∷ [])) it.by_key one.0 (subst (λ l. Has l one.0) it.is one.1) in
@@ -53,9 +53,9 @@ module _ (db : Database) (answer : List Row) (it : ShowsTable setting (0 ∷ 1 �
       let first : column r.0 0 ≡ Text (codes "version") = ap (λ l. column l 0) (sym whole) ∙ text_is _ (column one.0 0) tests.0 in
       let second : column r.0 1 ≡ Text text = ap (λ l. column l 1) (sym whole) ∙ text_is _ (column one.0 1) tests.1 in
       let is : r.0 ≡ setting_values (version text) = sym (full r.0 r.1) ∙ ap₂ (λ a b. a ∷ b ∷ []) first second in
-      subst (Contains (map (columns_of setting) (db.trees setting.tree))) is (Contains-permutation _ _ r.0 (IsPermutation-sym _ _ it.same) (contains_had it.by_key r.0 r.1))
+      subst (Contains (map (columns_of setting_table) (db.trees setting_table.tree))) is (Contains-permutation _ _ r.0 (IsPermutation-sym _ _ it.same) (contains_had it.by_key r.0 r.1))
 
-  pub version_absent : (text : List ℕ) → list_any (names_version text) answer ≡ false → ¬ Names text (db.trees setting.tree)
+  pub version_absent : (text : List ℕ) → list_any (names_version text) answer ≡ false → ¬ Names text (db.trees setting_table.tree)
   version_absent text none = λ there.
       let has = has_contained it.by_key (setting_values (version text)) (Contains-permutation _ _ (setting_values (version text)) it.same there) in
       let shown : Has answer (setting_values (version text)) = subst (λ l. Has l (setting_values (version text))) (sym it.is) (mapped_has (columns_at (0 ∷ 1 ∷ [])) it.by_key (setting_values (version text)) has) in
@@ -84,7 +84,7 @@ reads_settings content db (Err fault) has h = fails_named (HasVersion db) (Fails
 
 module _ (db : Database) (tree : ℕ) (answer : List Row) (it : ShowsTable (setting_in tree) (0 ∷ 1 ∷ []) (0 ∷ []) db answer) where
   -- a database whose trees are all this one shows the same
-  pub shows_there : ShowsTable setting (0 ∷ 1 ∷ []) (0 ∷ []) (record db { trees = λ _. db.trees tree }) answer
+  pub shows_there : ShowsTable setting_table (0 ∷ 1 ∷ []) (0 ∷ []) (record db { trees = λ _. db.trees tree }) answer
   shows_there = record { by_key = it.by_key; same = it.same; ordered = it.ordered; is = it.is }
 
   pub names_this : (text : List ℕ) → list_any (names_version text) answer ≡ true → Names text (db.trees tree)

@@ -6,40 +6,40 @@ use Rattle.sqlite.specs.Order.{Row, column}
 use Rattle.sqlite_rules.specs.Lists.{Has}
 use Rattle.sqlite_rules.proofs.ListLemmas.{has_contained, contains_had}
 use Rattle.office_rows.specs.Rows.{Interchange, Rows}
-use Rattle.office_rows.specs.Values.{number}
+use Rattle.office_rows.specs.Values.{number_value}
 use Rattle.office_rows.proofs.Listed.{unmapped}
 use Rattle.office_tables.specs.declared.table_fault.TableFault.{TableFault}
 use Rattle.office_tables.specs.declared.table_fault.TableFault.TheVariants.{Store, Damaged, Version, Memory}
 use Rattle.office_tables.specs.Faults.{IsOfStoreOr}
 use Rattle.office_loading.specs.Waiting.{HasHighWaiting, waiting_in, waiting_numbers, waiting_values}
-use Rattle.office_loading.specs.Decoded.{Said, FailsOne}
+use Rattle.office_loading.specs.Decoded.{IsSaid, FailsOne}
 use Rattle.office_loading.specs.Columns.{SaysNumber}
 use Rattle.office_loading.proofs.TableLemmas.{has_mapped, mapped_has}
 
-numbers_same : (xs ys : List ℕ) → map number xs ≡ map number ys → xs ≡ ys
+numbers_same : (xs ys : List ℕ) → map number_value xs ≡ map number_value ys → xs ≡ ys
 numbers_same [] [] same = refl
 numbers_same [] (y ∷ ys) same = absurd cc
 numbers_same (x ∷ xs) [] same = absurd cc
-numbers_same (x ∷ xs) (y ∷ ys) same = let first : x ≡ y = cc in let rest : map number xs ≡ map number ys = cc in let more = numbers_same xs ys rest in cc
+numbers_same (x ∷ xs) (y ∷ ys) same = let first : x ≡ y = cc in let rest : map number_value xs ≡ map number_value ys = cc in let more = numbers_same xs ys rest in cc
 
 abbrev number_of : Interchange → ℕ
 number_of i = i.number
 
-first_column : (is : List Interchange) → map (λ (r : Row). column r 0) (map waiting_values is) ≡ map number (map number_of is)
+first_column : (is : List Interchange) → map (λ (r : Row). column r 0) (map waiting_values is) ≡ map number_value (map number_of is)
 first_column [] = refl
-first_column (i ∷ is) = ap (λ l. number i.number ∷ l) (first_column is)
+first_column (i ∷ is) = ap (λ l. number_value i.number ∷ l) (first_column is)
 
 abbrev pub IsRead : Row → Type 0
-IsRead row = Said (SaysNumber (2 ^ 32)) (column row 0)
+IsRead row = IsSaid (SaysNumber (2 ^ 32)) (column row 0)
 
 module _ (partner next : ℕ) (rows : Rows) (answer : List Row) (shown : IsPermutation (map waiting_values (waiting_in partner next rows)) answer) where
-  pub numbers_shown : (numbers : List ℕ) → map number numbers ≡ map (λ r. column r 0) answer → IsPermutation (waiting_numbers partner next rows) numbers
+  pub numbers_shown : (numbers : List ℕ) → map number_value numbers ≡ map (λ r. column r 0) answer → IsPermutation (waiting_numbers partner next rows) numbers
   numbers_shown numbers read =
       let placed = unmapped waiting_values (waiting_in partner next rows) answer shown in
       let is : numbers ≡ map number_of placed.0 = numbers_same _ _ (read ∙ ap (map (λ (r : Row). column r 0)) placed.2 ∙ first_column placed.0) in
       subst (IsPermutation (waiting_numbers partner next rows)) (sym is) (IsPermutation-map number_of (waiting_in partner next rows) placed.0 placed.1)
 
-  number_there : (row : Row) → Contains answer row → (n : ℕ) × Contains (waiting_numbers partner next rows) n × (column row 0 ≡ number n)
+  number_there : (row : Row) → Contains answer row → (n : ℕ) × Contains (waiting_numbers partner next rows) n × (column row 0 ≡ number_value n)
   number_there row there =
       let placed = unmapped waiting_values (waiting_in partner next rows) answer shown in
       let i = has_mapped waiting_values placed.0 row (subst (λ l. Has l row) placed.2 (has_contained answer row there)) in

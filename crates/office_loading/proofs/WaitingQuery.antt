@@ -19,9 +19,9 @@ use Rattle.sqlite_tied.specs.Compute.{everything}
 use Rattle.sqlite_tied.proofs.RuleLemmas.{and_true}
 use Rattle.sqlite_resolve.specs.Compile.{first}
 use Rattle.sqlite_value.proofs.OrderLemmas.{value_cmp-Int}
-use Rattle.office_rows.specs.Tables.{interchange, office_schema}
+use Rattle.office_rows.specs.Tables.{interchange_table, office_schema}
 use Rattle.office_rows.specs.Rows.{Rows}
-use Rattle.office_rows.specs.Values.{number, interchange_values}
+use Rattle.office_rows.specs.Values.{number_value, interchange_values}
 use Rattle.office_rows.specs.Stored.{HasRows}
 use Rattle.office_rows.proofs.WriteLemmas.{equal_numbers, rows_of, answer_is}
 use Rattle.office_rows.proofs.HoldLemmas.{holds_read}
@@ -73,17 +73,17 @@ greater_numbers m n = rw value_cmp-Int (truth_is (is_gt (int_cmp (pos m) (pos n)
 -- ---- what is found
 
 abbrev is_of : Row → ℕ → Bool
-is_of c p = is_true (binary (Compare Eq Binary) (column c 0) (number p))
+is_of c p = is_true (binary (Compare Eq Binary) (column c 0) (number_value p))
 
 abbrev is_above : Row → ℕ → Bool
-is_above c n = is_true (binary (Compare Gt Binary) (column c 1) (number n))
+is_above c n = is_true (binary (Compare Gt Binary) (column c 1) (number_value n))
 
-pub finds_waiting : (old new : State) (rows : Rows) (answer : List Row) → HasRows rows old.now → (p n : ℕ) → Shown select_waiting (number p ∷ number n ∷ []) old new answer
+pub finds_waiting : (old new : State) (rows : Rows) (answer : List Row) → HasRows rows old.now → (p n : ℕ) → Shown select_waiting (number_value p ∷ number_value n ∷ []) old new answer
     → IsPermutation (map waiting_values (waiting_in p n rows)) answer
 finds_waiting old new rows answer has p n h =
-    let params = number p ∷ number n ∷ [] in
+    let params = number_value p ∷ number_value n ∷ [] in
     let read = reads_as select_waiting params old new office_schema has.schema (Select (record { lets = []; body = rows_of 2 tests shown }) names) waiting_is.0 waiting_plain waiting_is.1 answer h in
-    IsPermutation-trans _ _ _ (holds_read interchange interchange_values rows.interchanges (old.now.trees 2) has.rows_are.interchanges params tests shown
+    IsPermutation-trans _ _ _ (holds_read interchange_table interchange_values rows.interchanges (old.now.trees 2) has.rows_are.interchanges params tests shown
     (λ c. is_of c p && (is_above c n && true)) (λ c. column c 1 ∷ []) (is_waiting p n) waiting_values
     (λ r. refl) (λ r. refl) (λ i. ap₂ ◌&&◌ (equal_numbers i.partner p) (and_true _ ∙ greater_numbers i.number n)) (λ i. refl))
     (answer_is params tests 2 shown old.now.trees answer refl (read.answer Null))

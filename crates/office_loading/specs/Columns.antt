@@ -20,8 +20,8 @@ use Rattle.terminal_core.specs.Rows.{VisitContent}
 use Rattle.terminal_core.specs.State.{side_code}
 use Rattle.yard_core.specs.declared.plan.Block.{Block}
 use Rattle.office_rows.specs.Rows.{Partner, Interchange, PlaceContent, ListingContent, Setting}
-use Rattle.office_rows.specs.Values.{number, kind_code, way_code, laden_code, state_code, out_by, out_partner, out_number, out_at, partner_values, visit_values, place_values, line_values, setting_values, block_values}
-use Rattle.office_rows.specs.Opened.{Numbered, numbered, reply_values}
+use Rattle.office_rows.specs.Values.{number_value, kind_code, way_code, laden_code, state_code, out_by, out_partner, out_number, out_at, partner_values, visit_values, place_values, line_values, setting_values, block_values}
+use Rattle.office_rows.specs.Opened.{NumberKept, number_kept, reply_values}
 use Rattle.office_rows.specs.Shown.{columns_at}
 use Rattle.office_loading.specs.Fits.{IsSlot, IsMoment, FitsPartner, FitsNumber, FitsSource, FitsArrival, FitsExit, FitsVisit, FitsPlace, FitsLine, FitsSetting, FitsBlock}
 use Rattle.std.specs.List.{list_any}
@@ -31,7 +31,7 @@ use Rattle.office_rows.specs.Opening.{version_text}
 -- ---- columns
 
 abbrev pub SaysNumber : ℕ → Value → ℕ → Type 0
-SaysNumber limit value n = (value ≡ number n) × (n < limit)
+SaysNumber limit value n = (value ≡ number_value n) × (n < limit)
 
 abbrev pub SaysBytes : Value → List ℕ → Type 0
 SaysBytes value text = value ≡ Text text
@@ -52,19 +52,19 @@ abbrev pub SaysMoment : Value → CivilMoment → Type 0
 SaysMoment value moment = (value ≡ Text (moment_digits moment)) × IsMoment moment
 
 abbrev pub SaysKind : Value → PartnerKind → Type 0
-SaysKind value kind = value ≡ number (kind_code kind)
+SaysKind value kind = value ≡ number_value (kind_code kind)
 
 abbrev pub SaysWay : Value → Way → Type 0
-SaysWay value way = value ≡ number (way_code way)
+SaysWay value way = value ≡ number_value (way_code way)
 
 abbrev pub SaysLaden : Value → Bool → Type 0
-SaysLaden value is_laden = value ≡ number (laden_code is_laden)
+SaysLaden value is_laden = value ≡ number_value (laden_code is_laden)
 
 abbrev pub SaysSide : Value → Side → Type 0
-SaysSide value side = value ≡ number (side_code side)
+SaysSide value side = value ≡ number_value (side_code side)
 
 abbrev pub SaysState : Value → LineState → Type 0
-SaysState value state = value ≡ number (state_code state)
+SaysState value state = value ≡ number_value (state_code state)
 
 abbrev pub SaysLetter : Value → ℕ → Type 0
 SaysLetter value letter = value ≡ Text (letter ∷ [])
@@ -74,11 +74,11 @@ SaysLetter value letter = value ≡ Text (letter ∷ [])
 -- the partner in one column, the number in the next
 abbrev pub SaysSource : ℕ → Row → Source → Type 0
 SaysSource at row source =
-    (columns_at (at ∷ (at + 1) ∷ []) row ≡ number source.partner ∷ number source.number ∷ []) × FitsSource source
+    (columns_at (at ∷ (at + 1) ∷ []) row ≡ number_value source.partner ∷ number_value source.number ∷ []) × FitsSource source
 
 abbrev pub arrival_values : Arrival → Row
 arrival_values arrival =
-    number (way_code arrival.way) ∷ number arrival.source.partner ∷ number arrival.source.number
+    number_value (way_code arrival.way) ∷ number_value arrival.source.partner ∷ number_value arrival.source.number
     ∷ Text (moment_digits arrival.moment) ∷ Text (slot_text arrival.slot) ∷ []
 
 abbrev pub SaysArrival : Row → Arrival → Type 0
@@ -86,12 +86,12 @@ SaysArrival row arrival = (columns_at (5 ∷ 6 ∷ 7 ∷ 8 ∷ 9 ∷ []) row ≡
 
 abbrev pub exit_values : Option Departure → Row
 exit_values departure =
-    number (out_by departure) ∷ number (out_partner departure) ∷ number (out_number departure)
+    number_value (out_by departure) ∷ number_value (out_partner departure) ∷ number_value (out_number departure)
     ∷ Text (out_at departure) ∷ []
 
 -- no interchange and no moment
 abbrev pub IsOpen : Row → Type 0
-IsOpen row = columns_at (11 ∷ 12 ∷ 13 ∷ []) row ≡ number 0 ∷ number 0 ∷ Text [] ∷ []
+IsOpen row = columns_at (11 ∷ 12 ∷ 13 ∷ []) row ≡ number_value 0 ∷ number_value 0 ∷ Text [] ∷ []
 
 abbrev pub SaysExit : Row → Option Departure → Type 0
 SaysExit row departure = (columns_at (10 ∷ 11 ∷ 12 ∷ 13 ∷ []) row ≡ exit_values departure) × FitsExit departure
@@ -102,8 +102,8 @@ abbrev pub SaysPartner : Row → Partner → Type 0
 SaysPartner row partner = (columns_at (0 ∷ 1 ∷ 2 ∷ 3 ∷ []) row ≡ partner_values partner) × FitsPartner partner
 
 -- whatever the reply says
-abbrev pub SaysNumbered : Row → Numbered → Type 0
-SaysNumbered row n = (i : Interchange) × (columns_at (0 ∷ 1 ∷ 2 ∷ []) row ≡ reply_values i) × (n ≡ numbered i)
+abbrev pub SaysNumbered : Row → NumberKept → Type 0
+SaysNumbered row n = (i : Interchange) × (columns_at (0 ∷ 1 ∷ 2 ∷ []) row ≡ reply_values i) × (n ≡ number_kept i)
     × FitsNumber n
 
 abbrev pub SaysVisit : Row → VisitContent → Type 0

@@ -11,8 +11,8 @@ use Rattle.office_tables.specs.declared.table_fault.TableFault.TheVariants.{Stor
 use Rattle.office_tables.specs.Faults.{IsOfStoreOr}
 
 -- something says what is given
-abbrev pub Said : {A C : Type 0} → (A → C → Type 0) → A → Type 0
-Said {A} {C} Says given = (c : C) × Says given c
+abbrev pub IsSaid : {A C : Type 0} → (A → C → Type 0) → A → Type 0
+IsSaid {A} {C} Says given = (c : C) × Says given c
 
 -- a column that can't be read is that of no office, unless memory was refused
 abbrev pub fault_of_column : Error → TableFault
@@ -33,7 +33,7 @@ Decodes says is_said given (Err fault) = Fails is_said given fault
 
 -- the same, if of what is read the content counts
 abbrev pub ReadsAs : {A X C : Type 0} → (X → C) → (A → C → Type 0) → A → Result X TableFault → Type 0
-ReadsAs content Says = Decodes (λ given read. Says given (content read)) (Said Says)
+ReadsAs content Says = Decodes (λ given read. Says given (content read)) (IsSaid Says)
 
 -- a value that is its own content
 abbrev pub itself : {X : Type 0} → X → X

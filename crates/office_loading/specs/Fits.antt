@@ -11,7 +11,7 @@ use Rattle.terminal_core.specs.declared.change.Source.{Source}
 use Rattle.terminal_core.specs.Rows.{VisitContent}
 use Rattle.yard_core.specs.declared.plan.Block.{Block}
 use Rattle.office_rows.specs.Rows.{Partner, PlaceContent, ListingContent, Setting}
-use Rattle.office_rows.specs.Opened.{Numbered}
+use Rattle.office_rows.specs.Opened.{NumberKept}
 
 -- ---- columns
 
@@ -30,7 +30,7 @@ pub record FitsPartner (partner : Partner) : Type 0 where
   pub code : IsUtf8 partner.code
   pub next : partner.next < 2 ^ 32
 
-pub record FitsNumber (numbered : Numbered) : Type 0 where
+pub record FitsNumber (numbered : NumberKept) : Type 0 where
   pub partner : numbered.partner < 2 ^ 32
   pub number : numbered.number < 2 ^ 32
 

@@ -26,7 +26,7 @@ NamesOlder rows = Names (version_text First) rows ⊎ Names (version_text Second
 
 -- the table of settings has version 1 or 2
 abbrev pub HasOlder : Database → Type 0
-HasOlder db = NamesOlder (db.trees table.setting.tree)
+HasOlder db = NamesOlder (db.trees table.setting_table.tree)
 
 -- Version comes only if no row of the settings names version 1 or 2; what is read or damaged has such a row
 abbrev pub TellsOlder : {X : Type 0} → List Row → Result X TableFault → Type 0

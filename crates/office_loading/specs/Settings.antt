@@ -4,7 +4,7 @@ use Rattle.sqlite.specs.Schema.{Schema}
 use Rattle.sqlite.specs.Table.{Table}
 use Rattle.sqlite_schema.specs.declared.schema.Column.{Column}
 use Rattle.sqlite_schema.specs.Names.{table_named, view_named, column_named}
-use Rattle.office_rows.specs.Tables.{setting}
+use Rattle.office_rows.specs.Tables.{setting_table}
 
 -- neither a table nor a view has the name
 pub record LacksTable (schema : Schema) : Type 0 where
@@ -30,10 +30,10 @@ pub record HasSettings (schema : Schema) (tree : ℕ) : Type 0 where
   pub table : Table
   pub there : slice_get schema.tables at ≡ Some table
   pub more : List Column
-  pub columns : table.columns ≡ setting.columns ++ more
+  pub columns : table.columns ≡ setting_table.columns ++ more
   pub no_rowid : table.key ≡ None
   pub tree_is : table.tree ≡ tree
 
 -- the office's table of settings, if its rows are in this tree
 abbrev pub setting_in : ℕ → Table
-setting_in tree = record setting { tree = tree }
+setting_in tree = record setting_table { tree = tree }

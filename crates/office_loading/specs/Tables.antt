@@ -12,7 +12,7 @@ use Rattle.office_setup.specs.Setups.{SetupContent}
 use Rattle.office_rows.specs.Tables as table
 use Rattle.office_rows.specs.Rows.{Partner, PlaceContent, ListingContent, Setting}
 use Rattle.office_rows.specs.Values.{partner_values, visit_values, place_values, line_values, setting_values, block_values}
-use Rattle.office_rows.specs.Opening.{setting, tables_version}
+use Rattle.office_rows.specs.Opening.{setting_row, tables_version}
 use Rattle.office_rows.specs.Layouts.{Layout, bare, weighed}
 use Rattle.office_rows.specs.Bare.{weighed_in}
 use Rattle.office_rows.specs.Stored.{columns_of}
@@ -31,23 +31,23 @@ use Rattle.office_loading.specs.Fits.{FitsPartner, FitsNumber, FitsVisit, FitsPl
 -- ---- one table
 
 abbrev pub ShowsPartners : Database → List Partner → Type 0
-ShowsPartners db all = ShowsTable table.partner (0 ∷ 1 ∷ 2 ∷ 3 ∷ []) (0 ∷ []) db (map partner_values all)
+ShowsPartners db all = ShowsTable table.partner_table (0 ∷ 1 ∷ 2 ∷ 3 ∷ []) (0 ∷ []) db (map partner_values all)
 
 abbrev pub ShowsVisits : Database → List VisitContent → Type 0
-ShowsVisits db all = ShowsTable table.visit (0 ∷ 1 ∷ 2 ∷ 3 ∷ 4 ∷ 5 ∷ 6 ∷ 7 ∷ 8 ∷ 9 ∷ 10 ∷ 11 ∷ 12 ∷ 13 ∷ 14 ∷ [])
+ShowsVisits db all = ShowsTable table.visit_table (0 ∷ 1 ∷ 2 ∷ 3 ∷ 4 ∷ 5 ∷ 6 ∷ 7 ∷ 8 ∷ 9 ∷ 10 ∷ 11 ∷ 12 ∷ 13 ∷ 14 ∷ [])
     (0 ∷ []) db (map visit_values all)
 
 abbrev pub ShowsPlaces : Database → List PlaceContent → Type 0
-ShowsPlaces db all = ShowsTable table.place (0 ∷ 1 ∷ 2 ∷ []) (0 ∷ []) db (map place_values all)
+ShowsPlaces db all = ShowsTable table.place_table (0 ∷ 1 ∷ 2 ∷ []) (0 ∷ []) db (map place_values all)
 
 abbrev pub ShowsLines : Database → List ListingContent → Type 0
-ShowsLines db all = ShowsTable table.listed (0 ∷ 1 ∷ 2 ∷ 3 ∷ 4 ∷ 5 ∷ []) (0 ∷ 1 ∷ 2 ∷ 3 ∷ []) db (map line_values all)
+ShowsLines db all = ShowsTable table.listing_table (0 ∷ 1 ∷ 2 ∷ 3 ∷ 4 ∷ 5 ∷ []) (0 ∷ 1 ∷ 2 ∷ 3 ∷ []) db (map line_values all)
 
 abbrev pub ShowsSettings : Database → List Setting → Type 0
-ShowsSettings db all = ShowsTable table.setting (0 ∷ 1 ∷ []) (0 ∷ []) db (map setting_values all)
+ShowsSettings db all = ShowsTable table.setting_table (0 ∷ 1 ∷ []) (0 ∷ []) db (map setting_values all)
 
 abbrev pub ShowsBlocks : Database → List Block → Type 0
-ShowsBlocks db all = ShowsTable table.block (0 ∷ 1 ∷ 2 ∷ 3 ∷ []) (0 ∷ []) db (map block_values all)
+ShowsBlocks db all = ShowsTable table.block_table (0 ∷ 1 ∷ 2 ∷ 3 ∷ []) (0 ∷ []) db (map block_values all)
 
 -- some record that the table shows doesn't fit the types of a row, or the store failed
 abbrev pub FailsTable : {C : Type 0} → (C → Type 0) → (List C → Type 0) → TableFault → Type 0
@@ -78,7 +78,7 @@ Tells named (Err (Store error)) = Unit {0}
 
 -- one of these rows of a table of settings names this version
 abbrev pub Names : List ℕ → List Row → Type 0
-Names text rows = Contains (map (columns_of table.setting) rows) (setting_values (setting (codes "version") text))
+Names text rows = Contains (map (columns_of table.setting_table) rows) (setting_values (setting_row (codes "version") text))
 
 -- one of these rows of a table of settings names the version that this office reads
 abbrev pub NamesVersion : List Row → Type 0
@@ -86,7 +86,7 @@ NamesVersion rows = Names tables_version rows
 
 -- the table of settings has the version that this office reads
 abbrev pub HasVersion : Database → Type 0
-HasVersion db = NamesVersion (db.trees table.setting.tree)
+HasVersion db = NamesVersion (db.trees table.setting_table.tree)
 
 -- Version comes only if no row of the settings names it; what is read or damaged has such a row
 abbrev pub TellsVersion : {X : Type 0} → List Row → Result X TableFault → Type 0

@@ -2,7 +2,7 @@
 use Rattle.std.specs.Prelude.{ℕ, ◌<◌, ◌^◌, ◌==◌, ◌&&◌, nat_lt, Bool, List, [], ◌∷◌, Contains, map, filter}
 use Rattle.sqlite.specs.Order.{Row}
 use Rattle.office_rows.specs.Rows.{Interchange, Rows}
-use Rattle.office_rows.specs.Values.{number}
+use Rattle.office_rows.specs.Values.{number_value}
 
 -- it is kept for that partner, beyond the number that is next
 abbrev pub is_waiting : ℕ → ℕ → Interchange → Bool
@@ -18,7 +18,7 @@ waiting_numbers partner next rows = map (λ (i : Interchange). i.number) (waitin
 
 -- what a query of their numbers shows of each
 abbrev pub waiting_values : Interchange → Row
-waiting_values i = number i.number ∷ []
+waiting_values i = number_value i.number ∷ []
 
 -- one of them has a number of more than 32 bits
 abbrev pub HasHighWaiting : ℕ → ℕ → Rows → Type 0

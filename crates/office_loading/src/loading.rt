@@ -1,13 +1,13 @@
 ghost use Rattle.std.specs.Prelude.{◌≡◌, ℕ, IfOk, IfErr, IsErrAnd, ◌<◌, ◌^◌, List, ⊤, map};
 ghost use Rattle.office_loading.specs.Columns.{SaysSource, SaysArrival, SaysExit, IsOpen, SaysNumber};
-ghost use Rattle.office_loading.specs.Decoded.{Decodes, ReadsAs, itself, Said, FailsOne};
+ghost use Rattle.office_loading.specs.Decoded.{Decodes, ReadsAs, itself, IsSaid, FailsOne};
 ghost use Rattle.office_loading.specs.Settings.{HasNoSettings, HasSettings};
 ghost use Rattle.office_loading.specs.Tables.{Loads, FailsToLoad, TellsVersion, fault_of_restoring, ReadsTables, HasHighNext, ShowsPartners};
 ghost use Rattle.office_rows.specs.Rows.{Partner};
 ghost use Rattle.office_rows.specs.Shown.{AreNexts};
 ghost use Rattle.office_rows.specs.Stored.{HasRows};
 ghost use Rattle.office_rows.specs.Tables.{office_schema};
-ghost use Rattle.office_rows.specs.Values.{number};
+ghost use Rattle.office_rows.specs.Values.{number_value};
 ghost use Rattle.office_setup.specs.Given.{IsGiven};
 ghost use Rattle.office_setup.specs.Setups.{setup_content};
 ghost use Rattle.office_tables.specs.Faults.{IsOfStore, IsOfStoreOr};
@@ -161,8 +161,8 @@ pub fn nexts<S: Alter>(alloc: Global, conn: &mut Connection<S>) -> Result<Vec<u3
 }
 
 fn read_nexts(alloc: Global, rows: &[Row]) -> Result<Vec<u32>, TableFault>
-    ensures ok { IfOk result (λ nexts. map number nexts.items ≡ map (λ row. column row 3) rows.now) }
-    ensures err { IfErr result (FailsOne (λ row. Said (SaysNumber (2 ^ 32)) (column row 3)) rows.now) }
+    ensures ok { IfOk result (λ nexts. map number_value nexts.items ≡ map (λ row. column row 3) rows.now) }
+    ensures err { IfErr result (FailsOne (λ row. IsSaid (SaysNumber (2 ^ 32)) (column row 3)) rows.now) }
 {
     let mut nexts = Vec::new(alloc);
     for row in rows {

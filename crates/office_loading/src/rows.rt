@@ -2,11 +2,11 @@ ghost use Rattle.std.specs.List.Sorted.{IsPermutation};
 ghost use Rattle.std.specs.Prelude.{◌≡◌, OnOk, ◌++◌, [], ◌∷◌, ◌^◌, ⊤, IfOk, IfErr, map};
 ghost use Rattle.office_checks.specs.Contents.{setting_content, partner_content, number_content, place_content};
 ghost use Rattle.office_loading.specs.Columns.{SaysSetting, SaysBlock, SaysPartner, SaysNumbered, SaysVisit, SaysPlace, SaysLine, SaysNumber};
-ghost use Rattle.office_loading.specs.Decoded.{Decodes, DecodesAll, Said, FailsOne};
+ghost use Rattle.office_loading.specs.Decoded.{Decodes, DecodesAll, IsSaid, FailsOne};
 ghost use Rattle.office_loading.specs.Waiting.{HasHighWaiting, waiting_numbers};
 ghost use Rattle.office_rows.specs.Rows.{listing_content};
 ghost use Rattle.office_rows.specs.Stored.{HasRows};
-ghost use Rattle.office_rows.specs.Values.{number};
+ghost use Rattle.office_rows.specs.Values.{number_value};
 ghost use Rattle.office_tables.specs.Faults.{IsOfStoreOr};
 ghost use Rattle.office_tables.specs.Reading.{Reads};
 ghost use Rattle.sqlite.specs.Held.{state};
@@ -64,7 +64,7 @@ pub(crate) fn append<T: Drop>(records: &mut Vec<T>, one: T) -> Result<(), AllocE
 impl Record for Setting {
     ghost says = { λ row read. SaysSetting row (setting_content read) };
 
-    ghost is_said = { Said SaysSetting };
+    ghost is_said = { IsSaid SaysSetting };
 
     fn read(row: &Row) -> Result<Setting, TableFault> {
         let name = text_at(row, 0)?;
@@ -76,7 +76,7 @@ impl Record for Setting {
 impl Record for Block {
     ghost says = { λ row read. SaysBlock row (read) };
 
-    ghost is_said = { Said SaysBlock };
+    ghost is_said = { IsSaid SaysBlock };
 
     fn read(row: &Row) -> Result<Block, TableFault> {
         let letter = letter_at(row, 0)?;
@@ -95,7 +95,7 @@ impl Record for Block {
 impl Record for PartnerRow {
     ghost says = { λ row read. SaysPartner row (partner_content read) };
 
-    ghost is_said = { Said SaysPartner };
+    ghost is_said = { IsSaid SaysPartner };
 
     fn read(row: &Row) -> Result<PartnerRow, TableFault> {
         let id = number_at(row, 0)?;
@@ -114,7 +114,7 @@ impl Record for PartnerRow {
 impl Record for NumberRow {
     ghost says = { λ row read. SaysNumbered row (number_content read) };
 
-    ghost is_said = { Said SaysNumbered };
+    ghost is_said = { IsSaid SaysNumbered };
 
     fn read(row: &Row) -> Result<NumberRow, TableFault> {
         let partner = number_at(row, 0)?;
@@ -131,7 +131,7 @@ impl Record for NumberRow {
 impl Record for Visit {
     ghost says = { λ row read. SaysVisit row (visit_content read) };
 
-    ghost is_said = { Said SaysVisit };
+    ghost is_said = { IsSaid SaysVisit };
 
     fn read(row: &Row) -> Result<Visit, TableFault> {
         let number = number_at(row, 0)?;
@@ -158,7 +158,7 @@ impl Record for Visit {
 impl Record for Place {
     ghost says = { λ row read. SaysPlace row (place_content read) };
 
-    ghost is_said = { Said SaysPlace };
+    ghost is_said = { IsSaid SaysPlace };
 
     fn read(row: &Row) -> Result<Place, TableFault> {
         let container = container_at(row, 0)?;
@@ -175,7 +175,7 @@ impl Record for Place {
 impl Record for Listing {
     ghost says = { λ row read. SaysLine row (listing_content read) };
 
-    ghost is_said = { Said SaysLine };
+    ghost is_said = { IsSaid SaysLine };
 
     fn read(row: &Row) -> Result<Listing, TableFault> {
         let vessel = text_at(row, 0)?;
@@ -217,8 +217,8 @@ pub fn waiting_numbers<S: Alter>(
 }
 
 fn read_numbers(alloc: Global, rows: &[Row]) -> Result<Vec<u32>, TableFault>
-    ensures ok { IfOk result (λ numbers. map number numbers.items ≡ map (λ row. column row 0) rows.now) }
-    ensures err { IfErr result (FailsOne (λ row. Said (SaysNumber (2 ^ 32)) (column row 0)) rows.now) }
+    ensures ok { IfOk result (λ numbers. map number_value numbers.items ≡ map (λ row. column row 0) rows.now) }
+    ensures err { IfErr result (FailsOne (λ row. IsSaid (SaysNumber (2 ^ 32)) (column row 0)) rows.now) }
 {
     let mut numbers = Vec::new(alloc);
     for row in rows {

@@ -7,7 +7,7 @@ ghost use Rattle.office_rows.specs.Layouts.{Layout, schema_in};
 ghost use Rattle.office_rows.specs.Rows.{Rows};
 ghost use Rattle.office_rows.specs.Shown.{ShowsTable};
 ghost use Rattle.office_rows.specs.Stored.{HasRows};
-ghost use Rattle.office_rows.specs.Tables.{partner, place, setting, block};
+ghost use Rattle.office_rows.specs.Tables.{partner_table, place_table, setting_table, block_table};
 ghost use Rattle.office_tables.specs.Faults.{IsOfStore};
 ghost use Rattle.office_tables.specs.Reading.{OnlyShows, Reads};
 ghost use Rattle.sqlite.specs.Held.{state};
@@ -31,7 +31,7 @@ fn select<S: Alter>(conn: &mut Connection<S>, query: &str) -> Result<Vec<Row>, T
 pub(crate) fn select_partners<S: Alter>(conn: &mut Connection<S>) -> Result<Vec<Row>, TableFault>
     ensures shown { HasCleanDisk (state S.Store conn.new) → (layout : Layout) →
         (state S.Store conn.old).now.schema ≡ schema_in layout → IfOk result (λ answer.
-        ShowsTable partner (0 ∷ 1 ∷ 2 ∷ 3 ∷ []) (0 ∷ []) (weighed_in layout (state S.Store conn.old).now)
+        ShowsTable partner_table (0 ∷ 1 ∷ 2 ∷ 3 ∷ []) (0 ∷ []) (weighed_in layout (state S.Store conn.old).now)
         answer.items) }
     ensures fault { IfErr result IsOfStore }
     ensures reads { Reads (state S.Store conn.old) (state S.Store conn.new) result }
@@ -42,7 +42,7 @@ pub(crate) fn select_partners<S: Alter>(conn: &mut Connection<S>) -> Result<Vec<
 /// The rows of all containers in the yard, by their numbers.
 pub(crate) fn select_places<S: Alter>(conn: &mut Connection<S>) -> Result<Vec<Row>, TableFault>
     ensures shown { HasCleanDisk (state S.Store conn.new) → (layout : Layout) →
-        (state S.Store conn.old).now.schema ≡ schema_in layout → IfOk result (λ answer. ShowsTable place (0 ∷ 1 ∷ 2 ∷ []) (0 ∷ []) (weighed_in layout (state S.Store conn.old).now)
+        (state S.Store conn.old).now.schema ≡ schema_in layout → IfOk result (λ answer. ShowsTable place_table (0 ∷ 1 ∷ 2 ∷ []) (0 ∷ []) (weighed_in layout (state S.Store conn.old).now)
         answer.items) }
     ensures fault { IfErr result IsOfStore }
     ensures reads { Reads (state S.Store conn.old) (state S.Store conn.new) result }
@@ -53,7 +53,7 @@ pub(crate) fn select_places<S: Alter>(conn: &mut Connection<S>) -> Result<Vec<Ro
 /// The rows of all settings, by their names.
 pub(crate) fn select_settings<S: Alter>(conn: &mut Connection<S>) -> Result<Vec<Row>, TableFault>
     ensures shown { HasCleanDisk (state S.Store conn.new) → (layout : Layout) →
-        (state S.Store conn.old).now.schema ≡ schema_in layout → IfOk result (λ answer. ShowsTable setting (0 ∷ 1 ∷ []) (0 ∷ []) (state S.Store conn.old).now answer.items) }
+        (state S.Store conn.old).now.schema ≡ schema_in layout → IfOk result (λ answer. ShowsTable setting_table (0 ∷ 1 ∷ []) (0 ∷ []) (state S.Store conn.old).now answer.items) }
     ensures missing { HasCleanDisk (state S.Store conn.new) → HasNoSettings (state S.Store conn.old).now.schema →
         IfOk result (λ _. ⊥) }
     ensures there { HasCleanDisk (state S.Store conn.new) → (tree : ℕ) →
@@ -69,7 +69,7 @@ pub(crate) fn select_settings<S: Alter>(conn: &mut Connection<S>) -> Result<Vec<
 pub(crate) fn select_blocks<S: Alter>(conn: &mut Connection<S>) -> Result<Vec<Row>, TableFault>
     ensures shown { HasCleanDisk (state S.Store conn.new) → (layout : Layout) →
         (state S.Store conn.old).now.schema ≡ schema_in layout → IfOk result (λ answer.
-        ShowsTable block (0 ∷ 1 ∷ 2 ∷ 3 ∷ []) (0 ∷ []) (weighed_in layout (state S.Store conn.old).now)
+        ShowsTable block_table (0 ∷ 1 ∷ 2 ∷ 3 ∷ []) (0 ∷ []) (weighed_in layout (state S.Store conn.old).now)
         answer.items) }
     ensures fault { IfErr result IsOfStore }
     ensures reads { Reads (state S.Store conn.old) (state S.Store conn.new) result }

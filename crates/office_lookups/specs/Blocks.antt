@@ -25,21 +25,21 @@ abbrev pub is_under : TerminalState → Standing → Bool
 is_under state standing = is_some (blocker_in state standing.container)
 
 -- the highest tier in which one stands
-abbrev pub highest : List Standing → ℕ
-highest [] = 0
-highest (standing ∷ standings) = max standing.slot.tier (highest standings)
+abbrev pub highest_tier : List Standing → ℕ
+highest_tier [] = 0
+highest_tier (standing ∷ standings) = max standing.slot.tier (highest_tier standings)
 
 -- a forty uses two cells
-abbrev pub used : List Standing → ℕ
-used standings = count_by is_twenty standings + 2 * count_by is_forty standings
+abbrev pub used_cells : List Standing → ℕ
+used_cells standings = count_by is_twenty standings + 2 * count_by is_forty standings
 
 -- USED u TWENTIES x FORTIES y UNDER z HIGHEST h
 abbrev pub use_words : TerminalState → List Standing → List (List ℕ)
 use_words state standings =
-    codes "USED" ∷ decimal (used standings) ∷ codes "TWENTIES" ∷ decimal (count_by is_twenty standings)
+    codes "USED" ∷ decimal (used_cells standings) ∷ codes "TWENTIES" ∷ decimal (count_by is_twenty standings)
     ∷ codes "FORTIES" ∷ decimal (count_by is_forty standings)
     ∷ codes "UNDER" ∷ decimal (count_by (is_under state) standings)
-    ∷ codes "HIGHEST" ∷ decimal (highest standings) ∷ []
+    ∷ codes "HIGHEST" ∷ decimal (highest_tier standings) ∷ []
 
 -- how many twenties a block holds
 unfoldable pub cell_count : Block → ℕ

@@ -3,7 +3,7 @@ ghost use Rattle.std.specs.List.{flat_map};
 ghost use Rattle.std.specs.Map.{values_of};
 ghost use Rattle.yard_core.specs.Plan.{IsPlan, IsSized};
 ghost use Rattle.office_reports.specs.Names.{phrase};
-ghost use Rattle.office_lookups.specs.Blocks.{IsBlocksReport, block_line, blocks_end, cell_count, highest, is_forty, is_in, is_twenty, is_under, size_words, use_words};
+ghost use Rattle.office_lookups.specs.Blocks.{IsBlocksReport, block_line, blocks_end, cell_count, highest_tier, is_forty, is_in, is_twenty, is_under, size_words, use_words};
 
 use office_replies::text_of;
 use office_reports::Standing;
@@ -211,7 +211,7 @@ fn under_count(terminal: &Terminal, standings: &[Standing]) -> usize
 
 /// The highest tier in which one stands.
 fn highest(standings: &[Standing]) -> u8
-    ensures { result ≡ highest standings.now }
+    ensures { result ≡ highest_tier standings.now }
 {
     let mut highest = 0;
     for standing in standings {

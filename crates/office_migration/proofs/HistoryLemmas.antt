@@ -13,7 +13,7 @@ use Rattle.office_rows.specs.Tables as table
 use Rattle.office_rows.specs.Layouts.{bare, layout_of}
 use Rattle.office_rows.specs.Rows.{Setting}
 use Rattle.office_rows.specs.Values.{setting_values}
-use Rattle.office_rows.specs.Opening.{setting, settings_in, version_text}
+use Rattle.office_rows.specs.Opening.{setting_row, settings_in, version_text}
 use Rattle.office_rows.specs.Stored.{HasRows}
 use Rattle.office_rows.specs.Bare.{with_weights}
 use Rattle.office_rows.specs.Migrated.{migrated_rows}
@@ -36,7 +36,7 @@ of_older Third db older named = absurd cc
 module _ (version : Version) (content : SetupContent) (es : List Event) (db : Database) (it : IsOlderAfter version content es db) where
   has_older : HasOlder db
   has_older =
-      let own : Setting = setting (codes "version") (version_text version) in
+      let own : Setting = setting_row (codes "version") (version_text version) in
       let all = map setting_values (settings_in version (content_after content es)) in
       let first : Has all (setting_values own) = inl refl in
       let named : Contains (map setting_values it.rows.settings) (setting_values own) = subst (λ (l : List Setting). Contains (map setting_values l) (setting_values own)) (sym it.after.settings) (contains_had all (setting_values own) first) in

@@ -10,7 +10,7 @@ use Rattle.sqlite.specs.State.{State}
 use Rattle.sqlite_trees.proofs.ListLemmas.{map-map}
 use Rattle.terminal_core.specs.State.{TerminalState}
 use Rattle.office_setup.specs.Setups.{SetupContent}
-use Rattle.office_rows.specs.Tables.{partner, interchange, visit, place, listed, setting, block, office_tables, no_schema}
+use Rattle.office_rows.specs.Tables.{partner_table, interchange_table, visit_table, place_table, listing_table, setting_table, block_table, office_tables, no_schema}
 use Rattle.office_rows.specs.Layouts.{bare_schema}
 use Rattle.office_rows.specs.Rows.{Interchange, Rows}
 use Rattle.office_rows.specs.Values.{partner_values, interchange_values, visit_values, place_values, line_values, setting_values, block_values}
@@ -52,19 +52,19 @@ module _ (db : Database) (rows : OpenedRows) (content : SetupContent) (state : T
   rows_copied trees new =
       let seen = with_weights db in
       let old = has.rows_are in
-      let named = shown_as setting setting_values (0 ∷ 1 ∷ []) (0 ∷ []) (λ x. refl) seen own.settings rows.settings old.settings shown.settings in
+      let named = shown_as setting_table setting_values (0 ∷ 1 ∷ []) (0 ∷ []) (λ x. refl) seen own.settings rows.settings old.settings shown.settings in
       let settings : IsPermutation (map setting_values (migrated_settings own.settings)) (map setting_values (migrated_settings rows.settings)) =
       subst (λ l. IsPermutation l (map setting_values (migrated_settings rows.settings))) (sym (renamed_all own.settings))
       (subst (IsPermutation (map renamed_columns (map setting_values own.settings))) (sym (renamed_all rows.settings)) (IsPermutation-map renamed_columns _ _ named)) in
       let interchanges = copied_all seen rows.numbers shown.numbers rows.partners content.partners office.accounts office.kept own.interchanges copied old.interchanges pairs in
       record {
-        partners = shown_held partner partner_values (0 ∷ 1 ∷ 2 ∷ 3 ∷ []) (0 ∷ []) (λ x. refl) seen own.partners rows.partners old.partners shown.partners (trees 0) new.partners;
-        interchanges = held_as interchange interchange_values own.interchanges copied (trees 2) (IsPermutation-map interchange_values _ _ interchanges) new.interchanges;
-        visits = shown_held visit visit_values (0 ∷ 1 ∷ 2 ∷ 3 ∷ 4 ∷ 5 ∷ 6 ∷ 7 ∷ 8 ∷ 9 ∷ 10 ∷ 11 ∷ 12 ∷ 13 ∷ 14 ∷ []) (0 ∷ []) (λ x. refl) seen own.visits rows.visits old.visits shown.visits (trees 4) new.visits;
-        places = shown_held place place_values (0 ∷ 1 ∷ 2 ∷ []) (0 ∷ []) (λ x. refl) seen own.places rows.places old.places shown.places (trees 5) new.places;
-        lines = shown_held listed line_values (0 ∷ 1 ∷ 2 ∷ 3 ∷ 4 ∷ 5 ∷ []) (0 ∷ 1 ∷ 2 ∷ 3 ∷ []) (λ x. refl) seen own.lines rows.lines old.lines shown.lines (trees 9) new.lines;
-        settings = held_as setting setting_values (migrated_settings own.settings) (migrated_settings rows.settings) (trees 11) settings new.settings;
-        blocks = shown_held block block_values (0 ∷ 1 ∷ 2 ∷ 3 ∷ []) (0 ∷ []) (λ x. refl) seen own.blocks rows.blocks old.blocks shown.blocks (trees 13) new.blocks;
+        partners = shown_held partner_table partner_values (0 ∷ 1 ∷ 2 ∷ 3 ∷ []) (0 ∷ []) (λ x. refl) seen own.partners rows.partners old.partners shown.partners (trees 0) new.partners;
+        interchanges = held_as interchange_table interchange_values own.interchanges copied (trees 2) (IsPermutation-map interchange_values _ _ interchanges) new.interchanges;
+        visits = shown_held visit_table visit_values (0 ∷ 1 ∷ 2 ∷ 3 ∷ 4 ∷ 5 ∷ 6 ∷ 7 ∷ 8 ∷ 9 ∷ 10 ∷ 11 ∷ 12 ∷ 13 ∷ 14 ∷ []) (0 ∷ []) (λ x. refl) seen own.visits rows.visits old.visits shown.visits (trees 4) new.visits;
+        places = shown_held place_table place_values (0 ∷ 1 ∷ 2 ∷ []) (0 ∷ []) (λ x. refl) seen own.places rows.places old.places shown.places (trees 5) new.places;
+        lines = shown_held listing_table line_values (0 ∷ 1 ∷ 2 ∷ 3 ∷ 4 ∷ 5 ∷ []) (0 ∷ 1 ∷ 2 ∷ 3 ∷ []) (λ x. refl) seen own.lines rows.lines old.lines shown.lines (trees 9) new.lines;
+        settings = held_as setting_table setting_values (migrated_settings own.settings) (migrated_settings rows.settings) (trees 11) settings new.settings;
+        blocks = shown_held block_table block_values (0 ∷ 1 ∷ 2 ∷ 3 ∷ []) (0 ∷ []) (λ x. refl) seen own.blocks rows.blocks old.blocks shown.blocks (trees 13) new.blocks;
       }
 
   pub has_migrated : (new : Database) → HasRows (copied_rows (migrated_opened rows) copied) new → HasRows (migrated_rows own) new

@@ -9,16 +9,16 @@ use Rattle.sqlite_rules.specs.Lists.{Has}
 use Rattle.sqlite_rules.proofs.ListLemmas.{has_contained, contains_had, has_filtered}
 use Rattle.sqlite_trees.proofs.ListLemmas.{map-map}
 use Rattle.edi_messages.specs.declared.codes.PartnerKind.{PartnerKind}
-use Rattle.office_rows.specs.Tables.{interchange}
+use Rattle.office_rows.specs.Tables.{interchange_table}
 use Rattle.office_rows.specs.Rows.{Partner, Interchange}
 use Rattle.office_rows.specs.Values.{interchange_values}
 use Rattle.office_rows.specs.Stored.{Holds}
 use Rattle.office_rows.specs.Shown.{columns_at}
 use Rattle.office_rows.specs.Effects.{is_pair}
-use Rattle.office_rows.specs.Opening.{interchange as interchange_of}
+use Rattle.office_rows.specs.Opening.{interchange_row as interchange_of}
 use Rattle.office_tables.specs.Answers.{RepliesAs}
 use Rattle.office_tables.specs.declared.interchanges.Kept.{Kept}
-use Rattle.office_rows.specs.Opened.{Numbered, numbered, reply_values, ShowsNumbers}
+use Rattle.office_rows.specs.Opened.{NumberKept, number_kept, reply_values, ShowsNumbers}
 use Rattle.office_rows.specs.Office.{AreAccounts, AreKept}
 use Rattle.office_rows.proofs.Listed.{unmapped}
 use Rattle.office_loading.proofs.OfficeLemmas.{replies_same}
@@ -26,8 +26,8 @@ use Rattle.office_loading.proofs.NumberLemmas.{interchanges_differ}
 use Rattle.office_migration.specs.Copies.{IsOfPair, AreOfPairs}
 
 -- the interchanges that a tree holds, in the order of the numbers that are shown
-pub in_order : (db : Database) (numbers : List Numbered) → ShowsNumbers db numbers → (interchanges : List Interchange) → Holds interchange interchange_values interchanges (db.trees 2)
-    → (ordered : List Interchange) × IsPermutation interchanges ordered × (numbers ≡ map numbered ordered)
+pub in_order : (db : Database) (numbers : List NumberKept) → ShowsNumbers db numbers → (interchanges : List Interchange) → Holds interchange_table interchange_values interchanges (db.trees 2)
+    → (ordered : List Interchange) × IsPermutation interchanges ordered × (numbers ≡ map number_kept ordered)
 in_order db numbers shown interchanges held =
     let it = shown.shown in
     let by = IsPermutation-trans _ _ _ held.same it.same in
@@ -35,9 +35,9 @@ in_order db numbers shown interchanges held =
     let replies : map reply_values shown.interchanges ≡ map reply_values placed.0 = it.is ∙ ap (map (columns_at (0 ∷ 1 ∷ 3 ∷ []))) placed.2 ∙ map-map (columns_at (0 ∷ 1 ∷ 3 ∷ [])) interchange_values placed.0 in
     (placed.0, placed.1, shown.are ∙ replies_same shown.interchanges placed.0 replies)
 
-module _ (stored : List Row) (interchanges : List Interchange) (held : Holds interchange interchange_values interchanges stored) (ordered : List Interchange) (same : IsPermutation interchanges ordered)
+module _ (stored : List Row) (interchanges : List Interchange) (held : Holds interchange_table interchange_values interchanges stored) (ordered : List Interchange) (same : IsPermutation interchanges ordered)
     (differ : (i j : Interchange) → Has ordered i → Has ordered j → i.partner ≡ j.partner → i.number ≡ j.number → i ≡ j) where
-  pub copied_same : (some copied : List Interchange) → ((i : Interchange) → Has some i → Has ordered i) → AreOfPairs stored (map numbered some) copied → copied ≡ some
+  pub copied_same : (some copied : List Interchange) → ((i : Interchange) → Has some i → Has ordered i) → AreOfPairs stored (map number_kept some) copied → copied ≡ some
   copied_same [] [] within are = refl
   copied_same [] (c ∷ copied) within are = absurd are
   copied_same (i ∷ some) [] within are = absurd are
@@ -50,8 +50,8 @@ module _ (stored : List Row) (interchanges : List Interchange) (held : Holds int
       ap₂ (λ a l. a ∷ l) (differ c i there (within i (inl refl)) partner n) (copied_same some copied (λ j h. within j (inr h)) are.1)
 
 -- the interchanges that were copied by the numbers of an office are those that the tree holds
-pub copied_all : (db : Database) (numbers : List Numbered) → ShowsNumbers db numbers → (partners : List Partner) (accounts : List (List ℕ × PartnerKind)) → AreAccounts 1 partners accounts → AreKept partners numbers
-    → (interchanges copied : List Interchange) → Holds interchange interchange_values interchanges (db.trees 2) → AreOfPairs (db.trees 2) numbers copied → IsPermutation interchanges copied
+pub copied_all : (db : Database) (numbers : List NumberKept) → ShowsNumbers db numbers → (partners : List Partner) (accounts : List (List ℕ × PartnerKind)) → AreAccounts 1 partners accounts → AreKept partners numbers
+    → (interchanges copied : List Interchange) → Holds interchange_table interchange_values interchanges (db.trees 2) → AreOfPairs (db.trees 2) numbers copied → IsPermutation interchanges copied
 copied_all db numbers shown partners accounts are kept interchanges copied held pairs =
     let o = in_order db numbers shown interchanges held in
     let differ = interchanges_differ partners accounts numbers o.0 are kept o.2 in
@@ -59,7 +59,7 @@ copied_all db numbers shown partners accounts are kept interchanges copied held 
     subst (IsPermutation interchanges) (sym same) o.1
 
 -- pairs that are copied one after the other
-pub one_more : (stored : List Row) (numbers : List Numbered) (copied : List Interchange) (n : Numbered) (one : Interchange) → AreOfPairs stored numbers copied → IsOfPair stored n.partner n.number one → AreOfPairs stored (numbers ++ n ∷ []) (copied ++ one ∷ [])
+pub one_more : (stored : List Row) (numbers : List NumberKept) (copied : List Interchange) (n : NumberKept) (one : Interchange) → AreOfPairs stored numbers copied → IsOfPair stored n.partner n.number one → AreOfPairs stored (numbers ++ n ∷ []) (copied ++ one ∷ [])
 one_more stored [] [] n one are is = (is, tt)
 one_more stored [] (c ∷ copied) n one are is = absurd are
 one_more stored (m ∷ numbers) [] n one are is = absurd are

@@ -1,12 +1,12 @@
 -- What is copied from one store to another.
 use Rattle.std.specs.Prelude.{◌≡◌, ℕ, List, [], ◌∷◌, filter, map, Contains}
 use Rattle.sqlite.specs.Order.{Row}
-use Rattle.office_rows.specs.Tables.{interchange}
+use Rattle.office_rows.specs.Tables.{interchange_table}
 use Rattle.office_rows.specs.Rows.{Interchange, Rows}
 use Rattle.office_rows.specs.Values.{interchange_values, kept_values}
 use Rattle.office_rows.specs.Stored.{Holds}
 use Rattle.office_rows.specs.Effects.{is_pair}
-use Rattle.office_rows.specs.Opened.{Numbered, OpenedRows}
+use Rattle.office_rows.specs.Opened.{NumberKept, OpenedRows}
 use Rattle.std.specs.List.Sorted.{IsPermutation}
 use Rattle.office_tables.specs.Answers.{RepliesAs}
 use Rattle.office_tables.specs.declared.interchanges.Kept.{Kept}
@@ -19,11 +19,11 @@ IsOneOf answer kept = (interchanges : List Interchange) → IsPermutation (map k
 -- of the interchanges that a tree holds, it is one of that partner and number
 abbrev pub IsOfPair : List Row → ℕ → ℕ → Interchange → Type 0
 IsOfPair stored partner number one = (interchanges : List Interchange) →
-    Holds interchange interchange_values interchanges stored →
+    Holds interchange_table interchange_values interchanges stored →
     Contains (filter (is_pair partner number) interchanges) one
 
 -- each is one of the partner and the number at its place
-abbrev pub AreOfPairs : List Row → List Numbered → List Interchange → Type 0
+abbrev pub AreOfPairs : List Row → List NumberKept → List Interchange → Type 0
 AreOfPairs stored [] [] = Unit {0}
 AreOfPairs stored [] (one ∷ copied) = ⊥
 AreOfPairs stored (n ∷ numbers) [] = ⊥

@@ -6,7 +6,7 @@ use Rattle.std.proofs.lemmas.Bool.{cases_Bool, and_parts, false≢true, ne_eqb}
 use Rattle.std.proofs.lemmas.List.{append-nil}
 use Rattle.std.proofs.lemmas.List.Splits.{join_with_byte-slice_split}
 use Rattle.office_picture.specs.Fields.{field_text}
-use Rattle.office_picture.specs.Markup.{Place, Between, Tag, SingleQuoted, DoubleQuoted, behind, behind_all, tags, Shows, nothing, plain, reference}
+use Rattle.office_picture.specs.Markup.{Place, Between, Tag, SingleQuoted, DoubleQuoted, place_after, place_after_all, tags, Shows, nothing, plain, reference}
 use Rattle.office_picture.proofs.Markup.{is_quiet, quiet_stays, quiet_has_none, field_is_quiet, field_is_shown}
 use Rattle.office_queries.specs.declared.query.Query.{Query}
 use Rattle.office_pages.specs.Laws.{between_tags, line_tags, link_tags}
@@ -16,29 +16,29 @@ use Rattle.office_pages.specs.Words.{lines, word_at, words}
 
 -- ---- parts one after the other
 
-behind_append : (p : Place) (a b : List ℕ) → behind_all p (a ++ b) ≡ behind_all (behind_all p a) b
+behind_append : (p : Place) (a b : List ℕ) → place_after_all p (a ++ b) ≡ place_after_all (place_after_all p a) b
 behind_append p [] b = refl
-behind_append p (c ∷ a) b = behind_append (behind p c) a b
+behind_append p (c ∷ a) b = behind_append (place_after p c) a b
 
-tags_append : (p : Place) (a b : List ℕ) → tags p (a ++ b) ≡ tags p a ++ tags (behind_all p a) b
+tags_append : (p : Place) (a b : List ℕ) → tags p (a ++ b) ≡ tags p a ++ tags (place_after_all p a) b
 tags_append p [] b = refl
 tags_append Between (c ∷ a) b = elim (cases_Bool (c == 60)) [
   | inl e ↦ rw e (ap (λ t. c ∷ t) (tags_append Tag a b))
   | inr e ↦ rw e (tags_append Between a b)
 ]
-tags_append Tag (c ∷ a) b = ap (λ t. c ∷ t) (tags_append (behind Tag c) a b)
-tags_append SingleQuoted (c ∷ a) b = ap (λ t. c ∷ t) (tags_append (behind SingleQuoted c) a b)
-tags_append DoubleQuoted (c ∷ a) b = ap (λ t. c ∷ t) (tags_append (behind DoubleQuoted c) a b)
+tags_append Tag (c ∷ a) b = ap (λ t. c ∷ t) (tags_append (place_after Tag c) a b)
+tags_append SingleQuoted (c ∷ a) b = ap (λ t. c ∷ t) (tags_append (place_after SingleQuoted c) a b)
+tags_append DoubleQuoted (c ∷ a) b = ap (λ t. c ∷ t) (tags_append (place_after DoubleQuoted c) a b)
 
-between_append : (p : Place) (a b : List ℕ) → between_tags p (a ++ b) ≡ between_tags p a ++ between_tags (behind_all p a) b
+between_append : (p : Place) (a b : List ℕ) → between_tags p (a ++ b) ≡ between_tags p a ++ between_tags (place_after_all p a) b
 between_append p [] b = refl
 between_append Between (c ∷ a) b = elim (cases_Bool (c == 60)) [
   | inl e ↦ rw e (between_append Tag a b)
   | inr e ↦ rw e (ap (λ t. c ∷ t) (between_append Between a b))
 ]
-between_append Tag (c ∷ a) b = between_append (behind Tag c) a b
-between_append SingleQuoted (c ∷ a) b = between_append (behind SingleQuoted c) a b
-between_append DoubleQuoted (c ∷ a) b = between_append (behind DoubleQuoted c) a b
+between_append Tag (c ∷ a) b = between_append (place_after Tag c) a b
+between_append SingleQuoted (c ∷ a) b = between_append (place_after SingleQuoted c) a b
+between_append DoubleQuoted (c ∷ a) b = between_append (place_after DoubleQuoted c) a b
 
 shows_append : {a s : List ℕ} (b t : List ℕ) → Shows a s → Shows b t → Shows (a ++ b) (s ++ t)
 shows_append b t nothing y = y
@@ -48,13 +48,13 @@ shows_append b t (reference name c text shown is x) y =
 
 -- a part of a page that stands between tags, what it shows, and its tags
 pub record Part (text shown marks : List ℕ) : Type 0 where
-  pub stays : behind_all Between text ≡ Between
+  pub stays : place_after_all Between text ≡ Between
   pub shows : Shows (between_tags Between text) shown
   pub is : tags Between text ≡ marks
 
 pub followed : (a b s t m n : List ℕ) → Part a s m → Part b t n → Part (a ++ b) (s ++ t) (m ++ n)
 followed a b s t m n x y = record {
-  stays = behind_append Between a b ∙ ap (λ place. behind_all place b) x.stays ∙ y.stays;
+  stays = behind_append Between a b ∙ ap (λ place. place_after_all place b) x.stays ∙ y.stays;
   shows = subst (λ (u : List ℕ). Shows u (s ++ t))
       (sym (between_append Between a b ∙ ap (λ place. between_tags Between a ++ between_tags place b) x.stays))
       (shows_append (between_tags Between b) t x.shows y.shows);
@@ -99,21 +99,21 @@ break_part = record { stays = refl; shows = plain 10 [] [] refl nothing; is = re
 -- ---- links
 
 -- a quiet text within a value
-in_value : (text : List ℕ) → list_all is_quiet text ≡ true → behind_all Between (codes "<a href='" ++ text) ≡ SingleQuoted
+in_value : (text : List ℕ) → list_all is_quiet text ≡ true → place_after_all Between (codes "<a href='" ++ text) ≡ SingleQuoted
 in_value text all = quiet_stays SingleQuoted text all
 
 quiet_value : (text : List ℕ) → list_all is_quiet text ≡ true → tags SingleQuoted text ≡ text
 quiet_value [] all = refl
 quiet_value (c ∷ text) all =
     let parts = and_parts (is_quiet c) (list_all is_quiet text) all in
-    let same : behind SingleQuoted c ≡ SingleQuoted = quiet_stays SingleQuoted (c ∷ []) (ap (λ b. b && true) parts.0) in
+    let same : place_after SingleQuoted c ≡ SingleQuoted = quiet_stays SingleQuoted (c ∷ []) (ap (λ b. b && true) parts.0) in
     ap (λ t. c ∷ t) (ap (λ place. tags place text) same ∙ quiet_value text parts.1)
 
 quiet_hides : (text : List ℕ) → list_all is_quiet text ≡ true → between_tags SingleQuoted text ≡ []
 quiet_hides [] all = refl
 quiet_hides (c ∷ text) all =
     let parts = and_parts (is_quiet c) (list_all is_quiet text) all in
-    let same : behind SingleQuoted c ≡ SingleQuoted = quiet_stays SingleQuoted (c ∷ []) (ap (λ b. b && true) parts.0) in
+    let same : place_after SingleQuoted c ≡ SingleQuoted = quiet_stays SingleQuoted (c ∷ []) (ap (λ b. b && true) parts.0) in
     ap (λ place. between_tags place text) same ∙ quiet_hides text parts.1
 
 value_tags : (text : List ℕ) → list_all is_quiet text ≡ true → tags Between (codes "<a href='" ++ text) ≡ codes "<a href='" ++ text
@@ -130,7 +130,7 @@ first_part address =
     let front = codes "<a href='" ++ field in
     let back = codes "'>" in
     record {
-      stays = behind_append Between front back ∙ ap (λ place. behind_all place back) (in_value field all);
+      stays = behind_append Between front back ∙ ap (λ place. place_after_all place back) (in_value field all);
       shows = subst (λ (u : List ℕ). Shows u []) (sym (between_append Between front back
           ∙ (λ i. value_hides field all i ++ between_tags (in_value field all i) back))) nothing;
       is = tags_append Between front back ∙ (λ i. value_tags field all i ++ tags (in_value field all i) back);

@@ -2,7 +2,7 @@
 use Rattle.std.specs.Prelude.{◌≡◌, ℕ, List, [], ◌∷◌, ◌++◌, ◌==◌, length, codes, Option, None, Some, if◌then◌else◌}
 use Rattle.std.specs.List.{flat_map, range_with_len}
 use Rattle.office_picture.specs.Fields.{field_text}
-use Rattle.office_picture.specs.Markup.{Place, Between, Tag, SingleQuoted, DoubleQuoted, behind, behind_all, tags, Shows}
+use Rattle.office_picture.specs.Markup.{Place, Between, Tag, SingleQuoted, DoubleQuoted, place_after, place_after_all, tags, Shows}
 use Rattle.office_queries.specs.declared.query.Query.{Query}
 use Rattle.office_pages.specs.Links.{link_at}
 use Rattle.office_pages.specs.Pages.{body_bytes}
@@ -14,9 +14,9 @@ use Rattle.office_pages.specs.Words.{lines, words}
 abbrev pub between_tags : Place → List ℕ → List ℕ
 between_tags place [] = []
 between_tags Between (c ∷ text) = if c == 60 then between_tags Tag text else c ∷ between_tags Between text
-between_tags Tag (c ∷ text) = between_tags (behind Tag c) text
-between_tags SingleQuoted (c ∷ text) = between_tags (behind SingleQuoted c) text
-between_tags DoubleQuoted (c ∷ text) = between_tags (behind DoubleQuoted c) text
+between_tags Tag (c ∷ text) = between_tags (place_after Tag c) text
+between_tags SingleQuoted (c ∷ text) = between_tags (place_after SingleQuoted c) text
+between_tags DoubleQuoted (c ∷ text) = between_tags (place_after DoubleQuoted c) text
 
 -- what a page has of a report shows the report's own text, character by character
 abbrev pub ReportsAreShown : Type 0
@@ -24,7 +24,7 @@ ReportsAreShown = (asked : Query) (text : List ℕ) → Shows (between_tags Betw
 
 -- what follows it stands between tags: the report begins no tag that it doesn't end
 abbrev pub ReportsStayInPlace : Type 0
-ReportsStayInPlace = (asked : Query) (text : List ℕ) → behind_all Between (body_bytes asked text) ≡ Between
+ReportsStayInPlace = (asked : Query) (text : List ℕ) → place_after_all Between (body_bytes asked text) ≡ Between
 
 -- ---- what is taken for markup
 

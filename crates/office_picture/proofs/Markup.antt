@@ -6,7 +6,7 @@ use Rattle.std.specs.Fmt.{digit_glyph, digits_onto, digits}
 use Rattle.std.proofs.lemmas.Bool.{and_parts, and_from, cases_Bool, eqb-true, ne_eqb, lt-ltb}
 use Rattle.std.proofs.lemmas.List.Folds.{list_all-append}
 use Rattle.office_picture.specs.Fields.{character_text, field_text}
-use Rattle.office_picture.specs.Markup.{Place, Between, Tag, SingleQuoted, DoubleQuoted, behind, behind_all, tags, is_plain, Refers, amp, lt, gt, quot, apos, numbered, Shows, nothing, plain, reference}
+use Rattle.office_picture.specs.Markup.{Place, Between, Tag, SingleQuoted, DoubleQuoted, place_after, place_after_all, tags, is_plain, Refers, amp, lt, gt, quot, apos, numbered, Shows, nothing, plain, reference}
 
 -- none of < > ' "
 abbrev pub is_quiet : ℕ → Bool
@@ -32,18 +32,18 @@ tested c quiet =
 by_tests : (c : ℕ) → Tests c → is_quiet c ≡ true
 by_tests c t = rw (t.less, t.greater, t.apostrophe, t.quote) refl
 
-quiet_byte : (place : Place) (c : ℕ) → is_quiet c ≡ true → behind place c ≡ place
+quiet_byte : (place : Place) (c : ℕ) → is_quiet c ≡ true → place_after place c ≡ place
 quiet_byte Between c quiet = let t = tested c quiet in rw t.less refl
 quiet_byte Tag c quiet = let t = tested c quiet in rw (t.greater, t.apostrophe, t.quote) refl
 quiet_byte SingleQuoted c quiet = let t = tested c quiet in rw t.apostrophe refl
 quiet_byte DoubleQuoted c quiet = let t = tested c quiet in rw t.quote refl
 
 -- behind a quiet text the place is the same
-pub quiet_stays : (place : Place) (text : List ℕ) → list_all is_quiet text ≡ true → behind_all place text ≡ place
+pub quiet_stays : (place : Place) (text : List ℕ) → list_all is_quiet text ≡ true → place_after_all place text ≡ place
 quiet_stays place [] all = refl
 quiet_stays place (c ∷ text) all =
     let parts = and_parts (is_quiet c) (list_all is_quiet text) all in
-    ap (λ next. behind_all next text) (quiet_byte place c parts.0) ∙ quiet_stays place text parts.1
+    ap (λ next. place_after_all next text) (quiet_byte place c parts.0) ∙ quiet_stays place text parts.1
 
 -- it has no tag
 pub quiet_has_none : (text : List ℕ) → list_all is_quiet text ≡ true → tags Between text ≡ []

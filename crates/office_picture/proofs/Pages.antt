@@ -8,10 +8,10 @@ use Rattle.box6346.specs.declared.slot.Slot.{Slot}
 use Rattle.yard_core.specs.declared.plan.Block.{Block}
 use Rattle.office_reports.specs.declared.yard.Standing.{Standing}
 use Rattle.office_reports.specs.Names.{load_name}
-use Rattle.office_picture.specs.Fields.{field_text, joined}
+use Rattle.office_picture.specs.Fields.{field_text, joined_pieces}
 use Rattle.office_picture.specs.Fixed.{head, shapes, legend}
-use Rattle.office_picture.specs.Laws.{drawn}
-use Rattle.office_picture.specs.Markup.{Place, Between, Tag, SingleQuoted, DoubleQuoted, behind, behind_all, tags}
+use Rattle.office_picture.specs.Laws.{drawn_containers}
+use Rattle.office_picture.specs.Markup.{Place, Between, Tag, SingleQuoted, DoubleQuoted, place_after, place_after_all, tags}
 use Rattle.office_picture.specs.Picture.{page_head, page_text}
 use Rattle.office_picture.specs.Views.{is_forty, shape_name, title_text, shape_view, lettering, container_view, is_in_row, view_in_row, row_head, row_view, bay_label, bay_labels, tier_label, tier_labels, cells_view, labels, grid, used_cells, block_head, block_view, block_link, index}
 use Rattle.office_picture.proofs.Markup.{is_quiet, quiet_stays, quiet_has_none, decimal_is_quiet, both_quiet, field_is_quiet}
@@ -20,28 +20,28 @@ use Rattle.office_picture.proofs.Markup.{is_quiet, quiet_stays, quiet_has_none, 
 
 -- two texts that begin at one place, end at one, and have the same tags
 pub record Alike (p q : Place) (a b : List ℕ) : Type 0 where
-  pub one : behind_all p a ≡ q
-  pub other : behind_all p b ≡ q
+  pub one : place_after_all p a ≡ q
+  pub other : place_after_all p b ≡ q
   pub same : tags p a ≡ tags p b
 
-behind_append : (p : Place) (a b : List ℕ) → behind_all p (a ++ b) ≡ behind_all (behind_all p a) b
+behind_append : (p : Place) (a b : List ℕ) → place_after_all p (a ++ b) ≡ place_after_all (place_after_all p a) b
 behind_append p [] b = refl
-behind_append p (c ∷ a) b = behind_append (behind p c) a b
+behind_append p (c ∷ a) b = behind_append (place_after p c) a b
 
-tags_append : (p : Place) (a b : List ℕ) → tags p (a ++ b) ≡ tags p a ++ tags (behind_all p a) b
+tags_append : (p : Place) (a b : List ℕ) → tags p (a ++ b) ≡ tags p a ++ tags (place_after_all p a) b
 tags_append p [] b = refl
 tags_append Between (c ∷ a) b = elim (cases_Bool (c == 60)) [
   | inl e ↦ rw e (ap (λ t. c ∷ t) (tags_append Tag a b))
   | inr e ↦ rw e (tags_append Between a b)
 ]
-tags_append Tag (c ∷ a) b = ap (λ t. c ∷ t) (tags_append (behind Tag c) a b)
-tags_append SingleQuoted (c ∷ a) b = ap (λ t. c ∷ t) (tags_append (behind SingleQuoted c) a b)
-tags_append DoubleQuoted (c ∷ a) b = ap (λ t. c ∷ t) (tags_append (behind DoubleQuoted c) a b)
+tags_append Tag (c ∷ a) b = ap (λ t. c ∷ t) (tags_append (place_after Tag c) a b)
+tags_append SingleQuoted (c ∷ a) b = ap (λ t. c ∷ t) (tags_append (place_after SingleQuoted c) a b)
+tags_append DoubleQuoted (c ∷ a) b = ap (λ t. c ∷ t) (tags_append (place_after DoubleQuoted c) a b)
 
 followed : (p q r : Place) (a b c d : List ℕ) → Alike p q a b → Alike q r c d → Alike p r (a ++ c) (b ++ d)
 followed p q r a b c d x y = record {
-  one = behind_append p a c ∙ ap (λ place. behind_all place c) x.one ∙ y.one;
-  other = behind_append p b d ∙ ap (λ place. behind_all place d) x.other ∙ y.other;
+  one = behind_append p a c ∙ ap (λ place. place_after_all place c) x.one ∙ y.one;
+  other = behind_append p b d ∙ ap (λ place. place_after_all place d) x.other ∙ y.other;
   same = tags_append p a c ∙ ap (λ place. tags p a ++ tags place c) x.one ∙ (λ i. x.same i ++ y.same i)
       ∙ sym (ap (λ place. tags p b ++ tags place d) x.other) ∙ sym (tags_append p b d);
 }
@@ -50,7 +50,7 @@ followed p q r a b c d x y = record {
 next : {p q r : Place} {a b c d : List ℕ} → Alike p q a b → Alike q r c d → Alike p r (a ++ c) (b ++ d)
 next {p = p} {q = q} {r = r} {a = a} {b = b} {c = c} {d = d} x y = followed p q r a b c d x y
 
-fixed : (p q : Place) (a : List ℕ) → behind_all p a ≡ q → Alike p q a a
+fixed : (p q : Place) (a : List ℕ) → place_after_all p a ≡ q → Alike p q a a
 fixed p q a e = record { one = e; other = e; same = refl }
 
 end : Alike Between Between [] []
@@ -58,7 +58,7 @@ end = fixed Between Between [] refl
 
 -- a quiet text in a tag's value
 quiet : (p : Place) (a b : List ℕ) → list_all is_quiet a ≡ true → a ≡ b → Alike p p a b
-quiet p a b h e = record { one = quiet_stays p a h; other = ap (behind_all p) (sym e) ∙ quiet_stays p a h; same = ap (tags p) e }
+quiet p a b h e = record { one = quiet_stays p a h; other = ap (place_after_all p) (sym e) ∙ quiet_stays p a h; same = ap (tags p) e }
 
 -- two quiet texts between tags
 quiets : (a b : List ℕ) → list_all is_quiet a ≡ true → list_all is_quiet b ≡ true → Alike Between Between a b
@@ -119,7 +119,7 @@ shape_alike one other slot load =
     (λ i. if load i then if (slot i).bay % 2 == 0 then codes "full40" else codes "full20" else if (slot i).bay % 2 == 0 then codes "empty40" else codes "empty20")
 
 view_alike : (one other : Standing) → one.slot ≡ other.slot → one.is_laden ≡ other.is_laden → Alike Between Between (shape_view one) (shape_view other)
-unfolding shape_view joined
+unfolding shape_view joined_pieces
 view_alike one other slot load =
     next (fixed Between SingleQuoted (codes "<g transform='translate(") refl)
     (next (number SingleQuoted (32 * one.slot.bay) (32 * other.slot.bay) (λ i. 32 * (slot i).bay))
@@ -132,7 +132,7 @@ view_alike one other slot load =
     (next (fixed SingleQuoted Between (codes "'/>") refl) end))))))))
 
 lettering_alike : (one other : Standing) → Alike Between Between (lettering one) (lettering other)
-unfolding lettering joined
+unfolding lettering joined_pieces
 lettering_alike one other =
     next (fixed Between Between (codes "<text y='13'>") refl)
     (next (fields (take 4 one.container) (take 4 other.container))
@@ -154,12 +154,12 @@ if_alike false true x y e h = absurd (false≢true e)
 parts_of : (a b : Slot × Bool) (xs ys : List (Slot × Bool)) → a ∷ xs ≡ b ∷ ys → (a ≡ b) × (xs ≡ ys)
 parts_of a b xs ys e = (cc, cc)
 
-views_alike : (block : Block) (row : ℕ) (ones others : List Standing) → drawn ones ≡ drawn others → Alike Between Between (flat_map (view_in_row block row) ones) (flat_map (view_in_row block row) others)
+views_alike : (block : Block) (row : ℕ) (ones others : List Standing) → drawn_containers ones ≡ drawn_containers others → Alike Between Between (flat_map (view_in_row block row) ones) (flat_map (view_in_row block row) others)
 views_alike block row [] [] e = end
 views_alike block row [] (other ∷ others) e = cc
 views_alike block row (one ∷ ones) [] e = cc
 views_alike block row (one ∷ ones) (other ∷ others) e =
-    let parts = parts_of (one.slot, one.is_laden) (other.slot, other.is_laden) (drawn ones) (drawn others) e in
+    let parts = parts_of (one.slot, one.is_laden) (other.slot, other.is_laden) (drawn_containers ones) (drawn_containers others) e in
     let slot : one.slot ≡ other.slot = ap (λ (p : Slot × Bool). p.0) parts.0 in
     let load : one.is_laden ≡ other.is_laden = ap (λ (p : Slot × Bool). p.1) parts.0 in
     followed Between Between Between (view_in_row block row one) (view_in_row block row other) (flat_map (view_in_row block row) ones) (flat_map (view_in_row block row) others)
@@ -169,7 +169,7 @@ views_alike block row (one ∷ ones) (other ∷ others) e =
 -- ---- a row
 
 row_head_alike : (block : Block) (row : ℕ) → Alike Between Between (row_head block row) (row_head block row)
-unfolding row_head joined
+unfolding row_head joined_pieces
 row_head_alike block row =
     next (fixed Between Between (codes "<figure><figcaption>Row ") refl)
     (next (numbers row row)
@@ -185,14 +185,14 @@ row_head_alike block row =
     (next (field SingleQuoted (block.letter ∷ []))
     (next (fixed SingleQuoted Between (codes "'/>\n") refl) end))))))))))))
 
-row_alike : (block : Block) (ones others : List Standing) (row : ℕ) → drawn ones ≡ drawn others → Alike Between Between (row_view block ones row) (row_view block others row)
+row_alike : (block : Block) (ones others : List Standing) (row : ℕ) → drawn_containers ones ≡ drawn_containers others → Alike Between Between (row_view block ones row) (row_view block others row)
 row_alike block ones others row e =
     next (next (row_head_alike block row) (views_alike block row ones others e)) (fixed Between Between (codes "</svg></figure>\n") refl)
 
 -- ---- a block
 
 bay_alike : (bay : ℕ) → Alike Between Between (bay_label bay) (bay_label bay)
-unfolding bay_label joined
+unfolding bay_label joined_pieces
 bay_alike bay =
     next (fixed Between SingleQuoted (codes "<text x='") refl)
     (next (number SingleQuoted (32 * bay) (32 * bay) refl)
@@ -201,7 +201,7 @@ bay_alike bay =
     (next (fixed Between Between (codes "</text>") refl) end))))
 
 tier_alike : (tier : ℕ) → Alike Between Between (tier_label tier) (tier_label tier)
-unfolding tier_label joined
+unfolding tier_label joined_pieces
 tier_alike tier =
     next (fixed Between SingleQuoted (codes "<text x='-11' y='-") refl)
     (next (number SingleQuoted (40 * tier) (40 * tier) refl)
@@ -216,7 +216,7 @@ labels_alike block =
     (each (λ n. tier_label (n + 1)) (λ n. tier_label (n + 1)) (λ n. tier_alike (n + 1)) (range_with_len 0 block.tiers))
 
 cells_alike : (block : Block) → Alike Between Between (cells_view block) (cells_view block)
-unfolding cells_view joined
+unfolding cells_view joined_pieces
 cells_alike block =
     next (fixed Between SingleQuoted (codes "<svg class='parts'><g id='") refl)
     (next (field SingleQuoted (block.letter ∷ []))
@@ -232,7 +232,7 @@ grid_alike : (block : Block) → Alike Between Between (grid block) (grid block)
 grid_alike block = next (next (cells_alike block) (labels_alike block)) (fixed Between Between (codes "</g></svg>\n") refl)
 
 block_head_alike : (ones others : List Standing) (block : Block) → Alike Between Between (block_head ones block) (block_head others block)
-unfolding block_head joined
+unfolding block_head joined_pieces
 block_head_alike ones others block =
     next (fixed Between SingleQuoted (codes "<section id='block-") refl)
     (next (field SingleQuoted (block.letter ∷ []))
@@ -244,7 +244,7 @@ block_head_alike ones others block =
     (next (numbers (block.bays * block.rows * block.tiers) (block.bays * block.rows * block.tiers))
     (next (fixed Between Between (codes " cells used</small></h2>\n") refl) end))))))))
 
-block_alike : (ones others : List Standing) → drawn ones ≡ drawn others → (block : Block) → Alike Between Between (block_view ones block) (block_view others block)
+block_alike : (ones others : List Standing) → drawn_containers ones ≡ drawn_containers others → (block : Block) → Alike Between Between (block_view ones block) (block_view others block)
 block_alike ones others e block =
     next (next (next (next (block_head_alike ones others block) (grid_alike block)) (fixed Between Between (codes "<div>\n") refl))
     (each (λ n. row_view block ones (n + 1)) (λ n. row_view block others (n + 1)) (λ n. row_alike block ones others (n + 1) e) (range_with_len 0 block.rows)))
@@ -253,7 +253,7 @@ block_alike ones others e block =
 -- ---- the index
 
 link_alike : (block : Block) → Alike Between Between (block_link block) (block_link block)
-unfolding block_link joined
+unfolding block_link joined_pieces
 link_alike block =
     next (fixed Between SingleQuoted (codes "<a href='#block-") refl)
     (next (field SingleQuoted (block.letter ∷ []))
@@ -269,20 +269,20 @@ index_alike blocks =
 
 -- ---- the page
 
-head_ends : behind_all Between head ≡ Between
+head_ends : place_after_all Between head ≡ Between
 unfolding head
 head_ends = refl
 
-shapes_end : behind_all Between shapes ≡ Between
+shapes_end : place_after_all Between shapes ≡ Between
 unfolding shapes
 shapes_end = refl
 
-legend_ends : behind_all Between legend ≡ Between
+legend_ends : place_after_all Between legend ≡ Between
 unfolding legend
 legend_ends = refl
 
 page_head_alike : (name other : List ℕ) (ones others : List Standing) → Alike Between Between (page_head name ones) (page_head other others)
-unfolding page_head joined
+unfolding page_head joined_pieces
 page_head_alike name other ones others =
     next (fixed Between Between head head_ends)
     (next (fixed Between Between (codes "<title>Yard of ") refl)
@@ -299,7 +299,7 @@ page_head_alike name other ones others =
     (next (numbers (length (filter (λ standing. not standing.is_laden) ones)) (length (filter (λ standing. not standing.is_laden) others)))
     (next (fixed Between Between (codes "</b> empty</p>\n") refl) end)))))))))))))
 
-pub page_alike : (name other : List ℕ) (blocks : List Block) (ones others : List Standing) → drawn ones ≡ drawn others → Alike Between Between (page_text name blocks ones) (page_text other blocks others)
+pub page_alike : (name other : List ℕ) (blocks : List Block) (ones others : List Standing) → drawn_containers ones ≡ drawn_containers others → Alike Between Between (page_text name blocks ones) (page_text other blocks others)
 page_alike name other blocks ones others e =
     next (next (next (next (page_head_alike name other ones others) (index_alike blocks)) (fixed Between Between legend legend_ends))
     (each (block_view ones) (block_view others) (block_alike ones others e) blocks))

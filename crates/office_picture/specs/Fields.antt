@@ -13,5 +13,5 @@ abbrev pub field_text : List ℕ → List ℕ
 field_text bytes = flat_map character_text bytes
 
 -- pieces, one after the other
-unfoldable pub joined : List (List ℕ) → List ℕ
-joined pieces = flat_map (λ piece. piece) pieces
+unfoldable pub joined_pieces : List (List ℕ) → List ℕ
+joined_pieces pieces = flat_map (λ piece. piece) pieces

@@ -11,24 +11,24 @@ pub data Place : Type 0 where
   DoubleQuoted : Place
 
 -- where the next byte stands: < begins a tag and > ends it; within a tag ' and " begin a value, which ends at its next
-abbrev pub behind : Place → ℕ → Place
-behind Between c = if c == 60 then Tag else Between
-behind Tag c = if c == 62 then Between else if c == 39 then SingleQuoted else if c == 34 then DoubleQuoted else Tag
-behind SingleQuoted c = if c == 39 then Tag else SingleQuoted
-behind DoubleQuoted c = if c == 34 then Tag else DoubleQuoted
+abbrev pub place_after : Place → ℕ → Place
+place_after Between c = if c == 60 then Tag else Between
+place_after Tag c = if c == 62 then Between else if c == 39 then SingleQuoted else if c == 34 then DoubleQuoted else Tag
+place_after SingleQuoted c = if c == 39 then Tag else SingleQuoted
+place_after DoubleQuoted c = if c == 34 then Tag else DoubleQuoted
 
 -- where the byte behind a text stands
-abbrev pub behind_all : Place → List ℕ → Place
-behind_all place [] = place
-behind_all place (c ∷ text) = behind_all (behind place c) text
+abbrev pub place_after_all : Place → List ℕ → Place
+place_after_all place [] = place
+place_after_all place (c ∷ text) = place_after_all (place_after place c) text
 
 -- the tags of a text, each with its values, and nothing of what is between them
 abbrev pub tags : Place → List ℕ → List ℕ
 tags place [] = []
 tags Between (c ∷ text) = if c == 60 then c ∷ tags Tag text else tags Between text
-tags Tag (c ∷ text) = c ∷ tags (behind Tag c) text
-tags SingleQuoted (c ∷ text) = c ∷ tags (behind SingleQuoted c) text
-tags DoubleQuoted (c ∷ text) = c ∷ tags (behind DoubleQuoted c) text
+tags Tag (c ∷ text) = c ∷ tags (place_after Tag c) text
+tags SingleQuoted (c ∷ text) = c ∷ tags (place_after SingleQuoted c) text
+tags DoubleQuoted (c ∷ text) = c ∷ tags (place_after DoubleQuoted c) text
 
 -- ---- what a text shows
 

@@ -7,13 +7,13 @@ use Rattle.terminal_core.specs.State.{TerminalState}
 use Rattle.office_reports.specs.declared.yard.Standing.{Standing}
 use Rattle.office_reports.specs.Listed.{AreListed}
 use Rattle.office_reports.specs.Yard.{StandsAt}
-use Rattle.office_picture.specs.Fields.{field_text, joined}
+use Rattle.office_picture.specs.Fields.{field_text, joined_pieces}
 use Rattle.office_picture.specs.Fixed.{head, shapes, legend}
 use Rattle.office_picture.specs.Views.{block_view, index}
 
 -- the terminal's name, and how many containers there are, full and empty
 unfoldable pub page_head : List ℕ → List Standing → List ℕ
-page_head name standings = joined
+page_head name standings = joined_pieces
     (head ∷ codes "<title>Yard of " ∷ field_text name ∷ codes "</title>\n" ∷ shapes ∷ codes "<h1>Yard of "
     ∷ field_text name ∷ codes "</h1>\n<p><b>" ∷ decimal (length standings) ∷ codes "</b> containers: <b>"
     ∷ decimal (length (filter (λ standing. standing.is_laden) standings)) ∷ codes "</b> full, <b>"

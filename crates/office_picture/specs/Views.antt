@@ -6,7 +6,7 @@ use Rattle.box6346.specs.SlotName.{slot_text}
 use Rattle.yard_core.specs.declared.plan.Block.{Block}
 use Rattle.office_reports.specs.declared.yard.Standing.{Standing}
 use Rattle.office_reports.specs.Names.{load_name}
-use Rattle.office_picture.specs.Fields.{field_text, joined}
+use Rattle.office_picture.specs.Fields.{field_text, joined_pieces}
 
 -- ---- a container
 
@@ -28,14 +28,14 @@ title_text standing =
 
 -- its shape, with the middle of its bay along and the top of its tier up
 unfoldable pub shape_view : Standing → List ℕ
-shape_view standing = joined
+shape_view standing = joined_pieces
     (codes "<g transform='translate(" ∷ decimal (32 * standing.slot.bay) ∷ codes " -"
     ∷ decimal (40 * standing.slot.tier) ∷ codes ")'><title>" ∷ title_text standing ∷ codes "</title><use href='#"
     ∷ shape_name standing ∷ codes "'/>" ∷ [])
 
 -- what is read on it: its number in two lines, and its slot
 unfoldable pub lettering : Standing → List ℕ
-lettering standing = joined
+lettering standing = joined_pieces
     (codes "<text y='13'>" ∷ field_text (take 4 standing.container) ∷ codes "</text><text y='24'>"
     ∷ field_text (drop 4 standing.container) ∷ codes "</text><text y='36'>" ∷ field_text (slot_text standing.slot)
     ∷ codes "</text></g>\n" ∷ [])
@@ -57,7 +57,7 @@ view_in_row block row standing = if is_in_row block row standing then container_
 
 -- its number, and room for as many cells along and up as the block has, and for the numbers of bays and tiers
 unfoldable pub row_head : Block → ℕ → List ℕ
-row_head block row = joined
+row_head block row = joined_pieces
     (codes "<figure><figcaption>Row " ∷ decimal row ∷ codes "</figcaption><svg viewBox='-22 -"
     ∷ decimal (40 * block.tiers) ∷ codes " " ∷ decimal (64 * block.bays + 28) ∷ codes " "
     ∷ decimal (40 * block.tiers + 20) ∷ codes "' width='" ∷ decimal (64 * block.bays + 28) ∷ codes "'><use href='#"
@@ -72,7 +72,7 @@ row_view block standings row =
 
 -- the number of an odd bay, below its middle
 unfoldable pub bay_label : ℕ → List ℕ
-bay_label bay = joined
+bay_label bay = joined_pieces
     (codes "<text x='" ∷ decimal (32 * bay) ∷ codes "' y='15'>" ∷ decimal bay ∷ codes "</text>" ∷ [])
 
 -- those of its bays 1, 3, ..
@@ -81,7 +81,7 @@ bay_labels bays = flat_map (λ n. bay_label (2 * n + 1)) (range_with_len 0 bays)
 
 -- the number of a tier, at its left
 unfoldable pub tier_label : ℕ → List ℕ
-tier_label tier = joined
+tier_label tier = joined_pieces
     (codes "<text x='-11' y='-" ∷ decimal (40 * tier) ∷ codes "' dy='25'>" ∷ decimal tier ∷ codes "</text>" ∷ [])
 
 -- those of its tiers 1, 2, ..
@@ -90,7 +90,7 @@ tier_labels tiers = flat_map (λ n. tier_label (n + 1)) (range_with_len 0 tiers)
 
 -- free cells, and the ground
 unfoldable pub cells_view : Block → List ℕ
-cells_view block = joined
+cells_view block = joined_pieces
     (codes "<svg class='parts'><g id='" ∷ field_text (block.letter ∷ []) ∷ codes "'><path d='M0 0H"
     ∷ decimal (64 * block.bays) ∷ codes "V-" ∷ decimal (40 * block.tiers)
     ∷ codes "H0Z' fill='url(#free)'/><path d='M-3 0H" ∷ decimal (64 * block.bays) ∷ codes "h3' stroke='#16263a'/>" ∷ [])
@@ -111,7 +111,7 @@ used_cells block standings =
 
 -- its letter, and how many of its cells are used
 unfoldable pub block_head : List Standing → Block → List ℕ
-block_head standings block = joined
+block_head standings block = joined_pieces
     (codes "<section id='block-" ∷ field_text (block.letter ∷ []) ∷ codes "'><h2>Block "
     ∷ field_text (block.letter ∷ []) ∷ codes "<small>" ∷ decimal (used_cells block standings) ∷ codes " of "
     ∷ decimal (block.bays * block.rows * block.tiers) ∷ codes " cells used</small></h2>\n" ∷ [])
@@ -124,7 +124,7 @@ block_view standings block =
 -- ---- the index
 
 unfoldable pub block_link : Block → List ℕ
-block_link block = joined
+block_link block = joined_pieces
     (codes "<a href='#block-" ∷ field_text (block.letter ∷ []) ∷ codes "'>Block " ∷ field_text (block.letter ∷ [])
     ∷ codes "</a>\n" ∷ [])
 

@@ -1,6 +1,6 @@
 //! The parts of the page that are the same for every yard.
 ghost use Rattle.std.specs.Prelude.{◌≡◌, ◌++◌, map, IfOk, OnOk, string_bytes};
-ghost use Rattle.office_picture.specs.Fields.{field_text, joined};
+ghost use Rattle.office_picture.specs.Fields.{field_text, joined_pieces};
 ghost use Rattle.office_picture.specs.Fixed.{head, shapes, legend};
 
 use std::alloc::{AllocError, Global};
@@ -146,10 +146,10 @@ impl fmt::Display for Character {
 }
 
 /// Appends these pieces, one after the other.
-#[tactic(auto, unfolding(crate::specs::Fields::joined))]
+#[tactic(auto, unfolding(crate::specs::Fields::joined_pieces))]
 pub(crate) fn push_all(text: &mut String, pieces: &[&str]) -> Result<(), AllocError>
     ensures { OnOk result
-        (string_bytes text.new ≡ string_bytes text.old ++ joined (map (λ piece. piece.now) pieces.now)) }
+        (string_bytes text.new ≡ string_bytes text.old ++ joined_pieces (map (λ piece. piece.now) pieces.now)) }
 {
     for piece in pieces {
         text.push_str(piece)?;

@@ -1,6 +1,6 @@
 -- Bytes that are decoded, and those that are left.
 use Rattle.std.proofs.Common.{◌≡◌, ℕ, List, [], ◌∷◌, ◌++◌, Option, None, Some, option_map, append_assoc, append-nil, refl, sym, ap, ◌∙◌}
-use Rattle.office_queries.specs.Escapes.{decoded_part, onto}
+use Rattle.office_queries.specs.Escapes.{decoded_part, with_first_byte}
 
 -- bytes, and what is decoded behind them
 abbrev pub behind : List ℕ → Option (List ℕ) → Option (List ℕ)
@@ -10,11 +10,11 @@ pub nothing_before : (left : Option (List ℕ)) → left ≡ behind [] left
 nothing_before None = refl
 nothing_before (Some more) = refl
 
-one_before : (front : List ℕ) (byte : ℕ) (left : Option (List ℕ)) → behind front (onto left byte) ≡ behind (front ++ byte ∷ []) left
+one_before : (front : List ℕ) (byte : ℕ) (left : Option (List ℕ)) → behind front (with_first_byte left byte) ≡ behind (front ++ byte ∷ []) left
 one_before front byte None = refl
 one_before front byte (Some more) = ap Some (sym (append_assoc front (byte ∷ []) more))
 
-pub one_more : (text front rest rest' : List ℕ) (byte : ℕ) → decoded_part text ≡ behind front (decoded_part rest) → decoded_part rest ≡ onto (decoded_part rest') byte →
+pub one_more : (text front rest rest' : List ℕ) (byte : ℕ) → decoded_part text ≡ behind front (decoded_part rest) → decoded_part rest ≡ with_first_byte (decoded_part rest') byte →
     decoded_part text ≡ behind (front ++ byte ∷ []) (decoded_part rest')
 one_more text front rest rest' byte before is = before ∙ ap (behind front) is ∙ one_before front byte (decoded_part rest')
 

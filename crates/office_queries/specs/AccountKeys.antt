@@ -2,16 +2,16 @@
 use Rattle.std.specs.Prelude.{ℕ, List, Option, option_map, unwrap_or}
 use Rattle.std.specs.Option.{option_and_then}
 use Rattle.office_queries.specs.Escapes.{decoded_part}
-use Rattle.office_queries.specs.Keys.{name_in, parts, two}
+use Rattle.office_queries.specs.Keys.{name_in, key_parts, two_parts}
 use Rattle.office_queries.specs.declared.keys.AccountKey.{AccountKey}
 
 -- The bytes that a part stands for. One that can't be decoded stands for itself: its `%` is in no code and in no kind.
-abbrev pub named_by : List ℕ → List ℕ
-named_by part = unwrap_or (decoded_part part) part
+abbrev pub part_bytes : List ℕ → List ℕ
+part_bytes part = unwrap_or (decoded_part part) part
 
 -- CODE/KIND
 abbrev pub account_in : List ℕ → Option (List ℕ × List ℕ)
-account_in key = option_map (λ p. (named_by p.0, named_by p.1)) (two (parts key))
+account_in key = option_map (λ p. (part_bytes p.0, part_bytes p.1)) (two_parts (key_parts key))
 
 -- what a key names, as bytes
 abbrev pub account_named : AccountKey → List ℕ × List ℕ
@@ -19,4 +19,4 @@ account_named key = (key.code.items, key.kind.items)
 
 -- CODE/interchanges: the partner whose interchanges are delivered
 abbrev pub sender_in : List ℕ → Option (List ℕ)
-sender_in key = option_and_then (λ p. name_in p.0) (two (parts key))
+sender_in key = option_and_then (λ p. name_in p.0) (two_parts (key_parts key))

@@ -10,14 +10,14 @@ byte_of high low =
     else None
 
 -- a byte, and the bytes behind it
-abbrev pub onto : Option (List ℕ) → ℕ → Option (List ℕ)
-onto behind byte = option_map (λ bytes. byte ∷ bytes) behind
+abbrev pub with_first_byte : Option (List ℕ) → ℕ → Option (List ℕ)
+with_first_byte behind byte = option_map (λ bytes. byte ∷ bytes) behind
 
 -- The bytes that a text stands for: `%` (37) and two hexadecimal digits stand for a byte, and another `%` can't be
 -- read. Every other byte stands for itself.
 abbrev pub decoded_part : List ℕ → Option (List ℕ)
 decoded_part [] = Some []
 decoded_part (a ∷ []) = if a == 37 then None else Some (a ∷ [])
-decoded_part (a ∷ b ∷ []) = if a == 37 then None else onto (decoded_part (b ∷ [])) a
+decoded_part (a ∷ b ∷ []) = if a == 37 then None else with_first_byte (decoded_part (b ∷ [])) a
 decoded_part (a ∷ b ∷ c ∷ rest) =
-    if a == 37 then option_and_then (onto (decoded_part rest)) (byte_of b c) else onto (decoded_part (b ∷ c ∷ rest)) a
+    if a == 37 then option_and_then (with_first_byte (decoded_part rest)) (byte_of b c) else with_first_byte (decoded_part (b ∷ c ∷ rest)) a

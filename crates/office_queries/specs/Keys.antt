@@ -18,31 +18,31 @@ use Rattle.office_queries.specs.declared.query.ReportKind.{ReportKind}
 use Rattle.office_queries.specs.declared.query.ReportKind.TheVariants as kind
 
 -- what is asked for, with its texts as bytes
-pub data Asked : Type 0 where
-  yard yard_table partners blocks calls picture health metrics : Asked
-  visits container : BoxNumber → Asked
-  list work : List ℕ → List ℕ → Side → Asked
-  ticket reply contrl : List ℕ → ℕ → Asked
-  one_partner next_number : List ℕ → Asked
+pub data QueryContent : Type 0 where
+  yard yard_table partners blocks calls picture health metrics : QueryContent
+  visits container : BoxNumber → QueryContent
+  list work : List ℕ → List ℕ → Side → QueryContent
+  ticket reply contrl : List ℕ → ℕ → QueryContent
+  one_partner next_number : List ℕ → QueryContent
 
-abbrev pub query_asked : Query → Asked
-query_asked query.Yard = yard
-query_asked query.YardTable = yard_table
-query_asked (query.Visits number) = visits number
-query_asked (query.List call side) = list (string_bytes call.vessel) (string_bytes call.voyage) side
-query_asked (query.Ticket partner number) = ticket (string_bytes partner) number
-query_asked (query.Reply partner number) = reply (string_bytes partner) number
-query_asked (query.Container number) = container number
-query_asked (query.Work call side) = work (string_bytes call.vessel) (string_bytes call.voyage) side
-query_asked query.Partners = partners
-query_asked query.Blocks = blocks
-query_asked query.Calls = calls
-query_asked (query.Contrl partner number) = contrl (string_bytes partner) number
-query_asked query.Picture = picture
-query_asked (query.Partner code) = one_partner (string_bytes code)
-query_asked (query.Next code) = next_number (string_bytes code)
-query_asked query.Health = health
-query_asked query.Metrics = metrics
+abbrev pub query_content : Query → QueryContent
+query_content query.Yard = yard
+query_content query.YardTable = yard_table
+query_content (query.Visits number) = visits number
+query_content (query.List call side) = list (string_bytes call.vessel) (string_bytes call.voyage) side
+query_content (query.Ticket partner number) = ticket (string_bytes partner) number
+query_content (query.Reply partner number) = reply (string_bytes partner) number
+query_content (query.Container number) = container number
+query_content (query.Work call side) = work (string_bytes call.vessel) (string_bytes call.voyage) side
+query_content query.Partners = partners
+query_content query.Blocks = blocks
+query_content query.Calls = calls
+query_content (query.Contrl partner number) = contrl (string_bytes partner) number
+query_content query.Picture = picture
+query_content (query.Partner code) = one_partner (string_bytes code)
+query_content (query.Next code) = next_number (string_bytes code)
+query_content query.Health = health
+query_content query.Metrics = metrics
 
 -- the list that a call and a side name
 abbrev pub list_named : Call × Side → List ℕ × List ℕ × Side
@@ -51,26 +51,26 @@ list_named of = (string_bytes of.0.vessel, string_bytes of.0.voyage, of.1)
 -- ---- the parts of a key
 
 -- they stand between slashes (47)
-abbrev pub parts : List ℕ → List (List ℕ)
-parts key = slice_split (λ b. b == 47) key
+abbrev pub key_parts : List ℕ → List (List ℕ)
+key_parts key = slice_split (λ b. b == 47) key
 
-abbrev pub one : List (List ℕ) → Option (List ℕ)
-one [] = None
-one (a ∷ []) = Some a
-one (a ∷ b ∷ others) = None
+abbrev pub one_part : List (List ℕ) → Option (List ℕ)
+one_part [] = None
+one_part (a ∷ []) = Some a
+one_part (a ∷ b ∷ others) = None
 
-abbrev pub two : List (List ℕ) → Option (List ℕ × List ℕ)
-two [] = None
-two (a ∷ []) = None
-two (a ∷ b ∷ []) = Some (a, b)
-two (a ∷ b ∷ c ∷ others) = None
+abbrev pub two_parts : List (List ℕ) → Option (List ℕ × List ℕ)
+two_parts [] = None
+two_parts (a ∷ []) = None
+two_parts (a ∷ b ∷ []) = Some (a, b)
+two_parts (a ∷ b ∷ c ∷ others) = None
 
-abbrev pub three : List (List ℕ) → Option (List ℕ × List ℕ × List ℕ)
-three [] = None
-three (a ∷ []) = None
-three (a ∷ b ∷ []) = None
-three (a ∷ b ∷ c ∷ []) = Some (a, b, c)
-three (a ∷ b ∷ c ∷ d ∷ others) = None
+abbrev pub three_parts : List (List ℕ) → Option (List ℕ × List ℕ × List ℕ)
+three_parts [] = None
+three_parts (a ∷ []) = None
+three_parts (a ∷ b ∷ []) = None
+three_parts (a ∷ b ∷ c ∷ []) = Some (a, b, c)
+three_parts (a ∷ b ∷ c ∷ d ∷ others) = None
 
 -- ---- what a part names, if it can be read
 
@@ -107,12 +107,12 @@ box_in part = option_and_then (λ bytes. if_ok (box_of bytes)) (decoded_part par
 -- ---- what a key asks for
 
 -- the empty key
-abbrev pub if_empty : List ℕ → Asked → Option Asked
+abbrev pub if_empty : List ℕ → QueryContent → Option QueryContent
 if_empty key what = if length key == 0 then Some what else None
 
 -- BOX
 abbrev pub container_of : List ℕ → Option BoxNumber
-container_of key = option_and_then box_in (one (parts key))
+container_of key = option_and_then box_in (one_part (key_parts key))
 
 -- VESSEL/VOYAGE/SIDE
 abbrev pub list_in : List ℕ × List ℕ × List ℕ → Option (List ℕ × List ℕ × Side)
@@ -122,21 +122,21 @@ list_in p =
     (name_in p.0)
 
 abbrev pub list_of : List ℕ → Option (List ℕ × List ℕ × Side)
-list_of key = option_and_then list_in (three (parts key))
+list_of key = option_and_then list_in (three_parts (key_parts key))
 
 -- PARTNER
 abbrev pub partner_of : List ℕ → Option (List ℕ)
-partner_of key = option_and_then name_in (one (parts key))
+partner_of key = option_and_then name_in (one_part (key_parts key))
 
 -- PARTNER/NUMBER
 abbrev pub interchange_in : List ℕ × List ℕ → Option (List ℕ × ℕ)
 interchange_in p = option_and_then (λ partner. option_map (λ number. (partner, number)) (number_in p.1)) (name_in p.0)
 
 abbrev pub interchange_of : List ℕ → Option (List ℕ × ℕ)
-interchange_of key = option_and_then interchange_in (two (parts key))
+interchange_of key = option_and_then interchange_in (two_parts (key_parts key))
 
 -- what a key asks for of that kind, if it can be read and something can be found under it
-abbrev pub query_of : ReportKind → List ℕ → Option Asked
+abbrev pub query_of : ReportKind → List ℕ → Option QueryContent
 query_of kind.Yard key = if_empty key yard
 query_of kind.YardTable key = if_empty key yard_table
 query_of kind.Visits key = option_map visits (container_of key)

@@ -1,9 +1,9 @@
 ghost use Rattle.std.specs.Prelude.{◌≡◌, IfOk, option_map, string_bytes, ◌≤◌, ◌≢◌, ◌<◌, ◌∷◌, List, ℕ, [], length, None, MatchOption};
 ghost use Rattle.edi_messages.specs.Texts.{is_name};
 ghost use Rattle.edi_syntax.specs.Numbers.{number_of};
-ghost use Rattle.office_queries.specs.AccountKeys.{account_in, account_named, named_by, sender_in};
-ghost use Rattle.office_queries.specs.Escapes.{byte_of, decoded_part, onto};
-ghost use Rattle.office_queries.specs.Keys.{query_asked, container_of, if_empty, interchange_of, list_named, list_of, partner_of, query_of, box_in, control_number_of, name_in, name_of, number_in, side_in, side_of, one, parts, three, two};
+ghost use Rattle.office_queries.specs.AccountKeys.{account_in, account_named, part_bytes, sender_in};
+ghost use Rattle.office_queries.specs.Escapes.{byte_of, decoded_part, with_first_byte};
+ghost use Rattle.office_queries.specs.Keys.{query_content, container_of, if_empty, interchange_of, list_named, list_of, partner_of, query_of, box_in, control_number_of, name_in, name_of, number_in, side_in, side_of, one_part, key_parts, three_parts, two_parts};
 
 use crate::query::{Query, ReportKind};
 use box6346::BoxNumber;
@@ -18,7 +18,7 @@ use terminal_core::Side;
 /// `PARTNER/NUMBER` for a ticket, for a reply and for a CONTRL, and `PARTNER` for a partner. In each part `%` and two
 /// hexadecimal digits stand for a byte. None: the key can't be read, or nothing can be found under it.
 pub fn read_query(alloc: Global, kind: ReportKind, key: &str) -> Result<Option<Query>, AllocError>
-    ensures { IfOk result (λ query. option_map query_asked query ≡ query_of kind key.now) }
+    ensures { IfOk result (λ query. option_map query_content query ≡ query_of kind key.now) }
 {
     match kind {
         ReportKind::Yard => Ok(if_empty(key, Query::Yard)),
@@ -59,7 +59,7 @@ pub fn read_query(alloc: Global, kind: ReportKind, key: &str) -> Result<Option<Q
 }
 
 fn if_empty(key: &str, query: Query) -> Option<Query>
-    ensures { option_map query_asked result ≡ if_empty key.now (query_asked query) }
+    ensures { option_map query_content result ≡ if_empty key.now (query_content query) }
 {
     if key.is_empty() { Some(query) } else { None }
 }
@@ -154,7 +154,7 @@ pub fn read_sender_key(alloc: Global, key: &str) -> Result<Option<String>, Alloc
 
 /// The bytes that a part stands for.
 fn read_bytes(alloc: Global, part: &str) -> Result<Vec<u8>, AllocError>
-    ensures { IfOk result (λ bytes. bytes.items ≡ named_by part.now) }
+    ensures { IfOk result (λ bytes. bytes.items ≡ part_bytes part.now) }
 {
     match decode(alloc, part)? {
         Some(bytes) => Ok(bytes),
@@ -248,7 +248,7 @@ pub(crate) fn read_box(alloc: Global, part: &str) -> Result<Option<BoxNumber>, A
 
 /// A key of one part.
 pub(crate) fn one_part(key: &str) -> Option<&str>
-    ensures { option_map (λ p. p.now) result ≡ one (parts key.now) }
+    ensures { option_map (λ p. p.now) result ≡ one_part (key_parts key.now) }
 {
     match key.split_once('/') {
         Some(_) => None,
@@ -258,7 +258,7 @@ pub(crate) fn one_part(key: &str) -> Option<&str>
 
 /// The parts of a key, if they are two.
 pub(crate) fn two_parts(key: &str) -> Option<(&str, &str)>
-    ensures { option_map (λ p. (p.0.now, p.1.now)) result ≡ two (parts key.now) }
+    ensures { option_map (λ p. (p.0.now, p.1.now)) result ≡ two_parts (key_parts key.now) }
 {
     match key.split_once('/') {
         Some((first, others)) => match one_part(others) {
@@ -271,7 +271,7 @@ pub(crate) fn two_parts(key: &str) -> Option<(&str, &str)>
 
 /// The parts of a key, if they are three.
 pub(crate) fn three_parts(key: &str) -> Option<(&str, &str, &str)>
-    ensures { option_map (λ p. (p.0.now, p.1.now, p.2.now)) result ≡ three (parts key.now) }
+    ensures { option_map (λ p. (p.0.now, p.1.now, p.2.now)) result ≡ three_parts (key_parts key.now) }
 {
     match key.split_once('/') {
         Some((first, others)) => match two_parts(others) {
@@ -319,7 +319,7 @@ pub(crate) fn decode(alloc: Global, part: &str) -> Result<Option<Vec<u8>>, Alloc
 /// The byte that the front of a text stands for, and what is behind it.
 fn split_byte(text: &[u8]) -> Option<(u8, &[u8])>
     ensures { MatchOption result (text.now ≢ [] → decoded_part text.now ≡ None)
-        (λ found. (decoded_part text.now ≡ onto (decoded_part found.1.now) found.0)
+        (λ found. (decoded_part text.now ≡ with_first_byte (decoded_part found.1.now) found.0)
         × (length found.1.now < length text.now)) }
 {
     let (first, behind) = text.split_first()?;

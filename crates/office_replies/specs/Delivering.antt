@@ -29,7 +29,7 @@ events_behind es (text ∷ texts) [] = es
 events_behind es (text ∷ texts) (response ∷ responses) = events_behind (with_answered es text response) texts responses
 
 -- behind those events each text was answered at its place, and this stands then
-pub record Answered {D : Type 0} (stands : List Event → D → Type 0) (answers : List Event → List ℕ → Response → Type 0)
+pub record AreAnswered {D : Type 0} (stands : List Event → D → Type 0) (answers : List Event → List ℕ → Response → Type 0)
     (es : List Event) (new : D) (texts : List (List ℕ)) (responses : List Response) : Type 0 where
   pub each : AnswersEach answers es texts responses
   pub stands_now : stands (events_behind es texts responses) new

@@ -151,7 +151,7 @@ fn syntax_body(fault: SyntaxFault) -> &'static str
 }
 
 /// The body for an interchange that was taken, now or before; `answer` says which. The reply is a text of JSON.
-pub fn answered(
+pub fn taken_body(
     alloc: Global,
     answer: &str,
     number: u32,
@@ -173,7 +173,12 @@ pub fn answered(
 }
 
 /// The body for an interchange that waits for the partner's next number.
-pub fn waiting(alloc: Global, next: u32, number: u32, partner: &str) -> Result<String, AllocError>
+pub fn waiting_body(
+    alloc: Global,
+    next: u32,
+    number: u32,
+    partner: &str,
+) -> Result<String, AllocError>
     ensures { IfOk result (λ s. string_bytes s ≡ waiting_text next number partner.now) }
 {
     let value = waiting_value(alloc, next, number, partner)?;
@@ -187,7 +192,7 @@ fn waiting_value(alloc: Global, next: u32, number: u32, partner: &str) -> Result
 }
 
 /// The body for other bytes under a number that is used.
-pub fn clash(alloc: Global, number: u32, partner: &str) -> Result<String, AllocError>
+pub fn clash_body(alloc: Global, number: u32, partner: &str) -> Result<String, AllocError>
     ensures { IfOk result (λ s. string_bytes s ≡ clash_text number partner.now) }
 {
     let value = clash_value(alloc, number, partner)?;
@@ -201,7 +206,7 @@ fn clash_value(alloc: Global, number: u32, partner: &str) -> Result<Value, Alloc
 }
 
 /// The body for an interchange that is refused with a CONTRL.
-pub fn refused(alloc: Global, contrl: &str, fault: &str) -> Result<String, AllocError>
+pub fn refused_body(alloc: Global, contrl: &str, fault: &str) -> Result<String, AllocError>
     ensures { IfOk result (λ s. string_bytes s ≡ refused_text contrl.now fault.now) }
 {
     let value = refused_value(alloc, contrl, fault)?;

@@ -10,6 +10,6 @@ pub mod laws;
 mod message_report;
 
 pub use accounts::{AccountAnswer, AccountFault, AddAccount, account_added, account_known};
-pub use body::{answered, clash, refused, reply, text_of, waiting};
+pub use body::{clash_body, refused_body, reply, taken_body, text_of, waiting_body};
 pub use deliver::{Deliver, Fault, Response, Worst};
 pub use message_report::{LineReport, MessageReport, MessageVerdict};

@@ -9,7 +9,7 @@ use Rattle.terminal_core.specs.State.{TerminalState, is_visit_of}
 use Rattle.office_setup.specs.Setups.{SetupContent}
 use Rattle.terminal_core.specs.declared.change.Source.{Source}
 use Rattle.office_reports.specs.Names.{line}
-use Rattle.office_reports.specs.Tickets.{is_told_by, entry_lines, exit_lines, told_lines}
+use Rattle.office_reports.specs.Tickets.{is_told_by, entry_lines, exit_lines, ticket_lines}
 use Rattle.office_reports.specs.Visits.{visits_text, visit_report}
 
 -- what rows have, their contents have
@@ -29,11 +29,11 @@ module _ (setup : SetupContent) (state : TerminalState) (container : BoxNumber) 
 
 module _ (source : Source) (rows : List Visit) where
   told_by : (b : Bool) → b ≡ list_any (λ visit. is_told_by source (visit_content visit)) rows
-      → cond b (entry_lines source (map visit_content rows) ++ exit_lines source (map visit_content rows)) (line (codes "NOTHING" ∷ [])) ≡ told_lines source (map visit_content rows)
+      → cond b (entry_lines source (map visit_content rows) ++ exit_lines source (map visit_content rows)) (line (codes "NOTHING" ∷ [])) ≡ ticket_lines source (map visit_content rows)
   told_by b e = ap (λ v. cond v (entry_lines source (map visit_content rows) ++ exit_lines source (map visit_content rows)) (line (codes "NOTHING" ∷ []))) (e ∙ any_content (is_told_by source) rows)
 
-  pub nothing_told : false ≡ list_any (λ visit. is_told_by source (visit_content visit)) rows → line (codes "NOTHING" ∷ []) ≡ told_lines source (map visit_content rows)
+  pub nothing_told : false ≡ list_any (λ visit. is_told_by source (visit_content visit)) rows → line (codes "NOTHING" ∷ []) ≡ ticket_lines source (map visit_content rows)
   nothing_told e = told_by false e
 
-  pub something_told : true ≡ list_any (λ visit. is_told_by source (visit_content visit)) rows → entry_lines source (map visit_content rows) ++ exit_lines source (map visit_content rows) ≡ told_lines source (map visit_content rows)
+  pub something_told : true ≡ list_any (λ visit. is_told_by source (visit_content visit)) rows → entry_lines source (map visit_content rows) ++ exit_lines source (map visit_content rows) ≡ ticket_lines source (map visit_content rows)
   something_told e = told_by true e

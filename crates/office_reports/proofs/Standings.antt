@@ -38,7 +38,7 @@ use Rattle.terminal_core.proofs.Numbered.{contained, found_at}
 use Rattle.terminal_core.proofs.Counted.{some_of, is_found, found_is, one_passes}
 use Rattle.office_reports.specs.declared.yard.Standing.{Standing}
 use Rattle.office_reports.specs.Listed.{AreListed}
-use Rattle.office_reports.specs.Yard.{shown, slot_in, StandsAt, standing_if_here, standing_of}
+use Rattle.office_reports.specs.Yard.{shown_standing, slot_in, StandsAt, standing_if_here, standing_of}
 
 -- two containers of one slot have a cell in common
 common_cell : (a b : Length) (s t : Slot) → s ≡ t → IsKind a s → IsKind b t → (cell : Slot) × CoversAt a s cell × CoversAt b t cell
@@ -88,7 +88,7 @@ module _ (state : TerminalState) (whole : IsWhole state) where
       let containers : a.container ≡ b.container = same_container a.container b.container a.slot b.slot at.stands bt.stands (sym at.named ∙ bt.named) in
       let visits : at.visit ≡ bt.visit = same_Some at.visit bt.visit (sym at.is_open ∙ ap (open_visit state) containers ∙ bt.is_open) in
       let slots : a.slot ≡ b.slot = same_Some a.slot b.slot (sym at.stands ∙ ap (slot_in state) containers ∙ bt.stands) in
-      at.is_shown ∙ (λ i. shown (visits i) (slots i)) ∙ sym bt.is_shown
+      at.is_shown ∙ (λ i. shown_standing (visits i) (slots i)) ∙ sym bt.is_shown
 
 -- one text
 pub same_text : (t q : List ℕ) → is_at (slice_cmp nat_cmp t) q ≡ true → t ≡ q
@@ -98,14 +98,14 @@ not_itself : (t q : List ℕ) → t ≡ q → is_at (slice_cmp nat_cmp t) q ≡ 
 not_itself t q e other = let tied : is_at (slice_cmp nat_cmp t) q ≡ true = ap (λ x. is_at (slice_cmp nat_cmp t) x) (sym e) ∙ ap is_eq (tied_itself nat_list_cmp_total t) in let bad : true ≡ false = sym tied ∙ other in cc
 
 -- a visit that is shown is open
-gone : (state : TerminalState) (visit : VisitContent) (d : Option Departure) (standing : Standing) → standing_if_here state visit d ≡ Some standing → (d ≡ None) × (option_map (shown visit) (slot_in state visit.container) ≡ Some standing)
+gone : (state : TerminalState) (visit : VisitContent) (d : Option Departure) (standing : Standing) → standing_if_here state visit d ≡ Some standing → (d ≡ None) × (option_map (shown_standing visit) (slot_in state visit.container) ≡ Some standing)
 gone state visit None standing e = (refl, e)
 gone state visit (Some d) standing e = absurd (none-some standing e)
 
 -- where it is shown
-shown_at : (visit : VisitContent) (o : Option Slot) (standing : Standing) → option_map (shown visit) o ≡ Some standing → (slot : Slot) × (o ≡ Some slot) × (shown visit slot ≡ standing)
+shown_at : (visit : VisitContent) (o : Option Slot) (standing : Standing) → option_map (shown_standing visit) o ≡ Some standing → (slot : Slot) × (o ≡ Some slot) × (shown_standing visit slot ≡ standing)
 shown_at visit None standing e = absurd (none-some standing e)
-shown_at visit (Some slot) standing e = (slot, refl, same_Some (shown visit slot) standing e)
+shown_at visit (Some slot) standing e = (slot, refl, same_Some (shown_standing visit slot) standing e)
 
 module _ (state : TerminalState) (whole : IsWhole state) where
   -- an open visit is its container's
@@ -127,7 +127,7 @@ module _ (state : TerminalState) (whole : IsWhole state) where
       record {
         visit = visit;
         is_open = ap (open_visit state) (sym its) ∙ open_is visit inside here.0;
-        is_shown = sym at.2 ∙ ap (shown visit) slots;
+        is_shown = sym at.2 ∙ ap (shown_standing visit) slots;
         stands = ap (slot_in state) (sym its) ∙ at.1 ∙ ap Some slots;
         named = refl;
       }
@@ -211,8 +211,8 @@ module _ (state : TerminalState) (whole : IsWhole state) (rows : List Visit) (to
   stays None e = refl
   stays (Some d) e = cc
 
-  here : (visit : VisitContent) (d : Option Departure) (standing : Standing) → d ≡ None → slot_in state visit.container ≡ Some standing.slot → standing ≡ shown visit standing.slot → standing_if_here state visit d ≡ Some standing
-  here visit d standing none stands is = ap (standing_if_here state visit) none ∙ ap (option_map (shown visit)) stands ∙ ap Some (sym is)
+  here : (visit : VisitContent) (d : Option Departure) (standing : Standing) → d ≡ None → slot_in state visit.container ≡ Some standing.slot → standing ≡ shown_standing visit standing.slot → standing_if_here state visit d ≡ Some standing
+  here visit d standing none stands is = ap (standing_if_here state visit) none ∙ ap (option_map (shown_standing visit)) stands ∙ ap Some (sym is)
 
   pub are_listed : (i : ℕ) (entries : List (List ℕ × Standing)) → length rows ≤ i → Holds state (map visit_content (take i rows)) entries → AreListed (StandsAt state) entries
   are_listed i entries all holds_some =

@@ -15,9 +15,9 @@ abbrev pub is_opened_by : Source → VisitContent → Bool
 is_opened_by source visit = is_source visit.arrival.source source
 
 -- when the container left by the interchange's word, if it did
-abbrev pub left_by : Source → Option Departure → Option CivilMoment
-left_by source None = None
-left_by source (Some departure) = if is_source departure.source source then Some departure.moment else None
+abbrev pub exit_moment_by : Source → Option Departure → Option CivilMoment
+exit_moment_by source None = None
+exit_moment_by source (Some departure) = if is_source departure.source source then Some departure.moment else None
 
 -- IN BOX SIZE FULL SLOT MOMENT
 abbrev pub entry_line : VisitContent → List ℕ
@@ -37,16 +37,16 @@ entry_lines source visits = flat_map entry_line (filter (is_opened_by source) vi
 
 -- and each that it closed
 abbrev pub exit_lines : Source → List VisitContent → List ℕ
-exit_lines source visits = flat_map (λ visit. exit_line visit (left_by source visit.departure)) visits
+exit_lines source visits = flat_map (λ visit. exit_line visit (exit_moment_by source visit.departure)) visits
 
 abbrev pub is_told_by : Source → VisitContent → Bool
-is_told_by source visit = is_opened_by source visit || is_some (left_by source visit.departure)
+is_told_by source visit = is_opened_by source visit || is_some (exit_moment_by source visit.departure)
 
-abbrev pub told_lines : Source → List VisitContent → List ℕ
-told_lines source visits =
+abbrev pub ticket_lines : Source → List VisitContent → List ℕ
+ticket_lines source visits =
     if list_any (is_told_by source) visits then entry_lines source visits
     ++ exit_lines source visits else line (codes "NOTHING" ∷ [])
 
 -- what a partner's interchange did, the partner being called by a code
 abbrev pub ticket_text : List ℕ → Source → List VisitContent → List ℕ
-ticket_text code source visits = line (codes "TICKET" ∷ code ∷ decimal source.number ∷ []) ++ told_lines source visits
+ticket_text code source visits = line (codes "TICKET" ∷ code ∷ decimal source.number ∷ []) ++ ticket_lines source visits

@@ -15,8 +15,8 @@ use Rattle.office_reports.specs.Listed.{AreListed}
 use Rattle.office_reports.specs.Names.{load_name, slot_name, line}
 
 -- what is shown of a container, by its visit and where it stands
-abbrev pub shown : VisitContent → Slot → Standing
-shown visit slot = record {
+abbrev pub shown_standing : VisitContent → Slot → Standing
+shown_standing visit slot = record {
   slot = slot;
   container = visit.container;
   size_type = visit.size_type;
@@ -31,7 +31,7 @@ slot_in state container = option_map (λ s. s.slot) (placement_of state.yard.box
 pub record StandsAt (state : TerminalState) (text : List ℕ) (standing : Standing) : Type 0 where
   pub visit : VisitContent
   pub is_open : open_visit state standing.container ≡ Some visit
-  pub is_shown : standing ≡ shown visit standing.slot
+  pub is_shown : standing ≡ shown_standing visit standing.slot
   pub stands : slot_in state standing.container ≡ Some standing.slot
   pub named : text ≡ slot_text standing.slot
 
@@ -54,7 +54,7 @@ pub record IsYardReport (state : TerminalState) (text : List ℕ) : Type 0 where
 
 abbrev pub standing_if_here : TerminalState → VisitContent → Option Departure → Option Standing
 standing_if_here state visit (Some departure) = None
-standing_if_here state visit None = option_map (shown visit) (slot_in state visit.container)
+standing_if_here state visit None = option_map (shown_standing visit) (slot_in state visit.container)
 
 -- where the container of a visit stands, unless it left
 abbrev pub standing_of : TerminalState → VisitContent → Option Standing

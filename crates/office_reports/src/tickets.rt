@@ -1,7 +1,7 @@
 ghost use Rattle.std.specs.Prelude.{◌≡◌, ◌++◌, map, IfOk, OnOk, string_bytes};
 ghost use Rattle.std.specs.List.{list_any};
 ghost use Rattle.terminal_core.specs.Rows.{visit_content};
-ghost use Rattle.office_reports.specs.Tickets.{is_told_by, is_opened_by, left_by, told_lines, ticket_text};
+ghost use Rattle.office_reports.specs.Tickets.{is_told_by, is_opened_by, exit_moment_by, ticket_lines, ticket_text};
 ghost use Rattle.office_reports.specs.Tickets.{entry_line, entry_lines, exit_line, exit_lines};
 
 use crate::texts::{load_name, moment_text, number_text, push_line, size_text, slot_text};
@@ -41,7 +41,7 @@ fn push_told(
     source: Source,
 ) -> Result<(), AllocError>
     ensures { OnOk result (string_bytes text.new
-        ≡ string_bytes text.old ++ told_lines source (map visit_content visits.now)) }
+        ≡ string_bytes text.old ++ ticket_lines source (map visit_content visits.now)) }
 {
     if !is_any_told(visits, source) {
         return push_line(alloc, text, &["NOTHING"]);
@@ -124,7 +124,7 @@ fn push_exit(
     source: Source,
 ) -> Result<(), AllocError>
     ensures { OnOk result (string_bytes text.new ≡ string_bytes text.old
-        ++ exit_line (visit_content visit.now) (left_by source visit.now.departure)) }
+        ++ exit_line (visit_content visit.now) (exit_moment_by source visit.now.departure)) }
 {
     let Some(moment) = left_by(visit, source) else {
         return Ok(());
@@ -147,7 +147,7 @@ fn push_exit(
 
 /// When the container left by this interchange's word, if it did.
 fn left_by(visit: &Visit, source: Source) -> Option<Moment>
-    ensures { result ≡ left_by source visit.now.departure }
+    ensures { result ≡ exit_moment_by source visit.now.departure }
 {
     match visit.departure {
         Some(departure) if departure.source == source => Some(departure.moment),

@@ -8,7 +8,7 @@ use Rattle.sqlite.proofs.Callers.{IsPlain, command_of}
 use Rattle.office_rows.proofs.WriteLemmas.{rows_of}
 use Rattle.office_rows.proofs.Reading as texts
 use Rattle.office_rows.specs.Tables.{office_schema}
-use Rattle.office_rows.specs.Values.{number}
+use Rattle.office_rows.specs.Values.{number_value}
 use Rattle.office_rows.specs.Layouts.{bare_schema}
 
 pub select_partner_is : (command_of (understood bare_schema texts.select_partner) ≡ Select (record { lets = []; body = record (rows_of 0 [] texts.select_partner_shown) { order = texts.select_partner_order } }) texts.select_partner_names) × (reads_listing bare_schema texts.select_partner ≡ false)
@@ -73,7 +73,7 @@ abbrev pub select_visit : List ℕ
 select_visit = codes "SELECT visit, box, size, laden, booking, in_by, in_partner, in_number, in_at, in_slot, out_by, out_partner, out_number, out_at, 0 AS kilos FROM visit ORDER BY visit"
 
 abbrev pub select_visit_shown : List Term
-select_visit_shown = col 1 0 ∷ col 1 2 ∷ col 1 3 ∷ col 1 4 ∷ col 1 5 ∷ col 1 6 ∷ col 1 7 ∷ col 1 8 ∷ col 1 9 ∷ col 1 10 ∷ col 1 11 ∷ col 1 12 ∷ col 1 13 ∷ col 1 14 ∷ lit (number 0) ∷ []
+select_visit_shown = col 1 0 ∷ col 1 2 ∷ col 1 3 ∷ col 1 4 ∷ col 1 5 ∷ col 1 6 ∷ col 1 7 ∷ col 1 8 ∷ col 1 9 ∷ col 1 10 ∷ col 1 11 ∷ col 1 12 ∷ col 1 13 ∷ col 1 14 ∷ lit (number_value 0) ∷ []
 
 pub select_visit_is : (command_of (understood bare_schema select_visit) ≡ Select (record { lets = []; body = record (rows_of 4 [] select_visit_shown) { order = texts.select_visit_order } }) texts.select_visit_names) × (reads_listing bare_schema select_visit ≡ false)
 unfolding understood everything

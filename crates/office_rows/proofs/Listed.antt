@@ -21,7 +21,7 @@ use Rattle.sqlite.proofs.Callers.{IsPlain, command_of, reads_as}
 use Rattle.sqlite_trees.proofs.ListLemmas.{map-map, filter_all, all_of}
 use Rattle.sqlite_value.specs.Keys.{ascending}
 use Rattle.sqlite_value.specs.declared.keys.Key.{Key}
-use Rattle.office_rows.specs.Tables.{partner, interchange, visit, place, listed, setting, block, office_schema}
+use Rattle.office_rows.specs.Tables.{partner_table, interchange_table, visit_table, place_table, listing_table, setting_table, block_table, office_schema}
 use Rattle.office_rows.specs.Layouts.{Layout, bare, weighed, bare_schema, schema_in}
 use Rattle.office_rows.specs.Bare.{weighed_row, with_weights, weighed_in}
 use Rattle.office_rows.specs.Stored.{columns_of}
@@ -118,51 +118,51 @@ module _ (schema : Schema) (old new : State) (has : old.now.schema ≡ schema) (
       record { by_key = s.by_key; same = s.same; ordered = s.ordered; is = s.is }
 
 module _ (old new : State) (answer : List Row) where
-  pub lists_partner : (layout : Layout) → old.now.schema ≡ schema_in layout → Shown texts.select_partner [] old new answer → ShowsTable partner (0 ∷ 1 ∷ 2 ∷ 3 ∷ []) (0 ∷ []) (weighed_in layout old.now) answer
+  pub lists_partner : (layout : Layout) → old.now.schema ≡ schema_in layout → Shown texts.select_partner [] old new answer → ShowsTable partner_table (0 ∷ 1 ∷ 2 ∷ 3 ∷ []) (0 ∷ []) (weighed_in layout old.now) answer
   lists_partner bare has h =
-      let s = lists bare_schema old new has answer partner texts.select_partner texts.select_partner_shown texts.select_partner_order texts.select_partner_names (0 ∷ 1 ∷ 2 ∷ 3 ∷ []) (0 ∷ []) bare_texts.select_partner_is bare_texts.select_partner_plain (λ trees. refl) (λ r. refl) (λ r. refl) refl h in
+      let s = lists bare_schema old new has answer partner_table texts.select_partner texts.select_partner_shown texts.select_partner_order texts.select_partner_names (0 ∷ 1 ∷ 2 ∷ 3 ∷ []) (0 ∷ []) bare_texts.select_partner_is bare_texts.select_partner_plain (λ trees. refl) (λ r. refl) (λ r. refl) refl h in
       record { by_key = s.by_key; same = s.same; ordered = s.ordered; is = s.is }
-  lists_partner weighed has h = lists office_schema old new has answer partner texts.select_partner texts.select_partner_shown texts.select_partner_order texts.select_partner_names (0 ∷ 1 ∷ 2 ∷ 3 ∷ []) (0 ∷ []) texts.select_partner_is texts.select_partner_plain (λ trees. refl) (λ r. refl) (λ r. refl) refl h
+  lists_partner weighed has h = lists office_schema old new has answer partner_table texts.select_partner texts.select_partner_shown texts.select_partner_order texts.select_partner_names (0 ∷ 1 ∷ 2 ∷ 3 ∷ []) (0 ∷ []) texts.select_partner_is texts.select_partner_plain (λ trees. refl) (λ r. refl) (λ r. refl) refl h
 
-  pub lists_interchange : (layout : Layout) → old.now.schema ≡ schema_in layout → Shown texts.select_interchange [] old new answer → ShowsTable interchange (0 ∷ 1 ∷ 3 ∷ []) (0 ∷ 1 ∷ []) (weighed_in layout old.now) answer
+  pub lists_interchange : (layout : Layout) → old.now.schema ≡ schema_in layout → Shown texts.select_interchange [] old new answer → ShowsTable interchange_table (0 ∷ 1 ∷ 3 ∷ []) (0 ∷ 1 ∷ []) (weighed_in layout old.now) answer
   lists_interchange bare has h =
-      let s = lists bare_schema old new has answer interchange texts.select_interchange texts.select_interchange_shown texts.select_interchange_order texts.select_interchange_names (0 ∷ 1 ∷ 3 ∷ []) (0 ∷ 1 ∷ []) bare_texts.select_interchange_is bare_texts.select_interchange_plain (λ trees. refl) (λ r. refl) (λ r. refl) refl h in
+      let s = lists bare_schema old new has answer interchange_table texts.select_interchange texts.select_interchange_shown texts.select_interchange_order texts.select_interchange_names (0 ∷ 1 ∷ 3 ∷ []) (0 ∷ 1 ∷ []) bare_texts.select_interchange_is bare_texts.select_interchange_plain (λ trees. refl) (λ r. refl) (λ r. refl) refl h in
       record { by_key = s.by_key; same = s.same; ordered = s.ordered; is = s.is }
-  lists_interchange weighed has h = lists office_schema old new has answer interchange texts.select_interchange texts.select_interchange_shown texts.select_interchange_order texts.select_interchange_names (0 ∷ 1 ∷ 3 ∷ []) (0 ∷ 1 ∷ []) texts.select_interchange_is texts.select_interchange_plain (λ trees. refl) (λ r. refl) (λ r. refl) refl h
+  lists_interchange weighed has h = lists office_schema old new has answer interchange_table texts.select_interchange texts.select_interchange_shown texts.select_interchange_order texts.select_interchange_names (0 ∷ 1 ∷ 3 ∷ []) (0 ∷ 1 ∷ []) texts.select_interchange_is texts.select_interchange_plain (λ trees. refl) (λ r. refl) (λ r. refl) refl h
 
-  pub lists_place : (layout : Layout) → old.now.schema ≡ schema_in layout → Shown texts.select_place [] old new answer → ShowsTable place (0 ∷ 1 ∷ 2 ∷ []) (0 ∷ []) (weighed_in layout old.now) answer
+  pub lists_place : (layout : Layout) → old.now.schema ≡ schema_in layout → Shown texts.select_place [] old new answer → ShowsTable place_table (0 ∷ 1 ∷ 2 ∷ []) (0 ∷ []) (weighed_in layout old.now) answer
   lists_place bare has h =
-      let s = lists bare_schema old new has answer place texts.select_place texts.select_place_shown texts.select_place_order texts.select_place_names (0 ∷ 1 ∷ 2 ∷ []) (0 ∷ []) bare_texts.select_place_is bare_texts.select_place_plain (λ trees. refl) (λ r. refl) (λ r. refl) refl h in
+      let s = lists bare_schema old new has answer place_table texts.select_place texts.select_place_shown texts.select_place_order texts.select_place_names (0 ∷ 1 ∷ 2 ∷ []) (0 ∷ []) bare_texts.select_place_is bare_texts.select_place_plain (λ trees. refl) (λ r. refl) (λ r. refl) refl h in
       record { by_key = s.by_key; same = s.same; ordered = s.ordered; is = s.is }
-  lists_place weighed has h = lists office_schema old new has answer place texts.select_place texts.select_place_shown texts.select_place_order texts.select_place_names (0 ∷ 1 ∷ 2 ∷ []) (0 ∷ []) texts.select_place_is texts.select_place_plain (λ trees. refl) (λ r. refl) (λ r. refl) refl h
+  lists_place weighed has h = lists office_schema old new has answer place_table texts.select_place texts.select_place_shown texts.select_place_order texts.select_place_names (0 ∷ 1 ∷ 2 ∷ []) (0 ∷ []) texts.select_place_is texts.select_place_plain (λ trees. refl) (λ r. refl) (λ r. refl) refl h
 
-  pub lists_listed : (layout : Layout) → old.now.schema ≡ schema_in layout → Shown texts.select_listed [] old new answer → ShowsTable listed (0 ∷ 1 ∷ 2 ∷ 3 ∷ 4 ∷ 5 ∷ []) (0 ∷ 1 ∷ 2 ∷ 3 ∷ []) (weighed_in layout old.now) answer
+  pub lists_listed : (layout : Layout) → old.now.schema ≡ schema_in layout → Shown texts.select_listed [] old new answer → ShowsTable listing_table (0 ∷ 1 ∷ 2 ∷ 3 ∷ 4 ∷ 5 ∷ []) (0 ∷ 1 ∷ 2 ∷ 3 ∷ []) (weighed_in layout old.now) answer
   lists_listed bare has h =
-      let s = lists bare_schema old new has answer listed texts.select_listed texts.select_listed_shown texts.select_listed_order texts.select_listed_names (0 ∷ 1 ∷ 2 ∷ 3 ∷ 4 ∷ 5 ∷ []) (0 ∷ 1 ∷ 2 ∷ 3 ∷ []) bare_texts.select_listed_is bare_texts.select_listed_plain (λ trees. refl) (λ r. refl) (λ r. refl) refl h in
+      let s = lists bare_schema old new has answer listing_table texts.select_listed texts.select_listed_shown texts.select_listed_order texts.select_listed_names (0 ∷ 1 ∷ 2 ∷ 3 ∷ 4 ∷ 5 ∷ []) (0 ∷ 1 ∷ 2 ∷ 3 ∷ []) bare_texts.select_listed_is bare_texts.select_listed_plain (λ trees. refl) (λ r. refl) (λ r. refl) refl h in
       record { by_key = s.by_key; same = s.same; ordered = s.ordered; is = s.is }
-  lists_listed weighed has h = lists office_schema old new has answer listed texts.select_listed texts.select_listed_shown texts.select_listed_order texts.select_listed_names (0 ∷ 1 ∷ 2 ∷ 3 ∷ 4 ∷ 5 ∷ []) (0 ∷ 1 ∷ 2 ∷ 3 ∷ []) texts.select_listed_is texts.select_listed_plain (λ trees. refl) (λ r. refl) (λ r. refl) refl h
+  lists_listed weighed has h = lists office_schema old new has answer listing_table texts.select_listed texts.select_listed_shown texts.select_listed_order texts.select_listed_names (0 ∷ 1 ∷ 2 ∷ 3 ∷ 4 ∷ 5 ∷ []) (0 ∷ 1 ∷ 2 ∷ 3 ∷ []) texts.select_listed_is texts.select_listed_plain (λ trees. refl) (λ r. refl) (λ r. refl) refl h
 
-  pub lists_setting : (layout : Layout) → old.now.schema ≡ schema_in layout → Shown texts.select_setting [] old new answer → ShowsTable setting (0 ∷ 1 ∷ []) (0 ∷ []) old.now answer
-  lists_setting bare has h = lists bare_schema old new has answer setting texts.select_setting texts.select_setting_shown texts.select_setting_order texts.select_setting_names (0 ∷ 1 ∷ []) (0 ∷ []) bare_texts.select_setting_is bare_texts.select_setting_plain (λ trees. refl) (λ r. refl) (λ r. refl) refl h
-  lists_setting weighed has h = lists office_schema old new has answer setting texts.select_setting texts.select_setting_shown texts.select_setting_order texts.select_setting_names (0 ∷ 1 ∷ []) (0 ∷ []) texts.select_setting_is texts.select_setting_plain (λ trees. refl) (λ r. refl) (λ r. refl) refl h
+  pub lists_setting : (layout : Layout) → old.now.schema ≡ schema_in layout → Shown texts.select_setting [] old new answer → ShowsTable setting_table (0 ∷ 1 ∷ []) (0 ∷ []) old.now answer
+  lists_setting bare has h = lists bare_schema old new has answer setting_table texts.select_setting texts.select_setting_shown texts.select_setting_order texts.select_setting_names (0 ∷ 1 ∷ []) (0 ∷ []) bare_texts.select_setting_is bare_texts.select_setting_plain (λ trees. refl) (λ r. refl) (λ r. refl) refl h
+  lists_setting weighed has h = lists office_schema old new has answer setting_table texts.select_setting texts.select_setting_shown texts.select_setting_order texts.select_setting_names (0 ∷ 1 ∷ []) (0 ∷ []) texts.select_setting_is texts.select_setting_plain (λ trees. refl) (λ r. refl) (λ r. refl) refl h
 
-  pub lists_block : (layout : Layout) → old.now.schema ≡ schema_in layout → Shown texts.select_block [] old new answer → ShowsTable block (0 ∷ 1 ∷ 2 ∷ 3 ∷ []) (0 ∷ []) (weighed_in layout old.now) answer
+  pub lists_block : (layout : Layout) → old.now.schema ≡ schema_in layout → Shown texts.select_block [] old new answer → ShowsTable block_table (0 ∷ 1 ∷ 2 ∷ 3 ∷ []) (0 ∷ []) (weighed_in layout old.now) answer
   lists_block bare has h =
-      let s = lists bare_schema old new has answer block texts.select_block texts.select_block_shown texts.select_block_order texts.select_block_names (0 ∷ 1 ∷ 2 ∷ 3 ∷ []) (0 ∷ []) bare_texts.select_block_is bare_texts.select_block_plain (λ trees. refl) (λ r. refl) (λ r. refl) refl h in
+      let s = lists bare_schema old new has answer block_table texts.select_block texts.select_block_shown texts.select_block_order texts.select_block_names (0 ∷ 1 ∷ 2 ∷ 3 ∷ []) (0 ∷ []) bare_texts.select_block_is bare_texts.select_block_plain (λ trees. refl) (λ r. refl) (λ r. refl) refl h in
       record { by_key = s.by_key; same = s.same; ordered = s.ordered; is = s.is }
-  lists_block weighed has h = lists office_schema old new has answer block texts.select_block texts.select_block_shown texts.select_block_order texts.select_block_names (0 ∷ 1 ∷ 2 ∷ 3 ∷ []) (0 ∷ []) texts.select_block_is texts.select_block_plain (λ trees. refl) (λ r. refl) (λ r. refl) refl h
+  lists_block weighed has h = lists office_schema old new has answer block_table texts.select_block texts.select_block_shown texts.select_block_order texts.select_block_names (0 ∷ 1 ∷ 2 ∷ 3 ∷ []) (0 ∷ []) texts.select_block_is texts.select_block_plain (λ trees. refl) (λ r. refl) (λ r. refl) refl h
 
-  pub lists_visit : old.now.schema ≡ office_schema → Shown texts.select_visit [] old new answer → ShowsTable visit (0 ∷ 1 ∷ 2 ∷ 3 ∷ 4 ∷ 5 ∷ 6 ∷ 7 ∷ 8 ∷ 9 ∷ 10 ∷ 11 ∷ 12 ∷ 13 ∷ 14 ∷ []) (0 ∷ []) old.now answer
-  lists_visit has h = lists office_schema old new has answer visit texts.select_visit texts.select_visit_shown texts.select_visit_order texts.select_visit_names (0 ∷ 1 ∷ 2 ∷ 3 ∷ 4 ∷ 5 ∷ 6 ∷ 7 ∷ 8 ∷ 9 ∷ 10 ∷ 11 ∷ 12 ∷ 13 ∷ 14 ∷ []) (0 ∷ []) texts.select_visit_is texts.select_visit_plain (λ trees. refl) (λ r. refl) (λ r. refl) refl h
+  pub lists_visit : old.now.schema ≡ office_schema → Shown texts.select_visit [] old new answer → ShowsTable visit_table (0 ∷ 1 ∷ 2 ∷ 3 ∷ 4 ∷ 5 ∷ 6 ∷ 7 ∷ 8 ∷ 9 ∷ 10 ∷ 11 ∷ 12 ∷ 13 ∷ 14 ∷ []) (0 ∷ []) old.now answer
+  lists_visit has h = lists office_schema old new has answer visit_table texts.select_visit texts.select_visit_shown texts.select_visit_order texts.select_visit_names (0 ∷ 1 ∷ 2 ∷ 3 ∷ 4 ∷ 5 ∷ 6 ∷ 7 ∷ 8 ∷ 9 ∷ 10 ∷ 11 ∷ 12 ∷ 13 ∷ 14 ∷ []) (0 ∷ []) texts.select_visit_is texts.select_visit_plain (λ trees. refl) (λ r. refl) (λ r. refl) refl h
 
-  pub lists_bare_visit : old.now.schema ≡ bare_schema → Shown bare_texts.select_visit [] old new answer → ShowsTable visit (0 ∷ 1 ∷ 2 ∷ 3 ∷ 4 ∷ 5 ∷ 6 ∷ 7 ∷ 8 ∷ 9 ∷ 10 ∷ 11 ∷ 12 ∷ 13 ∷ 14 ∷ []) (0 ∷ []) (with_weights old.now) answer
+  pub lists_bare_visit : old.now.schema ≡ bare_schema → Shown bare_texts.select_visit [] old new answer → ShowsTable visit_table (0 ∷ 1 ∷ 2 ∷ 3 ∷ 4 ∷ 5 ∷ 6 ∷ 7 ∷ 8 ∷ 9 ∷ 10 ∷ 11 ∷ 12 ∷ 13 ∷ 14 ∷ []) (0 ∷ []) (with_weights old.now) answer
   lists_bare_visit has h =
-      let columns_in : Row → Row = λ row. columns_of visit (weighed_row row) in
+      let columns_in : Row → Row = λ row. columns_of visit_table (weighed_row row) in
       let s = rows_shown bare_schema old new has answer 4 columns_in bare_texts.select_visit bare_texts.select_visit_shown texts.select_visit_order texts.select_visit_names (0 ∷ 1 ∷ 2 ∷ 3 ∷ 4 ∷ 5 ∷ 6 ∷ 7 ∷ 8 ∷ 9 ∷ 10 ∷ 11 ∷ 12 ∷ 13 ∷ 14 ∷ []) (0 ∷ []) bare_texts.select_visit_is bare_texts.select_visit_plain (λ trees. refl) (λ r. refl) (λ r. refl) refl h in
       let stored = old.now.trees 4 in
       record {
         by_key = s.by_key;
-        same = subst (λ l. IsPermutation l s.by_key) (sym (map-map (columns_of visit) weighed_row stored)) s.same;
+        same = subst (λ l. IsPermutation l s.by_key) (sym (map-map (columns_of visit_table) weighed_row stored)) s.same;
         ordered = s.ordered;
         is = s.is;
       }

@@ -6,14 +6,14 @@ use Rattle.edi_messages.specs.declared.codes.PartnerKind.{PartnerKind}
 use Rattle.yard_core.specs.declared.plan.Block.{Block}
 use Rattle.sqlite.specs.State.{State}
 use Rattle.office_rows.specs.Rows.{Partner, Setting}
-use Rattle.office_rows.specs.Opening.{partners_from, setting, settings_named, with_partners, with_settings, with_blocks}
+use Rattle.office_rows.specs.Opening.{partners_from, setting_row, settings_named, with_partners, with_settings, with_blocks}
 use Rattle.office_rows.specs.Steps.{Steps}
 use Rattle.office_rows.proofs.StepLemmas.{steps_then, steps_same}
 
 pub take_at : {X : Type 0} (xs : List X) (i : ℕ) (x : X) → slice_get xs i ≡ Some x → take (i + 1) xs ≡ take i xs ++ x ∷ []
 take_at xs i x h = take_more xs i x (slice_get_within xs i x h) ∙ ap (λ y. take i xs ++ y ∷ []) (get_or_from_slice_get xs i x x h)
 
-pub setting_at : (names values : List (List ℕ)) (i : ℕ) (n v : List ℕ) → slice_get names i ≡ Some n → slice_get values i ≡ Some v → slice_get (settings_named names values) i ≡ Some (setting n v)
+pub setting_at : (names values : List (List ℕ)) (i : ℕ) (n v : List ℕ) → slice_get names i ≡ Some n → slice_get values i ≡ Some v → slice_get (settings_named names values) i ≡ Some (setting_row n v)
 setting_at [] values i n v named valued = absurd cc
 setting_at (name ∷ names) [] i n v named valued = absurd cc
 setting_at (name ∷ names) (value ∷ values) zero n v named valued = let a : name ≡ n = cc in let b : value ≡ v = cc in cc

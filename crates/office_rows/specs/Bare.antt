@@ -8,14 +8,14 @@ use Rattle.sqlite_trees.specs.Objects.{catalog_tree}
 use Rattle.sqlite_catalog.specs.Listing.{Lists}
 use Rattle.office_rows.specs.Layouts.{Layout, bare, weighed, bare_schema}
 use Rattle.office_rows.specs.Rows.{Rows}
-use Rattle.office_rows.specs.Values.{number}
+use Rattle.office_rows.specs.Values.{number_value}
 use Rattle.office_rows.specs.Stored.{AreRows}
 
 -- ---- rows without weights
 
 -- a visit's row as it would be stored with a weight: of 0 kilograms
 abbrev pub weighed_row : Row → Row
-weighed_row row = map (λ at. column row at) (range_with_len 0 15) ++ number 0 ∷ []
+weighed_row row = map (λ at. column row at) (range_with_len 0 15) ++ number_value 0 ∷ []
 
 -- the trees as they would be with a weight of 0 for each visit
 abbrev pub weighed_trees : Trees → Trees

@@ -8,7 +8,7 @@ use Rattle.terminal_core.specs.declared.lines.LineState.TheVariants.{Pending, Do
 use Rattle.terminal_core.specs.declared.lines.Side.{Side}
 use Rattle.terminal_core.specs.Rows.{ChangeContent, visit_opened, visit_closed, placed_at, moved_to, removed_from, listed_on, line_done, unlisted}
 use Rattle.terminal_core.specs.State.{side_code}
-use Rattle.terminal_core.specs.Changes.{closed_as}
+use Rattle.terminal_core.specs.Changes.{visit_with_departure}
 use Rattle.office_rows.specs.Rows.{Partner, Interchange, PlaceContent, ListingContent, Rows}
 
 -- ---- interchanges
@@ -17,8 +17,8 @@ abbrev pub is_pair : ℕ → ℕ → Interchange → Bool
 is_pair partner number i = (i.partner == partner) && (i.number == number)
 
 -- an interchange that waits is added
-abbrev pub with_kept : ℕ → ℕ → List ℕ → Rows → Rows
-with_kept partner number body rows =
+abbrev pub with_waiting : ℕ → ℕ → List ℕ → Rows → Rows
+with_waiting partner number body rows =
     record rows {
       interchanges = rows.interchanges
           ++ (record { partner = partner; number = number; body = body; reply = [] }) ∷ [];
@@ -64,7 +64,7 @@ is_line call side container line =
 -- A change adds, alters or removes one row: of visits, of places or of lines.
 abbrev pub with_change : ChangeContent → Rows → Rows
 with_change (visit_opened visit) rows = record rows { visits = rows.visits ++ visit ∷ [] }
-with_change (visit_closed number departure) rows = record rows { visits = map (closed_as number departure) rows.visits }
+with_change (visit_closed number departure) rows = record rows { visits = map (visit_with_departure number departure) rows.visits }
 with_change (placed_at container visit slot) rows =
     record rows { places = rows.places ++ (record { container = container; visit = visit; slot = slot }) ∷ [] }
 with_change (moved_to container slot) rows =

@@ -4,7 +4,7 @@ use Rattle.sqlite.specs.Table.{Table}
 use Rattle.sqlite.specs.Schema.{Schema}
 use Rattle.terminal_core.specs.declared.change.Version.{Version}
 use Rattle.terminal_core.specs.declared.change.Version.TheVariants.{First, Second, Third}
-use Rattle.office_rows.specs.Tables.{partner, interchange, visit, place, listed, setting, block, schema_of, office_schema}
+use Rattle.office_rows.specs.Tables.{partner_table, interchange_table, visit_table, place_table, listing_table, setting_table, block_table, schema_of, office_schema}
 
 -- whether a visit has a column for its weight
 pub data Layout : Type 0 where
@@ -18,10 +18,10 @@ layout_of Third = weighed
 
 -- a row for each visit, which ends before the weight
 abbrev pub bare_visit : Table
-bare_visit = record visit { columns = take 14 visit.columns }
+bare_visit = record visit_table { columns = take 14 visit_table.columns }
 
 abbrev pub bare_schema : Schema
-bare_schema = schema_of (partner ∷ interchange ∷ bare_visit ∷ place ∷ listed ∷ setting ∷ block ∷ [])
+bare_schema = schema_of (partner_table ∷ interchange_table ∷ bare_visit ∷ place_table ∷ listing_table ∷ setting_table ∷ block_table ∷ [])
 
 abbrev pub schema_in : Layout → Schema
 schema_in bare = bare_schema

@@ -13,8 +13,8 @@ use Rattle.terminal_core.specs.State.{TerminalState, IsWhole}
 use Rattle.office_setup.specs.Setups.{SetupContent}
 use Rattle.office_setup.specs.Given.{IsGiven}
 use Rattle.office_rows.specs.Rows.{Partner, Setting}
-use Rattle.office_rows.specs.Opening.{setting, tables_version}
-use Rattle.office_rows.specs.Opened.{Numbered, OpenedRows}
+use Rattle.office_rows.specs.Opening.{setting_row, tables_version}
+use Rattle.office_rows.specs.Opened.{NumberKept, OpenedRows}
 use Rattle.office_rows.specs.ByKey.{standing_by, lines_by, ArePlacedOnce, AreListedOnce}
 
 -- ---- the set-up
@@ -23,11 +23,11 @@ use Rattle.office_rows.specs.ByKey.{standing_by, lines_by, ArePlacedOnce, AreLis
 abbrev pub settings_with : SetupContent → List (List ℕ) → List Setting
 settings_with content
     (gate_in ∷ gate_out ∷ yard_move ∷ discharge_list ∷ load_list ∷ discharge_report ∷ load_report ∷ []) =
-    setting (codes "discharge-list") discharge_list ∷ setting (codes "discharge-report") discharge_report
-    ∷ setting (codes "gate-in") gate_in ∷ setting (codes "gate-out") gate_out
-    ∷ setting (codes "load-list") load_list ∷ setting (codes "load-report") load_report
-    ∷ setting (codes "terminal") content.terminal ∷ setting (codes "version") tables_version
-    ∷ setting (codes "visits") (decimal content.visit_limit) ∷ setting (codes "yard-move") yard_move ∷ []
+    setting_row (codes "discharge-list") discharge_list ∷ setting_row (codes "discharge-report") discharge_report
+    ∷ setting_row (codes "gate-in") gate_in ∷ setting_row (codes "gate-out") gate_out
+    ∷ setting_row (codes "load-list") load_list ∷ setting_row (codes "load-report") load_report
+    ∷ setting_row (codes "terminal") content.terminal ∷ setting_row (codes "version") tables_version
+    ∷ setting_row (codes "visits") (decimal content.visit_limit) ∷ setting_row (codes "yard-move") yard_move ∷ []
 settings_with content others = []
 
 abbrev pub settings_by_name : SetupContent → List Setting
@@ -48,29 +48,29 @@ AreAccounts id (partner ∷ partners) (account ∷ accounts) =
 -- ---- the interchanges
 
 -- each number below the next was taken
-abbrev pub taken_numbers : Partner → List Numbered
+abbrev pub taken_numbers : Partner → List NumberKept
 taken_numbers partner =
     map (λ number. record { partner = partner.id; number = number; is_taken = true })
     (range_with_len 1 (partner.next - 1))
 
 -- these numbers of the partner wait: each is above that one and not taken, from the least up
-abbrev pub AreWaiting : ℕ → ℕ → List Numbered → Type 0
+abbrev pub AreWaiting : ℕ → ℕ → List NumberKept → Type 0
 AreWaiting partner above [] = Unit {0}
 AreWaiting partner above (n ∷ numbers) =
     (n.partner ≡ partner) × (n.is_taken ≡ false) × (above < n.number) × (n.number ≤ last_number)
     × AreWaiting partner n.number numbers
 
 -- what is kept for a partner: the numbers below its next, and those that wait for it
-pub record IsKeptFor (partner : Partner) (numbers : List Numbered) : Type 0 where
-  pub waiting : List Numbered
+pub record IsKeptFor (partner : Partner) (numbers : List NumberKept) : Type 0 where
+  pub waiting : List NumberKept
   pub wait : AreWaiting partner.id partner.next waiting
   pub are : numbers ≡ taken_numbers partner ++ waiting
 
 -- the interchanges of the partners, one partner's after the other's
-abbrev pub AreKept : List Partner → List Numbered → Type 0
+abbrev pub AreKept : List Partner → List NumberKept → Type 0
 AreKept [] numbers = numbers ≡ []
 AreKept (partner ∷ partners) numbers =
-    (own : List Numbered) × (others : List Numbered) × (numbers ≡ own ++ others) × IsKeptFor partner own
+    (own : List NumberKept) × (others : List NumberKept) × (numbers ≡ own ++ others) × IsKeptFor partner own
     × AreKept partners others
 
 -- ---- the visits

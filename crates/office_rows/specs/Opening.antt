@@ -27,21 +27,21 @@ code_names =
     codes "gate-in" ∷ codes "gate-out" ∷ codes "yard-move" ∷ codes "discharge-list" ∷ codes "load-list"
     ∷ codes "discharge-report" ∷ codes "load-report" ∷ []
 
-abbrev pub setting : List ℕ → List ℕ → Setting
-setting name value = record { name = name; value = value }
+abbrev pub setting_row : List ℕ → List ℕ → Setting
+setting_row name value = record { name = name; value = value }
 
-abbrev pub interchange : ℕ → ℕ → List ℕ → List ℕ → Interchange
-interchange partner number body reply = record { partner = partner; number = number; body = body; reply = reply }
+abbrev pub interchange_row : ℕ → ℕ → List ℕ → List ℕ → Interchange
+interchange_row partner number body reply = record { partner = partner; number = number; body = body; reply = reply }
 
-abbrev pub listing : CallContent → Side → BoxNumber → List ℕ → LineState → ListingContent
-listing call side container port state =
+abbrev pub listing_row : CallContent → Side → BoxNumber → List ℕ → LineState → ListingContent
+listing_row call side container port state =
     record { call = call; side = side; container = container; port = port; state = state }
 
 -- each value under its name
 abbrev pub settings_named : List (List ℕ) → List (List ℕ) → List Setting
 settings_named [] values = []
 settings_named (name ∷ names) [] = []
-settings_named (name ∷ names) (value ∷ values) = setting name value ∷ settings_named names values
+settings_named (name ∷ names) (value ∷ values) = setting_row name value ∷ settings_named names values
 
 abbrev pub code_settings : CodeTable → List Setting
 code_settings table = settings_named code_names (table_texts table)
@@ -59,8 +59,8 @@ tables_version = version_text newest
 -- the version of the tables, the terminal's code, the limit of visits, and the codes of document names
 abbrev pub settings_in : Version → SetupContent → List Setting
 settings_in version content =
-    setting (codes "version") (version_text version) ∷ setting (codes "terminal") content.terminal
-    ∷ setting (codes "visits") (decimal content.visit_limit) ∷ code_settings content.codes
+    setting_row (codes "version") (version_text version) ∷ setting_row (codes "terminal") content.terminal
+    ∷ setting_row (codes "visits") (decimal content.visit_limit) ∷ code_settings content.codes
 
 -- the settings of this version
 abbrev pub settings_of : SetupContent → List Setting

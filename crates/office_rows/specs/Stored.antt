@@ -11,7 +11,7 @@ use Rattle.sqlite_trees.specs.declared.store.Shape.TheVariants as shape
 use Rattle.sqlite_trees.specs.Objects.{catalog_tree}
 use Rattle.sqlite_trees.specs.View.{IsShaped}
 use Rattle.sqlite_catalog.specs.Listing.{Lists}
-use Rattle.office_rows.specs.Tables.{partner, interchange, visit, place, listed, setting, block, schema_of, office_schema}
+use Rattle.office_rows.specs.Tables.{partner_table, interchange_table, visit_table, place_table, listing_table, setting_table, block_table, schema_of, office_schema}
 use Rattle.office_rows.specs.Rows.{Rows}
 use Rattle.office_rows.specs.Values.{partner_values, interchange_values, visit_values, place_values, line_values, setting_values, block_values}
 
@@ -25,13 +25,13 @@ pub record Holds {A : Type 0} (table : Table) (values : A → Row) (records : Li
   pub same : IsPermutation (map values records) (map (columns_of table) stored)
 
 pub record AreRows (rows : Rows) (trees : Trees) : Type 0 where
-  pub partners : Holds partner partner_values rows.partners (trees 0)
-  pub interchanges : Holds interchange interchange_values rows.interchanges (trees 2)
-  pub visits : Holds visit visit_values rows.visits (trees 4)
-  pub places : Holds place place_values rows.places (trees 5)
-  pub lines : Holds listed line_values rows.lines (trees 9)
-  pub settings : Holds setting setting_values rows.settings (trees 11)
-  pub blocks : Holds block block_values rows.blocks (trees 13)
+  pub partners : Holds partner_table partner_values rows.partners (trees 0)
+  pub interchanges : Holds interchange_table interchange_values rows.interchanges (trees 2)
+  pub visits : Holds visit_table visit_values rows.visits (trees 4)
+  pub places : Holds place_table place_values rows.places (trees 5)
+  pub lines : Holds listing_table line_values rows.lines (trees 9)
+  pub settings : Holds setting_table setting_values rows.settings (trees 11)
+  pub blocks : Holds block_table block_values rows.blocks (trees 13)
 
 -- the tables and nothing else, as its trees list them too, with these rows
 pub record HasRows (rows : Rows) (db : Database) : Type 0 where

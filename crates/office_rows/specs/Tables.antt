@@ -12,8 +12,8 @@ use Rattle.sqlite.specs.Kind.TheVariants.{Integer, Text, Blob}
 use Rattle.sqlite_catalog.specs.Change.{created}
 
 -- a column of a STRICT table, which has to have a value
-abbrev pub required : List ℕ → Kind → Column
-required name kind = record {
+abbrev pub required_column : List ℕ → Kind → Column
+required_column name kind = record {
   name = name;
   kind = kind;
   is_strict = true;
@@ -23,16 +23,16 @@ required name kind = record {
 }
 
 -- an INTEGER PRIMARY KEY
-abbrev pub numbered : List ℕ → Column
-numbered name = record (required name Integer) { not_null = false }
+abbrev pub key_column : List ℕ → Column
+key_column name = record (required_column name Integer) { not_null = false }
 
 -- a row for each account
-abbrev pub partner : Table
-partner = record {
+abbrev pub partner_table : Table
+partner_table = record {
   name = codes "partner";
   tree = 0;
-  columns = numbered (codes "id") ∷ required (codes "code") Text ∷ required (codes "kind") Integer
-      ∷ required (codes "next") Integer ∷ [];
+  columns = key_column (codes "id") ∷ required_column (codes "code") Text ∷ required_column (codes "kind") Integer
+      ∷ required_column (codes "next") Integer ∷ [];
   key = Some 0;
   primary = 0 ∷ [];
   uniques = (2 ∷ []) ∷ [];
@@ -45,12 +45,12 @@ partner = record {
 }
 
 -- a row for each interchange that is kept; its reply is empty while it waits
-abbrev pub interchange : Table
-interchange = record {
+abbrev pub interchange_table : Table
+interchange_table = record {
   name = codes "interchange";
   tree = 2;
-  columns = required (codes "partner") Integer ∷ required (codes "number") Integer ∷ required (codes "body") Blob
-      ∷ required (codes "reply") Text ∷ [];
+  columns = required_column (codes "partner") Integer ∷ required_column (codes "number") Integer ∷ required_column (codes "body") Blob
+      ∷ required_column (codes "reply") Text ∷ [];
   key = None;
   primary = 1 ∷ 2 ∷ [];
   uniques = (1 ∷ 2 ∷ []) ∷ [];
@@ -70,15 +70,15 @@ interchange = record {
 }
 
 -- a row for each visit
-abbrev pub visit : Table
-visit = record {
+abbrev pub visit_table : Table
+visit_table = record {
   name = codes "visit";
   tree = 4;
-  columns = numbered (codes "visit") ∷ required (codes "box") Text ∷ required (codes "size") Text
-      ∷ required (codes "laden") Integer ∷ required (codes "booking") Text ∷ required (codes "in_by") Integer
-      ∷ required (codes "in_partner") Integer ∷ required (codes "in_number") Integer ∷ required (codes "in_at") Text
-      ∷ required (codes "in_slot") Text ∷ required (codes "out_by") Integer ∷ required (codes "out_partner") Integer
-      ∷ required (codes "out_number") Integer ∷ required (codes "out_at") Text ∷ required (codes "kilos") Integer ∷ [];
+  columns = key_column (codes "visit") ∷ required_column (codes "box") Text ∷ required_column (codes "size") Text
+      ∷ required_column (codes "laden") Integer ∷ required_column (codes "booking") Text ∷ required_column (codes "in_by") Integer
+      ∷ required_column (codes "in_partner") Integer ∷ required_column (codes "in_number") Integer ∷ required_column (codes "in_at") Text
+      ∷ required_column (codes "in_slot") Text ∷ required_column (codes "out_by") Integer ∷ required_column (codes "out_partner") Integer
+      ∷ required_column (codes "out_number") Integer ∷ required_column (codes "out_at") Text ∷ required_column (codes "kilos") Integer ∷ [];
   key = Some 0;
   primary = 0 ∷ [];
   uniques = [];
@@ -91,11 +91,11 @@ visit = record {
 }
 
 -- a row for each container in the yard
-abbrev pub place : Table
-place = record {
+abbrev pub place_table : Table
+place_table = record {
   name = codes "place";
   tree = 5;
-  columns = required (codes "box") Text ∷ required (codes "visit") Integer ∷ required (codes "slot") Text ∷ [];
+  columns = required_column (codes "box") Text ∷ required_column (codes "visit") Integer ∷ required_column (codes "slot") Text ∷ [];
   key = None;
   primary = 1 ∷ [];
   uniques = (1 ∷ []) ∷ (2 ∷ []) ∷ (3 ∷ []) ∷ [];
@@ -115,12 +115,12 @@ place = record {
 }
 
 -- a row for each line of a vessel's lists
-abbrev pub listed : Table
-listed = record {
+abbrev pub listing_table : Table
+listing_table = record {
   name = codes "listed";
   tree = 9;
-  columns = required (codes "vessel") Text ∷ required (codes "voyage") Text ∷ required (codes "side") Integer
-      ∷ required (codes "box") Text ∷ required (codes "port") Text ∷ required (codes "done") Integer ∷ [];
+  columns = required_column (codes "vessel") Text ∷ required_column (codes "voyage") Text ∷ required_column (codes "side") Integer
+      ∷ required_column (codes "box") Text ∷ required_column (codes "port") Text ∷ required_column (codes "done") Integer ∷ [];
   key = None;
   primary = 1 ∷ 2 ∷ 3 ∷ 4 ∷ [];
   uniques = (1 ∷ 2 ∷ 3 ∷ 4 ∷ []) ∷ [];
@@ -133,11 +133,11 @@ listed = record {
 }
 
 -- the version, and what the terminal was set up with
-abbrev pub setting : Table
-setting = record {
+abbrev pub setting_table : Table
+setting_table = record {
   name = codes "setting";
   tree = 11;
-  columns = required (codes "name") Text ∷ required (codes "value") Text ∷ [];
+  columns = required_column (codes "name") Text ∷ required_column (codes "value") Text ∷ [];
   key = None;
   primary = 1 ∷ [];
   uniques = (1 ∷ []) ∷ [];
@@ -150,12 +150,12 @@ setting = record {
 }
 
 -- a row for each block of the yard; its rows are `lanes`
-abbrev pub block : Table
-block = record {
+abbrev pub block_table : Table
+block_table = record {
   name = codes "block";
   tree = 13;
-  columns = required (codes "letter") Text ∷ required (codes "bays") Integer ∷ required (codes "lanes") Integer
-      ∷ required (codes "tiers") Integer ∷ [];
+  columns = required_column (codes "letter") Text ∷ required_column (codes "bays") Integer ∷ required_column (codes "lanes") Integer
+      ∷ required_column (codes "tiers") Integer ∷ [];
   key = None;
   primary = 1 ∷ [];
   uniques = (1 ∷ []) ∷ [];
@@ -174,7 +174,7 @@ no_schema = record { tables = []; indexes = []; views = [] }
 
 -- the tables in the order in which they are made
 abbrev pub office_tables : List Table
-office_tables = partner ∷ interchange ∷ visit ∷ place ∷ listed ∷ setting ∷ block ∷ []
+office_tables = partner_table ∷ interchange_table ∷ visit_table ∷ place_table ∷ listing_table ∷ setting_table ∷ block_table ∷ []
 
 -- the schema that these tables make, with their automatic indexes
 abbrev pub schema_of : List Table → Schema

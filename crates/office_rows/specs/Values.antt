@@ -58,35 +58,35 @@ out_at (Some departure) = moment_digits departure.moment
 
 -- ---- rows, in the order of the columns
 
-abbrev pub number : ℕ → Value
-number n = Int (pos n)
+abbrev pub number_value : ℕ → Value
+number_value n = Int (pos n)
 
 abbrev pub partner_values : Partner → Row
-partner_values p = number p.id ∷ Text p.code ∷ number (kind_code p.kind) ∷ number p.next ∷ []
+partner_values p = number_value p.id ∷ Text p.code ∷ number_value (kind_code p.kind) ∷ number_value p.next ∷ []
 
 abbrev pub interchange_values : Interchange → Row
-interchange_values i = number i.partner ∷ number i.number ∷ Blob i.body ∷ Text i.reply ∷ []
+interchange_values i = number_value i.partner ∷ number_value i.number ∷ Blob i.body ∷ Text i.reply ∷ []
 
 abbrev pub visit_values : VisitContent → Row
 visit_values v =
-    number v.number ∷ Text v.container ∷ Text v.size_type ∷ number (laden_code v.is_laden) ∷ Text v.booking
-    ∷ number (way_code v.arrival.way) ∷ number v.arrival.source.partner ∷ number v.arrival.source.number
+    number_value v.number ∷ Text v.container ∷ Text v.size_type ∷ number_value (laden_code v.is_laden) ∷ Text v.booking
+    ∷ number_value (way_code v.arrival.way) ∷ number_value v.arrival.source.partner ∷ number_value v.arrival.source.number
     ∷ Text (moment_digits v.arrival.moment) ∷ Text (slot_text v.arrival.slot)
-    ∷ number (out_by v.departure) ∷ number (out_partner v.departure) ∷ number (out_number v.departure)
-    ∷ Text (out_at v.departure) ∷ number v.kilos ∷ []
+    ∷ number_value (out_by v.departure) ∷ number_value (out_partner v.departure) ∷ number_value (out_number v.departure)
+    ∷ Text (out_at v.departure) ∷ number_value v.kilos ∷ []
 
 abbrev pub place_values : PlaceContent → Row
-place_values p = Text p.container ∷ number p.visit ∷ Text (slot_text p.slot) ∷ []
+place_values p = Text p.container ∷ number_value p.visit ∷ Text (slot_text p.slot) ∷ []
 
 abbrev pub line_values : ListingContent → Row
-line_values l = Text l.call.vessel ∷ Text l.call.voyage ∷ number (side_code l.side) ∷ Text l.container ∷ Text l.port
-    ∷ number (state_code l.state) ∷ []
+line_values l = Text l.call.vessel ∷ Text l.call.voyage ∷ number_value (side_code l.side) ∷ Text l.container ∷ Text l.port
+    ∷ number_value (state_code l.state) ∷ []
 
 abbrev pub setting_values : Setting → Row
 setting_values s = Text s.name ∷ Text s.value ∷ []
 
 abbrev pub block_values : Block → Row
-block_values b = Text (b.letter ∷ []) ∷ number b.bays ∷ number b.rows ∷ number b.tiers ∷ []
+block_values b = Text (b.letter ∷ []) ∷ number_value b.bays ∷ number_value b.rows ∷ number_value b.tiers ∷ []
 
 -- ---- columns of a part of the rows
 
@@ -95,4 +95,4 @@ abbrev pub kept_values : Interchange → Row
 kept_values i = Blob i.body ∷ Text i.reply ∷ []
 
 abbrev pub next_values : Partner → Row
-next_values p = number p.next ∷ []
+next_values p = number_value p.next ∷ []

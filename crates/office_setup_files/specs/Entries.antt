@@ -17,8 +17,8 @@ abbrev pub Record : Type 0
 Record = List Text
 
 -- a name, and a value under it
-abbrev pub Named : Type 0
-Named = Text × Text
+abbrev pub NamedValue : Type 0
+NamedValue = Text × Text
 
 -- these are all the records of a file, its header among them
 abbrev pub AreRows : Text → List Record → Type 0
@@ -71,15 +71,15 @@ pub record AreFiles (partners blocks : List Record) : Type 0 where
 
 -- ---- entries: the name and the value of records of partners
 
-abbrev pub entry_content : Entry → Named
+abbrev pub entry_content : Entry → NamedValue
 entry_content entry = (entry.name.now, entry.value.now)
 
 -- those of a record whose first field is this word
-abbrev pub entry_of : Text → Record → Option (Named)
+abbrev pub entry_of : Text → Record → Option (NamedValue)
 entry_of what row = if bytes_eq (field 0 row) what then Some (field 1 row, field 2 row) else None
 
 -- all whose first field is this word, in the order of the file; a header begins with none of the four
-abbrev pub section : Text → List Record → List Named
+abbrev pub section : Text → List Record → List NamedValue
 section what rows = filter_map (entry_of what) rows
 
 -- ---- numbers

@@ -14,7 +14,7 @@ use Rattle.office_setup.specs.Given.{is_party_code}
 use Rattle.office_setup.specs.Kinds.{kind_named}
 use Rattle.office_setup.specs.Limits.{most_partners, most_visits}
 use Rattle.office_setup.specs.Setups.{SetupContent}
-use Rattle.office_setup_files.specs.Entries.{Text, Record, Named, AreFiles, AreRows, field, section, count_said}
+use Rattle.office_setup_files.specs.Entries.{Text, Record, NamedValue, AreFiles, AreRows, field, section, count_said}
 use Rattle.office_setup_files.specs.declared.setup_reading.SetupFault.{SetupFault}
 use Rattle.office_setup_files.specs.declared.setup_reading.SetupFault.TheVariants.{Csv, Terminal, Partner, Code, Limit, Block as BlockFault, Memory}
 
@@ -23,30 +23,30 @@ abbrev pub are_apart : List Text → Bool
 are_apart [] = true
 are_apart (name ∷ names) = not (list_any (λ (other : Text). bytes_eq other name) names) && are_apart names
 
-abbrev pub names_of : List Named → List Text
-names_of entries = map (λ (entry : Named). entry.0) entries
+abbrev pub names_of : List NamedValue → List Text
+names_of entries = map (λ (entry : NamedValue). entry.0) entries
 
 -- ---- the terminal: one entry, with a code and nothing more
 
-abbrev pub terminal_said : List Named → Option (Text)
+abbrev pub terminal_said : List NamedValue → Option (Text)
 terminal_said [] = None
 terminal_said (entry ∷ []) = if is_party_code entry.0 && bytes_eq entry.1 [] then Some entry.0 else None
 terminal_said (entry ∷ second ∷ others) = None
 
 -- ---- the partners: 1 to 999, each with a code of its own and a kind
 
-abbrev pub partner_said : Named → Option (Text × PartnerKind)
+abbrev pub partner_said : NamedValue → Option (Text × PartnerKind)
 partner_said entry =
     if is_party_code entry.0 then option_map (λ (kind : PartnerKind). (entry.0, kind)) (kind_named entry.1)
     else None
 
-pub record ArePartners (entries : List Named) (partners : List (Text × PartnerKind)) : Type 0 where
+pub record ArePartners (entries : List NamedValue) (partners : List (Text × PartnerKind)) : Type 0 where
   pub counted : (1 ≤ length entries) × (length entries ≤ most_partners)
   pub apart : are_apart (names_of entries) ≡ true
   pub said : map partner_said entries ≡ map Some partners
 
 -- the entries are those of no partners
-abbrev pub AreNoPartners : List Named → Type 0
+abbrev pub AreNoPartners : List NamedValue → Type 0
 AreNoPartners entries = (partners : List (Text × PartnerKind)) → ¬ ArePartners entries partners
 
 -- ---- the codes of document names: those of the file, else the usual ones
@@ -59,12 +59,12 @@ is_code_name name =
     || bytes_eq name (codes "load-report")
 
 -- the value of the first entry with a name
-abbrev pub value_of : List Named → Text → Text → Text
+abbrev pub value_of : List NamedValue → Text → Text → Text
 value_of entries name usual =
-    option_map_or (λ (entry : Named). entry.1) (find (λ (entry : Named). bytes_eq entry.0 name) entries) usual
+    option_map_or (λ (entry : NamedValue). entry.1) (find (λ (entry : NamedValue). bytes_eq entry.0 name) entries) usual
 
 -- in the order of the table
-abbrev pub code_texts : List Named → List Text
+abbrev pub code_texts : List NamedValue → List Text
 code_texts entries =
     value_of entries (codes "gate-in") (codes "34") ∷ value_of entries (codes "gate-out") (codes "36")
     ∷ value_of entries (codes "yard-move") (codes "YMV")
@@ -73,7 +73,7 @@ code_texts entries =
     ∷ []
 
 -- each entry has a name of a code, no two the same, and the codes make a table
-pub record AreCodes (entries : List Named) : Type 0 where
+pub record AreCodes (entries : List NamedValue) : Type 0 where
   pub named : list_all is_code_name (names_of entries) ≡ true
   pub apart : are_apart (names_of entries) ≡ true
   pub table : table_fault (code_texts entries) ≡ None
@@ -85,7 +85,7 @@ abbrev pub limit_in : Option ℕ → Option ℕ
 limit_in None = None
 limit_in (Some number) = if nat_le 1 number && nat_le number most_visits then Some number else None
 
-abbrev pub limit_said : List Named → Option ℕ
+abbrev pub limit_said : List NamedValue → Option ℕ
 limit_said [] = Some most_visits
 limit_said (entry ∷ []) = if bytes_eq entry.0 (codes "visits") then limit_in (number_of 9 entry.1) else None
 limit_said (entry ∷ second ∷ others) = None

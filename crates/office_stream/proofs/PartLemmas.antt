@@ -7,7 +7,7 @@ use Rattle.std.specs.declared.io.Error.{Error}
 use Rattle.std.proofs.KnownBytes.{Appends-trans, Appends-nil}
 use Rattle.std.proofs.lemmas.Grind.{flat_map-append}
 use Rattle.std.proofs.lemmas.List.{take-append-drop, take_more, take_all}
-use Rattle.office_stream.specs.Writes.{joined, WritesOut, WritesEach, WritesPieces}
+use Rattle.office_stream.specs.Writes.{joined_parts, WritesOut, WritesEach, WritesPieces}
 use Rattle.office_stream.specs.Fronts.{AppendsFront}
 
 concat_more : (pieces : List (List ℕ)) (piece : List ℕ) → concat (pieces ++ piece ∷ []) ≡ concat pieces ++ piece
@@ -15,22 +15,22 @@ concat_more [] piece = append-nil piece
 concat_more (first ∷ pieces) piece = ap (λ (l : List ℕ). first ++ l) (concat_more pieces piece) ∙ sym (append_assoc first (concat pieces) piece)
 
 -- so many parts, and those behind them
-joined_at : (parts : List (Bor (List ℕ))) (i : ℕ) → joined parts ≡ joined (take i parts) ++ joined (drop i parts)
-joined_at parts i = ap joined (sym (take-append-drop i parts)) ∙ flat_map-append (λ (part : Bor (List ℕ)). part.now) (take i parts) (drop i parts)
+joined_at : (parts : List (Bor (List ℕ))) (i : ℕ) → joined_parts parts ≡ joined_parts (take i parts) ++ joined_parts (drop i parts)
+joined_at parts i = ap joined_parts (sym (take-append-drop i parts)) ∙ flat_map-append (λ (part : Bor (List ℕ)). part.now) (take i parts) (drop i parts)
 
-pub joined_more : (parts : List (Bor (List ℕ))) (i : ℕ) (d : Bor (List ℕ)) → i < length parts → joined (take (i + 1) parts) ≡ joined (take i parts) ++ (get_or parts i d).now
+pub joined_more : (parts : List (Bor (List ℕ))) (i : ℕ) (d : Bor (List ℕ)) → i < length parts → joined_parts (take (i + 1) parts) ≡ joined_parts (take i parts) ++ (get_or parts i d).now
 joined_more parts i d less =
-    ap joined (take_more parts i d less) ∙ flat_map-append (λ (part : Bor (List ℕ)). part.now) (take i parts) (get_or parts i d ∷ [])
-    ∙ ap (λ (l : List ℕ). joined (take i parts) ++ l) (append-nil (get_or parts i d).now)
+    ap joined_parts (take_more parts i d less) ∙ flat_map-append (λ (part : Bor (List ℕ)). part.now) (take i parts) (get_or parts i d ∷ [])
+    ∙ ap (λ (l : List ℕ). joined_parts (take i parts) ++ l) (append-nil (get_or parts i d).now)
 
 pub joined_rest : (parts : List (Bor (List ℕ))) (i : ℕ) (d : Bor (List ℕ)) → i < length parts →
-    joined parts ≡ joined (take i parts) ++ ((get_or parts i d).now ++ joined (drop (i + 1) parts))
+    joined_parts parts ≡ joined_parts (take i parts) ++ ((get_or parts i d).now ++ joined_parts (drop (i + 1) parts))
 joined_rest parts i d less =
-    joined_at parts (i + 1) ∙ ap (λ (l : List ℕ). l ++ joined (drop (i + 1) parts)) (joined_more parts i d less)
-    ∙ append_assoc (joined (take i parts)) (get_or parts i d).now (joined (drop (i + 1) parts))
+    joined_at parts (i + 1) ∙ ap (λ (l : List ℕ). l ++ joined_parts (drop (i + 1) parts)) (joined_more parts i d less)
+    ∙ append_assoc (joined_parts (take i parts)) (get_or parts i d).now (joined_parts (drop (i + 1) parts))
 
-pub joined_all : (parts : List (Bor (List ℕ))) (i : ℕ) → length parts ≤ i → joined (take i parts) ≡ joined parts
-joined_all parts i le = ap joined (take_all i parts le)
+pub joined_all : (parts : List (Bor (List ℕ))) (i : ℕ) → length parts ≤ i → joined_parts (take i parts) ≡ joined_parts parts
+joined_all parts i le = ap joined_parts (take_all i parts le)
 
 not_true : (b : Bool) → b ≡ false → IsTrue b → ⊥
 not_true b is holds = cc

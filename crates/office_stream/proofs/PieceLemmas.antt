@@ -5,7 +5,7 @@ use Rattle.std.proofs.KnownBytes.{Appends-trans, Appends-nil}
 use Rattle.std.proofs.lemmas.Grind.{flat_map-append}
 use Rattle.std.proofs.lemmas.List.{append-nil}
 use Rattle.edi_segments.specs.Advice.{without_breaks}
-use Rattle.edi_cutter.specs.Cuts.{Cutting, is_whole, IsInterchange, IsPending, Answers, Fails, Faults, pending, interchange, HasNoFault}
+use Rattle.edi_cutter.specs.Cuts.{Cutting, is_whole, IsInterchange, IsPending, Answers, Fails, Faults, pending_bytes, interchange, HasNoFault}
 use Rattle.edi_cutter.specs.declared.cutter.CutFault.{CutFault}
 use Rattle.edi_cutter.specs.declared.cutter.CutFault.TheVariants.{TooLong, Service, Segment, Memory}
 use Rattle.office_replies.specs.declared.deliver.Response.{Response}
@@ -106,18 +106,18 @@ module _ {D : Type 0} (Call : D → List ℕ → Response → D → Type 0) (fir
 -- ---- what the cutter answers
 
 -- a cutter that holds a whole interchange, or less
-holds_whole : (c : Cutting) → is_whole c.text ≡ true → (interchange c ≡ c.text) × (pending c ≡ [])
+holds_whole : (c : Cutting) → is_whole c.text ≡ true → (interchange c ≡ c.text) × (pending_bytes c ≡ [])
 holds_whole c whole = rw whole (refl, refl)
 
-holds_less : (c : Cutting) → is_whole c.text ≡ false → pending c ≡ c.text
+holds_less : (c : Cutting) → is_whole c.text ≡ false → pending_bytes c ≡ c.text
 holds_less c less = rw less refl
 
 pub ends_used_up : (q rest : List ℕ) (new : Cutting) → Answers q rest new None →
-    (left : List ℕ) → IsLeft q rest left → EndsPiece None (pending new) left
+    (left : List ℕ) → IsLeft q rest left → EndsPiece None (pending_bytes new) left
 ends_used_up q rest new answer left is =
     let text : new.text ≡ without_breaks (q ++ rest) = ap (λ (c : Cutting). c.text) answer.1 in
     let less : IsPending new.text = subst IsPending (sym text) answer.0 in
-    let held : pending new ≡ new.text = holds_less new less.0.1 in
+    let held : pending_bytes new ≡ new.text = holds_less new less.0.1 in
     (is ∙ sym text ∙ sym held, subst IsPending (sym held) less)
 
 cut_by : (q rest : List ℕ) (n : ℕ) (fault : CutFault) → Faults (without_breaks (q ++ take n rest)) fault → (left : List ℕ) → IsLeft q rest left → IsCutBy fault left
@@ -136,7 +136,7 @@ ends_cut q rest old new Service (n, within, faults, then) held left is = cut_by 
 ends_cut q rest old new Segment (n, within, faults, then) held left is = cut_by q rest n Segment faults left is
 ends_cut q rest old new Memory (same, none) held left is = subst HasNoFault (sym is) none
 
-pub used_some : (q rest : List ℕ) (new : Cutting) (n : ℕ) → Answers q rest new (Some n) → Used q rest n (interchange new) × (pending new ≡ []) × (new.fault ≡ None)
+pub used_some : (q rest : List ℕ) (new : Cutting) (n : ℕ) → Answers q rest new (Some n) → Used q rest n (interchange new) × (pending_bytes new ≡ []) × (new.fault ≡ None)
 used_some q rest new n answer =
     let at : new ≡ record { text = without_breaks (q ++ take n rest); fault = None } = answer.3 in
     let text : new.text ≡ without_breaks (q ++ take n rest) = ap (λ (c : Cutting). c.text) at in

@@ -11,7 +11,7 @@ use Rattle.edi_cutter.specs.Cuts.{is_nil, IsPending}
 use Rattle.edi_cutter.specs.Streams.{CutsFrom}
 use Rattle.edi_cutter.specs.declared.cutter.CutFault.{CutFault}
 use Rattle.office_stream.specs.Pieces.{EndsPiece, LeavesOver}
-use Rattle.office_stream.specs.Places.{counted, with_piece, with_passed, with_whole, cut_by, cut_behind, IsOver, CutsAt, Follows, StopsAt, PassesPiece}
+use Rattle.office_stream.specs.Places.{capped_count, with_piece, with_passed, with_whole, cut_by, cut_behind, IsOver, CutsAt, Follows, StopsAt, PassesPiece}
 use Rattle.office_stream.specs.Streams.{EndsAs}
 use Rattle.office_stream.specs.declared.line.Cut.{Cut as StreamCut}
 use Rattle.office_stream.specs.declared.line.Place.{Place}
@@ -26,7 +26,7 @@ use Rattle.office_stream.proofs.StreamLemmas.{nil_is}
 min_more : (n m top : ℕ) → min (min n top + m) top ≡ min (n + m) top
 min_more n m top = omega arith
 
-counted_more : (n m : ℕ) → counted (counted n + m) ≡ counted (n + m)
+counted_more : (n m : ℕ) → capped_count (capped_count n + m) ≡ capped_count (n + m)
 counted_more n m = min_more n m (2 ^ 64 - 1)
 
 -- ---- lengths
@@ -64,7 +64,7 @@ piece_passed : (place : Place) (rest : List ℕ) (at_rest : Bool) → (with_piec
 piece_passed place rest true = refl
 piece_passed place rest false = refl
 
-begun_at_rest : (place : Place) (rest : List ℕ) (at_rest : Bool) → at_rest ≡ true → (with_piece place rest at_rest).begun ≡ counted (place.passed + breaks_len rest)
+begun_at_rest : (place : Place) (rest : List ℕ) (at_rest : Bool) → at_rest ≡ true → (with_piece place rest at_rest).begun ≡ capped_count (place.passed + breaks_len rest)
 begun_at_rest place rest true e = refl
 begun_at_rest place rest false e = absurd cc
 
@@ -80,10 +80,10 @@ not_nil q some = elim (cases_Bool (is_nil q)) [ inl e ↦ absurd (some (nil_is q
 
 -- the bytes before what is left over behind what is pending and the piece
 pub met : (place : Place) (bytes q rest : List ℕ) (at_rest : Bool) → Follows place bytes q → at_rest ≡ is_nil q →
-    (with_piece place rest at_rest).begun ≡ counted (length (bytes ++ rest) - length (without_breaks (q ++ rest)))
+    (with_piece place rest at_rest).begun ≡ capped_count (length (bytes ++ rest) - length (without_breaks (q ++ rest)))
 met place bytes [] rest at_rest follows is =
-    begun_at_rest place rest at_rest is ∙ ap (λ n. counted (n + breaks_len rest)) follows.passed ∙ counted_more (length bytes) (breaks_len rest)
-    ∙ ap counted (sym (ap (λ n. n - length (without_breaks rest)) (length-append bytes rest)
+    begun_at_rest place rest at_rest is ∙ ap (λ n. capped_count (n + breaks_len rest)) follows.passed ∙ counted_more (length bytes) (breaks_len rest)
+    ∙ ap capped_count (sym (ap (λ n. n - length (without_breaks rest)) (length-append bytes rest)
     ∙ rest_begins (length bytes) (length rest) (breaks_len rest) (length (without_breaks rest)) (breaks_within rest) (stripped_length rest)))
 met place bytes (x ∷ xs) rest at_rest follows is =
     let q = x ∷ xs in
@@ -91,7 +91,7 @@ met place bytes (x ∷ xs) rest at_rest follows is =
     let stripped : without_breaks q ≡ q = left_stripped q bytes follows.texts follows.cuts in
     let left : without_breaks (q ++ rest) ≡ q ++ rest = stripped_some q rest (λ none. some (sym stripped ∙ none)) ∙ ap (λ y. y ++ rest) stripped in
     let same : length (bytes ++ rest) - length (without_breaks (q ++ rest)) ≡ length bytes - length q = omega (arith, ap length left, length-append q rest, length-append bytes rest) in
-    begun_before place rest at_rest (is ∙ not_nil q some) ∙ follows.begun some ∙ ap counted (sym same)
+    begun_before place rest at_rest (is ∙ not_nil q some) ∙ follows.begun some ∙ ap capped_count (sym same)
 
 -- ---- a piece
 
@@ -113,14 +113,14 @@ follows_more : (place met now : Place) (bytes q rest text q' : List ℕ) (at_res
 follows_more place met now bytes q rest text q' at_rest n follows used within none is_met is_now =
     let many : length (follows.texts ++ text ∷ []) ≡ length follows.texts + 1 = length-append follows.texts (text ∷ []) in
     let long : length (bytes ++ take n rest) ≡ length bytes + n = length-append bytes (take n rest) ∙ ap (λ m. length bytes + m) (length-take-le n rest within) in
-    let whole : met.whole ≡ counted (length follows.texts) = ap (λ (p : Place). p.whole) is_met ∙ piece_whole place rest at_rest ∙ follows.whole in
-    let passed : met.passed ≡ counted (length bytes) = ap (λ (p : Place). p.passed) is_met ∙ piece_passed place rest at_rest ∙ follows.passed in
+    let whole : met.whole ≡ capped_count (length follows.texts) = ap (λ (p : Place). p.whole) is_met ∙ piece_whole place rest at_rest ∙ follows.whole in
+    let passed : met.passed ≡ capped_count (length bytes) = ap (λ (p : Place). p.passed) is_met ∙ piece_passed place rest at_rest ∙ follows.passed in
     record {
       texts = follows.texts ++ text ∷ [];
       cuts = cuts_join (LeavesOver q') q (take n rest) bytes follows.texts (text ∷ []) follows.cuts
           ([], used.is, used.cut ∙ sym (append-nil text), nothing_over q' none);
-      whole = ap (λ (p : Place). p.whole) is_now ∙ ap (λ m. counted (m + 1)) whole ∙ counted_more (length follows.texts) 1 ∙ ap counted (sym many);
-      passed = ap (λ (p : Place). p.passed) is_now ∙ ap (λ m. counted (m + n)) passed ∙ counted_more (length bytes) n ∙ ap counted (sym long);
+      whole = ap (λ (p : Place). p.whole) is_now ∙ ap (λ m. capped_count (m + 1)) whole ∙ counted_more (length follows.texts) 1 ∙ ap capped_count (sym many);
+      passed = ap (λ (p : Place). p.passed) is_now ∙ ap (λ m. capped_count (m + n)) passed ∙ counted_more (length bytes) n ∙ ap capped_count (sym long);
       begun = λ some. absurd (some (sym none));
     }
 
@@ -146,10 +146,10 @@ followed_whole place met_place now bytes piece q rest q' at_rest n followed rest
       texts = follows.texts;
       cuts = subst (λ t. CutsFrom (LeavesOver q') (b ++ rest) t) (append-nil follows.texts) (cuts_join (LeavesOver q') q rest b follows.texts [] follows.cuts ends);
       whole = ap (λ (p : Place). p.whole) is_now ∙ ap (λ (p : Place). p.whole) is_met ∙ piece_whole place rest at_rest ∙ follows.whole;
-      passed = ap (λ (p : Place). p.passed) is_now ∙ ap (λ m. counted (m + n)) (ap (λ (p : Place). p.passed) is_met ∙ piece_passed place rest at_rest ∙ follows.passed)
-          ∙ counted_more (length b) n ∙ ap counted (ap (λ m. length b + m) all ∙ sym (length-append b rest));
+      passed = ap (λ (p : Place). p.passed) is_now ∙ ap (λ m. capped_count (m + n)) (ap (λ (p : Place). p.passed) is_met ∙ piece_passed place rest at_rest ∙ follows.passed)
+          ∙ counted_more (length b) n ∙ ap capped_count (ap (λ m. length b + m) all ∙ sym (length-append b rest));
       begun = λ some. ap (λ (p : Place). p.begun) is_now ∙ ap (λ (p : Place). p.begun) is_met ∙ met place b q rest at_rest follows resting
-          ∙ ap (λ l. counted (length (b ++ rest) - length l)) ends.0;
+          ∙ ap (λ l. capped_count (length (b ++ rest) - length l)) ends.0;
     } in
     subst (λ bytes. Follows now bytes q') (all_passed place bytes piece rest q followed) here
 
@@ -180,16 +180,16 @@ follows_start place q is none = record {
   begun = λ some. absurd (some none);
 }
 
-cut_open : (place : Place) (interchanges bytes : ℕ) → place.whole ≡ counted interchanges → place.begun ≡ counted bytes → cut_by place Open ≡ cut_behind Open interchanges bytes
+cut_open : (place : Place) (interchanges bytes : ℕ) → place.whole ≡ capped_count interchanges → place.begun ≡ capped_count bytes → cut_by place Open ≡ cut_behind Open interchanges bytes
 cut_open place interchanges bytes whole begun =
-    ap (λ n. Some (record { interchange = n; byte = counted (place.begun + 1); fault = None })) (ap (λ n. counted (n + 1)) whole ∙ counted_more interchanges 1)
-    ∙ ap (λ n. Some (record { interchange = counted (interchanges + 1); byte = n; fault = None })) (ap (λ n. counted (n + 1)) begun ∙ counted_more bytes 1)
+    ap (λ n. Some (record { interchange = n; byte = capped_count (place.begun + 1); fault = None })) (ap (λ n. capped_count (n + 1)) whole ∙ counted_more interchanges 1)
+    ∙ ap (λ n. Some (record { interchange = capped_count (interchanges + 1); byte = n; fault = None })) (ap (λ n. capped_count (n + 1)) begun ∙ counted_more bytes 1)
 
-cut_faulty : (place : Place) (fault : CutFault) (interchanges bytes : ℕ) → place.whole ≡ counted interchanges → place.begun ≡ counted bytes →
+cut_faulty : (place : Place) (fault : CutFault) (interchanges bytes : ℕ) → place.whole ≡ capped_count interchanges → place.begun ≡ capped_count bytes →
     cut_by place (Cut fault) ≡ cut_behind (Cut fault) interchanges bytes
 cut_faulty place fault interchanges bytes whole begun =
-    ap (λ n. Some (record { interchange = n; byte = counted (place.begun + 1); fault = Some fault })) (ap (λ n. counted (n + 1)) whole ∙ counted_more interchanges 1)
-    ∙ ap (λ n. Some (record { interchange = counted (interchanges + 1); byte = n; fault = Some fault })) (ap (λ n. counted (n + 1)) begun ∙ counted_more bytes 1)
+    ap (λ n. Some (record { interchange = n; byte = capped_count (place.begun + 1); fault = Some fault })) (ap (λ n. capped_count (n + 1)) whole ∙ counted_more interchanges 1)
+    ∙ ap (λ n. Some (record { interchange = capped_count (interchanges + 1); byte = n; fault = Some fault })) (ap (λ n. capped_count (n + 1)) begun ∙ counted_more bytes 1)
 
 -- the end of the input
 pub cut_at_end : (left left' : Option (List ℕ)) (place : Place) (bytes q : List ℕ) (end : StreamEnd) (cut : Option StreamCut) → Consumes left left' bytes → Follows place bytes q →

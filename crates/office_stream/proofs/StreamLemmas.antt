@@ -5,7 +5,7 @@ use Rattle.std.proofs.KnownBytes.{Appends-trans, Consumes-trans, Consumes-kept, 
 use Rattle.std.proofs.lemmas.Grind.{flat_map-append}
 use Rattle.std.proofs.lemmas.List.{append-nil}
 use Rattle.std.proofs.lemmas.Bool.{eqb-true}
-use Rattle.edi_cutter.specs.Cuts.{Cutting, pending, is_whole, is_nil, IsPending}
+use Rattle.edi_cutter.specs.Cuts.{Cutting, pending_bytes, is_whole, is_nil, IsPending}
 use Rattle.edi_cutter.specs.declared.cutter.CutFault.{CutFault}
 use Rattle.office_replies.specs.declared.deliver.Response.{Response}
 use Rattle.office_replies.specs.declared.deliver.Worst.{Worst}
@@ -319,7 +319,7 @@ nothing_pending_of : (b : Bool) (text : List ℕ) → text ≡ [] → cond b [] 
 nothing_pending_of true text none = refl
 nothing_pending_of false text none = none
 
-pub starts_empty : (k : Cutting) → k ≡ record { text = []; fault = None } → pending k ≡ []
+pub starts_empty : (k : Cutting) → k ≡ record { text = []; fault = None } → pending_bytes k ≡ []
 starts_empty k is = nothing_pending_of (is_whole k.text) k.text (ap (λ (x : Cutting). x.text) is)
 
 pub nothing_taken : (a b : Option (List ℕ)) (n : ℕ) (buffer : List ℕ) → n ≡ 0 → Consumes a b (take n buffer) → Consumes a b []

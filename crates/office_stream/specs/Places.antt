@@ -11,26 +11,26 @@ use Rattle.office_stream.specs.declared.line.Place.{Place}
 use Rattle.office_stream.specs.declared.stream.StreamEnd.{StreamEnd}
 use Rattle.office_stream.specs.declared.stream.StreamEnd.TheVariants.{Whole, Open, Cut}
 
-abbrev pub counted : ℕ → ℕ
-counted n = min n (2 ^ 64 - 1)
+abbrev pub capped_count : ℕ → ℕ
+capped_count n = min n (2 ^ 64 - 1)
 
 -- Before a piece: if nothing is pending, an interchange begins behind the CR and LF at its front.
 abbrev pub with_piece : Place → List ℕ → (at_rest : Bool) → Place
 with_piece place piece at_rest =
-    if at_rest then record place { begun = counted (place.passed + breaks_len piece) } else place
+    if at_rest then record place { begun = capped_count (place.passed + breaks_len piece) } else place
 
 -- so many bytes were passed
 abbrev pub with_passed : Place → ℕ → Place
-with_passed place bytes = record place { passed = counted (place.passed + bytes) }
+with_passed place bytes = record place { passed = capped_count (place.passed + bytes) }
 
 -- so many bytes completed an interchange
 abbrev pub with_whole : Place → ℕ → Place
 with_whole place bytes =
-    record place { whole = counted (place.whole + 1); passed = counted (place.passed + bytes) }
+    record place { whole = capped_count (place.whole + 1); passed = capped_count (place.passed + bytes) }
 
 abbrev pub cut_for : Place → Option CutFault → StreamCut
 cut_for place fault =
-    record { interchange = counted (place.whole + 1); byte = counted (place.begun + 1); fault = fault }
+    record { interchange = capped_count (place.whole + 1); byte = capped_count (place.begun + 1); fault = fault }
 
 -- the cut of a stream that ends so, if it is cut
 abbrev pub cut_by : Place → StreamEnd → Option StreamCut
@@ -49,9 +49,9 @@ IsOver rest end over = (over ≡ rest) × EndsAs end over
 abbrev pub cut_behind : StreamEnd → (interchanges bytes : ℕ) → Option StreamCut
 cut_behind Whole interchanges bytes = None
 cut_behind Open interchanges bytes =
-    Some (record { interchange = counted (interchanges + 1); byte = counted (bytes + 1); fault = None })
+    Some (record { interchange = capped_count (interchanges + 1); byte = capped_count (bytes + 1); fault = None })
 cut_behind (Cut fault) interchanges bytes =
-    Some (record { interchange = counted (interchanges + 1); byte = counted (bytes + 1); fault = Some fault })
+    Some (record { interchange = capped_count (interchanges + 1); byte = capped_count (bytes + 1); fault = Some fault })
 
 -- These bytes were read, and cut into interchanges to their end. The cut is that of what is left over, if there is one.
 pub record CutsAt (left left' : Option (List ℕ)) (cut : Option StreamCut) : Type 0 where
@@ -69,9 +69,9 @@ pub record CutsAt (left left' : Option (List ℕ)) (cut : Option StreamCut) : Ty
 pub record Follows (place : Place) (bytes pending : List ℕ) : Type 0 where
   pub texts : List (List ℕ)
   pub cuts : CutsFrom (LeavesOver pending) bytes texts
-  pub whole : place.whole ≡ counted (length texts)
-  pub passed : place.passed ≡ counted (length bytes)
-  pub begun : pending ≢ [] → place.begun ≡ counted (length bytes - length pending)
+  pub whole : place.whole ≡ capped_count (length texts)
+  pub passed : place.passed ≡ capped_count (length bytes)
+  pub begun : pending ≢ [] → place.begun ≡ capped_count (length bytes - length pending)
 
 -- These bytes were read: interchanges, and what is left over at such an end. The place has counted those, and the bytes
 -- before that.
@@ -79,8 +79,8 @@ pub record StopsAt (end : StreamEnd) (place : Place) (bytes : List ℕ) : Type 0
   pub texts : List (List ℕ)
   pub rest : List ℕ
   pub cuts : CutsFrom (IsOver rest end) bytes texts
-  pub whole : place.whole ≡ counted (length texts)
-  pub begun : place.begun ≡ counted (length bytes - length rest)
+  pub whole : place.whole ≡ capped_count (length texts)
+  pub begun : place.begun ≡ capped_count (length bytes - length rest)
 
 -- a piece was passed, or the stream can't be cut further
 abbrev pub PassesPiece : Option CutFault → Place → (bytes pending : List ℕ) → Type 0

@@ -22,8 +22,8 @@ FailsWith error (Ok count) = (count ≡ 0) × (error_kind error ≡ WriteZero)
 FailsWith error (Err own) = (own ≡ error) × (error_kind error ≢ Interrupted)
 
 -- the bytes of parts, one behind the other
-abbrev pub joined : List (Bor (List ℕ)) → List ℕ
-joined parts = flat_map (λ part. part.now) parts
+abbrev pub joined_parts : List (Bor (List ℕ)) → List ℕ
+joined_parts parts = flat_map (λ part. part.now) parts
 
 module _ {W : Type 0} (takes : W → List ℕ → Result ℕ Error → W → Type 0) where
   -- Writes with these results were made one after the other, each of what those before had left of the bytes.

@@ -5,7 +5,7 @@ ghost use Rattle.office_replies.specs.Responses.{body_of};
 ghost use Rattle.office_stream.specs.Fronts.{AppendsFront};
 ghost use Rattle.office_stream.specs.Lines.{line, end_text, end_worst};
 ghost use Rattle.office_stream.specs.Places.{cut_by, cut_for, with_passed, with_piece, with_whole};
-ghost use Rattle.office_stream.specs.Writes.{WritesOut, WritesPieces, joined};
+ghost use Rattle.office_stream.specs.Writes.{WritesOut, WritesPieces, joined_parts};
 
 use crate::port::{Gathered, Port, Sink};
 use crate::stream::StreamEnd;
@@ -96,12 +96,12 @@ impl<W: Sink> Port<W> {
     /// written.
     pub fn write_parts(&mut self, parts: &[&[u8]]) -> Result<()>
         ensures bytes { OnOk result
-            (Appends (W.contents self.old.inner) (W.contents self.new.inner) (joined parts.now)) }
+            (Appends (W.contents self.old.inner) (W.contents self.new.inner) (joined_parts parts.now)) }
         ensures front { OnErr result
-            (AppendsFront (W.contents self.old.inner) (W.contents self.new.inner) (joined parts.now)) }
-        ensures writes { WritesPieces W.takes self.old.inner (joined parts.now) result self.new.inner }
-        ensures together { length (joined parts.now) ≤ 4096
-            → WritesOut W.takes self.old.inner (joined parts.now) result self.new.inner }
+            (AppendsFront (W.contents self.old.inner) (W.contents self.new.inner) (joined_parts parts.now)) }
+        ensures writes { WritesPieces W.takes self.old.inner (joined_parts parts.now) result self.new.inner }
+        ensures together { length (joined_parts parts.now) ≤ 4096
+            → WritesOut W.takes self.old.inner (joined_parts parts.now) result self.new.inner }
         ensures succeeds { OnOk result (self.new.failed ≡ self.old.failed) }
         ensures fails { OnErr result (self.new.failed ≡ true) }
         ensures uncounted { self.new.reads ≡ self.old.reads }

@@ -1,6 +1,6 @@
 ghost use Rattle.std.specs.Io.KnownBytes.{Appends};
 ghost use Rattle.std.specs.Prelude.{◌≡◌, ◌≢◌, ◌+◌, ◌-◌, ◌^◌, ◌≤◌, ◌<◌, min, true, false, IfOk, IfErr, OnOk, OnErr, ◌++◌, ℕ, List, None};
-ghost use Rattle.edi_cutter.specs.Cuts.{pending};
+ghost use Rattle.edi_cutter.specs.Cuts.{pending_bytes};
 ghost use Rattle.office_replies.specs.AccountAnswers.{account_body};
 ghost use Rattle.office_replies.specs.Delivering.{LeadsOn};
 ghost use Rattle.office_replies.specs.Responses.{worse_of, body_of};
@@ -217,10 +217,10 @@ pub(crate) fn answer_piece<W: Write, D: Deliver>(
     requires { cutter.old.fault ≡ None }
     ensures ok { IfOk result
         (λ done. PieceAnswered D.leads desk.old
-        (EndsPiece done.1 (pending cutter.new)) (pending cutter.old ++ piece.now) desk.new before done.0
+        (EndsPiece done.1 (pending_bytes cutter.new)) (pending_bytes cutter.old ++ piece.now) desk.new before done.0
         (W.contents writer.old.inner) (W.contents writer.new.inner)) }
-    ensures placed { IfOk result (λ done. (bytes : List ℕ) → Follows place.old bytes (pending cutter.old) →
-        PassesPiece done.1 place.new (bytes ++ piece.now) (pending cutter.new)) }
+    ensures placed { IfOk result (λ done. (bytes : List ℕ) → Follows place.old bytes (pending_bytes cutter.old) →
+        PassesPiece done.1 place.new (bytes ++ piece.now) (pending_bytes cutter.new)) }
     ensures running { IfOk result (λ done. done.1 ≡ None → cutter.new.fault ≡ None) }
     ensures kept { OnOk result (writer.new.failed ≡ writer.old.failed) }
     ensures flushed { OnOk result (writer.old.flushed ≡ true → writer.new.flushed ≡ true) }
@@ -228,7 +228,7 @@ pub(crate) fn answer_piece<W: Write, D: Deliver>(
         (λ fault. (fault ≡ StreamFault.Write) × (writer.new.failed ≡ true)) }
     ensures cut_short { OnErr result
         (LineCutShort (λ texts responses. LeadsOn D.leads desk.old texts responses desk.new)
-        (pending cutter.old ++ piece.now) (W.contents writer.old.inner) (W.contents writer.new.inner)) }
+        (pending_bytes cutter.old ++ piece.now) (W.contents writer.old.inner) (W.contents writer.new.inner)) }
 {
     let mut worst = before;
     let mut rest = piece;

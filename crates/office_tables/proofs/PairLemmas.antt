@@ -20,13 +20,13 @@ use Rattle.sqlite_rules.specs.Cast.{cast_row}
 use Rattle.sqlite_rules.specs.declared.error.Rowids.TheVariants.{Chosen}
 use Rattle.sqlite_rules.specs.Edit.{with_rowid}
 use Rattle.sqlite_tied.proofs.RuleLemmas.{and_true}
-use Rattle.office_rows.specs.Tables.{interchange, office_schema}
+use Rattle.office_rows.specs.Tables.{interchange_table, office_schema}
 use Rattle.office_rows.specs.Rows.{Interchange, Rows}
-use Rattle.office_rows.specs.Values.{number, interchange_values}
+use Rattle.office_rows.specs.Values.{number_value, interchange_values}
 use Rattle.office_rows.specs.Steps.{Steps}
 use Rattle.office_rows.specs.Stored.{HasRows, columns_of}
 use Rattle.office_rows.specs.Effects.{is_pair}
-use Rattle.office_rows.specs.Opening.{with_interchanges, interchange as interchange_of}
+use Rattle.office_rows.specs.Opening.{with_interchanges, interchange_row as interchange_of}
 use Rattle.office_rows.proofs.Writing as texts
 use Rattle.office_rows.proofs.WriteLemmas.{cast_null, cast_int, equal_numbers, inserts}
 use Rattle.office_tables.specs.Kept.{with_kept_reply}
@@ -38,11 +38,11 @@ any_map p f (x ∷ xs) = ap (λ b. p (f x) || b) (any_map p f xs)
 
 -- the index of the pairs
 abbrev pairs : Index
-pairs = automatic interchange 0 (1 ∷ 2 ∷ []) 3
+pairs = automatic interchange_table 0 (1 ∷ 2 ∷ []) 3
 
 -- the columns have the numbers of this partner's interchange
 abbrev shows : ℕ → ℕ → Row → Bool
-shows p n c = equal Binary (column c 0) (number p) && (equal Binary (column c 1) (number n) && true)
+shows p n c = equal Binary (column c 0) (number_value p) && (equal Binary (column c 1) (number_value n) && true)
 
 module _ (old new : State) (rows : Rows) (count : ℕ) (has : HasRows rows old.now) where
   pub new_pair : (a : Interchange) → Executes texts.insert_whole (interchange_values a) old new (Ok count) → list_any (is_pair a.partner a.number) rows.interchanges ≡ false
@@ -52,18 +52,18 @@ module _ (old new : State) (rows : Rows) (count : ℕ) (has : HasRows rows old.n
       let source : Row = Null ∷ interchange_values a in
       let text = statement_of texts.insert_whole (understood office_schema texts.insert_whole) in
       let w = runs_as texts.insert_whole params old new office_schema has.schema (Insert 1 (Values texts.insert_whole_terms 5)) texts.insert_whole_is texts.insert_whole_plain count h in
-      let it = inserts old new has.schema 1 interchange refl refl params text count texts.insert_whole_terms 5 w in
+      let it = inserts old new has.schema 1 interchange_table refl refl params text count texts.insert_whole_terms 5 w in
       let held = has.rows_are.interchanges in
       let stored = old.now.trees 2 in
-      let row : Row = with_rowid Chosen stored (cast_row interchange source) in
-      let shown : columns_of interchange row ≡ interchange_values a = simp (cast_null, cast_int) in
-      let none = new_key office_schema interchange pairs old.now.trees new.now.trees source (inr (inl refl)) (inr (inl refl)) refl held.shaped it.edits.applies in
+      let row : Row = with_rowid Chosen stored (cast_row interchange_table source) in
+      let shown : columns_of interchange_table row ≡ interchange_values a = simp (cast_null, cast_int) in
+      let none = new_key office_schema interchange_table pairs old.now.trees new.now.trees source (inr (inl refl)) (inr (inl refl)) refl held.shaped it.edits.applies in
       let stays : list_any (λ r. equal Binary (column r 1) (column row 1) && (equal Binary (column r 2) (column row 2) && true)) stored ≡ false = none in
-      let first : column row 1 ≡ number a.partner = ap (λ c. column c 0) shown in
-      let second : column row 2 ≡ number a.number = ap (λ c. column c 1) shown in
-      let in_columns : list_any (λ r. shows a.partner a.number (columns_of interchange r)) stored ≡ false = rw (first, second) at stays in
+      let first : column row 1 ≡ number_value a.partner = ap (λ c. column c 0) shown in
+      let second : column row 2 ≡ number_value a.number = ap (λ c. column c 1) shown in
+      let in_columns : list_any (λ r. shows a.partner a.number (columns_of interchange_table r)) stored ≡ false = rw (first, second) at stays in
       let in_values : list_any (shows a.partner a.number) (map interchange_values rows.interchanges) ≡ false =
-      list_any-IsPermutation (shows a.partner a.number) _ _ held.same ∙ any_map (shows a.partner a.number) (columns_of interchange) stored ∙ in_columns in
+      list_any-IsPermutation (shows a.partner a.number) _ _ held.same ∙ any_map (shows a.partner a.number) (columns_of interchange_table) stored ∙ in_columns in
       (λ i. list_any (λ (x : Interchange). pair_is a x i) rows.interchanges) ∙ sym (any_map (shows a.partner a.number) interchange_values rows.interchanges) ∙ in_values
     where
       pair_is : (a x : Interchange) → is_pair a.partner a.number x ≡ shows a.partner a.number (interchange_values x)

@@ -2,7 +2,7 @@ ghost use Rattle.std.specs.Prelude.{◌≡◌, [], ◌∷◌, take, ◌≤◌, f
 ghost use Rattle.office_rows.specs.Opening.{opening_rows};
 ghost use Rattle.office_rows.specs.Rows.{no_rows};
 ghost use Rattle.office_rows.specs.Stored.{HasRows, HasEmpty};
-ghost use Rattle.office_rows.specs.Tables.{office_tables, partner, interchange, visit, place, listed, setting, block};
+ghost use Rattle.office_rows.specs.Tables.{office_tables, partner_table, interchange_table, visit_table, place_table, listing_table, setting_table, block_table};
 ghost use Rattle.office_setup.specs.Limits.{most_partners};
 ghost use Rattle.office_setup.specs.Setups.{setup_content};
 ghost use Rattle.office_tables.specs.Faults.{IsOfStore};
@@ -42,7 +42,7 @@ fn create_first_tables<S: Alter>(tx: &mut Transaction<'_, S>) -> Result<(), Tabl
 
 fn create_partner<S: Alter>(tx: &mut Transaction<'_, S>) -> Result<(), TableFault>
     ensures same_reference { tx.new.conn.ghost_name ≡ tx.old.conn.ghost_name }
-    ensures creates { Creates (partner ∷ []) (HasEmpty (take 0 office_tables)) (HasEmpty (take 1 office_tables))
+    ensures creates { Creates (partner_table ∷ []) (HasEmpty (take 0 office_tables)) (HasEmpty (take 1 office_tables))
         (state S.Store tx.old.conn.now) (state S.Store tx.new.conn.now) result }
 {
     tx.execute(
@@ -54,7 +54,7 @@ fn create_partner<S: Alter>(tx: &mut Transaction<'_, S>) -> Result<(), TableFaul
 
 fn create_interchange<S: Alter>(tx: &mut Transaction<'_, S>) -> Result<(), TableFault>
     ensures same_reference { tx.new.conn.ghost_name ≡ tx.old.conn.ghost_name }
-    ensures creates { Creates (interchange ∷ []) (HasEmpty (take 1 office_tables)) (HasEmpty (take 2 office_tables))
+    ensures creates { Creates (interchange_table ∷ []) (HasEmpty (take 1 office_tables)) (HasEmpty (take 2 office_tables))
         (state S.Store tx.old.conn.now) (state S.Store tx.new.conn.now) result }
 {
     tx.execute(
@@ -66,7 +66,7 @@ fn create_interchange<S: Alter>(tx: &mut Transaction<'_, S>) -> Result<(), Table
 
 fn create_visit<S: Alter>(tx: &mut Transaction<'_, S>) -> Result<(), TableFault>
     ensures same_reference { tx.new.conn.ghost_name ≡ tx.old.conn.ghost_name }
-    ensures creates { Creates (visit ∷ []) (HasEmpty (take 2 office_tables)) (HasEmpty (take 3 office_tables))
+    ensures creates { Creates (visit_table ∷ []) (HasEmpty (take 2 office_tables)) (HasEmpty (take 3 office_tables))
         (state S.Store tx.old.conn.now) (state S.Store tx.new.conn.now) result }
 {
     tx.execute(
@@ -78,7 +78,7 @@ fn create_visit<S: Alter>(tx: &mut Transaction<'_, S>) -> Result<(), TableFault>
 
 fn create_place<S: Alter>(tx: &mut Transaction<'_, S>) -> Result<(), TableFault>
     ensures same_reference { tx.new.conn.ghost_name ≡ tx.old.conn.ghost_name }
-    ensures creates { Creates (place ∷ []) (HasEmpty (take 3 office_tables)) (HasEmpty (take 4 office_tables))
+    ensures creates { Creates (place_table ∷ []) (HasEmpty (take 3 office_tables)) (HasEmpty (take 4 office_tables))
         (state S.Store tx.old.conn.now) (state S.Store tx.new.conn.now) result }
 {
     tx.execute(
@@ -90,7 +90,7 @@ fn create_place<S: Alter>(tx: &mut Transaction<'_, S>) -> Result<(), TableFault>
 
 fn create_listed<S: Alter>(tx: &mut Transaction<'_, S>) -> Result<(), TableFault>
     ensures same_reference { tx.new.conn.ghost_name ≡ tx.old.conn.ghost_name }
-    ensures creates { Creates (listed ∷ []) (HasEmpty (take 4 office_tables)) (HasEmpty (take 5 office_tables))
+    ensures creates { Creates (listing_table ∷ []) (HasEmpty (take 4 office_tables)) (HasEmpty (take 5 office_tables))
         (state S.Store tx.old.conn.now) (state S.Store tx.new.conn.now) result }
 {
     tx.execute(
@@ -102,7 +102,7 @@ fn create_listed<S: Alter>(tx: &mut Transaction<'_, S>) -> Result<(), TableFault
 
 fn create_setting<S: Alter>(tx: &mut Transaction<'_, S>) -> Result<(), TableFault>
     ensures same_reference { tx.new.conn.ghost_name ≡ tx.old.conn.ghost_name }
-    ensures creates { Creates (setting ∷ []) (HasEmpty (take 5 office_tables)) (HasEmpty (take 6 office_tables))
+    ensures creates { Creates (setting_table ∷ []) (HasEmpty (take 5 office_tables)) (HasEmpty (take 6 office_tables))
         (state S.Store tx.old.conn.now) (state S.Store tx.new.conn.now) result }
 {
     tx.execute(
@@ -115,7 +115,7 @@ fn create_setting<S: Alter>(tx: &mut Transaction<'_, S>) -> Result<(), TableFaul
 /// The last table, with which the tables are those of an office.
 fn create_block<S: Alter>(tx: &mut Transaction<'_, S>) -> Result<(), TableFault>
     ensures same_reference { tx.new.conn.ghost_name ≡ tx.old.conn.ghost_name }
-    ensures creates { Creates (block ∷ []) (HasEmpty (take 6 office_tables)) (HasRows no_rows)
+    ensures creates { Creates (block_table ∷ []) (HasEmpty (take 6 office_tables)) (HasRows no_rows)
         (state S.Store tx.old.conn.now) (state S.Store tx.new.conn.now) result }
 {
     tx.execute(

@@ -7,11 +7,11 @@ ghost use Rattle.sqlite.specs.State.{HasCleanDisk};
 ghost use Rattle.office_rows.specs.Effects.{is_pair};
 ghost use Rattle.office_rows.specs.Layouts.{IsOfficeSchema};
 ghost use Rattle.office_rows.specs.Stored.{HasRows, Holds};
-ghost use Rattle.office_rows.specs.Tables.{interchange};
+ghost use Rattle.office_rows.specs.Tables.{interchange_table};
 ghost use Rattle.sqlite.specs.declared.error.Error.TheVariants.{SqliteFailure};
 ghost use Rattle.sqlite.specs.declared.error.ErrorCode.TheVariants.{OutOfMemory};
 ghost use Rattle.office_rows.specs.Rows.{Interchange, Partner};
-ghost use Rattle.office_rows.specs.Values.{number, interchange_values, kept_values, next_values};
+ghost use Rattle.office_rows.specs.Values.{number_value, interchange_values, kept_values, next_values};
 ghost use Rattle.office_tables.specs.Answers.{IsKept, IsNextOf, RepliesAs, HasUnfitReply, LacksNext, has_id};
 ghost use Rattle.office_tables.specs.Faults.{IsOfStore, IsOfStoreOr};
 ghost use Rattle.office_tables.specs.Reading.{Reads};
@@ -56,7 +56,7 @@ pub fn select_interchange<S: Alter>(
 ) -> Result<Vec<Row>, TableFault>
     ensures shown { HasCleanDisk (state S.Store conn.new) → IsOfficeSchema (state S.Store conn.old).now.schema
         → IfOk result (λ answer. (interchanges : List Interchange) →
-        Holds interchange interchange_values interchanges ((state S.Store conn.old).now.trees 2) →
+        Holds interchange_table interchange_values interchanges ((state S.Store conn.old).now.trees 2) →
         IsPermutation (map kept_values (filter (is_pair partner number) interchanges)) answer.items) }
     ensures fault { IfErr result IsOfStore }
     ensures reads { Reads (state S.Store conn.old) (state S.Store conn.new) result }
@@ -125,7 +125,7 @@ fn select_next<S: Alter>(conn: &mut Connection<S>, partner: u16) -> Result<Vec<R
 }
 
 fn read_number(row: &Row) -> Result<u32, TableFault>
-    ensures ok { IfOk result (λ read. column row.now 0 ≡ number read) }
+    ensures ok { IfOk result (λ read. column row.now 0 ≡ number_value read) }
     ensures err { IfErr result (IsOfStoreOr ((p : Partner) → p.next < 2 ^ 32 → row.now ≢ next_values p)) }
 {
     match row.get(0) {

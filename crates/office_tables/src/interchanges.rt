@@ -1,7 +1,7 @@
 ghost use Rattle.std.specs.List.{list_any};
 ghost use Rattle.std.specs.Prelude.{◌≡◌, [], ◌∷◌, false, OnOk, IsTrue};
-ghost use Rattle.office_rows.specs.Effects.{is_pair, with_kept, with_reply};
-ghost use Rattle.office_rows.specs.Opening.{interchange, with_interchanges};
+ghost use Rattle.office_rows.specs.Effects.{is_pair, with_waiting, with_reply};
+ghost use Rattle.office_rows.specs.Opening.{interchange_row, with_interchanges};
 ghost use Rattle.office_rows.specs.Rows.{Rows};
 ghost use Rattle.office_rows.specs.Stored.{HasRows};
 ghost use Rattle.office_tables.specs.Kept.{with_kept_reply};
@@ -31,7 +31,7 @@ pub fn keep<S: Alter>(
     body: &[u8],
 ) -> Result<(), TableFault>
     ensures same_reference { tx.new.conn.ghost_name ≡ tx.old.conn.ghost_name }
-    ensures writes { Writes (with_kept partner number body.now) (state S.Store tx.old.conn.now)
+    ensures writes { Writes (with_waiting partner number body.now) (state S.Store tx.old.conn.now)
         (state S.Store tx.new.conn.now) result }
 {
     tx.execute(
@@ -69,7 +69,7 @@ pub fn insert_interchange<'a, S: Alter>(
     reply: &'a str,
 ) -> Result<(), TableFault>
     ensures same_reference { tx.new.conn.ghost_name ≡ tx.old.conn.ghost_name }
-    ensures writes { Writes (with_interchanges (interchange partner number body.now reply.now ∷ []))
+    ensures writes { Writes (with_interchanges (interchange_row partner number body.now reply.now ∷ []))
         (state S.Store tx.old.conn.now) (state S.Store tx.new.conn.now) result }
     ensures new { HasCleanDisk (state S.Store tx.new.conn.now) → IsTrue (state S.Store tx.old.conn.now).in_transaction
         → OnOk result ((rows : Rows) → HasRows rows (state S.Store tx.old.conn.now).now →

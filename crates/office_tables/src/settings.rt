@@ -1,6 +1,6 @@
 ghost use Rattle.std.specs.Prelude.{◌≡◌, ◌<◌, ◌≤◌, ◌+◌, [], ◌∷◌, length, slice_get, Some, codes, decimal};
 ghost use Rattle.office_rows.specs.Effects.{with_next, with_partner};
-ghost use Rattle.office_rows.specs.Opening.{code_names, code_settings, setting, settings_of, with_settings, with_blocks, partners_from, with_partners};
+ghost use Rattle.office_rows.specs.Opening.{code_names, code_settings, setting_row, settings_of, with_settings, with_blocks, partners_from, with_partners};
 ghost use Rattle.office_setup.specs.Limits.{most_partners};
 ghost use Rattle.office_setup.specs.Setups.{setup_content, account_contents};
 ghost use Rattle.office_tables.specs.Writes.{Writes, WritesIfOpen};
@@ -65,7 +65,7 @@ pub fn insert_setting<'a, S: Alter>(
     value: &'a [u8],
 ) -> Result<(), TableFault>
     ensures same_reference { tx.new.conn.ghost_name ≡ tx.old.conn.ghost_name }
-    ensures writes { Writes (with_settings (setting name.now value.now ∷ [])) (state S.Store tx.old.conn.now)
+    ensures writes { Writes (with_settings (setting_row name.now value.now ∷ [])) (state S.Store tx.old.conn.now)
         (state S.Store tx.new.conn.now) result }
 {
     tx.execute(

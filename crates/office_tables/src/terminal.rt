@@ -1,7 +1,7 @@
 ghost use Rattle.std.specs.Prelude.{◌≡◌, pos, [], ◌∷◌};
 ghost use Rattle.edi_messages.specs.Owned.{call_content};
 ghost use Rattle.office_rows.specs.Effects.{with_change};
-ghost use Rattle.office_rows.specs.Opening.{listing, with_lines};
+ghost use Rattle.office_rows.specs.Opening.{listing_row, with_lines};
 ghost use Rattle.office_rows.specs.Values.{kind_code, way_code, laden_code, state_code, out_by, out_partner, out_number, out_at};
 ghost use Rattle.office_tables.specs.Writes.{Writes};
 ghost use Rattle.sqlite.specs.Held.{state};
@@ -248,7 +248,7 @@ pub fn insert_listing<'a, S: Alter>(
     line_state: LineState,
 ) -> Result<(), TableFault>
     ensures same_reference { tx.new.conn.ghost_name ≡ tx.old.conn.ghost_name }
-    ensures writes { Writes (with_lines (listing (call_content call.now) side container port.now line_state ∷ []))
+    ensures writes { Writes (with_lines (listing_row (call_content call.now) side container port.now line_state ∷ []))
         (state S.Store tx.old.conn.now) (state S.Store tx.new.conn.now) result }
 {
     let container = container.text();

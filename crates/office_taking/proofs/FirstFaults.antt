@@ -17,7 +17,7 @@ use Rattle.edi_messages.specs.declared.codes.Codes.{Codes}
 use Rattle.edi_messages.specs.declared.message.MessageFault.{MessageFault}
 use Rattle.edi_messages.specs.declared.message.MessageFault.TheVariants.{OtherType, NoBgm, Code, Function, NoTransport, NoEquipment, EquipmentCount, TooMany}
 use Rattle.edi_messages.proofs.PurposeLemmas.{purpose_there}
-use Rattle.office_taking.specs.Readings.{unweighed, is_list_replaced, applies_first, FirstVersionRejectsByItsFaults}
+use Rattle.office_taking.specs.Readings.{unweighed_reading, is_list_replaced, applies_first, FirstVersionRejectsByItsFaults}
 
 -- ---- what is read, and its fault
 
@@ -29,7 +29,7 @@ read_fault codes opened message None e =
     let is : reading codes opened message ≡ Ok (message_of found.0 opened message) = rw (e, found.1) refl in
     ap result_err is
 
-unweighed_fault : (read : Result MessageContent MessageFault) → result_err (unweighed read) ≡ result_err read
+unweighed_fault : (read : Result MessageContent MessageFault) → result_err (unweighed_reading read) ≡ result_err read
 unweighed_fault (Ok content) = refl
 unweighed_fault (Err fault) = refl
 
@@ -88,7 +88,7 @@ same_lowest codes message e =
     ap (lowest_with codes message (applies codes message OtherType) (applies codes message NoBgm) (applies codes message Code)) (same_function (beginning message) (names_list codes message) e)
 
 by_replaced : (codes : Codes) (opened : CivilMoment) (message : Message) (is : Bool) → is_list_replaced codes message ≡ is
-    → result_err (cond is (Err Function) (unweighed (reading codes opened message))) ≡ find (applies_first codes message) (OtherType ∷ NoBgm ∷ Code ∷ Function ∷ NoTransport ∷ NoEquipment ∷ EquipmentCount ∷ TooMany ∷ [])
+    → result_err (cond is (Err Function) (unweighed_reading (reading codes opened message))) ≡ find (applies_first codes message) (OtherType ∷ NoBgm ∷ Code ∷ Function ∷ NoTransport ∷ NoEquipment ∷ EquipmentCount ∷ TooMany ∷ [])
 by_replaced codes opened message true e = sym (replaced codes message e)
 by_replaced codes opened message false e = unweighed_fault (reading codes opened message) ∙ read_fault codes opened message (fault_of codes message) refl ∙ same_lowest codes message e
 

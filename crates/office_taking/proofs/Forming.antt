@@ -34,7 +34,7 @@ use Rattle.office_setup.specs.Parties.{Parties}
 use Rattle.office_admission.specs.Admission.{admission, by_header, is_for}
 use Rattle.terminal_core.specs.declared.change.Version.{Version}
 use Rattle.office_taking.specs.Readings.{reading_by}
-use Rattle.office_taking.specs.Taking.{MachineState, cleared, cleared_for, list_replaced, line_taken_by, lines_taken_by, verdict_on_by, messages_taken_by, codes_for, source_in, nothing_taken, taken_at_by, taken_of_by, interchange_taken_by, interchange_taken}
+use Rattle.office_taking.specs.Taking.{MachineState, clearing_of, clearing_for, list_replaced, line_taken_by, lines_taken_by, verdict_on_by, messages_taken_by, codes_for, source_in, nothing_taken, taken_at_by, taken_of_by, interchange_taken_by, interchange_taken}
 use Rattle.office_taking.proofs.Read.{orders_formed_by}
 use Rattle.office_taking.proofs.Turning.{line_leads, clearing_leads, verdict_leads}
 
@@ -105,14 +105,14 @@ lines_formed version state source (line ∷ lines) whole formed from its =
     lines_formed version (line_taken_by version state source line).0 source lines (line_leads version state source line whole).whole (line_formed version state source line whole formed from (All-head OrdersWell line lines its)) from
     (All-tail OrdersWell line lines its)
 
-cleared_formed : (state : TerminalState) (list : Option (CallContent × Side)) → IsWellFormed state → IsWellFormed (cleared state list).state
+cleared_formed : (state : TerminalState) (list : Option (CallContent × Side)) → IsWellFormed state → IsWellFormed (clearing_of state list).state
 cleared_formed state None formed = formed
 cleared_formed state (Some list) formed = drop_formed state list.0 list.1 formed
 
 verdict_formed : (version : Version) (state : TerminalState) (codes : Codes) (source : Source) (opened : CivilMoment) (message : Message) (read : Result MessageContent MessageFault) → reading_by version codes opened message ≡ read → IsWhole state → IsWellFormed state → IsSource source
     → IsCivil opened → IsWellFormed (verdict_on_by version state source read).0
 verdict_formed version state codes source opened message (Ok content) e whole formed from civil =
-    lines_formed version (cleared_for state content).state source content.lines (clearing_leads state content whole).whole (cleared_formed state (list_replaced content) formed) from (orders_formed_by version codes opened message content civil e)
+    lines_formed version (clearing_for state content).state source content.lines (clearing_leads state content whole).whole (cleared_formed state (list_replaced content) formed) from (orders_formed_by version codes opened message content civil e)
 verdict_formed version state codes source opened message (Err fault) e whole formed from civil = formed
 
 messages_formed : (version : Version) (state : TerminalState) (codes : Codes) (source : Source) (opened : CivilMoment) (messages : List Message) → IsWhole state → IsWellFormed state → IsSource source → IsCivil opened

@@ -12,7 +12,7 @@ use Rattle.edi_messages.specs.declared.message.MessageFault.TheVariants.{Functio
 use Rattle.edi_messages.proofs.OrderForms.{IsCivil, orders_are_formed}
 use Rattle.terminal_core.specs.declared.change.Version.{Version}
 use Rattle.terminal_core.specs.declared.change.Version.TheVariants.{First, Second, Third}
-use Rattle.office_taking.specs.Readings.{unweighed_entry, unweighed_order, unweighed_line, unweighed, is_list_replaced, reading_by}
+use Rattle.office_taking.specs.Readings.{unweighed_entry, unweighed_order, unweighed_line, unweighed_reading, is_list_replaced, reading_by}
 
 entry_formed : (entry : EntryContent) → IsFormedEntry entry → IsFormedEntry (unweighed_entry entry)
 entry_formed entry is = record { container = is.container; size_type = is.size_type; booking = is.booking; moment = is.moment; kilos = omega arith }
@@ -34,7 +34,7 @@ abbrev ReadsWell : Result MessageContent MessageFault → Type 0
 ReadsWell (Ok content) = All OrdersWell content.lines
 ReadsWell (Err fault) = Unit {0}
 
-unweighed_well : (read : Result MessageContent MessageFault) → ReadsWell read → ReadsWell (unweighed read)
+unweighed_well : (read : Result MessageContent MessageFault) → ReadsWell read → ReadsWell (unweighed_reading read)
 unweighed_well (Ok content) is = All-map OrdersWell unweighed_line content.lines (All-weaker OrdersWell (λ line. OrdersWell (unweighed_line line)) line_well content.lines is)
 unweighed_well (Err fault) is = tt
 
@@ -47,7 +47,7 @@ now_well codes opened message (Ok content) e civil = orders_are_formed codes ope
 now_well codes opened message (Err fault) e civil = tt
 
 read_well : (version : Version) (codes : Codes) (opened : CivilMoment) (message : Message) → ReadsWell (reading codes opened message) → ReadsWell (reading_by version codes opened message)
-read_well First codes opened message is = unless_replaced (is_list_replaced codes message) (unweighed (reading codes opened message)) (unweighed_well (reading codes opened message) is)
+read_well First codes opened message is = unless_replaced (is_list_replaced codes message) (unweighed_reading (reading codes opened message)) (unweighed_well (reading codes opened message) is)
 read_well Second codes opened message is = unweighed_well (reading codes opened message) is
 read_well Third codes opened message is = is
 

@@ -31,7 +31,7 @@ use Rattle.edi_syntax.specs.Envelopes.{envelope_segments}
 use Rattle.terminal_core.specs.Rows.{ChangeContent}
 use Rattle.terminal_core.specs.Versions.{newest}
 use Rattle.office_taking.specs.Tallies.{interchange_reports, reports_at, reports_of}
-use Rattle.office_taking.specs.Taking.{MachineState, machine_of, rejected_by, verdict_on, messages_taken, verdict_changes, messages_changes, verdicts_of, with_messages, nothing_taken, reply_to, codes_for, source_in, taken_at, taken_of, changes_at_by, changes_of_by, interchange_taken, interchange_changes}
+use Rattle.office_taking.specs.Taking.{MachineState, machine_of, rejection_by, verdict_on, messages_taken, verdict_changes, messages_changes, verdicts_of, with_messages, nothing_taken, reply_to, codes_for, source_in, taken_at, taken_of, changes_at_by, changes_of_by, interchange_taken, interchange_changes}
 
 -- ---- a machine and its set-up
 
@@ -53,7 +53,7 @@ pub rejected_on : (state : TerminalState) (source : Source) (read : Result Messa
     MatchResult read (λ content. fault ≡ message.Memory) (λ lowest. fault ≡ lowest) → message_error fault ≡ Some code →
     (state ≡ (verdict_on state source read).0) × (rejected fault code ≡ (verdict_on state source read).1)
 rejected_on state source (Ok content) fault code is told = absurd (memory_has_none fault code is told)
-rejected_on state source (Err lowest) fault code is told = (refl, ap (rejected_by fault) (sym told) ∙ ap (λ f. rejected_by f (message_error f)) is)
+rejected_on state source (Err lowest) fault code is told = (refl, ap (rejection_by fault) (sym told) ∙ ap (λ f. rejection_by f (message_error f)) is)
 
 -- a report for each message
 pub reports_count : (state : TerminalState) (codes : Codes) (source : Source) (opened : CivilMoment) (messages : List Message) →

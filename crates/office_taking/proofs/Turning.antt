@@ -17,7 +17,7 @@ use Rattle.terminal_core.specs.declared.change.Source.{Source}
 use Rattle.terminal_core.specs.OneByOne.{GoOneByOne}
 use Rattle.terminal_core.specs.Rows.{ChangeContent}
 use Rattle.terminal_core.specs.State.{TerminalState, IsWhole}
-use Rattle.terminal_core.specs.Changes.{TerminalRows, rows_of, all_changed, AreApplicable}
+use Rattle.terminal_core.specs.Changes.{TerminalRows, rows_of, rows_with_all, AreApplicable}
 use Rattle.terminal_core.proofs.Applying.{all_appended, applicable_joined, applicable_step}
 use Rattle.terminal_core.proofs.Changing.{turned_step}
 use Rattle.terminal_core.proofs.Dropping.{drop_turned, drop_applicable, drop_whole}
@@ -27,12 +27,12 @@ use Rattle.terminal_core.specs.Versions.{newest}
 use Rattle.office_admission.specs.Admission.{admission, is_for}
 use Rattle.terminal_core.specs.declared.change.Version.{Version}
 use Rattle.office_taking.specs.Readings.{reading_by}
-use Rattle.office_taking.specs.Taking.{MachineState, cleared, cleared_for, list_replaced, line_taken_by, line_changes_by, lines_taken_by, lines_changes_by, verdict_on_by, verdict_changes_by, messages_taken_by, messages_changes_by, codes_for, source_in, nothing_taken, taken_at_by, taken_of_by, interchange_taken_by, changes_at_by, changes_of_by, interchange_changes_by, interchange_taken, interchange_changes}
+use Rattle.office_taking.specs.Taking.{MachineState, clearing_of, clearing_for, list_replaced, line_taken_by, line_changes_by, lines_taken_by, lines_changes_by, verdict_on_by, verdict_changes_by, messages_taken_by, messages_changes_by, codes_for, source_in, nothing_taken, taken_at_by, taken_of_by, interchange_taken_by, changes_at_by, changes_of_by, interchange_changes_by, interchange_taken, interchange_changes}
 
 -- the terminal that is left is whole, and the changes lead to it, each finding its row
 pub record Leads (before : TerminalState) (changes : List ChangeContent) (after : TerminalState) : Type 0 where
   pub whole : IsWhole after
-  pub turned : all_changed (rows_of before) changes ≡ rows_of after
+  pub turned : rows_with_all (rows_of before) changes ≡ rows_of after
   pub applicable : AreApplicable (rows_of before) changes
 
 pub stays : (state : TerminalState) → IsWhole state → Leads state [] state
@@ -41,7 +41,7 @@ stays state whole = record { whole = whole; turned = refl; applicable = tt }
 pub leads_on : (a b c : TerminalState) (first second : List ChangeContent) → Leads a first b → Leads b second c → Leads a (first ++ second) c
 leads_on a b c first second one two = record {
   whole = two.whole;
-  turned = all_appended (rows_of a) first second ∙ ap (λ (rows : TerminalRows). all_changed rows second) one.turned ∙ two.turned;
+  turned = all_appended (rows_of a) first second ∙ ap (λ (rows : TerminalRows). rows_with_all rows second) one.turned ∙ two.turned;
   applicable = (let P : TerminalRows → Type 0 = λ rows. AreApplicable rows second in applicable_joined (rows_of a) first second one.applicable (subst P (sym one.turned) two.applicable));
 }
 
@@ -58,18 +58,18 @@ lines_lead version state source (line ∷ lines) whole =
     let one = line_leads version state source line whole in
     leads_on state next (lines_taken_by version next source lines).0 (line_changes_by version state source line) (lines_changes_by version next source lines) one (lines_lead version next source lines one.whole)
 
-cleared_leads : (state : TerminalState) (list : Option (CallContent × Side)) → IsWhole state → Leads state (cleared state list).changes (cleared state list).state
+cleared_leads : (state : TerminalState) (list : Option (CallContent × Side)) → IsWhole state → Leads state (clearing_of state list).changes (clearing_of state list).state
 cleared_leads state None whole = stays state whole
 cleared_leads state (Some list) whole = record { whole = drop_whole state list.0 list.1 whole; turned = drop_turned state list.0 list.1; applicable = drop_applicable state list.0 list.1 }
 
-pub clearing_leads : (state : TerminalState) (content : MessageContent) → IsWhole state → Leads state (cleared_for state content).changes (cleared_for state content).state
+pub clearing_leads : (state : TerminalState) (content : MessageContent) → IsWhole state → Leads state (clearing_for state content).changes (clearing_for state content).state
 clearing_leads state content whole = cleared_leads state (list_replaced content) whole
 
 pub verdict_leads : (version : Version) (state : TerminalState) (source : Source) (read : Result MessageContent MessageFault) → IsWhole state → Leads state (verdict_changes_by version state source read) (verdict_on_by version state source read).0
 verdict_leads version state source (Ok content) whole =
-    let next : TerminalState = (cleared_for state content).state in
+    let next : TerminalState = (clearing_for state content).state in
     let one = clearing_leads state content whole in
-    leads_on state next (lines_taken_by version next source content.lines).0 (cleared_for state content).changes (lines_changes_by version next source content.lines) one (lines_lead version next source content.lines one.whole)
+    leads_on state next (lines_taken_by version next source content.lines).0 (clearing_for state content).changes (lines_changes_by version next source content.lines) one (lines_lead version next source content.lines one.whole)
 verdict_leads version state source (Err fault) whole = stays state whole
 
 -- ---- an interchange

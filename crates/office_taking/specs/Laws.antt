@@ -12,7 +12,7 @@ use Rattle.terminal_core.specs.Rows.{ChangeContent}
 use Rattle.terminal_core.specs.State.{empty_state, IsWhole}
 use Rattle.terminal_core.specs.Forms.{IsWellFormed}
 use Rattle.terminal_core.specs.OneByOne.{GoOneByOne}
-use Rattle.terminal_core.specs.Changes.{rows_of, all_changed, AreApplicable}
+use Rattle.terminal_core.specs.Changes.{rows_of, rows_with_all, AreApplicable}
 use Rattle.terminal_core.specs.declared.change.Version.{Version}
 use Rattle.office_setup.specs.Limits.{most_partners}
 use Rattle.office_setup.specs.declared.setup.Setup.{Setup}
@@ -30,7 +30,7 @@ InterchangesKeepWhole =
 abbrev pub InterchangeChangesTurnRows : Type 0
 InterchangeChangesTurnRows =
     (version : Version) (machine : MachineState) (partner : ℕ) (text : List ℕ) → IsWhole machine.terminal
-    → all_changed (rows_of machine.terminal) (interchange_changes_by version machine partner text)
+    → rows_with_all (rows_of machine.terminal) (interchange_changes_by version machine partner text)
     ≡ rows_of (interchange_taken_by version machine partner text).0.terminal
 
 -- each of its changes adds, alters or removes one row
@@ -88,7 +88,7 @@ cascade_changes machine texts (e ∷ numbers) =
 abbrev pub CascadeChangesTurnRows : Type 0
 CascadeChangesTurnRows =
     (machine : MachineState) (texts : ℕ → ℕ → List ℕ) (numbers : List (ℕ × ℕ)) → IsWhole machine.terminal
-    → all_changed (rows_of machine.terminal) (cascade_changes machine texts numbers)
+    → rows_with_all (rows_of machine.terminal) (cascade_changes machine texts numbers)
     ≡ rows_of (state_after interchange_taken texts numbers machine).terminal
 
 -- each adds, alters or removes one row

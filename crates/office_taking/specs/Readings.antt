@@ -32,9 +32,9 @@ unweighed_line (refused fault number) = refused fault number
 abbrev pub unweighed_message : MessageContent → MessageContent
 unweighed_message content = record content { lines = map unweighed_line content.lines }
 
-abbrev pub unweighed : Result MessageContent MessageFault → Result MessageContent MessageFault
-unweighed (Ok content) = Ok (unweighed_message content)
-unweighed (Err fault) = Err fault
+abbrev pub unweighed_reading : Result MessageContent MessageFault → Result MessageContent MessageFault
+unweighed_reading (Ok content) = Ok (unweighed_message content)
+unweighed_reading (Err fault) = Err fault
 
 -- ---- by the rules of a version
 
@@ -47,8 +47,8 @@ is_list_replaced codes message = replaces_list message && names_list codes messa
 -- function: that its document name is of a list says that no lower fault applies to it.
 abbrev pub reading_by : Version → Codes → CivilMoment → Message → Result MessageContent MessageFault
 reading_by First codes opened message =
-    if is_list_replaced codes message then Err Function else unweighed (reading codes opened message)
-reading_by Second codes opened message = unweighed (reading codes opened message)
+    if is_list_replaced codes message then Err Function else unweighed_reading (reading codes opened message)
+reading_by Second codes opened message = unweighed_reading (reading codes opened message)
 reading_by Third codes opened message = reading codes opened message
 
 -- ---- the first version, by faults of its own

@@ -29,7 +29,7 @@ use Rattle.terminal_core.specs.State.{TerminalState}
 use Rattle.terminal_core.specs.Rows.{ChangeContent}
 use Rattle.terminal_core.specs.Step.{step_by}
 use Rattle.terminal_core.specs.Versions.{newest}
-use Rattle.terminal_core.specs.Drop.{drop}
+use Rattle.terminal_core.specs.Drop.{list_drop}
 use Rattle.terminal_core.specs.declared.change.Outcome.TheVariants.{Refused}
 use Rattle.terminal_core.specs.declared.change.Reason.{Reason}
 use Rattle.terminal_core.specs.declared.change.Reason.TheVariants.{Form, CheckDigit, Size, Moment, SlotText}
@@ -133,45 +133,45 @@ abbrev pub list_replaced : MessageContent → Option (CallContent × Side)
 list_replaced content = if content.replaces then list_of content.call (side_listed content.kind) else None
 
 -- what is left where a list is dropped, or none is; how many lines are gone, if one is; the changes
-pub record Cleared : Type 0 where
+pub record ListClearing : Type 0 where
   pub state : TerminalState
   pub dropped : Option ℕ
   pub changes : List ChangeContent
 
-abbrev pub cleared : TerminalState → Option (CallContent × Side) → Cleared
-cleared state None = record { state = state; dropped = None; changes = [] }
-cleared state (Some list) = record {
-  state = (drop state list.0 list.1).state;
-  dropped = Some (drop state list.0 list.1).count;
-  changes = (drop state list.0 list.1).changes;
+abbrev pub clearing_of : TerminalState → Option (CallContent × Side) → ListClearing
+clearing_of state None = record { state = state; dropped = None; changes = [] }
+clearing_of state (Some list) = record {
+  state = (list_drop state list.0 list.1).state;
+  dropped = Some (list_drop state list.0 list.1).count;
+  changes = (list_drop state list.0 list.1).changes;
 }
 
 -- what the message clears before its lines are taken
-abbrev pub cleared_for : TerminalState → MessageContent → Cleared
-cleared_for state content = cleared state (list_replaced content)
+abbrev pub clearing_for : TerminalState → MessageContent → ListClearing
+clearing_for state content = clearing_of state (list_replaced content)
 
 -- A fault of a message rejects it, with its code (0085). Want of memory has no code and is no fault of a message
 -- (`applies`), so the last case is of none.
-abbrev pub rejected_by : MessageFault → Option ℕ → VerdictContent
-rejected_by fault (Some code) = rejected fault code
-rejected_by fault None = accepted None []
+abbrev pub rejection_by : MessageFault → Option ℕ → VerdictContent
+rejection_by fault (Some code) = rejected fault code
+rejection_by fault None = accepted None []
 
 -- A message that replaces a list drops it, and then its lines are taken. One that is rejected drops nothing and gives no
 -- orders.
 abbrev pub verdict_on_by : Version → TerminalState → Source → Result MessageContent MessageFault →
     TerminalState × VerdictContent
 verdict_on_by version state source (Ok content) = (
-  (lines_taken_by version (cleared_for state content).state source content.lines).0,
-  accepted (cleared_for state content).dropped
-      (lines_taken_by version (cleared_for state content).state source content.lines).1,
+  (lines_taken_by version (clearing_for state content).state source content.lines).0,
+  accepted (clearing_for state content).dropped
+      (lines_taken_by version (clearing_for state content).state source content.lines).1,
 )
-verdict_on_by version state source (Err fault) = (state, rejected_by fault (message_error fault))
+verdict_on_by version state source (Err fault) = (state, rejection_by fault (message_error fault))
 
 abbrev pub verdict_changes_by : Version → TerminalState → Source → Result MessageContent MessageFault →
     List ChangeContent
 verdict_changes_by version state source (Ok content) =
-    (cleared_for state content).changes
-    ++ lines_changes_by version (cleared_for state content).state source content.lines
+    (clearing_for state content).changes
+    ++ lines_changes_by version (clearing_for state content).state source content.lines
 verdict_changes_by version state source (Err fault) = []
 
 abbrev pub report_on : Message → VerdictContent → ReportContent
@@ -309,7 +309,7 @@ interchange_changes = interchange_changes_by newest
 -- ---- what a call clears
 
 -- the terminal, how many lines were dropped, if a list was, and the changes that were added are those that are cleared
-pub record Clears (left : Cleared) (now : TerminalState) (dropped : Option ℕ) (old new : List ChangeContent) : Type 0 where
+pub record Clears (left : ListClearing) (now : TerminalState) (dropped : Option ℕ) (old new : List ChangeContent) : Type 0 where
   pub state : now ≡ left.state
   pub dropped_is : dropped ≡ left.dropped
   pub changes : new ≡ old ++ left.changes

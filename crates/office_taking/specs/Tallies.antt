@@ -22,11 +22,11 @@ use Rattle.office_taking.specs.declared.tally.RejectedMessages.{RejectedMessages
 use Rattle.office_taking.specs.declared.tally.Tally.{Tally}
 
 -- two counts together, as far as 64 bits go
-abbrev pub together : ℕ → ℕ → ℕ
-together count other = min (count + other) (2 ^ 64 - 1)
+abbrev pub capped_sum : ℕ → ℕ → ℕ
+capped_sum count other = min (count + other) (2 ^ 64 - 1)
 
 abbrev pub one_more : ℕ → ℕ
-one_more count = together count 1
+one_more count = capped_sum count 1
 
 -- ---- one more
 
@@ -110,46 +110,46 @@ interchange_reports machine partner text =
 
 -- ---- two tallies together
 
-abbrev pub refused_together : (lines others : RefusedLines) → RefusedLines
-refused_together lines others = record {
-  form = together lines.form others.form;
-  check_digit = together lines.check_digit others.check_digit;
-  size = together lines.size others.size;
-  moment = together lines.moment others.moment;
-  slot_text = together lines.slot_text others.slot_text;
-  already_in = together lines.already_in others.already_in;
-  not_in = together lines.not_in others.not_in;
-  already_listed = together lines.already_listed others.already_listed;
-  not_listed = together lines.not_listed others.not_listed;
-  list_line_done = together lines.list_line_done others.list_line_done;
-  buried = together lines.buried others.buried;
-  no_slot = together lines.no_slot others.no_slot;
-  slot_kind = together lines.slot_kind others.slot_kind;
-  taken = together lines.taken others.taken;
-  on_air = together lines.on_air others.on_air;
-  on_empty = together lines.on_empty others.on_empty;
-  no_room = together lines.no_room others.no_room;
-  visit_limit = together lines.visit_limit others.visit_limit;
+abbrev pub refused_sum : (lines others : RefusedLines) → RefusedLines
+refused_sum lines others = record {
+  form = capped_sum lines.form others.form;
+  check_digit = capped_sum lines.check_digit others.check_digit;
+  size = capped_sum lines.size others.size;
+  moment = capped_sum lines.moment others.moment;
+  slot_text = capped_sum lines.slot_text others.slot_text;
+  already_in = capped_sum lines.already_in others.already_in;
+  not_in = capped_sum lines.not_in others.not_in;
+  already_listed = capped_sum lines.already_listed others.already_listed;
+  not_listed = capped_sum lines.not_listed others.not_listed;
+  list_line_done = capped_sum lines.list_line_done others.list_line_done;
+  buried = capped_sum lines.buried others.buried;
+  no_slot = capped_sum lines.no_slot others.no_slot;
+  slot_kind = capped_sum lines.slot_kind others.slot_kind;
+  taken = capped_sum lines.taken others.taken;
+  on_air = capped_sum lines.on_air others.on_air;
+  on_empty = capped_sum lines.on_empty others.on_empty;
+  no_room = capped_sum lines.no_room others.no_room;
+  visit_limit = capped_sum lines.visit_limit others.visit_limit;
 }
 
-abbrev pub rejected_together : (messages others : RejectedMessages) → RejectedMessages
-rejected_together messages others = record {
-  other_type = together messages.other_type others.other_type;
-  no_bgm = together messages.no_bgm others.no_bgm;
-  code = together messages.code others.code;
-  function = together messages.function others.function;
-  no_transport = together messages.no_transport others.no_transport;
-  no_equipment = together messages.no_equipment others.no_equipment;
-  equipment_count = together messages.equipment_count others.equipment_count;
-  too_many = together messages.too_many others.too_many;
+abbrev pub rejected_sum : (messages others : RejectedMessages) → RejectedMessages
+rejected_sum messages others = record {
+  other_type = capped_sum messages.other_type others.other_type;
+  no_bgm = capped_sum messages.no_bgm others.no_bgm;
+  code = capped_sum messages.code others.code;
+  function = capped_sum messages.function others.function;
+  no_transport = capped_sum messages.no_transport others.no_transport;
+  no_equipment = capped_sum messages.no_equipment others.no_equipment;
+  equipment_count = capped_sum messages.equipment_count others.equipment_count;
+  too_many = capped_sum messages.too_many others.too_many;
 }
 
-abbrev pub tallies_together : (tally other : Tally) → Tally
-tallies_together tally other = record {
-  interchanges = together tally.interchanges other.interchanges;
-  done = together tally.done other.done;
-  gone = together tally.gone other.gone;
-  listed = together tally.listed other.listed;
-  refused = refused_together tally.refused other.refused;
-  rejected = rejected_together tally.rejected other.rejected;
+abbrev pub tally_sum : (tally other : Tally) → Tally
+tally_sum tally other = record {
+  interchanges = capped_sum tally.interchanges other.interchanges;
+  done = capped_sum tally.done other.done;
+  gone = capped_sum tally.gone other.gone;
+  listed = capped_sum tally.listed other.listed;
+  refused = refused_sum tally.refused other.refused;
+  rejected = rejected_sum tally.rejected other.rejected;
 }

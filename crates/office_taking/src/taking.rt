@@ -8,7 +8,7 @@ ghost use Rattle.edi_syntax.specs.Frames.{message, messages_left};
 ghost use Rattle.edi_syntax.specs.Messages.{message_reference};
 ghost use Rattle.office_admission.specs.Outcomes.{IsAdmitted};
 ghost use Rattle.office_replies.specs.Messages.{verdict_content, report_content};
-ghost use Rattle.office_taking.specs.Taking.{machine_of, interchange_taken, interchange_changes, messages_taken, messages_changes, reply_to, source_in, verdict_on, verdict_of, verdicts_of, verdict_changes, number_ordered, reason_of, line_taken, lines_taken, line_changes, lines_changes, side_listed, cleared_for, Clears};
+ghost use Rattle.office_taking.specs.Taking.{machine_of, interchange_taken, interchange_changes, messages_taken, messages_changes, reply_to, source_in, verdict_on, verdict_of, verdicts_of, verdict_changes, number_ordered, reason_of, line_taken, lines_taken, line_changes, lines_changes, side_listed, clearing_for, Clears};
 ghost use Rattle.office_taking.specs.Tallies.{with_interchange, interchange_reports};
 ghost use Rattle.terminal_core.specs.Rows.{change_content};
 
@@ -280,7 +280,7 @@ pub(crate) fn drop_replaced(
     message: &Message,
     changes: &mut Vec<Change>,
 ) -> Result<Option<u32>, AllocError>
-    ensures { IfOk result (λ dropped. Clears (cleared_for terminal.old (message_content message.now)) terminal.new
+    ensures { IfOk result (λ dropped. Clears (clearing_for terminal.old (message_content message.now)) terminal.new
         dropped (map change_content changes.old.items) (map change_content changes.new.items)) }
 {
     if !message.replaces {

@@ -1,8 +1,8 @@
 ghost use Rattle.std.specs.Prelude.{◌≡◌, map};
 ghost use Rattle.office_replies.specs.Messages.{report_content, verdict_content};
-ghost use Rattle.office_taking.specs.Tallies.{one_more, together, with_refused, with_rejected, with_outcome};
+ghost use Rattle.office_taking.specs.Tallies.{one_more, capped_sum, with_refused, with_rejected, with_outcome};
 ghost use Rattle.office_taking.specs.Tallies.{with_lines, with_verdict, with_reports, with_interchange};
-ghost use Rattle.office_taking.specs.Tallies.{refused_together, rejected_together, tallies_together};
+ghost use Rattle.office_taking.specs.Tallies.{refused_sum, rejected_sum, tally_sum};
 
 use edi_messages::MessageFault;
 use office_replies::{LineReport, MessageReport, MessageVerdict};
@@ -83,7 +83,7 @@ impl Tally {
 
     /// This and another.
     pub fn with(self, other: Tally) -> Tally
-        ensures { result ≡ tallies_together self other }
+        ensures { result ≡ tally_sum self other }
     {
         Tally {
             interchanges: together(self.interchanges, other.interchanges),
@@ -170,7 +170,7 @@ impl RefusedLines {
 
     /// These and others.
     fn with(self, others: RefusedLines) -> RefusedLines
-        ensures { result ≡ refused_together self others }
+        ensures { result ≡ refused_sum self others }
     {
         RefusedLines {
             form: together(self.form, others.form),
@@ -240,7 +240,7 @@ impl RejectedMessages {
 
     /// These and others.
     fn with(self, others: RejectedMessages) -> RejectedMessages
-        ensures { result ≡ rejected_together self others }
+        ensures { result ≡ rejected_sum self others }
     {
         RejectedMessages {
             other_type: together(self.other_type, others.other_type),
@@ -257,7 +257,7 @@ impl RejectedMessages {
 
 /// Two counts together, as far as 64 bits go.
 fn together(count: u64, other: u64) -> u64
-    ensures { result ≡ together count other }
+    ensures { result ≡ capped_sum count other }
 {
     count.saturating_add(other)
 }

@@ -5,7 +5,7 @@ use Rattle.sqlite.specs.declared.types.Value.TheVariants.{Blob}
 use Rattle.sqlite.specs.Order.{Row, column}
 use Rattle.sqlite_rules.specs.Lists.{Has}
 use Rattle.sqlite_rules.proofs.ListLemmas.{contains_had, has_contained}
-use Rattle.office_rows.specs.Tables.{interchange}
+use Rattle.office_rows.specs.Tables.{interchange_table}
 use Rattle.office_rows.specs.Rows.{Interchange}
 use Rattle.office_rows.specs.Values.{interchange_values}
 use Rattle.office_rows.specs.Stored.{Holds, columns_of}
@@ -19,9 +19,9 @@ has_map f [] x h = absurd h
 has_map f (y ∷ ys) x (inl same) = inl (ap f same)
 has_map f (y ∷ ys) x (inr later) = inr (has_map f ys x later)
 
-pub stored_body : (records : List Interchange) (stored : List Row) → Holds interchange interchange_values records stored → (row : Row) → Has stored row → HasBody row
+pub stored_body : (records : List Interchange) (stored : List Row) → Holds interchange_table interchange_values records stored → (row : Row) → Has stored row → HasBody row
 stored_body records stored holds row here =
-    let columns = columns_of interchange in
+    let columns = columns_of interchange_table in
     let all = map interchange_values records in
     let there = contains_had (map columns stored) (columns row) (has_map columns stored row here) in
     let found = has_mapped interchange_values records (columns row) (has_contained all (columns row) (Contains-permutation _ all (columns row) (IsPermutation-sym _ _ holds.same) there)) in

@@ -14,7 +14,7 @@ use Rattle.sqlite_trees.proofs.ListLemmas.{map-map}
 use Rattle.sqlite_rules.proofs.ListLemmas.{has_filtered, has_last, has_front}
 use Rattle.office_rows.specs.Tables.{office_schema}
 use Rattle.office_rows.specs.Rows.{Rows}
-use Rattle.office_rows.specs.Values.{number}
+use Rattle.office_rows.specs.Values.{number_value}
 use Rattle.office_rows.specs.Stored.{HasRows}
 use Rattle.office_loading.proofs.TableLemmas.{has_mapped}
 use Rattle.office_texts.specs.Texts.{is_after, AreTextsAfter, IsText}
@@ -36,18 +36,18 @@ module _ (from : ℕ) (db : Database) (rows : Rows) (has : HasRows rows db) wher
   columns_shown : map first_column shown ≡ map (λ row. column row 3) after
   columns_shown = map-map first_column (λ row. column row 3 ∷ []) after
 
-  given_first : (now : State) (given : List Row) → now.now ≡ db → Begins select_texts (number from ∷ []) now given → (tail : List Row) × (given ++ tail ≡ shown)
+  given_first : (now : State) (given : List Row) → now.now ≡ db → Begins select_texts (number_value from ∷ []) now given → (tail : List Row) × (given ++ tail ≡ shown)
   given_first now given same begins =
       let schema : now.now.schema ≡ office_schema = ap (λ (d : Database). d.schema) same ∙ has.schema in
-      let read = begins_as select_texts (number from ∷ []) now now office_schema schema texts_command texts_is.0 texts_plain texts_is.1 given begins in
-      let answer = subst (λ (d : Database). ReadsFirst texts_command d (number from ∷ []) given) same read in
+      let read = begins_as select_texts (number_value from ∷ []) now now office_schema schema texts_command texts_is.0 texts_plain texts_is.1 given begins in
+      let answer = subst (λ (d : Database). ReadsFirst texts_command d (number_value from ∷ []) given) same read in
       (answer.1.0, texts_found from db.trees has.rows_are.interchanges.shaped (given ++ answer.1.0) (answer.1.1 Null))
 
-  given_all : (now new : State) (given : List Row) → now.now ≡ db → Shown select_texts (number from ∷ []) now new given → given ≡ shown
+  given_all : (now new : State) (given : List Row) → now.now ≡ db → Shown select_texts (number_value from ∷ []) now new given → given ≡ shown
   given_all now new given same shows =
       let schema : now.now.schema ≡ office_schema = ap (λ (d : Database). d.schema) same ∙ has.schema in
-      let read = reads_as select_texts (number from ∷ []) now new office_schema schema texts_command texts_is.0 texts_plain texts_is.1 given shows in
-      let answer = subst (λ (d : Database). Reads texts_command d (number from ∷ []) given) same read in
+      let read = reads_as select_texts (number_value from ∷ []) now new office_schema schema texts_command texts_is.0 texts_plain texts_is.1 given shows in
+      let answer = subst (λ (d : Database). Reads texts_command d (number_value from ∷ []) given) same read in
       texts_found from db.trees has.rows_are.interchanges.shaped given (answer.answer Null)
 
   texts_after : (all : List (List ℕ)) × AreTextsAfter from (db.trees 2) all
@@ -90,12 +90,12 @@ module _ {S : Type 0} (g : store.Ghosts S) (from : ℕ) (first : Held S) where
   pub record Stands (P : List (List ℕ) → Type 0) (now : Held S) : Type 0 where
     pub same : IsUnchanged (state g first) (state g now)
     pub given : List Row
-    pub has : HasGiven g select_texts (number from ∷ []) now given
+    pub has : HasGiven g select_texts (number_value from ∷ []) now given
     pub texts : List (List ℕ)
     pub said : map Blob texts ≡ map first_column given
     pub holds : P texts
 
-  pub stands_first : (P : List (List ℕ) → Type 0) (now : Held S) → P [] → HasGiven g select_texts (number from ∷ []) now [] × IsUnchanged (state g first) (state g now) → Stands P now
+  pub stands_first : (P : List (List ℕ) → Type 0) (now : Held S) → P [] → HasGiven g select_texts (number_value from ∷ []) now [] × IsUnchanged (state g first) (state g now) → Stands P now
   stands_first P now holds h = record { same = h.1; given = []; has = h.0; texts = []; said = refl; holds = holds }
 
   module _ (P : List (List ℕ) → Type 0) (old new : Held S) (s : Stands P old) where
@@ -104,7 +104,7 @@ module _ {S : Type 0} (g : store.Ghosts S) (from : ℕ) (first : Held S) where
     stands_next Q row text moved same is more = record {
       same = unchanged_then _ _ _ s.same same;
       given = s.given ++ row ∷ [];
-      has = moved select_texts (number from ∷ []) s.given s.has;
+      has = moved select_texts (number_value from ∷ []) s.given s.has;
       texts = s.texts ++ text ∷ [];
       said = map-append Blob s.texts (text ∷ []) ∙ ap₂ ◌++◌ s.said (ap (λ v. v ∷ []) (sym is)) ∙ sym (map-append first_column s.given (row ∷ []));
       holds = more s.holds;
@@ -116,7 +116,7 @@ module _ {S : Type 0} (g : store.Ghosts S) (from : ℕ) (first : Held S) where
     shows_row row moved same rows has =
         let all = unchanged_then _ _ _ s.same same in
         let given = s.given ++ row ∷ [] in
-        given_first from (state g first).now rows has (state g new) given all.0.now_is (given_begin g select_texts (number from ∷ []) new given (moved select_texts (number from ∷ []) s.given s.has))
+        given_first from (state g first).now rows has (state g new) given all.0.now_is (given_begin g select_texts (number_value from ∷ []) new given (moved select_texts (number_value from ∷ []) s.given s.has))
 
     pub row_shows_text : (row : Row) → Advances g old new (Some row) → IsUnchanged (state g old) (state g new) → (rows : Rows) → HasRows rows (state g first).now → IsText row
     row_shows_text row moved same rows has =
@@ -133,5 +133,5 @@ module _ {S : Type 0} (g : store.Ghosts S) (from : ℕ) (first : Held S) where
     -- the texts so far are all
     pub texts_are_all : Advances g old new None → (rows : Rows) → HasRows rows (state g first).now → AreTextsAfter from stored s.texts
     texts_are_all moved rows has =
-        let whole = given_all from (state g first).now rows has (state g old) (state g new) s.given s.same.0.now_is (moved select_texts (number from ∷ []) s.given s.has) in
+        let whole = given_all from (state g first).now rows has (state g old) (state g new) s.given s.same.0.now_is (moved select_texts (number_value from ∷ []) s.given s.has) in
         whole_texts from (state g first).now rows has s.texts s.given s.said whole

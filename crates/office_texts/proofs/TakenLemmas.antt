@@ -9,7 +9,7 @@ use Rattle.sqlite.specs.Tree.{rowid}
 use Rattle.sqlite_rules.specs.Lists.{Has}
 use Rattle.sqlite_rules.proofs.ListLemmas.{has_filtered, some_from}
 use Rattle.edi_segments.specs.Bytes.{line_feed}
-use Rattle.office_rows.specs.Values.{number}
+use Rattle.office_rows.specs.Values.{number_value}
 use Rattle.office_tables.specs.Faults.{IsOfStore, IsOfStoreOr}
 use Rattle.office_tables.specs.declared.table_fault.TableFault.{TableFault}
 use Rattle.office_tables.specs.declared.table_fault.TableFault.TheVariants.{Store, Damaged, Version, Memory}
@@ -92,7 +92,7 @@ reached_texts from stored texts are some = by_rows stored (filter_some (filter (
     by_rows : (rows : List Row) → (row : Row) × Has (filter (is_after from) rows) row → has_reached from rows ≡ true
     by_rows rows found =
         let there = has_filtered (is_after from) rows found.0 found.1 in
-        let here : is_from from found.0 ≡ true = from_after (value_cmp (rowid found.0) (number from)) there.1 in
+        let here : is_from from found.0 ≡ true = from_after (value_cmp (rowid found.0) (number_value from)) there.1 in
         ap (λ b. (from == 0) || b) (some_from (is_from from) rows found.0 there.0 here) ∙ or_true (from == 0)
 
 pub reached_page : (from most : ℕ) (stored : List Row) (lines : List ℕ) (count : ℕ) → TellsPage from most stored lines count → 0 < count → has_reached from stored ≡ true

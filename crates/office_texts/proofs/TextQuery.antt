@@ -37,7 +37,7 @@ use Rattle.sqlite_resolve.specs.Compile.{first}
 use Rattle.office_rows.specs.Tables.{office_schema}
 use Rattle.office_tables.specs.Reading.{OnlyShows}
 use Rattle.office_tables.proofs.TextLemmas.{is_read, understands_query}
-use Rattle.office_rows.specs.Values.{number}
+use Rattle.office_rows.specs.Values.{number_value}
 use Rattle.office_texts.specs.Texts.{is_after, is_from}
 use Rattle.office_texts.proofs.RowidLemmas.{keyed, in_order}
 use Rattle.office_rows.proofs.WriteLemmas.{rows_of, passes, answer_is, answer_in_order}
@@ -112,17 +112,17 @@ truth_is : (b : Bool) → is_true (Rattle.sqlite.specs.Ops.from_truth (Some b)) 
 truth_is true = refl
 truth_is false = refl
 
-greater : (v : Value) (n : ℕ) → IsTrue (is_int v) → is_true (binary (Compare Gt Binary) v (number n)) ≡ is_gt (value_cmp v (number n))
+greater : (v : Value) (n : ℕ) → IsTrue (is_int v) → is_true (binary (Compare Gt Binary) v (number_value n)) ≡ is_gt (value_cmp v (number_value n))
 unfolding binary
-greater v n int = rw (int_is v int) (truth_is (is_gt (value_cmp (Int (id_in v)) (number n))))
+greater v n int = rw (int_is v int) (truth_is (is_gt (value_cmp (Int (id_in v)) (number_value n))))
 
-not_less : (v : Value) (n : ℕ) → IsTrue (is_int v) → is_true (binary (Compare Ge Binary) v (number n)) ≡ is_ge (value_cmp v (number n))
+not_less : (v : Value) (n : ℕ) → IsTrue (is_int v) → is_true (binary (Compare Ge Binary) v (number_value n)) ≡ is_ge (value_cmp v (number_value n))
 unfolding binary
-not_less v n int = rw (int_is v int) (truth_is (is_ge (value_cmp (Int (id_in v)) (number n))))
+not_less v n int = rw (int_is v int) (truth_is (is_ge (value_cmp (Int (id_in v)) (number_value n))))
 
 module _ (from : ℕ) (trees : Trees) (shaped : IsShaped shape.Table (trees 2)) where
   abbrev params : Row
-  params = number from ∷ []
+  params = number_value from ∷ []
 
   after_passes : AllByRecursion (λ r. passes params texts_tests r ≡ is_after from r) (trees 2)
   after_passes = all_weaker _ _ (λ r int. and_true _ ∙ greater (rowid r) from int) (trees 2) shaped.1
@@ -157,8 +157,8 @@ module _ (from : ℕ) (trees : Trees) (shaped : IsShaped shape.Table (trees 2)) 
       any_is p [] = refl
       any_is p (r ∷ rows) = elim (cases_Bool (p r)) [ inl here ↦ rw here (sym (one_more (length (filter p rows)))) | inr other ↦ rw (other, any_is p rows) ]
 
-pub numbers_found : (from : ℕ) (old new : State) (rows : Rows) → HasRows rows old.now → (answer : List Row) → Shown select_from (number from ∷ []) old new answer
+pub numbers_found : (from : ℕ) (old new : State) (rows : Rows) → HasRows rows old.now → (answer : List Row) → Shown select_from (number_value from ∷ []) old new answer
     → list_any (is_from from) (old.now.trees 2) ≡ not (length answer == 0)
 numbers_found from old new rows has answer h =
-    let read = reads_as select_from (number from ∷ []) old new office_schema has.schema from_command from_is.0 from_plain from_is.1 answer h in
+    let read = reads_as select_from (number_value from ∷ []) old new office_schema has.schema from_command from_is.0 from_plain from_is.1 answer h in
     from_found from old.now.trees has.rows_are.interchanges.shaped answer (read.answer Null)

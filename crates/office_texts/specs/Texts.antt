@@ -5,15 +5,15 @@ use Rattle.std.specs.Ordering.{is_gt, is_ge}
 use Rattle.sqlite.specs.declared.types.Value.TheVariants.{Blob}
 use Rattle.sqlite.specs.Order.{Row, column, value_cmp}
 use Rattle.sqlite.specs.Tree.{rowid}
-use Rattle.office_rows.specs.Values.{number}
+use Rattle.office_rows.specs.Values.{number_value}
 
 -- the row's number is above that one
 abbrev pub is_after : ℕ → Row → Bool
-is_after from row = is_gt (value_cmp (rowid row) (number from))
+is_after from row = is_gt (value_cmp (rowid row) (number_value from))
 
 -- the row's number is that one, or above it
 abbrev pub is_from : ℕ → Row → Bool
-is_from from row = is_ge (value_cmp (rowid row) (number from))
+is_from from row = is_ge (value_cmp (rowid row) (number_value from))
 
 -- the texts of the rows after that number; each row's number is above those of the rows before it
 abbrev pub AreTextsAfter : ℕ → List Row → List (List ℕ) → Type 0

@@ -6,7 +6,7 @@ use Rattle.std.proofs.lemmas.Bool.{cond-true, cond-false, le-leb, leb-true, case
 use Rattle.std.proofs.lemmas.List.{append-nil}
 use Rattle.partner_core.specs.Machine.{Taking}
 use Rattle.partner_core.specs.Deliveries.{Delivery, first_text, is_under, is_used, run}
-use Rattle.partner_core.specs.Order.{numbers_above, made_next, order_after, order, text_under, state_after, reply_among, state, reply_of}
+use Rattle.partner_core.specs.Order.{numbers_above, numbers_made_next, order_after, order, text_under, state_after, reply_among, state, reply_of}
 use Rattle.partner_core.specs.Cascade.{TakesTexts, for_each_partner}
 use Rattle.partner_core.specs.Keeping.{Holdings, Keeps, TakesRun}
 use Rattle.partner_core.proofs.Firsts.{some_of}
@@ -59,22 +59,22 @@ Within-from low higher high (x ∷ xs) up a =
     (omega arith, a.1, Within-from low higher high xs up a.2)
 
 Within-order_after : (before ds : List Delivery) → Within before (before ++ ds) (order_after before ds)
-unfolding made_next
+unfolding numbers_made_next
 Within-order_after before [] = tt
 Within-order_after before (d ∷ ds) =
     let one = before ++ d ∷ [] in
     let all : one ++ ds ≡ before ++ d ∷ ds = append_assoc before (d ∷ []) ds in
     let low : run before d.partner ≤ run one d.partner = run_grows before (d ∷ []) d.partner in
     let high : run one d.partner ≤ run (before ++ d ∷ ds) d.partner = subst (λ b. run one d.partner ≤ run b d.partner) all (run_grows one ds d.partner) in
-    Within-append before (before ++ d ∷ ds) (made_next before d) (order_after one ds)
+    Within-append before (before ++ d ∷ ds) (numbers_made_next before d) (order_after one ds)
     (Within-numbers before (before ++ d ∷ ds) d.partner (run before d.partner) (run one d.partner - run before d.partner) (omega arith) (omega arith))
     (Within-from before one (before ++ d ∷ ds) (order_after one ds) (λ p. run_grows before (d ∷ []) p) (subst (λ b. Within one b (order_after one ds)) all (Within-order_after one ds)))
 
 order_after-append : (before ds es : List Delivery) → order_after before (ds ++ es) ≡ order_after before ds ++ order_after (before ++ ds) es
 order_after-append before [] es = ap (λ b. order_after b es) (sym (append-nil before))
 order_after-append before (d ∷ ds) es =
-    ap (λ o. made_next before d ++ o) (order_after-append (before ++ d ∷ []) ds es ∙ ap (λ b. order_after (before ++ d ∷ []) ds ++ order_after b es) (append_assoc before (d ∷ []) ds))
-    ∙ sym (append_assoc (made_next before d) (order_after (before ++ d ∷ []) ds) (order_after (before ++ d ∷ ds) es))
+    ap (λ o. numbers_made_next before d ++ o) (order_after-append (before ++ d ∷ []) ds es ∙ ap (λ b. order_after (before ++ d ∷ []) ds ++ order_after b es) (append_assoc before (d ∷ []) ds))
+    ∙ sym (append_assoc (numbers_made_next before d) (order_after (before ++ d ∷ []) ds) (order_after (before ++ d ∷ ds) es))
 
 -- ---- rules by place
 

@@ -8,7 +8,7 @@ use Rattle.std.proofs.lemmas.List.Kept.{AllPairs-cons}
 use Rattle.std.proofs.lemmas.Bool.{cases_eq, cond-false, cond-true, eq-eqb, eqb-true, ne_eqb, or_cases, or_left, or_right}
 use Rattle.partner_core.specs.Machine.{Taking}
 use Rattle.partner_core.specs.Deliveries.{Delivery, run}
-use Rattle.partner_core.specs.Order.{is_of, numbers_above, made_next, order_after, order, text_under, reply_among, reply_of}
+use Rattle.partner_core.specs.Order.{is_of, numbers_above, numbers_made_next, order_after, order, text_under, reply_among, reply_of}
 use Rattle.partner_core.proofs.OnePartner.{run_grows, run_of_none, numbers_above-join}
 use Rattle.partner_core.proofs.Growths.{other_run-stays}
 
@@ -77,13 +77,13 @@ after_longer before d e h =
     omega arith
 
 All-order_after : (before ds : List Delivery) → All (IsAfter before) (order_after before ds)
-unfolding made_next
+unfolding numbers_made_next
 All-order_after before [] = All-nil _
 All-order_after before (d ∷ ds) =
     let one = before ++ d ∷ [] in
     let low = run before d.partner in
-    All-append (IsAfter before) (made_next before d) (order_after one ds)
-    (All-weaker (IsAmong d.partner low (low + (run one d.partner - low))) (IsAfter before) (among_is_after before d.partner _) (made_next before d) (All-numbers_above d.partner low (run one d.partner - low)))
+    All-append (IsAfter before) (numbers_made_next before d) (order_after one ds)
+    (All-weaker (IsAmong d.partner low (low + (run one d.partner - low))) (IsAfter before) (among_is_after before d.partner _) (numbers_made_next before d) (All-numbers_above d.partner low (run one d.partner - low)))
     (All-weaker (IsAfter one) (IsAfter before) (after_longer before d) (order_after one ds) (All-order_after one ds))
 
 after_is_beyond : (before : List Delivery) (d : Delivery) (p : ℕ) (e : ℕ × ℕ) → IsAfter (before ++ d ∷ []) e → IsBeyond p (run before p + (run (before ++ d ∷ []) p - run before p)) e
@@ -94,7 +94,7 @@ after_is_beyond before d p e h of =
     omega arith
 
 AllPairs-order_after : (before ds : List Delivery) → AllPairs (λ x y. x ≢ y) (order_after before ds)
-unfolding made_next
+unfolding numbers_made_next
 AllPairs-order_after before [] = λ i j d lt within. absurd (omega arith)
 AllPairs-order_after before (d ∷ ds) =
     let one = before ++ d ∷ [] in
@@ -119,8 +119,8 @@ filter-others p q low (suc n) h =
     cond-false (q == p) ((q, low + 1) ∷ filter (is_of p) (numbers_above q (low + 1) n)) (filter (is_of p) (numbers_above q (low + 1) n)) (ne_eqb q p h)
     ∙ filter-others p q (low + 1) n h
 
-filter-made_next : (p : ℕ) (before : List Delivery) (d : Delivery) → filter (is_of p) (made_next before d) ≡ numbers_above p (run before p) (run (before ++ d ∷ []) p - run before p)
-unfolding made_next
+filter-made_next : (p : ℕ) (before : List Delivery) (d : Delivery) → filter (is_of p) (numbers_made_next before d) ≡ numbers_above p (run before p) (run (before ++ d ∷ []) p - run before p)
+unfolding numbers_made_next
 filter-made_next p before d =
     elim (cases_eq d.partner p) [
       | inl e ↦
@@ -143,7 +143,7 @@ filter-order_after p before [] =
     ap (numbers_above p (run before p)) (none ∙ ap (λ b. run b p - run before p) (sym (append-nil before)))
 filter-order_after p before (d ∷ ds) =
     let one = before ++ d ∷ [] in
-    filter-append (is_of p) (made_next before d) (order_after one ds)
+    filter-append (is_of p) (numbers_made_next before d) (order_after one ds)
     ∙ ap (λ es. es ++ filter (is_of p) (order_after one ds)) (filter-made_next p before d)
     ∙ ap (λ es. numbers_above p (run before p) (run one p - run before p) ++ es) (filter-order_after p one ds)
     ∙ numbers_above-join p (run before p) (run one p) (run (one ++ ds) p) (run_grows before (d ∷ []) p) (run_grows one ds p)

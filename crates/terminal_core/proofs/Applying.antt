@@ -26,9 +26,9 @@ use Rattle.terminal_core.specs.declared.visits.Way.{Way}
 use Rattle.terminal_core.specs.declared.visits.Way.TheVariants.{Gate, Ship}
 use Rattle.terminal_core.specs.Rows.{VisitContent, ChangeContent, line_done}
 use Rattle.terminal_core.specs.State.{last_from, last_number, TerminalState, LineContent, Lines, line_key, line_of, is_in, is_open_visit, open_visit, AreNumbered, IsWhole}
-use Rattle.terminal_core.specs.Versions.{spares}
-use Rattle.terminal_core.specs.Step.{Stepped, with_refusal, step_by, yard_with_entry, is_full, after_entry, entered_at, number_of_visit, after_departure, departed_at, departure_by, moved_at, listed_at, then_line_done_at, by_line, by_state}
-use Rattle.terminal_core.specs.Changes.{TerminalRows, rows_of, rows_with, all_changed, is_numbered, IsOneOpenVisit, IsApplicable, AreApplicable}
+use Rattle.terminal_core.specs.Versions.{spares_empty}
+use Rattle.terminal_core.specs.Step.{StepResult, with_refusal, step_by, yard_with_entry, is_full, after_entry, after_entry_at, number_of_visit, after_departure, after_departure_at, departure_by, after_move_at, after_listing_at, then_line_done_at, by_line, by_state}
+use Rattle.terminal_core.specs.Changes.{TerminalRows, rows_of, rows_with, rows_with_all, is_numbered, IsOneOpenVisit, IsApplicable, AreApplicable}
 use Rattle.terminal_core.proofs.Boxes.{there_placed}
 use Rattle.terminal_core.proofs.Counting.{find_skips, find_meets}
 use Rattle.terminal_core.proofs.Shared.{new_place, new_slot}
@@ -95,10 +95,10 @@ one_open_visit state b whole is =
 -- ---- steps
 
 -- the changes are applicable
-abbrev Applies : TerminalState → Stepped → Type 0
+abbrev Applies : TerminalState → StepResult → Type 0
 Applies state after = AreApplicable (rows_of state) after.changes
 
-applies_entered_at : (version : Version) (state : TerminalState) (way : Way) (source : Source) (entry : EntryContent) (r : Result (YardMap × Slot) Refusal) → IsWhole state → yard_with_entry version state.yard entry ≡ r → Applies state (entered_at state way source entry r)
+applies_entered_at : (version : Version) (state : TerminalState) (way : Way) (source : Source) (entry : EntryContent) (r : Result (YardMap × Slot) Refusal) → IsWhole state → yard_with_entry version state.yard entry ≡ r → Applies state (after_entry_at state way source entry r)
 applies_entered_at version state way source entry (Err f) whole e = tt
 applies_entered_at version state way source entry (Ok (y, slot)) whole e =
     let came : Comes state.yard y entry.number (brought entry slot) = comes version state.yard y entry entry.slot slot e in (
@@ -108,9 +108,9 @@ applies_entered_at version state way source entry (Ok (y, slot)) whole e =
 
 applies_entered : (version : Version) (state : TerminalState) (way : Way) (source : Source) (entry : EntryContent) → IsWhole state → Applies state (after_entry version state way source entry)
 applies_entered version state way source entry whole =
-    either (Applies state) (is_full state) (with_refusal state VisitLimit) (entered_at state way source entry (yard_with_entry version state.yard entry)) tt (applies_entered_at version state way source entry (yard_with_entry version state.yard entry) whole refl)
+    either (Applies state) (is_full state) (with_refusal state VisitLimit) (after_entry_at state way source entry (yard_with_entry version state.yard entry)) tt (applies_entered_at version state way source entry (yard_with_entry version state.yard entry) whole refl)
 
-applies_departed_at : (state : TerminalState) (b : BoxNumber) (departure : Departure) (r : Result (YardMap × Placement) Refusal) → IsWhole state → yard_without state.yard b ≡ r → Applies state (departed_at state b departure r)
+applies_departed_at : (state : TerminalState) (b : BoxNumber) (departure : Departure) (r : Result (YardMap × Placement) Refusal) → IsWhole state → yard_without state.yard b ≡ r → Applies state (after_departure_at state b departure r)
 applies_departed_at state b departure (Err f) whole e = tt
 applies_departed_at state b departure (Ok (y, s)) whole e =
     let went = goes (placement_of state.yard.boxes b) state.yard y b s e in
@@ -119,49 +119,49 @@ applies_departed_at state b departure (Ok (y, s)) whole e =
 applies_departed : (state : TerminalState) (way : Way) (source : Source) (b : BoxNumber) (moment : CivilMoment) → IsWhole state → Applies state (after_departure state way source b moment)
 applies_departed state way source b moment whole = applies_departed_at state b (departure_by way source moment) (yard_without state.yard b) whole refl
 
-applies_moved_at : (version : Version) (state : TerminalState) (b : BoxNumber) (slot : Slot) (r : Result YardMap Refusal) → IsWhole state → yard_with_move (spares version) state.yard b slot ≡ r → Applies state (moved_at state b slot r)
+applies_moved_at : (version : Version) (state : TerminalState) (b : BoxNumber) (slot : Slot) (r : Result YardMap Refusal) → IsWhole state → yard_with_move (spares_empty version) state.yard b slot ≡ r → Applies state (after_move_at state b slot r)
 applies_moved_at version state b slot (Err f) whole e = tt
 applies_moved_at version state b slot (Ok y) whole e =
     let is = shifts version (finite_map.get state.yard.boxes b) state.yard y b slot e in
     (new_slot is.2.is_wary state b is.0 slot whole is.1 is.2.fits, tt)
 
-applies_listed : (state : TerminalState) (call : CallContent) (side : Side) (b : BoxNumber) (port : List ℕ) (o : Option LineContent) → line_of state call side b ≡ o → Applies state (listed_at state call side b port o)
+applies_listed : (state : TerminalState) (call : CallContent) (side : Side) (b : BoxNumber) (port : List ℕ) (o : Option LineContent) → line_of state call side b ≡ o → Applies state (after_listing_at state call side b port o)
 applies_listed state call side b port (Some line) e = tt
 applies_listed state call side b port None e = (e, tt)
 
 -- ---- steps with a line
 
-applies_one_after : (rows : TerminalRows) (changes : List ChangeContent) (change : ChangeContent) → AreApplicable rows changes → IsApplicable (all_changed rows changes) change → AreApplicable rows (changes ++ change ∷ [])
+applies_one_after : (rows : TerminalRows) (changes : List ChangeContent) (change : ChangeContent) → AreApplicable rows changes → IsApplicable (rows_with_all rows changes) change → AreApplicable rows (changes ++ change ∷ [])
 applies_one_after rows [] change are is = (is, tt)
 applies_one_after rows (c ∷ changes) change are is = (are.0, applies_one_after (rows_with rows c) changes change are.1 is)
 
 -- the step with what is known of its line
-record HasLine (state : TerminalState) (call : CallContent) (side : Side) (b : BoxNumber) (line : LineContent) (after : Stepped) : Type 0 where
+record HasLine (state : TerminalState) (call : CallContent) (side : Side) (b : BoxNumber) (line : LineContent) (after : StepResult) : Type 0 where
   applies : Applies state after
   turns : Turns state after
   keeps : KeepsLines state after
   there : line_of state call side b ≡ Some line
 
-applies_done : (state : TerminalState) (call : CallContent) (side : Side) (b : BoxNumber) (line : LineContent) (after : Stepped) → HasLine state call side b line after → line.state ≡ Pending
+applies_done : (state : TerminalState) (call : CallContent) (side : Side) (b : BoxNumber) (line : LineContent) (after : StepResult) → HasLine state call side b line after → line.state ≡ Pending
     → AreApplicable (rows_of state) (after.changes ++ line_done call side b ∷ [])
 applies_done state call side b line after has pending =
     let P : TerminalRows → Type 0 = λ rows. IsApplicable rows (line_done call side b) in
     applies_one_after (rows_of state) after.changes (line_done call side b) has.applies
     (subst P (sym has.turns) (record { line = line; there = ap (λ (l : Lines). finite_map.get l (line_key call side b)) has.keeps ∙ has.there; pending = pending }))
 
-applies_then : (state : TerminalState) (call : CallContent) (side : Side) (b : BoxNumber) (line : LineContent) (after : Stepped) (o : Outcome) → HasLine state call side b line after → line.state ≡ Pending
+applies_then : (state : TerminalState) (call : CallContent) (side : Side) (b : BoxNumber) (line : LineContent) (after : StepResult) (o : Outcome) → HasLine state call side b line after → line.state ≡ Pending
     → Applies state (then_line_done_at call side b line after o)
 applies_then state call side b line after (Refused reason) has pending = has.applies
 applies_then state call side b line after (Done slot) has pending = applies_done state call side b line after has pending
 applies_then state call side b line after Gone has pending = applies_done state call side b line after has pending
 applies_then state call side b line after Listed has pending = applies_done state call side b line after has pending
 
-applies_by_state : (state : TerminalState) (call : CallContent) (side : Side) (b : BoxNumber) (line : LineContent) (after : Stepped) (s : LineState) → HasLine state call side b line after → line.state ≡ s
+applies_by_state : (state : TerminalState) (call : CallContent) (side : Side) (b : BoxNumber) (line : LineContent) (after : StepResult) (s : LineState) → HasLine state call side b line after → line.state ≡ s
     → Applies state (by_state state call side b line after s)
 applies_by_state state call side b line after LineIsDone has e = tt
 applies_by_state state call side b line after Pending has e = applies_then state call side b line after after.outcome has e
 
-applies_by_line : (state : TerminalState) (call : CallContent) (side : Side) (b : BoxNumber) (o : Option LineContent) (after : Stepped) → Applies state after → Turns state after → KeepsLines state after → line_of state call side b ≡ o
+applies_by_line : (state : TerminalState) (call : CallContent) (side : Side) (b : BoxNumber) (o : Option LineContent) (after : StepResult) → Applies state after → Turns state after → KeepsLines state after → line_of state call side b ≡ o
     → Applies state (by_line state call side b o after)
 applies_by_line state call side b None after applies turns keeps e = tt
 applies_by_line state call side b (Some line) after applies turns keeps e =
@@ -172,13 +172,13 @@ applies_by_line state call side b (Some line) after applies turns keeps e =
 pub applicable_step : (version : Version) (state : TerminalState) (source : Source) (order : OrderContent) → IsWhole state → Applies state (step_by version state source order)
 applicable_step version state source (gate_in entry) whole = either (Applies state) (is_in state entry.number) (with_refusal state AlreadyIn) (after_entry version state Gate source entry) tt (applies_entered version state Gate source entry whole)
 applicable_step version state source (gate_out b moment) whole = applies_departed state Gate source b moment whole
-applicable_step version state source (move b slot) whole = applies_moved_at version state b slot (yard_with_move (spares version) state.yard b slot) whole refl
+applicable_step version state source (move b slot) whole = applies_moved_at version state b slot (yard_with_move (spares_empty version) state.yard b slot) whole refl
 applicable_step version state source (list_discharge call b) whole = applies_listed state call Discharge b [] (line_of state call Discharge b) refl
 applicable_step version state source (list_load call b port) whole = applies_listed state call Load b port (line_of state call Load b) refl
 applicable_step version state source (discharge call entry) whole =
     either (Applies state) (is_in state entry.number) (with_refusal state AlreadyIn) (by_line state call Discharge entry.number (line_of state call Discharge entry.number) (after_entry version state Ship source entry)) tt
     (applies_by_line state call Discharge entry.number (line_of state call Discharge entry.number) (after_entry version state Ship source entry) (applies_entered version state Ship source entry whole) (turned_entered version state Ship source entry whole)
-    (either (KeepsLines state) (is_full state) (with_refusal state VisitLimit) (entered_at state Ship source entry (yard_with_entry version state.yard entry)) refl (entered_keeps state Ship source entry (yard_with_entry version state.yard entry))) refl)
+    (either (KeepsLines state) (is_full state) (with_refusal state VisitLimit) (after_entry_at state Ship source entry (yard_with_entry version state.yard entry)) refl (entered_keeps state Ship source entry (yard_with_entry version state.yard entry))) refl)
 applicable_step version state source (load call b moment) whole =
     either (Applies state) (is_in state b) (by_line state call Load b (line_of state call Load b) (after_departure state Ship source b moment)) (with_refusal state NotIn)
     (applies_by_line state call Load b (line_of state call Load b) (after_departure state Ship source b moment) (applies_departed state Ship source b moment whole) (turned_departed state Ship source b moment whole)
@@ -186,14 +186,14 @@ applicable_step version state source (load call b moment) whole =
 
 -- ---- changes that are appended
 
-pub all_appended : (rows : TerminalRows) (before after : List ChangeContent) → all_changed rows (before ++ after) ≡ all_changed (all_changed rows before) after
+pub all_appended : (rows : TerminalRows) (before after : List ChangeContent) → rows_with_all rows (before ++ after) ≡ rows_with_all (rows_with_all rows before) after
 all_appended rows [] after = refl
 all_appended rows (c ∷ before) after = all_appended (rows_with rows c) before after
 
-pub applicable_joined : (rows : TerminalRows) (before after : List ChangeContent) → AreApplicable rows before → AreApplicable (all_changed rows before) after → AreApplicable rows (before ++ after)
+pub applicable_joined : (rows : TerminalRows) (before after : List ChangeContent) → AreApplicable rows before → AreApplicable (rows_with_all rows before) after → AreApplicable rows (before ++ after)
 applicable_joined rows [] after are then = then
 applicable_joined rows (c ∷ before) after are then = (are.0, applicable_joined (rows_with rows c) before after are.1 then)
 
-pub applicable_parted : (rows : TerminalRows) (before after : List ChangeContent) → AreApplicable rows (before ++ after) → AreApplicable rows before × AreApplicable (all_changed rows before) after
+pub applicable_parted : (rows : TerminalRows) (before after : List ChangeContent) → AreApplicable rows (before ++ after) → AreApplicable rows before × AreApplicable (rows_with_all rows before) after
 applicable_parted rows [] after are = (tt, are)
 applicable_parted rows (c ∷ before) after are = let rest = applicable_parted (rows_with rows c) before after are.1 in ((are.0, rest.0), rest.1)

@@ -11,7 +11,7 @@ use Rattle.yard_core.specs.declared.plan.Block.{Block}
 use Rattle.yard_core.specs.Decisions.{Refusal, misfit_of}
 use Rattle.yard_core.specs.FitsAndFree.{Stands, IsOpen}
 use Rattle.yard_core.specs.Plan.{IsPlan, InPlan}
-use Rattle.yard_core.specs.YardMap.{Box, Boxes, placed, placement_of, Covers}
+use Rattle.yard_core.specs.YardMap.{Box, Boxes, placement_if_any, placement_of, Covers}
 use Rattle.yard_core.specs.declared.placements.Placement.{Placement}
 use Rattle.yard_core.specs.declared.placements.Stowed.{Stowed}
 use Rattle.yard_core.proofs.Boxes.{same_box, get-inserted, found_placed}
@@ -60,7 +60,7 @@ there_placed m b s e = ap is_some (found_placed (map.get m b) s e).1
 
 -- a container stands in a slot of the plan
 pub planned : (plan : List Block) (m : Boxes) (b : Box) (w : Stowed) → Stands plan m b w → InPlan plan w.placement.slot
-planned plan m b w stands = stands.in_plan b w.placement (ap placed (get-inserted m b w))
+planned plan m b w stands = stands.in_plan b w.placement (ap placement_if_any (get-inserted m b w))
 
 above_ground : (plan : List Block) (s : Placement) → IsPlan plan → (cell : Slot) → InPlan plan s.slot → Covers s cell → 1 ≤ cell.tier
 above_ground plan s valid cell inside covered =

@@ -14,8 +14,8 @@ use Rattle.edi_moments.specs.Moments.{CivilMoment}
 use Rattle.edi_messages.specs.Purposes.{CallContent}
 use Rattle.edi_messages.specs.Orders.{EntryContent, OrderContent, gate_in, gate_out, move, list_discharge, list_load, discharge, load}
 use Rattle.yard_core.specs.declared.plan.Block.{Block}
-use Rattle.yard_core.specs.YardMap.{Boxes, YardMap, yard_map, placement, placement_of, placed, stowed}
-use Rattle.yard_core.specs.Decisions.{Refusal, present, yard_without, removed_at, yard_with_move, shifted_at, unless_buried, with_misfit, with_slot as with_first_slot, misfit_of, first_fit, every_slot, blocker_of, is_same_slot}
+use Rattle.yard_core.specs.YardMap.{Boxes, YardMap, yard_map, placement, placement_of, placement_if_any, stowed}
+use Rattle.yard_core.specs.Decisions.{Refusal, present, yard_without, yard_without_at, yard_with_move, yard_with_move_at, unless_buried, with_misfit, with_slot as with_first_slot, misfit_of, first_fit, every_slot, blocker_of, is_same_slot}
 use Rattle.yard_core.specs.declared.placements.Placement.{Placement}
 use Rattle.yard_core.specs.declared.placements.Stowed.{Stowed}
 use Rattle.terminal_core.specs.declared.visits.Departure.{Departure}
@@ -32,9 +32,9 @@ use Rattle.terminal_core.specs.declared.visits.Way.{Way}
 use Rattle.terminal_core.specs.declared.visits.Way.TheVariants.{Gate, Ship}
 use Rattle.terminal_core.specs.Rows.{VisitContent, ChangeContent, line_done}
 use Rattle.terminal_core.specs.State.{last_number, TerminalState, LineContent, Lines, line_key, line_of, is_in, is_open_visit, open_visit, AreNumbered, IsWhole}
-use Rattle.terminal_core.specs.Versions.{spares}
-use Rattle.terminal_core.specs.Step.{Stepped, with_refusal, step_by, yard_with_entry, settled_in, with_slot, is_full, visit_of, after_entry, entered_at, closed_visit, close_visit, number_of_visit, after_departure, departed_at, departure_by, moved_at, listed_at, then_line_done_at, by_line, by_state}
-use Rattle.terminal_core.specs.Changes.{Standing, TerminalRows, standing_in, standing_of, rows_of, closed_as, standing_elsewhere, with_line_done, rows_with, all_changed}
+use Rattle.terminal_core.specs.Versions.{spares_empty}
+use Rattle.terminal_core.specs.Step.{StepResult, with_refusal, step_by, yard_with_entry, yard_with_entry_in, with_slot, is_full, visit_of, after_entry, after_entry_at, closed_visit, close_visit, number_of_visit, after_departure, after_departure_at, departure_by, after_move_at, after_listing_at, then_line_done_at, by_line, by_state}
+use Rattle.terminal_core.specs.Changes.{Standing, TerminalRows, standing_in, standing_of, rows_of, visit_with_departure, standing_elsewhere, with_line_done, rows_with, rows_with_all}
 use Rattle.terminal_core.proofs.Boxes.{same_bytes, in_placed_map, in_removed_map, there_placed}
 use Rattle.terminal_core.proofs.Told.{moved_as}
 use Rattle.terminal_core.proofs.Open.{and_true, closed_open, find_last, find_new}
@@ -78,9 +78,9 @@ pub record Comes (old new : YardMap) (b : BoxNumber) (w : Stowed) : Type 0 where
   pub is_wary : Bool
   pub fits : misfit_of is_wary old.plan old.boxes w.placement ≡ None
 
-pub comes : (version : Version) (y new : YardMap) (entry : EntryContent) (o : Option Slot) (slot : Slot) → settled_in version y entry o ≡ Ok (new, slot) → Comes y new entry.number (brought entry slot)
+pub comes : (version : Version) (y new : YardMap) (entry : EntryContent) (o : Option Slot) (slot : Slot) → yard_with_entry_in version y entry o ≡ Ok (new, slot) → Comes y new entry.number (brought entry slot)
 comes version y new entry (Some named) slot e =
-    let is_wary : Bool = spares version && entry.is_laden in
+    let is_wary : Bool = spares_empty version && entry.is_laden in
     let is = slotted (is_some (finite_map.get y.boxes entry.number)) (misfit_of is_wary y.plan y.boxes (placement (length_of entry.size_type) named)) (yard_map y.plan (finite_map.insert y.boxes entry.number (brought entry named))) new slot named e in
     record {
       absent = is.0;
@@ -89,7 +89,7 @@ comes version y new entry (Some named) slot e =
       fits = ap (λ s. misfit_of is_wary y.plan y.boxes (placement (length_of entry.size_type) s)) (sym is.2) ∙ is.3;
     }
 comes version y new entry None slot e =
-    let is_wary : Bool = spares version && entry.is_laden in
+    let is_wary : Bool = spares_empty version && entry.is_laden in
     let is = first_slotted (is_some (finite_map.get y.boxes entry.number)) (first_fit is_wary y.plan y.boxes (length_of entry.size_type)) y new entry.number (length_of entry.size_type) entry.is_laden slot e in
     record { absent = is.0; boxes = ap (λ (v : YardMap). v.boxes) is.1; is_wary = is_wary; fits = first_fits is_wary y.plan y.boxes (length_of entry.size_type) slot is.2 }
 
@@ -98,7 +98,7 @@ goes_free : (o : Option BoxNumber) (y new : YardMap) (t s : Placement) → unles
 goes_free (Some b) y new t s e = cc
 goes_free None y new t s e = let p : (y, t) ≡ (new, s) = cc in (ap (λ (q : YardMap × Placement). q.1) p, sym (ap (λ (q : YardMap × Placement). q.0) p))
 
-pub goes : (o : Option Placement) (y new : YardMap) (b : BoxNumber) (s : Placement) → removed_at o y b ≡ Ok (new, s) → (o ≡ Some s) × (new.boxes ≡ finite_map.remove y.boxes b)
+pub goes : (o : Option Placement) (y new : YardMap) (b : BoxNumber) (s : Placement) → yard_without_at o y b ≡ Ok (new, s) → (o ≡ Some s) × (new.boxes ≡ finite_map.remove y.boxes b)
 goes None y new b s e = cc
 goes (Some t) y new b s e =
     let is = goes_free (blocker_of y.boxes t) (yard_map y.plan (finite_map.remove y.boxes b)) new t s e in
@@ -116,10 +116,10 @@ pub record Moves (old new : YardMap) (b : BoxNumber) (w : Stowed) (slot : Slot) 
   pub is_wary : Bool
   pub fits : misfit_of is_wary old.plan (finite_map.remove old.boxes b) (placement w.placement.length slot) ≡ None
 
-pub shifts : (version : Version) (o : Option Stowed) (y new : YardMap) (b : BoxNumber) (slot : Slot) → shifted_at (spares version) o y b slot ≡ Ok new → (w : Stowed) × (o ≡ Some w) × Moves y new b w slot
+pub shifts : (version : Version) (o : Option Stowed) (y new : YardMap) (b : BoxNumber) (slot : Slot) → yard_with_move_at (spares_empty version) o y b slot ≡ Ok new → (w : Stowed) × (o ≡ Some w) × Moves y new b w slot
 shifts version None y new b slot e = cc
 shifts version (Some w) y new b slot e =
-    let is_wary : Bool = spares version && (w.is_laden && not (is_same_slot slot w.placement.slot)) in
+    let is_wary : Bool = spares_empty version && (w.is_laden && not (is_same_slot slot w.placement.slot)) in
     let is = shifts_free (blocker_of y.boxes w.placement) (misfit_of is_wary y.plan (finite_map.remove y.boxes b) (placement w.placement.length slot)) (yard_map y.plan (finite_map.insert y.boxes b (moved_as w slot))) new e in
     (w, refl, record { boxes = ap (λ (v : YardMap). v.boxes) is.0; is_wary = is_wary; fits = is.1 })
 
@@ -131,7 +131,7 @@ placed_by visit o = option_map (λ s. standing_in (number_of_visit visit) s.slot
 -- ---- visits, one more
 
 came_place : (state : TerminalState) (y : YardMap) (v : VisitContent) (w : Stowed) (q : BoxNumber) (is : Bool) → IsWhole state → Comes state.yard y v.container w → v.departure ≡ None → bytes_eq v.container q ≡ is
-    → cond is (Some (standing_in v.number w.placement.slot)) (standing_of state q) ≡ placed_by (find (is_open_visit q) (state.visits ++ v ∷ [])) (placed (cond is (Some w) (finite_map.get state.yard.boxes q)))
+    → cond is (Some (standing_in v.number w.placement.slot)) (standing_of state q) ≡ placed_by (find (is_open_visit q) (state.visits ++ v ∷ [])) (placement_if_any (cond is (Some w) (finite_map.get state.yard.boxes q)))
 came_place state y v w q true whole came still e =
     let open_ : is_open_visit q v ≡ true = ap (λ d. bytes_eq v.container q && is_none d) still ∙ and_true _ ∙ e in
     let none : is_some (open_visit state q) ≡ false = sym (whole.here q) ∙ ap (is_in state) (same_bytes v.container q e) ∙ came.absent in
@@ -152,31 +152,31 @@ numbered_from p above (v ∷ visits) w are e =
 
 -- none is the container's and open, and none has the number
 neither : (departure : Departure) (b : BoxNumber) (number above : ℕ) (visits : List VisitContent) → AreNumbered above visits → number ≤ above → length (filter (is_open_visit b) visits) ≡ 0
-    → map (closed_as number departure) visits ≡ map (closed_visit departure b) visits
+    → map (visit_with_departure number departure) visits ≡ map (closed_visit departure b) visits
 neither departure b number above [] are low none = refl
 neither departure b number above (v ∷ visits) are low none =
-    elim (is_open_visit b v) as (λ t. is_open_visit b v ≡ t → map (closed_as number departure) (v ∷ visits) ≡ map (closed_visit departure b) (v ∷ visits)) [
+    elim (is_open_visit b v) as (λ t. is_open_visit b v ≡ t → map (visit_with_departure number departure) (v ∷ visits) ≡ map (closed_visit departure b) (v ∷ visits)) [
       | true ↦ λ is. let more : length (filter (is_open_visit b) (v ∷ visits)) ≡ length (filter (is_open_visit b) visits) + 1 = count_keeps (is_open_visit b) v visits is in absurd (omega arith)
       | false ↦ λ isnt.
           let less : length (filter (is_open_visit b) (v ∷ visits)) ≡ length (filter (is_open_visit b) visits) = count_skips (is_open_visit b) v visits isnt in
           let other : (v.number == number) ≡ false = ne_eqb v.number number (λ e. absurd (omega (arith, e, are.0, low))) in
-          let head_ : closed_as number departure v ≡ closed_visit departure b v =
+          let head_ : visit_with_departure number departure v ≡ closed_visit departure b v =
           ap (λ t. cond t (record v { departure = Some departure }) v) other ∙ sym (ap (λ t. cond t (record v { departure = Some departure }) v) isnt) in
           λ i. head_ i ∷ neither departure b number v.number visits are.1 (omega (arith, are.0, low)) (omega arith) i
     ] refl
 
 -- the container's open visit is the one of its number
 closed_by_number : (departure : Departure) (b : BoxNumber) (above : ℕ) (visits : List VisitContent) (w : VisitContent) → AreNumbered above visits → length (filter (is_open_visit b) visits) ≤ 1
-    → find (is_open_visit b) visits ≡ Some w → map (closed_as w.number departure) visits ≡ map (closed_visit departure b) visits
+    → find (is_open_visit b) visits ≡ Some w → map (visit_with_departure w.number departure) visits ≡ map (closed_visit departure b) visits
 closed_by_number departure b above [] w are one e = refl
 closed_by_number departure b above (v ∷ visits) w are one e =
-    elim (is_open_visit b v) as (λ t. is_open_visit b v ≡ t → map (closed_as w.number departure) (v ∷ visits) ≡ map (closed_visit departure b) (v ∷ visits)) [
+    elim (is_open_visit b v) as (λ t. is_open_visit b v ≡ t → map (visit_with_departure w.number departure) (v ∷ visits) ≡ map (closed_visit departure b) (v ∷ visits)) [
       | true ↦ λ is.
           let met : Some v ≡ Some w = sym (find_meets (is_open_visit b) v visits is) ∙ e in
           let it : v ≡ w = cc in
           let number : v.number ≡ w.number = ap (λ (u : VisitContent). u.number) it in
           let more : length (filter (is_open_visit b) (v ∷ visits)) ≡ length (filter (is_open_visit b) visits) + 1 = count_keeps (is_open_visit b) v visits is in
-          let head_ : closed_as w.number departure v ≡ closed_visit departure b v =
+          let head_ : visit_with_departure w.number departure v ≡ closed_visit departure b v =
           ap (λ n. cond (v.number == n) (record v { departure = Some departure }) v) (sym number) ∙ ap (λ t. cond t (record v { departure = Some departure }) v) (eq-eqb v.number v.number refl)
           ∙ sym (ap (λ t. cond t (record v { departure = Some departure }) v) is) in
           λ i. head_ i ∷ neither departure b w.number v.number visits are.1 (omega (arith, number)) (omega arith) i
@@ -185,7 +185,7 @@ closed_by_number departure b above (v ∷ visits) w are one e =
           let rest : find (is_open_visit b) visits ≡ Some w = sym (find_skips (is_open_visit b) v visits isnt) ∙ e in
           let far : v.number < w.number = numbered_from (is_open_visit b) v.number visits w are.1 rest in
           let other : (v.number == w.number) ≡ false = ne_eqb v.number w.number (λ same_. absurd (omega (arith, same_, far))) in
-          let head_ : closed_as w.number departure v ≡ closed_visit departure b v =
+          let head_ : visit_with_departure w.number departure v ≡ closed_visit departure b v =
           ap (λ t. cond t (record v { departure = Some departure }) v) other ∙ sym (ap (λ t. cond t (record v { departure = Some departure }) v) isnt) in
           λ i. head_ i ∷ closed_by_number departure b v.number visits w are.1 (omega arith) rest i
     ] refl
@@ -209,7 +209,7 @@ other_number departure b q (v ∷ visits) e =
     (closed_open departure b q v ∙ ap (λ t. is_open_visit q v && not t) e ∙ and_true _) (kept_number departure v (is_open_visit b v)) (other_number departure b q visits e)
 
 went_place : (state : TerminalState) (departure : Departure) (b q : BoxNumber) (is : Bool) → bytes_eq b q ≡ is
-    → cond is None (standing_of state q) ≡ placed_by (find (is_open_visit q) (map (closed_visit departure b) state.visits)) (placed (cond is None (finite_map.get state.yard.boxes q)))
+    → cond is None (standing_of state q) ≡ placed_by (find (is_open_visit q) (map (closed_visit departure b) state.visits)) (placement_if_any (cond is None (finite_map.get state.yard.boxes q)))
 went_place state departure b q true e = refl
 went_place state departure b q false e =
     sym (ap (λ n. option_map (λ (s : Placement). standing_in n s.slot) (placement_of state.yard.boxes q)) (other_number departure b q state.visits e))
@@ -217,103 +217,103 @@ went_place state departure b q false e =
 -- ---- moving
 
 moved_place_is : (state : TerminalState) (b q : BoxNumber) (slot : Slot) (w : Stowed) (is : Bool) → finite_map.get state.yard.boxes b ≡ Some w → bytes_eq b q ≡ is
-    → cond is (option_map (standing_elsewhere slot) (standing_of state b)) (standing_of state q) ≡ placed_by (open_visit state q) (placed (cond is (Some (moved_as w slot)) (finite_map.get state.yard.boxes q)))
+    → cond is (option_map (standing_elsewhere slot) (standing_of state b)) (standing_of state q) ≡ placed_by (open_visit state q) (placement_if_any (cond is (Some (moved_as w slot)) (finite_map.get state.yard.boxes q)))
 moved_place_is state b q slot w true stood e =
-    ap (λ o. option_map (standing_elsewhere slot) (placed_by (open_visit state b) (placed o))) stood ∙ ap (λ c. Some (standing_in (number_of_visit (open_visit state c)) slot)) (sym (same_bytes b q e))
+    ap (λ o. option_map (standing_elsewhere slot) (placed_by (open_visit state b) (placement_if_any o))) stood ∙ ap (λ c. Some (standing_in (number_of_visit (open_visit state c)) slot)) (sym (same_bytes b q e))
 moved_place_is state b q slot w false stood e = refl
 
 -- ---- steps
 
 -- the changes turn the rows
-abbrev pub Turns : TerminalState → Stepped → Type 0
-Turns state after = all_changed (rows_of state) after.changes ≡ rows_of after.state
+abbrev pub Turns : TerminalState → StepResult → Type 0
+Turns state after = rows_with_all (rows_of state) after.changes ≡ rows_of after.state
 
 pub either : {A : Type 0} (P : A → Type 0) (v : Bool) (a b : A) → P a → P b → P (cond v a b)
 either P true a b one other = one
 either P false a b one other = other
 
-turned_entered_at : (version : Version) (state : TerminalState) (way : Way) (source : Source) (entry : EntryContent) (r : Result (YardMap × Slot) Refusal) → IsWhole state → yard_with_entry version state.yard entry ≡ r → Turns state (entered_at state way source entry r)
+turned_entered_at : (version : Version) (state : TerminalState) (way : Way) (source : Source) (entry : EntryContent) (r : Result (YardMap × Slot) Refusal) → IsWhole state → yard_with_entry version state.yard entry ≡ r → Turns state (after_entry_at state way source entry r)
 turned_entered_at version state way source entry (Err f) whole e = refl
 turned_entered_at version state way source entry (Ok (y, slot)) whole e =
     let v : VisitContent = visit_of state way source entry slot in
     let w : Stowed = brought entry slot in
     let came : Comes state.yard y entry.number w = comes version state.yard y entry entry.slot slot e in
     let places : (q : BoxNumber) → update bytes_eq (standing_of state) entry.number (Some (standing_in (last_number state.visits + 1) slot)) q ≡ standing_of (record state { yard = y; visits = state.visits ++ v ∷ [] }) q =
-    λ q. came_place state y v w q (bytes_eq entry.number q) whole came refl refl ∙ ap (λ o. placed_by (find (is_open_visit q) (state.visits ++ v ∷ [])) (placed o)) (sym (in_placed_map state.yard.boxes y.boxes entry.number q w came.boxes)) in
+    λ q. came_place state y v w q (bytes_eq entry.number q) whole came refl refl ∙ ap (λ o. placed_by (find (is_open_visit q) (state.visits ++ v ∷ [])) (placement_if_any o)) (sym (in_placed_map state.yard.boxes y.boxes entry.number q w came.boxes)) in
     λ i. record { visits = state.visits ++ v ∷ []; places = λ q. places q i; lines = state.lines }
 
 pub turned_entered : (version : Version) (state : TerminalState) (way : Way) (source : Source) (entry : EntryContent) → IsWhole state → Turns state (after_entry version state way source entry)
 turned_entered version state way source entry whole =
-    either (Turns state) (is_full state) (with_refusal state VisitLimit) (entered_at state way source entry (yard_with_entry version state.yard entry)) refl (turned_entered_at version state way source entry (yard_with_entry version state.yard entry) whole refl)
+    either (Turns state) (is_full state) (with_refusal state VisitLimit) (after_entry_at state way source entry (yard_with_entry version state.yard entry)) refl (turned_entered_at version state way source entry (yard_with_entry version state.yard entry) whole refl)
 
 pub found : {A : Type 0} (o : Option A) → is_some o ≡ true → (x : A) × (o ≡ Some x)
 found None e = cc
 found (Some x) e = (x, refl)
 
-turned_departed_at : (state : TerminalState) (b : BoxNumber) (departure : Departure) (r : Result (YardMap × Placement) Refusal) → IsWhole state → yard_without state.yard b ≡ r → Turns state (departed_at state b departure r)
+turned_departed_at : (state : TerminalState) (b : BoxNumber) (departure : Departure) (r : Result (YardMap × Placement) Refusal) → IsWhole state → yard_without state.yard b ≡ r → Turns state (after_departure_at state b departure r)
 turned_departed_at state b departure (Err f) whole e = refl
 turned_departed_at state b departure (Ok (y, s)) whole e =
     let went = goes (placement_of state.yard.boxes b) state.yard y b s e in
     let visit = found (open_visit state b) (sym (whole.here b) ∙ there_placed state.yard.boxes b s went.0) in
-    let visits : map (closed_as (number_of_visit (open_visit state b)) departure) state.visits ≡ close_visit state b departure =
-    ap (λ o. map (closed_as (number_of_visit o) departure) state.visits) visit.1 ∙ closed_by_number departure b 0 state.visits visit.0 whole.numbered (whole.one_visit b) visit.1 in
+    let visits : map (visit_with_departure (number_of_visit (open_visit state b)) departure) state.visits ≡ close_visit state b departure =
+    ap (λ o. map (visit_with_departure (number_of_visit o) departure) state.visits) visit.1 ∙ closed_by_number departure b 0 state.visits visit.0 whole.numbered (whole.one_visit b) visit.1 in
     let places : (q : BoxNumber) → update bytes_eq (standing_of state) b None q ≡ standing_of (record state { yard = y; visits = close_visit state b departure }) q =
-    λ q. went_place state departure b q (bytes_eq b q) refl ∙ ap (λ o. placed_by (find (is_open_visit q) (close_visit state b departure)) (placed o)) (sym (in_removed_map state.yard.boxes y.boxes b q went.1)) in
+    λ q. went_place state departure b q (bytes_eq b q) refl ∙ ap (λ o. placed_by (find (is_open_visit q) (close_visit state b departure)) (placement_if_any o)) (sym (in_removed_map state.yard.boxes y.boxes b q went.1)) in
     λ i. record { visits = visits i; places = λ q. places q i; lines = state.lines }
 
 pub turned_departed : (state : TerminalState) (way : Way) (source : Source) (b : BoxNumber) (moment : CivilMoment) → IsWhole state → Turns state (after_departure state way source b moment)
 turned_departed state way source b moment whole = turned_departed_at state b (departure_by way source moment) (yard_without state.yard b) whole refl
 
-turned_moved_at : (version : Version) (state : TerminalState) (b : BoxNumber) (slot : Slot) (r : Result YardMap Refusal) → yard_with_move (spares version) state.yard b slot ≡ r → Turns state (moved_at state b slot r)
+turned_moved_at : (version : Version) (state : TerminalState) (b : BoxNumber) (slot : Slot) (r : Result YardMap Refusal) → yard_with_move (spares_empty version) state.yard b slot ≡ r → Turns state (after_move_at state b slot r)
 turned_moved_at version state b slot (Err f) e = refl
 turned_moved_at version state b slot (Ok y) e =
     let is = shifts version (finite_map.get state.yard.boxes b) state.yard y b slot e in
     let places : (q : BoxNumber) → update bytes_eq (standing_of state) b (option_map (standing_elsewhere slot) (standing_of state b)) q ≡ standing_of (record state { yard = y }) q =
-    λ q. moved_place_is state b q slot is.0 (bytes_eq b q) is.1 refl ∙ ap (λ o. placed_by (open_visit state q) (placed o)) (sym (in_placed_map state.yard.boxes y.boxes b q (moved_as is.0 slot) is.2.boxes)) in
+    λ q. moved_place_is state b q slot is.0 (bytes_eq b q) is.1 refl ∙ ap (λ o. placed_by (open_visit state q) (placement_if_any o)) (sym (in_placed_map state.yard.boxes y.boxes b q (moved_as is.0 slot) is.2.boxes)) in
     λ i. record { visits = state.visits; places = λ q. places q i; lines = state.lines }
 
-turned_listed : (state : TerminalState) (call : CallContent) (side : Side) (b : BoxNumber) (port : List ℕ) (o : Option LineContent) → Turns state (listed_at state call side b port o)
+turned_listed : (state : TerminalState) (call : CallContent) (side : Side) (b : BoxNumber) (port : List ℕ) (o : Option LineContent) → Turns state (after_listing_at state call side b port o)
 turned_listed state call side b port (Some line) = refl
 turned_listed state call side b port None = refl
 
 -- ---- steps with a line
 
-one_after : (rows : TerminalRows) (changes : List ChangeContent) (change : ChangeContent) → all_changed rows (changes ++ change ∷ []) ≡ rows_with (all_changed rows changes) change
+one_after : (rows : TerminalRows) (changes : List ChangeContent) (change : ChangeContent) → rows_with_all rows (changes ++ change ∷ []) ≡ rows_with (rows_with_all rows changes) change
 one_after rows [] change = refl
 one_after rows (c ∷ changes) change = one_after (rows_with rows c) changes change
 
 -- the lines stay
-abbrev pub KeepsLines : TerminalState → Stepped → Type 0
+abbrev pub KeepsLines : TerminalState → StepResult → Type 0
 KeepsLines state after = after.state.lines ≡ state.lines
 
-pub entered_keeps : (state : TerminalState) (way : Way) (source : Source) (entry : EntryContent) (r : Result (YardMap × Slot) Refusal) → KeepsLines state (entered_at state way source entry r)
+pub entered_keeps : (state : TerminalState) (way : Way) (source : Source) (entry : EntryContent) (r : Result (YardMap × Slot) Refusal) → KeepsLines state (after_entry_at state way source entry r)
 entered_keeps state way source entry (Err f) = refl
 entered_keeps state way source entry (Ok (y, slot)) = refl
 
-pub departed_keeps : (state : TerminalState) (b : BoxNumber) (departure : Departure) (r : Result (YardMap × Placement) Refusal) → KeepsLines state (departed_at state b departure r)
+pub departed_keeps : (state : TerminalState) (b : BoxNumber) (departure : Departure) (r : Result (YardMap × Placement) Refusal) → KeepsLines state (after_departure_at state b departure r)
 departed_keeps state b departure (Err f) = refl
 departed_keeps state b departure (Ok (y, s)) = refl
 
-turned_done : (state : TerminalState) (call : CallContent) (side : Side) (b : BoxNumber) (line : LineContent) (after : Stepped) → Turns state after → KeepsLines state after → line_of state call side b ≡ Some line
-    → all_changed (rows_of state) (after.changes ++ line_done call side b ∷ []) ≡ rows_of (record (after.state) { lines = finite_map.insert after.state.lines (line_key call side b) (record line { state = LineIsDone }) })
+turned_done : (state : TerminalState) (call : CallContent) (side : Side) (b : BoxNumber) (line : LineContent) (after : StepResult) → Turns state after → KeepsLines state after → line_of state call side b ≡ Some line
+    → rows_with_all (rows_of state) (after.changes ++ line_done call side b ∷ []) ≡ rows_of (record (after.state) { lines = finite_map.insert after.state.lines (line_key call side b) (record line { state = LineIsDone }) })
 turned_done state call side b line after turned keeps there =
     let still : line_of after.state call side b ≡ Some line = ap (λ (l : Lines). finite_map.get l (line_key call side b)) keeps ∙ there in
     one_after (rows_of state) after.changes (line_done call side b) ∙ ap (λ rows. rows_with rows (line_done call side b)) turned
     ∙ ap (λ o. record (rows_of after.state) { lines = with_line_done after.state.lines (line_key call side b) o }) still
 
-turned_then : (state : TerminalState) (call : CallContent) (side : Side) (b : BoxNumber) (line : LineContent) (after : Stepped) (o : Outcome) → Turns state after → KeepsLines state after → line_of state call side b ≡ Some line
+turned_then : (state : TerminalState) (call : CallContent) (side : Side) (b : BoxNumber) (line : LineContent) (after : StepResult) (o : Outcome) → Turns state after → KeepsLines state after → line_of state call side b ≡ Some line
     → Turns state (then_line_done_at call side b line after o)
 turned_then state call side b line after (Refused reason) turned keeps there = turned
 turned_then state call side b line after (Done slot) turned keeps there = turned_done state call side b line after turned keeps there
 turned_then state call side b line after Gone turned keeps there = turned_done state call side b line after turned keeps there
 turned_then state call side b line after Listed turned keeps there = turned_done state call side b line after turned keeps there
 
-turned_by_state : (state : TerminalState) (call : CallContent) (side : Side) (b : BoxNumber) (line : LineContent) (after : Stepped) (s : LineState) → Turns state after → KeepsLines state after → line_of state call side b ≡ Some line
+turned_by_state : (state : TerminalState) (call : CallContent) (side : Side) (b : BoxNumber) (line : LineContent) (after : StepResult) (s : LineState) → Turns state after → KeepsLines state after → line_of state call side b ≡ Some line
     → Turns state (by_state state call side b line after s)
 turned_by_state state call side b line after LineIsDone turned keeps there = refl
 turned_by_state state call side b line after Pending turned keeps there = turned_then state call side b line after after.outcome turned keeps there
 
-turned_by_line : (state : TerminalState) (call : CallContent) (side : Side) (b : BoxNumber) (o : Option LineContent) (after : Stepped) → Turns state after → KeepsLines state after → line_of state call side b ≡ o
+turned_by_line : (state : TerminalState) (call : CallContent) (side : Side) (b : BoxNumber) (o : Option LineContent) (after : StepResult) → Turns state after → KeepsLines state after → line_of state call side b ≡ o
     → Turns state (by_line state call side b o after)
 turned_by_line state call side b None after turned keeps there = refl
 turned_by_line state call side b (Some line) after turned keeps there = turned_by_state state call side b line after line.state turned keeps there
@@ -323,13 +323,13 @@ turned_by_line state call side b (Some line) after turned keeps there = turned_b
 pub turned_step : (version : Version) (state : TerminalState) (source : Source) (order : OrderContent) → IsWhole state → Turns state (step_by version state source order)
 turned_step version state source (gate_in entry) whole = either (Turns state) (is_in state entry.number) (with_refusal state AlreadyIn) (after_entry version state Gate source entry) refl (turned_entered version state Gate source entry whole)
 turned_step version state source (gate_out b moment) whole = turned_departed state Gate source b moment whole
-turned_step version state source (move b slot) whole = turned_moved_at version state b slot (yard_with_move (spares version) state.yard b slot) refl
+turned_step version state source (move b slot) whole = turned_moved_at version state b slot (yard_with_move (spares_empty version) state.yard b slot) refl
 turned_step version state source (list_discharge call b) whole = turned_listed state call Discharge b [] (line_of state call Discharge b)
 turned_step version state source (list_load call b port) whole = turned_listed state call Load b port (line_of state call Load b)
 turned_step version state source (discharge call entry) whole =
     either (Turns state) (is_in state entry.number) (with_refusal state AlreadyIn) (by_line state call Discharge entry.number (line_of state call Discharge entry.number) (after_entry version state Ship source entry)) refl
     (turned_by_line state call Discharge entry.number (line_of state call Discharge entry.number) (after_entry version state Ship source entry) (turned_entered version state Ship source entry whole)
-    (either (KeepsLines state) (is_full state) (with_refusal state VisitLimit) (entered_at state Ship source entry (yard_with_entry version state.yard entry)) refl (entered_keeps state Ship source entry (yard_with_entry version state.yard entry))) refl)
+    (either (KeepsLines state) (is_full state) (with_refusal state VisitLimit) (after_entry_at state Ship source entry (yard_with_entry version state.yard entry)) refl (entered_keeps state Ship source entry (yard_with_entry version state.yard entry))) refl)
 turned_step version state source (load call b moment) whole =
     either (Turns state) (is_in state b) (by_line state call Load b (line_of state call Load b) (after_departure state Ship source b moment)) (with_refusal state NotIn)
     (turned_by_line state call Load b (line_of state call Load b) (after_departure state Ship source b moment) (turned_departed state Ship source b moment whole)

@@ -17,9 +17,9 @@ use Rattle.terminal_core.specs.declared.lines.LineState.{LineState}
 use Rattle.terminal_core.specs.declared.lines.LineState.TheVariants.{Pending, Done}
 use Rattle.terminal_core.specs.Rows.{unlisted}
 use Rattle.terminal_core.specs.State.{TerminalState, LineContent, LineKey, Lines, line_key, line_of, side_code, IsWhole}
-use Rattle.terminal_core.specs.Changes.{TerminalRows, rows_of, all_changed, AreApplicable}
+use Rattle.terminal_core.specs.Changes.{TerminalRows, rows_of, rows_with_all, AreApplicable}
 use Rattle.terminal_core.specs.Forms.{IsWellFormed}
-use Rattle.terminal_core.specs.Drop.{is_pending, is_on, container_in, is_open_on, open_containers, without_lines_of, dropped_lines, drop, unless_open_on}
+use Rattle.terminal_core.specs.Drop.{is_pending, is_on, container_in, is_open_on, open_containers, without_lines_of, dropped_lines, list_drop, unless_open_on}
 use Rattle.terminal_core.proofs.Lined.{order, keys_total, same_key, tied_self}
 use Rattle.terminal_core.proofs.Whole.{whole_listed}
 
@@ -47,14 +47,14 @@ key_on call side (a ∷ b ∷ c ∷ d ∷ f ∷ k) e = cc
 
 -- ---- rows
 
-turned : (call : CallContent) (side : Side) (containers : List BoxNumber) (rows : TerminalRows) → all_changed rows (map (unlisted call side) containers) ≡ record rows { lines = without_lines_of call side containers rows.lines }
+turned : (call : CallContent) (side : Side) (containers : List BoxNumber) (rows : TerminalRows) → rows_with_all rows (map (unlisted call side) containers) ≡ record rows { lines = without_lines_of call side containers rows.lines }
 turned call side [] rows = refl
 turned call side (b ∷ containers) rows = turned call side containers (record rows { lines = finite_map.remove rows.lines (line_key call side b) })
 
-pub drop_turned : (state : TerminalState) (call : CallContent) (side : Side) → all_changed (rows_of state) (drop state call side).changes ≡ rows_of (drop state call side).state
+pub drop_turned : (state : TerminalState) (call : CallContent) (side : Side) → rows_with_all (rows_of state) (list_drop state call side).changes ≡ rows_of (list_drop state call side).state
 drop_turned state call side = turned call side (open_containers state.lines call side) (rows_of state)
 
-pub drop_whole : (state : TerminalState) (call : CallContent) (side : Side) → IsWhole state → IsWhole (drop state call side).state
+pub drop_whole : (state : TerminalState) (call : CallContent) (side : Side) → IsWhole state → IsWhole (list_drop state call side).state
 drop_whole state call side whole = whole_listed state (dropped_lines state.lines call side) whole
 
 -- ---- entries in order, each of which the map has
@@ -148,7 +148,7 @@ applies call side (e ∷ es) rows rise are =
         let Q : LineKey → Type 0 = λ k. AreApplicable (record rows { lines = finite_map.remove rows.lines k }) (map (unlisted call side) (map (λ (f : Entry). container_in f.0) (filter (is_open_on call side) es))) in
         (record { line = e.1; there = subst P key are.0; pending = pending_is e.1.state both.1 }, subst Q key less)
 
-pub drop_applicable : (state : TerminalState) (call : CallContent) (side : Side) → AreApplicable (rows_of state) (drop state call side).changes
+pub drop_applicable : (state : TerminalState) (call : CallContent) (side : Side) → AreApplicable (rows_of state) (list_drop state call side).changes
 drop_applicable state call side = applies call side (finite_map.entries state.lines) (rows_of state) (finite_map.entries_sorted state.lines) (own_entries state.lines)
 
 -- ---- what is left
@@ -240,7 +240,7 @@ open_alone lines call side key =
         ap (cond (is_gone call side key (finite_map.entries lines)) None) e
         ∙ ap (λ b. cond b None (Some line)) (gone key line call side (finite_map.entries lines) (finite_map.entries_sorted lines) (sym (finite_map.get-entries lines key) ∙ e))
 
-pub drop_alone : (state : TerminalState) (call : CallContent) (side : Side) (key : LineKey) → finite_map.get (drop state call side).state.lines key ≡ unless_open_on call side key (finite_map.get state.lines key)
+pub drop_alone : (state : TerminalState) (call : CallContent) (side : Side) (key : LineKey) → finite_map.get (list_drop state call side).state.lines key ≡ unless_open_on call side key (finite_map.get state.lines key)
 drop_alone state call side key = open_alone state.lines call side key
 
 -- a line that is left was there
@@ -252,7 +252,7 @@ left_there call side key (Some other) line e = by (is_open_on call side (key, ot
     by true e = cc
     by false e = e
 
-pub drop_formed : (state : TerminalState) (call : CallContent) (side : Side) → IsWellFormed state → IsWellFormed (drop state call side).state
+pub drop_formed : (state : TerminalState) (call : CallContent) (side : Side) → IsWellFormed state → IsWellFormed (list_drop state call side).state
 drop_formed state call side formed = record {
   visits = formed.visits;
   lines = λ c s b line at. formed.lines c s b line (left_there call side (line_key c s b) (line_of state c s b) line (sym (drop_alone state call side (line_key c s b)) ∙ at));

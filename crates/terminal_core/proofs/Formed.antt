@@ -10,7 +10,7 @@ use Rattle.box6346.specs.declared.box_number.BoxNumber.{BoxNumber}
 use Rattle.yard_core.specs.declared.plan.Block.{Block}
 use Rattle.yard_core.specs.declared.placements.Placement.{Placement}
 use Rattle.yard_core.specs.declared.placements.Stowed.{Stowed}
-use Rattle.yard_core.specs.YardMap.{placement_of, placed}
+use Rattle.yard_core.specs.YardMap.{placement_of, placement_if_any}
 use Rattle.yard_core.proofs.Boxes.{found_placed}
 use Rattle.terminal_core.specs.declared.lines.Listing.{Listing}
 use Rattle.terminal_core.specs.declared.change.Place.{Place}
@@ -59,7 +59,7 @@ module _ (state : TerminalState) (places : List Place) (whole : IsWhole state) (
       let same : container ≡ place.container = same_bytes place.container container found.2 in
       let stand = all.each place (contained places found.0 place found.1) in
       let open_ : open_visit state place.container ≡ Some stand.visit = found_one (is_open_visit place.container) state.visits stand.visit (few_open state whole place.container) stand.names.listed stand.names.is_open in
-      sym (ap (standing_of state) same ∙ ap (λ w. placed_by (open_visit state place.container) (placed w)) stand.stands ∙ ap (λ v. Some (standing_in (number_of_visit v) place.slot)) open_
+      sym (ap (standing_of state) same ∙ ap (λ w. placed_by (open_visit state place.container) (placement_if_any w)) stand.stands ∙ ap (λ v. Some (standing_in (number_of_visit v) place.slot)) open_
       ∙ ap (λ n. Some (standing_in n place.slot)) stand.names.number)
 
   standing_absent : (container : BoxNumber) → find (at_place container) places ≡ None → None ≡ standing_of state container
@@ -69,7 +69,7 @@ module _ (state : TerminalState) (places : List Place) (whole : IsWhole state) (
       let some : is_some (find (at_place container) places) ≡ true = is_found (at_place container) places place.1.0 place.0 (found_at places place.0 place.1) (ap (λ b. bytes_eq b container) place.2 ∙ same_self container) in
       let bad : true ≡ false = sym some ∙ ap is_some none in
       cc) in
-      sym (ap (λ w. placed_by (open_visit state container) (placed w)) absent)
+      sym (ap (λ w. placed_by (open_visit state container) (placement_if_any w)) absent)
 
   pub standing_same : (container : BoxNumber) → standing_by places container ≡ standing_of state container
   standing_same container =
@@ -107,7 +107,7 @@ module _ (state : TerminalState) (places : List Place) (whole : IsWhole state) (
 
   placed_so : (container : BoxNumber) (w : Stowed) → finite_map.get state.yard.boxes container ≡ Some w → (place : Place) × Contains places place × (place.container ≡ container)
   placed_so container w at =
-      let place = mapped_some (λ (p : Place). standing_in p.visit p.slot) (find (at_place container) places) _ (same container ∙ ap (λ w. placed_by (open_visit state container) (placed w)) at) in
+      let place = mapped_some (λ (p : Place). standing_in p.visit p.slot) (find (at_place container) places) _ (same container ∙ ap (λ w. placed_by (open_visit state container) (placement_if_any w)) at) in
       let found = found_is (at_place container) places place.0 place.1 in
       (place.0, contained places found.0 place.0 found.1, sym (same_bytes place.0.container container found.2))
 
@@ -134,7 +134,7 @@ stands_alike one other whole also e container w at =
     let visit = some_of (open_visit one container) (sym (whole.here container) ∙ ap is_some at) in
     let same_visit : open_visit other container ≡ Some visit.0 = sym (ap (λ (r : TerminalRows). find (is_open_visit container) r.visits) e) ∙ visit.1 in
     let t = stands_of (placement_of other.yard.boxes container) (open_visit other container) (standing_in (number_of_visit (open_visit one container)) w.placement.slot)
-    (sym (ap (λ (r : TerminalRows). r.places container) e) ∙ ap (λ v. placed_by (open_visit one container) (placed v)) at) in
+    (sym (ap (λ (r : TerminalRows). r.places container) e) ∙ ap (λ v. placed_by (open_visit one container) (placement_if_any v)) at) in
     let v = found_placed (finite_map.get other.yard.boxes container) t.0 t.1 in
     let slot_is : v.0.placement.slot ≡ w.placement.slot = ap (λ (p : Placement). p.slot) v.2 ∙ sym t.2 in
     v.1 ∙ ap Some (also.as_told container v.0 visit.0 v.1 same_visit ∙ ap (stowed_by visit.0) slot_is ∙ sym (whole.as_told container w visit.0 at visit.1))

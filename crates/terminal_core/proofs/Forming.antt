@@ -19,7 +19,7 @@ use Rattle.yard_core.specs.declared.plan.Block.{Block}
 use Rattle.yard_core.specs.declared.placements.Placement.{Placement}
 use Rattle.yard_core.specs.declared.placements.Stowed.{Stowed}
 use Rattle.yard_core.specs.Plan.{IsPlan}
-use Rattle.yard_core.specs.YardMap.{Boxes, YardMap, placement_of, placed}
+use Rattle.yard_core.specs.YardMap.{Boxes, YardMap, placement_of, placement_if_any}
 use Rattle.yard_core.specs.FitsAndFree.{IsOpen}
 use Rattle.yard_core.specs.Decisions.{Refusal, misfit_of, yard_without, yard_with_move}
 use Rattle.yard_core.proofs.Exact.{numbered}
@@ -37,8 +37,8 @@ use Rattle.terminal_core.specs.declared.visits.Way.{Way}
 use Rattle.terminal_core.specs.declared.visits.Way.TheVariants.{Gate, Ship}
 use Rattle.terminal_core.specs.Rows.{VisitContent}
 use Rattle.terminal_core.specs.State.{TerminalState, LineContent, Lines, line_key, line_of, is_in, is_open_visit, empty_state, IsWhole}
-use Rattle.terminal_core.specs.Versions.{spares}
-use Rattle.terminal_core.specs.Step.{Stepped, with_refusal, step_by, yard_with_entry, is_full, visit_of, after_entry, entered_at, closed_visit, after_departure, departed_at, departure_by, moved_at, listed_at, then_line_done_at, by_line, by_state}
+use Rattle.terminal_core.specs.Versions.{spares_empty}
+use Rattle.terminal_core.specs.Step.{StepResult, with_refusal, step_by, yard_with_entry, is_full, visit_of, after_entry, after_entry_at, closed_visit, after_departure, after_departure_at, departure_by, after_move_at, after_listing_at, then_line_done_at, by_line, by_state}
 use Rattle.terminal_core.specs.Forms.{IsSource, IsFormedDeparture, IsFormedVisit, IsFormedLine, IsWellFormed}
 use Rattle.terminal_core.proofs.Boxes.{in_placed_map, in_removed_map, open_of}
 use Rattle.terminal_core.proofs.Told.{moved_as}
@@ -60,11 +60,11 @@ named is_wary plan boxes s valid fits =
     let n = numbered plan s.slot valid open_.in_plan in
     record { block = capital s.slot.block n.letter_low (omega (arith, n.letter_high)); bay = omega (arith, n.bay_high); row = omega (arith, n.row_high); tier = omega (arith, n.tier_high) }
 
-placed_case : (boxes : Boxes) (w : Stowed) (t : Placement) (q : BoxNumber) (is : Bool) → ((t : Placement) → placement_of boxes q ≡ Some t → IsNamed t.slot) → IsNamed w.placement.slot → placed (cond is (Some w) (finite_map.get boxes q)) ≡ Some t → IsNamed t.slot
+placed_case : (boxes : Boxes) (w : Stowed) (t : Placement) (q : BoxNumber) (is : Bool) → ((t : Placement) → placement_of boxes q ≡ Some t → IsNamed t.slot) → IsNamed w.placement.slot → placement_if_any (cond is (Some w) (finite_map.get boxes q)) ≡ Some t → IsNamed t.slot
 placed_case boxes w t q true old new at = let P : Placement → Type 0 = λ p. IsNamed p.slot in subst P (same_Some w.placement t at) new
 placed_case boxes w t q false old new at = old t at
 
-removed_case : (boxes : Boxes) (t : Placement) (q : BoxNumber) (is : Bool) → ((t : Placement) → placement_of boxes q ≡ Some t → IsNamed t.slot) → placed (cond is None (finite_map.get boxes q)) ≡ Some t → IsNamed t.slot
+removed_case : (boxes : Boxes) (t : Placement) (q : BoxNumber) (is : Bool) → ((t : Placement) → placement_of boxes q ≡ Some t → IsNamed t.slot) → placement_if_any (cond is None (finite_map.get boxes q)) ≡ Some t → IsNamed t.slot
 removed_case boxes t q true old at = absurd (none-some t at)
 removed_case boxes t q false old at = old t at
 
@@ -74,16 +74,16 @@ pub empty_formed : (yard : YardMap) (limit : ℕ) → yard.boxes ≡ finite_map.
 empty_formed yard limit none = record {
   visits = λ visit inside. (let bad : inside.0 < 0 = inside.1 in absurd (omega arith));
   lines = λ call side container line there. absurd (none-some line (sym (finite_map.get-empty _ (line_key call side container)) ∙ there));
-  slots = λ container s at. absurd (none-some s (sym (ap (λ (m : Boxes). placement_of m container) none ∙ ap placed (finite_map.get-empty _ container)) ∙ at));
+  slots = λ container s at. absurd (none-some s (sym (ap (λ (m : Boxes). placement_of m container) none ∙ ap placement_if_any (finite_map.get-empty _ container)) ∙ at));
 }
 
 -- ---- steps
 
-abbrev Forms : Stepped → Type 0
+abbrev Forms : StepResult → Type 0
 Forms after = IsWellFormed after.state
 
 formed_entered_at : (version : Version) (state : TerminalState) (way : Way) (source : Source) (entry : EntryContent) (r : Result (YardMap × Slot) Refusal) → IsWhole state → IsWellFormed state → IsSource source → IsFormedEntry entry
-    → yard_with_entry version state.yard entry ≡ r → Forms (entered_at state way source entry r)
+    → yard_with_entry version state.yard entry ≡ r → Forms (after_entry_at state way source entry r)
 formed_entered_at version state way source entry (Err f) whole formed from its e = formed
 formed_entered_at version state way source entry (Ok (y, slot)) whole formed from its e =
     let w : Stowed = brought entry slot in
@@ -95,18 +95,18 @@ formed_entered_at version state way source entry (Ok (y, slot)) whole formed fro
     record {
       visits = λ visit inside. elim (Contains-push_cases state.visits v visit inside) [ inl old ↦ formed.visits visit old | inr same ↦ subst V same v_formed ];
       lines = formed.lines;
-      slots = λ q t at. placed_case state.yard.boxes w t q (bytes_eq entry.number q) (formed.slots q) slot_named (ap placed (sym (in_placed_map state.yard.boxes y.boxes entry.number q w came.boxes)) ∙ at);
+      slots = λ q t at. placed_case state.yard.boxes w t q (bytes_eq entry.number q) (formed.slots q) slot_named (ap placement_if_any (sym (in_placed_map state.yard.boxes y.boxes entry.number q w came.boxes)) ∙ at);
     }
 
 formed_entered : (version : Version) (state : TerminalState) (way : Way) (source : Source) (entry : EntryContent) → IsWhole state → IsWellFormed state → IsSource source → IsFormedEntry entry → Forms (after_entry version state way source entry)
 formed_entered version state way source entry whole formed from its =
-    either Forms (is_full state) (with_refusal state VisitLimit) (entered_at state way source entry (yard_with_entry version state.yard entry)) formed (formed_entered_at version state way source entry (yard_with_entry version state.yard entry) whole formed from its refl)
+    either Forms (is_full state) (with_refusal state VisitLimit) (after_entry_at state way source entry (yard_with_entry version state.yard entry)) formed (formed_entered_at version state way source entry (yard_with_entry version state.yard entry) whole formed from its refl)
 
 closed_case : (departure : Departure) (v : VisitContent) (is : Bool) → IsFormedVisit v → IsFormedDeparture departure → IsFormedVisit (cond is (record v { departure = Some departure }) v)
 closed_case departure v true old new = record { container = old.container; size_type = old.size_type; booking = old.booking; source = old.source; moment = old.moment; slot = old.slot; exit = new; kilos = old.kilos }
 closed_case departure v false old new = old
 
-formed_departed_at : (state : TerminalState) (b : BoxNumber) (departure : Departure) (r : Result (YardMap × Placement) Refusal) → IsWellFormed state → IsFormedDeparture departure → yard_without state.yard b ≡ r → Forms (departed_at state b departure r)
+formed_departed_at : (state : TerminalState) (b : BoxNumber) (departure : Departure) (r : Result (YardMap × Placement) Refusal) → IsWellFormed state → IsFormedDeparture departure → yard_without state.yard b ≡ r → Forms (after_departure_at state b departure r)
 formed_departed_at state b departure (Err f) formed its e = formed
 formed_departed_at state b departure (Ok (y, s)) formed its e =
     let went = goes (placement_of state.yard.boxes b) state.yard y b s e in
@@ -115,13 +115,13 @@ formed_departed_at state b departure (Ok (y, s)) formed its e =
           let row = mapped_at (closed_visit departure b) state.visits inside.0 visit (found_at (map (closed_visit departure b) state.visits) visit inside) in
           subst V row.2 (closed_case departure row.0 (is_open_visit b row.0) (formed.visits row.0 (contained state.visits inside.0 row.0 row.1)) its));
       lines = formed.lines;
-      slots = λ q t at. removed_case state.yard.boxes t q (bytes_eq b q) (formed.slots q) (ap placed (sym (in_removed_map state.yard.boxes y.boxes b q went.1)) ∙ at);
+      slots = λ q t at. removed_case state.yard.boxes t q (bytes_eq b q) (formed.slots q) (ap placement_if_any (sym (in_removed_map state.yard.boxes y.boxes b q went.1)) ∙ at);
     }
 
 formed_departed : (state : TerminalState) (way : Way) (source : Source) (b : BoxNumber) (moment : CivilMoment) → IsWellFormed state → IsFormedDeparture (departure_by way source moment) → Forms (after_departure state way source b moment)
 formed_departed state way source b moment formed its = formed_departed_at state b (departure_by way source moment) (yard_without state.yard b) formed its refl
 
-formed_moved_at : (version : Version) (state : TerminalState) (b : BoxNumber) (slot : Slot) (r : Result YardMap Refusal) → IsWhole state → IsWellFormed state → yard_with_move (spares version) state.yard b slot ≡ r → Forms (moved_at state b slot r)
+formed_moved_at : (version : Version) (state : TerminalState) (b : BoxNumber) (slot : Slot) (r : Result YardMap Refusal) → IsWhole state → IsWellFormed state → yard_with_move (spares_empty version) state.yard b slot ≡ r → Forms (after_move_at state b slot r)
 formed_moved_at version state b slot (Err f) whole formed e = formed
 formed_moved_at version state b slot (Ok y) whole formed e =
     let is = shifts version (finite_map.get state.yard.boxes b) state.yard y b slot e in
@@ -130,7 +130,7 @@ formed_moved_at version state b slot (Ok y) whole formed e =
       visits = formed.visits;
       lines = formed.lines;
       slots = λ q t at. placed_case state.yard.boxes w t q (bytes_eq b q) (formed.slots q) (named is.2.is_wary state.yard.plan (finite_map.remove state.yard.boxes b) w.placement whole.plan is.2.fits)
-          (ap placed (sym (in_placed_map state.yard.boxes y.boxes b q w is.2.boxes)) ∙ at);
+          (ap placement_if_any (sym (in_placed_map state.yard.boxes y.boxes b q w is.2.boxes)) ∙ at);
     }
 
 -- ---- lists
@@ -154,24 +154,24 @@ formed_lines state call side b new formed its = record {
   slots = formed.slots;
 }
 
-formed_listed : (state : TerminalState) (call : CallContent) (side : Side) (b : BoxNumber) (port : List ℕ) (o : Option LineContent) → IsWellFormed state → IsFormedLine call side b (record { port = port; state = Pending }) → Forms (listed_at state call side b port o)
+formed_listed : (state : TerminalState) (call : CallContent) (side : Side) (b : BoxNumber) (port : List ℕ) (o : Option LineContent) → IsWellFormed state → IsFormedLine call side b (record { port = port; state = Pending }) → Forms (after_listing_at state call side b port o)
 formed_listed state call side b port (Some line) formed its = formed
 formed_listed state call side b port None formed its = formed_lines state call side b (record { port = port; state = Pending }) formed its
 
 done_formed : (call : CallContent) (side : Side) (b : BoxNumber) (line : LineContent) → IsFormedLine call side b line → IsFormedLine call side b (record line { state = LineIsDone })
 done_formed call side b line its = record { call_formed = its.call_formed; container_formed = its.container_formed; port_formed = its.port_formed }
 
-formed_then : (call : CallContent) (side : Side) (b : BoxNumber) (line : LineContent) (after : Stepped) (o : Outcome) → Forms after → IsFormedLine call side b line → Forms (then_line_done_at call side b line after o)
+formed_then : (call : CallContent) (side : Side) (b : BoxNumber) (line : LineContent) (after : StepResult) (o : Outcome) → Forms after → IsFormedLine call side b line → Forms (then_line_done_at call side b line after o)
 formed_then call side b line after (Refused reason) formed its = formed
 formed_then call side b line after (Done slot) formed its = formed_lines after.state call side b (record line { state = LineIsDone }) formed (done_formed call side b line its)
 formed_then call side b line after Gone formed its = formed_lines after.state call side b (record line { state = LineIsDone }) formed (done_formed call side b line its)
 formed_then call side b line after Listed formed its = formed_lines after.state call side b (record line { state = LineIsDone }) formed (done_formed call side b line its)
 
-formed_by_state : (state : TerminalState) (call : CallContent) (side : Side) (b : BoxNumber) (line : LineContent) (after : Stepped) (s : LineState) → IsWellFormed state → Forms after → IsFormedLine call side b line → Forms (by_state state call side b line after s)
+formed_by_state : (state : TerminalState) (call : CallContent) (side : Side) (b : BoxNumber) (line : LineContent) (after : StepResult) (s : LineState) → IsWellFormed state → Forms after → IsFormedLine call side b line → Forms (by_state state call side b line after s)
 formed_by_state state call side b line after LineIsDone formed then its = formed
 formed_by_state state call side b line after Pending formed then its = formed_then call side b line after after.outcome then its
 
-formed_by_line : (state : TerminalState) (call : CallContent) (side : Side) (b : BoxNumber) (o : Option LineContent) (after : Stepped) → IsWellFormed state → Forms after → line_of state call side b ≡ o → Forms (by_line state call side b o after)
+formed_by_line : (state : TerminalState) (call : CallContent) (side : Side) (b : BoxNumber) (o : Option LineContent) (after : StepResult) → IsWellFormed state → Forms after → line_of state call side b ≡ o → Forms (by_line state call side b o after)
 formed_by_line state call side b None after formed then e = formed
 formed_by_line state call side b (Some line) after formed then e = formed_by_state state call side b line after line.state formed then (formed.lines call side b line e)
 
@@ -187,7 +187,7 @@ pub formed_step : (version : Version) (state : TerminalState) (source : Source) 
 formed_step version state source (gate_in entry) whole formed from its =
     either Forms (is_in state entry.number) (with_refusal state AlreadyIn) (after_entry version state Gate source entry) formed (formed_entered version state Gate source entry whole formed from its)
 formed_step version state source (gate_out b moment) whole formed from its = formed_departed state Gate source b moment formed (record { source = from; moment = its })
-formed_step version state source (move b slot) whole formed from its = formed_moved_at version state b slot (yard_with_move (spares version) state.yard b slot) whole formed refl
+formed_step version state source (move b slot) whole formed from its = formed_moved_at version state b slot (yard_with_move (spares_empty version) state.yard b slot) whole formed refl
 formed_step version state source (list_discharge call b) whole formed from its = formed_listed state call Discharge b [] (line_of state call Discharge b) formed (discharge_formed call b its)
 formed_step version state source (list_load call b port) whole formed from its = formed_listed state call Load b port (line_of state call Load b) formed (listing_formed call b port its)
 formed_step version state source (discharge call entry) whole formed from its =

@@ -15,11 +15,11 @@ use Rattle.yard_core.specs.declared.plan.Block.{Block}
 use Rattle.yard_core.specs.declared.placements.Placement.{Placement}
 use Rattle.yard_core.specs.declared.placements.Stowed.{Stowed}
 use Rattle.yard_core.specs.Calls.{PutsBack}
-use Rattle.yard_core.specs.Decisions.{Refusal, present, misfit_of, first_fit, blocker_of, unless_buried, with_misfit, with_slot as with_first_slot, yard_without, removed_at, yard_with_move, shifted_at, is_same_slot}
+use Rattle.yard_core.specs.Decisions.{Refusal, present, misfit_of, first_fit, blocker_of, unless_buried, with_misfit, with_slot as with_first_slot, yard_without, yard_without_at, yard_with_move, yard_with_move_at, is_same_slot}
 use Rattle.yard_core.specs.FitsAndFree.{Stands, IsFree}
 use Rattle.yard_core.specs.Plan.{IsPlan}
 use Rattle.yard_core.specs.SoundYard.{IsSound}
-use Rattle.yard_core.specs.YardMap.{Boxes, YardMap, yard_map, placement, placement_of, placed, stowed}
+use Rattle.yard_core.specs.YardMap.{Boxes, YardMap, yard_map, placement, placement_of, placement_if_any, stowed}
 use Rattle.yard_core.proofs.Boxes.{Drops-remove, insert-remove, get-removed}
 use Rattle.yard_core.proofs.Fitting.{Blocks, blocker_tells}
 use Rattle.yard_core.proofs.Placings.{stands_open, kept_empty}
@@ -37,8 +37,8 @@ use Rattle.terminal_core.specs.declared.change.Version.{Version}
 use Rattle.terminal_core.specs.declared.visits.Way.{Way}
 use Rattle.terminal_core.specs.declared.visits.Way.TheVariants.{Gate, Ship}
 use Rattle.terminal_core.specs.State.{last_number, TerminalState, LineContent, line_of, is_in, empty_state, IsWhole}
-use Rattle.terminal_core.specs.Versions.{spares}
-use Rattle.terminal_core.specs.Step.{Stepped, with_refusal, step_by, yard_with_entry, settled_in, with_slot, is_full, visit_of, after_entry, entered_at, after_departure, departed_at, departure_by, moved_at, listed_at, then_line_done_at, by_line, by_state}
+use Rattle.terminal_core.specs.Versions.{spares_empty}
+use Rattle.terminal_core.specs.Step.{StepResult, with_refusal, step_by, yard_with_entry, yard_with_entry_in, with_slot, is_full, visit_of, after_entry, after_entry_at, after_departure, after_departure_at, departure_by, after_move_at, after_listing_at, then_line_done_at, by_line, by_state}
 use Rattle.terminal_core.proofs.Boxes.{open_of}
 use Rattle.terminal_core.proofs.Told.{moved_as}
 use Rattle.terminal_core.proofs.Changing.{Comes, comes, brought, goes, shifts, either}
@@ -64,11 +64,11 @@ first_plan false None y new b length is_laden slot e = cc
 first_plan false (Some first) y new b length is_laden slot e =
     let p : (yard_map y.plan (finite_map.insert y.boxes b (stowed (placement length first) is_laden)), first) ≡ (new, slot) = cc in sym (ap (λ (q : YardMap × Slot). q.0.plan) p)
 
-settled_plan : (version : Version) (y new : YardMap) (entry : EntryContent) (o : Option Slot) (slot : Slot) → settled_in version y entry o ≡ Ok (new, slot) → new.plan ≡ y.plan
+settled_plan : (version : Version) (y new : YardMap) (entry : EntryContent) (o : Option Slot) (slot : Slot) → yard_with_entry_in version y entry o ≡ Ok (new, slot) → new.plan ≡ y.plan
 settled_plan version y new entry (Some named) slot e =
-    slotted_plan (is_some (finite_map.get y.boxes entry.number)) (misfit_of (spares version && entry.is_laden) y.plan y.boxes (placement (length_of entry.size_type) named)) (yard_map y.plan (finite_map.insert y.boxes entry.number (brought entry named))) new slot named e
+    slotted_plan (is_some (finite_map.get y.boxes entry.number)) (misfit_of (spares_empty version && entry.is_laden) y.plan y.boxes (placement (length_of entry.size_type) named)) (yard_map y.plan (finite_map.insert y.boxes entry.number (brought entry named))) new slot named e
 settled_plan version y new entry None slot e =
-    first_plan (is_some (finite_map.get y.boxes entry.number)) (first_fit (spares version && entry.is_laden) y.plan y.boxes (length_of entry.size_type)) y new entry.number (length_of entry.size_type) entry.is_laden slot e
+    first_plan (is_some (finite_map.get y.boxes entry.number)) (first_fit (spares_empty version && entry.is_laden) y.plan y.boxes (length_of entry.size_type)) y new entry.number (length_of entry.size_type) entry.is_laden slot e
 
 -- ---- what the yard decides, as what its calls do
 
@@ -91,7 +91,7 @@ unburied : (o : Option BoxNumber) (y new : YardMap) (t s : Placement) → unless
 unburied (Some b) y new t s e = cc
 unburied None y new t s e = let p : (y, t) ≡ (new, s) = cc in (refl, sym (ap (λ (q : YardMap × Placement). q.0.plan) p), ap (λ (q : YardMap × Placement). q.1) p)
 
-went_free : (o : Option Placement) (y new : YardMap) (b : BoxNumber) (s : Placement) → removed_at o y b ≡ Ok (new, s) → IsFree (placement_of y.boxes) s × (new.plan ≡ y.plan)
+went_free : (o : Option Placement) (y new : YardMap) (b : BoxNumber) (s : Placement) → yard_without_at o y b ≡ Ok (new, s) → IsFree (placement_of y.boxes) s × (new.plan ≡ y.plan)
 went_free None y new b s e = cc
 went_free (Some t) y new b s e =
     let is = unburied (blocker_of y.boxes t) (yard_map y.plan (finite_map.remove y.boxes b)) new t s e in
@@ -107,24 +107,24 @@ unburied_there (Some b) m y new e = cc
 unburied_there None (Some f) y new e = cc
 unburied_there None None y new e = let p : y ≡ new = cc in (refl, sym (ap (λ (q : YardMap). q.plan) p))
 
-moves_free : (version : Version) (o : Option Stowed) (y new : YardMap) (b : BoxNumber) (slot : Slot) (w : Stowed) → o ≡ Some w → shifted_at (spares version) o y b slot ≡ Ok new → IsFree (placement_of y.boxes) w.placement × (new.plan ≡ y.plan)
+moves_free : (version : Version) (o : Option Stowed) (y new : YardMap) (b : BoxNumber) (slot : Slot) (w : Stowed) → o ≡ Some w → yard_with_move_at (spares_empty version) o y b slot ≡ Ok new → IsFree (placement_of y.boxes) w.placement × (new.plan ≡ y.plan)
 moves_free version None y new b slot w at e = cc
 moves_free version (Some t) y new b slot w at e =
-    let is = unburied_there (blocker_of y.boxes t.placement) (misfit_of (spares version && (t.is_laden && not (is_same_slot slot t.placement.slot))) y.plan (finite_map.remove y.boxes b) (placement t.placement.length slot)) (yard_map y.plan (finite_map.insert y.boxes b (moved_as t slot))) new e in
+    let is = unburied_there (blocker_of y.boxes t.placement) (misfit_of (spares_empty version && (t.is_laden && not (is_same_slot slot t.placement.slot))) y.plan (finite_map.remove y.boxes b) (placement t.placement.length slot)) (yard_map y.plan (finite_map.insert y.boxes b (moved_as t slot))) new e in
     let same : t ≡ w = same_Some t w at in
     let P : Stowed → Type 0 = λ u. IsFree (placement_of y.boxes) u.placement in
     (subst P same (free_of y.boxes t.placement is.0), is.1)
 
 -- ---- steps
 
-abbrev Keeps : Stepped → Type 0
+abbrev Keeps : StepResult → Type 0
 Keeps after = IsWhole after.state
 
 room_left : (limit n : ℕ) → nat_le limit n ≡ false → n < limit
 room_left limit n e = grind (arith, le-leb)
 
 whole_entered_at : (version : Version) (state : TerminalState) (way : Way) (source : Source) (entry : EntryContent) (r : Result (YardMap × Slot) Refusal) → IsWhole state → last_number state.visits < state.limit → yard_with_entry version state.yard entry ≡ r
-    → Keeps (entered_at state way source entry r)
+    → Keeps (after_entry_at state way source entry r)
 whole_entered_at version state way source entry (Err f) whole room e = whole
 whole_entered_at version state way source entry (Ok (y, slot)) whole room e =
     let w : Stowed = brought entry slot in
@@ -132,15 +132,15 @@ whole_entered_at version state way source entry (Ok (y, slot)) whole room e =
     let puts : PutsBack state.yard y entry.number w = came_puts state.yard y entry.number w whole.plan whole.sound (comes version state.yard y entry entry.slot slot e) plan in
     whole_entered state y (visit_of state way source entry slot) w whole puts.adds (sound_with state.yard y (finite_map.insert state.yard.boxes entry.number w) puts.stands plan puts.adds.boxes) refl refl refl room
 
-full_or : (state : TerminalState) (full : Bool) (other : Stepped) → IsWhole state → (full ≡ false → Keeps other) → Keeps (cond full (with_refusal state VisitLimit) other)
+full_or : (state : TerminalState) (full : Bool) (other : StepResult) → IsWhole state → (full ≡ false → Keeps other) → Keeps (cond full (with_refusal state VisitLimit) other)
 full_or state true other whole then = whole
 full_or state false other whole then = then refl
 
 whole_enters : (version : Version) (state : TerminalState) (way : Way) (source : Source) (entry : EntryContent) → IsWhole state → Keeps (after_entry version state way source entry)
 whole_enters version state way source entry whole =
-    full_or state (is_full state) (entered_at state way source entry (yard_with_entry version state.yard entry)) whole (λ room. whole_entered_at version state way source entry (yard_with_entry version state.yard entry) whole (room_left state.limit (last_number state.visits) room) refl)
+    full_or state (is_full state) (after_entry_at state way source entry (yard_with_entry version state.yard entry)) whole (λ room. whole_entered_at version state way source entry (yard_with_entry version state.yard entry) whole (room_left state.limit (last_number state.visits) room) refl)
 
-whole_departed_at : (state : TerminalState) (b : BoxNumber) (departure : Departure) (r : Result (YardMap × Placement) Refusal) → IsWhole state → yard_without state.yard b ≡ r → Keeps (departed_at state b departure r)
+whole_departed_at : (state : TerminalState) (b : BoxNumber) (departure : Departure) (r : Result (YardMap × Placement) Refusal) → IsWhole state → yard_without state.yard b ≡ r → Keeps (after_departure_at state b departure r)
 whole_departed_at state b departure (Err f) whole e = whole
 whole_departed_at state b departure (Ok (y, s)) whole e =
     let went = goes (placement_of state.yard.boxes b) state.yard y b s e in
@@ -151,13 +151,13 @@ whole_departed_at state b departure (Ok (y, s)) whole e =
 whole_departs : (state : TerminalState) (way : Way) (source : Source) (b : BoxNumber) (moment : CivilMoment) → IsWhole state → Keeps (after_departure state way source b moment)
 whole_departs state way source b moment whole = whole_departed_at state b (departure_by way source moment) (yard_without state.yard b) whole refl
 
-whole_moved_at : (version : Version) (state : TerminalState) (b : BoxNumber) (slot : Slot) (r : Result YardMap Refusal) → IsWhole state → yard_with_move (spares version) state.yard b slot ≡ r → Keeps (moved_at state b slot r)
+whole_moved_at : (version : Version) (state : TerminalState) (b : BoxNumber) (slot : Slot) (r : Result YardMap Refusal) → IsWhole state → yard_with_move (spares_empty version) state.yard b slot ≡ r → Keeps (after_move_at state b slot r)
 whole_moved_at version state b slot (Err f) whole e = whole
 whole_moved_at version state b slot (Ok y) whole e =
     let is = shifts version (finite_map.get state.yard.boxes b) state.yard y b slot e in
     let free = moves_free version (finite_map.get state.yard.boxes b) state.yard y b slot is.0 is.1 e in
     let w : Stowed = moved_as is.0 slot in
-    let without = sound_without state.yard b is.0.placement whole.plan whole.sound (ap placed is.1) free.0 in
+    let without = sound_without state.yard b is.0.placement whole.plan whole.sound (ap placement_if_any is.1) free.0 in
     let stands : Stands state.yard.plan (finite_map.remove state.yard.boxes b) b w =
     stands_open state.yard.plan (finite_map.remove state.yard.boxes b) b w without (get-removed state.yard.boxes b) (open_of is.2.is_wary state.yard.plan (finite_map.remove state.yard.boxes b) w.placement whole.plan is.2.fits) in
     whole_moved state y b slot is.0 whole is.1 free.1 is.2.boxes
@@ -165,21 +165,21 @@ whole_moved_at version state b slot (Ok y) whole e =
 
 -- ---- lists
 
-whole_listed_at : (state : TerminalState) (call : CallContent) (side : Side) (b : BoxNumber) (port : List ℕ) (o : Option LineContent) → IsWhole state → Keeps (listed_at state call side b port o)
+whole_listed_at : (state : TerminalState) (call : CallContent) (side : Side) (b : BoxNumber) (port : List ℕ) (o : Option LineContent) → IsWhole state → Keeps (after_listing_at state call side b port o)
 whole_listed_at state call side b port (Some line) whole = whole
 whole_listed_at state call side b port None whole = whole_listed state _ whole
 
-whole_then : (call : CallContent) (side : Side) (b : BoxNumber) (line : LineContent) (after : Stepped) (o : Outcome) → Keeps after → Keeps (then_line_done_at call side b line after o)
+whole_then : (call : CallContent) (side : Side) (b : BoxNumber) (line : LineContent) (after : StepResult) (o : Outcome) → Keeps after → Keeps (then_line_done_at call side b line after o)
 whole_then call side b line after (Refused reason) whole = whole
 whole_then call side b line after (Done slot) whole = whole_listed after.state _ whole
 whole_then call side b line after Gone whole = whole_listed after.state _ whole
 whole_then call side b line after Listed whole = whole_listed after.state _ whole
 
-whole_by_state : (state : TerminalState) (call : CallContent) (side : Side) (b : BoxNumber) (line : LineContent) (after : Stepped) (s : LineState) → IsWhole state → Keeps after → Keeps (by_state state call side b line after s)
+whole_by_state : (state : TerminalState) (call : CallContent) (side : Side) (b : BoxNumber) (line : LineContent) (after : StepResult) (s : LineState) → IsWhole state → Keeps after → Keeps (by_state state call side b line after s)
 whole_by_state state call side b line after LineIsDone whole then = whole
 whole_by_state state call side b line after Pending whole then = whole_then call side b line after after.outcome then
 
-whole_by_line : (state : TerminalState) (call : CallContent) (side : Side) (b : BoxNumber) (o : Option LineContent) (after : Stepped) → IsWhole state → Keeps after → Keeps (by_line state call side b o after)
+whole_by_line : (state : TerminalState) (call : CallContent) (side : Side) (b : BoxNumber) (o : Option LineContent) (after : StepResult) → IsWhole state → Keeps after → Keeps (by_line state call side b o after)
 whole_by_line state call side b None after whole then = whole
 whole_by_line state call side b (Some line) after whole then = whole_by_state state call side b line after line.state whole then
 
@@ -188,7 +188,7 @@ whole_by_line state call side b (Some line) after whole then = whole_by_state st
 pub whole_step : (version : Version) (state : TerminalState) (source : Source) (order : OrderContent) → IsWhole state → Keeps (step_by version state source order)
 whole_step version state source (gate_in entry) whole = either Keeps (is_in state entry.number) (with_refusal state AlreadyIn) (after_entry version state Gate source entry) whole (whole_enters version state Gate source entry whole)
 whole_step version state source (gate_out b moment) whole = whole_departs state Gate source b moment whole
-whole_step version state source (move b slot) whole = whole_moved_at version state b slot (yard_with_move (spares version) state.yard b slot) whole refl
+whole_step version state source (move b slot) whole = whole_moved_at version state b slot (yard_with_move (spares_empty version) state.yard b slot) whole refl
 whole_step version state source (list_discharge call b) whole = whole_listed_at state call Discharge b [] (line_of state call Discharge b) whole
 whole_step version state source (list_load call b port) whole = whole_listed_at state call Load b port (line_of state call Load b) whole
 whole_step version state source (discharge call entry) whole =

@@ -19,8 +19,8 @@ use Rattle.yard_core.specs.declared.placements.Stowed.{Stowed}
 use Rattle.yard_core.specs.declared.yard.YardFault.{YardFault}
 use Rattle.yard_core.specs.declared.yard.YardFault.TheVariants as yard
 use Rattle.yard_core.specs.Plan.{IsSized, IsPlan}
-use Rattle.yard_core.specs.YardMap.{Box, Boxes, YardMap, placement, placement_of, placed, in_bay, below}
-use Rattle.yard_core.specs.SoundYard.{Has, IsCarried, IsSound}
+use Rattle.yard_core.specs.YardMap.{Box, Boxes, YardMap, placement, placement_of, placement_if_any, in_bay, below}
+use Rattle.yard_core.specs.SoundYard.{HasBox, IsCarried, IsSound}
 use Rattle.yard_core.specs.FitsAndFree.{IsOpen}
 use Rattle.yard_core.specs.Calls.{RefusesPutBack}
 use Rattle.yard_core.proofs.Boxes.{box_cases, get-inserted, get-others, found_placed}
@@ -40,15 +40,15 @@ use Rattle.terminal_core.proofs.Counted.{counted_more, some_counted, none_before
 
 module _ (plan : List Block) (all now : Box → Option Placement) (s : Placement) (kept : (q : Box) (t : Placement) → now q ≡ Some t → all q ≡ Some t)
     (lower : (q : Box) (t : Placement) → all q ≡ Some t → t.slot.tier < s.slot.tier → now q ≡ Some t) where
-  Has-lower : (long : Length) (slot : Slot) → slot.tier < s.slot.tier → Has all long slot → Has now long slot
-  Has-lower long slot low h = (h.0, lower h.0 (placement long slot) h.1 low)
+  HasBox-lower : (long : Length) (slot : Slot) → slot.tier < s.slot.tier → HasBox all long slot → HasBox now long slot
+  HasBox-lower long slot low h = (h.0, lower h.0 (placement long slot) h.1 low)
 
   IsCarried-lower : (long : Length) (slot : Slot) → slot.tier ≤ s.slot.tier → 1 ≤ slot.tier → IsCarried all long slot → IsCarried now long slot
   IsCarried-lower long slot low high (inl ground) = inl ground
-  IsCarried-lower Twenty slot low high (inr h) = inr (Has-lower Twenty (below slot) (omega arith) h)
-  IsCarried-lower Forty slot low high (inr (inl h)) = inr (inl (Has-lower Forty (below slot) (omega arith) h))
+  IsCarried-lower Twenty slot low high (inr h) = inr (HasBox-lower Twenty (below slot) (omega arith) h)
+  IsCarried-lower Forty slot low high (inr (inl h)) = inr (inl (HasBox-lower Forty (below slot) (omega arith) h))
   IsCarried-lower Forty slot low high (inr (inr h)) =
-      inr (inr (Has-lower Twenty (in_bay (slot.bay - 1) (below slot)) (omega arith) h.0, Has-lower Twenty (in_bay (slot.bay + 1) (below slot)) (omega arith) h.1))
+      inr (inr (HasBox-lower Twenty (in_bay (slot.bay - 1) (below slot)) (omega arith) h.0, HasBox-lower Twenty (in_bay (slot.bay + 1) (below slot)) (omega arith) h.1))
 
   pub still_open : (b : Box) → All IsSized plan → IsSound plan all → all b ≡ Some s → now b ≡ None → IsOpen plan now s
   still_open b sized sound there absent = record {
@@ -233,13 +233,13 @@ module _ (plan : List Block) (valid : IsPlan plan) (visits : List VisitContent) 
       omega arith)
 
   kept_placed : (q : Box) (t : Placement) → placement_of y.boxes q ≡ Some t → placement_of boxes q ≡ Some t
-  kept_placed q t e = let w = found_placed (finite_map.get y.boxes q) t e in ap placed (kept q w.0 w.1) ∙ ap Some w.2
+  kept_placed q t e = let w = found_placed (finite_map.get y.boxes q) t e in ap placement_if_any (kept q w.0 w.1) ∙ ap Some w.2
 
   lower_placed : (q : Box) (t : Placement) → placement_of boxes q ≡ Some t → t.slot.tier < place.slot.tier → placement_of y.boxes q ≡ Some t
   lower_placed q t e under =
       let w = found_placed (finite_map.get boxes q) t e in
       let tier : w.0.placement.slot.tier ≡ t.slot.tier = ap (λ (s : Placement). s.slot.tier) w.2 in
-      ap placed (lower q w.0 w.1 (omega arith)) ∙ ap Some w.2
+      ap placement_if_any (lower q w.0 w.1 (omega arith)) ∙ ap Some w.2
 
   pub not_unsound : RefusesPut visits y place Unsound → ⊥
   not_unsound refuses =
@@ -247,7 +247,7 @@ module _ (plan : List Block) (valid : IsPlan plan) (visits : List VisitContent) 
       let why = refuses stand.visit stand.names in
       let w : Stowed = stowed_by stand.visit place.slot in
       let P : List Block → Type 0 = λ p. IsOpen p (placement_of y.boxes) w.placement in
-      let open_ : P plan = still_open plan (placement_of boxes) (placement_of y.boxes) w.placement kept_placed lower_placed place.container valid.sized sound (ap placed stand.stands) (ap placed absent) in
+      let open_ : P plan = still_open plan (placement_of boxes) (placement_of y.boxes) w.placement kept_placed lower_placed place.container valid.sized sound (ap placement_if_any stand.stands) (ap placement_if_any absent) in
       not_refused y place.container w why.0 why.1 absent (subst P (sym same_plan) open_) why.2
 
 pub refuses_places : (plan : List Block) (visits : List VisitContent) (places : List Place) (y : YardMap) (i : ℕ) (place : Place) (f : RestoreFault) → IsPlan plan → AreNumbered 0 visits → IsNonDecreasingBy (λ (p : Place). p.slot.tier) places → y.plan ≡ plan

@@ -11,7 +11,7 @@ use Rattle.yard_core.specs.declared.plan.Block.{Block}
 use Rattle.yard_core.specs.declared.placements.Placement.{Placement}
 use Rattle.yard_core.specs.declared.placements.Stowed.{Stowed}
 use Rattle.yard_core.specs.Plan.{IsPlan}
-use Rattle.yard_core.specs.YardMap.{Boxes, placement, placement_of, placed, in_bay, CoversAt, IsKind}
+use Rattle.yard_core.specs.YardMap.{Boxes, placement, placement_of, placement_if_any, in_bay, CoversAt, IsKind}
 use Rattle.yard_core.specs.FitsAndFree.{IsOpen}
 use Rattle.yard_core.specs.Decisions.{misfit_of}
 use Rattle.terminal_core.specs.Rows.{VisitContent}
@@ -56,7 +56,7 @@ number_below state other whole there =
 pub new_place : (is_wary : Bool) (state : TerminalState) (container : BoxNumber) (s : Placement) → IsWhole state → is_some (finite_map.get state.yard.boxes container) ≡ false → misfit_of is_wary state.yard.plan state.yard.boxes s ≡ None
     → IsNewPlace container (last_number state.visits + 1) s.slot (standing_of state)
 new_place is_wary state container s whole absent fits = record {
-  absent = ap (λ o. placed_by (open_visit state container) (placed o)) (none_there (finite_map.get state.yard.boxes container) absent);
+  absent = ap (λ o. placed_by (open_visit state container) (placement_if_any o)) (none_there (finite_map.get state.yard.boxes container) absent);
   slot_free = λ other standing e same. (let t = stands_of (placement_of state.yard.boxes other) (open_visit state other) standing e in
       not_there is_wary state.yard.plan state.yard.boxes s t.0 other whole.plan fits t.1 (whole.sound.of_kind other t.0 t.1) (sym t.2 ∙ same));
   visit_free = λ other standing e same. (let t = stands_of (placement_of state.yard.boxes other) (open_visit state other) standing e in
@@ -65,16 +65,16 @@ new_place is_wary state container s whole absent fits = record {
       absurd (omega arith));
 }
 
-kept_elsewhere : (boxes : Boxes) (b other : BoxNumber) (t : Placement) (is : Bool) → other ≢ b → bytes_eq b other ≡ is → placement_of boxes other ≡ Some t → placed (cond is None (finite_map.get boxes other)) ≡ Some t
+kept_elsewhere : (boxes : Boxes) (b other : BoxNumber) (t : Placement) (is : Bool) → other ≢ b → bytes_eq b other ≡ is → placement_of boxes other ≡ Some t → placement_if_any (cond is None (finite_map.get boxes other)) ≡ Some t
 kept_elsewhere boxes b other t true apart e at = absurd (apart (same_bytes b other e))
 kept_elsewhere boxes b other t false apart e at = at
 
 pub new_slot : (is_wary : Bool) (state : TerminalState) (container : BoxNumber) (w : Stowed) (slot : Slot) → IsWhole state → finite_map.get state.yard.boxes container ≡ Some w
     → misfit_of is_wary state.yard.plan (finite_map.remove state.yard.boxes container) (placement w.placement.length slot) ≡ None → IsNewSlot container slot (standing_of state)
 new_slot is_wary state container w slot whole stood fits = record {
-  there = ap (λ o. is_some (placed_by (open_visit state container) (placed o))) stood;
+  there = ap (λ o. is_some (placed_by (open_visit state container) (placement_if_any o))) stood;
   slot_free = λ other standing apart e same. (let t = stands_of (placement_of state.yard.boxes other) (open_visit state other) standing e in
       not_there is_wary state.yard.plan (finite_map.remove state.yard.boxes container) (placement w.placement.length slot) t.0 other whole.plan fits
-      (ap placed (in_removed_map state.yard.boxes (finite_map.remove state.yard.boxes container) container other refl) ∙ kept_elsewhere state.yard.boxes container other t.0 (bytes_eq container other) apart refl t.1)
+      (ap placement_if_any (in_removed_map state.yard.boxes (finite_map.remove state.yard.boxes container) container other refl) ∙ kept_elsewhere state.yard.boxes container other t.0 (bytes_eq container other) apart refl t.1)
       (whole.sound.of_kind other t.0 t.1) (sym t.2 ∙ same));
 }

@@ -30,10 +30,10 @@ use Rattle.terminal_core.specs.declared.visits.Way.TheVariants.{Ship}
 use Rattle.terminal_core.specs.Rows.{VisitContent, ChangeContent, visit_opened, visit_closed, placed_at, moved_to, removed_from, line_done}
 use Rattle.terminal_core.specs.State.{last_number, TerminalState, LineContent, Lines, is_in, line_key, line_of, IsWhole, open_visit}
 use Rattle.terminal_core.specs.Versions.{newest}
-use Rattle.terminal_core.specs.Step.{Stepped, step_with, with_refusal, is_full, after_entry, entered_at, visit_of, yard_with_entry, after_departure, departed_at, departure_by, close_visit, number_of_visit, after_move, moved_at, with_line, step_discharge, step_load, then_line_done, then_line_done_at, by_line, by_state}
-use Rattle.terminal_core.specs.Calls.{Follows, IsReasonFor, Settles, Unsettled, is_refused}
+use Rattle.terminal_core.specs.Step.{StepResult, step_with, with_refusal, is_full, after_entry, after_entry_at, visit_of, yard_with_entry, after_departure, after_departure_at, departure_by, close_visit, number_of_visit, after_move, after_move_at, with_line, step_discharge, step_load, then_line_done, then_line_done_at, by_line, by_state}
+use Rattle.terminal_core.specs.Calls.{Follows, IsReasonFor, Settles, IsUnsettled, is_refused}
 
-pub follows : (a b : Stepped) (now : TerminalState) (answer : Outcome) (old new : List ChangeContent) → a ≡ b → Follows b now answer old new → Follows a now answer old new
+pub follows : (a b : StepResult) (now : TerminalState) (answer : Outcome) (old new : List ChangeContent) → a ≡ b → Follows b now answer old new → Follows a now answer old new
 follows a b now answer old new e f = record { state = f.state ∙ sym (ap (λ s. s.state) e); outcome = f.outcome ∙ sym (ap (λ s. s.outcome) e); changes = f.changes ∙ sym (ap (λ s. old ++ s.changes) e) }
 
 pub nothing_done : (state : TerminalState) (reason : Reason) (changes : List ChangeContent) → Follows (with_refusal state reason) state (Refused reason) changes changes
@@ -54,23 +54,23 @@ full state none = le-leb state.limit (last_number state.visits) none
 pub refused_full : (state : TerminalState) (way : Way) (source : Source) (entry : EntryContent) (changes : List ChangeContent) → state.limit ≤ last_number state.visits
     → Follows (after_entry newest state way source entry) state (Refused VisitLimit) changes changes
 refused_full state way source entry changes none =
-    follows (after_entry newest state way source entry) (with_refusal state VisitLimit) state _ changes changes (ap (λ v. cond v (with_refusal state VisitLimit) (entered_at state way source entry (yard_with_entry newest state.yard entry))) (full state none)) (nothing_done state VisitLimit changes)
+    follows (after_entry newest state way source entry) (with_refusal state VisitLimit) state _ changes changes (ap (λ v. cond v (with_refusal state VisitLimit) (after_entry_at state way source entry (yard_with_entry newest state.yard entry))) (full state none)) (nothing_done state VisitLimit changes)
 
 entered_is : (state : TerminalState) (way : Way) (source : Source) (entry : EntryContent) (r : Result (YardMap × Slot) Refusal) → last_number state.visits < state.limit → yard_with_entry newest state.yard entry ≡ r
-    → after_entry newest state way source entry ≡ entered_at state way source entry r
+    → after_entry newest state way source entry ≡ after_entry_at state way source entry r
 entered_is state way source entry r room e =
-    ap (λ v. cond v (with_refusal state VisitLimit) (entered_at state way source entry (yard_with_entry newest state.yard entry))) (not_full state room) ∙ ap (entered_at state way source entry) e
+    ap (λ v. cond v (with_refusal state VisitLimit) (after_entry_at state way source entry (yard_with_entry newest state.yard entry))) (not_full state room) ∙ ap (after_entry_at state way source entry) e
 
 pub has_entered : (state : TerminalState) (way : Way) (source : Source) (entry : EntryContent) (y : YardMap) (slot : Slot) (visits : List VisitContent) (old new : List ChangeContent)
     → last_number state.visits < state.limit → Settles state.yard y entry slot → visits ≡ state.visits ++ visit_of state way source entry slot ∷ []
     → new ≡ old ++ visit_opened (visit_of state way source entry slot) ∷ placed_at entry.number (last_number state.visits + 1) slot ∷ []
     → Follows (after_entry newest state way source entry) (record state { yard = y; visits = visits }) (Done slot) old new
 has_entered state way source entry y slot visits old new room settles opened made =
-    follows (after_entry newest state way source entry) (entered_at state way source entry (Ok (y, slot))) _ _ old new (entered_is state way source entry (Ok (y, slot)) room settles.settled)
+    follows (after_entry newest state way source entry) (after_entry_at state way source entry (Ok (y, slot))) _ _ old new (entered_is state way source entry (Ok (y, slot)) room settles.settled)
     (record { state = ap (λ (v : List VisitContent). record state { yard = y; visits = v }) opened; outcome = refl; changes = made })
 
 pub has_not_entered : (state : TerminalState) (way : Way) (source : Source) (entry : EntryContent) (reason : Reason) (changes : List ChangeContent)
-    → last_number state.visits < state.limit → Unsettled state.yard entry reason → Follows (after_entry newest state way source entry) state (Refused reason) changes changes
+    → last_number state.visits < state.limit → IsUnsettled state.yard entry reason → Follows (after_entry newest state way source entry) state (Refused reason) changes changes
 has_not_entered state way source entry reason changes room unsettled =
     follows (after_entry newest state way source entry) (with_refusal state reason) _ _ changes changes
     (entered_is state way source entry (Err unsettled.refusal) room unsettled.settled ∙ ap (with_refusal state) (sym unsettled.reason)) (nothing_done state reason changes)
@@ -85,8 +85,8 @@ pub has_departed : (state : TerminalState) (way : Way) (source : Source) (b : Bo
     → new ≡ old ++ removed_from b ∷ visit_closed number (departure_by way source moment) ∷ []
     → Follows (after_departure state way source b moment) (record state { yard = y; visits = visits }) Gone old new
 has_departed state way source b moment y s visits number old new whole removes shut is made =
-    follows (after_departure state way source b moment) (departed_at state b (departure_by way source moment) (Ok (y, s))) _ _ old new
-    (ap (departed_at state b (departure_by way source moment)) ((remove_is_decided_lem state.yard b (yard_of state whole)).0 y s removes))
+    follows (after_departure state way source b moment) (after_departure_at state b (departure_by way source moment) (Ok (y, s))) _ _ old new
+    (ap (after_departure_at state b (departure_by way source moment)) ((remove_is_decided_lem state.yard b (yard_of state whole)).0 y s removes))
     (record {
       state = ap (λ (v : List VisitContent). record state { yard = y; visits = v }) shut;
       outcome = refl;
@@ -97,21 +97,21 @@ pub has_not_departed : (state : TerminalState) (way : Way) (source : Source) (b 
     → IsWhole state → RefusesRemove state.yard b f → IsReasonFor f reason → y ≡ state.yard → Follows (after_departure state way source b moment) (record state { yard = y }) (Refused reason) changes changes
 has_not_departed state way source b moment f reason y changes whole refuses is stays =
     follows (after_departure state way source b moment) (with_refusal state reason) _ _ changes changes
-    (ap (departed_at state b (departure_by way source moment)) ((remove_is_decided_lem state.yard b (yard_of state whole)).1 is.refusal (let P : YardFault → Type 0 = RefusesRemove state.yard b in subst P is.fault_is refuses)) ∙ ap (with_refusal state) (sym is.reason_is)) (yard_stays state y reason changes stays)
+    (ap (after_departure_at state b (departure_by way source moment)) ((remove_is_decided_lem state.yard b (yard_of state whole)).1 is.refusal (let P : YardFault → Type 0 = RefusesRemove state.yard b in subst P is.fault_is refuses)) ∙ ap (with_refusal state) (sym is.reason_is)) (yard_stays state y reason changes stays)
 
 -- ---- moving
 
 pub has_moved : (state : TerminalState) (b : BoxNumber) (slot : Slot) (y : YardMap) (w : Stowed) (old new : List ChangeContent)
     → IsWhole state → Shifts state.yard y b w slot → new ≡ old ++ moved_to b slot ∷ [] → Follows (after_move newest state b slot) (record state { yard = y }) (Done slot) old new
 has_moved state b slot y w old new whole shifts made =
-    follows (after_move newest state b slot) (moved_at state b slot (Ok y)) _ _ old new (ap (moved_at state b slot) ((shift_is_decided_lem state.yard b slot (yard_of state whole)).0 y w shifts))
+    follows (after_move newest state b slot) (after_move_at state b slot (Ok y)) _ _ old new (ap (after_move_at state b slot) ((shift_is_decided_lem state.yard b slot (yard_of state whole)).0 y w shifts))
     (record { state = refl; outcome = refl; changes = made })
 
 pub has_not_moved : (state : TerminalState) (b : BoxNumber) (slot : Slot) (f : YardFault) (reason : Reason) (y : YardMap) (changes : List ChangeContent)
     → IsWhole state → RefusesShift state.yard b slot f → IsReasonFor f reason → y ≡ state.yard → Follows (after_move newest state b slot) (record state { yard = y }) (Refused reason) changes changes
 has_not_moved state b slot f reason y changes whole refuses is stays =
     follows (after_move newest state b slot) (with_refusal state reason) _ _ changes changes
-    (ap (moved_at state b slot) ((shift_is_decided_lem state.yard b slot (yard_of state whole)).1 is.refusal (let P : YardFault → Type 0 = RefusesShift state.yard b slot in subst P is.fault_is refuses)) ∙ ap (with_refusal state) (sym is.reason_is)) (yard_stays state y reason changes stays)
+    (ap (after_move_at state b slot) ((shift_is_decided_lem state.yard b slot (yard_of state whole)).1 is.refusal (let P : YardFault → Type 0 = RefusesShift state.yard b slot in subst P is.fault_is refuses)) ∙ ap (with_refusal state) (sym is.reason_is)) (yard_stays state y reason changes stays)
 
 -- ---- lines
 
@@ -126,31 +126,31 @@ mapped_some None s e = cc
 mapped_some (Some line) s e = (line, refl, cc)
 
 -- a refused order leaves its line
-not_carried : (call : CallContent) (side : Side) (b : BoxNumber) (line : LineContent) (after : Stepped) (o : Outcome) → is_refused o ≡ true → then_line_done_at call side b line after o ≡ after
+not_carried : (call : CallContent) (side : Side) (b : BoxNumber) (line : LineContent) (after : StepResult) (o : Outcome) → is_refused o ≡ true → then_line_done_at call side b line after o ≡ after
 not_carried call side b line after (Done slot) e = cc
 not_carried call side b line after Gone e = cc
 not_carried call side b line after Listed e = cc
 not_carried call side b line after (Refused reason) e = refl
 
-carried : (call : CallContent) (side : Side) (b : BoxNumber) (line : LineContent) (after : Stepped) (o : Outcome) → is_refused o ≡ false
+carried : (call : CallContent) (side : Side) (b : BoxNumber) (line : LineContent) (after : StepResult) (o : Outcome) → is_refused o ≡ false
     → then_line_done_at call side b line after o ≡ step_with (with_line after.state call side b (record line { state = LineIsDone })) after.outcome (after.changes ++ line_done call side b ∷ [])
 carried call side b line after (Done slot) e = refl
 carried call side b line after Gone e = refl
 carried call side b line after Listed e = refl
 carried call side b line after (Refused reason) e = cc
 
-by_pending : (state : TerminalState) (call : CallContent) (side : Side) (b : BoxNumber) (line : LineContent) (after : Stepped) → line_of state call side b ≡ Some line → line.state ≡ Pending
+by_pending : (state : TerminalState) (call : CallContent) (side : Side) (b : BoxNumber) (line : LineContent) (after : StepResult) → line_of state call side b ≡ Some line → line.state ≡ Pending
     → by_line state call side b (line_of state call side b) after ≡ then_line_done call side b line after
 by_pending state call side b line after there open_ = ap (λ o. by_line state call side b o after) there ∙ ap (by_state state call side b line after) open_
 
-pub line_kept : (state : TerminalState) (call : CallContent) (side : Side) (b : BoxNumber) (line : LineContent) (after : Stepped) (now : TerminalState) (answer : Outcome) (old new : List ChangeContent)
+pub line_kept : (state : TerminalState) (call : CallContent) (side : Side) (b : BoxNumber) (line : LineContent) (after : StepResult) (now : TerminalState) (answer : Outcome) (old new : List ChangeContent)
     → line_of state call side b ≡ Some line → line.state ≡ Pending → Follows after now answer old new → is_refused answer ≡ true
     → Follows (by_line state call side b (line_of state call side b) after) now answer old new
 line_kept state call side b line after now answer old new there open_ follows_ refused_ =
     follows (by_line state call side b (line_of state call side b) after) after now answer old new
     (by_pending state call side b line after there open_ ∙ not_carried call side b line after after.outcome (ap is_refused (sym follows_.outcome) ∙ refused_)) follows_
 
-pub line_closed : (state : TerminalState) (call : CallContent) (side : Side) (b : BoxNumber) (line : LineContent) (after : Stepped) (mid now : TerminalState) (answer : Outcome) (old between new : List ChangeContent)
+pub line_closed : (state : TerminalState) (call : CallContent) (side : Side) (b : BoxNumber) (line : LineContent) (after : StepResult) (mid now : TerminalState) (answer : Outcome) (old between new : List ChangeContent)
     → line_of state call side b ≡ Some line → line.state ≡ Pending → Follows after mid answer old between → is_refused answer ≡ false
     → now ≡ with_line mid call side b (record line { state = LineIsDone }) → new ≡ between ++ line_done call side b ∷ []
     → Follows (by_line state call side b (line_of state call side b) after) now answer old new

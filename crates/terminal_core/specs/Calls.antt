@@ -16,10 +16,10 @@ use Rattle.terminal_core.specs.declared.change.Reason.{Reason}
 use Rattle.terminal_core.specs.Rows.{VisitContent, ChangeContent}
 use Rattle.terminal_core.specs.State.{TerminalState, is_open_visit}
 use Rattle.terminal_core.specs.Versions.{newest}
-use Rattle.terminal_core.specs.Step.{Stepped, yard_with_entry, reason_of}
+use Rattle.terminal_core.specs.Step.{StepResult, yard_with_entry, reason_of}
 
 -- the state, the answer and the changes that were added are those of a step
-pub record Follows (step : Stepped) (now : TerminalState) (answer : Outcome)
+pub record Follows (step : StepResult) (now : TerminalState) (answer : Outcome)
     (old new : List ChangeContent) : Type 0 where
   pub state : now ≡ step.state
   pub outcome : answer ≡ step.outcome
@@ -37,7 +37,7 @@ pub record Settles (old new : YardMap) (entry : EntryContent) (slot : Slot) : Ty
   pub places : Places old new entry.number (stowed (placement (length_of entry.size_type) slot) entry.is_laden)
 
 -- the container of an entry was not placed
-pub record Unsettled (old : YardMap) (entry : EntryContent) (given : Reason) : Type 0 where
+pub record IsUnsettled (old : YardMap) (entry : EntryContent) (given : Reason) : Type 0 where
   pub refusal : Refusal
   pub settled : yard_with_entry newest old entry ≡ Err refusal
   pub reason : given ≡ reason_of refusal

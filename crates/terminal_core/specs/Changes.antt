@@ -43,8 +43,8 @@ rows_of state = record { visits = state.visits; places = standing_of state; line
 -- ---- changes
 
 -- the visit of that number gets the departure, and no other
-abbrev pub closed_as : ℕ → Departure → VisitContent → VisitContent
-closed_as number departure visit = if visit.number == number then record visit { departure = Some departure } else visit
+abbrev pub visit_with_departure : ℕ → Departure → VisitContent → VisitContent
+visit_with_departure number departure visit = if visit.number == number then record visit { departure = Some departure } else visit
 
 abbrev pub standing_elsewhere : Slot → Standing → Standing
 standing_elsewhere slot place = record place { slot = slot }
@@ -56,7 +56,7 @@ with_line_done lines key (Some line) = finite_map.insert lines key (record line 
 -- the rows after a change
 abbrev pub rows_with : TerminalRows → ChangeContent → TerminalRows
 rows_with rows (visit_opened visit) = record rows { visits = rows.visits ++ visit ∷ [] }
-rows_with rows (visit_closed number departure) = record rows { visits = map (closed_as number departure) rows.visits }
+rows_with rows (visit_closed number departure) = record rows { visits = map (visit_with_departure number departure) rows.visits }
 rows_with rows (placed_at container visit slot) =
     record rows { places = update bytes_eq rows.places container (Some (standing_in visit slot)) }
 rows_with rows (moved_to container slot) =
@@ -79,9 +79,9 @@ rows_with rows (unlisted call side container) =
     record rows { lines = finite_map.remove rows.lines (line_key call side container) }
 
 -- the rows after changes, one after another
-abbrev pub all_changed : TerminalRows → List ChangeContent → TerminalRows
-all_changed rows [] = rows
-all_changed rows (change ∷ changes) = all_changed (rows_with rows change) changes
+abbrev pub rows_with_all : TerminalRows → List ChangeContent → TerminalRows
+rows_with_all rows [] = rows
+rows_with_all rows (change ∷ changes) = rows_with_all (rows_with rows change) changes
 
 -- ---- what a change finds
 
@@ -142,20 +142,20 @@ AreApplicable rows (change ∷ changes) = IsApplicable rows change × AreApplica
 abbrev pub ChangesAreAppended : Type 0
 ChangesAreAppended =
     (rows : TerminalRows) (before after : List ChangeContent) →
-    all_changed rows (before ++ after) ≡ all_changed (all_changed rows before) after
+    rows_with_all rows (before ++ after) ≡ rows_with_all (rows_with_all rows before) after
 
 -- they are applicable exactly if those before are, and they are to what those leave
 abbrev pub AreApplicableAppended : Type 0
 AreApplicableAppended =
     (rows : TerminalRows) (before after : List ChangeContent) →
     AreApplicable rows (before ++ after) ↔
-    (AreApplicable rows before × AreApplicable (all_changed rows before) after)
+    (AreApplicable rows before × AreApplicable (rows_with_all rows before) after)
 
 -- the changes of a step turn the rows of the old state into those of the new
 abbrev pub ChangesTurnRows : Type 0
 ChangesTurnRows =
     (version : Version) (state : TerminalState) (source : Source) (order : OrderContent) → IsWhole state
-    → all_changed (rows_of state) (step_by version state source order).changes
+    → rows_with_all (rows_of state) (step_by version state source order).changes
     ≡ rows_of (step_by version state source order).state
 
 -- each change of a step adds, alters or removes one row

@@ -16,7 +16,7 @@ use Rattle.terminal_core.specs.Listings.{is_side}
 use Rattle.terminal_core.specs.Rows.{ChangeContent, unlisted}
 use Rattle.terminal_core.specs.State.{TerminalState, LineContent, LineKey, Lines, line_key, side_code, IsWhole}
 use Rattle.terminal_core.specs.Forms.{IsWellFormed}
-use Rattle.terminal_core.specs.Changes.{rows_of, all_changed, AreApplicable}
+use Rattle.terminal_core.specs.Changes.{rows_of, rows_with_all, AreApplicable}
 
 abbrev pub is_pending : LineState → Bool
 is_pending Pending = true
@@ -50,7 +50,7 @@ without_lines_of call side (container ∷ containers) lines =
     without_lines_of call side containers (finite_map.remove lines (line_key call side container))
 
 -- what a drop leaves, how many lines are gone, and the changes
-pub record Dropped : Type 0 where
+pub record ListDrop : Type 0 where
   pub state : TerminalState
   pub count : ℕ
   pub changes : List ChangeContent
@@ -59,15 +59,15 @@ abbrev pub dropped_lines : Lines → CallContent → Side → Lines
 dropped_lines lines call side = without_lines_of call side (open_containers lines call side) lines
 
 -- the open lines of the call's list are gone, and there is a change for each, by their containers' numbers
-abbrev pub drop : TerminalState → CallContent → Side → Dropped
-drop state call side = record {
+abbrev pub list_drop : TerminalState → CallContent → Side → ListDrop
+list_drop state call side = record {
   state = record state { lines = dropped_lines state.lines call side };
   count = length (open_containers state.lines call side);
   changes = map (unlisted call side) (open_containers state.lines call side);
 }
 
 -- state, count and the changes that were added are those of a drop
-pub record Drops (dropped : Dropped) (now : TerminalState) (count : ℕ) (old new : List ChangeContent) : Type 0 where
+pub record Drops (dropped : ListDrop) (now : TerminalState) (count : ℕ) (old new : List ChangeContent) : Type 0 where
   pub state : now ≡ dropped.state
   pub count_is : count ≡ dropped.count
   pub changes : new ≡ old ++ dropped.changes
@@ -82,26 +82,26 @@ unless_open_on call side key (Some line) = if is_open_on call side (key, line) t
 -- exactly the open lines of the list are gone
 abbrev pub DropsOpenAlone : Type 0
 DropsOpenAlone = (state : TerminalState) (call : CallContent) (side : Side) (key : LineKey) →
-    finite_map.get (drop state call side).state.lines key ≡ unless_open_on call side key (finite_map.get state.lines key)
+    finite_map.get (list_drop state call side).state.lines key ≡ unless_open_on call side key (finite_map.get state.lines key)
 
 -- the changes turn the rows of the old state into those of the new
 abbrev pub DropTurnsRows : Type 0
 DropTurnsRows = (state : TerminalState) (call : CallContent) (side : Side) →
-    all_changed (rows_of state) (drop state call side).changes ≡ rows_of (drop state call side).state
+    rows_with_all (rows_of state) (list_drop state call side).changes ≡ rows_of (list_drop state call side).state
 
 -- each removes a row that is there
 abbrev pub DropIsApplicable : Type 0
 DropIsApplicable = (state : TerminalState) (call : CallContent) (side : Side) →
-    AreApplicable (rows_of state) (drop state call side).changes
+    AreApplicable (rows_of state) (list_drop state call side).changes
 
 -- what is left of a whole state is whole, and of a well-formed one well formed
 abbrev pub DropKeepsWhole : Type 0
 DropKeepsWhole = (state : TerminalState) (call : CallContent) (side : Side) → IsWhole state →
-    IsWhole (drop state call side).state
+    IsWhole (list_drop state call side).state
 
 abbrev pub DropKeepsForms : Type 0
 DropKeepsForms = (state : TerminalState) (call : CallContent) (side : Side) → IsWellFormed state →
-    IsWellFormed (drop state call side).state
+    IsWellFormed (list_drop state call side).state
 
 -- ---- what the code goes by, and no caller has to read
 

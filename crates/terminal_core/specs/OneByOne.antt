@@ -3,7 +3,7 @@ use Rattle.std.specs.Prelude.{◌≡◌, ℕ, ◌+◌, List, [], ◌∷◌}
 use Rattle.edi_messages.specs.Orders.{OrderContent}
 use Rattle.terminal_core.specs.declared.change.Source.{Source}
 use Rattle.terminal_core.specs.declared.change.Version.{Version}
-use Rattle.terminal_core.specs.Changes.{TerminalRows, all_changed, AreApplicable}
+use Rattle.terminal_core.specs.Changes.{TerminalRows, rows_with_all, AreApplicable}
 use Rattle.terminal_core.specs.Rows.{VisitContent, ChangeContent}
 use Rattle.terminal_core.specs.State.{TerminalState, IsWhole}
 use Rattle.terminal_core.specs.Step.{step_by}
@@ -16,7 +16,7 @@ GoOneByOne next (visit ∷ visits) = (visit.number ≡ next) × GoOneByOne (next
 -- changes that are applicable leave them so
 abbrev pub ChangesGoOneByOne : Type 0
 ChangesGoOneByOne = (rows : TerminalRows) (changes : List ChangeContent) → AreApplicable rows changes →
-    GoOneByOne 1 rows.visits → GoOneByOne 1 (all_changed rows changes).visits
+    GoOneByOne 1 rows.visits → GoOneByOne 1 (rows_with_all rows changes).visits
 
 -- an order leaves them so, by the rules of any version
 abbrev pub StepsGoOneByOne : Type 0

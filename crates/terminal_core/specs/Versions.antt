@@ -7,7 +7,7 @@ abbrev pub newest : Version
 newest = Third
 
 -- empty containers are spared: no full one is put on them
-abbrev pub spares : Version → Bool
-spares First = false
-spares Second = false
-spares Third = true
+abbrev pub spares_empty : Version → Bool
+spares_empty First = false
+spares_empty Second = false
+spares_empty Third = true

@@ -2,7 +2,7 @@ ghost use Rattle.std.proofs.Common.{rules};
 ghost use Rattle.std.specs.Cmp.Rules.{comparing};
 ghost use Rattle.std.specs.Prelude.{◌≡◌, ◌==◌, ◌&&◌, ◌≢◌, IfOk, OnErr, MatchResult};
 ghost use Rattle.edi_messages.specs.Owned.{entry_content};
-ghost use Rattle.terminal_core.specs.Calls.{IsReasonFor, Settles, Unsettled};
+ghost use Rattle.terminal_core.specs.Calls.{IsReasonFor, Settles, IsUnsettled};
 ghost use Rattle.yard_core.specs.Plan.{IsPlan};
 ghost use Rattle.yard_core.specs.SoundYard.{IsSound};
 ghost use Rattle.yard_core.specs.YardMap.{placement_of};
@@ -165,7 +165,7 @@ pub(crate) fn settle(yard: &mut Yard, entry: &Entry) -> Result<Result<Slot, Reas
     requires sound { IsSound yard.old.plan (placement_of yard.old.boxes) }
     ensures ok { IfOk result
         (λ answer. MatchResult answer (Settles yard.old yard.new (entry_content entry.now))
-        (Unsettled yard.old (entry_content entry.now))) }
+        (IsUnsettled yard.old (entry_content entry.now))) }
     ensures refused { IfOk result (λ answer. OnErr answer (yard.new ≡ yard.old)) }
     ensures err { OnErr result (yard.new ≡ yard.old) }
     ensures sound { IsSound yard.new.plan (placement_of yard.new.boxes) }

@@ -6,7 +6,7 @@ ghost use Rattle.yard_core.specs.YardMap.{placement_of};
 ghost use Rattle.edi_messages.specs.Owned.{call_content};
 ghost use Rattle.terminal_core.specs.Rows.{visit_content, change_content};
 ghost use Rattle.terminal_core.specs.State.{TerminalState, empty_state, last_visit, line_of, open_visit, IsWhole};
-ghost use Rattle.terminal_core.specs.Drop.{drop, Drops};
+ghost use Rattle.terminal_core.specs.Drop.{list_drop, Drops};
 ghost use Rattle.terminal_core.specs.Listings.{lines_of};
 ghost use Rattle.terminal_core.specs.Restoring.{AreOnce, AreRowsOf, RefusesRows};
 
@@ -169,7 +169,7 @@ impl Terminal {
         changes: &mut Vec<Change>,
     ) -> Result<u32, AllocError>
         ensures ok { IfOk result
-            (λ count. Drops (drop self.old (call_content call.now) side) self.new count
+            (λ count. Drops (list_drop self.old (call_content call.now) side) self.new count
             (map change_content changes.old.items) (map change_content changes.new.items)) }
         ensures err { OnErr result (self.new ≡ self.old) }
         ensures kept { OnErr result (changes.new.items ≡ changes.old.items) }

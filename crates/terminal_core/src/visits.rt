@@ -6,7 +6,7 @@ ghost use Rattle.terminal_core.specs.Calls.{HasOneVisit};
 ghost use Rattle.terminal_core.specs.Index.{AreIndexed, AreLastIndexed, HasRoom};
 ghost use Rattle.terminal_core.specs.Rows.{visit_content, change_content, visit_closed};
 ghost use Rattle.terminal_core.specs.State.{is_open_visit, is_visit_of, last_number};
-ghost use Rattle.terminal_core.specs.Step.{closed_visit, number_of_visit, opened_by, departure_by};
+ghost use Rattle.terminal_core.specs.Step.{closed_visit, number_of_visit, opened_visit, departure_by};
 
 use crate::change::{Change, Source};
 use crate::restoring::append;
@@ -285,7 +285,7 @@ pub(crate) fn opened_visit(
     slot: Slot,
 ) -> Visit
     requires { string_bytes booking ≡ string_bytes entry.now.booking }
-    ensures { visit_content result ≡ opened_by number way source (entry_content entry.now) slot }
+    ensures { visit_content result ≡ opened_visit number way source (entry_content entry.now) slot }
 {
     Visit {
         number,

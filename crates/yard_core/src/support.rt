@@ -5,7 +5,7 @@ ghost use Rattle.yard_core.specs.Decisions.{blocker_on};
 ghost use Rattle.yard_core.specs.FitsAndFree.{MisfitsBy, RestsOnEmpty};
 ghost use Rattle.yard_core.specs.Plan.{IsSized, block_of, IsPlan};
 ghost use Rattle.yard_core.specs.Search.{IsInTier, IsInBlock, IsInBay, NoneOpen, IsFirstOpen};
-ghost use Rattle.yard_core.specs.YardMap.{Boxes, placement_of, placed, yard_map};
+ghost use Rattle.yard_core.specs.YardMap.{Boxes, placement_of, placement_if_any, yard_map};
 ghost use Rattle.std.specs.FinMap as finite_map;
 
 use crate::columns::Columns;
@@ -75,7 +75,7 @@ fn stowed_in(
 
 /// Whether the containers below the two ends carry this one.
 fn bears(placement: Placement, near: Option<Stowed>, far: Option<Stowed>) -> bool
-    ensures { result ≡ bears placement.length placement.slot (placed near) (placed far) }
+    ensures { result ≡ bears placement.length placement.slot (placement_if_any near) (placement_if_any far) }
 {
     match placement.length {
         Length::Twenty => is_twenty(near),
@@ -107,7 +107,7 @@ fn is_empty(stowed: Option<Stowed>) -> bool
 }
 
 fn is_twenty(stowed: Option<Stowed>) -> bool
-    ensures { result ≡ is_twenty (placed stowed) }
+    ensures { result ≡ is_twenty (placement_if_any stowed) }
 {
     match stowed {
         Some(stowed) => match stowed.placement.length {
@@ -119,7 +119,7 @@ fn is_twenty(stowed: Option<Stowed>) -> bool
 }
 
 fn is_forty_in(bay: u16, stowed: Option<Stowed>) -> bool
-    ensures { result ≡ is_forty_in bay (placed stowed) }
+    ensures { result ≡ is_forty_in bay (placement_if_any stowed) }
 {
     match stowed {
         Some(stowed) => match stowed.placement.length {

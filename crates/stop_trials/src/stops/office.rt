@@ -170,7 +170,7 @@ fn told<S: Alter + Drop>(
     key: &str,
 ) -> Option<String> {
     match read_query(alloc, kind, key) {
-        Ok(Some(query)) => desk.told(alloc, &query).ok()?,
+        Ok(Some(query)) => desk.find_report(alloc, &query).ok()?,
         _ => None,
     }
 }

@@ -101,7 +101,7 @@ fn what_waits_for_a_new_partner_is_told(rt: HostRuntime) -> Result<(), Fail> {
     let mut desk = Desk::open(rt.alloc(), conn)?;
     assert_asked(&rt, rt.alloc(), &mut desk, &[(b"HAULC", b"gate", ADDED)]);
     assert_sent(&rt, rt.alloc(), &mut desk, &[(SECOND, 202)]);
-    let told = desk.told(rt.alloc(), &Query::Partners)?;
+    let told = desk.find_report(rt.alloc(), &Query::Partners)?;
     assert!(&rt; told.as_deref() == Some(PARTNERS));
     Ok(())
 }

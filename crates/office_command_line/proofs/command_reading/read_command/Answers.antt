@@ -3,7 +3,7 @@ use Rattle.std.proofs.lemmas.Result.{IfErr-weaker, IfOk-weaker}
 use Rattle.clap.specs.Simple.{is_simple}
 use Rattle.clap.specs.Words.{App, Row, Text, subcommand_of, subcommand_rows_of, kind_of, fault_of, IsAmong, is_simple_and_free}
 use Rattle.office_command_line.specs.Commands.{office_app, init_app, deliver_app, serve_app, report_app, texts_app, account_app, migrate_app, explain_app, demo_app}
-use Rattle.office_command_line.specs.Requests.{request_asked, met_asks, words_ask, RefusesMet, RefusesWords, WordsAsk}
+use Rattle.office_command_line.specs.Requests.{request_content, request_met, request_of_words, RefusesMet, RefusesWords, WordsAsk}
 use Rattle.office_command_line.specs.declared.command_reading.CommandFault.{CommandFault}
 use Rattle.office_command_line.specs.declared.command_reading.CommandFault.TheVariants.{Words, Values, Memory}
 use Rattle.office_command_line.proofs.command_reading.read_command.Goals as goal
@@ -23,8 +23,8 @@ returns-in-Ok-try_get_matches_from-clause-ok c =
     ap (λ (a : App). fault_of a words) (sym is_office) ∙ c.in-Ok-try_get_matches_from.ensures.kinds (ap is_simple_and_free is_office) in
     let found : subcommand_rows_of c.in-Ok-try_get_matches_from.matches ≡ subcommand_of office_app words =
     (c.in-Ok-try_get_matches_from.ensures.matches (ap is_simple is_office)).1 ∙ ap (λ (a : App). subcommand_of a words) is_office in
-    let P : Option (Text × List Row) → Type 0 = λ o. IfOk c.request_in.result (λ request. met_asks o ≡ Some (request_asked request)) in
-    IfOk-weaker c.request_in.result (λ request. words_ask words ≡ Some (request_asked request)) (λ request. WordsAsk words (request_asked request))
+    let P : Option (Text × List Row) → Type 0 = λ o. IfOk c.request_in.result (λ request. request_met o ≡ Some (request_content request)) in
+    IfOk-weaker c.request_in.result (λ request. request_of_words words ≡ Some (request_content request)) (λ request. WordsAsk words (request_content request))
     (λ request asks. (taken, asks)) (subst P found c.request_in.ensures.ok)
 
 pub returns-in-Ok-try_get_matches_from-clause-err : goal.returns-in-Ok-try_get_matches_from-clause-err

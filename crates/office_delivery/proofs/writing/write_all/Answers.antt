@@ -1,6 +1,6 @@
 use Rattle.std.proofs.Common.{ap}
 use Rattle.sqlite.specs.Held.{state}
-use Rattle.office_rows.specs.Effects.{with_kept}
+use Rattle.office_rows.specs.Effects.{with_waiting}
 use Rattle.office_tables.proofs.WritesLemmas.{writes_then_if_open}
 use Rattle.office_history.specs.Cascade.{with_interchanges}
 use Rattle.office_delivery.specs.Taken.{taken_content, taken_contents}
@@ -11,7 +11,7 @@ pub returns-in_ok-keep-in_default-clause-writes : goal.returns-in_ok-keep-in_def
 returns-in_ok-keep-in_default-clause-writes g c =
     let a = c.args in
     let mid = state g.S.Store c.keep.new.tx.conn.now in
-    writes_then_if_open (with_kept a.partner a.number a.text.now) (with_interchanges a.partner (taken_contents a.taken.now)) _ mid _ _ c.write_interchanges-in_default.result
+    writes_then_if_open (with_waiting a.partner a.number a.text.now) (with_interchanges a.partner (taken_contents a.taken.now)) _ mid _ _ c.write_interchanges-in_default.result
     c.in_ok-keep-in_default.ensures.writes c.write_interchanges-in_default.ensures.writes
 
 pub returns-in_ok-write_first-in-Some-clause-writes : goal.returns-in_ok-write_first-in-Some-clause-writes

@@ -6,7 +6,7 @@ use Rattle.office_tables.specs.Faults.{IsOfStoreOr}
 use Rattle.office_tables.proofs.FaultLemmas.{of_store_weaker}
 use Rattle.office_desk.specs.Causes.{AsksUnreadable, HasUnfitReplyOf, LacksReply, LacksSome}
 use Rattle.office_setup.specs.Setups.{setup_content}
-use Rattle.office_desk.specs.Reports.{TellsOf, TellsReplyOf, contrl_told, partner_called, ticket_of}
+use Rattle.office_desk.specs.Reports.{TellsOf, TellsReplyOf, contrl_for_partner, partner_called, ticket_of}
 use Rattle.office_desk.proofs.PartnerLemmas.{some_lacks}
 use Rattle.office_desk.proofs.ReportLemmas.{called}
 use Rattle.office_desk.proofs.answers.tell.Goals as goal
@@ -59,7 +59,7 @@ returns-in-Some-partner_called-2-clause-told g c clean =
     let there : partner_called content own ≡ Some id = called a.setup.now c.deref-in-Contrl.result.now own (Some id) (sym c.in-Some-partner_called-2.is ∙ c.partner_called-in-Contrl.ensures) c.deref-in-Contrl.ensures in
     if_ok c.tell_contrl.result (λ found told. λ rows has once.
     subst (λ q. TellsOf content a.terminal.now rows q (option_map string_bytes found)) (sym c.in-Contrl.is)
-    (told rows has once ∙ sym (ap (contrl_told rows c.in-Contrl.number) there)))
+    (told rows has once ∙ sym (ap (contrl_for_partner rows c.in-Contrl.number) there)))
     (c.tell_contrl.ensures.told clean)
 
 pub returns-in-None-partner_called-2-clause-told : goal.returns-in-None-partner_called-2-clause-told
@@ -68,7 +68,7 @@ returns-in-None-partner_called-2-clause-told g c clean rows has once =
     let content = setup_content a.setup.now in
     let own = string_bytes c.in-Contrl.partner in
     let there : partner_called content own ≡ None = called a.setup.now c.deref-in-Contrl.result.now own None (sym c.in-None-partner_called-2.is ∙ c.partner_called-in-Contrl.ensures) c.deref-in-Contrl.ensures in
-    subst (λ q. TellsOf content a.terminal.now rows q None) (sym c.in-Contrl.is) (sym (ap (contrl_told rows c.in-Contrl.number) there))
+    subst (λ q. TellsOf content a.terminal.now rows q None) (sym c.in-Contrl.is) (sym (ap (contrl_for_partner rows c.in-Contrl.number) there))
 
 -- ---- why it can't be told
 

@@ -51,7 +51,7 @@ returns-then-delivery-next-clause-takes g c new =
 -- ---- one that is early
 
 pub returns-then-next-delivery-clause-now : goal.returns-then-next-delivery-clause-now
-returns-then-next-delivery-clause-now g c = if_ok c.take_early.result (λ response told. is_now response c.args.delivery.now.code.now c.args.delivery.now.number (Waiting c.args.next) told) c.take_early.ensures.told
+returns-then-next-delivery-clause-now g c = if_ok c.keep_early.result (λ response told. is_now response c.args.delivery.now.code.now c.args.delivery.now.number (Waiting c.args.next) told) c.keep_early.ensures.told
 
 pub returns-then-next-delivery-clause-takes : goal.returns-then-next-delivery-clause-takes
 returns-then-next-delivery-clause-takes g c new =
@@ -59,24 +59,24 @@ returns-then-next-delivery-clause-takes g c new =
     let d = a.delivery.now in
     let content = setup_content a.setup.now in
     let was = state g.S.Store a.conn.now in
-    let end = state g.S.Store c.take_early.new.conn in
+    let end = state g.S.Store c.keep_early.new.conn in
     let partner = d.admitted.partner in
-    let told = c.take_early.ensures.told in
-    let writes = c.take_early.ensures.writes in
+    let told = c.keep_early.ensures.told in
+    let writes = c.keep_early.ensures.writes in
     let later = c.if-next-delivery.true in
     record {
       events = λ clean is_open opening es holds.
           early_events opening es (delivery_of d) d.code.now content was end (Some a.there) a.next holds (new.free holds.rows holds.has) (next_is opening es a.there partner a.next holds.beside c.requires.next) later
-          c.take_early.result told (writes.ok clean) (writes.err clean is_open);
+          c.keep_early.result told (writes.ok clean) (writes.err clean is_open);
       crash = λ clean was_open opening es sent holds leaves comes.
           early_leaves opening es (delivery_of d) d.code.now content was end (Some a.there) a.next holds (new.free holds.rows holds.has) (next_is opening es a.there partner a.next holds.beside c.requires.next) later
-          sent c.take_early.result comes leaves told (writes.ok clean) (writes.crash.crash clean);
+          sent c.keep_early.result comes leaves told (writes.ok clean) (writes.crash.crash clean);
       office = λ clean is_open old holds.
           let most = c.requires.delivered.admitted.known in
           let many : length content.partners ≡ length a.setup.now.partners.items = length-map a.setup.now.partners.items _ in
           let one = c.requires.delivered.admitted.from_one in
           let is_next = next_found content old was.committed (Some a.there) holds partner a.next a.there one holds.beside c.requires.next in
-          early_or_stays content old (delivery_of d) d.code.now c.take_early.result was end a.there a.next holds is_next (new.free old.rows holds.has) later c.requires.delivered.number one (omega (arith, most, many))
+          early_or_stays content old (delivery_of d) d.code.now c.keep_early.result was end a.there a.next holds is_next (new.free old.rows holds.has) later c.requires.delivered.number one (omega (arith, most, many))
           told (writes.ok clean) (writes.err clean is_open) writes.fault;
     }
 
@@ -150,4 +150,4 @@ returns-in_err-answer-clause-takes g c new =
 
 pub returns-then-next-delivery-clause-is_open : goal.returns-then-next-delivery-clause-is_open
 returns-then-next-delivery-clause-is_open g c clean =
-    on_ok c.take_early.result (λ (done : Commits _ (state g.S.Store c.args.conn.now) (state g.S.Store c.take_early.new.conn)). done.is_open) (c.take_early.ensures.writes.ok clean)
+    on_ok c.keep_early.result (λ (done : Commits _ (state g.S.Store c.args.conn.now) (state g.S.Store c.keep_early.new.conn)). done.is_open) (c.keep_early.ensures.writes.ok clean)

@@ -3,7 +3,7 @@ use Rattle.std.proofs.lemmas.Option.{IfSome_then}
 use Rattle.std.proofs.lemmas.Result.{IfOk-weaker}
 use Rattle.httparse.specs.Grammar.{RequestHead}
 use Rattle.httparse.specs.Spans.{name_and_value}
-use Rattle.office_http.specs.Deciding.{body_size, wanted_at, wanted_behind}
+use Rattle.office_http.specs.Deciding.{body_size, wanted_bytes_at, wanted_bytes_after}
 use Rattle.office_http.specs.Fields.{body_length}
 use Rattle.office_http.specs.Routes.{endpoint_of}
 use Rattle.office_http.specs.declared.routes.Endpoint.{Endpoint}
@@ -15,32 +15,32 @@ use Rattle.office_http.proofs.requests.read_asked.Goals as goal
 -- behind the head of an account its body is wanted
 account_wanted : (head : RequestHead) (method target : List ℕ) (fields : List (List ℕ × List ℕ)) (to : Result Endpoint Refusal) → to ≡ Ok Accounts →
     to ≡ endpoint_of method target → method ≡ head.method → target ≡ head.target → fields ≡ map name_and_value head.fields →
-    wanted_behind head ≡ body_size (body_length fields)
-unfolding wanted_behind
+    wanted_bytes_after head ≡ body_size (body_length fields)
+unfolding wanted_bytes_after
 account_wanted head method target fields to posts leads same_method same_target same_fields =
     let there : endpoint_of head.method head.target ≡ Ok Accounts =
     ap (λ (t : List ℕ). endpoint_of head.method t) (sym same_target) ∙ ap (λ (m : List ℕ). endpoint_of m target) (sym same_method) ∙ sym leads ∙ posts in
-    ap (λ (at : Result Endpoint Refusal). wanted_at at head) there ∙ ap (λ (fs : List (List ℕ × List ℕ)). body_size (body_length fs)) (sym same_fields)
+    ap (λ (at : Result Endpoint Refusal). wanted_bytes_at at head) there ∙ ap (λ (fs : List (List ℕ × List ℕ)). body_size (body_length fs)) (sym same_fields)
 
 -- behind the head of a partner's delivery its body is wanted
 own_wanted : (head : RequestHead) (method target : List ℕ) (fields : List (List ℕ × List ℕ)) (to : Result Endpoint Refusal) → to ≡ Ok PartnerInterchanges →
     to ≡ endpoint_of method target → method ≡ head.method → target ≡ head.target → fields ≡ map name_and_value head.fields →
-    wanted_behind head ≡ body_size (body_length fields)
-unfolding wanted_behind
+    wanted_bytes_after head ≡ body_size (body_length fields)
+unfolding wanted_bytes_after
 own_wanted head method target fields to posts leads same_method same_target same_fields =
     let there : endpoint_of head.method head.target ≡ Ok PartnerInterchanges =
     ap (λ (t : List ℕ). endpoint_of head.method t) (sym same_target) ∙ ap (λ (m : List ℕ). endpoint_of m target) (sym same_method) ∙ sym leads ∙ posts in
-    ap (λ (at : Result Endpoint Refusal). wanted_at at head) there ∙ ap (λ (fs : List (List ℕ × List ℕ)). body_size (body_length fs)) (sym same_fields)
+    ap (λ (at : Result Endpoint Refusal). wanted_bytes_at at head) there ∙ ap (λ (fs : List (List ℕ × List ℕ)). body_size (body_length fs)) (sym same_fields)
 
 -- behind the head of a delivery its body is wanted
 body_wanted : (head : RequestHead) (method target : List ℕ) (fields : List (List ℕ × List ℕ)) (to : Result Endpoint Refusal) → to ≡ Ok Interchanges →
     to ≡ endpoint_of method target → method ≡ head.method → target ≡ head.target → fields ≡ map name_and_value head.fields →
-    wanted_behind head ≡ body_size (body_length fields)
-unfolding wanted_behind
+    wanted_bytes_after head ≡ body_size (body_length fields)
+unfolding wanted_bytes_after
 body_wanted head method target fields to posts leads same_method same_target same_fields =
     let there : endpoint_of head.method head.target ≡ Ok Interchanges =
     ap (λ (t : List ℕ). endpoint_of head.method t) (sym same_target) ∙ ap (λ (m : List ℕ). endpoint_of m target) (sym same_method) ∙ sym leads ∙ posts in
-    ap (λ (at : Result Endpoint Refusal). wanted_at at head) there ∙ ap (λ (fs : List (List ℕ × List ℕ)). body_size (body_length fs)) (sym same_fields)
+    ap (λ (at : Result Endpoint Refusal). wanted_bytes_at at head) there ∙ ap (λ (fs : List (List ℕ × List ℕ)). body_size (body_length fs)) (sym same_fields)
 
 pub returns-in-Ok-Interchanges-clause-decided : goal.returns-in-Ok-Interchanges-clause-decided
 returns-in-Ok-Interchanges-clause-decided g c = λ head at.

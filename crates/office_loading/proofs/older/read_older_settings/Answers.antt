@@ -1,12 +1,12 @@
 use Rattle.std.proofs.Common.{◌≡◌, Ok, Err, true, false, [], ◌∷◌, map, refl, sym, ap, ◌∙◌}
 use Rattle.std.proofs.lemmas.Result.{err_from_is_err_and}
 use Rattle.sqlite.specs.Held.{state}
-use Rattle.office_rows.specs.Tables.{setting}
+use Rattle.office_rows.specs.Tables.{setting_table}
 use Rattle.office_rows.specs.Values.{setting_values}
 use Rattle.office_checks.specs.Contents.{setting_content}
 use Rattle.office_tables.specs.declared.table_fault.TableFault.TheVariants.{Damaged}
 use Rattle.office_loading.specs.Columns.{is_older, SaysSetting}
-use Rattle.office_loading.specs.Decoded.{Said}
+use Rattle.office_loading.specs.Decoded.{IsSaid}
 use Rattle.office_loading.specs.Fits.{FitsSetting}
 use Rattle.office_loading.proofs.TableLemmas.{reads_table}
 use Rattle.office_loading.specs.Older.{HasOlder, NamesOlder}
@@ -27,7 +27,7 @@ returns-in_err-settings-clause-read g c clean layout is =
     let rows = c.in_ok-rows.rows.items in
     let shown = c.in_ok-rows.ensures.shown clean layout is in
     let some : is_older rows ≡ true = sym (ap is_older c.deref.ensures.value) ∙ sym c.is_older.ensures ∙ c.if-not-is_older.false in
-    let fails = reads_table (0 ∷ 1 ∷ []) (0 ∷ 1 ∷ []) (λ r. refl) setting (0 ∷ []) (λ r. refl) old.now rows shown (Unit {0}) setting_content setting_values FitsSetting
+    let fails = reads_table (0 ∷ 1 ∷ []) (0 ∷ 1 ∷ []) (λ r. refl) setting_table (0 ∷ []) (λ r. refl) old.now rows shown (Unit {0}) setting_content setting_values FitsSetting
     c.deref-2.result.now c.deref-2.ensures.value (Err c.in_err-settings.field-0.0) c.in_err-settings.ensures in
     let p = err_from_is_err_and c.from_residual-in_err-settings.result c.from_residual-in_err-settings.ensures.1 in
     rw (p.1, p.2) (fails_named (HasOlder old.now) (FailsTable FitsSetting (ShowsSettings old.now) Damaged) c.in_err-settings.field-0.0 (older_there old.now rows shown some) fails)
@@ -38,7 +38,7 @@ returns-clause-read g c clean layout is =
     let rows = c.in_ok-rows.rows.items in
     let shown = c.in_ok-rows.ensures.shown clean layout is in
     let some : is_older rows ≡ true = sym (ap is_older c.deref.ensures.value) ∙ sym c.is_older.ensures ∙ c.if-not-is_older.false in
-    let read = reads_table (0 ∷ 1 ∷ []) (0 ∷ 1 ∷ []) (λ r. refl) setting (0 ∷ []) (λ r. refl) old.now rows shown _ setting_content setting_values FitsSetting
+    let read = reads_table (0 ∷ 1 ∷ []) (0 ∷ 1 ∷ []) (λ r. refl) setting_table (0 ∷ []) (λ r. refl) old.now rows shown _ setting_content setting_values FitsSetting
     c.deref-2.result.now c.deref-2.ensures.value (Ok c.in_ok-settings.settings) c.in_ok-settings.ensures in
     (older_there old.now rows shown some, map setting_content c.in_ok-settings.settings.items, c.in_ok-migrated_settings.ensures, read.0, read.1)
 
@@ -67,7 +67,7 @@ returns-in_err-settings-clause-version g c clean tree has =
     let some : is_older rows ≡ true = sym (ap is_older c.deref.ensures.value) ∙ sym c.is_older.ensures ∙ c.if-not-is_older.false in
     let named = names_older old.now tree rows (c.in_ok-rows.ensures.there clean tree has) some in
     let p = err_from_is_err_and c.from_residual-in_err-settings.result c.from_residual-in_err-settings.ensures.1 in
-    rw (p.1, p.2) (decoding_tells (Unit {0}) (Said SaysSetting) c.deref-2.result.now (NamesOlder (old.now.trees tree)) c.in_err-settings.field-0.0 named c.in_err-settings.ensures)
+    rw (p.1, p.2) (decoding_tells (Unit {0}) (IsSaid SaysSetting) c.deref-2.result.now (NamesOlder (old.now.trees tree)) c.in_err-settings.field-0.0 named c.in_err-settings.ensures)
 
 pub returns-clause-version : goal.returns-clause-version
 returns-clause-version g c clean tree has =

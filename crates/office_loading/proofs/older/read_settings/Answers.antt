@@ -1,7 +1,7 @@
 use Rattle.std.proofs.Common.{◌≡◌, true, false, [], ◌∷◌, refl, sym, ap, ◌∙◌}
 use Rattle.std.specs.List.{list_any}
 use Rattle.sqlite.specs.Held.{state}
-use Rattle.office_rows.specs.Tables.{setting}
+use Rattle.office_rows.specs.Tables.{setting_table}
 use Rattle.office_rows.specs.Layouts.{weighed}
 use Rattle.office_rows.specs.Opening.{tables_version}
 use Rattle.office_rows.specs.Values.{setting_values}
@@ -26,7 +26,7 @@ returns-clause-read g c clean is =
     let shown = c.in_ok-stored.ensures.shown clean weighed is in
     let some : list_any (names_version tables_version) rows ≡ true = sym (ap (list_any (names_version tables_version)) c.deref.ensures.value) ∙ sym c.has_version.ensures ∙ c.if-not-has_version.false in
     reads_settings setting_content old.now c.read_all.result (version_there old.now rows shown tables_version some)
-    (reads_table (0 ∷ 1 ∷ []) (0 ∷ 1 ∷ []) (λ r. refl) setting (0 ∷ []) (λ r. refl) old.now rows shown _ setting_content setting_values FitsSetting
+    (reads_table (0 ∷ 1 ∷ []) (0 ∷ 1 ∷ []) (λ r. refl) setting_table (0 ∷ []) (λ r. refl) old.now rows shown _ setting_content setting_values FitsSetting
     c.deref-2.result.now c.deref-2.ensures.value c.read_all.result c.read_all.ensures)
 
 -- ---- under any schema

@@ -1,7 +1,7 @@
 use Rattle.std.proofs.Common.{[], ◌∷◌}
 use Rattle.sqlite.specs.Held.{state}
 use Rattle.sqlite.specs.State.{Shown}
-use Rattle.office_rows.specs.Values.{number}
+use Rattle.office_rows.specs.Values.{number_value}
 use Rattle.office_tables.proofs.ReadingLemmas.{reads_shown, reads_failed}
 use Rattle.office_loading.proofs.WaitingQuery.{select_waiting, waiting_shows, finds_waiting}
 use Rattle.office_loading.proofs.selecting.select_waiting.Goals as goal
@@ -10,7 +10,7 @@ pub returns-clause-shown : goal.returns-clause-shown
 returns-clause-shown g c clean rows has =
     let old = state g.S.Store c.args.conn.now in
     let new = state g.S.Store c.query_all.new.self in
-    let params = number c.args.partner ∷ number c.args.next ∷ [] in
+    let params = number_value c.args.partner ∷ number_value c.args.next ∷ [] in
     let h : Shown select_waiting params old new c.in_ok-query_all.field-0.items = rw (c.integer.ensures, c.integer-2.ensures) at (c.in_ok-query_all.ensures.ok clean) in
     finds_waiting old new rows c.in_ok-query_all.field-0.items has c.args.partner c.args.next h
 

@@ -2,7 +2,7 @@ use Rattle.office_rows.specs.Bare.{weighed_in}
 use Rattle.std.proofs.Common.{[], ◌∷◌, refl}
 use Rattle.sqlite.specs.Held.{state}
 use Rattle.office_loading.specs.Decoded.{itself}
-use Rattle.office_rows.specs.Tables.{block}
+use Rattle.office_rows.specs.Tables.{block_table}
 use Rattle.office_rows.specs.Values.{block_values}
 use Rattle.office_loading.specs.Fits.{FitsBlock}
 use Rattle.office_loading.proofs.TableLemmas.{reads_table}
@@ -11,5 +11,5 @@ use Rattle.office_loading.proofs.table_reading.read_blocks.Goals as goal
 pub returns-clause-read : goal.returns-clause-read
 returns-clause-read g c clean layout is =
     let old = state g.S.Store c.args.conn.now in
-    reads_table (0 ∷ 1 ∷ 2 ∷ 3 ∷ []) (0 ∷ 1 ∷ 2 ∷ 3 ∷ []) (λ r. refl) block (0 ∷ []) (λ r. refl) (weighed_in layout old.now) c.in_ok-rows.rows.items (c.in_ok-rows.ensures.shown clean layout is) _ itself block_values FitsBlock
+    reads_table (0 ∷ 1 ∷ 2 ∷ 3 ∷ []) (0 ∷ 1 ∷ 2 ∷ 3 ∷ []) (λ r. refl) block_table (0 ∷ []) (λ r. refl) (weighed_in layout old.now) c.in_ok-rows.rows.items (c.in_ok-rows.ensures.shown clean layout is) _ itself block_values FitsBlock
     c.deref.result.now c.deref.ensures.value c.read_all.result c.read_all.ensures

@@ -2,7 +2,7 @@ use Rattle.std.proofs.Common.{[], ◌∷◌, refl}
 use Rattle.sqlite.specs.Held.{state}
 use Rattle.terminal_core.specs.declared.lines.Listing.{Listing}
 use Rattle.office_rows.specs.Rows.{listing_content}
-use Rattle.office_rows.specs.Tables.{listed}
+use Rattle.office_rows.specs.Tables.{listing_table}
 use Rattle.office_rows.specs.Bare.{weighed_in}
 use Rattle.office_rows.specs.Shown.{ShowsTable}
 use Rattle.office_rows.specs.Values.{line_values}
@@ -10,7 +10,7 @@ use Rattle.office_rows.proofs.Reading as texts
 use Rattle.office_rows.proofs.Listed.{lists_listed}
 use Rattle.office_loading.proofs.QueryTexts.{listed_shows}
 use Rattle.office_loading.specs.Columns.{SaysLine}
-use Rattle.office_loading.specs.Decoded.{Said}
+use Rattle.office_loading.specs.Decoded.{IsSaid}
 use Rattle.office_loading.specs.Fits.{FitsLine}
 use Rattle.office_loading.specs.Tables.{ReadsTable, ShowsLines}
 use Rattle.office_loading.proofs.AnswerLemmas.{whole_listed, from_shown}
@@ -25,8 +25,8 @@ returns-clause-read g c clean layout is =
     let old = state g.S.Store c.args.conn.now in
     let new = state g.S.Store c.read_shown.new.conn in
     let db = weighed_in layout old.now in
-    from_shown _ (λ row (read : Listing). SaysLine row (listing_content read)) (Said SaysLine) texts.select_listed old new (whole_listed old new layout is)
-    (ShowsTable listed (0 ∷ 1 ∷ 2 ∷ 3 ∷ 4 ∷ 5 ∷ []) (0 ∷ 1 ∷ 2 ∷ 3 ∷ []) db) (λ answer shown. lists_listed old new answer layout is shown)
+    from_shown _ (λ row (read : Listing). SaysLine row (listing_content read)) (IsSaid SaysLine) texts.select_listed old new (whole_listed old new layout is)
+    (ShowsTable listing_table (0 ∷ 1 ∷ 2 ∷ 3 ∷ 4 ∷ 5 ∷ []) (0 ∷ 1 ∷ 2 ∷ 3 ∷ []) db) (λ answer shown. lists_listed old new answer layout is shown)
     (ReadsTable listing_content FitsLine (ShowsLines db))
-    (λ answer it result all. reads_table (0 ∷ 1 ∷ 2 ∷ 3 ∷ 4 ∷ 5 ∷ []) (0 ∷ 1 ∷ 2 ∷ 3 ∷ 4 ∷ 5 ∷ []) (λ r. refl) listed (0 ∷ 1 ∷ 2 ∷ 3 ∷ []) (λ r. refl) db answer it _ listing_content line_values FitsLine answer refl result all)
+    (λ answer it result all. reads_table (0 ∷ 1 ∷ 2 ∷ 3 ∷ 4 ∷ 5 ∷ []) (0 ∷ 1 ∷ 2 ∷ 3 ∷ 4 ∷ 5 ∷ []) (λ r. refl) listing_table (0 ∷ 1 ∷ 2 ∷ 3 ∷ []) (λ r. refl) db answer it _ listing_content line_values FitsLine answer refl result all)
     (store_fails FitsLine (ShowsLines db)) c.read_shown.result (c.read_shown.ensures.read clean)

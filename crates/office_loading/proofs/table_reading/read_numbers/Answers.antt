@@ -2,7 +2,7 @@ use Rattle.std.proofs.Common.{[], ◌∷◌, refl}
 use Rattle.sqlite.specs.Held.{state}
 use Rattle.office_checks.specs.Contents.{number_content}
 use Rattle.office_checks.specs.declared.numbers.NumberRow.{NumberRow}
-use Rattle.office_rows.specs.Tables.{interchange}
+use Rattle.office_rows.specs.Tables.{interchange_table}
 use Rattle.office_rows.specs.Bare.{weighed_in}
 use Rattle.office_rows.specs.Opened.{ShowsNumbers}
 use Rattle.office_rows.specs.Shown.{ShowsTable}
@@ -10,7 +10,7 @@ use Rattle.office_rows.proofs.Reading as texts
 use Rattle.office_rows.proofs.Listed.{lists_interchange}
 use Rattle.office_loading.proofs.QueryTexts.{interchange_shows}
 use Rattle.office_loading.specs.Columns.{SaysNumbered}
-use Rattle.office_loading.specs.Decoded.{Said}
+use Rattle.office_loading.specs.Decoded.{IsSaid}
 use Rattle.office_loading.specs.Fits.{FitsNumber}
 use Rattle.office_loading.specs.Tables.{ReadsTable}
 use Rattle.office_loading.proofs.AnswerLemmas.{whole_interchange, from_shown}
@@ -25,7 +25,7 @@ returns-clause-read g c clean layout is =
     let old = state g.S.Store c.args.conn.now in
     let new = state g.S.Store c.read_shown.new.conn in
     let db = weighed_in layout old.now in
-    from_shown _ (λ row (read : NumberRow). SaysNumbered row (number_content read)) (Said SaysNumbered) texts.select_interchange old new (whole_interchange old new layout is)
-    (ShowsTable interchange (0 ∷ 1 ∷ 3 ∷ []) (0 ∷ 1 ∷ []) db) (λ answer shown. lists_interchange old new answer layout is shown)
+    from_shown _ (λ row (read : NumberRow). SaysNumbered row (number_content read)) (IsSaid SaysNumbered) texts.select_interchange old new (whole_interchange old new layout is)
+    (ShowsTable interchange_table (0 ∷ 1 ∷ 3 ∷ []) (0 ∷ 1 ∷ []) db) (λ answer shown. lists_interchange old new answer layout is shown)
     (ReadsTable number_content FitsNumber (ShowsNumbers db)) (λ answer it result all. reads_numbers db answer it _ number_content answer refl result all)
     (store_fails FitsNumber (ShowsNumbers db)) c.read_shown.result (c.read_shown.ensures.read clean)

@@ -2,7 +2,7 @@ use Rattle.office_rows.specs.Bare.{weighed_in}
 use Rattle.std.proofs.Common.{[], ◌∷◌, refl}
 use Rattle.sqlite.specs.Held.{state}
 use Rattle.office_checks.specs.Contents.{place_content}
-use Rattle.office_rows.specs.Tables.{place}
+use Rattle.office_rows.specs.Tables.{place_table}
 use Rattle.office_rows.specs.Values.{place_values}
 use Rattle.office_loading.specs.Fits.{FitsPlace}
 use Rattle.office_loading.proofs.TableLemmas.{reads_table}
@@ -11,5 +11,5 @@ use Rattle.office_loading.proofs.table_reading.read_places.Goals as goal
 pub returns-clause-read : goal.returns-clause-read
 returns-clause-read g c clean layout is =
     let old = state g.S.Store c.args.conn.now in
-    reads_table (0 ∷ 1 ∷ 2 ∷ []) (0 ∷ 1 ∷ 2 ∷ []) (λ r. refl) place (0 ∷ []) (λ r. refl) (weighed_in layout old.now) c.in_ok-rows.rows.items (c.in_ok-rows.ensures.shown clean layout is) _ place_content place_values FitsPlace
+    reads_table (0 ∷ 1 ∷ 2 ∷ []) (0 ∷ 1 ∷ 2 ∷ []) (λ r. refl) place_table (0 ∷ []) (λ r. refl) (weighed_in layout old.now) c.in_ok-rows.rows.items (c.in_ok-rows.ensures.shown clean layout is) _ place_content place_values FitsPlace
     c.deref.result.now c.deref.ensures.value c.read_all.result c.read_all.ensures

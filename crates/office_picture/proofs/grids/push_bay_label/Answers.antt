@@ -1,6 +1,6 @@
 use Rattle.std.proofs.Common.{◌++◌, ◌∷◌, [], ap, ◌∙◌, codes, decimal, string_bytes}
 use Rattle.std.proofs.lemmas.Result.{on_ok_weaker}
-use Rattle.office_picture.specs.Fields.{joined}
+use Rattle.office_picture.specs.Fields.{joined_pieces}
 use Rattle.office_picture.specs.Views.{bay_label}
 use Rattle.office_picture.proofs.grids.push_bay_label.Goals as goal
 
@@ -10,5 +10,5 @@ returns c =
     let middle = c.as_str.ensures.value ∙ c.in_ok-middle.ensures.ok ∙ ap decimal c.middle_of.ensures in
     let bay = c.as_str-2.ensures.value ∙ c.in_ok-bay.ensures.ok in
     on_ok_weaker c.push_all.result
-    (λ e. e ∙ (λ i. string_bytes c.args.text.now ++ joined (codes "<text x='" ∷ middle i ∷ codes "' y='15'>" ∷ bay i ∷ codes "</text>" ∷ [])))
+    (λ e. e ∙ (λ i. string_bytes c.args.text.now ++ joined_pieces (codes "<text x='" ∷ middle i ∷ codes "' y='15'>" ∷ bay i ∷ codes "</text>" ∷ [])))
     c.push_all.ensures

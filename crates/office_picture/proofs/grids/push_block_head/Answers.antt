@@ -1,6 +1,6 @@
 use Rattle.std.proofs.Common.{◌++◌, ◌∷◌, [], ap, ◌∙◌, codes, decimal, string_bytes}
 use Rattle.std.proofs.lemmas.Result.{on_ok_weaker}
-use Rattle.office_picture.specs.Fields.{joined}
+use Rattle.office_picture.specs.Fields.{joined_pieces}
 use Rattle.office_picture.specs.Views.{block_head}
 use Rattle.office_picture.proofs.grids.push_block_head.Goals as goal
 
@@ -12,5 +12,5 @@ returns c =
     let used = c.as_str-3.ensures.value ∙ c.in_ok-used.ensures.ok ∙ ap decimal c.used_cells.ensures in
     let cells = c.as_str-4.ensures.value ∙ c.in_ok-cells.ensures.ok ∙ ap decimal c.cells_of.ensures in
     on_ok_weaker c.push_all.result
-    (λ e. e ∙ (λ i. string_bytes c.args.text.now ++ joined (codes "<section id='block-" ∷ target i ∷ codes "'><h2>Block " ∷ name i ∷ codes "<small>" ∷ used i ∷ codes " of " ∷ cells i ∷ codes " cells used</small></h2>\n" ∷ [])))
+    (λ e. e ∙ (λ i. string_bytes c.args.text.now ++ joined_pieces (codes "<section id='block-" ∷ target i ∷ codes "'><h2>Block " ∷ name i ∷ codes "<small>" ∷ used i ∷ codes " of " ∷ cells i ∷ codes " cells used</small></h2>\n" ∷ [])))
     c.push_all.ensures

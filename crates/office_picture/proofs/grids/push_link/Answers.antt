@@ -1,6 +1,6 @@
 use Rattle.std.proofs.Common.{◌++◌, ◌∷◌, [], ap, ◌∙◌, codes, string_bytes}
 use Rattle.std.proofs.lemmas.Result.{on_ok_weaker}
-use Rattle.office_picture.specs.Fields.{joined}
+use Rattle.office_picture.specs.Fields.{joined_pieces}
 use Rattle.office_picture.specs.Views.{block_link}
 use Rattle.office_picture.proofs.grids.push_link.Goals as goal
 
@@ -10,5 +10,5 @@ returns c =
     let target = c.as_str.ensures.value ∙ c.in_ok-letter.ensures in
     let name = c.as_str-2.ensures.value ∙ c.in_ok-letter.ensures in
     on_ok_weaker c.push_all.result
-    (λ e. e ∙ (λ i. string_bytes c.args.text.now ++ joined (codes "<a href='#block-" ∷ target i ∷ codes "'>Block " ∷ name i ∷ codes "</a>\n" ∷ [])))
+    (λ e. e ∙ (λ i. string_bytes c.args.text.now ++ joined_pieces (codes "<a href='#block-" ∷ target i ∷ codes "'>Block " ∷ name i ∷ codes "</a>\n" ∷ [])))
     c.push_all.ensures

@@ -1,6 +1,6 @@
 use Rattle.std.proofs.Common.{◌++◌, ◌∷◌, [], ap, ◌∙◌, codes, decimal, string_bytes}
 use Rattle.std.proofs.lemmas.Result.{on_ok_weaker}
-use Rattle.office_picture.specs.Fields.{joined}
+use Rattle.office_picture.specs.Fields.{joined_pieces}
 use Rattle.office_picture.specs.Views.{row_head}
 use Rattle.office_picture.proofs.grids.push_row_head.Goals as goal
 
@@ -14,5 +14,5 @@ returns c =
     let again = c.as_str-5.ensures.value ∙ c.in_ok-width.ensures.ok ∙ ap decimal c.width_of.ensures in
     let letter = c.as_str-6.ensures.value ∙ c.in_ok-letter.ensures in
     on_ok_weaker c.push_all.result
-    (λ e. e ∙ (λ i. string_bytes c.args.text.now ++ joined (codes "<figure><figcaption>Row " ∷ row i ∷ codes "</figcaption><svg viewBox='-22 -" ∷ top i ∷ codes " " ∷ width i ∷ codes " " ∷ height i ∷ codes "' width='" ∷ again i ∷ codes "'><use href='#" ∷ letter i ∷ codes "'/>\n" ∷ [])))
+    (λ e. e ∙ (λ i. string_bytes c.args.text.now ++ joined_pieces (codes "<figure><figcaption>Row " ∷ row i ∷ codes "</figcaption><svg viewBox='-22 -" ∷ top i ∷ codes " " ∷ width i ∷ codes " " ∷ height i ∷ codes "' width='" ∷ again i ∷ codes "'><use href='#" ∷ letter i ∷ codes "'/>\n" ∷ [])))
     c.push_all.ensures

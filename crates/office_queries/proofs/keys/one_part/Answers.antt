@@ -1,6 +1,6 @@
 use Rattle.std.proofs.Common.{ap, sym, lit<}
 use Rattle.std.proofs.lemmas.Str.Pattern.{split_parts}
-use Rattle.office_queries.specs.Keys.{one}
+use Rattle.office_queries.specs.Keys.{one_part}
 use Rattle.office_queries.proofs.Parting.{one_part_of, not_one}
 use Rattle.office_queries.proofs.keys.one_part.Goals as goal
 
@@ -12,4 +12,4 @@ returns-in-Some c =
 pub returns-in-None : goal.returns-in-None
 returns-in-None c =
     let none = rw c.in-None.is at (split_parts 47 c.args.key.now c.split_once.result c.split_once.ensures.cases (lit< tt)) in
-    sym (ap one (one_part_of c.args.key.now none))
+    sym (ap one_part (one_part_of c.args.key.now none))

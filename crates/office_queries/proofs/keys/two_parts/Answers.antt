@@ -1,13 +1,13 @@
 use Rattle.std.proofs.Common.{ℕ, List, Option, option_map, Bor, ap, sym, lit<, ◌∙◌}
 use Rattle.std.proofs.lemmas.Str.Pattern.{split_parts}
-use Rattle.office_queries.specs.Keys.{two}
+use Rattle.office_queries.specs.Keys.{two_parts}
 use Rattle.office_queries.proofs.Parting.{one_part_of, two_parts_of}
 use Rattle.office_queries.proofs.keys.two_parts.Goals as goal
 
 pub returns-in-None : goal.returns-in-None
 returns-in-None c =
     let none = rw c.in-None.is at (split_parts 47 c.args.key.now c.split_once.result c.split_once.ensures.cases (lit< tt)) in
-    sym (ap two (one_part_of c.args.key.now none))
+    sym (ap two_parts (one_part_of c.args.key.now none))
 
 pub returns-in-Some-one_part : goal.returns-in-Some-one_part
 returns-in-Some-one_part c =

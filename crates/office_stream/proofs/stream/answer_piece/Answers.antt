@@ -1,6 +1,6 @@
 use Rattle.std.proofs.Common.{None, Some, length, refl, sym, subst, ◌∙◌}
 use Rattle.std.proofs.lemmas.List.{take_rest, take-append-drop}
-use Rattle.edi_cutter.specs.Cuts.{Answers, pending}
+use Rattle.edi_cutter.specs.Cuts.{Answers, pending_bytes}
 use Rattle.office_stream.proofs.PieceLemmas.{Used, nothing_done, piece_more, piece_cut_short, piece_ends, used_some, ends_used_up, ends_cut}
 use Rattle.office_stream.proofs.PlaceLemmas.{not_yet, followed_more, followed_whole, followed_cut}
 use Rattle.office_stream.proofs.Writing.{on_err}
@@ -11,13 +11,13 @@ pieces-init g c = record {
   running = c.requires;
   kept = refl;
   flushed = λ all. all;
-  done = nothing_done g.D.Deliver.leads c.args.desk.now (pending c.args.cutter.now) c.args.piece.now _ _;
-  placed = λ bytes follows. not_yet c.args.place.now bytes c.args.piece.now (pending c.args.cutter.now) follows;
+  done = nothing_done g.D.Deliver.leads c.args.desk.now (pending_bytes c.args.cutter.now) c.args.piece.now _ _;
+  placed = λ bytes follows. not_yet c.args.place.now bytes c.args.piece.now (pending_bytes c.args.cutter.now) follows;
 }
 
 pub pieces-preserved : goal.pieces-preserved
 pieces-preserved g c =
-    let q = pending c.pieces.cutter in
+    let q = pending_bytes c.pieces.cutter in
     let rest = c.pieces.rest.now in
     let n = c.in-Ok-Some.used in
     let answer : Answers q rest c.feed.new.self (Some n) = rw c.in-Ok-Some.field-0-is at (c.in-Ok-Some.ensures.ok c.pieces.invariant.running) in
@@ -38,7 +38,7 @@ pieces-preserved g c =
 
 pub returns-in_err-answer_one-in-Ok-Some-clause-cut_short : goal.returns-in_err-answer_one-in-Ok-Some-clause-cut_short
 returns-in_err-answer_one-in-Ok-Some-clause-cut_short g c =
-    let q = pending c.pieces.cutter in
+    let q = pending_bytes c.pieces.cutter in
     let rest = c.pieces.rest.now in
     let n = c.in-Ok-Some.used in
     let answer : Answers q rest c.feed.new.self (Some n) = rw c.in-Ok-Some.field-0-is at (c.in-Ok-Some.ensures.ok c.pieces.invariant.running) in
@@ -50,7 +50,7 @@ returns-in_err-answer_one-in-Ok-Some-clause-cut_short g c =
 
 pub returns-in-Ok-None-clause-ok : goal.returns-in-Ok-None-clause-ok
 returns-in-Ok-None-clause-ok g c =
-    let q = pending c.pieces.cutter in
+    let q = pending_bytes c.pieces.cutter in
     let rest = c.pieces.rest.now in
     let answer : Answers q rest c.feed.new.self None = rw c.in-Ok-None.field-0-is at (c.in-Ok-None.ensures.ok c.pieces.invariant.running) in
     piece_ends g.D.Deliver.leads c.args.desk.now _ _ _ c.pieces.desk _ c.pieces.worst _ _
@@ -58,24 +58,24 @@ returns-in-Ok-None-clause-ok g c =
 
 pub returns-in-Ok-None-clause-placed : goal.returns-in-Ok-None-clause-placed
 returns-in-Ok-None-clause-placed g c bytes follows =
-    let q = pending c.pieces.cutter in
+    let q = pending_bytes c.pieces.cutter in
     let rest = c.pieces.rest.now in
     let answer : Answers q rest c.feed.new.self None = rw c.in-Ok-None.field-0-is at (c.in-Ok-None.ensures.ok c.pieces.invariant.running) in
-    followed_whole c.pieces.place c.meet.new.self c.pass.new.self bytes c.args.piece.now q rest (pending c.feed.new.self) c.at_rest.result (length rest)
+    followed_whole c.pieces.place c.meet.new.self c.pass.new.self bytes c.args.piece.now q rest (pending_bytes c.feed.new.self) c.at_rest.result (length rest)
     (c.pieces.invariant.placed bytes follows) c.at_rest.ensures refl c.meet.ensures c.pass.ensures (ends_used_up q rest c.feed.new.self answer _ refl)
 
 pub returns-in-Err-clause-placed : goal.returns-in-Err-clause-placed
 returns-in-Err-clause-placed g c bytes follows =
-    let q = pending c.pieces.cutter in
+    let q = pending_bytes c.pieces.cutter in
     let rest = c.pieces.rest.now in
     followed_cut c.pieces.place c.meet.new.self bytes c.args.piece.now q rest c.at_rest.result c.in-Err.fault
     (c.pieces.invariant.placed bytes follows) c.at_rest.ensures c.meet.ensures
-    (ends_cut q rest c.pieces.cutter c.feed.new.self c.in-Err.fault (c.in-Err.ensures.err c.pieces.invariant.running) (pending c.feed.new.self) _ refl)
+    (ends_cut q rest c.pieces.cutter c.feed.new.self c.in-Err.fault (c.in-Err.ensures.err c.pieces.invariant.running) (pending_bytes c.feed.new.self) _ refl)
 
 pub returns-in-Err-clause-ok : goal.returns-in-Err-clause-ok
 returns-in-Err-clause-ok g c =
-    let q = pending c.pieces.cutter in
+    let q = pending_bytes c.pieces.cutter in
     let rest = c.pieces.rest.now in
     piece_ends g.D.Deliver.leads c.args.desk.now _ _ _ c.pieces.desk _ c.pieces.worst _ _
-    (ends_cut q rest c.pieces.cutter c.feed.new.self c.in-Err.fault (c.in-Err.ensures.err c.pieces.invariant.running) (pending c.feed.new.self))
+    (ends_cut q rest c.pieces.cutter c.feed.new.self c.in-Err.fault (c.in-Err.ensures.err c.pieces.invariant.running) (pending_bytes c.feed.new.self))
     c.pieces.invariant.done

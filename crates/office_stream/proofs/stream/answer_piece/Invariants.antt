@@ -1,5 +1,5 @@
 use Rattle.std.proofs.Common.{◌≡◌, ◌++◌, ℕ, List, None, length, true}
-use Rattle.edi_cutter.specs.Cuts.{pending}
+use Rattle.edi_cutter.specs.Cuts.{pending_bytes}
 use Rattle.office_stream.specs.Pieces.{PieceAnswered}
 use Rattle.office_stream.specs.Places.{Follows}
 use Rattle.office_stream.proofs.PieceLemmas.{IsLeft}
@@ -11,9 +11,9 @@ invariant-pieces g l = record {
   running : l.cutter.fault ≡ None;
   kept : l.writer.failed ≡ l.fn.writer.failed;
   flushed : l.fn.writer.flushed ≡ true → l.writer.flushed ≡ true;
-  done : PieceAnswered g.D.Deliver.leads l.fn.desk (IsLeft (pending l.cutter) l.rest)
-      (pending l.fn.cutter ++ l.piece) l.desk l.fn.before l.worst (g.W.Write.contents l.fn.writer.inner) (g.W.Write.contents l.writer.inner);
-  placed : (bytes : List ℕ) → Follows l.fn.place bytes (pending l.fn.cutter) → Followed l.place bytes l.piece l.rest (pending l.cutter);
+  done : PieceAnswered g.D.Deliver.leads l.fn.desk (IsLeft (pending_bytes l.cutter) l.rest)
+      (pending_bytes l.fn.cutter ++ l.piece) l.desk l.fn.before l.worst (g.W.Write.contents l.fn.writer.inner) (g.W.Write.contents l.writer.inner);
+  placed : (bytes : List ℕ) → Follows l.fn.place bytes (pending_bytes l.fn.cutter) → Followed l.place bytes l.piece l.rest (pending_bytes l.cutter);
 }
 
 abbrev pub decreases-pieces : goal.decreases-pieces

@@ -1,7 +1,7 @@
 use Rattle.std.proofs.Common.{◌≡◌, ◌≢◌, ◌⊎◌, ◌++◌, [], None, Some, inl, inr, refl, sym, ◌∙◌, arith, take}
 use Rattle.std.proofs.KnownBytes.{Consumes-trans}
 use Rattle.std.proofs.lemmas.Bool.{ne_eqb}
-use Rattle.edi_cutter.specs.Cuts.{pending}
+use Rattle.edi_cutter.specs.Cuts.{pending_bytes}
 use Rattle.office_stream.specs.declared.stream.StreamEnd.TheVariants.{Whole, Open, Cut}
 use Rattle.office_stream.proofs.PlaceLemmas.{read_nothing, read_more, stopped, cut_at_end, cut_at_fault}
 use Rattle.office_stream.proofs.Writing.{on_ok}
@@ -20,15 +20,15 @@ reads-init g c = record {
   ended = λ going. going;
   most = omega arith;
   least = omega arith;
-  sofar = nothing_read g.D.Deliver.leads c.args.desk.now _ (pending c.new-cutter.result) _ (starts_empty c.new-cutter.result c.new-cutter.ensures);
-  placed = read_nothing (g.R.Read.remaining c.args.reader.now.inner) _ (pending c.new-cutter.result) refl (starts_empty c.new-cutter.result c.new-cutter.ensures);
+  sofar = nothing_read g.D.Deliver.leads c.args.desk.now _ (pending_bytes c.new-cutter.result) _ (starts_empty c.new-cutter.result c.new-cutter.ensures);
+  placed = read_nothing (g.R.Read.remaining c.args.reader.now.inner) _ (pending_bytes c.new-cutter.result) refl (starts_empty c.new-cutter.result c.new-cutter.ensures);
 }
 
 pub reads-preserved : goal.reads-preserved
 reads-preserved g c =
     let piece = take c.in-Ok.count c.read.new.buf in
-    let q = pending c.reads.cutter in
-    let q' = pending c.answer_piece.new.cutter in
+    let q = pending_bytes c.reads.cutter in
+    let q' = pending_bytes c.answer_piece.new.cutter in
     let done = piece_at g.D.Deliver.leads c.reads.desk c.in_ok-worst_now.fault None q' _ c.answer_piece.new.desk c.reads.worst c.in_ok-worst_now.worst_now _ _ c.in_default.is c.in_ok-worst_now.ensures.ok in
     record {
       running = c.in_ok-worst_now.ensures.running c.in_default.is;
@@ -50,32 +50,32 @@ reads-preserved g c =
 
 pub returns-in-Err-clause-streams : goal.returns-in-Err-clause-streams
 returns-in-Err-clause-streams g c =
-    began g.D.Deliver.leads c.args.desk.now _ _ _ (pending c.reads.cutter) c.reads.desk c.reads.worst _ _ c.reads.invariant.sofar c.in-Err.ensures.bytes
+    began g.D.Deliver.leads c.args.desk.now _ _ _ (pending_bytes c.reads.cutter) c.reads.desk c.reads.worst _ _ c.reads.invariant.sofar c.in-Err.ensures.bytes
 
 pub returns-then-count-eq0-clause-streams : goal.returns-then-count-eq0-clause-streams
 returns-then-count-eq0-clause-streams g c =
     let reads = c.in-Ok.ensures.bytes in
     let none = c.if-count-eq0.true in
-    let how : ((c.if-at_rest.end ≡ Whole) × (pending c.reads.cutter ≡ [])) ⊎ ((c.if-at_rest.end ≡ Open) × (pending c.reads.cutter ≢ [])) = elim c.if-at_rest.branch [
-      | then-at_rest w ↦ inl (w.end-is, nil_is (pending c.reads.cutter) (sym c.at_rest.ensures ∙ w.if-at_rest.true))
-      | else-at_rest w ↦ inr (w.end-is, nil_is_not (pending c.reads.cutter) (sym c.at_rest.ensures ∙ w.if-at_rest.false))
+    let how : ((c.if-at_rest.end ≡ Whole) × (pending_bytes c.reads.cutter ≡ [])) ⊎ ((c.if-at_rest.end ≡ Open) × (pending_bytes c.reads.cutter ≢ [])) = elim c.if-at_rest.branch [
+      | then-at_rest w ↦ inl (w.end-is, nil_is (pending_bytes c.reads.cutter) (sym c.at_rest.ensures ∙ w.if-at_rest.true))
+      | else-at_rest w ↦ inr (w.end-is, nil_is_not (pending_bytes c.reads.cutter) (sym c.at_rest.ensures ∙ w.if-at_rest.false))
     ] in
     finished g.D.Deliver.leads c.args.desk.now _ _ c.if-at_rest.end c.reads.desk c.reads.worst _ _ _ c.finish.result _
-    (input_ends g.D.Deliver.leads c.args.desk.now _ _ _ (pending c.reads.cutter) c.if-at_rest.end c.reads.desk c.reads.worst _ _
+    (input_ends g.D.Deliver.leads c.args.desk.now _ _ _ (pending_bytes c.reads.cutter) c.if-at_rest.end c.reads.desk c.reads.worst _ _
     c.reads.invariant.sofar (nothing_taken _ _ c.in-Ok.count c.read.new.buf none reads.0) (reads.1 none (omega (arith, c.read.auto.buf))) how)
     c.finish.ensures.ok c.finish.ensures.writes c.finish.ensures.err
 
 pub returns-in_err-worst_now-clause-streams : goal.returns-in_err-worst_now-clause-streams
 returns-in_err-worst_now-clause-streams g c =
     passed_on g.D.Deliver.leads c.args.desk.now _ c.answer_piece.new.desk c.from_residual.result _ c.in_err-worst_now.ensures.err.0 c.from_residual.ensures.1
-    (cut_short g.D.Deliver.leads c.args.desk.now _ _ _ (pending c.reads.cutter) (take c.in-Ok.count c.read.new.buf) c.reads.desk c.answer_piece.new.desk c.reads.worst _ _ _
+    (cut_short g.D.Deliver.leads c.args.desk.now _ _ _ (pending_bytes c.reads.cutter) (take c.in-Ok.count c.read.new.buf) c.reads.desk c.answer_piece.new.desk c.reads.worst _ _ _
     c.reads.invariant.sofar c.in-Ok.ensures.bytes.0 c.in_err-worst_now.ensures.cut_short)
 
 pub returns-in-Some-clause-streams : goal.returns-in-Some-clause-streams
 returns-in-Some-clause-streams g c =
     let piece = take c.in-Ok.count c.read.new.buf in
-    let q = pending c.reads.cutter in
-    let q' = pending c.answer_piece.new.cutter in
+    let q = pending_bytes c.reads.cutter in
+    let q' = pending_bytes c.answer_piece.new.cutter in
     let done = piece_at g.D.Deliver.leads c.reads.desk c.in_ok-worst_now.fault (Some c.in-Some.fault) q' _ c.answer_piece.new.desk c.reads.worst c.in_ok-worst_now.worst_now _ _ c.in-Some.is c.in_ok-worst_now.ensures.ok in
     finished g.D.Deliver.leads c.args.desk.now _ _ (Cut c.in-Some.fault) c.answer_piece.new.desk c.in_ok-worst_now.worst_now _ _ _ c.finish-in-Some.result _
     (stream_cut g.D.Deliver.leads c.args.desk.now _ _ _ q q' piece c.in-Some.fault c.reads.desk c.answer_piece.new.desk c.reads.worst c.in_ok-worst_now.worst_now _ _ _
@@ -84,7 +84,7 @@ returns-in-Some-clause-streams g c =
 
 pub returns-clause-streams : goal.returns-clause-streams
 returns-clause-streams g c =
-    began_now g.D.Deliver.leads c.args.desk.now _ _ (pending c.reads.cutter) c.reads.desk c.reads.worst _ _ c.reads.invariant.sofar
+    began_now g.D.Deliver.leads c.args.desk.now _ _ (pending_bytes c.reads.cutter) c.reads.desk c.reads.worst _ _ c.reads.invariant.sofar
 
 -- ---- where it is cut
 
@@ -93,12 +93,12 @@ returns-then-count-eq0-clause-cut g c =
     let reads = c.in-Ok.ensures.bytes in
     let none = c.if-count-eq0.true in
     let sofar = c.reads.invariant.placed in
-    let how : ((c.if-at_rest.end ≡ Whole) × (pending c.reads.cutter ≡ [])) ⊎ ((c.if-at_rest.end ≡ Open) × (pending c.reads.cutter ≢ [])) = elim c.if-at_rest.branch [
-      | then-at_rest w ↦ inl (w.end-is, nil_is (pending c.reads.cutter) (sym c.at_rest.ensures ∙ w.if-at_rest.true))
-      | else-at_rest w ↦ inr (w.end-is, nil_is_not (pending c.reads.cutter) (sym c.at_rest.ensures ∙ w.if-at_rest.false))
+    let how : ((c.if-at_rest.end ≡ Whole) × (pending_bytes c.reads.cutter ≡ [])) ⊎ ((c.if-at_rest.end ≡ Open) × (pending_bytes c.reads.cutter ≢ [])) = elim c.if-at_rest.branch [
+      | then-at_rest w ↦ inl (w.end-is, nil_is (pending_bytes c.reads.cutter) (sym c.at_rest.ensures ∙ w.if-at_rest.true))
+      | else-at_rest w ↦ inr (w.end-is, nil_is_not (pending_bytes c.reads.cutter) (sym c.at_rest.ensures ∙ w.if-at_rest.false))
     ] in
     on_ok c.finish.result _
-    (cut_at_end _ _ c.reads.place sofar.bytes (pending c.reads.cutter) c.if-at_rest.end c.finish.new.cut
+    (cut_at_end _ _ c.reads.place sofar.bytes (pending_bytes c.reads.cutter) c.if-at_rest.end c.finish.new.cut
     (same_bytes _ _ _ sofar.bytes sofar.reads (nothing_taken _ _ c.in-Ok.count c.read.new.buf none reads.0)) sofar.follows how c.finish.ensures.cut)
 
 pub returns-in-Some-clause-cut : goal.returns-in-Some-clause-cut

@@ -1,5 +1,5 @@
 use Rattle.std.proofs.Common.{◌≡◌, ◌+◌, ◌-◌, ◌^◌, ◌≤◌, ◌<◌, min, None, false, true}
-use Rattle.edi_cutter.specs.Cuts.{pending}
+use Rattle.edi_cutter.specs.Cuts.{pending_bytes}
 use Rattle.office_stream.proofs.PlaceLemmas.{ReadSofar}
 use Rattle.office_stream.proofs.StreamLemmas.{Sofar}
 use Rattle.office_stream.proofs.stream.run_stream.Given as goal
@@ -16,6 +16,6 @@ invariant-reads g l = record {
   most : l.reader.reads ≤ l.fn.reader.reads + l.counter;
   least : min (l.fn.reader.reads + l.counter) (2 ^ 64 - 1) ≤ l.reader.reads;
   sofar : Sofar g.D.Deliver.leads l.fn.desk (g.R.Read.remaining l.fn.reader.inner) (g.R.Read.remaining l.reader.inner)
-      (pending l.cutter) l.desk l.worst (g.W.Write.contents l.fn.writer.inner) (g.W.Write.contents l.writer.inner);
-  placed : ReadSofar (g.R.Read.remaining l.fn.reader.inner) (g.R.Read.remaining l.reader.inner) l.place (pending l.cutter);
+      (pending_bytes l.cutter) l.desk l.worst (g.W.Write.contents l.fn.writer.inner) (g.W.Write.contents l.writer.inner);
+  placed : ReadSofar (g.R.Read.remaining l.fn.reader.inner) (g.R.Read.remaining l.reader.inner) l.place (pending_bytes l.cutter);
 }

@@ -1,6 +1,6 @@
 use Rattle.std.proofs.Common.{[], ◌∷◌, take}
 use Rattle.sqlite.specs.Held.{state}
-use Rattle.office_rows.specs.Tables.{office_tables, block}
+use Rattle.office_rows.specs.Tables.{office_tables, block_table}
 use Rattle.office_rows.specs.Rows.{no_rows}
 use Rattle.office_rows.specs.Stored.{HasEmpty, HasRows}
 use Rattle.office_rows.proofs.Created.{created_block}
@@ -14,6 +14,6 @@ pub returns-clause-creates : goal.returns-clause-creates
 returns-clause-creates g c =
     let old = state g.S.Store c.args.tx.now.conn.now in
     let new = state g.S.Store c.execute.new.self.conn.now in
-    creates_of (block ∷ []) (HasEmpty (take 6 office_tables)) (HasRows no_rows) old new _ c.execute.ensures.survives (λ clean inside.
+    creates_of (block_table ∷ []) (HasEmpty (take 6 office_tables)) (HasRows no_rows) old new _ c.execute.ensures.survives (λ clean inside.
     let ran = c.in_ok-execute.ensures.runs clean inside in
-    (ran.1, (λ has. created_block old new c.in_ok-execute.field-0 has ran.0), makes_one texts.create_block block block_anew.0 block_anew.1 texts.block_defined old new c.in_ok-execute.field-0 ran.0))
+    (ran.1, (λ has. created_block old new c.in_ok-execute.field-0 has ran.0), makes_one texts.create_block block_table block_anew.0 block_anew.1 texts.block_defined old new c.in_ok-execute.field-0 ran.0))

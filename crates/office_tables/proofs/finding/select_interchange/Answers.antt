@@ -1,7 +1,7 @@
 use Rattle.std.proofs.Common.{[], ◌∷◌}
 use Rattle.sqlite.specs.Held.{state}
 use Rattle.sqlite.specs.State.{Shown}
-use Rattle.office_rows.specs.Values.{number}
+use Rattle.office_rows.specs.Values.{number_value}
 use Rattle.office_rows.proofs.Reading as texts
 use Rattle.office_rows.proofs.Found.{finds_pair}
 use Rattle.office_tables.proofs.QueryTexts.{kept_shows}
@@ -12,7 +12,7 @@ pub returns-clause-shown : goal.returns-clause-shown
 returns-clause-shown g c clean is interchanges held =
     let old = state g.S.Store c.args.conn.now in
     let new = state g.S.Store c.query_all.new.self in
-    let params = number c.args.partner ∷ number c.args.number ∷ [] in
+    let params = number_value c.args.partner ∷ number_value c.args.number ∷ [] in
     let h : Shown texts.select_kept params old new c.in_ok-query_all.field-0.items = rw (c.integer.ensures, c.integer-2.ensures) at (c.in_ok-query_all.ensures.ok clean) in
     finds_pair old new c.in_ok-query_all.field-0.items is.0 is.1 interchanges held c.args.partner c.args.number h
 

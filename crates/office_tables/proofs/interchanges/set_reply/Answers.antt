@@ -2,7 +2,7 @@ use Rattle.std.proofs.Common.{[], ◌∷◌, Ok}
 use Rattle.sqlite.specs.declared.types.Value.TheVariants.{Text}
 use Rattle.sqlite.specs.Held.{state}
 use Rattle.sqlite.specs.State.{Executes}
-use Rattle.office_rows.specs.Values.{number}
+use Rattle.office_rows.specs.Values.{number_value}
 use Rattle.office_rows.specs.Effects.{with_reply}
 use Rattle.office_rows.proofs.Writing as texts
 use Rattle.office_rows.proofs.Written.{update_replyd}
@@ -15,5 +15,5 @@ returns-clause-writes g c =
     let new = state g.S.Store c.execute.new.self.conn.now in
     writes_of (with_reply c.args.partner c.args.number c.args.reply.now) old new _ c.execute.ensures.survives (λ clean inside.
     let ran = c.in_ok-execute.ensures.runs clean inside in
-    let h : Executes texts.update_reply (number c.args.partner ∷ number c.args.number ∷ Text c.args.reply.now ∷ []) old new (Ok c.in_ok-execute.field-0) = rw (c.integer.ensures, c.integer-2.ensures, c.characters.ensures, c.as_bytes.ensures.value, c.from.ensures) at ran.0 in
+    let h : Executes texts.update_reply (number_value c.args.partner ∷ number_value c.args.number ∷ Text c.args.reply.now ∷ []) old new (Ok c.in_ok-execute.field-0) = rw (c.integer.ensures, c.integer-2.ensures, c.characters.ensures, c.as_bytes.ensures.value, c.from.ensures) at ran.0 in
     (ran.1, λ rows has. update_replyd old new rows c.in_ok-execute.field-0 has c.args.partner c.args.number c.args.reply.now h))

@@ -2,7 +2,7 @@ use Rattle.std.proofs.Common.{◌≡◌, sym, subst, ◌+◌, arith, rules, take
 use Rattle.sqlite.specs.State.{HasCleanDisk}
 use Rattle.sqlite.specs.Held.{state}
 use Rattle.edi_messages.specs.Codes.{table_texts}
-use Rattle.office_rows.specs.Opening.{code_names, code_settings, setting, with_settings}
+use Rattle.office_rows.specs.Opening.{code_names, code_settings, setting_row, with_settings}
 use Rattle.office_rows.specs.Steps.{Steps}
 use Rattle.office_rows.proofs.StepLemmas.{quiet_then}
 use Rattle.office_rows.proofs.OpeningLemmas.{take_at, setting_at, more_settings}
@@ -17,13 +17,13 @@ loop-place-preserved g c =
     let n = c.code_name.result.now in
     let v = c.code.result.now in
     let all = code_settings c.args.codes.now in
-    let more : take (i + 1) all ≡ take i all ++ setting n v ∷ [] = take_at all i (setting n v) (setting_at code_names (table_texts c.args.codes.now) i n v c.code_name.ensures c.code.ensures) in
+    let more : take (i + 1) all ≡ take i all ++ setting_row n v ∷ [] = take_at all i (setting_row n v) (setting_at code_names (table_texts c.args.codes.now) i n v c.code_name.ensures c.code.ensures) in
     record {
       same = search rules;
       steps = λ clean inside was.
           let early : HasCleanDisk mid = omega (arith, c.insert_setting.ensures.writes.survives.clean) in
           let first = c.loop-place.invariant.steps early inside was in
           let second = c.in_ok-insert_setting.ensures.writes.steps clean first.inside in
-          subst (λ l. Steps (with_settings l) old new) (sym more) (more_settings old mid new (take i all) (setting n v ∷ []) first second);
+          subst (λ l. Steps (with_settings l) old new) (sym more) (more_settings old mid new (take i all) (setting_row n v ∷ []) first second);
       survives = quiet_then old mid new c.loop-place.invariant.survives c.insert_setting.ensures.writes.survives;
     }

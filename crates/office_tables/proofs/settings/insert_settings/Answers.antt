@@ -1,7 +1,7 @@
 use Rattle.std.proofs.Common.{◌≡◌, [], ◌∷◌, ◌++◌, Ok, codes, decimal, ap, ◌∙◌, append_assoc, string_bytes}
 use Rattle.sqlite.specs.Held.{state}
 use Rattle.office_rows.specs.Rows.{Rows}
-use Rattle.office_rows.specs.Opening.{code_settings, setting, settings_of, tables_version, with_settings}
+use Rattle.office_rows.specs.Opening.{code_settings, setting_row, settings_of, tables_version, with_settings}
 use Rattle.office_setup.specs.Setups.{setup_content}
 use Rattle.office_tables.specs.Writes.{Writes}
 use Rattle.office_tables.proofs.WritesLemmas.{writes_then, writes_then_if_open, writes_same}
@@ -15,9 +15,9 @@ returns-clause-writes g c =
     let s3 = state g.S.Store c.insert_setting-3.new.tx.conn.now in
     let s4 = state g.S.Store c.insert_codes.new.tx.conn.now in
     let setup = c.args.setup.now in
-    let version = setting (codes "version") tables_version in
-    let terminal = setting (codes "terminal") (string_bytes setup.terminal) in
-    let limit = setting (codes "visits") (decimal setup.visit_limit) in
+    let version = setting_row (codes "version") tables_version in
+    let terminal = setting_row (codes "terminal") (string_bytes setup.terminal) in
+    let limit = setting_row (codes "visits") (decimal setup.visit_limit) in
     let rest = code_settings setup.codes in
     let first : Writes (with_settings (version ∷ [])) s0 s1 (Ok tt) = c.in_ok-insert_setting.ensures.writes in
     let second : Writes (with_settings (terminal ∷ [])) s1 s2 (Ok tt) = rw c.as_bytes.ensures.value at c.in_ok-insert_setting-2.ensures.writes in

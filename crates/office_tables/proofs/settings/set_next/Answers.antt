@@ -1,7 +1,7 @@
 use Rattle.std.proofs.Common.{[], ◌∷◌, Ok}
 use Rattle.sqlite.specs.Held.{state}
 use Rattle.sqlite.specs.State.{Executes}
-use Rattle.office_rows.specs.Values.{number}
+use Rattle.office_rows.specs.Values.{number_value}
 use Rattle.office_rows.specs.Effects.{with_next}
 use Rattle.office_rows.proofs.Writing as texts
 use Rattle.office_rows.proofs.Written.{update_nextd}
@@ -14,5 +14,5 @@ returns-clause-writes g c =
     let new = state g.S.Store c.execute.new.self.conn.now in
     writes_of (with_next c.args.partner c.args.next) old new _ c.execute.ensures.survives (λ clean inside.
     let ran = c.in_ok-execute.ensures.runs clean inside in
-    let h : Executes texts.update_next (number c.args.partner ∷ number c.args.next ∷ []) old new (Ok c.in_ok-execute.field-0) = rw (c.integer.ensures, c.integer-2.ensures, c.from.ensures) at ran.0 in
+    let h : Executes texts.update_next (number_value c.args.partner ∷ number_value c.args.next ∷ []) old new (Ok c.in_ok-execute.field-0) = rw (c.integer.ensures, c.integer-2.ensures, c.from.ensures) at ran.0 in
     (ran.1, λ rows has. update_nextd old new rows c.in_ok-execute.field-0 has c.args.partner c.args.next h))

@@ -5,7 +5,7 @@ use Rattle.sqlite.specs.State.{Executes}
 use Rattle.edi_messages.specs.Owned.{call_content}
 use Rattle.terminal_core.specs.State.{side_code}
 use Rattle.terminal_core.specs.Rows.{unlisted}
-use Rattle.office_rows.specs.Values.{number}
+use Rattle.office_rows.specs.Values.{number_value}
 use Rattle.office_rows.specs.Effects.{with_change}
 use Rattle.office_rows.proofs.Writing as texts
 use Rattle.office_rows.proofs.Written.{delete_lined}
@@ -18,5 +18,5 @@ returns-clause-writes g c =
     let new = state g.S.Store c.execute.new.self.conn.now in
     writes_of (with_change (unlisted (call_content c.args.call.now) c.args.side c.args.container)) old new _ c.execute.ensures.survives (λ clean inside.
     let ran = c.in_ok-execute.ensures.runs clean inside in
-    let h : Executes texts.delete_line (Text (call_content c.args.call.now).vessel ∷ Text (call_content c.args.call.now).voyage ∷ number (side_code c.args.side) ∷ Text c.args.container ∷ []) old new (Ok c.in_ok-execute.field-0) = rw (c.characters.ensures, c.as_bytes.ensures.value, c.characters-2.ensures, c.as_bytes-2.ensures.value, c.integer.ensures, c.side_code.ensures, c.characters-3.ensures, c.text-container.ensures.same) at ran.0 in
+    let h : Executes texts.delete_line (Text (call_content c.args.call.now).vessel ∷ Text (call_content c.args.call.now).voyage ∷ number_value (side_code c.args.side) ∷ Text c.args.container ∷ []) old new (Ok c.in_ok-execute.field-0) = rw (c.characters.ensures, c.as_bytes.ensures.value, c.characters-2.ensures, c.as_bytes-2.ensures.value, c.integer.ensures, c.side_code.ensures, c.characters-3.ensures, c.text-container.ensures.same) at ran.0 in
     (ran.1, λ rows has. delete_lined old new rows c.in_ok-execute.field-0 has (call_content c.args.call.now) c.args.side c.args.container h))

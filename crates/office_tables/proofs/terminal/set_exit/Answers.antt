@@ -4,7 +4,7 @@ use Rattle.sqlite.specs.Held.{state}
 use Rattle.sqlite.specs.State.{Executes}
 use Rattle.edi_moments.specs.Moments.{moment_digits}
 use Rattle.terminal_core.specs.Rows.{visit_closed}
-use Rattle.office_rows.specs.Values.{number, way_code}
+use Rattle.office_rows.specs.Values.{number_value, way_code}
 use Rattle.office_rows.specs.Effects.{with_change}
 use Rattle.office_rows.proofs.Writing as texts
 use Rattle.office_rows.proofs.Written.{update_exitd}
@@ -17,5 +17,5 @@ returns-clause-writes g c =
     let new = state g.S.Store c.execute.new.self.conn.now in
     writes_of (with_change (visit_closed c.args.visit c.args.departure)) old new _ c.execute.ensures.survives (λ clean inside.
     let ran = c.in_ok-execute.ensures.runs clean inside in
-    let h : Executes texts.update_exit (number c.args.visit ∷ number (way_code c.args.departure.way) ∷ number c.args.departure.source.partner ∷ number c.args.departure.source.number ∷ Text (moment_digits c.args.departure.moment) ∷ []) old new (Ok c.in_ok-execute.field-0) = rw (c.integer.ensures, c.integer-2.ensures, c.way_code.ensures, c.integer-3.ensures, c.integer-4.ensures, c.characters.ensures, c.digits-at.ensures.written, c.from.ensures) at ran.0 in
+    let h : Executes texts.update_exit (number_value c.args.visit ∷ number_value (way_code c.args.departure.way) ∷ number_value c.args.departure.source.partner ∷ number_value c.args.departure.source.number ∷ Text (moment_digits c.args.departure.moment) ∷ []) old new (Ok c.in_ok-execute.field-0) = rw (c.integer.ensures, c.integer-2.ensures, c.way_code.ensures, c.integer-3.ensures, c.integer-4.ensures, c.characters.ensures, c.digits-at.ensures.written, c.from.ensures) at ran.0 in
     (ran.1, λ rows has. update_exitd old new rows c.in_ok-execute.field-0 has c.args.visit c.args.departure h))

@@ -1,7 +1,7 @@
 use Rattle.std.proofs.Common.{[], ◌∷◌}
 use Rattle.sqlite.specs.Held.{state}
 use Rattle.sqlite.specs.State.{Shown}
-use Rattle.office_rows.specs.Values.{number}
+use Rattle.office_rows.specs.Values.{number_value}
 use Rattle.office_tables.proofs.ReadingLemmas.{reads_shown, reads_failed}
 use Rattle.office_texts.proofs.TextQuery.{select_from, from_shows, numbers_found}
 use Rattle.office_texts.proofs.reading.select_from.Goals as goal
@@ -10,7 +10,7 @@ pub returns-clause-shown : goal.returns-clause-shown
 returns-clause-shown g c clean rows has =
     let old = state g.S.Store c.args.conn.now in
     let new = state g.S.Store c.query_all.new.self in
-    let h : Shown select_from (number c.args.from ∷ []) old new c.in_ok-query_all.field-0.items = rw (c.integer.ensures) at (c.in_ok-query_all.ensures.ok clean) in
+    let h : Shown select_from (number_value c.args.from ∷ []) old new c.in_ok-query_all.field-0.items = rw (c.integer.ensures) at (c.in_ok-query_all.ensures.ok clean) in
     numbers_found c.args.from old new rows has c.in_ok-query_all.field-0.items h
 
 pub returns-clause-reads : goal.returns-clause-reads

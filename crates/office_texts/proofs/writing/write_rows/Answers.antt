@@ -5,7 +5,7 @@ use Rattle.sqlite.specs.Order.{Row}
 use Rattle.sqlite.specs.Held.{state}
 use Rattle.sqlite.specs.Given.{HasGiven}
 use Rattle.sqlite.specs.State.{HasCleanDisk, IsUnchanged, FailsToQuery, Survives, CommitsShowing}
-use Rattle.office_rows.specs.Values.{number}
+use Rattle.office_rows.specs.Values.{number_value}
 use Rattle.office_rows.specs.Rows.{Rows}
 use Rattle.office_rows.specs.Stored.{HasRows}
 use Rattle.office_tables.specs.Faults.{IsOfStore}
@@ -37,8 +37,8 @@ each-init g c =
     let made = c.in_ok-rows.ensures in
     let old = state g.S.Store c.args.conn.now in
     let new = state g.S.Store c.in_ok-rows.rows.conn.now in
-    let begun : HasCleanDisk new → HasGiven g.S.Store select_texts (number c.args.from ∷ []) c.in_ok-rows.rows.conn.now [] × IsUnchanged old new =
-    λ clean. begun_shows g.S.Store select_texts (number c.args.from ∷ []) c.args.conn.now c.in_ok-rows.rows.conn.now texts_shows (rw c.integer.ensures at (made.begun clean)) in (
+    let begun : HasCleanDisk new → HasGiven g.S.Store select_texts (number_value c.args.from ∷ []) c.in_ok-rows.rows.conn.now [] × IsUnchanged old new =
+    λ clean. begun_shows g.S.Store select_texts (number_value c.args.from ∷ []) c.args.conn.now c.in_ok-rows.rows.conn.now texts_shows (rw c.integer.ensures at (made.begun clean)) in (
       refl,
       reads_same old new tt (λ clean. (begun clean).1) made.mode (query_survives select_texts (bound (c.integer.result ∷ [])) old new texts_shows made.survives),
       refl,

@@ -13,7 +13,7 @@ use Rattle.office_desk.proofs.DeliverLemmas.{refusal_delivered, refusal_leaves, 
 use Rattle.office_desk.proofs.CrashLemmas.{answered_behind, held_leaves}
 use Rattle.office_admission.specs.Admission.{admission}
 use Rattle.office_desk.specs.Crashes.{Leaves}
-use Rattle.office_desk.specs.Kept.{NotedFor}
+use Rattle.office_desk.specs.Kept.{IsNotedFor}
 use Rattle.office_desk.specs.Noting.{IsNow, NotesFault}
 use Rattle.office_desk.proofs.LookLemmas.{noted_fault, noted_told}
 use Rattle.sqlite.specs.Held.{state}
@@ -123,7 +123,7 @@ returns-in-Err-noted g c =
             let there = subst (λ other. admission P other ≡ Ok (partner, number)) exact place in
             let by = takes.office sound.0 sound.1 old holds in (
               not_now_surely P (interchange_of sent) surely,
-              subst (λ place. NotedFor place old.rows c.noted.new.last_fault) (sym there) (met.0, met.2, by.0),
+              subst (λ place. IsNotedFor place old.rows c.noted.new.last_fault) (sym there) (met.0, met.2, by.0),
               by.1,
             );
         setup = refl;

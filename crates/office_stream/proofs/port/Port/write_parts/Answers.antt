@@ -2,7 +2,7 @@ use Rattle.std.proofs.Common.{◌≡◌, ◌+◌, ◌++◌, ℕ, List, [], Err, 
 use Rattle.std.proofs.lemmas.Result.{on_ok_weaker, err_from_is_err_and}
 use Rattle.std.specs.Io.KnownBytes.{Appends}
 use Rattle.std.specs.declared.io.Error.{Error}
-use Rattle.office_stream.specs.Writes.{joined, WritesOut}
+use Rattle.office_stream.specs.Writes.{joined_parts, WritesOut}
 use Rattle.office_stream.specs.Fronts.{AppendsFront}
 use Rattle.office_stream.proofs.Writing.{on_err, on_err_weaker}
 use Rattle.office_stream.proofs.PartLemmas.{Gathers, gathers_none, gathers_held, gathers_out, gathers_passed, ends_out, ends_together, ends_appended, ends_front, stops_out, stops_front, joined_more, joined_rest, joined_all, no_room, ok_absent, out_as, pieces_as}
@@ -26,12 +26,12 @@ parts-preserved g c =
     let part = (get_or parts i (record { ref_ptr = (0, 0); now = [] })).now in
     let held = c.parts.gathered.held.items in
     let so = c.parts.invariant.gathers in
-    let more : joined (take (i + 1) parts) ≡ joined (take i parts) ++ part = joined_more parts i (record { ref_ptr = (0, 0); now = [] }) c.parts-test.true in
+    let more : joined_parts (take (i + 1) parts) ≡ joined_parts (take i parts) ++ part = joined_more parts i (record { ref_ptr = (0, 0); now = [] }) c.parts-test.true in
     elim c.if-has_room.branch [
       | then-has_room w ↦
           rw (w.self-is, w.gathered-is) (record {
             gathers = subst (λ (l : List ℕ). Gathers takes contents first l c.parts.self.inner w.hold.new.self.held.items) (sym more)
-                (gathers_held takes contents first (joined (take i parts)) c.parts.self.inner held part w.hold.new.self.held.items so w.hold.ensures);
+                (gathers_held takes contents first (joined_parts (take i parts)) c.parts.self.inner held part w.hold.new.self.held.items so w.hold.ensures);
             failed = c.parts.invariant.failed;
             reads = c.parts.invariant.reads;
           })
@@ -41,7 +41,7 @@ parts-preserved g c =
           let slice : w.as_slice.result.now ≡ held = w.as_slice.ensures.value in
           rw (w.self-is, w.gathered-is) (record {
             gathers = subst (λ (l : List ℕ). Gathers takes contents first l new w.clear.new.self.held.items) (sym more)
-                (gathers_out takes contents first (joined (take i parts)) c.parts.self.inner held part mid new w.clear.new.self.held.items so
+                (gathers_out takes contents first (joined_parts (take i parts)) c.parts.self.inner held part mid new w.clear.new.self.held.items so
                 (out_as takes c.parts.self.inner _ held _ mid slice w.in_ok-write_all.ensures.writes)
                 (subst (Appends (contents c.parts.self.inner) (contents mid)) slice w.in_ok-write_all.ensures.bytes)
                 (out_as takes mid part part _ new refl w.in_ok-write_all-2.ensures.writes)
@@ -63,18 +63,18 @@ returns g c =
     let new = c.write_all-2.new.self.inner in
     let held = c.parts.gathered.held.items in
     let slice : c.as_slice-2.result.now ≡ held = c.as_slice-2.ensures.value in
-    let all : joined (take c.parts.part-index parts) ≡ joined parts = joined_all parts c.parts.part-index c.parts-test.false in
-    let so : Gathers takes contents first (joined parts) now held = subst (λ (l : List ℕ). Gathers takes contents first l now held) all c.parts.invariant.gathers in
+    let all : joined_parts (take c.parts.part-index parts) ≡ joined_parts parts = joined_all parts c.parts.part-index c.parts-test.false in
+    let so : Gathers takes contents first (joined_parts parts) now held = subst (λ (l : List ℕ). Gathers takes contents first l now held) all c.parts.invariant.gathers in
     let out : WritesOut takes now held c.write_all-2.result new = subst (λ (l : List ℕ). WritesOut takes now l c.write_all-2.result new) slice c.write_all-2.ensures.writes in
     record {
       bytes = on_ok_weaker c.write_all-2.result
-          (λ written. ends_appended takes contents first (joined parts) now held new so (subst (Appends (contents now) (contents new)) slice written))
+          (λ written. ends_appended takes contents first (joined_parts parts) now held new so (subst (Appends (contents now) (contents new)) slice written))
           c.write_all-2.ensures.bytes;
       front = on_err_weaker c.write_all-2.result _ _
-          (λ written. ends_front takes contents first (joined parts) now held new so (subst (AppendsFront (contents now) (contents new)) slice written))
+          (λ written. ends_front takes contents first (joined_parts parts) now held new so (subst (AppendsFront (contents now) (contents new)) slice written))
           c.write_all-2.ensures.front;
-      writes = ends_out takes contents first (joined parts) now held c.write_all-2.result new so out;
-      together = ends_together takes contents first (joined parts) now held c.write_all-2.result new so out;
+      writes = ends_out takes contents first (joined_parts parts) now held c.write_all-2.result new so out;
+      together = ends_together takes contents first (joined_parts parts) now held c.write_all-2.result new so out;
       succeeds = on_ok_weaker c.write_all-2.result (λ same. same ∙ c.parts.invariant.failed) c.write_all-2.ensures.succeeds;
       fails = c.write_all-2.ensures.fails;
       uncounted = c.write_all-2.ensures.uncounted ∙ c.parts.invariant.reads;
@@ -90,12 +90,12 @@ returns-in_err-write_all g c =
     let parts = c.args.parts.now in
     let i = c.parts.part-index in
     let part = (get_or parts i (record { ref_ptr = (0, 0); now = [] })).now in
-    let more = part ++ joined (drop (i + 1) parts) in
+    let more = part ++ joined_parts (drop (i + 1) parts) in
     let now = c.parts.self.inner in
     let new = c.write_all.new.self.inner in
     let held = c.parts.gathered.held.items in
     let so = c.parts.invariant.gathers in
-    let total : joined parts ≡ joined (take i parts) ++ more = joined_rest parts i (record { ref_ptr = (0, 0); now = [] }) c.parts-test.true in
+    let total : joined_parts parts ≡ joined_parts (take i parts) ++ more = joined_rest parts i (record { ref_ptr = (0, 0); now = [] }) c.parts-test.true in
     let slice : c.as_slice.result.now ≡ held = c.as_slice.ensures.value in
     let error = c.in_err-write_all.field-0.0 in
     let p = err_from_is_err_and c.from_residual.result c.from_residual.ensures.1 in
@@ -104,9 +104,9 @@ returns-in_err-write_all g c =
     record {
       bytes = ok_absent c.from_residual.result _ error is;
       front = on_err c.from_residual.result _
-          (stops_front takes contents first (joined (take i parts)) more (joined parts) now held new total so (subst (AppendsFront (contents now) (contents new)) slice c.in_err-write_all.ensures.front));
-      writes = pieces_as takes first (joined parts) c.from_residual.result error new is
-          (stops_out takes contents first (joined (take i parts)) more (joined parts) now held error new total so
+          (stops_front takes contents first (joined_parts (take i parts)) more (joined_parts parts) now held new total so (subst (AppendsFront (contents now) (contents new)) slice c.in_err-write_all.ensures.front));
+      writes = pieces_as takes first (joined_parts parts) c.from_residual.result error new is
+          (stops_out takes contents first (joined_parts (take i parts)) more (joined_parts parts) now held error new total so
           (subst (λ (l : List ℕ). WritesOut takes now l (Err error) new) slice c.in_err-write_all.ensures.writes));
       together = λ short. absurd (omega (arith, full, ap length total, ap length so.all, length-append {A = ℕ}));
       succeeds = ok_absent c.from_residual.result _ error is;
@@ -124,29 +124,29 @@ returns-in_err-write_all-2 g c =
     let parts = c.args.parts.now in
     let i = c.parts.part-index in
     let part = (get_or parts i (record { ref_ptr = (0, 0); now = [] })).now in
-    let behind = joined (drop (i + 1) parts) in
+    let behind = joined_parts (drop (i + 1) parts) in
     let now = c.parts.self.inner in
     let mid = c.write_all.new.self.inner in
     let new = c.write_all-else-has_room.new.self.inner in
     let held = c.parts.gathered.held.items in
     let before = c.parts.invariant.gathers in
-    let most : joined parts ≡ joined (take i parts) ++ (part ++ behind) = joined_rest parts i (record { ref_ptr = (0, 0); now = [] }) c.parts-test.true in
-    let total : joined parts ≡ (joined (take i parts) ++ part) ++ behind = most ∙ sym (append_assoc (joined (take i parts)) part behind) in
+    let most : joined_parts parts ≡ joined_parts (take i parts) ++ (part ++ behind) = joined_rest parts i (record { ref_ptr = (0, 0); now = [] }) c.parts-test.true in
+    let total : joined_parts parts ≡ (joined_parts (take i parts) ++ part) ++ behind = most ∙ sym (append_assoc (joined_parts (take i parts)) part behind) in
     let slice : c.as_slice.result.now ≡ held = c.as_slice.ensures.value in
     let error = c.in_err-write_all-2.field-0.0 in
     let p = err_from_is_err_and c.from_residual-in_err-write_all-2.result c.from_residual-in_err-write_all-2.ensures.1 in
     let result = c.from_residual-in_err-write_all-2.result in
     let is : c.from_residual-in_err-write_all-2.result ≡ Err error = p.1 ∙ ap (λ (e : Error). Err e) p.2 in
     let full = no_room c.has_room.result _ _ c.has_room.ensures.1 c.if-has_room.false in
-    let so : Gathers takes contents first (joined (take i parts) ++ part) mid part =
-    gathers_passed takes contents first (joined (take i parts)) now held part mid before
+    let so : Gathers takes contents first (joined_parts (take i parts) ++ part) mid part =
+    gathers_passed takes contents first (joined_parts (take i parts)) now held part mid before
     (out_as takes now _ held _ mid slice c.in_ok-write_all.ensures.writes)
     (subst (Appends (contents now) (contents mid)) slice c.in_ok-write_all.ensures.bytes) full in
     record {
       bytes = ok_absent result _ error is;
-      front = on_err result _ (stops_front takes contents first (joined (take i parts) ++ part) behind (joined parts) mid part new total so c.in_err-write_all-2.ensures.front);
-      writes = pieces_as takes first (joined parts) result error new is
-          (stops_out takes contents first (joined (take i parts) ++ part) behind (joined parts) mid part error new total so c.in_err-write_all-2.ensures.writes);
+      front = on_err result _ (stops_front takes contents first (joined_parts (take i parts) ++ part) behind (joined_parts parts) mid part new total so c.in_err-write_all-2.ensures.front);
+      writes = pieces_as takes first (joined_parts parts) result error new is
+          (stops_out takes contents first (joined_parts (take i parts) ++ part) behind (joined_parts parts) mid part error new total so c.in_err-write_all-2.ensures.writes);
       together = λ short. absurd (omega (arith, full, ap length most, ap length before.all, length-append {A = ℕ}));
       succeeds = ok_absent result _ error is;
       fails = on_err result _ c.in_err-write_all-2.ensures.fails;

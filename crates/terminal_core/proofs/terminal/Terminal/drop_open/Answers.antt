@@ -3,7 +3,7 @@ use Rattle.std.specs.Prelude.{map}
 use Rattle.std.proofs.lemmas.List.{map-append}
 use Rattle.box6346.specs.declared.box_number.BoxNumber.{BoxNumber}
 use Rattle.edi_messages.specs.Owned.{call_content}
-use Rattle.terminal_core.specs.Drop.{drop, Drops, open_containers, without_lines_of}
+use Rattle.terminal_core.specs.Drop.{list_drop, Drops, open_containers, without_lines_of}
 use Rattle.terminal_core.specs.Rows.{change_content, unlisted}
 use Rattle.terminal_core.specs.State.{TerminalState, Lines}
 use Rattle.terminal_core.proofs.terminal.Terminal.drop_open.Goals as goal
@@ -13,7 +13,7 @@ returns-clause-ok c =
     let state : TerminalState = record { yard = c.self.inside.yard; limit = c.self.inside.limit; visits = c.self.inside.visits.visits; lines = c.self.inside.lists } in
     let call = call_content c.args.call.now in
     let containers : c.in_ok-containers.containers.items ≡ open_containers c.self.inside.lists call c.args.side = c.in_ok-containers.ensures in
-    let P : TerminalState → Type 0 = λ s. Drops (drop s call c.args.side) (record state { lines = c.remove_all.new.self }) c.in-Ok.count (map change_content c.args.changes.now.items) (map change_content c.append.new.self.items) in
+    let P : TerminalState → Type 0 = λ s. Drops (list_drop s call c.args.side) (record state { lines = c.remove_all.new.self }) c.in-Ok.count (map change_content c.args.changes.now.items) (map change_content c.append.new.self.items) in
     let long = c.in_ok-containers.containers.ok.0 in
     let same : length c.in_ok-containers.containers.items ≡ length (open_containers c.self.inside.lists call c.args.side) = ap length containers in
     subst P c.self.view_is (record {

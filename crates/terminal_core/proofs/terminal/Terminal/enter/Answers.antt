@@ -7,7 +7,7 @@ use Rattle.terminal_core.specs.Rows.{visit_content, change_content}
 use Rattle.terminal_core.specs.State.{TerminalState, last_number}
 use Rattle.terminal_core.specs.Versions.{newest}
 use Rattle.terminal_core.specs.Step.{after_entry}
-use Rattle.terminal_core.specs.Calls.{Follows, Settles, Unsettled}
+use Rattle.terminal_core.specs.Calls.{Follows, Settles, IsUnsettled}
 use Rattle.terminal_core.proofs.Open.{no_more_than_last}
 use Rattle.terminal_core.proofs.Appended.{visits_after, changes_after, room}
 use Rattle.terminal_core.proofs.Whole.{whole_entered, whole_with, placed_in_plan}
@@ -17,7 +17,7 @@ use Rattle.terminal_core.proofs.terminal.Terminal.enter.Goals as goal
 pub invariant_of-self-in-Ok : goal.invariant_of-self-in-Ok
 invariant_of-self-in-Ok c =
     let state : TerminalState = record { yard = c.self.inside.yard; limit = c.self.inside.limit; visits = c.self.inside.visits.visits; lines = c.self.inside.lists } in
-    let settles = MatchResult-at_ok (Settles c.self.inside.yard c.settle.new.yard (entry_content c.args.entry.now)) (Unsettled c.self.inside.yard (entry_content c.args.entry.now)) c.in-Ok.slot c.in-Ok.is c.in_ok-slot.ensures.ok in
+    let settles = MatchResult-at_ok (Settles c.self.inside.yard c.settle.new.yard (entry_content c.args.entry.now)) (IsUnsettled c.self.inside.yard (entry_content c.args.entry.now)) c.in-Ok.slot c.in-Ok.is c.in_ok-slot.ensures.ok in
     whole_with state c.settle.new.yard _ _
     (visits_after c.self.inside.visits.visits c.reserve.new.self.visits c.open.new.self.visits (visit_content c.opened_visit.result) c.args.way c.args.source (entry_content c.args.entry.now) c.in-Ok.slot (c.last_number-number.result + 1) c.reserve.ensures.kept c.open.ensures
     c.opened_visit.ensures (ap (λ n. n + 1) (c.last_number-number.ensures ∙ ap last_number c.reserve.ensures.kept)))
@@ -26,7 +26,7 @@ invariant_of-self-in-Ok c =
 pub returns-in-Ok-clause-ok : goal.returns-in-Ok-clause-ok
 returns-in-Ok-clause-ok c =
     let state : TerminalState = record { yard = c.self.inside.yard; limit = c.self.inside.limit; visits = c.self.inside.visits.visits; lines = c.self.inside.lists } in
-    let settles = MatchResult-at_ok (Settles c.self.inside.yard c.settle.new.yard (entry_content c.args.entry.now)) (Unsettled c.self.inside.yard (entry_content c.args.entry.now)) c.in-Ok.slot c.in-Ok.is c.in_ok-slot.ensures.ok in
+    let settles = MatchResult-at_ok (Settles c.self.inside.yard c.settle.new.yard (entry_content c.args.entry.now)) (IsUnsettled c.self.inside.yard (entry_content c.args.entry.now)) c.in-Ok.slot c.in-Ok.is c.in_ok-slot.ensures.ok in
     let P : TerminalState → Type 0 = λ s.
     Follows (after_entry newest s c.args.way c.args.source (entry_content c.args.entry.now)) (record state { yard = c.settle.new.yard; visits = c.open.new.self.visits }) (Done c.in-Ok.slot) (map change_content c.args.changes.now.items) (map change_content c.append-in-Ok.new.rows.items) in
     subst P c.self.view_is (has_entered state c.args.way c.args.source (entry_content c.args.entry.now) c.settle.new.yard c.in-Ok.slot _ _ _ (room c.last_number.result c.self.inside.visits.visits c.self.inside.limit c.last_number.ensures (omega arith)) settles
@@ -37,7 +37,7 @@ returns-in-Ok-clause-ok c =
 
 pub returns-in-Ok-clause-planned : goal.returns-in-Ok-clause-planned
 returns-in-Ok-clause-planned c =
-    let settles = MatchResult-at_ok (Settles c.self.inside.yard c.settle.new.yard (entry_content c.args.entry.now)) (Unsettled c.self.inside.yard (entry_content c.args.entry.now)) c.in-Ok.slot c.in-Ok.is c.in_ok-slot.ensures.ok in
+    let settles = MatchResult-at_ok (Settles c.self.inside.yard c.settle.new.yard (entry_content c.args.entry.now)) (IsUnsettled c.self.inside.yard (entry_content c.args.entry.now)) c.in-Ok.slot c.in-Ok.is c.in_ok-slot.ensures.ok in
     placed_in_plan c.self.inside.yard c.settle.new.yard _ _ settles.places
 
 pub open-requires-clause-few : goal.open-requires-clause-few

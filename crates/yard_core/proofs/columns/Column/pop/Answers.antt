@@ -1,6 +1,6 @@
 use Rattle.std.proofs.Common.{◌-◌, length, take, sym, ap, ◌∙◌, arith, List}
 use Rattle.yard_core.specs.YardMap.{Box}
-use Rattle.yard_core.specs.Columns.{somes}
+use Rattle.yard_core.specs.Columns.{present_boxes}
 use Rattle.yard_core.proofs.Somes.{take-somes, IsFilled-less}
 use Rattle.yard_core.proofs.columns.Column.pop.Goals as goal
 
@@ -11,4 +11,4 @@ pub returns : goal.returns
 returns c =
     let f = c.self.invariant in
     take-somes c.self.inside.height c.self.inside.boxes (c.self.inside.height - 1) (omega arith) (omega (arith, f.low, f.room)) f.filled
-    ∙ ap (λ n. take (n - 1) (somes (take c.self.inside.height c.self.inside.boxes))) (sym f.filled) ∙ ap (λ (b : List Box). take (length b - 1) b) c.self.view_is
+    ∙ ap (λ n. take (n - 1) (present_boxes (take c.self.inside.height c.self.inside.boxes))) (sym f.filled) ∙ ap (λ (b : List Box). take (length b - 1) b) c.self.view_is

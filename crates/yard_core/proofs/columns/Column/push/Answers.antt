@@ -1,6 +1,6 @@
 use Rattle.std.proofs.Common.{◌<◌, ◌++◌, ◌∷◌, [], length, sym, ap, ◌∙◌, arith, List}
 use Rattle.yard_core.specs.YardMap.{Box}
-use Rattle.yard_core.proofs.Somes.{somes-more, IsFilled-more}
+use Rattle.yard_core.proofs.Somes.{present_boxes-more, IsFilled-more}
 use Rattle.yard_core.proofs.columns.Column.push.Goals as goal
 
 pub invariant_of-self : goal.invariant_of-self
@@ -11,4 +11,4 @@ invariant_of-self c =
 pub returns : goal.returns
 returns c =
     let low : c.self.inside.height < length c.self.inside.boxes = omega (arith, c.requires, sym (ap length c.self.view_is) ∙ c.self.invariant.filled, c.self.invariant.room) in
-    somes-more c.self.inside.height c.self.inside.boxes c.args.number low ∙ ap (λ (b : List Box). b ++ c.args.number ∷ []) c.self.view_is
+    present_boxes-more c.self.inside.height c.self.inside.boxes c.args.number low ∙ ap (λ (b : List Box). b ++ c.args.number ∷ []) c.self.view_is

@@ -2,7 +2,7 @@ use Rattle.std.proofs.Common.{◌≡◌, ◌∙◌, ◌++◌, ℕ, List, ap, ap�
 use Rattle.std.proofs.lemmas.Result.{IfOk-weaker}
 use Rattle.office_replies.specs.Bodies.{answer_text, joined_head}
 use Rattle.office_replies.proofs.Joined.{answer_text-data}
-use Rattle.office_replies.proofs.body.answered.Goals as goal
+use Rattle.office_replies.proofs.body.taken_body.Goals as goal
 
 pub returns-clause-bytes : goal.returns-clause-bytes
 unfolding joined_head

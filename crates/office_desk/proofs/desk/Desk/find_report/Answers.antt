@@ -18,7 +18,7 @@ use Rattle.office_desk.specs.Reports.{TellsOf}
 use Rattle.office_desk.proofs.CrashLemmas.{leaves_less}
 use Rattle.office_desk.proofs.HoldLemmas.{held_with}
 use Rattle.office_desk.proofs.OfficeLemmas.{office_once, office_with}
-use Rattle.office_desk.proofs.desk.Desk.told.Goals as goal
+use Rattle.office_desk.proofs.desk.Desk.find_report.Goals as goal
 
 -- What stands beside the rows, or is loaded from them, is at the deliveries.
 pub returns-clause-told : goal.returns-clause-told
