@@ -1,5 +1,5 @@
 -- The rows of an office have keys that differ, and say what their columns say.
-use Rattle.std.proofs.Common.{◌≡◌, ℕ, suc, ◌+◌, ◌≤◌, Bool, true, false, List, [], ◌∷◌, Option, None, Some, slice_get, inl, inr, refl, sym, ap, ◌∙◌, arith}
+use Rattle.std.proofs.Common.{◌≡◌, ℕ, suc, ◌+◌, ◌≤◌, ◌<◌, Bool, true, false, List, [], ◌∷◌, Option, None, Some, slice_get, inl, inr, refl, sym, ap, ◌∙◌, arith}
 use Rattle.box6346.specs.SlotName.{slot_of, slot_text}
 use Rattle.box6346.specs.declared.slot.Slot.{Slot}
 use Rattle.edi_moments.specs.Moments.{CivilMoment, moment_of, moment_digits}
