@@ -20,3 +20,4 @@ pub mod TakingLemmas
 pub mod LookLemmas
 pub mod CallLemmas
 pub mod PartnerLemmas
+pub mod NextLemmas

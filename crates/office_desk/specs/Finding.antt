@@ -1,6 +1,7 @@
 -- What a delivery finds in the tables and beside them.
-use Rattle.std.specs.Prelude.{ℕ, ◌≤◌, List, length, Option, Some}
+use Rattle.std.specs.Prelude.{ℕ, ◌≤◌, List, length, Option, None, Some, IsTrue}
 use Rattle.sqlite.specs.Effect.{Database}
+use Rattle.sqlite.specs.State.{State}
 use Rattle.terminal_core.specs.State.{TerminalState}
 use Rattle.office_replies.specs.Events.{Event}
 use Rattle.office_rows.specs.Rows.{Rows}
@@ -9,9 +10,10 @@ use Rattle.office_setup.specs.Given.{IsGiven}
 use Rattle.office_setup.specs.Setups.{SetupContent}
 use Rattle.office_tables.specs.Answers.{HasUnfitReply, IsKept}
 use Rattle.office_tables.specs.Faults.{IsOfStoreOr}
+use Rattle.office_tables.specs.declared.interchanges.Kept.{Kept}
 use Rattle.office_tables.specs.declared.table_fault.TableFault.{TableFault}
 use Rattle.office_history.specs.After.{AreAfter}
-use Rattle.office_desk.specs.Beside.{IsBeside, IsOrNone}
+use Rattle.office_desk.specs.Beside.{IsAt, IsBeside, IsOrNone}
 use Rattle.office_desk.specs.Offices.{HoldsOffice}
 use Rattle.office_desk.specs.declared.beside.Beside.{Beside}
 use Rattle.office_desk.specs.declared.taking.Found.{Found}
@@ -24,9 +26,23 @@ pub record StaysBeside (db : Database) (before after : Option Beside) : Type 0 w
   pub office : (content : SetupContent) (rows : Rows) (terminal : TerminalState) →
       HoldsOffice content rows terminal db before → IsOrNone rows terminal after
 
--- what was found under the partner's number is what the rows keep, and what stands beside them
+-- whatever rows the database has, this is what they keep under the partner's number, if that stands beside them: rows
+-- after some events, and rows of an office
+pub record KeepsBeside (partner number : ℕ) (db : Database) (there : Beside) (kept : Option Kept) : Type 0 where
+  pub events : (content : SetupContent) (es : List Event) (rows : Rows) → HasRows rows db →
+      AreAfter content es rows → IsAt content es there → IsKept partner number rows kept
+  pub office : (content : SetupContent) (rows : Rows) (terminal : TerminalState) →
+      HoldsOffice content rows terminal db (Some there) → IsKept partner number rows kept
+
+-- what is kept was read over an open connection
+abbrev pub IsOpenIfKept : Option Kept → State → Type 0
+IsOpenIfKept None s = Unit {0}
+IsOpenIfKept (Some kept) s = IsTrue s.is_open
+
+-- what was found under the partner's number is what the rows keep, if what stands beside them in the end is theirs, as it
+-- is if what stood there before was
 pub record IsFound (partner number : ℕ) (db : Database) (before : Option Beside) (found : Found) : Type 0 where
-  pub kept : (rows : Rows) → HasRows rows db → IsKept partner number rows found.kept
+  pub kept : KeepsBeside partner number db found.there found.kept
   pub beside : StaysBeside db before (Some found.there)
 
 -- nothing was found: what stands beside the rows stays; and if they are those of an office that has the partner, the store

@@ -15,10 +15,10 @@ use Rattle.office_admission.specs.Outcomes.{IsAdmitted}
 use Rattle.office_tables.specs.Faults.{IsOfStoreOr}
 use Rattle.office_tables.specs.declared.table_fault.TableFault.{TableFault}
 use Rattle.office_taking.specs.Taking.{machine_of}
-use Rattle.office_history.specs.Cascade.{text_in}
 use Rattle.office_delivery.specs.Reading.{HasUnfitBehind}
 use Rattle.office_delivery.specs.Taking.{IsNumbered}
 use Rattle.office_desk.specs.Crashes.{Leaves, LeavesEither}
+use Rattle.office_desk.specs.Finding.{KeepsBeside}
 use Rattle.office_desk.specs.Kept.{AnswersOrStays, Office}
 use Rattle.office_desk.specs.Offices.{HoldsOffice}
 use Rattle.office_desk.specs.Telling.{Answers, Comes, Holds, IsRunDone, TakesNext}
@@ -33,10 +33,10 @@ pub record IsDelivered (setup : Setup) (d : Delivered) : Type 0 where
   pub number : d.number ≤ last_number
   pub admitted : IsAdmitted setup d.text.now d.admitted
 
--- no change is under way, and the rows keep no text under its number
-pub record IsNew (d : Delivery) (s : State) : Type 0 where
+-- no change is under way, and the rows that this stands beside keep nothing under its number
+pub record IsNew (d : Delivery) (there : Beside) (s : State) : Type 0 where
   pub settled : s.now ≡ s.committed
-  pub free : (rows : Rows) → HasRows rows s.committed → text_in rows d.partner d.number ≡ None
+  pub free : KeepsBeside d.partner d.number s.committed there None
 
 -- no change is under way, these are the rows, and they have numbers of interchanges alone
 pub record HasNumbered (rows : Rows) (partner : ℕ) (s : State) : Type 0 where

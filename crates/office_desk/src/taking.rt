@@ -1,9 +1,10 @@
 ghost use Rattle.std.specs.Prelude.{◌≡◌, None, Some, false, IfOk, IsTrue, OnOk, ◌≤◌, IfErr, ◌+◌, List, MatchOption, length, map, nat_lt, if◌then◌else◌};
 ghost use Rattle.office_admission.specs.Accounts.{AccountPair, account_answer, added_as, by_number, by_own_kind, refused_for};
+ghost use Rattle.office_delivery.specs.Reading.{OnlyReads};
 ghost use Rattle.office_delivery.specs.Writing.{EndsIdle, WritesWhole};
 ghost use Rattle.office_desk.specs.Accounts.{standing_content};
 ghost use Rattle.office_desk.specs.Answers.{answer_by_model};
-ghost use Rattle.office_desk.specs.Finding.{IsFound, IsNotFound};
+ghost use Rattle.office_desk.specs.Finding.{IsFound, IsNotFound, IsOpenIfKept};
 ghost use Rattle.office_desk.specs.Noting.{IsNow};
 ghost use Rattle.office_desk.specs.Taking.{IsDelivered, IsNew, TakesDelivery, TakesRun};
 ghost use Rattle.office_desk.specs.Telling.{delivery_of};
@@ -15,7 +16,6 @@ ghost use Rattle.office_setup.specs.Limits.{most_partners};
 ghost use Rattle.office_setup.specs.Parties.{partner_from};
 ghost use Rattle.office_setup.specs.PartyCodes.{is_party_code};
 ghost use Rattle.office_setup.specs.Setups.{setup_content};
-ghost use Rattle.office_tables.specs.Reading.{Reads};
 ghost use Rattle.partner_core.specs.Answers.{Waiting};
 ghost use Rattle.partner_core.specs.Numbered.{with_number};
 ghost use Rattle.sqlite.specs.Held.{state};
@@ -102,7 +102,7 @@ fn take_new<S: Alter>(
     ensures ends { EndsIdle (state S.Store conn.old) (state S.Store conn.new) }
     ensures now { IfOk result IsNow }
     ensures is_open { HasCleanDisk (state S.Store conn.new) → OnOk result (IsTrue (state S.Store conn.new).is_open) }
-    ensures takes { IsNew (delivery_of delivery.now) (state S.Store conn.old) →
+    ensures takes { IsNew (delivery_of delivery.now) there (state S.Store conn.old) →
         TakesDelivery (setup_content setup.now) (delivery_of delivery.now) delivery.now.code.now
         (state S.Store conn.old) (Some there) result (state S.Store conn.new) beside.new }
 {
@@ -131,6 +131,9 @@ pub struct Found {
 
 /// Looks up a partner's number, and takes out what stands beside the tables: loaded, if there is none. It changes no
 /// row.
+///
+/// The number that is next is not looked up: an office keeps nothing under it. If another program wrote a text there
+/// since the opening, the table's key refuses the delivered one: the answer is NotNow, and nothing changes.
 pub(crate) fn look<S: Alter>(
     alloc: Global,
     conn: &mut Connection<S>,
@@ -145,12 +148,21 @@ pub(crate) fn look<S: Alter>(
         IfOk result (IsFound partner number (state S.Store conn.old).now beside.old) }
     ensures not_found { HasCleanDisk (state S.Store conn.new) → IfErr result
         (λ fault. IsNotFound partner number (state S.Store conn.old).now beside.old fault beside.new) }
-    ensures reads { Reads (state S.Store conn.old) (state S.Store conn.new) result }
+    ensures is_open { HasCleanDisk (state S.Store conn.new) →
+        IfOk result (λ found. IsOpenIfKept found.kept (state S.Store conn.new)) }
+    ensures reads { OnlyReads (state S.Store conn.old) (state S.Store conn.new) result }
 {
     let there = beside_of(alloc, conn, beside.take())?;
     let Some(next) = there.next_of(partner) else {
         return Err(TableFault::Damaged);
     };
+    if number == next {
+        return Ok(Found {
+            kept: None,
+            next,
+            there,
+        });
+    }
     match kept(conn, partner, number) {
         Ok(kept) => Ok(Found { kept, next, there }),
         Err(fault) => {

@@ -1,4 +1,4 @@
-use Rattle.std.proofs.Common.{Err, Some, refl, sym, subst, ◌∙◌}
+use Rattle.std.proofs.Common.{Err, Some, ap, refl, sym, subst, ◌∙◌}
 use Rattle.std.proofs.lemmas.Result.{err_from_is_err_and}
 use Rattle.sqlite.specs.Held.{state}
 use Rattle.office_rows.specs.Stored.{HasRows}
@@ -6,34 +6,49 @@ use Rattle.office_tables.specs.declared.table_fault.TableFault.TheVariants.{Dama
 use Rattle.office_tables.proofs.FaultLemmas.{of_store_or}
 use Rattle.office_tables.proofs.ReadingLemmas.{clean_first, reads_on, reads_stopped}
 use Rattle.office_delivery.specs.Reading.{IsSame}
-use Rattle.office_delivery.proofs.ReadLemmas.{stopped_reads, then_read}
+use Rattle.office_delivery.proofs.ReadLemmas.{one_read, only_on, only_stopped, then_read}
 use Rattle.office_desk.specs.Finding.{StaysBeside}
 use Rattle.office_desk.specs.Offices.{HoldsOffice}
 use Rattle.office_desk.proofs.Faults.{next_known}
+use Rattle.office_desk.proofs.NextLemmas.{next_beside, read_beside}
 use Rattle.office_desk.proofs.OfficeAccounts.{keeps_accounts}
 use Rattle.office_desk.proofs.OfficeLemmas.{none_beside}
 use Rattle.office_desk.proofs.taking.look.Goals as goal
+
+-- ---- what was found
+
+pub returns-then-number-next-clause-found : goal.returns-then-number-next-clause-found
+returns-then-number-next-clause-found g c clean =
+    let was = state g.S.Store c.args.conn.now in
+    let there = c.in_ok-there.there in
+    record {
+      kept = next_beside c.args.partner c.args.number was.now there c.requires (sym c.next_of.ensures ∙ c.in-Some.is ∙ ap Some (sym c.if-number-next.true));
+      beside = subst (λ b. StaysBeside was.now b (Some there)) c.take.ensures.value (c.in_ok-there.ensures.beside clean);
+    }
+
+pub returns-then-number-next-clause-reads : goal.returns-then-number-next-clause-reads
+returns-then-number-next-clause-reads g c = only_on _ c.in_ok-there.ensures.reads
 
 pub returns-in-Ok-clause-found : goal.returns-in-Ok-clause-found
 returns-in-Ok-clause-found g c clean =
     let was = state g.S.Store c.args.conn.now in
     let before = clean_first c.kept.ensures.reads clean in
     record {
-      kept = λ rows has. c.in-Ok.ensures.answer clean rows (subst (HasRows rows) (sym (c.in_ok-there.ensures.reads.same before).now) has);
+      kept = read_beside c.args.partner c.args.number was.now c.in_ok-there.there c.in-Ok.kept (λ rows has. c.in-Ok.ensures.answer clean rows (subst (HasRows rows) (sym (c.in_ok-there.ensures.reads.same before).now) has));
       beside = subst (λ b. StaysBeside was.now b (Some c.in_ok-there.there)) c.take.ensures.value (c.in_ok-there.ensures.beside before);
     }
 
 pub returns-in-Ok-clause-reads : goal.returns-in-Ok-clause-reads
-returns-in-Ok-clause-reads g c = then_read c.in_ok-there.ensures.reads (reads_on _ c.in-Ok.ensures.reads)
+returns-in-Ok-clause-reads g c = one_read (then_read c.in_ok-there.ensures.reads (reads_on _ c.in-Ok.ensures.reads))
 
 pub returns-in-Err-clause-reads : goal.returns-in-Err-clause-reads
-returns-in-Err-clause-reads g c = then_read c.in_ok-there.ensures.reads (reads_stopped (Err c.in-Err.fault) refl c.kept.ensures.reads)
+returns-in-Err-clause-reads g c = one_read (then_read c.in_ok-there.ensures.reads (reads_stopped (Err c.in-Err.fault) refl c.kept.ensures.reads))
 
 pub returns-in_err-there-clause-reads : goal.returns-in_err-there-clause-reads
-returns-in_err-there-clause-reads g c = stopped_reads _ c.from_residual.ensures.0 c.beside_of.ensures.reads
+returns-in_err-there-clause-reads g c = only_stopped _ c.from_residual.ensures.0 c.beside_of.ensures.reads
 
 pub returns-in_default-clause-reads : goal.returns-in_default-clause-reads
-returns-in_default-clause-reads g c = stopped_reads (Err Damaged) refl c.in_ok-there.ensures.reads
+returns-in_default-clause-reads g c = only_stopped (Err Damaged) refl c.in_ok-there.ensures.reads
 
 -- ---- why nothing was found
 

@@ -1,4 +1,4 @@
-use Rattle.std.proofs.Common.{◌≡◌, inl, None, Some, length, not, sym, ap, subst, ◌∙◌, arith}
+use Rattle.std.proofs.Common.{◌≡◌, inl, None, Some, length, not, refl, sym, ap, subst, ◌∙◌, arith}
 use Rattle.std.proofs.lemmas.List.{length-map}
 use Rattle.sqlite.specs.Held.{state}
 use Rattle.sqlite.specs.State.{HasCleanDisk}
@@ -6,10 +6,10 @@ use Rattle.office_rows.specs.Stored.{HasRows}
 use Rattle.office_setup.specs.Setups.{setup_content}
 use Rattle.office_tables.specs.Answers.{HasUnfitReply, IsKept}
 use Rattle.office_tables.specs.Faults.{IsOfStoreOr}
-use Rattle.office_tables.proofs.ReadingLemmas.{clean_first}
 use Rattle.office_delivery.specs.Reading.{IsSame}
-use Rattle.office_delivery.proofs.ReadLemmas.{no_text, same_unchanged, text_kept}
+use Rattle.office_delivery.proofs.ReadLemmas.{text_kept, was_clean, was_open}
 use Rattle.office_desk.specs.Beside.{IsAt}
+use Rattle.office_desk.specs.Finding.{IsOpenIfKept, KeepsBeside}
 use Rattle.office_desk.specs.Taking.{IsNew}
 use Rattle.office_desk.specs.Telling.{delivery_of}
 use Rattle.office_desk.proofs.CrashLemmas.{leaves_less, used_leaves}
@@ -23,7 +23,7 @@ use Rattle.office_desk.proofs.taking.take_in.Goals as goal
 -- ---- a number that is used
 
 pub returns-in_ok-answer_used-in-Some-clause-ends : goal.returns-in_ok-answer_used-in-Some-clause-ends
-returns-in_ok-answer_used-in-Some-clause-ends g c = let reads = c.look.ensures.reads in record { idle = reads.mode c.requires.idle; clean = λ clean. clean_first reads clean; was_open = λ clean. (reads.keeps clean).was_open }
+returns-in_ok-answer_used-in-Some-clause-ends g c = let reads = c.look.ensures.reads in record { idle = reads.reads.mode c.requires.idle; clean = λ clean. was_clean reads clean; was_open = λ clean. was_open reads clean }
 
 pub returns-in_ok-answer_used-in-Some-clause-now : goal.returns-in_ok-answer_used-in-Some-clause-now
 returns-in_ok-answer_used-in-Some-clause-now g c = is_now c.in_ok-answer_used-in-Some.field-0 c.args.delivery.now.code.now c.args.delivery.now.number _ c.in_ok-answer_used-in-Some.ensures
@@ -42,27 +42,30 @@ returns-in_ok-answer_used-in-Some-clause-takes g c =
     let idle = c.is_autocommit-is_idle.ensures.value ∙ ap not c.requires.idle in
     record {
       events = λ clean is_open opening es holds. λ sent comes.
-          let settled : old.now ≡ old.committed = c.is_autocommit-is_idle.ensures.settled idle ((c.look.ensures.reads.keeps clean).was_open is_open) in
+          let settled : old.now ≡ old.committed = c.is_autocommit-is_idle.ensures.settled idle ((c.look.ensures.reads.reads.keeps clean).was_open is_open) in
           let has : HasRows holds.rows old.now = subst (HasRows holds.rows) (sym settled) holds.has in
-          let same : IsSame old mid = same_unchanged old mid (c.in_ok-kept.ensures.reads.unchanged clean) in
+          let same : IsSame old mid = c.in_ok-kept.ensures.reads.same clean in
           let is_found = c.in_ok-kept.ensures.found clean in
-          let kept : IsKept partner d.number holds.rows (Some c.in-Some.kept) = subst (IsKept partner d.number holds.rows) kept_is (is_found.kept holds.rows has) in
           let at : IsAt opening es found.there = is_found.beside.events opening es holds.rows holds.given has holds.after holds.beside in
+          let kept : IsKept partner d.number holds.rows (Some c.in-Some.kept) = subst (IsKept partner d.number holds.rows) kept_is (is_found.kept.events opening es holds.rows has holds.after at) in
           used_answers opening es sent d.text.now partner d.number found.next d.code.now c.in-Some.kept response content old.now mid.committed (Some found.there)
           (held_with holds old.now (Some found.there) has at) (settled ∙ sym same.committed) comes kept (next_is opening es found.there partner found.next at c.in_ok-kept.ensures.next) c.in_ok-answer_used-in-Some.ensures;
       crash = λ clean was_open opening es sent holds leaves comes.
           let settled : old.now ≡ old.committed = c.is_autocommit-is_idle.ensures.settled idle was_open in
           let has : HasRows holds.rows old.now = subst (HasRows holds.rows) (sym settled) holds.has in
-          let kept : IsKept partner d.number holds.rows (Some c.in-Some.kept) = subst (IsKept partner d.number holds.rows) kept_is ((c.in_ok-kept.ensures.found clean).kept holds.rows has) in
-          used_leaves opening es sent holds.rows partner d.number c.in-Some.kept.text.items old mid holds.after comes.is_for
-          (text_kept partner d.number holds.rows c.in-Some.kept holds.after.kept_once kept) (leaves_less old mid clean c.look.ensures.reads.survives) leaves;
-      office = λ clean is_open office holds.
-          let settled : old.now ≡ old.committed = c.is_autocommit-is_idle.ensures.settled idle ((c.look.ensures.reads.keeps clean).was_open is_open) in
-          let held = office_with content office.rows office.terminal old.committed old.now a.beside.now a.beside.now settled holds.beside holds in
-          let same : IsSame old mid = same_unchanged old mid (c.in_ok-kept.ensures.reads.unchanged clean) in
           let is_found = c.in_ok-kept.ensures.found clean in
-          let kept : IsKept partner d.number office.rows (Some c.in-Some.kept) = subst (IsKept partner d.number office.rows) kept_is (is_found.kept office.rows held.has) in
+          let at : IsAt opening es found.there = is_found.beside.events opening es holds.rows holds.given has holds.after holds.beside in
+          let kept : IsKept partner d.number holds.rows (Some c.in-Some.kept) = subst (IsKept partner d.number holds.rows) kept_is (is_found.kept.events opening es holds.rows has holds.after at) in
+          used_leaves opening es sent holds.rows partner d.number c.in-Some.kept.text.items old mid holds.after comes.is_for
+          (text_kept partner d.number holds.rows c.in-Some.kept holds.after.kept_once kept) (leaves_less old mid clean c.look.ensures.reads.reads.survives) leaves;
+      office = λ clean is_open office holds.
+          let settled : old.now ≡ old.committed = c.is_autocommit-is_idle.ensures.settled idle ((c.look.ensures.reads.reads.keeps clean).was_open is_open) in
+          let held = office_with content office.rows office.terminal old.committed old.now a.beside.now a.beside.now settled holds.beside holds in
+          let same : IsSame old mid = c.in_ok-kept.ensures.reads.same clean in
+          let is_found = c.in_ok-kept.ensures.found clean in
           let is_of = is_found.beside.office content office.rows office.terminal held in
+          let theirs = office_with content office.rows office.terminal old.now old.now a.beside.now (Some found.there) refl is_of held in
+          let kept : IsKept partner d.number office.rows (Some c.in-Some.kept) = subst (IsKept partner d.number office.rows) kept_is (is_found.kept.office content office.rows office.terminal theirs) in
           used_by_kept content office old.now a.beside.now held (delivery_of d) d.code.now c.in-Some.kept response mid.committed found.there found.next
           (same.committed ∙ sym settled) is_of (next_found content office old.now a.beside.now held partner found.next found.there c.requires.delivered.admitted.from_one is_of c.in_ok-kept.ensures.next)
           kept c.in_ok-answer_used-in-Some.ensures;
@@ -76,8 +79,8 @@ returns-in-None-clause-ends g c =
     let ends = c.take_new.ensures.ends in
     record {
       idle = ends.idle;
-      clean = λ clean. clean_first reads (ends.clean clean);
-      was_open = λ clean is_open. (reads.keeps (ends.clean clean)).was_open (ends.was_open clean is_open);
+      clean = λ clean. was_clean reads (ends.clean clean);
+      was_open = λ clean is_open. was_open reads (ends.clean clean) (ends.was_open clean is_open);
     }
 
 pub returns-in-None-clause-takes : goal.returns-in-None-clause-takes
@@ -92,17 +95,17 @@ returns-in-None-clause-takes g c =
     let found = c.in_ok-kept.field-0 in
     let kept_is : found.kept ≡ None = let e = c.in_ok-kept.kept-is in let is = c.in-None.is in cc in
     let idle = c.is_autocommit-is_idle.ensures.value ∙ ap not c.requires.idle in
-    let is_new : HasCleanDisk mid → old.now ≡ old.committed → IsSame old mid → IsNew (delivery_of d) mid = λ clean settled same. record {
+    let is_new : HasCleanDisk mid → old.now ≡ old.committed → IsSame old mid → IsNew (delivery_of d) found.there mid = λ clean settled same. record {
       settled = same.now ∙ settled ∙ sym same.committed;
-      free = λ rows has.
-          no_text partner d.number rows (subst (IsKept partner d.number rows) kept_is ((c.in_ok-kept.ensures.found clean).kept rows (subst (HasRows rows) (same.committed ∙ sym settled) has)));
+      free = subst (λ db. KeepsBeside partner d.number db found.there None) (settled ∙ sym same.committed)
+          (subst (KeepsBeside partner d.number old.now found.there) kept_is (c.in_ok-kept.ensures.found clean).kept);
     } in
     record {
       events = λ clean is_open opening es holds.
           let before = ends.clean clean in
-          let settled : old.now ≡ old.committed = c.is_autocommit-is_idle.ensures.settled idle ((c.look.ensures.reads.keeps before).was_open (ends.was_open clean is_open)) in
+          let settled : old.now ≡ old.committed = c.is_autocommit-is_idle.ensures.settled idle ((c.look.ensures.reads.reads.keeps before).was_open (ends.was_open clean is_open)) in
           let has : HasRows holds.rows old.now = subst (HasRows holds.rows) (sym settled) holds.has in
-          let same : IsSame old mid = same_unchanged old mid (c.in_ok-kept.ensures.reads.unchanged before) in
+          let same : IsSame old mid = c.in_ok-kept.ensures.reads.same before in
           let at : IsAt opening es found.there = (c.in_ok-kept.ensures.found before).beside.events opening es holds.rows holds.given has holds.after holds.beside in
           (c.take_new.ensures.takes (is_new before settled same)).events clean is_open opening es
           (held_with holds mid.committed (Some found.there) (subst (HasRows holds.rows) (sym same.committed) holds.has) at);
@@ -110,16 +113,16 @@ returns-in-None-clause-takes g c =
           let before = ends.clean clean in
           let settled : old.now ≡ old.committed = c.is_autocommit-is_idle.ensures.settled idle was_open in
           let has : HasRows holds.rows old.now = subst (HasRows holds.rows) (sym settled) holds.has in
-          let same : IsSame old mid = same_unchanged old mid (c.in_ok-kept.ensures.reads.unchanged before) in
+          let same : IsSame old mid = c.in_ok-kept.ensures.reads.same before in
           let at : IsAt opening es found.there = (c.in_ok-kept.ensures.found before).beside.events opening es holds.rows holds.given has holds.after holds.beside in
-          (c.take_new.ensures.takes (is_new before settled same)).crash clean (c.in_ok-kept.ensures.reads.unchanged before).0.is_open opening es sent
+          (c.take_new.ensures.takes (is_new before settled same)).crash clean (c.in_ok-kept.ensures.reads.reads.unchanged before was_open).0.is_open opening es sent
           (held_with holds mid.committed (Some found.there) (subst (HasRows holds.rows) (sym same.committed) holds.has) at)
-          (λ db left. leaves db (leaves_less old mid before c.look.ensures.reads.survives db left)) comes;
+          (λ db left. leaves db (leaves_less old mid before c.look.ensures.reads.reads.survives db left)) comes;
       office = λ clean is_open office holds.
           let before = ends.clean clean in
-          let settled : old.now ≡ old.committed = c.is_autocommit-is_idle.ensures.settled idle ((c.look.ensures.reads.keeps before).was_open (ends.was_open clean is_open)) in
+          let settled : old.now ≡ old.committed = c.is_autocommit-is_idle.ensures.settled idle ((c.look.ensures.reads.reads.keeps before).was_open (ends.was_open clean is_open)) in
           let held = office_with content office.rows office.terminal old.committed old.now a.beside.now a.beside.now settled holds.beside holds in
-          let same : IsSame old mid = same_unchanged old mid (c.in_ok-kept.ensures.reads.unchanged before) in
+          let same : IsSame old mid = c.in_ok-kept.ensures.reads.same before in
           let is_of = (c.in_ok-kept.ensures.found before).beside.office content office.rows office.terminal held in
           (c.take_new.ensures.takes (is_new before settled same)).office clean is_open office
           (office_with content office.rows office.terminal old.now mid.committed a.beside.now (Some found.there) (same.committed ∙ sym settled) is_of held);
@@ -137,24 +140,24 @@ returns-in_err-kept-clause-takes g c =
     let idle = c.is_autocommit-is_idle.ensures.value ∙ ap not c.requires.idle in
     record {
       events = λ clean is_open opening es holds.
-          let settled : old.now ≡ old.committed = c.is_autocommit-is_idle.ensures.settled idle ((c.look.ensures.reads.keeps clean).was_open is_open) in
+          let settled : old.now ≡ old.committed = c.is_autocommit-is_idle.ensures.settled idle ((c.look.ensures.reads.reads.keeps clean).was_open is_open) in
           let has : HasRows holds.rows old.now = subst (HasRows holds.rows) (sym settled) holds.has in
           failed_holds opening es _ (delivery_of d) d.code.now c.from_residual.result content mid.committed c.look.new.beside c.from_residual.ensures.1
-          (held_with holds mid.committed c.look.new.beside (subst (HasRows holds.rows) (sym ((c.look.ensures.reads.keeps clean).committed is_open)) holds.has)
+          (held_with holds mid.committed c.look.new.beside (subst (HasRows holds.rows) (sym ((c.look.ensures.reads.reads.keeps clean).committed is_open)) holds.has)
           ((c.in_err-kept.ensures.not_found clean).beside.events opening es holds.rows holds.given has holds.after holds.beside));
       crash = λ clean was_open opening es sent holds leaves comes. failed_leaves opening es _ sent c.from_residual.result mid c.from_residual.ensures.1 (λ db left.
           let settled : old.now ≡ old.committed = c.is_autocommit-is_idle.ensures.settled idle was_open in
           let has : HasRows holds.rows old.now = subst (HasRows holds.rows) (sym settled) holds.has in
-          inl (leaves db (leaves_less old mid clean c.look.ensures.reads.survives db left)));
+          inl (leaves db (leaves_less old mid clean c.look.ensures.reads.reads.survives db left)));
       office = λ clean is_open office holds.
-          let settled : old.now ≡ old.committed = c.is_autocommit-is_idle.ensures.settled idle ((c.look.ensures.reads.keeps clean).was_open is_open) in
+          let settled : old.now ≡ old.committed = c.is_autocommit-is_idle.ensures.settled idle ((c.look.ensures.reads.reads.keeps clean).was_open is_open) in
           let held = office_with content office.rows office.terminal old.committed old.now a.beside.now a.beside.now settled holds.beside holds in
           let most = c.requires.delivered.admitted.known in
           let many : length content.partners ≡ length a.setup.now.partners.items = length-map a.setup.now.partners.items _ in
           let not_found = c.in_err-kept.ensures.not_found clean in
           failed_stays _ content office (delivery_of d) d.code.now c.from_residual.result _ _ c.from_residual.ensures.1
           (λ fault is. subst (IsOfStoreOr (HasUnfitReply d.admitted.partner d.number office.rows)) (sym is) (not_found.why content office.rows office.terminal held (omega (arith, most, many))))
-          (office_with content office.rows office.terminal old.committed mid.committed a.beside.now c.look.new.beside ((c.look.ensures.reads.keeps clean).committed is_open)
+          (office_with content office.rows office.terminal old.committed mid.committed a.beside.now c.look.new.beside ((c.look.ensures.reads.reads.keeps clean).committed is_open)
           (not_found.beside.office content office.rows office.terminal held) holds);
     }
 
@@ -173,20 +176,20 @@ returns-in_err-answer_used-in-Some-clause-takes g c =
     let idle = c.is_autocommit-is_idle.ensures.value ∙ ap not c.requires.idle in
     record {
       events = λ clean is_open opening es holds.
-          let settled : old.now ≡ old.committed = c.is_autocommit-is_idle.ensures.settled idle ((c.look.ensures.reads.keeps clean).was_open is_open) in
+          let settled : old.now ≡ old.committed = c.is_autocommit-is_idle.ensures.settled idle ((c.look.ensures.reads.reads.keeps clean).was_open is_open) in
           let has : HasRows holds.rows old.now = subst (HasRows holds.rows) (sym settled) holds.has in
-          let same : IsSame old mid = same_unchanged old mid (c.in_ok-kept.ensures.reads.unchanged clean) in
+          let same : IsSame old mid = c.in_ok-kept.ensures.reads.same clean in
           failed_holds opening es _ (delivery_of d) d.code.now result content mid.committed (Some found.there) failed
           (held_with holds mid.committed (Some found.there) (subst (HasRows holds.rows) (sym same.committed) holds.has)
           ((c.in_ok-kept.ensures.found clean).beside.events opening es holds.rows holds.given has holds.after holds.beside));
       crash = λ clean was_open opening es sent holds leaves comes. failed_leaves opening es _ sent result mid failed (λ db left.
           let settled : old.now ≡ old.committed = c.is_autocommit-is_idle.ensures.settled idle was_open in
           let has : HasRows holds.rows old.now = subst (HasRows holds.rows) (sym settled) holds.has in
-          inl (leaves db (leaves_less old mid clean c.look.ensures.reads.survives db left)));
+          inl (leaves db (leaves_less old mid clean c.look.ensures.reads.reads.survives db left)));
       office = λ clean is_open office holds.
-          let settled : old.now ≡ old.committed = c.is_autocommit-is_idle.ensures.settled idle ((c.look.ensures.reads.keeps clean).was_open is_open) in
+          let settled : old.now ≡ old.committed = c.is_autocommit-is_idle.ensures.settled idle ((c.look.ensures.reads.reads.keeps clean).was_open is_open) in
           let held = office_with content office.rows office.terminal old.committed old.now a.beside.now a.beside.now settled holds.beside holds in
-          let same : IsSame old mid = same_unchanged old mid (c.in_ok-kept.ensures.reads.unchanged clean) in
+          let same : IsSame old mid = c.in_ok-kept.ensures.reads.same clean in
           failed_stays _ content office (delivery_of d) d.code.now result _ _ failed
           (λ fault is. subst (IsOfStoreOr (HasUnfitReply d.admitted.partner d.number office.rows)) (sym is) tt)
           (office_with content office.rows office.terminal old.committed mid.committed a.beside.now (Some found.there) same.committed
@@ -196,4 +199,8 @@ returns-in_err-answer_used-in-Some-clause-takes g c =
 -- ---- over an open connection
 
 pub returns-in_ok-answer_used-in-Some-clause-is_open : goal.returns-in_ok-answer_used-in-Some-clause-is_open
-returns-in_ok-answer_used-in-Some-clause-is_open g c clean = (c.in_ok-kept.ensures.reads.unchanged clean).0.is_open
+returns-in_ok-answer_used-in-Some-clause-is_open g c clean =
+    let mid = state g.S.Store c.look.new.conn in
+    let found = c.in_ok-kept.field-0 in
+    let kept_is : found.kept ≡ Some c.in-Some.kept = let e = c.in_ok-kept.kept-is in let is = c.in-Some.is in cc in
+    subst (λ kept. IsOpenIfKept kept mid) kept_is (c.in_ok-kept.ensures.is_open clean)

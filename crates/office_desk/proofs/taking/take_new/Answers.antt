@@ -17,6 +17,7 @@ use Rattle.office_desk.proofs.DeliverLemmas.{is_now}
 use Rattle.office_desk.proofs.Faults.{behind_fits, low_is_kept}
 use Rattle.office_desk.proofs.HoldLemmas.{held_with, machine_same, next_answers, next_is, numbered}
 use Rattle.office_desk.proofs.KeptLemmas.{early_or_stays, failed_stays, next_answers_so, next_found}
+use Rattle.office_desk.proofs.NextLemmas.{free_after, free_over}
 use Rattle.office_desk.proofs.NumberLemmas.{number_within}
 use Rattle.office_desk.proofs.OfficeAccounts.{keeps_accounts, next_follows}
 use Rattle.office_desk.proofs.OfficeLemmas.{office_with}
@@ -43,7 +44,7 @@ returns-then-delivery-next-clause-takes g c new =
           let is_next = next_found content old was.committed (Some a.there) holds partner a.next a.there c.requires.delivered.admitted.from_one holds.beside c.requires.next in
           let follows = next_follows content old.rows its partner a.next is_next in
           let low = c.if-delivery-next.true in (
-            absurd (low_is_kept content old.rows its partner d.number c.requires.delivered.from_one (omega (arith, low, follows)) (new.free old.rows holds.has)),
+            absurd (low_is_kept content old.rows its partner d.number c.requires.delivered.from_one (omega (arith, low, follows)) (free_over old.rows new holds)),
             office_with content old.rows old.terminal was.committed was.committed (Some a.there) a.beside.now refl (subst (IsOrNone old.rows old.terminal) (sym c.requires.out) tt) holds,
           );
     }
@@ -66,17 +67,17 @@ returns-then-next-delivery-clause-takes g c new =
     let later = c.if-next-delivery.true in
     record {
       events = λ clean is_open opening es holds.
-          early_events opening es (delivery_of d) d.code.now content was end (Some a.there) a.next holds (new.free holds.rows holds.has) (next_is opening es a.there partner a.next holds.beside c.requires.next) later
+          early_events opening es (delivery_of d) d.code.now content was end (Some a.there) a.next holds (free_after new holds) (next_is opening es a.there partner a.next holds.beside c.requires.next) later
           c.keep_early.result told (writes.ok clean) (writes.err clean is_open);
       crash = λ clean was_open opening es sent holds leaves comes.
-          early_leaves opening es (delivery_of d) d.code.now content was end (Some a.there) a.next holds (new.free holds.rows holds.has) (next_is opening es a.there partner a.next holds.beside c.requires.next) later
+          early_leaves opening es (delivery_of d) d.code.now content was end (Some a.there) a.next holds (free_after new holds) (next_is opening es a.there partner a.next holds.beside c.requires.next) later
           sent c.keep_early.result comes leaves told (writes.ok clean) (writes.crash.crash clean);
       office = λ clean is_open old holds.
           let most = c.requires.delivered.admitted.known in
           let many : length content.partners ≡ length a.setup.now.partners.items = length-map a.setup.now.partners.items _ in
           let one = c.requires.delivered.admitted.from_one in
           let is_next = next_found content old was.committed (Some a.there) holds partner a.next a.there one holds.beside c.requires.next in
-          early_or_stays content old (delivery_of d) d.code.now c.keep_early.result was end a.there a.next holds is_next (new.free old.rows holds.has) later c.requires.delivered.number one (omega (arith, most, many))
+          early_or_stays content old (delivery_of d) d.code.now c.keep_early.result was end a.there a.next holds is_next (free_over old.rows new holds) later c.requires.delivered.number one (omega (arith, most, many))
           told (writes.ok clean) (writes.err clean is_open) writes.fault;
     }
 
@@ -97,17 +98,17 @@ returns-clause-takes g c new =
       events = λ clean is_open opening es holds. λ sent comes.
           let takes = (runs clean).ok holds.rows (record { settled = new.settled; has = subst (HasRows holds.rows) (sym new.settled) holds.has; numbered = numbered opening es holds.rows partner holds.after }) in
           next_answers a.setup.now opening es sent d.text.now partner d.number a.next d.code.now c.in_ok-answer.answer a.there c.in_ok-answer.now was.committed end holds comes
-          (new.free holds.rows holds.has) one (next_is opening es a.there partner a.next holds.beside c.requires.next) same takes;
+          (free_after new holds) one (next_is opening es a.there partner a.next holds.beside c.requires.next) same takes;
       crash = λ clean was_open opening es sent holds leaves comes.
           let takes = (runs clean).ok holds.rows (record { settled = new.settled; has = subst (HasRows holds.rows) (sym new.settled) holds.has; numbered = numbered opening es holds.rows partner holds.after }) in
           let after = (next_answers a.setup.now opening es sent d.text.now partner d.number a.next d.code.now c.in_ok-answer.answer a.there c.in_ok-answer.now was.committed end holds comes
-          (new.free holds.rows holds.has) one (next_is opening es a.there partner a.next holds.beside c.requires.next) same takes).holds in
+          (free_after new holds) one (next_is opening es a.there partner a.next holds.beside c.requires.next) same takes).holds in
           committed_leaves opening (es ++ delivered sent ∷ []) end after.rows takes.alone after.has after.after;
       office = λ clean is_open old holds.
           let most = c.requires.delivered.admitted.known in
           let many : length content.partners ≡ length a.setup.now.partners.items = length-map a.setup.now.partners.items _ in
           let is_next = next_found content old was.committed (Some a.there) holds partner a.next a.there one holds.beside c.requires.next in
-          next_answers_so a.setup.now old (delivery_of d) d.code.now c.in_ok-answer.answer was.committed a.there c.in_ok-answer.now end a.next holds is_next (new.free old.rows holds.has) same
+          next_answers_so a.setup.now old (delivery_of d) d.code.now c.in_ok-answer.answer was.committed a.there c.in_ok-answer.now end a.next holds is_next (free_over old.rows new holds) same
           one (omega (arith, most, many)) c.requires.delivered.number
           (λ rows has numbers. (runs clean).ok rows (record { settled = new.settled; has = subst (HasRows rows) (sym new.settled) has; numbered = numbers }));
     }
@@ -133,7 +134,7 @@ returns-in_err-answer-clause-takes g c new =
       crash = λ clean was_open opening es sent holds leaves comes. failed_leaves opening es _ sent c.from_residual.result end c.from_residual.ensures.1 (λ db left.
           let rows = holds.rows in
           either_of (λ before. leaves db before)
-          (λ done. run_after opening es sent rows d.text.now partner d.number a.next a.there db holds.given holds.after holds.beside comes (new.free rows holds.has) (next_is opening es a.there partner a.next holds.beside c.requires.next) same
+          (λ done. run_after opening es sent rows d.text.now partner d.number a.next a.there db holds.given holds.after holds.beside comes (free_after new holds) (next_is opening es a.there partner a.next holds.beside c.requires.next) same
           (subst (λ m. IsRunDone rows (delivery_of d) m db) (machine_same a.setup.now a.there.terminal ∙ ap (λ k. machine_with k a.there.terminal) (sym holds.now_is)) done))
           ((runs clean).crash rows (record { settled = new.settled; has = subst (HasRows rows) (sym new.settled) holds.has; numbered = numbered opening es rows partner holds.after }) db left));
       office = λ clean is_open old holds.

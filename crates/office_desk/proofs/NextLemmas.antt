@@ -1,0 +1,65 @@
+-- That nothing is kept under a partner's next number.
+use Rattle.std.proofs.Common.{◌≡◌, ℕ, ◌+◌, ◌≤◌, List, [], ◌∷◌, Option, None, Some, Contains, refl, sym, ap, subst, ◌∙◌}
+use Rattle.std.specs.Option.{option_map}
+use Rattle.sqlite.specs.Effect.{Database}
+use Rattle.sqlite.specs.State.{State}
+use Rattle.partner_core.specs.Deliveries.{Delivery, run}
+use Rattle.partner_core.specs.Numbered.{with_number}
+use Rattle.partner_core.proofs.Unbroken.{free_after_run}
+use Rattle.terminal_core.specs.State.{TerminalState}
+use Rattle.office_replies.specs.Events.{Event}
+use Rattle.office_rows.specs.Rows.{Interchange, Rows}
+use Rattle.office_rows.specs.Stored.{HasRows}
+use Rattle.office_setup.specs.Setups.{SetupContent}
+use Rattle.office_tables.specs.Answers.{IsKept, pair_of}
+use Rattle.office_tables.specs.declared.interchanges.Kept.{Kept}
+use Rattle.office_history.specs.After.{AreKeptOnce, deliveries_of}
+use Rattle.office_history.specs.Cascade.{text_in}
+use Rattle.office_history.proofs.Shown.{head_in}
+use Rattle.office_delivery.proofs.ReadLemmas.{no_text, one_kept}
+use Rattle.office_desk.specs.Finding.{KeepsBeside}
+use Rattle.office_desk.specs.Kept.{Office}
+use Rattle.office_desk.specs.Offices.{HoldsOffice}
+use Rattle.office_desk.specs.Taking.{IsNew}
+use Rattle.office_desk.specs.Telling.{Holds}
+use Rattle.office_desk.specs.declared.beside.Beside.{Beside}
+use Rattle.office_desk.proofs.HoldLemmas.{next_is}
+use Rattle.office_desk.proofs.KeptLemmas.{next_found}
+use Rattle.office_desk.proofs.OfficeAccounts.{keeps_accounts, next_follows}
+
+-- a number with no text has no interchange
+none_in : (partner number : ℕ) (rows : Rows) → AreKeptOnce rows.interchanges → text_in rows partner number ≡ None → IsKept partner number rows None
+none_in partner number rows once free = at (pair_of partner number rows) refl
+  where
+    at : (pairs : List Interchange) → pair_of partner number rows ≡ pairs → pair_of partner number rows ≡ []
+    at [] e = e
+    at (i ∷ later) e =
+        let inside : Contains (pair_of partner number rows) i = subst (λ l. Contains l i) (sym e) (head_in i later) in
+        let there : text_in rows partner number ≡ Some i.body = ap (option_map (λ (x : Interchange). x.body)) (one_kept partner number rows i once inside) in
+        let never : Some i.body ≡ None = sym there ∙ free in cc
+
+-- what any rows keep, those keep that this stands beside
+pub read_beside : (partner number : ℕ) (db : Database) (there : Beside) (kept : Option Kept) → ((rows : Rows) → HasRows rows db → IsKept partner number rows kept) → KeepsBeside partner number db there kept
+read_beside partner number db there kept each = record { events = λ content es rows has after at. each rows has; office = λ content rows terminal holds. each rows holds.has }
+
+-- nothing is kept under the number that is next
+pub next_beside : (partner number : ℕ) (db : Database) (there : Beside) → 1 ≤ partner → with_number there.nexts.items partner ≡ Some number → KeepsBeside partner number db there None
+next_beside partner number db there one is = record {
+  events = λ content es rows has after at.
+      let D = deliveries_of content es in
+      let next : number ≡ run D partner + 1 = next_is content es there partner number at is in
+      none_in partner number rows after.kept_once (ap (text_in rows partner) next ∙ after.texts partner (run D partner + 1) ∙ free_after_run D partner);
+  office = λ content rows terminal holds.
+      let its = (keeps_accounts content rows terminal db holds.has holds.loads).0 in
+      let old : Office = record { rows = rows; terminal = terminal } in
+      let next : number ≡ its.runs partner + 1 = next_follows content rows its partner number (next_found content old db (Some there) holds partner number there one holds.beside is) in
+      none_in partner number rows its.keeps.once (ap (text_in rows partner) next ∙ its.keeps.free partner);
+}
+
+-- ---- a text that is new
+
+pub free_after : {d : Delivery} {there : Beside} {s : State} {content : SetupContent} {es : List Event} {now : SetupContent} → IsNew d there s → (holds : Holds content es now s.committed (Some there)) → text_in holds.rows d.partner d.number ≡ None
+free_after {d} {there} {s} {content} {es} {now} new holds = no_text d.partner d.number holds.rows (new.free.events content es holds.rows holds.has holds.after holds.beside)
+
+pub free_over : {d : Delivery} {there : Beside} {s : State} {content : SetupContent} (rows : Rows) {terminal : TerminalState} → IsNew d there s → HoldsOffice content rows terminal s.committed (Some there) → text_in rows d.partner d.number ≡ None
+free_over {d} {there} {s} {content} rows {terminal} new holds = no_text d.partner d.number rows (new.free.office content rows terminal holds)
