@@ -16,13 +16,18 @@ def first_text(deliveries, partner, number):
     return None
 
 
-def kept_texts(deliveries):
-    """The text under each number, in the order in which they came: of each delivery whose number was free by then. Those
-    that wait are among them; a repeat or a clash adds none.
+def kept(deliveries):
+    """The first delivery under each number, in the order in which they came: each whose number was free by then. Those that
+    wait are among them; a repeat or a clash adds none.
     """
     return [
-        delivery.text for place, delivery in enumerate(deliveries)
+        delivery for place, delivery in enumerate(deliveries)
         if first_text(deliveries[:place], delivery.partner, delivery.number) is None]
+
+
+def kept_texts(deliveries):
+    """The texts of these."""
+    return [delivery.text for delivery in kept(deliveries)]
 
 
 def run(deliveries, partner):

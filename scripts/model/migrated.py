@@ -21,7 +21,7 @@ from .old_stores import write_store
 from .opened import fault_of_old_rows
 from .reports import WHOLE
 from .requests import every_key, random_requests
-from .rows import OLD_COLUMNS, rows_in, rows_of
+from .rows import OLD_COLUMNS, interchange_rows, rows_in, rows_of, standing_in
 from .setup import DEMO, read_setup
 from .setups import Files
 from .stores import Program
@@ -39,6 +39,10 @@ LISTS = 16
 BEFORE, BEHIND = 24, 12
 AGAIN = 8
 REQUESTS = 20
+
+# one list in so many stands in an order of another program's, with gaps between its rowids of up to so many
+REORDERED = 4
+GAP = 1000
 
 
 def pages_logged(log):
@@ -89,13 +93,32 @@ def check_real():
 
 # ---- one migration
 
+def numbered(rows):
+    """Rows as they stand in a new store: under the rowids 1, 2, 3 and so on."""
+    return [(place, *row) for place, row in enumerate(rows, start=1)]
+
+
+def as_kept(beside, name, program, office, chance):
+    """What came stands as it came: the texts that the store keeps."""
+    beside.expect('interchanges as they came', name, numbered(interchange_rows(office)), standing_in(program.store))
+    beside.texts(name, program, office, chance)
+
+
+def reordered(chance, office):
+    """The interchanges of an office in another order, under rowids with gaps between them."""
+    rows = interchange_rows(office)
+    rowids = sorted(chance.sample(range(1, len(rows) * GAP + 1), len(rows)))
+    return list(zip(rowids, chance.sample(rows, len(rows))))
+
+
 def goes_over(beside, name, program, old, office):
     """A store is brought over, and the old one stays byte for byte; what is asked of it otherwise is refused."""
-    before = contents(old)
+    before, stood = contents(old), [row for _rowid, *row in standing_in(old)]
     beside.expect('migrate', name, ('ready\n', '', 0), program.migrate(old))
     beside.expect('an old store stays', name, before, contents(old))
     office.migrate()
     beside.rows(name, program, office)
+    beside.expect('interchanges as they stood', name, numbered(stood), standing_in(program.store))
     for words, fault in (
             (['migrate', old, program.store], 'Store'), (['report', old, 'yard'], 'Version'),
             (['migrate', program.store, program.store + '2'], 'Version')):
@@ -103,10 +126,12 @@ def goes_over(beside, name, program, old, office):
     beside.expect('an old store stays', name, before, contents(old))
 
 
-def goes_on(beside, name, program, office, day):
+def goes_on(beside, name, program, office, day, is_reordered=False):
     """All reports; texts of old times again, those that were refused and those that wait among them; more deliveries,
-    requests, and the rows behind them."""
+    requests, and the rows behind them. The texts as they came, unless the old store had another order."""
     chance = random.Random('migrated %s' % name)
+    if not is_reordered:
+        as_kept(beside, name, program, office, chance)
     for kind, key in WHOLE + every_key(office):
         beside.report(name, program, office, kind, key)
     texts = [event.text for event in office.events if isinstance(event, Delivered) and event.text]
@@ -116,6 +141,8 @@ def goes_on(beside, name, program, office, day):
     beside.rows(name, program, office)
     beside.serve(name, program, office, random_requests(chance, day, office, REQUESTS))
     beside.rows(name, program, office)
+    if not is_reordered:
+        as_kept(beside, name, program, office, chance)
 
 
 def try_played(beside, seed, version):
@@ -127,10 +154,11 @@ def try_played(beside, seed, version):
     answers(office, streamed(day, BEFORE, 0.03))
     with tempfile.TemporaryDirectory(prefix='beside-') as folder:
         program, old = Program(beside.path, folder), os.path.join(folder, 'old.db')
-        write_store(old, office)
+        is_reordered = seed % REORDERED == 0
+        write_store(old, office, reordered(day.random, office) if is_reordered else None)
         beside.expect('old stores, the model', name, None, fault_of_old_rows(rows_in(old, OLD_COLUMNS)[0]))
         goes_over(beside, name, program, old, office)
-        goes_on(beside, name, program, office, day)
+        goes_on(beside, name, program, office, day, is_reordered)
 
 
 def try_real(beside, path):

@@ -7,7 +7,7 @@ import os
 import re
 import sqlite3
 
-from .rows import rows_of
+from .rows import interchange_rows, rows_of
 from .rules import NEWEST
 
 TOP = os.path.dirname(os.path.dirname(os.path.dirname(os.path.abspath(__file__))))
@@ -21,14 +21,18 @@ def schema_of(version):
     return schema if version == NEWEST else schema.replace(', kilos INTEGER NOT NULL', '')
 
 
-def write_store(path, office):
-    """Makes the store of an office."""
+def write_store(path, office, standing=None):
+    """Makes the store of an office. Its interchanges stand in the order in which they came, under the rowids 1, 2, 3 and so
+    on, unless others are given: pairs of a rowid and a row."""
     store = sqlite3.connect(path)
     try:
         store.executescript(schema_of(office.version))
         for table, rows in rows_of(office).items():
-            for row in rows:
+            for row in rows if table != 'interchange' else []:
                 store.execute('INSERT INTO %s VALUES (%s)' % (table, ', '.join('?' * len(row))), row)
+        for rowid, row in standing or enumerate(interchange_rows(office), start=1):
+            store.execute(
+                'INSERT INTO interchange (rowid, partner, number, body, reply) VALUES (?, ?, ?, ?, ?)', (rowid, *row))
         store.commit()
     finally:
         store.close()

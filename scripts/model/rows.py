@@ -6,8 +6,9 @@ import os
 import shutil
 import sqlite3
 import tempfile
+from contextlib import closing, contextmanager
 
-from .deliveries import first_text, run
+from .deliveries import kept, run
 from .names import slot_text
 from .office import json_text
 from .rules import NEWEST, RULES
@@ -47,13 +48,12 @@ def partner_rows(office):
 
 
 def interchange_rows(office):
-    """The first text under each number that is used, with its reply where it was taken."""
-    replies, deliveries, known = office.fold().replies, office.deliveries, identities(office.setup)
-    used = {(delivery.partner, delivery.number) for delivery in deliveries}
+    """The first text under each number that is used, with its reply where it was taken, in the order in which they came."""
+    replies, known = office.fold().replies, identities(office.setup)
     return [
-        (known[partner], number, first_text(deliveries, partner, number).encode('latin-1'),
+        (known[partner], number, text.encode('latin-1'),
          json_text(replies[partner, number]) if (partner, number) in replies else '')
-        for partner, number in used]
+        for partner, number, text in kept(office.deliveries)]
 
 
 def passage_columns(office, passage):
@@ -109,21 +109,32 @@ def rows_of(office):
 
 # ---- what a store holds
 
-def rows_in(path, columns=None):
-    """What the tables of a store hold, and what SQLite itself finds wrong with it, by its own library. It reads a copy of
-    the file and of the log beside it, so that the store is left as it is. The columns are the newest, if none are named."""
+@contextmanager
+def copied(path):
+    """A copy of a store and of the log beside it, opened by SQLite's own library, so that the store is left as it is."""
     with tempfile.TemporaryDirectory(prefix='beside-') as folder:
         copy = os.path.join(folder, 'store')
         for end in ('', '-wal'):
             if os.path.exists(path + end):
                 shutil.copyfile(path + end, copy + end)
-        store = sqlite3.connect(copy)
+        with closing(sqlite3.connect(copy)) as store:
+            yield store
+
+
+def rows_in(path, columns=None):
+    """What the tables of a store hold, and what SQLite itself finds wrong with it. The columns are the newest, if none are
+    named."""
+    with copied(path) as store:
         try:
             return tables_of(store, columns), faults_of(store)
         except sqlite3.DatabaseError as fault:
             return {}, [str(fault)]
-        finally:
-            store.close()
+
+
+def standing_in(path):
+    """The interchanges of a store as they stand, each behind its rowid."""
+    with copied(path) as store:
+        return store.execute('SELECT rowid, * FROM interchange ORDER BY rowid').fetchall()
 
 
 def tables_of(store, columns=None):

@@ -4,12 +4,15 @@ use Rattle.sqlite.specs.State.{State, HasCleanDisk, Survives}
 use Rattle.sqlite.specs.Tree.{Trees}
 use Rattle.office_rows.specs.Rows.{Rows}
 use Rattle.office_rows.specs.Stored.{HasRows, StoresRows}
+use Rattle.office_rows.specs.Tables.{office_schema}
 use Rattle.office_tables.specs.Faults.{IsOfStore}
+use Rattle.office_tables.specs.Order.{HasRowsInOrder}
 use Rattle.office_tables.specs.declared.table_fault.TableFault.{TableFault}
 
--- the change is committed: the rows are these, and a crash leaves these alone
+-- the change is committed: the rows are these, in order if they were before, and a crash leaves these alone
 pub record Commits (change : Rows → Rows) (old new : State) : Type 0 where
   pub rows : (rows : Rows) → HasRows rows old.committed → HasRows (change rows) new.committed
+  pub in_order : (rows : Rows) → HasRowsInOrder rows old.committed → HasRowsInOrder (change rows) new.committed
   pub settled : new.now ≡ new.committed
   pub is_open : IsTrue new.is_open
   pub alone : (db : Trees) → new.may_leave db → db ≡ new.committed.trees
@@ -22,6 +25,11 @@ pub record IsUndone (old new : State) : Type 0 where
 -- these are the rows after the change, whole
 abbrev pub IsWhole : (Rows → Rows) → State → Trees → Type 0
 IsWhole change old db = (rows : Rows) → HasRows rows old.committed → StoresRows (change rows) db
+
+-- these are the rows after the change, whole and in order, if they were in order before
+abbrev pub IsWholeInOrder : (Rows → Rows) → State → Trees → Type 0
+IsWholeInOrder change old db = (rows : Rows) → HasRowsInOrder rows old.committed →
+    HasRowsInOrder (change rows) (record { schema = office_schema; trees = db })
 
 -- no transaction stays open; if the disk is clean in the end, it was before, and if the connection is open then too, it was
 pub record EndsIdle (old new : State) : Type 0 where

@@ -1,6 +1,6 @@
 ghost use Rattle.std.specs.Prelude.{◌≡◌, ◌<◌, All, map, false, OnOk, OnErr, IfErr, IsTrue};
 ghost use Rattle.office_delivery.specs.Taken.{taken_content, taken_contents};
-ghost use Rattle.office_delivery.specs.Writing.{IsUndone, WritesWhole};
+ghost use Rattle.office_delivery.specs.Writing.{IsUndone, IsWholeInOrder, WritesWhole};
 ghost use Rattle.office_history.specs.Cascade.{with_changes, with_interchange, with_interchanges, with_run};
 ghost use Rattle.office_rows.specs.Effects.{with_waiting, with_partner};
 ghost use Rattle.office_tables.specs.Faults.{IsOfStore};
@@ -116,6 +116,8 @@ pub fn write_run<S: Alter>(
     requires numbers { All (λ t. t.number < 1000000000) taken.now }
     ensures writes { WritesWhole (with_run partner number text.now (taken_contents taken.now)) (state S.Store conn.old)
         (state S.Store conn.new) result }
+    ensures crash_in_order { Survives (state S.Store conn.old) (state S.Store conn.new)
+        (IsWholeInOrder (with_run partner number text.now (taken_contents taken.now)) (state S.Store conn.old)) }
     ensures undone { HasCleanDisk (state S.Store conn.new) → IsTrue (state S.Store conn.new).is_open →
         OnErr result ((state S.Store conn.new).now ≡ (state S.Store conn.old).committed) }
 {
@@ -135,6 +137,8 @@ pub fn write_early<S: Alter>(
 ) -> Result<(), TableFault>
     requires idle { (state S.Store conn.old).in_transaction ≡ false }
     ensures writes { WritesWhole (with_waiting partner number text.now) (state S.Store conn.old) (state S.Store conn.new) result }
+    ensures crash_in_order { Survives (state S.Store conn.old) (state S.Store conn.new)
+        (IsWholeInOrder (with_waiting partner number text.now) (state S.Store conn.old)) }
     ensures undone { HasCleanDisk (state S.Store conn.new) → IsTrue (state S.Store conn.new).is_open →
         OnErr result ((state S.Store conn.new).now ≡ (state S.Store conn.old).committed) }
 {
@@ -150,6 +154,8 @@ pub fn write_account<S: Alter>(
 ) -> Result<(), TableFault>
     requires idle { (state S.Store conn.old).in_transaction ≡ false }
     ensures writes { WritesWhole (with_partner id code.now kind) (state S.Store conn.old) (state S.Store conn.new) result }
+    ensures crash_in_order { Survives (state S.Store conn.old) (state S.Store conn.new)
+        (IsWholeInOrder (with_partner id code.now kind) (state S.Store conn.old)) }
     ensures undone { HasCleanDisk (state S.Store conn.new) → IsTrue (state S.Store conn.new).is_open →
         OnErr result ((state S.Store conn.new).now ≡ (state S.Store conn.old).committed) }
 {

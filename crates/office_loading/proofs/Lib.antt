@@ -7,6 +7,7 @@ pub mod WaitingQuery
 pub mod ColumnLemmas
 pub mod DecodeLemmas
 pub mod OrderLemmas
+pub mod RowidLemmas
 pub mod ShownLemmas
 pub mod TableLemmas
 pub mod VersionLemmas

@@ -92,5 +92,10 @@ module _ {S T : Type 0} (g : store.Ghosts S) (says : Row → T → Type 0) (sql 
     row_refused is_said row moved same Version h = h
     row_refused is_said row moved same (Store error) h = absurd h
 
+    pub all_shown : OnlyShows sql → Advances g old new None → (answer : List Row) × Shown sql [] (state g first) (state g new) answer × AllZip says answer read
+    all_shown shows moved = (s.given, shown_from sql [] _ _ _ s.given shows s.same (moved sql [] s.given s.has), s.said)
+
     pub all_read : OnlyShows sql → (Z : Type 0) (is_said : Row → Type 0) (vector : Vec T Z) → vector.items ≡ read → Advances g old new None → ReadsShown says is_said sql (state g first) (state g new) (Ok vector)
-    all_read shows Z is_said vector is moved = (s.given, shown_from sql [] _ _ _ s.given shows s.same (moved sql [] s.given s.has), subst (AllZip says s.given) (sym is) s.said)
+    all_read shows Z is_said vector is moved =
+        let all = all_shown shows moved in
+        (all.0, all.1, subst (AllZip says all.0) (sym is) all.2)

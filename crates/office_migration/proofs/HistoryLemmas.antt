@@ -55,4 +55,4 @@ module _ (version : Version) (content : SetupContent) (es : List Event) (db : Da
   holds_after new has = record { rows = migrated_rows it.rows; has = has; after = migration_goes_on content version es it.rows it.unmigrated it.after }
 
   pub migration_holds : (before : Database) (trees : Trees) → IsMigration db before trees → before.schema ≡ table.no_schema → StoresAfter content (es ++ migrated version ∷ []) trees
-  migration_holds before trees made none = holds_after (record { schema = table.office_schema; trees = trees }) (made none it.rows it.has)
+  migration_holds before trees made none = holds_after (record { schema = table.office_schema; trees = trees }) (made none it.rows it.has).0

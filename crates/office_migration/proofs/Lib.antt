@@ -1,4 +1,4 @@
 pub mod MoreLemmas
-pub mod PairLemmas
+pub mod StandingLemmas
 pub mod MigratedLemmas
 pub mod HistoryLemmas

@@ -1,34 +1,49 @@
 -- What is copied from one store to another.
-use Rattle.std.specs.Prelude.{◌≡◌, ℕ, List, [], ◌∷◌, filter, map, Contains}
-use Rattle.sqlite.specs.Order.{Row}
-use Rattle.office_rows.specs.Tables.{interchange_table}
+use Rattle.std.specs.Prelude.{◌≡◌, List, [], ◌∷◌, map, take, Ok}
+use Rattle.sqlite.specs.Order.{Row, column}
+use Rattle.sqlite.specs.State.{State, HasCleanDisk}
+use Rattle.sqlite.specs.declared.types.Value.TheVariants.{Text, Blob}
+use Rattle.sqlite_trees.specs.View.{IsShaped}
+use Rattle.sqlite_trees.specs.declared.store.Shape.TheVariants as shape
+use Rattle.office_rows.specs.Tables.{interchange_table, office_tables}
+use Rattle.office_rows.specs.Layouts.{bare_schema}
 use Rattle.office_rows.specs.Rows.{Interchange, Rows}
-use Rattle.office_rows.specs.Values.{interchange_values, kept_values}
-use Rattle.office_rows.specs.Stored.{Holds}
-use Rattle.office_rows.specs.Effects.{is_pair}
-use Rattle.office_rows.specs.Opened.{NumberKept, OpenedRows}
-use Rattle.std.specs.List.Sorted.{IsPermutation}
-use Rattle.office_tables.specs.Answers.{RepliesAs}
-use Rattle.office_tables.specs.declared.interchanges.Kept.{Kept}
+use Rattle.office_rows.specs.Values.{number_value, interchange_values}
+use Rattle.office_rows.specs.Stored.{columns_of, HasEmpty}
+use Rattle.office_rows.specs.Opened.{OpenedRows}
+use Rattle.office_rows.specs.Opening.{with_interchanges}
+use Rattle.office_rows.specs.Steps.{Turns}
+use Rattle.office_tables.specs.Order.{HasRowsInOrder}
+use Rattle.office_tables.specs.Writes.{Writes, WritesIfOpen}
 
--- whatever interchanges the answer shows, it is the body and the reply of one
-abbrev pub IsOneOf : List Row → Kept → Type 0
-IsOneOf answer kept = (interchanges : List Interchange) → IsPermutation (map kept_values interchanges) answer →
-    (i : Interchange) × Contains interchanges i × (kept.text.items ≡ i.body) × RepliesAs kept.reply i.reply
+-- ---- interchanges
 
--- of the interchanges that a tree holds, it is one of that partner and number
-abbrev pub IsOfPair : List Row → ℕ → ℕ → Interchange → Type 0
-IsOfPair stored partner number one = (interchanges : List Interchange) →
-    Holds interchange_table interchange_values interchanges stored →
-    Contains (filter (is_pair partner number) interchanges) one
+-- the row of the query shows the body, the reply, the partner and the number of an interchange
+pub record ShowsInterchange (row : Row) (i : Interchange) : Type 0 where
+  pub body : column row 0 ≡ Blob i.body
+  pub reply : column row 1 ≡ Text i.reply
+  pub partner : column row 2 ≡ number_value i.partner
+  pub number : column row 3 ≡ number_value i.number
 
--- each is one of the partner and the number at its place
-abbrev pub AreOfPairs : List Row → List NumberKept → List Interchange → Type 0
-AreOfPairs stored [] [] = Unit {0}
-AreOfPairs stored [] (one ∷ copied) = ⊥
-AreOfPairs stored (n ∷ numbers) [] = ⊥
-AreOfPairs stored (n ∷ numbers) (one ∷ copied) =
-    IsOfPair stored n.partner n.number one × AreOfPairs stored numbers copied
+-- these are the interchanges of a tree in the order in which they stand there, which is that of their rowids
+abbrev pub AreStanding : List Row → List Interchange → Type 0
+AreStanding stored copied =
+    IsShaped shape.Table stored → map interchange_values copied ≡ map (columns_of interchange_table) stored
+
+-- the interchange that a row shows is added
+pub record AddsShown (row : Row) (old new : State) : Type 0 where
+  pub one : Interchange
+  pub shows : ShowsInterchange row one
+  pub writes : Writes {T = Unit {0}} (with_interchanges (one ∷ [])) old new (Ok tt)
+
+-- interchanges are added: those of the store that was read, if its tables are those of version 1 or 2, in the order in
+-- which they stand there
+pub record AddsStanding (from read old new : State) : Type 0 where
+  pub copied : List Interchange
+  pub are : HasCleanDisk read → from.now.schema ≡ bare_schema → AreStanding (from.now.trees 2) copied
+  pub writes : WritesIfOpen {T = Unit {0}} (with_interchanges copied) old new (Ok tt)
+
+-- ---- all rows
 
 -- the rows but the interchanges
 abbrev pub without_interchanges : OpenedRows → Rows
@@ -46,3 +61,9 @@ without_interchanges rows =
 -- the rows with these interchanges
 abbrev pub copied_rows : OpenedRows → List Interchange → Rows
 copied_rows rows copied = record (without_interchanges rows) { interchanges = copied }
+
+-- an empty database gets the tables with these rows and the interchanges of the store that was read
+pub record MakesCopy (from read : State) (tables : OpenedRows) (old new : State) : Type 0 where
+  pub copied : List Interchange
+  pub are : HasCleanDisk read → from.now.schema ≡ bare_schema → AreStanding (from.now.trees 2) copied
+  pub turns : Turns (HasEmpty (take 0 office_tables)) (HasRowsInOrder (copied_rows tables copied)) old new

@@ -1,19 +1,16 @@
-ghost use Rattle.std.specs.Prelude.{◌≡◌, ℕ, List, [], ◌∷◌, ◌++◌, map, take, false, IfErr, IsErrAnd, OnOk, OnErr, IsTrue, IfOk};
-ghost use Rattle.office_checks.specs.Contents.{number_content, opened_rows, setting_content, partner_content, place_content};
+ghost use Rattle.std.specs.Prelude.{◌≡◌, ℕ, List, [], ◌∷◌, ◌++◌, map, false, IfErr, IsErrAnd, OnOk, OnErr, IsTrue};
+ghost use Rattle.office_checks.specs.Contents.{opened_rows, setting_content, partner_content, place_content};
 ghost use Rattle.office_loading.specs.Older.{FailsToLoadOlder, TellsOlder};
 ghost use Rattle.office_loading.specs.Settings.{HasNoSettings, HasSettings};
-ghost use Rattle.office_migration.specs.Copies.{AreOfPairs, copied_rows, IsOneOf, IsOfPair, without_interchanges};
+ghost use Rattle.office_migration.specs.Copies.{MakesCopy, without_interchanges};
 ghost use Rattle.office_migration.specs.History.{IsOlderAfter, HoldsAfter, StoresAfter};
 ghost use Rattle.office_migration.specs.Migration.{Copies, IsCopy, Migrates, IsMigration};
 ghost use Rattle.office_replies.specs.Events.{Event, migrated};
 ghost use Rattle.office_rows.specs.Layouts.{bare_schema};
-ghost use Rattle.office_rows.specs.Opening.{with_interchanges, with_settings, with_partners, with_visits, with_places, with_lines};
-ghost use Rattle.office_rows.specs.Rows.{Interchange, listing_content};
-ghost use Rattle.office_rows.specs.Steps.{Turns, Steps};
-ghost use Rattle.office_rows.specs.Stored.{HasRows, HasEmpty};
+ghost use Rattle.office_rows.specs.Opening.{with_settings, with_partners, with_visits, with_places, with_lines};
+ghost use Rattle.office_rows.specs.Rows.{listing_content};
 ghost use Rattle.office_rows.specs.Tables.{office_tables, no_schema};
 ghost use Rattle.office_setup.specs.Setups.{SetupContent};
-ghost use Rattle.office_tables.specs.Answers.{RepliesAs};
 ghost use Rattle.office_tables.specs.Faults.{IsOfStore};
 ghost use Rattle.office_tables.specs.Opened.{AreMissing};
 ghost use Rattle.office_tables.specs.Reading.{Reads, ReadsIfOpen};
@@ -23,13 +20,14 @@ ghost use Rattle.sqlite.specs.State.{HasCleanDisk, KeepsCommit, Survives};
 ghost use Rattle.terminal_core.specs.Rows.{visit_content};
 ghost use Rattle.terminal_core.specs.declared.change.Version.{Version};
 
-use office_checks::{NumberRow, OpenedTables, PartnerRow, Setting};
+use crate::copying::copy_interchanges;
+use office_checks::{OpenedTables, PartnerRow, Setting};
 use office_loading::{load_old, read_older_tables};
 use office_tables::{
-    Kept, TableFault, create_tables, insert_account, insert_blocks, insert_interchange,
-    insert_listing, insert_place, insert_setting, insert_visit, read_kept, select_interchange,
+    TableFault, create_tables, insert_account, insert_blocks, insert_listing, insert_place,
+    insert_setting, insert_visit,
 };
-use sqlite::{Alter, Connection, Error, Row, Transaction};
+use sqlite::{Alter, Connection, Transaction};
 use std::alloc::Global;
 use terminal_core::{Listing, Place, Visit};
 
@@ -92,7 +90,7 @@ pub fn migrate<S: Alter, T: Alter>(
     copy_tables(old, &tables, new)
 }
 
-/// Makes the tables with these rows and the old store's interchanges of their numbers, wholly or not at all.
+/// Makes the tables with these rows and the old store's interchanges, wholly or not at all.
 fn copy_tables<S: Alter, T: Alter>(
     old: &mut Connection<S>,
     tables: &OpenedTables,
@@ -130,10 +128,7 @@ fn write_copy<S: Alter, T: Alter>(
 ) -> Result<(), TableFault>
     ensures same_reference { tx.new.conn.ghost_name ≡ tx.old.conn.ghost_name }
     ensures made { HasCleanDisk (state T.Store tx.new.conn.now) → IsTrue (state T.Store tx.old.conn.now).in_transaction
-        → OnOk result ((copied : List Interchange)
-        × (HasCleanDisk (state S.Store old.new) → (state S.Store old.old).now.schema ≡ bare_schema →
-        AreOfPairs ((state S.Store old.old).now.trees 2) (map number_content tables.now.numbers.items) copied)
-        × Turns (HasEmpty (take 0 office_tables)) (HasRows (copied_rows (opened_rows tables.now) copied))
+        → OnOk result (MakesCopy (state S.Store old.old) (state S.Store old.new) (opened_rows tables.now)
         (state T.Store tx.old.conn.now) (state T.Store tx.new.conn.now)) }
     ensures new { HasCleanDisk (state T.Store tx.new.conn.now) → IsTrue (state T.Store tx.old.conn.now).in_transaction
         → OnOk result (AreMissing office_tables (state T.Store tx.old.conn.now).now.schema) }
@@ -144,84 +139,7 @@ fn write_copy<S: Alter, T: Alter>(
     ensures fault { IfErr result IsOfStore }
 {
     write_tables(tx, tables)?;
-    copy_interchanges(old, tx, &tables.numbers)
-}
-
-/// Copies the interchanges of these numbers, one after the other.
-pub(crate) fn copy_interchanges<S: Alter, T: Alter>(
-    old: &mut Connection<S>,
-    tx: &mut Transaction<'_, T>,
-    numbers: &[NumberRow],
-) -> Result<(), TableFault>
-    ensures same_reference { tx.new.conn.ghost_name ≡ tx.old.conn.ghost_name }
-    ensures steps { HasCleanDisk (state T.Store tx.new.conn.now) →
-        IsTrue (state T.Store tx.old.conn.now).in_transaction → IsTrue (state T.Store tx.old.conn.now).is_open
-        → OnOk result ((copied : List Interchange)
-        × (HasCleanDisk (state S.Store old.new) → (state S.Store old.old).now.schema ≡ bare_schema →
-        AreOfPairs ((state S.Store old.old).now.trees 2) (map number_content numbers.now) copied)
-        × Steps (with_interchanges copied) (state T.Store tx.old.conn.now) (state T.Store tx.new.conn.now)) }
-    ensures keeps { HasCleanDisk (state T.Store tx.new.conn.now) →
-        IsTrue (state T.Store tx.old.conn.now).in_transaction → IsTrue (state T.Store tx.old.conn.now).is_open
-        → KeepsCommit (state T.Store tx.old.conn.now) (state T.Store tx.new.conn.now) }
-    ensures survives { Survives (state T.Store tx.old.conn.now) (state T.Store tx.new.conn.now) (λ _. ⊥) }
-    ensures reads { ReadsIfOpen (state S.Store old.old) (state S.Store old.new) result }
-    ensures fault { IfErr result IsOfStore }
-{
-    for row in numbers {
-        copy_interchange(old, tx, row.partner, row.number)?;
-    }
-    Ok(())
-}
-
-/// Copies the interchange of a partner and a number, with its reply.
-fn copy_interchange<S: Alter, T: Alter>(
-    old: &mut Connection<S>,
-    tx: &mut Transaction<'_, T>,
-    partner: u32,
-    number: u32,
-) -> Result<(), TableFault>
-    ensures same_reference { tx.new.conn.ghost_name ≡ tx.old.conn.ghost_name }
-    ensures steps { HasCleanDisk (state T.Store tx.new.conn.now) →
-        IsTrue (state T.Store tx.old.conn.now).in_transaction
-        → OnOk result ((one : Interchange)
-        × (HasCleanDisk (state S.Store old.new) → (state S.Store old.old).now.schema ≡ bare_schema →
-        IsOfPair ((state S.Store old.old).now.trees 2) partner number one)
-        × Steps (with_interchanges (one ∷ [])) (state T.Store tx.old.conn.now) (state T.Store tx.new.conn.now)) }
-    ensures keeps { HasCleanDisk (state T.Store tx.new.conn.now) →
-        IsTrue (state T.Store tx.old.conn.now).in_transaction → IsTrue (state T.Store tx.old.conn.now).is_open
-        → KeepsCommit (state T.Store tx.old.conn.now) (state T.Store tx.new.conn.now) }
-    ensures survives { Survives (state T.Store tx.old.conn.now) (state T.Store tx.new.conn.now) (λ _. ⊥) }
-    ensures reads { Reads (state S.Store old.old) (state S.Store old.new) result }
-    ensures fault { IfErr result IsOfStore }
-{
-    let rows = select_interchange(old, partner, number)?;
-    let kept = kept_of(&rows)?;
-    let reply = reply_of(&kept);
-    insert_interchange(tx, partner, number, kept.text.as_slice(), reply)
-}
-
-/// The body and the reply that the first row shows.
-fn kept_of(rows: &[Row]) -> Result<Kept, TableFault>
-    ensures one { IfOk result (IsOneOf rows.now) }
-    ensures fault { IfErr result IsOfStore }
-{
-    match rows.first() {
-        None => Err(TableFault::Store(Error::QueryReturnedNoRows)),
-        Some(row) => {
-            let kept = read_kept(row)?;
-            Ok(kept)
-        }
-    }
-}
-
-/// The reply of an interchange as its row has it: empty while it waits.
-fn reply_of(kept: &Kept) -> &str
-    ensures { (text : List ℕ) → RepliesAs kept.now.reply text → text ≡ result.now }
-{
-    match &kept.reply {
-        None => "",
-        Some(reply) => reply.as_str(),
-    }
+    copy_interchanges(old, tx)
 }
 
 /// The settings.

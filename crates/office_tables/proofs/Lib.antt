@@ -8,4 +8,5 @@ pub mod QueryTexts
 pub mod ReadingLemmas
 pub mod KeyLemmas
 pub mod PairLemmas
+pub mod OrderLemmas
 pub mod WritesLemmas

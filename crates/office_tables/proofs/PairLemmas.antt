@@ -30,6 +30,7 @@ use Rattle.office_rows.specs.Opening.{with_interchanges, interchange_row as inte
 use Rattle.office_rows.proofs.Writing as texts
 use Rattle.office_rows.proofs.WriteLemmas.{cast_null, cast_int, equal_numbers, inserts}
 use Rattle.office_tables.specs.Kept.{with_kept_reply}
+use Rattle.office_tables.specs.Order.{KeepsOrder}
 use Rattle.office_tables.proofs.KeyLemmas.{new_key}
 
 any_map : {X Y : Type 0} (p : Y → Bool) (f : X → Y) (xs : List X) → list_any p (map f xs) ≡ list_any (λ x. p (f x)) xs
@@ -96,3 +97,8 @@ steps_kept p n body reply old new (Ok x) steps none = record {
   is_open = steps.is_open;
 }
 steps_kept p n body reply old new (Err e) steps none = steps
+
+pub order_kept : {X E : Type 0} (p n : ℕ) (body reply : List ℕ) (old new : State) (result : Result X E) → OnOk result (KeepsOrder (with_interchanges (interchange_of p n body reply ∷ [])) old new)
+    → OnOk result ((rows : Rows) → HasRows rows old.now → list_any (is_pair p n) rows.interchanges ≡ false) → OnOk result (KeepsOrder (with_kept_reply p n body reply) old new)
+order_kept p n body reply old new (Ok x) keeps none = λ rows held. rw (← kept_with_reply p n body reply rows (none rows held.has)) (keeps rows held)
+order_kept p n body reply old new (Err e) keeps none = keeps

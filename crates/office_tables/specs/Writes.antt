@@ -10,11 +10,13 @@ use Rattle.office_rows.specs.Tables.{office_tables}
 use Rattle.office_tables.specs.declared.table_fault.TableFault.{TableFault}
 use Rattle.office_tables.specs.Faults.{IsOfStore}
 use Rattle.office_tables.specs.Opened.{AreMissing, MakesTables}
+use Rattle.office_tables.specs.Order.{KeepsOrder}
 
--- where it went well the rows are these; whatever it answers, nothing is committed and a crash leaves what it left
--- before; and it fails only as the store does, or memory
+-- where it went well the rows are these, in order if they were before; whatever it answers, nothing is committed and a
+-- crash leaves what it left before; and it fails only as the store does, or memory
 pub record Writes {T : Type 0} (change : Rows → Rows) (old new : State) (result : Result T TableFault) : Type 0 where
   pub steps : HasCleanDisk new → IsTrue old.in_transaction → OnOk result (Steps change old new)
+  pub in_order : HasCleanDisk new → IsTrue old.in_transaction → OnOk result (KeepsOrder change old new)
   pub keeps : HasCleanDisk new → IsTrue old.in_transaction → KeepsCommit old new
   pub survives : Survives old new (λ _. ⊥)
   pub fault : IfErr result IsOfStore
@@ -23,6 +25,7 @@ pub record Writes {T : Type 0} (change : Rows → Rows) (old new : State) (resul
 pub record WritesIfOpen {T : Type 0} (change : Rows → Rows) (old new : State) (result : Result T TableFault)
     : Type 0 where
   pub steps : HasCleanDisk new → IsTrue old.in_transaction → IsTrue old.is_open → OnOk result (Steps change old new)
+  pub in_order : HasCleanDisk new → IsTrue old.in_transaction → IsTrue old.is_open → OnOk result (KeepsOrder change old new)
   pub keeps : HasCleanDisk new → IsTrue old.in_transaction → IsTrue old.is_open → KeepsCommit old new
   pub survives : Survives old new (λ _. ⊥)
   pub fault : IfErr result IsOfStore

@@ -1,4 +1,3 @@
-pub mod RowidLemmas
 pub mod TextQuery
 pub mod PageLemmas
 pub mod BodyLemmas

@@ -39,7 +39,7 @@ use Rattle.office_tables.specs.Reading.{OnlyShows}
 use Rattle.office_tables.proofs.TextLemmas.{is_read, understands_query}
 use Rattle.office_rows.specs.Values.{number_value}
 use Rattle.office_texts.specs.Texts.{is_after, is_from}
-use Rattle.office_texts.proofs.RowidLemmas.{keyed, in_order}
+use Rattle.office_loading.proofs.RowidLemmas.{keyed, in_order}
 use Rattle.office_rows.proofs.WriteLemmas.{rows_of, passes, answer_is, answer_in_order}
 
 -- ---- the texts after a number

@@ -5,7 +5,7 @@ use Rattle.sqlite.specs.Effect.{Database}
 use Rattle.sqlite.proofs.StateLemmas.{survives_then}
 use Rattle.sqlite.proofs.Callers.{survives_begin}
 use Rattle.office_rows.specs.Tables.{office_tables}
-use Rattle.office_rows.specs.Stored.{HasRows}
+use Rattle.office_tables.specs.Order.{HasRowsInOrder}
 use Rattle.office_tables.specs.Opened.{AreMissing}
 use Rattle.office_checks.specs.Contents.{opened_rows}
 use Rattle.office_migration.specs.Copies.{copied_rows}
@@ -26,8 +26,8 @@ returns-in_err-commit-clause-crash g c here =
     let commits : (db : _) → HasCleanDisk (state g.T.Store last) → db ≡ (state g.T.Store last).now.trees → P db = λ db clean made.
     let copy = rw begins at (c.in_ok-write_copy.ensures.made clean (rw begins refl)) in
     let keeps = rw begins at (c.write_copy.ensures.keeps clean (rw begins refl)) in
-    let settled = c.is_autocommit-is_idle.ensures.settled (c.is_autocommit-is_idle.ensures.value ∙ ap not c.requires) (keeps.was_open copy.2.is_open) in
-    copied_whole from.now tables copy.0 (state g.T.Store old) (state g.T.Store begun) (state g.T.Store last) db (copy.1 here) settled copy.2 made in
+    let settled = c.is_autocommit-is_idle.ensures.settled (c.is_autocommit-is_idle.ensures.value ∙ ap not c.requires) (keeps.was_open copy.turns.is_open) in
+    copied_whole from (state g.S.Store c.write_copy.new.old) tables (state g.T.Store old) (state g.T.Store begun) (state g.T.Store last) db here copy settled made in
     let inside = survives_begin g.T.Store old (state g.T.Store last) _ (rw begins at c.write_copy.ensures.survives) in
     let all = survives_then (state g.T.Store old) (state g.T.Store last) (state g.T.Store end) _ _ P (λ _ db none. absurd none)
     (λ clean db made. commits db (omega (arith, c.commit.ensures.survives.clean)) made) inside c.commit.ensures.survives in
@@ -47,8 +47,8 @@ returns-clause-crash g c here =
     let commits : (db : _) → HasCleanDisk (state g.T.Store last) → db ≡ (state g.T.Store last).now.trees → P db = λ db clean made.
     let copy = rw begins at (c.in_ok-write_copy.ensures.made clean (rw begins refl)) in
     let keeps = rw begins at (c.write_copy.ensures.keeps clean (rw begins refl)) in
-    let settled = c.is_autocommit-is_idle.ensures.settled (c.is_autocommit-is_idle.ensures.value ∙ ap not c.requires) (keeps.was_open copy.2.is_open) in
-    copied_whole from.now tables copy.0 (state g.T.Store old) (state g.T.Store begun) (state g.T.Store last) db (copy.1 here) settled copy.2 made in
+    let settled = c.is_autocommit-is_idle.ensures.settled (c.is_autocommit-is_idle.ensures.value ∙ ap not c.requires) (keeps.was_open copy.turns.is_open) in
+    copied_whole from (state g.S.Store c.write_copy.new.old) tables (state g.T.Store old) (state g.T.Store begun) (state g.T.Store last) db here copy settled made in
     let inside = survives_begin g.T.Store old (state g.T.Store last) _ (rw begins at c.write_copy.ensures.survives) in
     let all = survives_then (state g.T.Store old) (state g.T.Store last) (state g.T.Store end) _ _ P (λ _ db none. absurd none)
     (λ clean db made. commits db (omega (arith, c.commit.ensures.survives.clean)) made) inside c.commit.ensures.survives in
@@ -69,14 +69,14 @@ returns-clause-ok g c clean here is =
     let before : HasCleanDisk (state g.T.Store last) = omega (arith, c.commit.ensures.survives.clean) in
     let copy = rw begins at (c.in_ok-write_copy.ensures.made before (rw begins refl)) in
     let keeps = rw begins at (c.write_copy.ensures.keeps before (rw begins refl)) in
-    let settled = c.is_autocommit-is_idle.ensures.settled (c.is_autocommit-is_idle.ensures.value ∙ ap not c.requires) (keeps.was_open copy.2.is_open) in
+    let settled = c.is_autocommit-is_idle.ensures.settled (c.is_autocommit-is_idle.ensures.value ∙ ap not c.requires) (keeps.was_open copy.turns.is_open) in
     let shows = (c.in_ok-commit.ensures.ok ended).1 in
     let open_now : IsTrue (state g.T.Store c.new-2-1.given.0).is_open = subst (λ h. IsTrue (state g.T.Store h).is_open) same shows.is_open in
     record {
-      copied = copy.0;
-      are = copy.1 here is;
-      rows = λ none. subst (λ h. HasRows (copied_rows tables copy.0) (state g.T.Store h).committed) same
-          (subst (HasRows (copied_rows tables copy.0)) (sym shows.committed_is) (made_rows tables copy.0 (state g.T.Store old) (state g.T.Store begun) (state g.T.Store last) settled copy.2 none));
+      copied = copy.copied;
+      are = copy.are here is;
+      rows = λ none. subst (λ h. HasRowsInOrder (copied_rows tables copy.copied) (state g.T.Store h).committed) same
+          (subst (HasRowsInOrder (copied_rows tables copy.copied)) (sym shows.committed_is) (made_rows tables copy.copied (state g.T.Store old) (state g.T.Store begun) (state g.T.Store last) settled copy.turns none));
       stays = record {
         settled = subst (λ h. (state g.T.Store h).now ≡ (state g.T.Store h).committed) same (shows.now_is ∙ sym shows.committed_is);
         is_open = open_now;
@@ -98,6 +98,6 @@ returns-clause-new g c clean =
     let before : HasCleanDisk (state g.T.Store last) = omega (arith, c.commit.ensures.survives.clean) in
     let copy = rw begins at (c.in_ok-write_copy.ensures.made before (rw begins refl)) in
     let keeps = rw begins at (c.write_copy.ensures.keeps before (rw begins refl)) in
-    let settled = c.is_autocommit-is_idle.ensures.settled (c.is_autocommit-is_idle.ensures.value ∙ ap not c.requires) (keeps.was_open copy.2.is_open) in
+    let settled = c.is_autocommit-is_idle.ensures.settled (c.is_autocommit-is_idle.ensures.value ∙ ap not c.requires) (keeps.was_open copy.turns.is_open) in
     let missing : AreMissing office_tables (state g.T.Store begun).now.schema = rw begins at (c.in_ok-write_copy.ensures.new before (rw begins refl)) in
     subst (λ (d : Database). AreMissing office_tables d.schema) settled missing

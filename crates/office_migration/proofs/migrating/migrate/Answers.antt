@@ -8,7 +8,7 @@ use Rattle.sqlite.specs.Schema.{Schema}
 use Rattle.office_setup.specs.Setups.{setup_content}
 use Rattle.office_rows.specs.Layouts.{bare_schema}
 use Rattle.office_rows.specs.Opened.{OpenedRows}
-use Rattle.office_rows.specs.Stored.{HasRows}
+use Rattle.office_tables.specs.Order.{HasRowsInOrder}
 use Rattle.office_rows.proofs.StepLemmas.{on_ok}
 use Rattle.office_loading.specs.Settings.{HasSettings}
 use Rattle.office_checks.specs.Contents.{opened_rows}
@@ -19,9 +19,9 @@ use Rattle.office_tables.proofs.ReadingLemmas.{◌then◌, clean_first, then_if_
 use Rattle.office_tables.proofs.WritesLemmas.{survives_here}
 use Rattle.office_loading.proofs.VersionLemmas.{result_tells, told}
 use Rattle.office_loading.proofs.OlderOffice.{older_one, older_tables_fail}
-use Rattle.office_migration.specs.Copies.{AreOfPairs, copied_rows}
+use Rattle.office_migration.specs.Copies.{copied_rows}
 use Rattle.office_migration.specs.Migration.{Copies, IsCopy, IsMigration}
-use Rattle.office_migration.proofs.MigratedLemmas.{has_migrated, migrated_whole, of_store_fails}
+use Rattle.office_migration.proofs.MigratedLemmas.{has_migrated, stand_alike, migrated_whole, of_store_fails}
 use Rattle.office_migration.proofs.HistoryLemmas.{never_refused, holds_after, migration_holds}
 use Rattle.office_migration.proofs.migrating.migrate.Goals as goal
 
@@ -112,8 +112,11 @@ returns-clause-ok g c clean here is =
       terminal = terminal;
       loads = loads;
       rows = λ none own has.
-          has_migrated s0.now rows content terminal office read.3 copies.copied (subst (λ (r : OpenedRows). AreOfPairs (s0.now.trees 2) r.numbers copies.copied) read.2 copies.are) own has (state g.T.Store c.copy_tables.new.new).committed
-          (subst (λ (r : OpenedRows). HasRows (copied_rows r copies.copied) (state g.T.Store c.copy_tables.new.new).committed) read.2 (copies.rows none));
+          has_migrated s0.now rows content terminal office read.3 copies.copied copies.are own has (state g.T.Store c.copy_tables.new.new).committed
+          (subst (λ (r : OpenedRows). HasRowsInOrder (copied_rows r copies.copied) (state g.T.Store c.copy_tables.new.new).committed) read.2 (copies.rows none));
+      in_order = λ none own has.
+          stand_alike s0.now rows content terminal office read.3 copies.copied copies.are own has (state g.T.Store c.copy_tables.new.new).committed
+          (subst (λ (r : OpenedRows). HasRowsInOrder (copied_rows r copies.copied) (state g.T.Store c.copy_tables.new.new).committed) read.2 (copies.rows none));
       stays = copies.stays;
     }) result
 

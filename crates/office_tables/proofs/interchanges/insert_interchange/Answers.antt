@@ -6,6 +6,7 @@ use Rattle.office_rows.specs.Opening.{interchange_row, with_interchanges}
 use Rattle.office_rows.proofs.Writing as texts
 use Rattle.office_rows.proofs.Written.{inserted_whole}
 use Rattle.office_tables.proofs.PairLemmas.{new_pair}
+use Rattle.office_journal_rows.proofs.InPlace.{copies_in_place}
 use Rattle.office_tables.proofs.WritesLemmas.{writes_of}
 use Rattle.office_tables.proofs.interchanges.insert_interchange.Goals as goal
 
@@ -17,7 +18,7 @@ returns-clause-writes g c =
     writes_of (with_interchanges (one ∷ [])) old new _ c.execute.ensures.survives (λ clean inside.
     let ran = c.in_ok-execute.ensures.runs clean inside in
     let h : Executes texts.insert_whole (interchange_values one) old new (Ok c.in_ok-execute.field-0) = rw (c.integer.ensures, c.integer-2.ensures, c.characters.ensures, c.as_bytes.ensures.value) at ran.0 in
-    (ran.1, λ rows has. inserted_whole old new rows c.in_ok-execute.field-0 has one h))
+    (ran.1, λ rows has. inserted_whole old new rows c.in_ok-execute.field-0 has one h, λ rows has held. copies_in_place old new rows c.in_ok-execute.field-0 one has held h))
 
 pub returns-clause-new : goal.returns-clause-new
 returns-clause-new g c clean inside rows has =

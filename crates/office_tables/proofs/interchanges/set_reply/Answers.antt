@@ -6,6 +6,7 @@ use Rattle.office_rows.specs.Values.{number_value}
 use Rattle.office_rows.specs.Effects.{with_reply}
 use Rattle.office_rows.proofs.Writing as texts
 use Rattle.office_rows.proofs.Written.{update_replyd}
+use Rattle.office_journal_rows.proofs.InPlace.{update_replies_in_place}
 use Rattle.office_tables.proofs.WritesLemmas.{writes_of}
 use Rattle.office_tables.proofs.interchanges.set_reply.Goals as goal
 
@@ -16,4 +17,4 @@ returns-clause-writes g c =
     writes_of (with_reply c.args.partner c.args.number c.args.reply.now) old new _ c.execute.ensures.survives (λ clean inside.
     let ran = c.in_ok-execute.ensures.runs clean inside in
     let h : Executes texts.update_reply (number_value c.args.partner ∷ number_value c.args.number ∷ Text c.args.reply.now ∷ []) old new (Ok c.in_ok-execute.field-0) = rw (c.integer.ensures, c.integer-2.ensures, c.characters.ensures, c.as_bytes.ensures.value, c.from.ensures) at ran.0 in
-    (ran.1, λ rows has. update_replyd old new rows c.in_ok-execute.field-0 has c.args.partner c.args.number c.args.reply.now h))
+    (ran.1, λ rows has. update_replyd old new rows c.in_ok-execute.field-0 has c.args.partner c.args.number c.args.reply.now h, λ rows has held. update_replies_in_place old new rows c.in_ok-execute.field-0 c.args.partner c.args.number c.args.reply.now has held h))

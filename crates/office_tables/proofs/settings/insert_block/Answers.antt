@@ -5,6 +5,7 @@ use Rattle.office_rows.specs.Values.{block_values}
 use Rattle.office_rows.specs.Opening.{with_blocks}
 use Rattle.office_rows.proofs.Writing as texts
 use Rattle.office_rows.proofs.Written.{inserted_block}
+use Rattle.office_tables.proofs.OrderLemmas.{insert_block_stays}
 use Rattle.office_tables.proofs.WritesLemmas.{writes_of}
 use Rattle.office_tables.proofs.settings.insert_block.Goals as goal
 
@@ -15,4 +16,4 @@ returns-clause-writes g c =
     writes_of (with_blocks (c.args.block ∷ [])) old new _ c.execute.ensures.survives (λ clean inside.
     let ran = c.in_ok-execute.ensures.runs clean inside in
     let h : Executes texts.insert_block (block_values c.args.block) old new (Ok c.in_ok-execute.field-0) = rw (c.characters.ensures, c.integer.ensures, c.integer-2.ensures, c.integer-3.ensures, c.from.ensures, c.from-2.ensures, c.from-3.ensures) at ran.0 in
-    (ran.1, λ rows has. inserted_block old new rows c.in_ok-execute.field-0 has c.args.block h))
+    (ran.1, λ rows has. inserted_block old new rows c.in_ok-execute.field-0 has c.args.block h, λ rows has held. insert_block_stays old new rows c.in_ok-execute.field-0 has held _ h))

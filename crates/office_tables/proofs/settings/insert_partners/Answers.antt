@@ -1,19 +1,23 @@
-use Rattle.std.proofs.Common.{◌≡◌, sym, ap, subst, ◌∙◌, ◌+◌, arith, rules, take, [], ◌∷◌, ◌++◌, string_bytes, length, length-take}
-use Rattle.std.proofs.lemmas.List.{length-map, map-append}
-use Rattle.office_rows.specs.Rows.{Partner}
-use Rattle.std.proofs.lemmas.List.{take_more}
-use Rattle.sqlite.specs.State.{HasCleanDisk}
+use Rattle.std.proofs.Common.{◌≡◌, sym, ap, ◌∙◌, ◌+◌, Ok, refl, append_assoc, arith, rules, take, [], ◌∷◌, ◌++◌, string_bytes, length, length-take}
+use Rattle.std.proofs.lemmas.List.{append-nil, length-map, map-append, take_more}
 use Rattle.sqlite.specs.Held.{state}
 use Rattle.office_setup.specs.Setups.{account_contents}
+use Rattle.office_rows.specs.Rows.{Partner}
 use Rattle.office_rows.specs.Opening.{partners_from, with_partners}
-use Rattle.office_rows.specs.Steps.{Steps}
-use Rattle.office_rows.proofs.StepLemmas.{quiet_then}
-use Rattle.office_rows.proofs.OpeningLemmas.{partners_then, more_partners}
+use Rattle.office_rows.proofs.OpeningLemmas.{partners_then}
+use Rattle.office_tables.specs.Writes.{Writes}
+use Rattle.office_tables.proofs.WritesLemmas.{none_written, one_more_written}
 use Rattle.office_tables.proofs.settings.insert_partners.Goals as goal
+
+pub loop-account-init : goal.loop-account-init
+loop-account-init g c = record {
+  same = refl;
+  id = refl;
+  writes = none_written (with_partners []) (state g.S.Store c.args.tx.now.conn.now) (λ rows. ap (λ l. record rows { partners = l }) (append-nil rows.partners));
+}
 
 pub loop-account-preserved : goal.loop-account-preserved
 loop-account-preserved g c =
-    let old = state g.S.Store c.args.tx.now.conn.now in
     let mid = state g.S.Store c.loop-account.tx.conn.now in
     let new = state g.S.Store c.add_partner.new.tx.conn.now in
     let i = c.loop-account.account-index in
@@ -25,13 +29,9 @@ loop-account-preserved g c =
     let count : 1 + length (account_contents (take i all)) ≡ c.loop-account.id = simp (length-map, length-take) (omega (arith, c.loop-account.invariant.id, c.loop-account-test.true)) in
     let more : partners_from 1 (account_contents (take (i + 1) all)) ≡ partners_from 1 (account_contents (take i all)) ++ one ∷ [] =
     ap (partners_from 1) contents ∙ rw count at (partners_then 1 (account_contents (take i all)) (string_bytes item.code, item.kind)) in
+    let added : Writes {T = Unit {0}} (with_partners (one ∷ [])) mid new (Ok tt) = rw c.as_str.ensures.value at c.in_ok-add_partner.ensures.writes in
     record {
       same = search rules;
       id = omega (arith, c.loop-account.invariant.id);
-      steps = λ clean inside was.
-          let early : HasCleanDisk mid = omega (arith, c.add_partner.ensures.writes.survives.clean) in
-          let first = c.loop-account.invariant.steps early inside was in
-          let second : Steps (with_partners (one ∷ [])) mid new = rw c.as_str.ensures.value at (c.in_ok-add_partner.ensures.writes.steps clean first.inside) in
-          subst (λ l. Steps (with_partners l) old new) (sym more) (more_partners old mid new (partners_from 1 (account_contents (take i all))) (one ∷ []) first second);
-      survives = quiet_then old mid new c.loop-account.invariant.survives c.add_partner.ensures.writes.survives;
+      writes = one_more_written with_partners (λ done more rows. ap (λ l. record rows { partners = l }) (append_assoc rows.partners done more)) _ _ one more _ _ _ c.loop-account.invariant.writes added;
     }

@@ -5,6 +5,7 @@ use Rattle.office_rows.specs.Values.{setting_values}
 use Rattle.office_rows.specs.Opening.{setting_row, with_settings}
 use Rattle.office_rows.proofs.Writing as texts
 use Rattle.office_rows.proofs.Written.{inserted_setting}
+use Rattle.office_tables.proofs.OrderLemmas.{insert_setting_stays}
 use Rattle.office_tables.proofs.WritesLemmas.{writes_of}
 use Rattle.office_tables.proofs.settings.insert_setting.Goals as goal
 
@@ -16,4 +17,4 @@ returns-clause-writes g c =
     writes_of (with_settings (one ∷ [])) old new _ c.execute.ensures.survives (λ clean inside.
     let ran = c.in_ok-execute.ensures.runs clean inside in
     let h : Executes texts.insert_setting (setting_values one) old new (Ok c.in_ok-execute.field-0) = rw (c.characters.ensures, c.as_bytes.ensures.value, c.characters-2.ensures) at ran.0 in
-    (ran.1, λ rows has. inserted_setting old new rows c.in_ok-execute.field-0 has one h))
+    (ran.1, λ rows has. inserted_setting old new rows c.in_ok-execute.field-0 has one h, λ rows has held. insert_setting_stays old new rows c.in_ok-execute.field-0 has held _ h))

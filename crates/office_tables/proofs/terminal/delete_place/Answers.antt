@@ -6,6 +6,7 @@ use Rattle.terminal_core.specs.Rows.{removed_from}
 use Rattle.office_rows.specs.Effects.{with_change}
 use Rattle.office_rows.proofs.Writing as texts
 use Rattle.office_rows.proofs.Written.{delete_placed}
+use Rattle.office_tables.proofs.OrderLemmas.{delete_place_stays}
 use Rattle.office_tables.proofs.WritesLemmas.{writes_of}
 use Rattle.office_tables.proofs.terminal.delete_place.Goals as goal
 
@@ -16,4 +17,4 @@ returns-clause-writes g c =
     writes_of (with_change (removed_from c.args.container)) old new _ c.execute.ensures.survives (λ clean inside.
     let ran = c.in_ok-execute.ensures.runs clean inside in
     let h : Executes texts.delete_place (Text c.args.container ∷ []) old new (Ok c.in_ok-execute.field-0) = rw (c.characters.ensures, c.text-container.ensures.same) at ran.0 in
-    (ran.1, λ rows has. delete_placed old new rows c.in_ok-execute.field-0 has c.args.container h))
+    (ran.1, λ rows has. delete_placed old new rows c.in_ok-execute.field-0 has c.args.container h, λ rows has held. delete_place_stays old new rows c.in_ok-execute.field-0 has held _ h))

@@ -7,6 +7,7 @@ use Rattle.office_rows.specs.Values.{visit_values}
 use Rattle.office_rows.specs.Effects.{with_change}
 use Rattle.office_rows.proofs.Writing as texts
 use Rattle.office_rows.proofs.Written.{inserted_visit}
+use Rattle.office_tables.proofs.OrderLemmas.{insert_visit_stays}
 use Rattle.office_tables.proofs.WritesLemmas.{writes_of}
 use Rattle.office_tables.proofs.terminal.insert_columns.Goals as goal
 
@@ -18,4 +19,4 @@ returns-clause-writes g c =
     let ran = c.in_ok-execute.ensures.runs clean inside in
     let same : bound (c.integer.result ∷ c.characters.result ∷ c.characters-2.result ∷ c.integer-2.result ∷ c.characters-3.result ∷ c.integer-3.result ∷ c.integer-4.result ∷ c.integer-5.result ∷ c.characters-4.result ∷ c.characters-5.result ∷ c.integer-6.result ∷ c.integer-7.result ∷ c.integer-8.result ∷ c.characters-6.result ∷ c.integer-9.result ∷ []) ≡ visit_values (visit_content c.args.visit.now) = rw (c.integer.ensures, c.characters.ensures, c.text-container.ensures.same, c.characters-2.ensures, c.text-size.ensures.same, c.integer-2.ensures, c.laden_code.ensures, c.characters-3.ensures, c.as_bytes.ensures.value, c.integer-3.ensures, c.way_code.ensures, c.integer-4.ensures, c.from.ensures, c.integer-5.ensures, c.characters-4.ensures, c.digits-in_at.ensures.written, c.characters-5.ensures, c.text-in_slot.ensures, c.integer-6.ensures, c.requires.by, c.integer-7.ensures, c.from-2.ensures, c.requires.partner, c.integer-8.ensures, c.requires.number, c.characters-6.ensures, c.requires.at, c.integer-9.ensures) refl in
     let h : Executes texts.insert_visit (visit_values (visit_content c.args.visit.now)) old new (Ok c.in_ok-execute.field-0) = subst (λ p. Executes texts.insert_visit p old new (Ok c.in_ok-execute.field-0)) same ran.0 in
-    (ran.1, λ rows has. inserted_visit old new rows c.in_ok-execute.field-0 has (visit_content c.args.visit.now) h))
+    (ran.1, λ rows has. inserted_visit old new rows c.in_ok-execute.field-0 has (visit_content c.args.visit.now) h, λ rows has held. insert_visit_stays old new rows c.in_ok-execute.field-0 has held _ h))

@@ -6,6 +6,7 @@ use Rattle.office_rows.specs.Values.{place_values}
 use Rattle.office_rows.specs.Effects.{with_change}
 use Rattle.office_rows.proofs.Writing as texts
 use Rattle.office_rows.proofs.Written.{inserted_place}
+use Rattle.office_tables.proofs.OrderLemmas.{insert_place_stays}
 use Rattle.office_tables.proofs.WritesLemmas.{writes_of}
 use Rattle.office_tables.proofs.terminal.insert_place.Goals as goal
 
@@ -16,4 +17,4 @@ returns-clause-writes g c =
     writes_of (with_change (placed_at c.args.container c.args.visit c.args.slot)) old new _ c.execute.ensures.survives (λ clean inside.
     let ran = c.in_ok-execute.ensures.runs clean inside in
     let h : Executes texts.insert_place (place_values (record { container = c.args.container; visit = c.args.visit; slot = c.args.slot })) old new (Ok c.in_ok-execute.field-0) = rw (c.characters.ensures, c.text-container.ensures.same, c.integer.ensures, c.characters-2.ensures, c.text-slot.ensures) at ran.0 in
-    (ran.1, λ rows has. inserted_place old new rows c.in_ok-execute.field-0 has (record { container = c.args.container; visit = c.args.visit; slot = c.args.slot }) h))
+    (ran.1, λ rows has. inserted_place old new rows c.in_ok-execute.field-0 has (record { container = c.args.container; visit = c.args.visit; slot = c.args.slot }) h, λ rows has held. insert_place_stays old new rows c.in_ok-execute.field-0 has held _ h))

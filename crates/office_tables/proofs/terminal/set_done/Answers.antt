@@ -9,6 +9,7 @@ use Rattle.office_rows.specs.Values.{number_value}
 use Rattle.office_rows.specs.Effects.{with_change}
 use Rattle.office_rows.proofs.Writing as texts
 use Rattle.office_rows.proofs.Written.{update_doned}
+use Rattle.office_tables.proofs.OrderLemmas.{update_done_stays}
 use Rattle.office_tables.proofs.WritesLemmas.{writes_of}
 use Rattle.office_tables.proofs.terminal.set_done.Goals as goal
 
@@ -19,4 +20,4 @@ returns-clause-writes g c =
     writes_of (with_change (line_done (call_content c.args.call.now) c.args.side c.args.container)) old new _ c.execute.ensures.survives (λ clean inside.
     let ran = c.in_ok-execute.ensures.runs clean inside in
     let h : Executes texts.update_done (Text (call_content c.args.call.now).vessel ∷ Text (call_content c.args.call.now).voyage ∷ number_value (side_code c.args.side) ∷ Text c.args.container ∷ []) old new (Ok c.in_ok-execute.field-0) = rw (c.characters.ensures, c.as_bytes.ensures.value, c.characters-2.ensures, c.as_bytes-2.ensures.value, c.integer.ensures, c.side_code.ensures, c.characters-3.ensures, c.text-container.ensures.same) at ran.0 in
-    (ran.1, λ rows has. update_doned old new rows c.in_ok-execute.field-0 has (call_content c.args.call.now) c.args.side c.args.container h))
+    (ran.1, λ rows has. update_doned old new rows c.in_ok-execute.field-0 has (call_content c.args.call.now) c.args.side c.args.container h, λ rows has held. update_done_stays old new rows c.in_ok-execute.field-0 has held _ h))

@@ -8,6 +8,7 @@ use Rattle.office_rows.specs.Values.{number_value, way_code}
 use Rattle.office_rows.specs.Effects.{with_change}
 use Rattle.office_rows.proofs.Writing as texts
 use Rattle.office_rows.proofs.Written.{update_exitd}
+use Rattle.office_tables.proofs.OrderLemmas.{update_exit_stays}
 use Rattle.office_tables.proofs.WritesLemmas.{writes_of}
 use Rattle.office_tables.proofs.terminal.set_exit.Goals as goal
 
@@ -18,4 +19,4 @@ returns-clause-writes g c =
     writes_of (with_change (visit_closed c.args.visit c.args.departure)) old new _ c.execute.ensures.survives (λ clean inside.
     let ran = c.in_ok-execute.ensures.runs clean inside in
     let h : Executes texts.update_exit (number_value c.args.visit ∷ number_value (way_code c.args.departure.way) ∷ number_value c.args.departure.source.partner ∷ number_value c.args.departure.source.number ∷ Text (moment_digits c.args.departure.moment) ∷ []) old new (Ok c.in_ok-execute.field-0) = rw (c.integer.ensures, c.integer-2.ensures, c.way_code.ensures, c.integer-3.ensures, c.integer-4.ensures, c.characters.ensures, c.digits-at.ensures.written, c.from.ensures) at ran.0 in
-    (ran.1, λ rows has. update_exitd old new rows c.in_ok-execute.field-0 has c.args.visit c.args.departure h))
+    (ran.1, λ rows has. update_exitd old new rows c.in_ok-execute.field-0 has c.args.visit c.args.departure h, λ rows has held. update_exit_stays old new rows c.in_ok-execute.field-0 has held _ h))

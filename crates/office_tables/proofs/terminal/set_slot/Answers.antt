@@ -7,6 +7,7 @@ use Rattle.terminal_core.specs.Rows.{moved_to}
 use Rattle.office_rows.specs.Effects.{with_change}
 use Rattle.office_rows.proofs.Writing as texts
 use Rattle.office_rows.proofs.Written.{update_slotd}
+use Rattle.office_tables.proofs.OrderLemmas.{update_slot_stays}
 use Rattle.office_tables.proofs.WritesLemmas.{writes_of}
 use Rattle.office_tables.proofs.terminal.set_slot.Goals as goal
 
@@ -17,4 +18,4 @@ returns-clause-writes g c =
     writes_of (with_change (moved_to c.args.container c.args.slot)) old new _ c.execute.ensures.survives (λ clean inside.
     let ran = c.in_ok-execute.ensures.runs clean inside in
     let h : Executes texts.update_slot (Text c.args.container ∷ Text (slot_text c.args.slot) ∷ []) old new (Ok c.in_ok-execute.field-0) = rw (c.characters.ensures, c.text-container.ensures.same, c.characters-2.ensures, c.text-slot.ensures) at ran.0 in
-    (ran.1, λ rows has. update_slotd old new rows c.in_ok-execute.field-0 has c.args.container c.args.slot h))
+    (ran.1, λ rows has. update_slotd old new rows c.in_ok-execute.field-0 has c.args.container c.args.slot h, λ rows has held. update_slot_stays old new rows c.in_ok-execute.field-0 has held _ h))

@@ -1,5 +1,5 @@
 use Rattle.std.proofs.Common.{sym, ◌∙◌}
-use Rattle.office_migration.proofs.migrating.reply_of.Goals as goal
+use Rattle.office_migration.proofs.copying.reply_of.Goals as goal
 
 pub returns-in-Some : goal.returns-in-Some
 returns-in-Some c text replies =
