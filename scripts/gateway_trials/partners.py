@@ -108,7 +108,7 @@ def paths(clients, judge):
         '/replies/1/../../yard', '//replies/1', '/replies/1?x=1', '/replies/1/', '/replies/x', '/replies/',
         '/replies/' + 15 * '1', '/yard', '/yard.csv', '/partners', '/partners/HAULA', '/containers/ABCU0000017',
         '/visits/ABCU0000017', '/picture', '/blocks', '/lists/9123456/V12/load', '/work/9123456/V12/load', '/health',
-        '/metrics', '/standing/HAULA', '/standing?x', '/interchanges/', '/./standing', '/.', '/']
+        '/metrics', '/texts/0', '/standing/HAULA', '/standing?x', '/interchanges/', '/./standing', '/.', '/']
     for path in others:
         judge.same('GET %s' % path[:40], NONE, clients.get('HAULB', path))
     for path in ('/partners/EVIL/gate', '/partners/HAULA/interchanges', '/interchanges/../partners/EVIL/gate',

@@ -29,7 +29,7 @@ LOAD_LIST = (
 # what no role may ask
 NOBODYS = [
     ('GET', '/'), ('GET', '/nothing'), ('GET', '/yard/'), ('GET', '/yard?x'), ('GET', '/%79ard'), ('GET', '/partners/../yard'),
-    ('GET', '//yard'), ('GET', '/containers/ABCU0000017/'), ('GET', '/interchanges'), ('POST', '/interchanges'),
+    ('GET', '//yard'), ('GET', '/texts/0'), ('GET', '/containers/ABCU0000017/'), ('GET', '/interchanges'), ('POST', '/interchanges'),
     ('POST', '/partners/HAULA/interchanges'), ('POST', '/partners/HAULC/port'), ('POST', '/partners/%48AULC/gate'),
     ('POST', '/partners/HAULC/gate?x'), ('POST', '/yard'), ('PUT', '/partners/HAULC/gate'), ('DELETE', '/partners/HAULA')]
 

@@ -6,7 +6,7 @@ A request is bytes, and so is its response. The head is the shortest front of th
 import re
 from collections import namedtuple
 
-from .deliveries import run
+from .deliveries import kept_texts, run
 from .keys import PARTS, decoded, read_key
 from .moments import are_digits
 from .office import json_text
@@ -29,8 +29,8 @@ HEAD = re.compile(r'(?:%s)*(%s) (%s) HTTP/1\.[01]%s((?:%s:%s%s)*)%s' % (
 # fields are pairs of name and value, `length` how many bytes the head has
 Head = namedtuple('Head', 'method target fields length')
 
-# where a path leads, the method that it has, and what is asked there: a kind of report, or one of the three that change the
-# office
+# where a path leads, the method that it has, and what is asked there: a kind of report, one of the three that change the
+# office, or the kept texts
 ROUTES = [
     (r'/interchanges', 'POST', 'delivery'),
     (r'/partners/([^/]+)/interchanges', 'POST', 'own delivery'),
@@ -51,11 +51,16 @@ ROUTES = [
     (r'/tickets/([^/]+/[^/]+)', 'GET', 'ticket'),
     (r'/replies/([^/]+/[^/]+)', 'GET', 'reply'),
     (r'/contrls/([^/]+/[^/]+)', 'GET', 'contrl'),
+    (r'/texts/([^/]+)', 'GET', 'texts'),
 ]
 HTML = 'text/html; charset=utf-8'
 # what the body of a report is, if not plain text
-CONTENT_TYPES = {'reply': 'application/json', 'yardcsv': 'text/csv', 'contrl': 'application/EDIFACT', 'picture': HTML,
+CONTENT_TYPES = {'reply': 'application/json', 'yardcsv': 'text/csv', 'contrl': 'application/EDIFACT',
+    'texts': 'application/EDIFACT', 'picture': HTML,
     'health': 'application/json', 'metrics': 'text/plain; version=0.0.4'}
+
+# the most bytes of a page of texts, unless its first text has more
+MOST_OF_TEXTS = 1048576
 
 # what stands before the path of a report whose page is asked for
 PAGES = '/pages'
@@ -221,6 +226,17 @@ def pass_door(office, code, text, ahead):
         raise Refusal(429, 'refused', fault='TooEarly', next=following)
 
 
+def page_of_texts(office, key):
+    """The kept texts after so many, each with an LF after it: as many whole ones as have room, one at least if there is one.
+    How many is said by 1 to 9 digits that don't begin with 0, or by 0, and there are at least so many."""
+    kept = kept_texts(office.deliveries)
+    if not re.fullmatch(r'0|[1-9][0-9]{0,8}', key) or int(key) > len(kept):
+        raise Refusal(404, 'none')
+    lines = [text + '\n' for text in kept[int(key):]]
+    counts = [count for count in range(len(lines) + 1) if count <= 1 or len(''.join(lines[:count])) <= MOST_OF_TEXTS]
+    return ''.join(lines[:max(counts)])
+
+
 def delivered(office, text):
     """Status, content type and body of the answer to a text."""
     answer = office.answer(text)
@@ -244,7 +260,7 @@ def answered(office, request, ahead):
         body_of(head, request)
         answer = office.add_account(*added_by(key))
         return ACCOUNT_FAULTS.get(answer.get('fault'), 200), 'application/json', json_text(answer)
-    text = report(office, kind, key)
+    text = page_of_texts(office, key) if kind == 'texts' else report(office, kind, key)
     if text is None:
         raise Refusal(404, 'none')
     return 200, CONTENT_TYPES.get(kind, 'text/plain'), text

@@ -17,7 +17,7 @@ WHOLE = ['yard', 'yard', 'yardcsv', 'blocks', 'calls', 'calls', 'partners', 'par
 KINDS = [
     (12, 'delivery'), (6, 'own delivery'), (2, 'altered delivery'), (8, 'report'), (2, 'odd report'), (1, 'method'), (1, 'route'),
     (2, 'length'), (1, 'cut'), (6, 'altered head'), (2, 'large'), (2, 'account'), (1, 'odd account'), (6, 'page'),
-    (1, 'odd page'), (2, 'find')]
+    (1, 'odd page'), (2, 'find'), (2, 'texts'), (1, 'odd texts')]
 METHODS = ['GET', 'POST', 'PUT', 'HEAD', 'get', 'OPTIONS', 'DELETE', 'X', 'PATCH', 'CONNECT', "!#$%&'*+-.^_`|~"]
 PATHS = [
     '/', '*', '/x', '/yard/', '//yard', '/Yard', 'yard', 'http://127.0.0.1/yard', '/yardcsv', '/yard.CSV', '/visits',
@@ -42,6 +42,11 @@ ODD_NUMBERS = [
     '%', '%4', '%zz', 'ABCU0000017%', '%25', '%00', '%0A', '%3Cb%3EABCU%3C/b%3E', "'><script>", '"onclick="x', '&amp;',
     'ABCU0000017%26', 'A' * 300, '%C3%A4bcu0000017', '\xc3\xa4', '%80%FF', '%E2%82%AC', 'ABCU0000017;', 'TEXU3070079',
     'ABCU000001%37', '%41%42%43%55%30%30%30%30%30%31%37', '+-+-', 'ABCU9999990', 'ZZZZ0000000']
+# what stands in place of a number of texts
+ODD_TEXTS = [
+    '/texts', '/texts/', '/texts/00', '/texts/01', '/texts/+1', '/texts/-1', '/texts/1x', '/texts/x', '/texts/0x1', '/texts/%30',
+    '/texts/1%20', '/texts/0/', '/texts/0/0', '/texts//0', '/texts/999999999', '/texts/1000000000', '/texts/0000000000',
+    '/texts/99999999999999999999', '/Texts/0', '/text/0', '/pages/texts', '/pages/texts/0', '/texts/\xb2', '/texts/1.0']
 QUERIES = [(8, ''), (1, '?'), (1, '?a=b/c?d'), (1, '?%zz')]
 LENGTHS = [
     [], ['Content-Length: %d', 'Content-Length: %d'], ['Content-Length: +%d'], ['Content-Length: '],
@@ -279,6 +284,10 @@ def random_request(random, day, office):
         return get(random, path, random.choice(['GET', 'GET', random.choice(METHODS)]))
     if kind == 'find':
         return find(random, office)
+    if kind == 'texts':
+        return get(random, '/texts/%d' % random.choice([0, 0, 1, random.randrange(len(office.deliveries) + 3)]))
+    if kind == 'odd texts':
+        return get(random, random.choice(['/texts/0'] * 4 + ODD_TEXTS), random.choice(['GET', 'GET', 'GET', *METHODS]))
     if kind == 'cut':
         whole = post(random, text)
         return whole[:random.randrange(len(whole))]

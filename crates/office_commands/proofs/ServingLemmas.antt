@@ -15,22 +15,22 @@ use Rattle.office_replies.specs.declared.accounts.AccountAnswer.{AccountAnswer}
 use Rattle.office_replies.specs.declared.accounts.AccountAnswer.TheVariants as account_answer
 use Rattle.office_replies.specs.declared.deliver.Response.{Response}
 use Rattle.office_replies.specs.declared.deliver.Response.TheVariants as response
-use Rattle.office_queries.specs.Looking.{Tells}
+use Rattle.office_queries.specs.Looking.{Look, report, texts_after, Tells}
 use Rattle.office_queries.specs.declared.query.NotNow.{NotNow}
-use Rattle.office_queries.specs.declared.query.Query.{Query}
 use Rattle.office_setup.specs.Setups.{SetupContent}
 use Rattle.office_history.specs.After.{SaysSame}
 use Rattle.office_stream.specs.Fronts.{AppendsFront}
 use Rattle.office_stream.specs.declared.port.Port.{Port}
 use Rattle.office_http.specs.Served.{AtMost, calls_of}
-use Rattle.office_http.specs.Steps.{Step, delivery, account, report, with_step, events_after, StepLeads, StepsLead}
+use Rattle.office_http.specs.Steps.{Step, delivery, account, look, with_step, events_after, StepLeads, StepsLead}
 use Rattle.office_desk.specs.Answers.{AnswersNext}
 use Rattle.office_desk.specs.Accounts.{AnswersAccount}
 use Rattle.office_desk.specs.Calls.{Leads, Enrols, Looks}
 use Rattle.office_desk.specs.Crashes.{IsAfter}
 use Rattle.office_desk.specs.Desks.{IsSound, StandsFor}
-use Rattle.office_desk.specs.Reports.{DeskTells, TellsAfter}
+use Rattle.office_desk.specs.Looking.{DeskShows, ShowsAfter}
 use Rattle.office_desk.specs.declared.desk.Desk.{Desk}
+use Rattle.office_desk.proofs.AlikeLemmas.{answers_alike}
 use Rattle.office_commands.specs.Delivering.{BeginsAt, OpensOn, StandsAlike}
 use Rattle.office_commands.specs.Ending.{Prints, Tells as TellsText}
 use Rattle.office_commands.specs.Serving.{EndsServing, listening_line, served_line, IsServed, AreServed, postponed_event, HasNoEvent, MayBeThere, HoldsServed, LeadsNamed, EnrolsNamed, LeadsWhile, EnrolsWhile, AreServedBy, IsServedOver}
@@ -43,8 +43,8 @@ use Rattle.office_commands.proofs.StreamLemmas.{answer_alike, stand_alike}
 -- steps of what a desk stands in are steps of the desk, if each one is
 inner_steps : {W D : Type 0} (inner : W → D) (outer_leads : W → List ℕ → Response → W → Type 0) (outer_enrols : W → List ℕ → List ℕ → AccountAnswer → W → Type 0)
     (leads : D → List ℕ → Response → D → Type 0) (enrols : D → List ℕ → List ℕ → AccountAnswer → D → Type 0)
-    (looks : D → Query → Result (Option (List ℕ)) NotNow → D → Type 0) (old : W) (steps : List Step) (new : W)
-    → StepsLead outer_leads outer_enrols (λ o query found n. looks (inner o) query found (inner n)) old steps new
+    (looks : D → Look → Result (Option (List ℕ)) NotNow → D → Type 0) (old : W) (steps : List Step) (new : W)
+    → StepsLead outer_leads outer_enrols (λ o at found n. looks (inner o) at found (inner n)) old steps new
     → ((o : W) (text : List ℕ) (given : Response) (n : W) → outer_leads o text given n → leads (inner o) text given (inner n))
     → ((o : W) (code kind : List ℕ) (given : AccountAnswer) (n : W) → outer_enrols o code kind given n → enrols (inner o) code kind given (inner n))
     → StepsLead leads enrols looks (inner old) steps (inner new)
@@ -53,7 +53,7 @@ inner_steps inner outer_leads outer_enrols leads enrols looks old (delivery text
     (inner next, by old text given next led, inner_steps inner outer_leads outer_enrols leads enrols looks next steps new rest by by')
 inner_steps inner outer_leads outer_enrols leads enrols looks old (account code kind given ∷ steps) new (next, led, rest) by by' =
     (inner next, by' old code kind given next led, inner_steps inner outer_leads outer_enrols leads enrols looks next steps new rest by by')
-inner_steps inner outer_leads outer_enrols leads enrols looks old (report query found ∷ steps) new (next, led, rest) by by' =
+inner_steps inner outer_leads outer_enrols leads enrols looks old (look at found ∷ steps) new (next, led, rest) by by' =
     (inner next, led, inner_steps inner outer_leads outer_enrols leads enrols looks next steps new rest by by')
 
 -- what goes by the name of a file is done, or `not now`
@@ -70,10 +70,10 @@ named_enrols enrols named unnamed nameless old code kind given new (inr (said, n
 -- from what a desk was to what it is, by whatever stood around it
 served_by : {W D : Type 0} (inner : W → D) (outer_leads : W → List ℕ → Response → W → Type 0) (outer_enrols : W → List ℕ → List ℕ → AccountAnswer → W → Type 0)
     (leads : D → List ℕ → Response → D → Type 0) (enrols : D → List ℕ → List ℕ → AccountAnswer → D → Type 0)
-    (looks : D → Query → Result (Option (List ℕ)) NotNow → D → Type 0) (count : ℕ) (first last : W) (opened end : D) → inner first ≡ opened → end ≡ inner last
+    (looks : D → Look → Result (Option (List ℕ)) NotNow → D → Type 0) (count : ℕ) (first last : W) (opened end : D) → inner first ≡ opened → end ≡ inner last
     → ((o : W) (text : List ℕ) (given : Response) (n : W) → outer_leads o text given n → LeadsNamed leads (inner o) text given (inner n))
     → ((o : W) (code kind : List ℕ) (given : AccountAnswer) (n : W) → outer_enrols o code kind given n → EnrolsNamed enrols (inner o) code kind given (inner n))
-    → AtMost outer_leads outer_enrols (λ o query found n. looks (inner o) query found (inner n)) count first last → AreServedBy leads enrols looks count opened end
+    → AtMost outer_leads outer_enrols (λ o at found n. looks (inner o) at found (inner n)) count first last → AreServedBy leads enrols looks count opened end
 served_by {W} {D} inner outer_leads outer_enrols leads enrols looks count first last opened end begins ends by by' served = record {
   steps = served.steps;
   few = served.few;
@@ -85,14 +85,19 @@ served_by {W} {D} inner outer_leads outer_enrols leads enrols looks count first 
 -- ---- set-ups that say the same
 
 module _ (one other : SetupContent) (says : SaysSame one other) where
-  told_alike : (es : List Event) (query : Query) (found : Result (Option (List ℕ)) NotNow) → Tells (TellsAfter one es query) found → Tells (TellsAfter other es query) found
-  told_alike es query (Ok found) told = after_alike one other says es query found told
-  told_alike es query (Err refusal) told = tt
+  shown_alike : (es : List Event) (at : Look) (found : Option (List ℕ)) → ShowsAfter one es at found → ShowsAfter other es at found
+  shown_alike es (report query) found told = after_alike one other says es query found told
+  shown_alike es (texts_after from) found told =
+      record { db = told.db; rows = told.rows; has = told.has; after = (answers_alike one other says es).rows told.rows told.after; pages = told.pages }
+
+  told_alike : (es : List Event) (at : Look) (found : Result (Option (List ℕ)) NotNow) → Tells (ShowsAfter one es at) found → Tells (ShowsAfter other es at) found
+  told_alike es at (Ok found) told = shown_alike es at found told
+  told_alike es at (Err refusal) told = tt
 
   step_alike : (es : List Event) (step : Step) → IsServed one es step → IsServed other es step
   step_alike es (delivery text given) served = elim served [ inl is ↦ inl (answer_alike one other says es text given is) | inr off ↦ inr off ]
   step_alike es (account code kind given) served = elim served [ inl is ↦ inl (account_alike one other says es code kind given is) | inr off ↦ inr off ]
-  step_alike es (report query found) served = told_alike es query found served
+  step_alike es (look at found) served = told_alike es at found served
 
   served_alike : (es : List Event) (steps : List Step) → AreServed one es steps → AreServed other es steps
   served_alike es [] served = tt
@@ -108,10 +113,16 @@ LeftBy content es Pends db = IsAfter content es db ⊎ ((event : Event) × Pends
 abbrev PendsBehind : (Event → Type 0) → Step → Event → Type 0
 PendsBehind Pends step event = (Pends event × ((es : List Event) → with_step es step ≡ es)) ⊎ (postponed_event step ≡ Some event)
 
-told_of : {D : Type 0} {g : Ghosts D} (content : SetupContent) (es : List Event) (desk : Desk (FileStore D g) over_files) → StandsFor over_files content es desk → (query : Query)
-    (found : Result (Option (List ℕ)) NotNow) → Tells (DeskTells over_files desk query) found → Tells (TellsAfter content es query) found
-told_of content es desk stands query (Ok found) told = told.after content es stands
-told_of content es desk stands query (Err refusal) told = tt
+shown_of : {D : Type 0} {g : Ghosts D} (content : SetupContent) (es : List Event) (desk : Desk (FileStore D g) over_files) → StandsFor over_files content es desk → (at : Look) (found : Option (List ℕ))
+    → DeskShows over_files desk at found → ShowsAfter content es at found
+shown_of content es desk stands (report query) found told = told.after content es stands
+shown_of content es desk stands (texts_after from) found told =
+    record { db = (state over_files desk.conn).committed; rows = stands.rows; has = stands.has; after = stands.after; pages = told stands.rows stands.has }
+
+told_of : {D : Type 0} {g : Ghosts D} (content : SetupContent) (es : List Event) (desk : Desk (FileStore D g) over_files) → StandsFor over_files content es desk → (at : Look)
+    (found : Result (Option (List ℕ)) NotNow) → Tells (DeskShows over_files desk at) found → Tells (ShowsAfter content es at) found
+told_of content es desk stands at (Ok found) told = shown_of content es desk stands at found told
+told_of content es desk stands at (Err refusal) told = tt
 
 -- what is pending behind steps
 abbrev PendsAfter : (Event → Type 0) → List Step → Event → Type 0
@@ -133,7 +144,7 @@ module _ {D : Type 0} {g : Ghosts D} where
   sound_step : (old : Desk (FileStore D g) over_files) (step : Step) (new : Desk (FileStore D g) over_files) → LedBy old step new → IsSound over_files new → IsSound over_files old
   sound_step old (delivery text given) new led sound = elim led [ inl call ↦ call.stays sound | inr off ↦ subst (IsSound over_files) off.1 sound ]
   sound_step old (account code kind given) new led sound = elim led [ inl call ↦ call.stays sound | inr off ↦ subst (IsSound over_files) off.1 sound ]
-  sound_step old (report query found) new call sound = call.looks.stays sound
+  sound_step old (look at found) new call sound = call.looks.stays sound
 
   stand_step : (content : SetupContent) (es : List Event) (old : Desk (FileStore D g) over_files) (step : Step) (new : Desk (FileStore D g) over_files) → LedBy old step new → IsSound over_files new → StandsFor over_files content es old
       → IsServed content es step × StandsFor over_files content (with_step es step) new
@@ -145,8 +156,8 @@ module _ {D : Type 0} {g : Ghosts D} where
     | inl call ↦ (let done = call.adds sound content es stands in (inl done.0, done.1))
     | inr off ↦ (inr off.0, subst (λ (r : AccountAnswer). StandsFor over_files content (with_added es code kind r) new) (sym off.0) (subst (StandsFor over_files content es) (sym off.1) stands))
   ]
-  stand_step content es old (report query found) new call sound stands =
-      (told_of content es old stands query found (call.told sound), call.looks.same sound content es stands)
+  stand_step content es old (look at found) new call sound stands =
+      (told_of content es old stands at found (call.told sound), call.looks.same sound content es stands)
 
   module _ (content : SetupContent) (es : List Event) (old new : Desk (FileStore D g) over_files) (Pends : Event → Type 0)
       (was : (db : Trees) → (state over_files old.conn).may_leave db → LeftBy content es Pends db) (db : Trees) (left : (state over_files new.conn).may_leave db) where
@@ -189,8 +200,8 @@ module _ {D : Type 0} {g : Ghosts D} where
     left_step : (step : Step) → LedBy old step new → IsSound over_files new → StandsFor over_files content es old → LeftBy content (with_step es step) (PendsBehind Pends step) db
     left_step (delivery text given) led sound stands = left_delivery text given led sound stands
     left_step (account code kind given) led sound stands = left_account code kind given led sound stands
-    left_step (report query found) call sound stands =
-        left_less (report query found) (λ events. refl) (call.looks.crash (call.looks.stays sound) sound.0 stands.has.schema db left)
+    left_step (look at found) call sound stands =
+        left_less (look at found) (λ events. refl) (call.looks.crash (call.looks.stays sound) sound.0 stands.has.schema db left)
 
   -- ---- steps, one behind the other
 
@@ -275,13 +286,13 @@ ends_as port count old new a b tells Served Served' status on (inr (inr (three, 
 pub ends_inner : {P W D : Type 0} (port count : ℕ) (old new : Port P) (a b : Option (List ℕ)) (tells : List ℕ → Type 0) (inner : W → D)
     (outer_leads : W → List ℕ → Response → W → Type 0) (outer_enrols : W → List ℕ → List ℕ → AccountAnswer → W → Type 0)
     (leads : D → List ℕ → Response → D → Type 0) (enrols : D → List ℕ → List ℕ → AccountAnswer → D → Type 0)
-    (looks : D → Query → Result (Option (List ℕ)) NotNow → D → Type 0) (first last : W) (status : ℕ)
-    → EndsServing port count old new a b tells (λ most. AtMost outer_leads outer_enrols (λ o query found n. looks (inner o) query found (inner n)) most first last) status
+    (looks : D → Look → Result (Option (List ℕ)) NotNow → D → Type 0) (first last : W) (status : ℕ)
+    → EndsServing port count old new a b tells (λ most. AtMost outer_leads outer_enrols (λ o at found n. looks (inner o) at found (inner n)) most first last) status
     → (opened end : D) → inner first ≡ opened → end ≡ inner last
     → ((o : W) (text : List ℕ) (given : Response) (n : W) → outer_leads o text given n → LeadsNamed leads (inner o) text given (inner n))
     → ((o : W) (code kind : List ℕ) (given : AccountAnswer) (n : W) → outer_enrols o code kind given n → EnrolsNamed enrols (inner o) code kind given (inner n))
     → EndsServing port count old new a b tells (λ most. AreServedBy leads enrols looks most opened end) status
 ends_inner port count old new a b tells inner outer_leads outer_enrols leads enrols looks first last status served opened end begins ends by by' =
-    ends_as port count old new a b tells (λ most. AtMost outer_leads outer_enrols (λ o query found n. looks (inner o) query found (inner n)) most first last)
+    ends_as port count old new a b tells (λ most. AtMost outer_leads outer_enrols (λ o at found n. looks (inner o) at found (inner n)) most first last)
     (λ most. AreServedBy leads enrols looks most opened end) status
     (λ most calls. served_by inner outer_leads outer_enrols leads enrols looks most first last opened end begins ends by by' calls) served

@@ -13,20 +13,19 @@ use Rattle.office_replies.specs.declared.accounts.AccountAnswer.{AccountAnswer}
 use Rattle.office_replies.specs.declared.accounts.AccountAnswer.TheVariants as account_answer
 use Rattle.office_replies.specs.declared.deliver.Response.{Response}
 use Rattle.office_replies.specs.declared.deliver.Response.TheVariants as response
-use Rattle.office_queries.specs.Looking.{Tells}
+use Rattle.office_queries.specs.Looking.{Look, Tells}
 use Rattle.office_queries.specs.declared.query.NotNow.{NotNow as Unreported}
-use Rattle.office_queries.specs.declared.query.Query.{Query}
 use Rattle.office_setup.specs.Setups.{SetupContent}
 use Rattle.office_stream.specs.Fronts.{AppendsFront}
 use Rattle.office_stream.specs.declared.port.Port.{Port}
 use Rattle.office_http.specs.Served.{AtMost, calls_of}
-use Rattle.office_http.specs.Steps.{Step, delivery, account, report, with_step, events_after}
+use Rattle.office_http.specs.Steps.{Step, delivery, account, look, with_step, events_after}
 use Rattle.office_desk.specs.Accounts.{AnswersAccount}
 use Rattle.office_desk.specs.Answers.{AnswersNext}
 use Rattle.office_desk.specs.Calls.{Leads, Enrols, Looks}
 use Rattle.office_desk.specs.Crashes.{IsAfter}
 use Rattle.office_desk.specs.Desks.{IsSound}
-use Rattle.office_desk.specs.Reports.{TellsAfter}
+use Rattle.office_desk.specs.Looking.{ShowsAfter}
 use Rattle.office_desk.specs.declared.desk.Desk.{Desk}
 use Rattle.office_commands.specs.Alike.{Alike}
 use Rattle.office_commands.specs.Delivering.{BeginsAt, OpensOn, StandsAlike}
@@ -37,7 +36,7 @@ use Rattle.office_commands.specs.Delivering.{BeginsAt, OpensOn, StandsAlike}
 abbrev pub IsServed : SetupContent → List Event → Step → Type 0
 IsServed content es (delivery text given) = AnswersNext content es text given ⊎ (given ≡ response.NotNow)
 IsServed content es (account code kind given) = AnswersAccount content es code kind given ⊎ (given ≡ account_answer.NotNow)
-IsServed content es (report query found) = Tells (TellsAfter content es query) found
+IsServed content es (look at found) = Tells (ShowsAfter content es at) found
 
 -- each is answered so at its place
 abbrev pub AreServed : SetupContent → List Event → List Step → Type 0
@@ -101,7 +100,7 @@ EnrolsWhile enrols says nameless old code kind given new =
 -- `not now`.
 abbrev pub AreServedBy : {D : Type 0} → (leads : D → List ℕ → Response → D → Type 0) →
     (enrols : D → List ℕ → List ℕ → AccountAnswer → D → Type 0) →
-    (looks : D → Query → Result (Option (List ℕ)) Unreported → D → Type 0) → (count : ℕ) → (old new : D) → Type 0
+    (looks : D → Look → Result (Option (List ℕ)) Unreported → D → Type 0) → (count : ℕ) → (old new : D) → Type 0
 AreServedBy leads enrols looks count old new = AtMost (LeadsNamed leads) (EnrolsNamed enrols) looks count old new
 
 module _ {D : Type 0} {g : Ghosts D} where

@@ -202,11 +202,18 @@ impl<D: Report + AddAccount + Faults + Tallied, N: Notes> AddAccount for Noted<'
 }
 
 impl<D: Report + Faults + Tallied, N: Notes> Report for Noted<'_, D, N> {
-    ghost looks = { λ old query found new. D.looks old.desk query found new.desk };
+    ghost looks = { λ old look found new. D.looks old.desk look found new.desk };
 
     fn report(&mut self, alloc: Global, query: &Query) -> Result<Option<String>, NotNow> {
         self.notes.begun();
         let found = self.desk.report(alloc, query);
+        self.notes.answered();
+        found
+    }
+
+    fn texts(&mut self, alloc: Global, from: u32) -> Result<Option<Vec<u8>>, NotNow> {
+        self.notes.begun();
+        let found = self.desk.texts(alloc, from);
         self.notes.answered();
         found
     }

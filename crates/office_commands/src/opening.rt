@@ -251,10 +251,14 @@ impl<D: AddAccount + Faults, F: Names> AddAccount for Named<D, F> {
 }
 
 impl<D: Report + Faults, F: Names> Report for Named<D, F> {
-    ghost looks = { λ old query found new. D.looks old.desk query found new.desk };
+    ghost looks = { λ old look found new. D.looks old.desk look found new.desk };
 
     fn report(&mut self, alloc: Global, query: &Query) -> Result<Option<String>, NotNow> {
         self.desk.report(alloc, query)
+    }
+
+    fn texts(&mut self, alloc: Global, from: u32) -> Result<Option<Vec<u8>>, NotNow> {
+        self.desk.texts(alloc, from)
     }
 }
 

@@ -11,9 +11,8 @@ use Rattle.office_replies.specs.Delivering.{AreAnswered, Delivers, LeadsOn}
 use Rattle.office_replies.specs.Events.{Event}
 use Rattle.office_replies.specs.declared.accounts.AccountAnswer.{AccountAnswer}
 use Rattle.office_replies.specs.declared.deliver.Response.{Response}
-use Rattle.office_queries.specs.Looking.{Tells}
+use Rattle.office_queries.specs.Looking.{Look, Tells}
 use Rattle.office_queries.specs.declared.query.NotNow.{NotNow}
-use Rattle.office_queries.specs.declared.query.Query.{Query}
 use Rattle.office_setup.specs.Parties.{parties_of}
 use Rattle.office_setup.specs.Setups.{SetupContent, setup_content}
 use Rattle.office_admission.specs.Accounts.{account_answer}
@@ -23,13 +22,12 @@ use Rattle.office_rows.specs.Rows.{Rows}
 use Rattle.office_rows.specs.Tables.{office_schema}
 use Rattle.office_desk.specs.Accounts.{AddsOver, AnswersAccount, LeavesAdded, Says}
 use Rattle.office_desk.specs.Answers.{AnswersNext}
-use Rattle.office_desk.specs.Causes.{AsksUnfitReply}
 use Rattle.office_desk.specs.Crashes.{Leaves, LeavesAll, LeavesBehind, LeavesNoMore}
 use Rattle.office_desk.specs.Desks.{IsSound, StandsFor, Refuses}
 use Rattle.office_desk.specs.Kept.{AnswersOver, Office}
+use Rattle.office_desk.specs.Looking.{DeskShows, IsOpenAt, ShowsUnfitReply}
 use Rattle.office_desk.specs.Noting.{IsNow, NotesCause, NotesFault, NotesLook, NotesStore}
 use Rattle.office_desk.specs.Offices.{DeskHolds}
-use Rattle.office_desk.specs.Reports.{DeskTells, IsOpenFor}
 use Rattle.office_desk.specs.declared.desk.Desk.{Desk}
 
 -- A text was delivered, with that response. From whatever events it is answered at its place; over any office's rows by
@@ -75,17 +73,17 @@ pub record OnlyLooks {S : Type 0} (g : Ghosts S) (old new : Desk S g) : Type 0 w
       LeavesNoMore (state g old.conn) (state g new.conn)
   pub stays : IsSound g new → IsSound g old
 
--- A report was asked for. What was found is what the rows tell; the desk only looked; why it can't be told now: over an
--- office's rows by the store or the memory alone, or by what is asked for; and where it's told that the office can be asked,
--- the store is open.
-pub record Looks {S : Type 0} (g : Ghosts S) (old : Desk S g) (query : Query) (found : Result (Option (List ℕ)) NotNow)
+-- A report, or a page of the kept texts, was asked for. What was found is what the rows tell; the desk only looked; why it
+-- can't be told now: over an office's rows by the store or the memory alone, or by what is asked for; and where it's told
+-- that the office can be asked, the store is open.
+pub record Looks {S : Type 0} (g : Ghosts S) (old : Desk S g) (look : Look) (found : Result (Option (List ℕ)) NotNow)
     (new : Desk S g) : Type 0 where
-  pub told : IsSound g new → Tells (DeskTells g old query) found
+  pub told : IsSound g new → Tells (DeskShows g old look) found
   pub looks : OnlyLooks g old new
   pub noted : NotesLook found old.last_fault new.last_fault
   pub cause : IsSound g new → (rows : Rows) (terminal : TerminalState) → DeskHolds g old rows terminal →
-      NotesCause (AsksUnfitReply (setup_content old.setup) rows query) found new.last_fault
-  pub is_open : HasCleanDisk (state g new.conn) → OnOk found (IsOpenFor query (state g new.conn))
+      NotesCause (ShowsUnfitReply (setup_content old.setup) rows look) found new.last_fault
+  pub is_open : HasCleanDisk (state g new.conn) → OnOk found (IsOpenAt look (state g new.conn))
 
 -- ---- what follows of deliveries, one behind the other
 

@@ -5,6 +5,7 @@ pub mod Crashes
 pub mod Offices
 pub mod Desks
 pub mod Reports
+pub mod Looking
 pub mod Finding
 pub mod Kept
 pub mod Taking

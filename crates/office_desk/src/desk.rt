@@ -7,6 +7,7 @@ use crate::accounts::{AccountStanding, add_new};
 use crate::answers::{note_memory, noted, tell};
 use crate::beside::{Beside, beside_of, load_beside};
 use crate::taking::{Delivery, account_from, judge_account, take_in};
+use crate::texts::lines_from;
 use edi_segments::interchange_text;
 use office_admission::admit;
 use office_queries::{NotNow, Query, Report};
@@ -93,11 +94,13 @@ impl<S: Alter + Drop> Desk<S> {
     ghost use Rattle.office_rows.specs.Stored.{HasRows};
     ghost use Rattle.office_rows.specs.Tables.{office_schema};
     ghost use Rattle.office_history.specs.After.{AreAfter};
-    ghost use Rattle.office_tables.specs.Faults.{IsOfStoreOr};
+    ghost use Rattle.office_queries.specs.Looking.{report, texts_after};
+    ghost use Rattle.office_tables.specs.Faults.{IsOfStore, IsOfStoreOr};
     ghost use Rattle.terminal_core.specs.State.{TerminalState};
     ghost use Rattle.office_desk.specs.Calls.{Enrols, Leads, Looks, OnlyLooks};
     ghost use Rattle.office_desk.specs.Causes.{AsksUnfitReply};
     ghost use Rattle.office_desk.specs.Desks.{IsSound, OpensAt};
+    ghost use Rattle.office_desk.specs.Looking.{DeskHands};
     ghost use Rattle.office_desk.specs.Offices.{DeskHolds, OpensOffice, RefusesToOpen};
     ghost use Rattle.office_desk.specs.Reports.{DeskTells, IsOpenFor};
 
@@ -151,11 +154,35 @@ impl<S: Alter + Drop> Desk<S> {
 
     /// What the rows tell at a query, if there is something; NotNow, if it met a fault, which it keeps.
     fn answer_query(&mut self, alloc: Global, query: &Query) -> Result<Option<String>, NotNow>
-        ensures looks { Looks S.Store self.old query.now
+        ensures looks { Looks S.Store self.old (report query.now)
             (result_map_both (option_map string_bytes) (λ refusal. refusal) result) self.new }
     {
         let told = self.find_report(alloc, query);
         noted(&mut self.last_fault, told)
+    }
+
+    /// A page of the kept texts after the first `from`, an LF after each. None if there are fewer than `from`. No row
+    /// changes.
+    fn find_texts(&mut self, alloc: Global, from: u32) -> Result<Option<Vec<u8>>, TableFault>
+        ensures told { IsSound S.Store self.new →
+            IfOk result (λ found. DeskHands S.Store self.old from (option_map (λ lines. lines.items) found)) }
+        ensures fault { IsSound S.Store self.new → IfErr result (λ fault. (rows : Rows) (terminal : TerminalState) →
+            DeskHolds S.Store self.old rows terminal → IsOfStore fault) }
+        ensures looks { OnlyLooks S.Store self.old self.new }
+        ensures last_fault { self.new.last_fault ≡ self.old.last_fault }
+    {
+        let is_idle = self.conn.is_autocommit();
+        prove!(is_idle);
+        lines_from(alloc, &mut self.conn, from)
+    }
+
+    /// The same; NotNow, if it met a fault, which it keeps.
+    fn answer_texts(&mut self, alloc: Global, from: u32) -> Result<Option<Vec<u8>>, NotNow>
+        ensures looks { Looks S.Store self.old (texts_after from)
+            (result_map_both (option_map (λ lines. lines.items)) (λ refusal. refusal) result) self.new }
+    {
+        let found = self.find_texts(alloc, from);
+        noted(&mut self.last_fault, found)
     }
 
     /// Delivers a text, and answers it. A refusal without a CONTRL takes no memory and no store, so it is never answered NotNow.
@@ -260,5 +287,9 @@ impl<S: Alter + Drop> Report for Desk<S> {
 
     fn report(&mut self, alloc: Global, query: &Query) -> Result<Option<String>, NotNow> {
         self.answer_query(alloc, query)
+    }
+
+    fn texts(&mut self, alloc: Global, from: u32) -> Result<Option<Vec<u8>>, NotNow> {
+        self.answer_texts(alloc, from)
     }
 }

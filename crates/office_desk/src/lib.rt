@@ -7,6 +7,7 @@ mod beside;
 mod desk;
 pub mod laws;
 mod taking;
+mod texts;
 
 pub use accounts::AccountStanding;
 pub use beside::{Beside, load_beside};

@@ -6,11 +6,11 @@ use Rattle.httparse.specs.Spans.{IsRequestAt, name_and_value}
 use Rattle.httparse.specs.declared.spans.HeaderSpan.{HeaderSpan}
 use Rattle.office_queries.specs.declared.query.ReportKind.{ReportKind}
 use Rattle.office_http.specs.Heads.{FindsHead}
-use Rattle.office_http.specs.Requests.{Asks, AsksAt, AsksWith, asked_in, Gets, Posts, PostsAccount, PostsBy, refused_in}
+use Rattle.office_http.specs.Requests.{Asks, AsksAt, AsksWith, asked_in, Gets, Posts, PostsAccount, PostsBy, refused_in, texts_asked}
 use Rattle.office_queries.specs.AccountKeys.{account_in, sender_in}
 use Rattle.office_http.specs.Fields.{body_length}
 use Rattle.office_http.specs.Targets.{path_of, view_of}
-use Rattle.office_http.specs.Routes.{endpoint_of, partner_key_in}
+use Rattle.office_http.specs.Routes.{endpoint_of, partner_key_in, passed_in}
 use Rattle.office_http.specs.declared.targets.View.{View}
 use Rattle.office_http.specs.declared.routes.Endpoint.{Endpoint}
 use Rattle.office_http.specs.declared.routes.Endpoint.TheVariants as endpoint
@@ -81,6 +81,13 @@ account_asked head rest method target path fields to request is leads same_metho
     (subst (λ (p : List ℕ). (request ≡ Refused NotNow) ⊎ PostsAccount (body_length (map name_and_value head.fields)) rest (option_and_then account_in (partner_key_in p)) request)
     (same_path ∙ ap path_of same_target)
     (subst (λ (fs : List (List ℕ × List ℕ)). (request ≡ Refused NotNow) ⊎ PostsAccount (body_length fs) rest (option_and_then account_in (partner_key_in path)) request) same_fields posts))
+
+pub texts_looked : (head : RequestHead) (rest method target path : List ℕ) (to : Result Endpoint Refusal) (request : Request) →
+    to ≡ Ok endpoint.Texts → (to ≡ Err NotNow) ⊎ (to ≡ endpoint_of method target) → method ≡ head.method → target ≡ head.target → path ≡ path_of target →
+    request ≡ texts_asked (passed_in path) → AsksWith head rest request
+texts_looked head rest method target path to request is leads same_method same_target same_path asks =
+    asked_there head rest method target to endpoint.Texts request is leads same_method same_target
+    (inr (asks ∙ ap (λ (p : List ℕ). texts_asked (passed_in p)) (same_path ∙ ap path_of same_target)))
 
 -- a refusal, at the target of a head
 pub refusal_asked : (head : RequestHead) (rest method target : List ℕ) (view : View) (to : Result Endpoint Refusal) (refusal : Refusal) (request : Request) →

@@ -7,7 +7,7 @@ use Rattle.office_pages.specs.declared.notices.Notice.{Notice}
 use Rattle.office_pages.specs.declared.notices.Notice.TheVariants.{NotHere}
 use Rattle.office_queries.specs.Keys.{QueryContent}
 use Rattle.office_queries.specs.declared.query.ReportKind.{ReportKind}
-use Rattle.office_http.specs.Requests.{IsDelivery, IsOwnDelivery, IsAccount, IsReport, Gets, nothing_in, refused_in, Names, Posts, PostsFrom, PostsOwn, PostsBy, PostsAccount, AsksAt, AsksWith, IsSameRequest, HeadsAreOne, RequestsAreOne}
+use Rattle.office_http.specs.Requests.{IsDelivery, IsOwnDelivery, IsAccount, IsReport, Gets, nothing_in, refused_in, Names, Posts, PostsFrom, PostsOwn, PostsBy, PostsAccount, AsksAt, AsksWith, IsSameRequest, texts_asked, HeadsAreOne, RequestsAreOne}
 use Rattle.office_http.specs.Senders.{sender_at}
 use Rattle.office_http.specs.declared.targets.View.{View}
 use Rattle.office_http.specs.declared.targets.View.TheVariants as view
@@ -16,7 +16,7 @@ use Rattle.office_http.specs.declared.routes.Endpoint.TheVariants as endpoint
 use Rattle.office_http.specs.declared.response.Refusal.{Refusal}
 use Rattle.office_http.specs.declared.response.Refusal.TheVariants.{NotFound, NotNow}
 use Rattle.office_http.specs.declared.requests.Request.{Request}
-use Rattle.office_http.specs.declared.requests.Request.TheVariants.{Delivery, OwnDelivery, Account, Report, Noticed, Refused}
+use Rattle.office_http.specs.declared.requests.Request.TheVariants.{Delivery, OwnDelivery, Account, Report, Texts, Noticed, Refused}
 use Rattle.office_http.specs.declared.routes.Sender.{Sender}
 use Rattle.office_http.specs.declared.routes.Sender.TheVariants.{Nobody, Own, Another}
 
@@ -36,11 +36,13 @@ same_delivery text (Delivery body) (Delivery other) is is' = is ∙ sym is'
 same_delivery text (Delivery body) (OwnDelivery own) is is' = absurd is'
 same_delivery text (Delivery body) (Account key) is is' = absurd is'
 same_delivery text (Delivery body) (Report view kind query) is is' = absurd is'
+same_delivery text (Delivery body) (Texts from) is is' = absurd is'
 same_delivery text (Delivery body) (Noticed notice) is is' = absurd is'
 same_delivery text (Delivery body) (Refused refusal) is is' = absurd is'
 same_delivery text (OwnDelivery own) request' is is' = absurd is
 same_delivery text (Account key) request' is is' = absurd is
 same_delivery text (Report view kind query) request' is is' = absurd is
+same_delivery text (Texts from) request' is is' = absurd is
 same_delivery text (Noticed notice) request' is is' = absurd is
 same_delivery text (Refused refusal) request' is is' = absurd is
 
@@ -50,11 +52,13 @@ same_own code number text (OwnDelivery own) (OwnDelivery other) is is' = (is.0 �
 same_own code number text (OwnDelivery own) (Delivery body) is is' = absurd is'
 same_own code number text (OwnDelivery own) (Account key) is is' = absurd is'
 same_own code number text (OwnDelivery own) (Report view kind query) is is' = absurd is'
+same_own code number text (OwnDelivery own) (Texts from) is is' = absurd is'
 same_own code number text (OwnDelivery own) (Noticed notice) is is' = absurd is'
 same_own code number text (OwnDelivery own) (Refused refusal) is is' = absurd is'
 same_own code number text (Delivery body) request' is is' = absurd is
 same_own code number text (Account key) request' is is' = absurd is
 same_own code number text (Report view kind query) request' is is' = absurd is
+same_own code number text (Texts from) request' is is' = absurd is
 same_own code number text (Noticed notice) request' is is' = absurd is
 same_own code number text (Refused refusal) request' is is' = absurd is
 
@@ -64,11 +68,13 @@ same_account account (Account key) (Account other) is is' = is ∙ sym is'
 same_account account (Account key) (Delivery body) is is' = absurd is'
 same_account account (Account key) (OwnDelivery own) is is' = absurd is'
 same_account account (Account key) (Report view kind query) is is' = absurd is'
+same_account account (Account key) (Texts from) is is' = absurd is'
 same_account account (Account key) (Noticed notice) is is' = absurd is'
 same_account account (Account key) (Refused refusal) is is' = absurd is'
 same_account account (Delivery body) request' is is' = absurd is
 same_account account (OwnDelivery own) request' is is' = absurd is
 same_account account (Report view kind query) request' is is' = absurd is
+same_account account (Texts from) request' is is' = absurd is
 same_account account (Noticed notice) request' is is' = absurd is
 same_account account (Refused refusal) request' is is' = absurd is
 
@@ -81,8 +87,10 @@ same_report view kind what (Report way of query) (Delivery body) is is' = absurd
 same_report view kind what (Report way of query) (OwnDelivery own) is is' = absurd is'
 same_report view kind what (Report way of query) (Account key) is is' = absurd is'
 same_report view kind what (Report way of query) (Report way' of' query') is is' = (is.0 ∙ sym is'.0, is.1 ∙ sym is'.1, is.2 ∙ sym is'.2)
+same_report view kind what (Report way of query) (Texts from) is is' = absurd is'
 same_report view kind what (Report way of query) (Noticed notice) is is' = absurd is'
 same_report view kind what (Report way of query) (Refused refusal) is is' = absurd is'
+same_report view kind what (Texts from) request' is is' = absurd is
 same_report view kind what (Noticed notice) request' is is' = absurd is
 same_report view kind what (Refused refusal) request' is is' = absurd is
 
@@ -144,6 +152,11 @@ same_account_post (Ok size) rest named request request' (inl short) (inr whole) 
 same_account_post (Ok size) rest named request request' (inr whole) (inl short) = let less = short.0 in let more = whole.0 in absurd (omega arith)
 same_account_post (Ok size) rest named request request' (inr whole) (inr whole') = same_named named request request' whole.1 whole'.1
 
+same_texts : (from : Option ℕ) (request request' : Request) → request ≡ texts_asked from → request' ≡ texts_asked from → IsSameRequest request request'
+same_texts None request request' is is' = same_refusal NotFound request request' is is'
+same_texts (Some from) request request' is is' =
+    subst (λ (r : Request). IsSameRequest r request') (sym is) (subst (λ (r : Request). IsSameRequest (Texts from) r) (sym is') refl)
+
 same_at : (to : Result Endpoint Refusal) (head : RequestHead) (rest : List ℕ) (request request' : Request) → AsksAt to head rest request →
     AsksAt to head rest request' → IsSameRequest request request'
 same_at (Err refusal) head rest request request' is is' = same_refused _ refusal request request' is is'
@@ -151,6 +164,7 @@ same_at (Ok endpoint.Interchanges) head rest request request' is is' = same_post
 same_at (Ok endpoint.PartnerInterchanges) head rest request request' is is' = same_post_by _ _ rest request request' is is'
 same_at (Ok endpoint.Accounts) head rest request request' is is' = same_account_post _ rest _ request request' is is'
 same_at (Ok (endpoint.Report kind)) head rest request request' is is' = same_get _ kind _ request request' is is'
+same_at (Ok endpoint.Texts) head rest request request' is is' = same_texts _ request request' is is'
 
 same_with : (head : RequestHead) (rest : List ℕ) (request request' : Request) → request ≢ Refused NotNow → request' ≢ Refused NotNow →
     AsksWith head rest request → AsksWith head rest request' → IsSameRequest request request'

@@ -20,7 +20,7 @@ use Rattle.office_http.specs.declared.routes.Endpoint.TheVariants as endpoint
 use Rattle.office_http.specs.declared.response.Refusal.{Refusal}
 use Rattle.office_http.specs.declared.response.Refusal.TheVariants.{NotFound, OnlyGet, NotNow}
 use Rattle.office_http.specs.declared.requests.Request.{Request}
-use Rattle.office_http.specs.declared.requests.Request.TheVariants.{Delivery, OwnDelivery, Account, Report, Noticed, Refused}
+use Rattle.office_http.specs.declared.requests.Request.TheVariants.{Delivery, OwnDelivery, Account, Report, Texts, Noticed, Refused}
 use Rattle.office_http.proofs.OneRequest.{heads_are_one}
 
 abbrev asked_paged : QueryContent → Bool
@@ -103,6 +103,7 @@ page_looks method (Some (endpoint.Report of)) = paged_looks method (is_paged of)
 page_looks method (Some endpoint.Interchanges) = tt
 page_looks method (Some endpoint.PartnerInterchanges) = tt
 page_looks method (Some endpoint.Accounts) = tt
+page_looks method (Some endpoint.Texts) = tt
 
 view_looks : (of : View) (method : List ℕ) (at : Option Endpoint) → of ≢ view.Text → LooksAt (by_method method (seen_at of at))
 view_looks view.Text method at other = absurd (other refl)
@@ -130,6 +131,7 @@ refusal_looks of other request is = refused_looks request other is
 
 report_asks : (of : View) (about : ReportKind) (what : QueryContent) (request : Request) → IsReport of about what request → OnlyLooks request
 report_asks of about what (Report way kind asked) is = tt
+report_asks of about what (Texts from) is = tt
 report_asks of about what (Noticed notice) is = tt
 report_asks of about what (Refused refusal) is = tt
 report_asks of about what (Delivery body) is = absurd is
@@ -146,6 +148,7 @@ asks_looks (Ok (endpoint.Report of)) head rest request looks asks = get_looks _ 
 asks_looks (Ok endpoint.Interchanges) head rest request looks asks = absurd looks
 asks_looks (Ok endpoint.PartnerInterchanges) head rest request looks asks = absurd looks
 asks_looks (Ok endpoint.Accounts) head rest request looks asks = absurd looks
+asks_looks (Ok endpoint.Texts) head rest request looks asks = absurd looks
 
 with_looks : (head : RequestHead) (rest : List ℕ) (request : Request) → view_of head.target ≢ view.Text → AsksWith head rest request → OnlyLooks request
 with_looks head rest request other (inl not_now) = refused_looks request NotNow not_now

@@ -3,11 +3,11 @@ use Rattle.std.proofs.Common.{◌≡◌, ◌⊎◌, inl, inr, Option, None, Some
 use Rattle.std.proofs.lemmas.List.{length-append}
 use Rattle.office_replies.specs.declared.accounts.AccountAnswer.{AccountAnswer}
 use Rattle.office_replies.specs.declared.deliver.Response.{Response}
+use Rattle.office_queries.specs.Looking.{Look, report, texts_after}
 use Rattle.office_queries.specs.declared.query.NotNow.{NotNow as Unreported}
-use Rattle.office_queries.specs.declared.query.Query.{Query}
 use Rattle.office_http.specs.Responses.{refusal_bytes}
 use Rattle.office_http.specs.Served.{Answers, AtMost, Does, DoesAt, DoesOwn, calls_of}
-use Rattle.office_http.specs.Steps.{Step, delivery, account, report, StepLeads, StepsLead}
+use Rattle.office_http.specs.Steps.{Step, delivery, account, look, StepLeads, StepsLead}
 use Rattle.office_http.specs.declared.targets.View.{View}
 use Rattle.office_http.specs.declared.targets.View.TheVariants as view
 use Rattle.office_http.specs.declared.response.Refusal.TheVariants.{NotNow}
@@ -15,7 +15,7 @@ use Rattle.office_http.specs.declared.serve.Door.{Door}
 use Rattle.office_http.specs.declared.serve.Door.TheVariants as door
 use Rattle.office_http.specs.declared.head.OwnText.{OwnText}
 use Rattle.office_http.specs.declared.requests.Request.{Request}
-use Rattle.office_http.specs.declared.requests.Request.TheVariants.{Delivery, OwnDelivery, Account, Report, Noticed, Refused}
+use Rattle.office_http.specs.declared.requests.Request.TheVariants.{Delivery, OwnDelivery, Account, Report, Texts, Noticed, Refused}
 
 -- ---- what is written
 
@@ -40,7 +40,7 @@ answers_so view.Start bytes P Q on written = paged_so bytes P Q on written
 -- ---- what was done
 
 module _ {D : Type 0} (leads : D → List ℕ → Response → D → Type 0) (enrols : D → List ℕ → List ℕ → AccountAnswer → D → Type 0)
-    (looks : D → Query → Result (Option (List ℕ)) Unreported → D → Type 0) where
+    (looks : D → Look → Result (Option (List ℕ)) Unreported → D → Type 0) where
   both_lead : (old mid new : D) (steps more : List Step) → StepsLead leads enrols looks old steps mid → StepsLead leads enrols looks mid more new →
       StepsLead leads enrols looks old (steps ++ more) new
   both_lead old mid new [] more same then = subst (λ d. StepsLead leads enrols looks d more new) same then
@@ -79,7 +79,7 @@ module _ {D : Type 0} (leads : D → List ℕ → Response → D → Type 0) (en
   own_at_most : (ahead : Option ℕ) (own : OwnText) (old new : D) (IsWritten : List ℕ → Type 0) → DoesOwn leads looks ahead own old new IsWritten → AtMost leads enrols looks (calls_of 1) old new
   own_at_most None own old new IsWritten (response, led, written) = done_once (calls_of 1) (delivery own.text.items response) old new (omega arith) led
   own_at_most (Some ahead) own old new IsWritten (found, looked, led, does) =
-      both 1 1 (calls_of 1) old looked new (omega arith) (done_once 1 (report own.next found) old looked (omega arith) led) (at_once _ own.text.items looked new IsWritten does)
+      both 1 1 (calls_of 1) old looked new (omega arith) (done_once 1 (look (report own.next) found) old looked (omega arith) led) (at_once _ own.text.items looked new IsWritten does)
 
   -- what was done at a request was two calls at most
   pub one_at_most : (ahead : Option ℕ) (request : Request) (old new : D) (IsWritten : List ℕ → Type 0) → Does leads enrols looks ahead request old new IsWritten →
@@ -87,7 +87,8 @@ module _ {D : Type 0} (leads : D → List ℕ → Response → D → Type 0) (en
   one_at_most ahead (Delivery body) old new IsWritten (response, led, written) = done_once (calls_of 1) (delivery body.items response) old new (omega arith) led
   one_at_most ahead (OwnDelivery own) old new IsWritten does = own_at_most ahead own old new IsWritten does
   one_at_most ahead (Account key) old new IsWritten (answer, led, written) = done_once (calls_of 1) (account key.code.items key.kind.items answer) old new (omega arith) led
-  one_at_most ahead (Report view kind query) old new IsWritten (found, led, written) = done_once (calls_of 1) (report query found) old new (omega arith) led
+  one_at_most ahead (Report view kind query) old new IsWritten (found, led, written) = done_once (calls_of 1) (look (report query) found) old new (omega arith) led
+  one_at_most ahead (Texts from) old new IsWritten (found, led, written) = done_once (calls_of 1) (look (texts_after from) found) old new (omega arith) led
   one_at_most ahead (Noticed notice) old new IsWritten (same, written) = untouched (calls_of 1) old new same
   one_at_most ahead (Refused refusal) old new IsWritten (same, written) = untouched (calls_of 1) old new same
 
@@ -108,6 +109,7 @@ module _ {D : Type 0} (leads : D → List ℕ → Response → D → Type 0) (en
   does_so ahead (OwnDelivery own) old new P Q on does = own_so ahead own old new P Q on does
   does_so ahead (Account key) old new P Q on (answer, led, written) = (answer, led, on _ written)
   does_so ahead (Report view kind query) old new P Q on (found, led, written) = (found, led, answers_so view _ P Q on written)
+  does_so ahead (Texts from) old new P Q on (found, led, written) = (found, led, on _ written)
   does_so ahead (Noticed notice) old new P Q on (same, written) = (same, answers_so view.Page _ P Q on written)
   does_so ahead (Refused refusal) old new P Q on (same, written) = (same, on _ written)
 

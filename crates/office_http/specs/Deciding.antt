@@ -22,6 +22,7 @@ wanted_bytes_at (Ok endpoint.Interchanges) head = body_size (body_length (map na
 wanted_bytes_at (Ok endpoint.PartnerInterchanges) head = body_size (body_length (map name_and_value head.fields))
 wanted_bytes_at (Ok endpoint.Accounts) head = body_size (body_length (map name_and_value head.fields))
 wanted_bytes_at (Ok (endpoint.Report kind)) head = 0
+wanted_bytes_at (Ok endpoint.Texts) head = 0
 
 unfoldable pub wanted_bytes_after : RequestHead → ℕ
 wanted_bytes_after head = wanted_bytes_at (endpoint_of head.method head.target) head

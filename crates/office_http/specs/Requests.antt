@@ -15,7 +15,7 @@ use Rattle.office_queries.specs.declared.query.ReportKind.{ReportKind}
 use Rattle.office_http.specs.Heads.{IsHead, HasNoHead}
 use Rattle.office_queries.specs.declared.query.Query.{Query}
 use Rattle.office_http.specs.Targets.{is_paged, path_of, typed_in, view_of}
-use Rattle.office_http.specs.Routes.{endpoint_of, key_in, partner_key_in}
+use Rattle.office_http.specs.Routes.{endpoint_of, key_in, partner_key_in, passed_in}
 use Rattle.office_http.specs.Senders.{sender_at}
 use Rattle.office_http.specs.Fields.{body_length}
 use Rattle.office_http.specs.declared.targets.View.{View}
@@ -27,7 +27,7 @@ use Rattle.office_http.specs.declared.response.Refusal.TheVariants.{BadRequest, 
 use Rattle.office_http.specs.declared.requests.Request.{Request}
 use Rattle.office_http.specs.declared.routes.Sender.{Sender}
 use Rattle.office_http.specs.declared.routes.Sender.TheVariants.{Nobody, Own, Another}
-use Rattle.office_http.specs.declared.requests.Request.TheVariants.{Delivery, OwnDelivery, Account, Report, Noticed, Refused}
+use Rattle.office_http.specs.declared.requests.Request.TheVariants.{Delivery, OwnDelivery, Account, Report, Texts, Noticed, Refused}
 
 -- ---- what a request is
 
@@ -116,6 +116,11 @@ PostsAccount (Err refusal) rest account request = request ≡ Refused refusal
 PostsAccount (Ok size) rest account request =
     ((length rest < size) × (request ≡ Refused BadRequest)) ⊎ ((size ≤ length rest) × Names account request)
 
+-- the texts after so many, or nothing is found
+abbrev pub texts_asked : Option ℕ → Request
+texts_asked None = Refused NotFound
+texts_asked (Some from) = Texts from
+
 -- by where it goes to
 abbrev pub AsksAt : Result Endpoint Refusal → RequestHead → List ℕ → Request → Type 0
 AsksAt (Err refusal) head rest request = request ≡ refused_in (view_of head.target) refusal
@@ -128,6 +133,7 @@ AsksAt (Ok endpoint.Accounts) head rest request =
     (option_and_then account_in (partner_key_in (path_of head.target))) request
 AsksAt (Ok (endpoint.Report kind)) head rest request =
     Gets (view_of head.target) kind (asked_in (view_of head.target) kind head.target) request
+AsksAt (Ok endpoint.Texts) head rest request = request ≡ texts_asked (passed_in (path_of head.target))
 
 -- behind a head that can be read; memory may be wanting from there on
 abbrev pub AsksWith : RequestHead → List ℕ → Request → Type 0
@@ -150,6 +156,7 @@ IsSameRequest (OwnDelivery own) (OwnDelivery other) =
 IsSameRequest (Account key) (Account other) = account_named key ≡ account_named other
 IsSameRequest (Report view kind query) (Report way of other) =
     (view ≡ way) × (kind ≡ of) × (query_content query ≡ query_content other)
+IsSameRequest (Texts from) (Texts other) = from ≡ other
 IsSameRequest (Noticed notice) (Noticed other) = notice ≡ other
 IsSameRequest (Refused refusal) (Refused other) = refusal ≡ other
 IsSameRequest one other = ⊥

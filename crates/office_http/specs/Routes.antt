@@ -1,5 +1,6 @@
 -- Where the paths lead (our own).
 use Rattle.std.specs.Prelude.{ℕ, List, [], codes, Option, None, Some, option_map, Result, Ok, Err, if◌then◌else◌}
+use Rattle.std.specs.Option.{option_and_then}
 use Rattle.std.specs.Str.{bytes_eq}
 use Rattle.matchit.specs.Rows.{RowsOf}
 use Rattle.matchit.specs.Route.{Scan, parse_route}
@@ -7,6 +8,7 @@ use Rattle.matchit.specs.Router.{RouteOf, route_from}
 use Rattle.matchit.specs.Order.{placed}
 use Rattle.matchit.specs.Seek.{first}
 use Rattle.matchit.specs.declared.error.InsertError.{InsertError}
+use Rattle.office_queries.specs.Keys.{passed_of}
 use Rattle.office_queries.specs.declared.query.ReportKind.{ReportKind}
 use Rattle.office_queries.specs.declared.query.ReportKind.TheVariants as kind
 use Rattle.office_http.specs.Targets.{behind, is_paged, path_of, view_of}
@@ -29,7 +31,8 @@ with_route text to rows = place_route (parse_route text) to rows
 
 unfoldable pub endpoints : RowsOf (RouteOf Endpoint)
 endpoints =
-    with_route (codes "/calls") (endpoint.Report kind.Calls)
+    with_route (codes "/texts/{from}") endpoint.Texts
+    (with_route (codes "/calls") (endpoint.Report kind.Calls)
     (with_route (codes "/metrics") (endpoint.Report kind.Metrics)
     (with_route (codes "/health") (endpoint.Report kind.Health)
     (with_route (codes "/partners/{code}") (endpoint.Report kind.Partner)
@@ -47,7 +50,7 @@ endpoints =
     (with_route (codes "/yard") (endpoint.Report kind.Yard)
     (with_route (codes "/tickets/{partner}/{number}") (endpoint.Report kind.Ticket)
     (with_route (codes "/replies/{partner}/{number}") (endpoint.Report kind.Reply)
-    (with_route (codes "/interchanges") endpoint.Interchanges []))))))))))))))))))
+    (with_route (codes "/interchanges") endpoint.Interchanges [])))))))))))))))))))
 
 -- what a path leads to
 abbrev pub endpoint_at : List ℕ → Option Endpoint
@@ -74,6 +77,7 @@ method_of endpoint.Interchanges = codes "POST"
 method_of endpoint.PartnerInterchanges = codes "POST"
 method_of endpoint.Accounts = codes "POST"
 method_of (endpoint.Report kind) = codes "GET"
+method_of endpoint.Texts = codes "GET"
 
 -- the refusal of another method
 abbrev pub other_method : Endpoint → Refusal
@@ -81,6 +85,7 @@ other_method endpoint.Interchanges = OnlyPost
 other_method endpoint.PartnerInterchanges = OnlyPost
 other_method endpoint.Accounts = OnlyPost
 other_method (endpoint.Report kind) = OnlyGet
+other_method endpoint.Texts = OnlyGet
 
 abbrev pub by_method : List ℕ → Option Endpoint → Result Endpoint Refusal
 by_method method None = Err NotFound
@@ -118,3 +123,7 @@ key_in kind path = behind (front_of kind) path
 -- the key in the path of an account, or of a partner's interchanges
 abbrev pub partner_key_in : List ℕ → Option (List ℕ)
 partner_key_in path = behind (codes "/partners/") path
+
+-- how many texts the path of texts passes over
+abbrev pub passed_in : List ℕ → Option ℕ
+passed_in path = option_and_then passed_of (behind (codes "/texts/") path)

@@ -4,6 +4,7 @@ use Rattle.office_replies.specs.declared.accounts.AccountAnswer.{AccountAnswer}
 use Rattle.office_replies.specs.declared.deliver.Response.{Response}
 use Rattle.office_replies.specs.AccountAnswers.{account_body, account_status}
 use Rattle.office_replies.specs.Responses.{body_of, status_of}
+use Rattle.office_queries.specs.Looking.{Look, report, texts_after}
 use Rattle.office_queries.specs.declared.query.NotNow.{NotNow as Unreported}
 use Rattle.office_queries.specs.declared.query.Query.{Query}
 use Rattle.office_queries.specs.declared.query.ReportKind.{ReportKind}
@@ -24,7 +25,7 @@ use Rattle.office_http.specs.declared.serve.Door.TheVariants as door
 use Rattle.office_http.specs.declared.response.Refusal.TheVariants.{NotFound, NotNow}
 use Rattle.office_http.specs.declared.head.OwnText.{OwnText}
 use Rattle.office_http.specs.declared.requests.Request.{Request}
-use Rattle.office_http.specs.declared.requests.Request.TheVariants.{Delivery, OwnDelivery, Account, Report, Noticed, Refused}
+use Rattle.office_http.specs.declared.requests.Request.TheVariants.{Delivery, OwnDelivery, Account, Report, Texts, Noticed, Refused}
 use Rattle.office_http.specs.declared.serve.ServeFault.{ServeFault}
 use Rattle.office_http.specs.declared.serve.ServeFault.TheVariants as fault
 
@@ -86,6 +87,12 @@ abbrev pub found_bytes : View → ReportKind → Query → Result (Option (List 
 found_bytes view kind query (Ok found) = report_bytes view kind query found
 found_bytes view kind query (Err refusal) = refusal_bytes NotNow
 
+-- the response with what came of a look at the kept texts: a page of them, without a view
+abbrev pub texts_bytes : Result (Option (List ℕ)) Unreported → List ℕ
+texts_bytes (Ok (Some lines)) = response_bytes 200 Interchange None lines
+texts_bytes (Ok None) = refusal_bytes NotFound
+texts_bytes (Err refusal) = refusal_bytes NotNow
+
 -- they are written; or they have a page, and there was no memory for it
 abbrev pub Answers : View → List ℕ → (IsWritten : List ℕ → Type 0) → Type 0
 Answers view.Text bytes IsWritten = IsWritten bytes
@@ -106,17 +113,17 @@ module _ {D : Type 0} (leads : D → List ℕ → Response → D → Type 0) whe
   DoesAt door.NotNow text old new IsWritten = (new ≡ old) × IsWritten (refusal_bytes NotNow)
 
 module _ {D : Type 0} (leads : D → List ℕ → Response → D → Type 0)
-    (looks : D → Query → Result (Option (List ℕ)) Unreported → D → Type 0) where
+    (looks : D → Look → Result (Option (List ℕ)) Unreported → D → Type 0) where
   -- without a bound a text is delivered; with one the desk is looked at first, for the number that is next
   abbrev pub DoesOwn : (ahead : Option ℕ) → OwnText → D → D → (IsWritten : List ℕ → Type 0) → Type 0
   DoesOwn None own old new IsWritten = DoesDelivery leads own.text.items old new IsWritten
   DoesOwn (Some ahead) own old new IsWritten =
-      (found : Result (Option (List ℕ)) Unreported) × (looked : D) × looks old own.next found looked
+      (found : Result (Option (List ℕ)) Unreported) × (looked : D) × looks old (report own.next) found looked
       × DoesAt leads (door_of ahead own.number found) own.text.items looked new IsWritten
 
 module _ {D : Type 0} (leads : D → List ℕ → Response → D → Type 0)
     (enrols : D → List ℕ → List ℕ → AccountAnswer → D → Type 0)
-    (looks : D → Query → Result (Option (List ℕ)) Unreported → D → Type 0) where
+    (looks : D → Look → Result (Option (List ℕ)) Unreported → D → Type 0) where
   -- The calls that are made of the desk, and the bytes that answer them. A refusal doesn't touch the desk.
   abbrev pub Does : (ahead : Option ℕ) → Request → D → D → (IsWritten : List ℕ → Type 0) → Type 0
   Does ahead (Delivery body) old new IsWritten = DoesDelivery leads body.items old new IsWritten
@@ -124,8 +131,10 @@ module _ {D : Type 0} (leads : D → List ℕ → Response → D → Type 0)
   Does ahead (Account key) old new IsWritten =
       (answer : AccountAnswer) × enrols old key.code.items key.kind.items answer new × IsWritten (account_bytes answer)
   Does ahead (Report view kind query) old new IsWritten =
-      (found : Result (Option (List ℕ)) Unreported) × looks old query found new
+      (found : Result (Option (List ℕ)) Unreported) × looks old (report query) found new
       × Answers view (found_bytes view kind query found) IsWritten
+  Does ahead (Texts from) old new IsWritten =
+      (found : Result (Option (List ℕ)) Unreported) × looks old (texts_after from) found new × IsWritten (texts_bytes found)
   Does ahead (Noticed notice) old new IsWritten = (new ≡ old) × Answers view.Page (notice_response notice) IsWritten
   Does ahead (Refused refusal) old new IsWritten = (new ≡ old) × IsWritten (refusal_bytes refusal)
 

@@ -7,7 +7,7 @@ ghost use Rattle.office_http.specs.Deciding.{body_size, EndsWhenDecided, wanted_
 ghost use Rattle.office_http.specs.Fields.{body_length};
 ghost use Rattle.office_http.specs.Heads.{most_request_reads};
 ghost use Rattle.office_http.specs.Ports.{ReadsUpTo};
-ghost use Rattle.office_http.specs.Requests.{Asks, AsksWith, asked_in, Gets, Names, nothing_in, Posts, PostsAccount, PostsBy, refused_in, sought};
+ghost use Rattle.office_http.specs.Requests.{Asks, AsksWith, asked_in, Gets, Names, nothing_in, Posts, PostsAccount, PostsBy, refused_in, sought, texts_asked};
 ghost use Rattle.office_http.specs.Routes.{key_in, partner_key_in};
 ghost use Rattle.office_http.specs.declared.targets.View.TheVariants.{Find};
 ghost use Rattle.office_http.specs.declared.requests.Request.TheVariants.{Refused};
@@ -19,7 +19,7 @@ ghost use Rattle.office_queries.specs.Keys.{query_of};
 
 use crate::head::{FoundHead, MOST_FIELDS, MOST_HEAD_BYTES, OwnText, content_length, read_head};
 use crate::response::Refusal;
-use crate::routes::{Endpoint, direct, key_in, partner_key_in, posted_as};
+use crate::routes::{Endpoint, direct, key_in, partner_key_in, passed_in, posted_as};
 use crate::targets::{View, path_of, typed_in, view_of};
 use httparse::spans::{EMPTY_HEADER_SPAN, HeaderSpan};
 use office_pages::{Notice, typed_number};
@@ -43,6 +43,8 @@ pub(crate) enum Request {
     Account(AccountKey),
     /// A report, shown so.
     Report(View, ReportKind, Query),
+    /// A page of the kept texts, after so many.
+    Texts(u32),
     /// A page that tells why there is no report.
     Noticed(Notice),
     /// Nothing that the office could do.
@@ -94,6 +96,7 @@ fn read_asked<R: Read>(
         }
         Ok(Endpoint::Accounts) => read_account(alloc, reader, read, headers, found, path),
         Ok(Endpoint::Report(kind)) => Ok(read_report(alloc, view_of(target), kind, target)),
+        Ok(Endpoint::Texts) => Ok(texts_asked(passed_in(path))),
         Err(refusal) => Ok(refused_in(view_of(target), refusal)),
     }
 }
@@ -213,6 +216,16 @@ fn named_account(alloc: Global, path: &str) -> Request
         Ok(Some(account)) => Request::Account(account),
         Ok(None) => Request::Refused(Refusal::NotFound),
         Err(_) => Request::Refused(Refusal::NotNow),
+    }
+}
+
+/// The texts after so many, or nothing is found.
+fn texts_asked(from: Option<u32>) -> Request
+    ensures { result ≡ texts_asked from }
+{
+    match from {
+        Some(from) => Request::Texts(from),
+        None => Request::Refused(Refusal::NotFound),
     }
 }
 

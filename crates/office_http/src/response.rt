@@ -22,6 +22,19 @@ pub(crate) fn write_text<W: Write>(
     ensures { Puts (response_bytes status kind None body.now)
         (W.contents port.old.inner) (W.contents port.new.inner) port.old port.new result }
 {
+    write_bytes(port, status, kind, body.as_bytes())
+}
+
+/// Writes a response with a body of whatever bytes.
+pub(crate) fn write_bytes<W: Write>(
+    port: &mut Port<W>,
+    status: StatusCode,
+    kind: ContentType,
+    body: &[u8],
+) -> Result<()>
+    ensures { Puts (response_bytes status kind None body.now)
+        (W.contents port.old.inner) (W.contents port.new.inner) port.old port.new result }
+{
     write_response(port, status, kind, &None, body)
 }
 
@@ -31,7 +44,7 @@ pub(crate) fn write_refusal<W: Write>(port: &mut Port<W>, refusal: Refusal) -> R
         (W.contents port.old.inner) (W.contents port.new.inner) port.old port.new result }
 {
     let allowed = refusal.allowed();
-    let body = refusal.body();
+    let body = refusal.body().as_bytes();
     write_response(port, refusal.status(), ContentType::Json, &allowed, body)
 }
 
@@ -41,13 +54,13 @@ fn write_response<W: Write>(
     status: StatusCode,
     kind: ContentType,
     allowed: &Option<Method>,
-    body: &str,
+    body: &[u8],
 ) -> Result<()>
     ensures { Puts (response_bytes status kind allowed.now body.now)
         (W.contents port.old.inner) (W.contents port.new.inner) port.old port.new result }
 {
     match gathered_head(status, kind, allowed, body.len() as u128) {
-        Ok(head) => port.write_parts(&[head.as_slice(), body.as_bytes()]),
+        Ok(head) => port.write_parts(&[head.as_slice(), body]),
         Err(_) => write_apart(port, status, kind, allowed, body),
     }
 }
@@ -72,13 +85,13 @@ fn write_apart<W: Write>(
     status: StatusCode,
     kind: ContentType,
     allowed: &Option<Method>,
-    body: &str,
+    body: &[u8],
 ) -> Result<()>
     ensures { Puts (response_bytes status kind allowed.now body.now)
         (W.contents port.old.inner) (W.contents port.new.inner) port.old port.new result }
 {
     write_head(port, status, kind, allowed, body.len() as u128)?;
-    port.write_all(body.as_bytes())
+    port.write_all(body)
 }
 
 /// Writes that a number is too far above the next one, in one write.

@@ -1,8 +1,9 @@
-ghost use Rattle.std.specs.Prelude.{◌≡◌, ◌⊎◌, IfOk, option_map, Err, ℕ, List, Result, string_bytes};
+ghost use Rattle.std.specs.Prelude.{◌≡◌, ◌⊎◌, IfOk, option_map, codes, Err, ℕ, List, Result, string_bytes};
 ghost use Rattle.edi_segments.specs.Interchange.{interchange_of};
 ghost use Rattle.office_http.specs.Requests.{Posts, PostsFrom, PostsOwn};
-ghost use Rattle.office_http.specs.Routes.{method_of, endpoint_of, endpoint_at, endpoints, front_of, key_in, other_method, page_at, partner_key_in, seen_at};
+ghost use Rattle.office_http.specs.Routes.{method_of, endpoint_of, endpoint_at, endpoints, front_of, key_in, other_method, page_at, partner_key_in, passed_in, seen_at};
 ghost use Rattle.office_http.specs.Senders.{sender_at};
+ghost use Rattle.office_http.specs.Targets.{behind};
 ghost use Rattle.office_http.specs.declared.requests.Request.TheVariants.{Refused};
 ghost use Rattle.office_http.specs.declared.response.Refusal.{Refusal};
 ghost use Rattle.office_http.specs.declared.response.Refusal.TheVariants.{NotNow};
@@ -15,7 +16,7 @@ use edi_segments::interchange_text;
 use edi_syntax::Head;
 use http::Method;
 use matchit::{InsertError, Router};
-use office_queries::{Query, ReportKind};
+use office_queries::{Query, ReportKind, passed_of};
 use std::alloc::Global;
 
 /// What a path leads to.
@@ -29,6 +30,8 @@ pub(crate) enum Endpoint {
     Accounts,
     /// A report.
     Report(ReportKind),
+    /// The kept texts.
+    Texts,
 }
 
 impl Endpoint {
@@ -40,7 +43,7 @@ impl Endpoint {
             Endpoint::Interchanges | Endpoint::PartnerInterchanges | Endpoint::Accounts => {
                 Method::POST
             }
-            Endpoint::Report(_) => Method::GET,
+            Endpoint::Report(_) | Endpoint::Texts => Method::GET,
         }
     }
 }
@@ -105,6 +108,7 @@ fn router(alloc: Global) -> Result<Router<Endpoint>, InsertError>
     router.insert("/health", Endpoint::Report(ReportKind::Health))?;
     router.insert("/metrics", Endpoint::Report(ReportKind::Metrics))?;
     router.insert("/calls", Endpoint::Report(ReportKind::Calls))?;
+    router.insert("/texts/{from}", Endpoint::Texts)?;
     Ok(router)
 }
 
@@ -155,7 +159,7 @@ fn other_method(endpoint: Endpoint) -> Refusal
         Endpoint::Interchanges | Endpoint::PartnerInterchanges | Endpoint::Accounts => {
             Refusal::OnlyPost
         }
-        Endpoint::Report(_) => Refusal::OnlyGet,
+        Endpoint::Report(_) | Endpoint::Texts => Refusal::OnlyGet,
     }
 }
 
@@ -171,6 +175,22 @@ pub(crate) fn partner_key_in(path: &str) -> Option<&str>
     ensures { option_map (λ key. key.now) result ≡ partner_key_in path.now }
 {
     path.strip_prefix("/partners/")
+}
+
+/// How many texts the path of texts passes over.
+pub(crate) fn passed_in(path: &str) -> Option<u32>
+    ensures { result ≡ passed_in path.now }
+{
+    match texts_key_in(path) {
+        Some(digits) => passed_of(digits),
+        None => None,
+    }
+}
+
+fn texts_key_in(path: &str) -> Option<&str>
+    ensures { option_map (λ key. key.now) result ≡ behind (codes "/texts/") path.now }
+{
+    path.strip_prefix("/texts/")
 }
 
 fn front_of(kind: ReportKind) -> &'static str
@@ -217,6 +237,7 @@ pub(crate) fn posted_as(code: String, posted: Request) -> Request
         Request::OwnDelivery(own) => Request::OwnDelivery(own),
         Request::Account(key) => Request::Account(key),
         Request::Report(view, kind, query) => Request::Report(view, kind, query),
+        Request::Texts(from) => Request::Texts(from),
         Request::Noticed(notice) => Request::Noticed(notice),
         Request::Refused(refusal) => Request::Refused(refusal),
     }

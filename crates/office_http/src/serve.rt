@@ -3,14 +3,18 @@ ghost use Rattle.std.specs.Prelude.{◌≤◌, ◌≡◌, ℕ, List, Option, Res
 ghost use Rattle.office_http.specs.Deciding.{EndsWhenDecided};
 ghost use Rattle.office_http.specs.Doors.{door_by, door_of};
 ghost use Rattle.office_http.specs.Heads.{most_request_reads};
-ghost use Rattle.office_http.specs.Served.{Answers, AtMost, calls_of, Does, DoesDelivery, DoesOwn, found_bytes, MatchFault, Serves};
+ghost use Rattle.office_http.specs.Served.{Answers, AtMost, calls_of, Does, DoesDelivery, DoesOwn, found_bytes, MatchFault, Serves, texts_bytes};
+ghost use Rattle.office_queries.specs.Looking.{report, texts_after};
 ghost use Rattle.office_queries.specs.declared.query.NotNow.{NotNow};
 
-use crate::head::OwnText;
+use crate::head::{ContentType, OwnText};
 use crate::pages::{write_nothing, write_notice, write_report};
 use crate::requests::{Request, read_request};
-use crate::response::{Refusal, write_account_answer, write_answer, write_early, write_refusal};
+use crate::response::{
+    Refusal, write_account_answer, write_answer, write_bytes, write_early, write_refusal,
+};
 use crate::targets::View;
+use http::StatusCode;
 use office_queries::{NotNow, Query, Report, ReportKind, number_of};
 use office_replies::AddAccount;
 use office_stream::Port;
@@ -101,7 +105,7 @@ pub(crate) enum Door {
 /// Asks the desk for the number that is next, and whether a text's is above it by more than that.
 pub(crate) fn door_of<D: Report>(alloc: Global, desk: &mut D, ahead: u32, own: &OwnText) -> Door
     ensures door { (found : Result (Option (List ℕ)) NotNow)
-        × D.looks desk.old own.now.next found desk.new
+        × D.looks desk.old (report own.now.next) found desk.new
         × (result ≡ door_of ahead own.now.number found) }
 {
     match desk.report(alloc, &own.next) {
@@ -216,6 +220,7 @@ fn answer<W: Write, D: Report + AddAccount>(
         Request::Report(view, kind, query) => {
             answer_report(alloc, writer, desk, view, kind, &query)
         }
+        Request::Texts(from) => answer_texts(alloc, writer, desk, from),
         Request::Noticed(notice) => write_notice(alloc, writer, &notice),
         Request::Refused(refusal) => write_refusal(writer, refusal),
     }
@@ -270,7 +275,7 @@ fn answer_report<W: Write, D: Report>(
     query: &Query,
 ) -> io::Result<()>
     ensures does { (found : Result (Option (List ℕ)) NotNow)
-        × D.looks desk.old query.now found desk.new
+        × D.looks desk.old (report query.now) found desk.new
         × Answers view (found_bytes view kind query.now found)
         (λ bytes. OnOk result (Appends (W.contents writer.old.inner) (W.contents writer.new.inner) bytes)) }
     ensures kept { OnOk result (writer.new.failed ≡ writer.old.failed) }
@@ -279,6 +284,33 @@ fn answer_report<W: Write, D: Report>(
     match desk.report(alloc, query) {
         Ok(Some(text)) => write_report(alloc, writer, view, kind, query, text.as_str()),
         Ok(None) => write_nothing(alloc, writer, view),
+        Err(NotNow) => write_refusal(writer, Refusal::NotNow),
+    }
+}
+
+/// Asks for the kept texts after so many, and writes a page of them.
+fn answer_texts<W: Write, D: Report>(
+    alloc: Global,
+    writer: &mut Port<W>,
+    desk: &mut D,
+    from: u32,
+) -> io::Result<()>
+    ensures does { (found : Result (Option (List ℕ)) NotNow)
+        × D.looks desk.old (texts_after from) found desk.new
+        × OnOk result (Appends (W.contents writer.old.inner) (W.contents writer.new.inner) (texts_bytes found)) }
+    ensures kept { OnOk result (writer.new.failed ≡ writer.old.failed) }
+    ensures fails { OnErr result (writer.new.failed ≡ true) }
+{
+    match desk.texts(alloc, from) {
+        Ok(Some(lines)) => {
+            write_bytes(
+                writer,
+                StatusCode::OK,
+                ContentType::Interchange,
+                lines.as_slice(),
+            )
+        }
+        Ok(None) => write_refusal(writer, Refusal::NotFound),
         Err(NotNow) => write_refusal(writer, Refusal::NotNow),
     }
 }

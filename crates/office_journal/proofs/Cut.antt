@@ -27,7 +27,7 @@ use Rattle.std.proofs.lemmas.List.Elements.{recursion_from_All, All-map, All-tak
 use Rattle.edi_segments.specs.Bytes.{line_feed}
 use Rattle.edi_cutter.specs.Streams.{HasNone, AreCuts}
 use Rattle.edi_cutter.proofs.FeedLemmas.{nothing_open}
-use Rattle.office_journal.specs.TextPages.{lines_of}
+use Rattle.office_texts.specs.Pages.{lines_of}
 use Rattle.edi_segments.specs.declared.interchange.SyntaxFault.{SyntaxFault}
 use Rattle.partner_core.specs.Deliveries.{Delivery}
 use Rattle.office_setup.specs.Parties.{Parties}

@@ -1,9 +1,11 @@
 -- Texts have one page.
-use Rattle.std.proofs.Common.{◌≡◌, ℕ, suc, ◌+◌, ◌<◌, ◌≤◌, ◌⊎◌, inl, inr, List, [], ◌∷◌, ◌++◌, length, refl, sym, ap, subst, ◌∙◌, arith, append_assoc}
+use Rattle.std.proofs.Common.{◌≡◌, ◌≢◌, ℕ, suc, ◌+◌, ◌<◌, ◌≤◌, ◌⊎◌, inl, inr, List, [], ◌∷◌, ◌++◌, length, refl, sym, ap, subst, ◌∙◌, arith, append_assoc}
 use Rattle.std.proofs.lemmas.Bool.{cases_order}
 use Rattle.std.proofs.lemmas.List.{length-append}
 use Rattle.std.proofs.lemmas.Grind.{flat_map-append}
-use Rattle.office_journal.specs.TextPages.{line_of, lines_of, IsPage, TextsHaveOnePage}
+use Rattle.edi_segments.specs.Bytes.{line_feed}
+use Rattle.office_texts.specs.Pages.{lines_of, IsFull, IsPage}
+use Rattle.office_journal.specs.TextPages.{TextsHaveOnePage}
 
 -- ---- one at most
 
@@ -32,22 +34,26 @@ fronts (text ∷ page) rest (first ∷ other) left e =
       ])
     ]
 
-not_longer : (most : ℕ) (all page other : List (List ℕ)) (a : IsPage most all page) → IsPage most all other → IsLonger page a.rest other → ⊥
+not_empty : (page : List (List ℕ)) → page ≢ [] → 1 ≤ length page
+not_empty [] some = absurd (some refl)
+not_empty (text ∷ page) some = omega arith
+
+not_longer : (most : ℕ) (all page other : List (List ℕ)) (a : IsPage most all page) → IsPage most all other → IsLonger page a.later other → ⊥
 not_longer most all page other a b longer =
-    let ends = a.full longer.next longer.others longer.rest_is in
-    let one : 1 ≤ length page = ends.0 in
+    let ends : IsFull most page (longer.next ∷ longer.others) = subst (IsFull most page) longer.rest_is a.full in
+    let one : 1 ≤ length page = not_empty page ends.0 in
     let over : most < length (lines_of (page ++ longer.next ∷ [])) = ends.1 in
     let texts : length other ≡ length page + suc (length longer.more) = ap length longer.other_is ∙ length-append page (longer.next ∷ longer.more) in
     let parts : (page ++ longer.next ∷ []) ++ longer.more ≡ other = append_assoc page (longer.next ∷ []) longer.more ∙ sym longer.other_is in
     let bytes : length (lines_of other) ≡ length (lines_of (page ++ longer.next ∷ [])) + length (lines_of longer.more) =
     ap (λ ts. length (lines_of ts)) (sym parts)
-    ∙ ap length (flat_map-append line_of (page ++ longer.next ∷ []) longer.more)
+    ∙ ap length (flat_map-append (λ text. text ++ line_feed ∷ []) (page ++ longer.next ∷ []) longer.more)
     ∙ length-append (lines_of (page ++ longer.next ∷ [])) (lines_of longer.more) in
     elim b.fits [ inl few ↦ omega arith | inr low ↦ omega arith ]
 
 one_page : (most : ℕ) (all page other : List (List ℕ)) → IsPage most all page → IsPage most all other → page ≡ other
 one_page most all page other a b =
-    elim (fronts page a.rest other b.rest (sym a.whole ∙ b.whole)) [
+    elim (fronts page a.later other b.later (sym a.front ∙ b.front)) [
       | inl is ↦ is
       | inr longer ↦ elim longer [
         | inl l ↦ absurd (not_longer most all page other a b l)
@@ -60,7 +66,7 @@ one_page most all page other a b =
 -- a page that begins with these
 goes_on : (most : ℕ) (page rest : List (List ℕ)) → (length page ≤ 1) ⊎ (length (lines_of page) ≤ most) → 1 ≤ length page
     → (whole : List (List ℕ)) × IsPage most (page ++ rest) whole
-goes_on most page [] fits one = (page, record { rest = []; whole = refl; fits = fits; full = λ next others e. cc })
+goes_on most page [] fits one = (page, record { later = []; front = refl; fits = fits; full = tt })
 goes_on most page (next ∷ rest) fits one =
     let more : (whole : List (List ℕ)) × IsPage most ((page ++ next ∷ []) ++ rest) whole → (whole : List (List ℕ)) × IsPage most (page ++ next ∷ rest) whole
     = λ h. subst (λ all. (whole : List (List ℕ)) × IsPage most all whole) (append_assoc page (next ∷ []) rest) h in
@@ -72,17 +78,17 @@ goes_on most page (next ∷ rest) fits one =
         | inr above ↦ (
           page,
           record {
-            rest = next ∷ rest;
-            whole = refl;
+            later = next ∷ rest;
+            front = refl;
             fits = fits;
-            full = λ other others e. (one, (let same : next ≡ other = cc in subst (λ t. most < length (lines_of (page ++ t ∷ []))) same above));
+            full = (λ empty. omega (arith, one, ap length empty), above);
           },
         )
       ]
     ]
 
 has_page : (most : ℕ) (all : List (List ℕ)) → (page : List (List ℕ)) × IsPage most all page
-has_page most [] = ([], record { rest = []; whole = refl; fits = inl (omega arith); full = λ next others e. cc })
+has_page most [] = ([], record { later = []; front = refl; fits = inl (omega arith); full = tt })
 has_page most (text ∷ all) = goes_on most (text ∷ []) all (inl (omega arith)) (omega arith)
 
 pub texts_have_one_page : TextsHaveOnePage

@@ -7,7 +7,7 @@ use Rattle.edi_cutter.specs.Streams.{AreCuts}
 use Rattle.office_replies.specs.Events.{Event}
 use Rattle.office_setup.specs.Setups.{SetupContent}
 use Rattle.office_journal.specs.Journal.{kept_texts}
-use Rattle.office_journal.specs.TextPages.{lines_of}
+use Rattle.office_texts.specs.Pages.{lines_of}
 
 -- a text without a syntax fault, and without CR and LF at its ends
 pub record IsFaultless (text : List ℕ) : Type 0 where

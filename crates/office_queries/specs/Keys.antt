@@ -1,5 +1,5 @@
 -- The keys by which reports are asked for.
-use Rattle.std.specs.Prelude.{ℕ, ◌==◌, List, [], ◌∷◌, length, codes, Option, None, Some, option_map, string_bytes, Result, Ok, Err, if◌then◌else◌}
+use Rattle.std.specs.Prelude.{ℕ, ◌==◌, nat_le, List, [], ◌∷◌, length, codes, slice_index, Option, None, Some, option_map, string_bytes, Result, Ok, Err, if◌then◌else◌}
 use Rattle.std.specs.Option.{option_and_then}
 use Rattle.std.specs.List.{slice_split}
 use Rattle.std.specs.Str.{bytes_eq}
@@ -8,7 +8,8 @@ use Rattle.box6346.specs.declared.box_number.BoxNumber.{BoxNumber}
 use Rattle.box6346.specs.declared.box_number.NumberFault.{NumberFault}
 use Rattle.edi_messages.specs.Texts.{is_name}
 use Rattle.edi_messages.specs.declared.call.Call.{Call}
-use Rattle.edi_syntax.specs.Numbers.{number_of, as_control_number}
+use Rattle.edi_segments.specs.Bytes.{digit_zero}
+use Rattle.edi_syntax.specs.Numbers.{number_of, as_control_number, last_number}
 use Rattle.terminal_core.specs.declared.lines.Side.{Side}
 use Rattle.terminal_core.specs.declared.lines.Side.TheVariants.{Load, Discharge}
 use Rattle.office_queries.specs.Escapes.{decoded_part}
@@ -103,6 +104,15 @@ side_in part = option_and_then side_of (decoded_part part)
 
 abbrev pub box_in : List ℕ → Option BoxNumber
 box_in part = option_and_then (λ bytes. if_ok (box_of bytes)) (decoded_part part)
+
+-- ---- how many texts are passed over
+
+-- 0, or a number up to 999,999,999 that does not begin with 0, in digits
+abbrev pub passed_of : List ℕ → Option ℕ
+passed_of digits =
+    if bytes_eq digits (codes "0") then Some 0
+    else if slice_index digits 0 == digit_zero then None
+    else option_and_then (λ number. if nat_le number last_number then Some number else None) (number_of 9 digits)
 
 -- ---- what a key asks for
 

@@ -1,9 +1,10 @@
-ghost use Rattle.std.specs.Prelude.{◌≡◌, IfOk, option_map, string_bytes, ◌≤◌, ◌≢◌, ◌<◌, ◌∷◌, List, ℕ, [], length, None, MatchOption};
+ghost use Rattle.std.specs.Prelude.{◌≡◌, ◌==◌, IfOk, option_map, string_bytes, ◌≤◌, ◌≢◌, ◌<◌, ◌∷◌, List, ℕ, [], length, slice_index, None, MatchOption};
+ghost use Rattle.edi_segments.specs.Bytes.{digit_zero};
 ghost use Rattle.edi_messages.specs.Texts.{is_name};
 ghost use Rattle.edi_syntax.specs.Numbers.{number_of};
 ghost use Rattle.office_queries.specs.AccountKeys.{account_in, account_named, part_bytes, sender_in};
 ghost use Rattle.office_queries.specs.Escapes.{byte_of, decoded_part, with_first_byte};
-ghost use Rattle.office_queries.specs.Keys.{query_content, container_of, if_empty, interchange_of, list_named, list_of, partner_of, query_of, box_in, control_number_of, name_in, name_of, number_in, side_in, side_of, one_part, key_parts, three_parts, two_parts};
+ghost use Rattle.office_queries.specs.Keys.{query_content, container_of, if_empty, interchange_of, list_named, list_of, partner_of, query_of, box_in, control_number_of, name_in, name_of, number_in, passed_of, side_in, side_of, one_part, key_parts, three_parts, two_parts};
 
 use crate::query::{Query, ReportKind};
 use box6346::BoxNumber;
@@ -209,6 +210,31 @@ fn control_number_of(digits: &[u8]) -> Option<u32>
     } else {
         None
     }
+}
+
+/// How many texts are passed over, by 1 to 9 digits without a leading zero. No byte is written another way.
+pub fn passed_of(digits: &str) -> Option<u32>
+    ensures { result ≡ passed_of digits.now }
+{
+    if digits == "0" {
+        return Some(0);
+    }
+    if begins_with_zero(digits.as_bytes()) {
+        return None;
+    }
+    let number = number_of(digits.as_bytes(), 9)?;
+    if number <= LAST_NUMBER as u64 {
+        Some(number as u32)
+    } else {
+        None
+    }
+}
+
+/// Whether the first byte is a zero.
+fn begins_with_zero(digits: &[u8]) -> bool
+    ensures { result ≡ (slice_index digits.now 0 == digit_zero) }
+{
+    !digits.is_empty() && digits[0] == b'0'
 }
 
 /// The side that a part names.

@@ -5,5 +5,5 @@
 mod keys;
 mod query;
 
-pub use keys::{AccountKey, number_of, read_account_key, read_query, read_sender_key};
+pub use keys::{AccountKey, number_of, passed_of, read_account_key, read_query, read_sender_key};
 pub use query::{NotNow, Query, Report, ReportKind, program_version};

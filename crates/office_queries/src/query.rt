@@ -1,9 +1,9 @@
 ghost use Rattle.std.specs.Option.{option_map};
 ghost use Rattle.std.specs.Prelude.{ℕ, List, Option, Result, string_bytes, ◌≡◌};
 ghost use Rattle.std.specs.Result.{result_map_both};
+ghost use Rattle.office_queries.specs.Looking.{Look, report, texts_after};
 ghost use Rattle.office_queries.specs.Program.{program_version};
 ghost use Rattle.office_queries.specs.declared.query.NotNow.{NotNow};
-ghost use Rattle.office_queries.specs.declared.query.Query.{Query};
 
 use box6346::BoxNumber;
 use edi_messages::Call;
@@ -112,15 +112,20 @@ pub enum ReportKind {
     Metrics,
 }
 
-/// What reports are asked of, besides what is delivered to it.
+/// What reports and kept texts are asked of, besides what is delivered to it.
 pub trait Report: Deliver {
-    /// What looking does: from what this was, by the query and what came of it, to what it is.
-    ghost looks: { Self → Query → Result (Option (List ℕ)) NotNow → Self → Type 0 };
+    /// What looking does: from what this was, by what was looked at and what came of it, to what it is.
+    ghost looks: { Self → Look → Result (Option (List ℕ)) NotNow → Self → Type 0 };
 
     /// The report, if there is something to tell.
     fn report(&mut self, alloc: Global, query: &Query) -> Result<Option<String>, NotNow>
-        ensures { looks self.old query.now
+        ensures { looks self.old (report query.now)
             (result_map_both (option_map string_bytes) (λ refusal. refusal) result) self.new };
+
+    /// A page of the kept texts after the first `from`, an LF after each. None if there are fewer than `from`.
+    fn texts(&mut self, alloc: Global, from: u32) -> Result<Option<Vec<u8>>, NotNow>
+        ensures { looks self.old (texts_after from)
+            (result_map_both (option_map (λ lines. lines.items)) (λ refusal. refusal) result) self.new };
 }
 
 /// There was no memory, or the store failed. Nothing has changed, and the same may be asked again.

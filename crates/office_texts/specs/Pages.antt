@@ -6,6 +6,10 @@ use Rattle.office_texts.specs.Texts.{AreTextsAfter, has_reached}
 use Rattle.edi_segments.specs.Bytes.{line_feed}
 use Rattle.office_texts.specs.declared.page.TextsPage.{TextsPage}
 
+-- the most bytes that one page has, unless its first text has more (our own)
+abbrev pub most_page_bytes : ℕ
+most_page_bytes = 1048576
+
 -- each text, an LF after it
 abbrev pub lines_of : List (List ℕ) → List ℕ
 lines_of texts = flat_map (λ text. text ++ line_feed ∷ []) texts
@@ -36,6 +40,12 @@ abbrev pub TellsTexts : ℕ → ℕ → List Row → Option TextsPage → Type 0
 TellsTexts from most stored None = has_reached from stored ≡ false
 TellsTexts from most stored (Some page) =
     (has_reached from stored ≡ true) × TellsPage from most stored page.lines.items page.count
+
+-- the same of what is handed on: the lines alone
+abbrev pub TellsLines : ℕ → ℕ → List Row → Option (List ℕ) → Type 0
+TellsLines from most stored None = has_reached from stored ≡ false
+TellsLines from most stored (Some lines) =
+    (has_reached from stored ≡ true) × (count : ℕ) × TellsPage from most stored lines count
 
 -- ---- one text more
 

@@ -5,6 +5,6 @@ mod page;
 mod reading;
 mod writing;
 
-pub use page::TextsPage;
+pub use page::{MOST_PAGE_BYTES, TextsPage};
 pub use reading::texts_from;
 pub use writing::{Written, write_texts};

@@ -11,6 +11,9 @@ use sqlite::Row;
 use sqlite::types::ValueRef;
 use std::alloc::{AllocError, Global};
 
+/// The most bytes that a page has which is handed out by itself, unless its first text has more.
+pub const MOST_PAGE_BYTES: usize = 1_048_576;
+
 /// Some of the kept texts, one after the other.
 #[derive(Debug, Drop)]
 pub struct TextsPage {

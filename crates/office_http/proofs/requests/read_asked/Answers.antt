@@ -5,11 +5,12 @@ use Rattle.httparse.specs.Grammar.{RequestHead}
 use Rattle.httparse.specs.Spans.{name_and_value}
 use Rattle.office_http.specs.Deciding.{body_size, wanted_bytes_at, wanted_bytes_after}
 use Rattle.office_http.specs.Fields.{body_length}
+use Rattle.office_http.specs.Requests.{texts_asked}
 use Rattle.office_http.specs.Routes.{endpoint_of}
 use Rattle.office_http.specs.declared.routes.Endpoint.{Endpoint}
 use Rattle.office_http.specs.declared.routes.Endpoint.TheVariants.{Interchanges, PartnerInterchanges, Accounts}
 use Rattle.office_http.specs.declared.response.Refusal.{Refusal}
-use Rattle.office_http.proofs.Asking.{account_asked, all_of_some, ok_not_err, own_asked, post_asked, refusal_asked, report_asked}
+use Rattle.office_http.proofs.Asking.{account_asked, all_of_some, ok_not_err, own_asked, post_asked, refusal_asked, report_asked, texts_looked}
 use Rattle.office_http.proofs.requests.read_asked.Goals as goal
 
 -- behind the head of an account its body is wanted
@@ -108,6 +109,14 @@ returns-in-Ok-Report-clause-asks g c =
     let method = c.of-2.ensures ∙ at.method in
     let target = c.in-Ok.ensures.cases.0 ∙ c.of.ensures ∙ at.path in
     report_asked head _ _ _ _ c.direct.result c.in-Ok-Report.kind _ (c.in-Ok-Report.is ∙ ap Ok c.in-Ok-Report.field-0-is) c.direct.ensures method target c.view_of.ensures c.read_report.ensures)
+
+pub returns-in-Ok-Texts-clause-asks : goal.returns-in-Ok-Texts-clause-asks
+returns-in-Ok-Texts-clause-asks g c =
+    all_of_some (g.R.Read.remaining c.args.reader.now.inner) _ (λ left head at.
+    let method = c.of-2.ensures ∙ at.method in
+    let target = c.in-Ok.ensures.cases.0 ∙ c.of.ensures ∙ at.path in
+    texts_looked head _ _ _ c.path_of-path.result.now c.direct.result _ (c.in-Ok-Texts.is ∙ ap Ok c.in-Ok-Texts.field-0-is) c.direct.ensures method target c.path_of-path.ensures
+    (c.texts_asked.ensures ∙ ap texts_asked c.passed_in.ensures))
 
 pub returns-in-Err-clause-asks : goal.returns-in-Err-clause-asks
 returns-in-Err-clause-asks g c =

@@ -1,0 +1,33 @@
+ghost use Rattle.office_desk.specs.Looking.{PagesOf};
+ghost use Rattle.office_rows.specs.Rows.{Rows};
+ghost use Rattle.office_rows.specs.Stored.{HasRows};
+ghost use Rattle.office_tables.specs.Faults.{IsOfStore};
+ghost use Rattle.office_tables.specs.Reading.{Reads};
+ghost use Rattle.sqlite.specs.Held.{state};
+ghost use Rattle.sqlite.specs.State.{HasCleanDisk};
+ghost use Rattle.std.specs.Prelude.{IfErr, IfOk, option_map};
+
+use office_tables::TableFault;
+use office_texts::{MOST_PAGE_BYTES, TextsPage, texts_from};
+use sqlite::{Alter, Connection};
+use std::alloc::Global;
+
+/// A page of the kept texts after the first `from`, an LF after each. None if there are fewer than `from`. It changes
+/// nothing.
+pub(crate) fn lines_from<S: Alter>(
+    alloc: Global,
+    conn: &mut Connection<S>,
+    from: u32,
+) -> Result<Option<Vec<u8>>, TableFault>
+    ensures pages { HasCleanDisk (state S.Store conn.new) → IfOk result (λ found. (rows : Rows) →
+        HasRows rows (state S.Store conn.old).now →
+        PagesOf (state S.Store conn.old).now from (option_map (λ lines. lines.items) found)) }
+    ensures fault { HasCleanDisk (state S.Store conn.new) → IfErr result (λ fault. (rows : Rows) →
+        HasRows rows (state S.Store conn.old).now → IsOfStore fault) }
+    ensures reads { Reads (state S.Store conn.old) (state S.Store conn.new) result }
+{
+    match texts_from(alloc, conn, from, MOST_PAGE_BYTES)? {
+        Some(TextsPage { lines, count: _ }) => Ok(Some(lines)),
+        None => Ok(None),
+    }
+}
