@@ -1,0 +1,6 @@
+pub mod OwnTerminal
+pub mod Parts
+pub mod Closing
+pub mod Archives
+pub mod Checks
+pub mod Laws
