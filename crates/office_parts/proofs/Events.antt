@@ -26,6 +26,7 @@ use Rattle.office_history.proofs.Lawful.{early_adds, next_adds}
 use Rattle.office_history.proofs.Places.{sound_in}
 use Rattle.office_parts.specs.OwnTerminal.{own_visits, IsOverOrStays, MayStay}
 use Rattle.office_parts.specs.Parts.{Archived, nothing_archived, AreClosed, AreParts, ArePartsAfter}
+use Rattle.office_parts.specs.Archives.{Hold}
 use Rattle.office_parts.specs.Laws.{RowsAreParts, EarlyAddsToParts, AccountAddsToParts}
 use Rattle.office_parts.proofs.Splits.{has_contained}
 use Rattle.office_parts.proofs.Lookups.{body_there, found_beyond, closed_within}
@@ -59,8 +60,16 @@ all_parts rows = record {
   blocks = refl;
 }
 
+none_held : Hold [] nothing_archived
+none_held = record {
+  texts = λ p n low high. absurd (omega (arith, low, high));
+  replies = λ p n low high. absurd (omega (arith, low, high));
+  none_beyond = λ p n far. refl;
+  visits = λ visit has. absurd (has_contained [] visit has);
+}
+
 pub rows_are_parts : RowsAreParts
-rows_are_parts content es rows after = record { after = after; closed = none_closed; parts = all_parts rows; stay = all_stay rows.visits }
+rows_are_parts content es rows after = (record { after = after; closed = none_closed; parts = all_parts rows; stay = all_stay rows.visits }, none_held)
 
 -- ---- a text before its time, an account
 

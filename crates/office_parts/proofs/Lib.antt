@@ -13,3 +13,4 @@ pub mod Archiving
 pub mod InOrder
 pub mod Beyond
 pub mod Opening
+pub mod Alike

@@ -86,7 +86,7 @@ closed_within content es archived own whole p are = elim (cases_order 0 (archive
 ]
 
 pub archives_answered : ArchivesAnswer
-archives_answered content es archived own whole sent p n are for high =
+archives_answered content es archives archived own whole sent p n are holds for high =
     let low : 1 ≤ n = (within (parties_in (content_after content es)) (interchange_of sent) p n for).2 in
     let replied = are.closed.replied p n low high in
     let reply = some_is (reply_in (rows_of_archives archived) p n) replied in
@@ -99,8 +99,8 @@ archives_answered content es archived own whole sent p n are for high =
     record {
       text = (kept.0).body;
       reply = reply.0;
-      has_text = text;
-      has_reply = reply.1;
+      has_text = holds.texts p n low high ∙ text;
+      has_reply = holds.replies p n low high ∙ reply.1;
       clash = λ apart. told.clash (kept.0).body text_whole apart;
       repeat = λ same. told.repeat reply.0 (text_whole ∙ ap Some same) reply_whole;
       parts = record {

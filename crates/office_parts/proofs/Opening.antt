@@ -89,7 +89,7 @@ own_after stays m later (v ∷ visits) = by (stays v.number) (nat_le v.number m)
         differ : true ≡ false → ⊥
         differ e = cc
 
-all_after : (m k : ℕ) (visits : List VisitContent) → m < k → GoOneByOne k visits → visits_after m visits ≡ visits
+pub all_after : (m k : ℕ) (visits : List VisitContent) → m < k → GoOneByOne k visits → visits_after m visits ≡ visits
 all_after m k [] far go = refl
 all_after m k (v ∷ visits) far go = by (nat_le v.number m) refl (all_after m (k + 1) visits (omega (arith, far)) go.1)
   where

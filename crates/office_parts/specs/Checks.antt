@@ -1,7 +1,9 @@
 -- What the own rows of a store are checked for when it is opened, where interchanges and visits were put away.
 use Rattle.std.specs.Prelude.{◌≡◌, ℕ, ◌+◌, ◌-◌, Bool, nat_le, not, List, [], ◌∷◌, ◌++◌, map, filter, true}
 use Rattle.std.specs.List.{range_with_len}
+use Rattle.terminal_core.specs.OneByOne.{GoOneByOne}
 use Rattle.terminal_core.specs.Rows.{VisitContent}
+use Rattle.terminal_core.specs.State.{AreNumbered}
 use Rattle.office_rows.specs.Rows.{Partner}
 use Rattle.office_rows.specs.Opened.{NumberKept}
 use Rattle.office_rows.specs.Office.{AreWaiting}
@@ -32,3 +34,8 @@ is_after number visit = not (nat_le visit.number number)
 -- the visits with numbers above that one
 abbrev pub visits_after : ℕ → List VisitContent → List VisitContent
 visits_after number visits = filter (is_after number) visits
+
+-- the numbers of visits rise, and after that one they go on one by one: up to the newest closing there may be gaps
+pub record AreOwnVisits (newest_closed : ℕ) (visits : List VisitContent) : Type 0 where
+  pub rise : AreNumbered 0 visits
+  pub one_by_one : GoOneByOne (newest_closed + 1) (visits_after newest_closed visits)

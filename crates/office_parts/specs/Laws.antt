@@ -1,5 +1,5 @@
 -- The laws of a store and its archives.
-use Rattle.std.specs.Prelude.{◌≡◌, ℕ, ◌+◌, ◌<◌, ◌≤◌, Bool, true, List, [], ◌∷◌, ◌++◌, length, Contains, None, Some}
+use Rattle.std.specs.Prelude.{◌≡◌, ◌↔◌, ℕ, ◌+◌, ◌<◌, ◌≤◌, Bool, true, List, [], ◌∷◌, ◌++◌, length, Contains, None, Some}
 use Rattle.std.specs.List.{AllByRecursion}
 use Rattle.sqlite.specs.Effect.{Database}
 use Rattle.edi_messages.specs.Orders.{OrderContent}
@@ -14,7 +14,7 @@ use Rattle.terminal_core.specs.Changes.{TerminalRows, rows_of, rows_with_all, Ar
 use Rattle.terminal_core.specs.Forms.{IsWellFormed}
 use Rattle.terminal_core.specs.OneByOne.{GoOneByOne}
 use Rattle.terminal_core.specs.Rows.{VisitContent, ChangeContent}
-use Rattle.terminal_core.specs.State.{TerminalState, AreNumbered, IsWhole, last_number}
+use Rattle.terminal_core.specs.State.{TerminalState, IsWhole, last_number}
 use Rattle.terminal_core.specs.Step.{step_by}
 use Rattle.terminal_core.specs.Versions.{newest}
 use Rattle.office_admission.specs.Accounts.{content_after, account_answer, added_as}
@@ -23,7 +23,8 @@ use Rattle.office_replies.specs.Events.{Event, delivered, added}
 use Rattle.office_rows.specs.ByKey.{terminal_rows}
 use Rattle.office_rows.specs.Effects.{with_waiting, with_partner}
 use Rattle.office_rows.specs.Opened.{NumberKept, ShowsNumbers}
-use Rattle.office_rows.specs.Rows.{Rows}
+use Rattle.office_rows.specs.Office.{AreKept}
+use Rattle.office_rows.specs.Rows.{Partner, Rows}
 use Rattle.office_rows.specs.Stored.{HasRows}
 use Rattle.office_setup.specs.Given.{IsGiven}
 use Rattle.office_setup.specs.Kinds.{kind_named}
@@ -35,8 +36,8 @@ use Rattle.office_history.specs.Laws.{IsFor, answer_model_of, AddsRun}
 use Rattle.office_parts.specs.OwnTerminal.{own_terminal, own_step, own_machine, MayStay, IsOfOwn}
 use Rattle.office_parts.specs.Parts.{Archived, nothing_archived, rows_of_archives, ArePartsAfter}
 use Rattle.office_parts.specs.Closing.{carried, archived_with, whole_with, MayClose}
-use Rattle.office_parts.specs.Archives.{Archive, Hold, HoldsWhatGoes}
-use Rattle.office_parts.specs.Checks.{AreKeptBeyond, visits_after}
+use Rattle.office_parts.specs.Archives.{Archive, text_by, reply_by, Hold, HoldsWhatGoes}
+use Rattle.office_parts.specs.Checks.{AreKeptBeyond, AreOwnVisits}
 
 -- ---- the terminal
 
@@ -116,24 +117,24 @@ ClosedAreWithinRuns =
     ArePartsAfter content es archived own whole
     → archived.last_closed partner ≤ run (deliveries_of content es) partner
 
--- A delivery under a number that is closed is a clash or a repeat, by the text that the archives keep and with the reply
--- that they keep; and the rows are those after it too.
-pub record IsAnsweredByArchives (content : SetupContent) (es : List Event) (archived : Archived) (own whole : Rows)
-    (sent : List ℕ) (partner number : ℕ) : Type 0 where
+-- A delivery under a number that is closed is a clash or a repeat, by the text that its archive keeps and with the reply
+-- that it keeps; and the rows are those after it too.
+pub record IsAnsweredByArchives (content : SetupContent) (es : List Event) (archives : List Archive)
+    (archived : Archived) (own whole : Rows) (sent : List ℕ) (partner number : ℕ) : Type 0 where
   pub text : List ℕ
   pub reply : List ℕ
-  pub has_text : text_in (rows_of_archives archived) partner number ≡ Some text
-  pub has_reply : reply_in (rows_of_archives archived) partner number ≡ Some reply
+  pub has_text : text_by archives partner number ≡ Some text
+  pub has_reply : reply_by archives partner number ≡ Some reply
   pub clash : (text ≡ interchange_of sent → ⊥) → answer_model_of content es partner number sent ≡ Clash
   pub repeat : text ≡ interchange_of sent → answer_model_of content es partner number sent ≡ Repeat (Some reply)
   pub parts : ArePartsAfter content (es ++ delivered sent ∷ []) archived own whole
 
 abbrev pub ArchivesAnswer : Type 0
 ArchivesAnswer =
-    (content : SetupContent) (es : List Event) (archived : Archived) (own whole : Rows) (sent : List ℕ)
-    (partner number : ℕ) → ArePartsAfter content es archived own whole → IsFor content es sent partner number →
-    number ≤ archived.last_closed partner
-    → IsAnsweredByArchives content es archived own whole sent partner number
+    (content : SetupContent) (es : List Event) (archives : List Archive) (archived : Archived) (own whole : Rows)
+    (sent : List ℕ) (partner number : ℕ) → ArePartsAfter content es archived own whole → Hold archives archived →
+    IsFor content es sent partner number → number ≤ archived.last_closed partner
+    → IsAnsweredByArchives content es archives archived own whole sent partner number
 
 -- the number after the store's newest visit is above that of each visit that ever was
 abbrev pub NewVisitsAreNew : Type 0
@@ -151,11 +152,11 @@ OwnRowsGiveOwnTerminal =
 
 -- ---- what events make of the parts
 
--- a store that was never closed is a part, beside nothing
+-- a store that was never closed is a part, beside nothing, and no archive holds that
 abbrev pub RowsAreParts : Type 0
 RowsAreParts =
     (content : SetupContent) (es : List Event) (rows : Rows) → AreAfter content es rows
-    → ArePartsAfter content es nothing_archived rows rows
+    → ArePartsAfter content es nothing_archived rows rows × Hold [] nothing_archived
 
 -- a text before its time is kept in the store
 abbrev pub EarlyAddsToParts : Type 0
@@ -239,13 +240,16 @@ OwnNumbersAreKept =
     × AreKeptBeyond archived.last_closed own.partners numbers
 
 -- the numbers of the store's own visits rise, and after one from which each stays they go on one by one
-pub record AreOwnVisits (newest_closed : ℕ) (visits : List VisitContent) : Type 0 where
-  pub rise : AreNumbered 0 visits
-  pub one_by_one : GoOneByOne (newest_closed + 1) (visits_after newest_closed visits)
-
 abbrev pub OwnVisitsGoOn : Type 0
 OwnVisitsGoOn =
     (content : SetupContent) (es : List Event) (archived : Archived) (own whole : Rows) (newest_closed : ℕ) →
     IsGiven content → ArePartsAfter content es archived own whole →
     ((number : ℕ) → newest_closed < number → archived.stays number ≡ true)
     → AreOwnVisits newest_closed own.visits
+
+-- where nothing was closed this is what every store is checked for
+abbrev pub NothingClosedIsCheckedAlike : Type 0
+NothingClosedIsCheckedAlike =
+    (partners : List Partner) (numbers : List NumberKept) (visits : List VisitContent)
+    → (AreKeptBeyond (λ partner. 0) partners numbers ↔ AreKept partners numbers)
+    × (AreOwnVisits 0 visits ↔ GoOneByOne 1 visits)

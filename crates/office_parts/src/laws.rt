@@ -4,7 +4,7 @@
 ghost use Rattle.office_parts.specs.Laws.{OrdersActAlike, OwnTerminalsAreSound, ChangesAreOfOwn, InterchangesAreTakenAlike};
 ghost use Rattle.office_parts.specs.Laws.{NumbersAreTold, ClosedAreWithinRuns, ArchivesAnswer, NewVisitsAreNew, OwnRowsGiveOwnTerminal};
 ghost use Rattle.office_parts.specs.Laws.{RowsAreParts, EarlyAddsToParts, NextAddsToParts, AccountAddsToParts};
-ghost use Rattle.office_parts.specs.Laws.{ClosingKeepsParts, AddedArchivesHold, ClosingsAreHeld, OwnNumbersAreKept, OwnVisitsGoOn};
+ghost use Rattle.office_parts.specs.Laws.{ClosingKeepsParts, AddedArchivesHold, ClosingsAreHeld, OwnNumbersAreKept, OwnVisitsGoOn, NothingClosedIsCheckedAlike};
 
 /// An order does to the store's own terminal what it does to the whole one: the same outcome, the same changes.
 pub fn orders_act_alike()
@@ -37,8 +37,7 @@ pub fn closed_are_within_runs()
     ensures { ClosedAreWithinRuns }
 {}
 
-/// A delivery under a number that is closed is a clash or a repeat, by the text and with the reply that the archives
-/// keep.
+/// A delivery under a number that is closed is a clash or a repeat, by the text and with the reply that its archive keeps.
 pub fn archives_answer()
     ensures { ArchivesAnswer }
 {}
@@ -53,7 +52,7 @@ pub fn own_rows_give_own_terminal()
     ensures { OwnRowsGiveOwnTerminal }
 {}
 
-/// A store that was never closed is a part, beside nothing.
+/// A store that was never closed is a part, beside nothing, and no archive holds that.
 pub fn rows_are_parts()
     ensures { RowsAreParts }
 {}
@@ -98,4 +97,9 @@ pub fn own_numbers_are_kept()
 /// The numbers of the store's own visits rise, and after one from which each stays they go on one by one.
 pub fn own_visits_go_on()
     ensures { OwnVisitsGoOn }
+{}
+
+/// Where nothing was closed, what a store's own rows are checked for is what every store is checked for.
+pub fn nothing_closed_is_checked_alike()
+    ensures { NothingClosedIsCheckedAlike }
 {}
