@@ -34,7 +34,7 @@ use Rattle.office_parts.proofs.Moving.{differ, waiting_parts, account_parts, run
 
 -- ---- never closed
 
-all_own : (visits : List VisitContent) → visits ≡ own_visits (λ number. true) visits
+pub all_own : (visits : List VisitContent) → visits ≡ own_visits (λ number. true) visits
 all_own [] = refl
 all_own (v ∷ visits) = ap (λ l. v ∷ l) (all_own visits)
 

@@ -10,6 +10,7 @@ pub mod Events
 pub mod Takings
 pub mod Closings
 pub mod Archiving
+pub mod LeftOver
 pub mod InOrder
 pub mod Beyond
 pub mod Opening

@@ -2,5 +2,6 @@ pub mod OwnTerminal
 pub mod Parts
 pub mod Closing
 pub mod Archives
+pub mod LeftOver
 pub mod Checks
 pub mod Laws

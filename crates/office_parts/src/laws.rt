@@ -5,6 +5,7 @@ ghost use Rattle.office_parts.specs.Laws.{OrdersActAlike, OwnTerminalsAreSound, 
 ghost use Rattle.office_parts.specs.Laws.{NumbersAreTold, ClosedAreWithinRuns, ArchivesAnswer, NewVisitsAreNew, OwnRowsGiveOwnTerminal};
 ghost use Rattle.office_parts.specs.Laws.{RowsAreParts, EarlyAddsToParts, NextAddsToParts, AccountAddsToParts};
 ghost use Rattle.office_parts.specs.Laws.{ClosingKeepsParts, AddedArchivesHold, ClosingsAreHeld, OwnNumbersAreKept, OwnVisitsGoOn, NothingClosedIsCheckedAlike};
+ghost use Rattle.office_parts.specs.LeftOver.{LeftOverTellNothing, LeftOverStayApart, LeftOverMayGo, RaisingCloses};
 
 /// An order does to the store's own terminal what it does to the whole one: the same outcome, the same changes.
 pub fn orders_act_alike()
@@ -102,4 +103,24 @@ pub fn own_visits_go_on()
 /// Where nothing was closed, what a store's own rows are checked for is what every store is checked for.
 pub fn nothing_closed_is_checked_alike()
     ensures { NothingClosedIsCheckedAlike }
+{}
+
+/// Beyond what is closed, text and reply are looked up as if no closed interchange stood in the store.
+pub fn left_over_tell_nothing()
+    ensures { LeftOverTellNothing }
+{}
+
+/// What is written beyond it is written as if none stood there.
+pub fn left_over_stay_apart()
+    ensures { LeftOverStayApart }
+{}
+
+/// Any interchange that is closed may be deleted.
+pub fn left_over_may_go()
+    ensures { LeftOverMayGo }
+{}
+
+/// To close numbers, no visit being put away, is to raise the last ones that are closed.
+pub fn raising_closes()
+    ensures { RaisingCloses }
 {}
