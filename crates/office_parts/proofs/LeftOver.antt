@@ -14,7 +14,7 @@ use Rattle.office_parts.proofs.Events.{all_own}
 use Rattle.office_parts.proofs.Lookups.{body_there, reply_there}
 
 -- a number that is beyond is not closed
-far_beyond : (last_closed : ℕ → ℕ) (i : Interchange) (b : Bool) → nat_le i.number (last_closed i.partner) ≡ b → last_closed i.partner < i.number → not b ≡ true
+pub far_beyond : (last_closed : ℕ → ℕ) (i : Interchange) (b : Bool) → nat_le i.number (last_closed i.partner) ≡ b → last_closed i.partner < i.number → not b ≡ true
 far_beyond last_closed i true e far = absurd (omega (arith, leb-true i.number (last_closed i.partner) e, far))
 far_beyond last_closed i false e far = refl
 

@@ -1,10 +1,11 @@
 -- What a store's own rows are checked for when it is opened.
 use Rattle.std.proofs.Common.{◌≡◌, ℕ, ◌+◌, ◌<◌, ◌≤◌, inl, inr, List, [], ◌∷◌, ◌++◌, length, map, Bool, true, false, cond, Option, None, Some, is_some, refl, sym, ap, subst, ◌∙◌, arith}
-use Rattle.std.specs.Prelude.{Contains, ◌==◌, not, nat_le, find, count_by}
+use Rattle.std.specs.Prelude.{Contains, ◌==◌, not, nat_le, find, count_by, filter}
 use Rattle.std.specs.List.Sorted.{IsPermutation}
 use Rattle.std.specs.Option.{option_map, option_and_then}
 use Rattle.std.proofs.lemmas.Bool.{cases_order, le-leb, leb-true, ne_eqb}
 use Rattle.std.proofs.lemmas.List.Sorted.{IsPermutation-sym, Contains-permutation, sum_by-IsPermutation}
+use Rattle.sqlite_trees.proofs.ListLemmas.{IsPermutation-filter}
 use Rattle.partner_core.specs.Deliveries.{Delivery, first_text, run}
 use Rattle.partner_core.specs.Machine.{Taking}
 use Rattle.partner_core.proofs.OnceEach.{within_replied}
@@ -33,16 +34,19 @@ use Rattle.office_history.proofs.Afters.{state_sound, unreplied}
 use Rattle.office_history.proofs.Places.{sound_in}
 use Rattle.office_history.proofs.Kept.{Has}
 use Rattle.office_history.proofs.Runs.{is_pair_at, pair_of}
-use Rattle.office_history.proofs.Shown.{found_only}
+use Rattle.office_history.proofs.Shown.{found_only, head_in, tail_in}
 use Rattle.office_history.proofs.Sorting.{InTurn, is_before, shows_records, by_keys}
 use Rattle.office_history.proofs.Telling.{delivered_within}
 use Rattle.office_parts.specs.OwnTerminal.{own_visits}
 use Rattle.office_parts.specs.Parts.{Archived, ArePartsAfter}
-use Rattle.office_parts.specs.Checks.{visits_after, AreKeptBeyond}
-use Rattle.office_parts.specs.Laws.{NewVisitsAreNew, OwnNumbersAreKept, OwnVisitsGoOn}
+use Rattle.office_parts.specs.Checks.{visits_after, AreKeptBeyond, numbers_beyond}
+use Rattle.office_parts.specs.Closing.{is_closed, is_beyond}
+use Rattle.office_parts.specs.LeftOver.{rows_beyond}
+use Rattle.office_parts.specs.Laws.{OwnAreBeyond, NewVisitsAreNew, OwnNumbersAreKept, OwnVisitsGoOn}
 use Rattle.office_parts.proofs.Beyond.{IsBeyond, IsComplete, all_kept}
 use Rattle.office_parts.proofs.Events.{visits_same}
-use Rattle.office_parts.proofs.InOrder.{rise_of, has_at, all_numbered}
+use Rattle.office_parts.proofs.InOrder.{StandInOrder, in_order, order_filtered, rise_of, has_at, all_numbered, beyond_numbered}
+use Rattle.office_parts.proofs.LeftOver.{far_beyond}
 use Rattle.office_parts.proofs.Lookups.{found_beyond, once_here, numbers_told, closed_within}
 use Rattle.office_parts.proofs.Wholes.{own_rise}
 use Rattle.office_parts.proofs.Splits.{Has as HasElement, has_contained, contained_has, has_right}
@@ -183,8 +187,8 @@ module _ (content : SetupContent) (es : List Event) (archived : Archived) (own w
   whole_reply i inside one =
       ap (option_and_then (λ (x : Interchange). reply_if_any x.reply)) (found_beyond archived own whole i.partner i.number are.closed are.parts (beyond_closed i inside one)) ∙ own_reply i inside
 
-  is_beyond : (i : Interchange) → Contains own.interchanges i → IsBeyond archived.last_closed (length now.partners) (run D) (number_kept i)
-  is_beyond i inside =
+  is_beyond_closed : (i : Interchange) → Contains own.interchanges i → IsBeyond archived.last_closed (length now.partners) (run D) (number_kept i)
+  is_beyond_closed i inside =
       let range = delivered_within content es i.partner i.number i.body (first_of i inside) in
       let reply = whole_reply i inside range.2 in
       record {
@@ -216,21 +220,40 @@ module _ (content : SetupContent) (es : List Event) (archived : Archived) (own w
       let one : count_by (is_pair p n) zs ≡ count_by (is_pair p n) own.interchanges = sum_by-IsPermutation (λ x. cond (is_pair p n x) 1 0) own.interchanges zs same in
       subst (λ m. m ≤ 1) (sym one) (once_here archived own whole p n are.parts are.after.kept_once)
 
-  kept_in : (zs : List Interchange) → IsPermutation own.interchanges zs → InTurn (is_before (0 ∷ 1 ∷ []) interchange_values) zs → AreKeptBeyond archived.last_closed own.partners (map number_kept zs)
-  kept_in zs same turn =
+  kept_in : (zs : List Interchange) → IsPermutation own.interchanges zs → StandInOrder zs → AreKeptBeyond archived.last_closed own.partners (map number_kept zs)
+  kept_in zs same stand =
       subst (λ l. AreKeptBeyond archived.last_closed l (map number_kept zs)) (sym (sym are.parts.partners ∙ are.after.partners))
-      (all_kept archived.last_closed (length now.partners) (run D) (λ p. closed_within content es archived own whole p are) now.partners (map number_kept zs) refl (rise_of zs turn (once_in zs same))
-      (all_numbered (IsBeyond archived.last_closed (length now.partners) (run D)) zs (λ i inside. is_beyond i (Contains-permutation zs own.interchanges i (IsPermutation-sym own.interchanges zs same) inside)))
+      (all_kept archived.last_closed (length now.partners) (run D) (λ p. closed_within content es archived own whole p are) now.partners (map number_kept zs) refl (rise_of zs stand (once_in zs same))
+      (all_numbered (IsBeyond archived.last_closed (length now.partners) (run D)) zs (λ i inside. is_beyond_closed i (Contains-permutation zs own.interchanges i (IsPermutation-sym own.interchanges zs same) inside)))
       (complete zs same))
 
+  all_beyond : (xs : List Interchange) → ((i : Interchange) → Contains xs i → Contains own.interchanges i) → filter (is_beyond archived.last_closed) xs ≡ xs
+  all_beyond [] each = refl
+  all_beyond (x ∷ xs) each =
+      let inside = each x (head_in x xs) in
+      let range = delivered_within content es x.partner x.number x.body (first_of x inside) in
+      ap (λ b. cond b (x ∷ filter (is_beyond archived.last_closed) xs) (filter (is_beyond archived.last_closed) xs)) (far_beyond archived.last_closed x (is_closed archived.last_closed x) refl (beyond_closed x inside range.2))
+      ∙ ap (λ l. x ∷ l) (all_beyond xs (λ i here. each i (tail_in x i xs here)))
+
+  module _ (rows : Rows) (left : rows_beyond archived.last_closed rows ≡ own) (zs : List Interchange) (same : IsPermutation rows.interchanges zs) (turn : InTurn (is_before (0 ∷ 1 ∷ []) interchange_values) zs) where
+    kept_beyond : AreKeptBeyond archived.last_closed own.partners (numbers_beyond archived.last_closed (map number_kept zs))
+    kept_beyond =
+        subst (AreKeptBeyond archived.last_closed own.partners) (sym (beyond_numbered archived.last_closed zs))
+        (kept_in (filter (is_beyond archived.last_closed) zs)
+        (subst (λ l. IsPermutation l (filter (is_beyond archived.last_closed) zs)) (ap (λ (r : Rows). r.interchanges) left) (IsPermutation-filter (is_beyond archived.last_closed) rows.interchanges zs same))
+        (order_filtered (is_beyond archived.last_closed) zs (in_order zs turn)))
+
+pub own_beyond : OwnAreBeyond
+own_beyond content es archived own whole are = ap (λ l. record own { interchanges = l }) (all_beyond content es archived own whole are own.interchanges (λ i inside. inside))
+
 pub own_numbers : OwnNumbersAreKept
-own_numbers content es archived own whole db are has =
-    let zs = by_keys (0 ∷ 1 ∷ []) interchange_values own.interchanges in (
+own_numbers content es archived own whole rows db are left has =
+    let zs = by_keys (0 ∷ 1 ∷ []) interchange_values rows.interchanges in (
       map number_kept zs.0,
       record {
         interchanges = zs.0;
-        shown = shows_records interchange_table (0 ∷ 1 ∷ 3 ∷ []) (0 ∷ 1 ∷ []) interchange_values reply_values own.interchanges zs.0 db (λ i. refl) has.rows_are.interchanges zs.1 zs.2;
+        shown = shows_records interchange_table (0 ∷ 1 ∷ 3 ∷ []) (0 ∷ 1 ∷ []) interchange_values reply_values rows.interchanges zs.0 db (λ i. refl) has.rows_are.interchanges zs.1 zs.2;
         are = refl;
       },
-      kept_in content es archived own whole are zs.0 zs.1 zs.2,
+      kept_beyond content es archived own whole are rows left zs.0 zs.1 zs.2,
     )

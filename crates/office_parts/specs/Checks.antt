@@ -28,6 +28,11 @@ AreKeptBeyond last_closed (partner ∷ partners) numbers =
     × IsKeptBeyond last_closed partner own
     × AreKeptBeyond last_closed partners others
 
+-- the numbers beyond what is closed
+abbrev pub numbers_beyond : (last_closed : ℕ → ℕ) → List NumberKept → List NumberKept
+numbers_beyond last_closed numbers =
+    filter (λ (n : NumberKept). not (nat_le n.number (last_closed n.partner))) numbers
+
 abbrev pub is_after : ℕ → VisitContent → Bool
 is_after number visit = not (nat_le visit.number number)
 

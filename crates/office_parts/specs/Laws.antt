@@ -37,7 +37,8 @@ use Rattle.office_parts.specs.OwnTerminal.{own_terminal, own_step, own_machine, 
 use Rattle.office_parts.specs.Parts.{Archived, nothing_archived, rows_of_archives, ArePartsAfter}
 use Rattle.office_parts.specs.Closing.{carried, archived_with, whole_with, MayClose}
 use Rattle.office_parts.specs.Archives.{Archive, text_by, reply_by, Hold, HoldsWhatGoes}
-use Rattle.office_parts.specs.Checks.{AreKeptBeyond, AreOwnVisits}
+use Rattle.office_parts.specs.Checks.{numbers_beyond, AreKeptBeyond, AreOwnVisits}
+use Rattle.office_parts.specs.LeftOver.{rows_beyond}
 
 -- ---- the terminal
 
@@ -231,13 +232,20 @@ ClosingsAreHeld =
 
 -- ---- what a store is checked for when it is opened
 
--- what the store's own interchanges show, in order, is what is looked for beyond the numbers that are closed
+-- of a store's own rows none is closed
+abbrev pub OwnAreBeyond : Type 0
+OwnAreBeyond =
+    (content : SetupContent) (es : List Event) (archived : Archived) (own whole : Rows) →
+    ArePartsAfter content es archived own whole → rows_beyond archived.last_closed own ≡ own
+
+-- what the interchanges of a store show, in order, is beyond what is closed what is looked for, whichever closed ones
+-- still stand there
 abbrev pub OwnNumbersAreKept : Type 0
 OwnNumbersAreKept =
-    (content : SetupContent) (es : List Event) (archived : Archived) (own whole : Rows) (db : Database) →
-    ArePartsAfter content es archived own whole → HasRows own db
+    (content : SetupContent) (es : List Event) (archived : Archived) (own whole rows : Rows) (db : Database) →
+    ArePartsAfter content es archived own whole → rows_beyond archived.last_closed rows ≡ own → HasRows rows db
     → (numbers : List NumberKept) × ShowsNumbers db numbers
-    × AreKeptBeyond archived.last_closed own.partners numbers
+    × AreKeptBeyond archived.last_closed own.partners (numbers_beyond archived.last_closed numbers)
 
 -- the numbers of the store's own visits rise, and after one from which each stays they go on one by one
 abbrev pub OwnVisitsGoOn : Type 0

@@ -4,7 +4,7 @@
 ghost use Rattle.office_parts.specs.Laws.{OrdersActAlike, OwnTerminalsAreSound, ChangesAreOfOwn, InterchangesAreTakenAlike};
 ghost use Rattle.office_parts.specs.Laws.{NumbersAreTold, ClosedAreWithinRuns, ArchivesAnswer, NewVisitsAreNew, OwnRowsGiveOwnTerminal};
 ghost use Rattle.office_parts.specs.Laws.{RowsAreParts, EarlyAddsToParts, NextAddsToParts, AccountAddsToParts};
-ghost use Rattle.office_parts.specs.Laws.{ClosingKeepsParts, AddedArchivesHold, ClosingsAreHeld, OwnNumbersAreKept, OwnVisitsGoOn, NothingClosedIsCheckedAlike};
+ghost use Rattle.office_parts.specs.Laws.{ClosingKeepsParts, AddedArchivesHold, ClosingsAreHeld, OwnAreBeyond, OwnNumbersAreKept, OwnVisitsGoOn, NothingClosedIsCheckedAlike};
 ghost use Rattle.office_parts.specs.LeftOver.{LeftOverTellNothing, LeftOverStayApart, LeftOverMayGo, RaisingCloses};
 
 /// An order does to the store's own terminal what it does to the whole one: the same outcome, the same changes.
@@ -90,7 +90,13 @@ pub fn closings_are_held()
     ensures { ClosingsAreHeld }
 {}
 
-/// What the store's own interchanges show is what is looked for beyond the numbers that are closed.
+/// Of a store's own rows none is closed.
+pub fn own_are_beyond()
+    ensures { OwnAreBeyond }
+{}
+
+/// What the interchanges of a store show is beyond what is closed what is looked for, whichever closed ones still stand
+/// there.
 pub fn own_numbers_are_kept()
     ensures { OwnNumbersAreKept }
 {}
