@@ -1,0 +1,17 @@
+pub mod Splits
+pub mod Counting
+pub mod Lists
+pub mod Orders
+pub mod Spared
+pub mod Wholes
+pub mod Lookups
+pub mod Moving
+pub mod Events
+pub mod Takings
+pub mod Closings
+pub mod Archiving
+pub mod LeftOver
+pub mod InOrder
+pub mod Beyond
+pub mod Opening
+pub mod Alike

@@ -1,0 +1,7 @@
+pub mod OwnTerminal
+pub mod Parts
+pub mod Closing
+pub mod Archives
+pub mod LeftOver
+pub mod Checks
+pub mod Laws
