@@ -1,4 +1,4 @@
-.PHONY: demo test build check strength refusals beside program picture kill9 memory clients gateway fuzz bench
+.PHONY: demo test build check strength refusals beside program pages kill9 memory clients gateway fuzz bench
 
 # The main job on a real interchange, by a build that proves nothing (`make build` leaves the proved program).
 demo:
@@ -36,9 +36,10 @@ beside:
 program:
 	scripts/program
 
-# The picture of the yard that the program serves, in Debian's Chromium without a window, beside the model: once it is built.
-picture:
-	scripts/picture
+# The pages that the program serves, and the picture of the yard, in Debian's Chromium without a window, beside the model: a walk
+# over each kind of link, numbers typed into the form, how all of it looks. Once it is built, some minutes.
+pages:
+	scripts/pages
 
 # The program killed 1,000 times while deliveries are under way, and killed or refused at each call of the system; what a loss
 # of power may leave; no room, files that are read-only or gone, two on one store, single bits turned over. Beside the model:

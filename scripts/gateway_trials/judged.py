@@ -5,7 +5,8 @@ import shutil
 import sqlite3
 import tempfile
 
-from model.http import STATUSES
+from hostile.served import get
+from model.http import STATUSES, response
 from model.office import Office, json_text
 from model.reports import report as report_of
 from model.rows import rows_in, rows_of
@@ -47,6 +48,11 @@ class Judge:
         """Status and text of a report."""
         text = report_of(self.office, kind, key)
         return NONE if text is None else (200, bare(text))
+
+    def answered(self, path):
+        """Status and text of the office's own answer to a question."""
+        head, _end, body = response(self.office, get(path)).partition('\r\n\r\n')
+        return int(head.split(' ')[1]), bare(body)
 
     def standing(self, code):
         """A partner's line of the partners' report."""

@@ -5,6 +5,8 @@ import socket
 import subprocess
 
 from hostile.served import gate_in
+from model.http import HTML
+from model.pages import KINDS as PAGED
 from model.setup import DEMO
 
 from .asking import Asking, delivery, head_of
@@ -23,15 +25,28 @@ REPORTS = [
     ('/work/91%2F23/V12/load', 'work', '91%2F23/V12/load', ['planner', 'quay', 'edi']),
     ('/tickets/HAULA/1', 'ticket', 'HAULA/1', ['gate', 'edi']), ('/replies/HAULA/1', 'reply', 'HAULA/1', ['edi']),
     ('/contrls/HAULA/1', 'contrl', 'HAULA/1', ['edi']), ('/partners', 'partners', '', ['edi'])]
+# whoever may have a report may see its page, where it has one; and these besides
+PAGES = [('/pages' + path, allowed) for path, kind, _key, allowed in REPORTS if kind in PAGED] + [
+    (path, ROLES) for path in (
+        '/', '/pages/find', '/pages/find?', '/pages/find?container=abcu+000001-7', '/pages/find?container=%41BCU0000017',
+        '/pages/find?container=ABCU0000018', '/pages/find?container=%3Cb%3E', '/pages/find?container=ABCU0000022&x=/partners',
+        '/pages/find?x=ABCU0000017', '/pages/find?/../../partners', '/pages/containers/..', '/pages/visits/ABCU0000022')] + [
+    ('/pages/partners/HAULA', ['edi']), ('/pages/partners/NOBODY', ['edi']), ('/pages/tickets/HAULA/2', ['gate', 'edi'])]
 LOAD_LIST = (
     "UNB+UNOA:3+LINEA+TERM1+240305:0910+1'UNH+1+COPRAR:D:95B:UN'BGM+45+L1+9'TDT+20+V12++++++91/23'"
     "EQD+CN+ABCU0000017+22G1:102:5+++5'LOC+11+NLRTM'UNT+6+1'UNZ+1+1'")
 # what no role may ask
 NOBODYS = [
-    ('GET', '/'), ('GET', '/nothing'), ('GET', '/yard/'), ('GET', '/yard?x'), ('GET', '/%79ard'), ('GET', '/partners/../yard'),
+    ('GET', '/?x'), ('GET', '/nothing'), ('GET', '/yard/'), ('GET', '/yard?x'), ('GET', '/%79ard'), ('GET', '/partners/../yard'),
     ('GET', '//yard'), ('GET', '/texts/0'), ('GET', '/containers/ABCU0000017/'), ('GET', '/interchanges'), ('POST', '/interchanges'),
     ('POST', '/partners/HAULA/interchanges'), ('POST', '/partners/HAULC/port'), ('POST', '/partners/%48AULC/gate'),
-    ('POST', '/partners/HAULC/gate?x'), ('POST', '/yard'), ('PUT', '/partners/HAULC/gate'), ('DELETE', '/partners/HAULA')]
+    ('POST', '/partners/HAULC/gate?x'), ('POST', '/yard'), ('PUT', '/partners/HAULC/gate'), ('DELETE', '/partners/HAULA'),
+    ('POST', '/'), ('GET', '/pages'), ('GET', '/pages/'), ('GET', '/pages/nothing'), ('GET', '/pages/yard.csv'),
+    ('GET', '/pages/picture'), ('GET', '/pages/health'), ('GET', '/pages/metrics'), ('GET', '/pages/interchanges'),
+    ('GET', '/pages/yard/'), ('GET', '/pages/yard?x'), ('GET', '/pages/%79ard'), ('GET', '/pages//yard'), ('GET', '//pages/yard'),
+    ('GET', '/pages/pages/yard'), ('GET', '/PAGES/yard'), ('GET', '/pages/../partners'), ('GET', '/pages/find/'),
+    ('GET', '/pages/find/x?container=ABCU0000017'), ('GET', '/pages/finder'), ('POST', '/pages/find'), ('POST', '/pages/yard'),
+    ('POST', '/pages/partners/HAULC/gate')]
 
 
 def reports(clients, judge):
@@ -49,6 +64,17 @@ def reports(clients, judge):
         judge.same(role + ': GET /health', (200, '{"answer":"ready"}'), clients.get(role, '/health', port))
         came = clients.get(role, '/metrics', port)
         judge.checks.expect(role + ': GET /metrics', (200, True), (came.status, '# TYPE ' in came.body))
+
+
+def pages(clients, judge):
+    """Each role asks for each page."""
+    for path, allowed in PAGES:
+        for role in ROLES:
+            name = '%s: GET %s' % (role, path)
+            came = clients.get(role, path, clients.installed.people)
+            judge.same(name, judge.answered(path) if role in allowed else ROLE, came)
+            kind = HTML if role in allowed else 'application/json'
+            judge.checks.expect(name + ': what it is', True, 'Content-Type: %s\r\n' % kind in came.head + '\r\n')
 
 
 def nobodys(clients, judge):
@@ -93,7 +119,7 @@ def ways_in(clients, judge):
         judge.checks.expect('the socket, as ' + user, wanted, done.returncode)
 
 
-CASES = [reports, nobodys, accounts, ways_in]
+CASES = [reports, pages, nobodys, accounts, ways_in]
 
 
 def try_all(checks, program):

@@ -22,7 +22,7 @@ header{display:flex;flex-wrap:wrap;gap:.75rem 1.5rem;align-items:center;justify-
 main{padding:1.5rem 1rem 3rem}
 h1{margin:0;font-size:2rem;line-height:1.2;overflow-wrap:anywhere}
 p{margin:.5rem 0 0}
-nav,form,p.beside{display:flex;flex-wrap:wrap;gap:.5rem;align-items:center}
+nav,form,.beside{display:flex;flex-wrap:wrap;gap:.5rem;align-items:center}
 a{color:#1f5a8c}
 nav a,.beside a{padding:.7rem 1rem;background:#fff;border:1px solid #c6d0da;border-radius:.5rem}
 label{font-weight:600}

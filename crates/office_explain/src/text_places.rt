@@ -6,7 +6,7 @@ use crate::finding::{Finding, Subject, Wrong, finding_of};
 use crate::front::{Front, Wanted, front_of};
 use crate::span::{Span, bytes_of};
 use edi_cutter::CutFault;
-use edi_segments::MOST_BYTES;
+use edi_segments::{MOST_BYTES, Service};
 
 /// The finding of what can't be told apart as an interchange, which would begin with the text.
 pub(crate) fn cut_finding(text: &[u8], fault: Option<CutFault>) -> Finding
@@ -78,8 +78,11 @@ fn words_for(front: Front<'_>) -> &'static str {
     }
 }
 
-/// Where a text ends too soon.
+/// Where a text ends too soon. A service string advice that is cut short has no whole segment, whatever its bytes are.
 fn unended(text: &[u8]) -> Wrong {
+    if Service::read(text).is_err() {
+        return unended_within(text, 0, text);
+    }
     unended_after(text, front_of(text))
 }
 
@@ -92,10 +95,15 @@ fn unended_after(text: &[u8], front: Front<'_>) -> Wrong {
             expected: Expected::Words("UNZ, and all that stands before it: the text ends here"),
         };
     }
+    unended_within(text, front.whole, front.rest)
+}
+
+/// Where a text ends too soon within a segment, after so many whole ones.
+fn unended_within(text: &[u8], whole: usize, rest: &[u8]) -> Wrong {
     let words = "the rest of the segment, up to its terminator: the text ends here";
     Wrong {
-        segment: front.whole.saturating_add(1),
-        span: Span::between(text, front.rest, &[]),
+        segment: whole.saturating_add(1),
+        span: Span::between(text, rest, &[]),
         expected: Expected::Words(words),
     }
 }

@@ -19,7 +19,7 @@ head =
     ++ codes "main{padding:1.5rem 1rem 3rem}\n"
     ++ codes "h1{margin:0;font-size:2rem;line-height:1.2;overflow-wrap:anywhere}\n"
     ++ codes "p{margin:.5rem 0 0}\n"
-    ++ codes "nav,form,p.beside{display:flex;flex-wrap:wrap;gap:.5rem;align-items:center}\n"
+    ++ codes "nav,form,.beside{display:flex;flex-wrap:wrap;gap:.5rem;align-items:center}\n"
     ++ codes "a{color:#1f5a8c}\n"
     ++ codes "nav a,.beside a{padding:.7rem 1rem;background:#fff;border:1px solid #c6d0da;border-radius:.5rem}\n"
     ++ codes "label{font-weight:600}\n"

@@ -17,7 +17,7 @@ const HEAD: &str = "<!doctype html>\n\
     main{padding:1.5rem 1rem 3rem}\n\
     h1{margin:0;font-size:2rem;line-height:1.2;overflow-wrap:anywhere}\n\
     p{margin:.5rem 0 0}\n\
-    nav,form,p.beside{display:flex;flex-wrap:wrap;gap:.5rem;align-items:center}\n\
+    nav,form,.beside{display:flex;flex-wrap:wrap;gap:.5rem;align-items:center}\n\
     a{color:#1f5a8c}\n\
     nav a,.beside a{padding:.7rem 1rem;background:#fff;border:1px solid #c6d0da;border-radius:.5rem}\n\
     label{font-weight:600}\n\
