@@ -1,4 +1,6 @@
+mod Fronts
 mod Growing
 mod Shown
 mod Splitting
+mod Standing
 mod Typing

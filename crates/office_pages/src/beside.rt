@@ -75,7 +75,7 @@ fn push_one(
     push_link_beside(alloc, page, address.as_str(), label)
 }
 
-fn push_link_beside(
+pub(crate) fn push_link_beside(
     alloc: Global,
     page: &mut String,
     address: &str,

@@ -3,6 +3,7 @@ ghost use Rattle.std.specs.Prelude.{◌≡◌, ◌++◌, IfOk, OnOk, string_byte
 ghost use Rattle.office_pages.specs.Pages.{again, asks_again, count_view, counted, has_page, label_of, page_bytes, page_head, start_bytes};
 ghost use Rattle.office_pages.specs.Words.{lines};
 
+use crate::below::push_below;
 use crate::beside::push_beside;
 use crate::body::{push_body, push_field};
 use crate::fixed::{foot, head, top};
@@ -26,7 +27,8 @@ pub fn has_page(query: &Query) -> bool
     }
 }
 
-/// The page of a report: what was asked for, and its text.
+/// The page of a report: what was asked for, its text, and below it what the names in a reply mean, or links to the
+/// replies to a partner's last interchanges.
 pub fn page(alloc: Global, query: &Query, text: &str) -> Result<String, AllocError>
     ensures { IfOk result (λ page. string_bytes page ≡ page_bytes query.now text.now) }
 {
@@ -37,6 +39,7 @@ pub fn page(alloc: Global, query: &Query, text: &str) -> Result<String, AllocErr
     page.push_str("<pre>\n")?;
     push_body(alloc, &mut page, query, text)?;
     page.push_str("</pre>\n")?;
+    push_below(alloc, &mut page, query, text)?;
     page.push_str(foot())?;
     Ok(page)
 }
