@@ -1,5 +1,6 @@
 mod Fronts
 mod Growing
+pub mod Plain
 mod Shown
 mod Splitting
 mod Standing

@@ -5,7 +5,7 @@ ghost use Rattle.office_pages.specs.Meanings.{mark, meaning_entry, meaning_view,
 ghost use Rattle.office_pages.specs.Meant.{meant};
 
 use crate::below::push_framed;
-use crate::body::push_field;
+use crate::body::push_text;
 use std::alloc::{AllocError, Global};
 
 /// The name of a reason or a fault, and what it means.
@@ -170,8 +170,8 @@ fn push_entry(alloc: Global, entries: &mut String, meaning: &Meaning) -> Result<
         (string_bytes entries.new ≡ string_bytes entries.old ++ meaning_entry (meant meaning.now)) }
 {
     entries.push_str("<dt>")?;
-    push_field(alloc, entries, meaning.0.as_bytes())?;
+    push_text(alloc, entries, meaning.0)?;
     entries.push_str("</dt>\n<dd>")?;
-    push_field(alloc, entries, meaning.1.as_bytes())?;
+    push_text(alloc, entries, meaning.1)?;
     entries.push_str("</dd>\n")
 }

@@ -5,7 +5,7 @@ ghost use Rattle.office_pages.specs.Words.{lines};
 
 use crate::below::push_below;
 use crate::beside::push_beside;
-use crate::body::{push_body, push_field};
+use crate::body::{push_body, push_field, push_text};
 use crate::fixed::{foot, head, top};
 use crate::titles::title;
 use crate::words::{word_at, words_of};
@@ -136,7 +136,7 @@ fn push_counted(
         return Ok(());
     }
     page.push_str("<li><b>")?;
-    push_field(alloc, page, value.as_bytes())?;
+    push_text(alloc, page, value)?;
     page.push_str("</b> ")?;
     page.push_str(label)?;
     page.push_str("</li>\n")
