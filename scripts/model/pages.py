@@ -53,7 +53,7 @@ TOP = '''\
 <a href='/'>Start</a>
 <a href='/pages/yard'>Yard</a>
 <a href='/pages/blocks'>Blocks</a>
-<a href='/picture'>Picture</a>
+<a href='/pages/picture'>Picture</a>
 <a href='/pages/partners'>Partners</a>
 <a href='/pages/calls'>Calls</a>
 </nav>
@@ -74,7 +74,9 @@ END = '''\
 ASKED_AGAIN = "<meta http-equiv='refresh' content='60'>\n"
 
 # the kinds of reports that have a page
-KINDS = ('yard', 'visits', 'list', 'ticket', 'reply', 'container', 'work', 'partners', 'blocks', 'calls', 'contrl', 'partner')
+KINDS = (
+    'yard', 'visits', 'list', 'ticket', 'reply', 'container', 'work', 'partners', 'blocks', 'calls', 'contrl', 'partner',
+    'picture')
 SIDES = {'LOAD': 'load', 'DISCHARGE': 'discharge'}
 
 
@@ -111,7 +113,7 @@ def place_link(kind, words, place):
     if kind == 'partners' and place == 0 and word(2) == 'NEXT':
         return '/pages/partners/' + address(word(0))
     if kind == 'blocks' and place == 0 and word(1) == 'BAYS':
-        return '/picture#block-' + address(word(0))
+        return '/pages/picture#block-' + address(word(0))
     return None
 
 
@@ -206,8 +208,19 @@ def below(kind, key, text):
     return ''
 
 
+def drawn(text):
+    """The picture with a link from each container, which is drawn on a line of its own, to its page, and with one to the
+    start page at its top."""
+    linked = re.sub(
+        r"^(<g transform='translate\(-?\d+ -?\d+\)'><title>(.{11}) .*</g>)$",
+        lambda found: "<a href='%s'>%s</a>" % ('/pages/containers/' + address(found[2]), found[1]), text, flags=re.M)
+    return linked.replace('\n<main>\n', "\n<main>\n<nav>\n<a href='/'>Start</a>\n</nav>\n", 1)
+
+
 def page(kind, key, text):
-    """The page of a report: what was asked for, its text, and what stands below it."""
+    """The page of a report: what was asked for, its text, and what stands below it. The picture is one, and has links there."""
+    if kind == 'picture':
+        return drawn(text)
     return (head(title(kind, key), kind in ('list', 'work')) + beside(kind, key) + '<pre>\n' + body(kind, text)
             + '</pre>\n' + below(kind, key, text) + END)
 

@@ -56,7 +56,7 @@ top =
     ++ codes "<a href='/'>Start</a>\n"
     ++ codes "<a href='/pages/yard'>Yard</a>\n"
     ++ codes "<a href='/pages/blocks'>Blocks</a>\n"
-    ++ codes "<a href='/picture'>Picture</a>\n"
+    ++ codes "<a href='/pages/picture'>Picture</a>\n"
     ++ codes "<a href='/pages/partners'>Partners</a>\n"
     ++ codes "<a href='/pages/calls'>Calls</a>\n"
     ++ codes "</nav>\n"

@@ -1,4 +1,5 @@
 pub mod Addresses
+pub mod Drawn
 pub mod Fixed
 pub mod Laws
 pub mod Links

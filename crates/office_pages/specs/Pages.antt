@@ -9,6 +9,7 @@ use Rattle.office_picture.specs.Fields.{field_text}
 use Rattle.office_queries.specs.declared.query.Query.{Query}
 use Rattle.office_queries.specs.declared.query.Query.TheVariants as query
 use Rattle.office_pages.specs.Addresses.{address_of_two, container_address, list_address, partner_address, reply_address, visits_address, work_address}
+use Rattle.office_pages.specs.Drawn.{picture_view}
 use Rattle.office_pages.specs.Fixed.{foot, head, top}
 use Rattle.office_pages.specs.Links.{link_at}
 use Rattle.office_pages.specs.Meanings.{framed, meanings_view}
@@ -19,10 +20,9 @@ use Rattle.office_pages.specs.declared.notices.Notice.TheVariants as notice
 
 -- ---- which reports
 
--- The picture is a page already; the table is for programs, and so are health, metrics and a partner's next number.
+-- The table is for programs, and so are health, metrics and a partner's next number.
 abbrev pub has_page : Query → Bool
 has_page query.YardTable = false
-has_page query.Picture = false
 has_page (query.Next code) = false
 has_page query.Health = false
 has_page query.Metrics = false
@@ -155,11 +155,16 @@ below other text = []
 
 -- ---- pages
 
--- a report's page. A browser drops the first LF behind <pre>.
-abbrev pub page_bytes : Query → List ℕ → List ℕ
-page_bytes asked text =
+-- what shows the text of a report; a browser drops the first LF behind <pre>
+abbrev pub text_page : Query → List ℕ → List ℕ
+text_page asked text =
     page_head (asks_again asked) (title asked) ++ beside asked ++ codes "<pre>\n" ++ body_bytes asked text
     ++ codes "</pre>\n" ++ below asked text ++ foot
+
+-- a report's page; the picture is one, and has links there
+abbrev pub page_bytes : Query → List ℕ → List ℕ
+page_bytes query.Picture text = picture_view text
+page_bytes other text = text_page other text
 
 -- what is counted by a metric
 abbrev pub label_of : List ℕ → List ℕ

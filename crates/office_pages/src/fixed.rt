@@ -51,7 +51,7 @@ const TOP: &str = "</head>\n\
     <a href='/'>Start</a>\n\
     <a href='/pages/yard'>Yard</a>\n\
     <a href='/pages/blocks'>Blocks</a>\n\
-    <a href='/picture'>Picture</a>\n\
+    <a href='/pages/picture'>Picture</a>\n\
     <a href='/pages/partners'>Partners</a>\n\
     <a href='/pages/calls'>Calls</a>\n\
     </nav>\n\

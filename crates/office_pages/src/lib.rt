@@ -5,6 +5,7 @@ mod addresses;
 mod below;
 mod beside;
 mod body;
+mod drawn;
 mod fixed;
 pub mod laws;
 mod links;

@@ -3,7 +3,7 @@ use Rattle.office_pages.specs.Fixed.{foot}
 use Rattle.office_pages.specs.Pages.{asks_again, below, beside, body_bytes, page_head}
 use Rattle.office_pages.specs.Titles.{title}
 use Rattle.office_pages.proofs.Growing.{behind}
-use Rattle.office_pages.proofs.pages.page.Goals as goal
+use Rattle.office_pages.proofs.pages.text_page.Goals as goal
 
 pub returns : goal.returns
 returns c =
