@@ -20,6 +20,9 @@ file has one subject, in the order in which they stand on one another:
     keys.py        the keys of reports
     reports.py     what can be asked of the office besides deliveries
     rows.py        what the tables hold, and what a store's file holds
+    meanings.py    what the names in a reply mean, read from docs/PROFILE.md
+    picture.py     the picture of the yard
+    pages.py       the pages of reports
     http.py        one request of HTTP and its response
     commands.py    what a command prints, over files
     opened.py      whether the rows of a store are those of an office

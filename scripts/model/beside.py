@@ -5,7 +5,7 @@ import sys
 from collections import Counter
 from functools import partial
 
-from . import cases, counts, crowded, damaged, directory, migrated, replaced, samples, shown, stores, worked
+from . import cases, counts, crowded, damaged, directory, meanings, migrated, replaced, samples, shown, stores, worked
 from .days import stream
 from .messages import MESSAGE_FAULTS
 from .office import Office
@@ -114,7 +114,7 @@ def by_model_alone():
     Gives the status."""
     failed = worked.check(TOP, answered_by_model, lambda row, setup, text: None)
     failed += cases.check(None, with_stores=False)
-    failed += samples.check(TOP) + shown.check(TOP, None) + directory.check(TOP)
+    failed += samples.check(TOP) + shown.check(TOP, None) + directory.check(TOP) + meanings.check()
     failed += damaged.judge_all() + migrated.check_real()
     crowded.count_all()
     for mix in MIXES:
@@ -140,7 +140,7 @@ def main():
     over_store = (lambda row, setup, text: None) if demo_alone else partial(stores.over_store, beside)
     failed = worked.check(TOP, answered_by_program, over_store)
     failed += cases.check(PROGRAM, with_stores=not demo_alone)
-    failed += samples.check(TOP) + shown.check(TOP, None if demo_alone else PROGRAM) + directory.check(TOP)
+    failed += samples.check(TOP) + shown.check(TOP, None if demo_alone else PROGRAM) + directory.check(TOP) + meanings.check()
     failed += migrated.check_real()
     if not demo_alone:
         damaged.try_all(beside)

@@ -2,9 +2,11 @@
 
 A page is at `/pages` and the path of its report. It needs no script and nothing from elsewhere.
 """
+import json
 import re
 from urllib.parse import unquote_to_bytes
 
+from .meanings import MEANINGS
 from .names import check_digit, number_fault
 from .picture import escaped
 
@@ -21,6 +23,7 @@ body{margin:0;background:#eef2f6;color:#16263a;font:16px/1.4 system-ui,Roboto,'D
 header{display:flex;flex-wrap:wrap;gap:.75rem 1.5rem;align-items:center;justify-content:space-between;padding:1rem;background:#fff;border-bottom:1px solid #c6d0da}
 main{padding:1.5rem 1rem 3rem}
 h1{margin:0;font-size:2rem;line-height:1.2;overflow-wrap:anywhere}
+h2{margin:1.5rem 0 0;font-size:1.25rem}
 p{margin:.5rem 0 0}
 nav,form,.beside{display:flex;flex-wrap:wrap;gap:.5rem;align-items:center}
 a{color:#1f5a8c}
@@ -34,9 +37,12 @@ button{border-color:#0f3450;background:#1f5a8c;color:#fff;font-weight:600}
 ul{display:flex;flex-wrap:wrap;gap:.75rem;margin:1rem 0 0;padding:0;list-style:none}
 li{padding:.75rem 1rem;background:#fff;border:1px solid #c6d0da;border-radius:.5rem;color:#526375}
 b{display:block;color:#16263a;font-size:1.5rem}
+dl{margin:.75rem 0 0;padding:.5rem 1rem 1rem;background:#fff;border:1px solid #c6d0da;border-radius:.5rem}
+dt{margin:.5rem 0 0;font-weight:600}
+dd{margin:0}
 pre{margin:1.25rem 0 0;padding:1rem;background:#fff;border:1px solid #c6d0da;border-radius:.5rem;font:15px/1.9 ui-monospace,'DejaVu Sans Mono',Menlo,Consolas,monospace;white-space:pre-wrap;overflow-wrap:anywhere}
 @media(max-width:40rem){header{padding:.5rem}main{padding:1rem .5rem 2rem}pre{padding:.75rem .5rem;font-size:13px}}
-@media print{body{background:none}header,.beside{display:none}main,pre{padding:0}pre{border:0;line-height:1.5}a{color:inherit;text-decoration:none}}
+@media print{body{background:none}header,.beside{display:none}main,pre,dl{padding:0}pre,dl{border:0}pre{line-height:1.5}a{color:inherit;text-decoration:none}}
 </style>
 '''
 TOP = '''\
@@ -47,7 +53,7 @@ TOP = '''\
 <a href='/'>Start</a>
 <a href='/pages/yard'>Yard</a>
 <a href='/pages/blocks'>Blocks</a>
-<a href='/picture'>Picture</a>
+<a href='/pages/picture'>Picture</a>
 <a href='/pages/partners'>Partners</a>
 <a href='/pages/calls'>Calls</a>
 </nav>
@@ -68,7 +74,9 @@ END = '''\
 ASKED_AGAIN = "<meta http-equiv='refresh' content='60'>\n"
 
 # the kinds of reports that have a page
-KINDS = ('yard', 'visits', 'list', 'ticket', 'reply', 'container', 'work', 'partners', 'blocks', 'calls', 'contrl', 'partner')
+KINDS = (
+    'yard', 'visits', 'list', 'ticket', 'reply', 'container', 'work', 'partners', 'blocks', 'calls', 'contrl', 'partner',
+    'picture')
 SIDES = {'LOAD': 'load', 'DISCHARGE': 'discharge'}
 
 
@@ -105,7 +113,7 @@ def place_link(kind, words, place):
     if kind == 'partners' and place == 0 and word(2) == 'NEXT':
         return '/pages/partners/' + address(word(0))
     if kind == 'blocks' and place == 0 and word(1) == 'BAYS':
-        return '/picture#block-' + address(word(0))
+        return '/pages/picture#block-' + address(word(0))
     return None
 
 
@@ -169,10 +177,52 @@ def beside(kind, key):
     return "<p class='beside'>\n" + ''.join(link(*one) + '\n' for one in links) + '</p>\n'
 
 
+def names_in(text):
+    """The faults of messages and the reasons of lines that a reply gives."""
+    messages = json.loads(text).get('reply', {}).get('messages', [])
+    return ({message.get('fault') for message in messages}
+            | {line.get('reason') for message in messages for line in message.get('lines', [])})
+
+
+def meant(text):
+    """What the names in a reply mean."""
+    names = names_in(text)
+    told = ['<dt>%s</dt>\n<dd>%s</dd>\n' % (name, escaped(sentence)) for name, sentence in MEANINGS if name in names]
+    return '<h2>What the names mean</h2>\n<dl>\n' + ''.join(told) + '</dl>\n' if told else ''
+
+
+def last(code, text):
+    """Links to the replies to the last twenty interchanges of a partner, the last first."""
+    following = int(re.match(re.escape(code) + ' [A-Z]+ NEXT ([0-9]+)', text)[1])
+    numbers = [str(number) for number in range(following - 1, 0, -1)][:20]
+    links = [link('/pages/replies/' + address(code, number), number) + '\n' for number in numbers]
+    return "<p class='beside'>\nIts last interchanges\n" + ''.join(links) + '</p>\n' if links else ''
+
+
+def below(kind, key, text):
+    """What stands below a report."""
+    if kind == 'reply':
+        return meant(text)
+    if kind == 'partner':
+        return last(key, text)
+    return ''
+
+
+def drawn(text):
+    """The picture with a link from each container, which is drawn on a line of its own, to its page, and with one to the
+    start page at its top."""
+    linked = re.sub(
+        r"^(<g transform='translate\(-?\d+ -?\d+\)'><title>(.{11}) .*</g>)$",
+        lambda found: "<a href='%s'>%s</a>" % ('/pages/containers/' + address(found[2]), found[1]), text, flags=re.M)
+    return linked.replace('\n<main>\n', "\n<main>\n<nav>\n<a href='/'>Start</a>\n</nav>\n", 1)
+
+
 def page(kind, key, text):
-    """The page of a report: what was asked for, and its text."""
+    """The page of a report: what was asked for, its text, and what stands below it. The picture is one, and has links there."""
+    if kind == 'picture':
+        return drawn(text)
     return (head(title(kind, key), kind in ('list', 'work')) + beside(kind, key) + '<pre>\n' + body(kind, text)
-            + '</pre>\n' + END)
+            + '</pre>\n' + below(kind, key, text) + END)
 
 
 # what the start page shows of the metrics

@@ -25,7 +25,6 @@ use Rattle.office_http.proofs.OneRequest.{heads_are_one}
 
 abbrev asked_paged : QueryContent → Bool
 asked_paged yard_table = false
-asked_paged picture = false
 asked_paged health = false
 asked_paged metrics = false
 asked_paged (next_number code) = false

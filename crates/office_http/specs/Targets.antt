@@ -50,10 +50,9 @@ path_at address =
 abbrev pub path_of : List ℕ → List ℕ
 path_of target = path_at (address_of target)
 
--- A report has a page, but for the picture, which is one, and for what programs read: the table, health and the metrics.
+-- A report has a page, but for what programs read: the table, health and the metrics.
 abbrev pub is_paged : ReportKind → Bool
 is_paged kind.YardTable = false
-is_paged kind.Picture = false
 is_paged kind.Health = false
 is_paged kind.Metrics = false
 is_paged other = true

@@ -95,13 +95,12 @@ fn before_and(rest: &str) -> &str
     }
 }
 
-/// Whether a report has a page: the picture is one itself, and the table, health and the metrics are for programs.
+/// Whether a report has a page: the table, health and the metrics are for programs.
 pub(crate) fn is_paged(kind: ReportKind) -> bool
     ensures { result ≡ is_paged kind }
 {
     match kind {
-        ReportKind::YardTable | ReportKind::Picture | ReportKind::Health | ReportKind::Metrics =>
-            false,
+        ReportKind::YardTable | ReportKind::Health | ReportKind::Metrics => false,
         _ => true,
     }
 }

@@ -1,4 +1,7 @@
+mod Fronts
 mod Growing
+pub mod Plain
 mod Shown
 mod Splitting
+mod Standing
 mod Typing

@@ -5,8 +5,7 @@ use Rattle.std.proofs.lemmas.Bool.{ne_eqb, cases_Bool}
 use Rattle.std.proofs.lemmas.List.{append-nil}
 use Rattle.std.proofs.lemmas.List.Elements.{All-from_get_or}
 use Rattle.std.proofs.lemmas.List.Splits.{slice_split_none, slice_split_at, slice_split-cons_yes, slice_split-cons_no}
-use Rattle.office_queries.specs.declared.query.Query.{Query}
-use Rattle.office_pages.specs.Pages.{body_bytes, count_view, line_view}
+use Rattle.office_pages.specs.Pages.{count_view}
 use Rattle.office_pages.specs.Words.{lines}
 
 -- no byte is LF
@@ -38,31 +37,35 @@ pub joined_more : (f : List ℕ → List ℕ) (between a : List ℕ) (ps : List 
 joined_more f between a [] some = absurd (some refl)
 joined_more f between a (p ∷ ps) some = ap (λ t. f a ++ t) (append_assoc between (f p) (flat_map (λ y. between ++ f y) ps))
 
--- ---- the body
+-- ---- lines with an LF between them
 
-pub body_of_one : (asked : Query) (text : List ℕ) → HasNoBreak text → body_bytes asked text ≡ line_view asked text
-body_of_one asked text none = ap (λ ls. join_by (line_view asked) (codes "\n") ls) (one_line_of text none) ∙ append-nil (line_view asked text)
+module _ (f : List ℕ → List ℕ) where
+  abbrev by_lines : List ℕ → List ℕ
+  by_lines text = join_by f (codes "\n") (lines text)
 
-pub body_of : (asked : Query) (text first others : List ℕ) → text ≡ first ++ 10 ∷ others → HasNoBreak first →
-    body_bytes asked text ≡ line_view asked first ++ (codes "\n" ++ body_bytes asked others)
-body_of asked text first others is none =
-    ap (λ ls. join_by (line_view asked) (codes "\n") ls) (lines_of text first others is none)
-    ∙ joined_more (line_view asked) (codes "\n") first (lines others) (some_line others)
+  by_one_line : (text : List ℕ) → HasNoBreak text → by_lines text ≡ f text
+  by_one_line text none = ap (λ ls. join_by f (codes "\n") ls) (one_line_of text none) ∙ append-nil (f text)
 
--- a line is shown
-pub body_more : (asked : Query) (text first others front page line now : List ℕ) → text ≡ first ++ 10 ∷ others → HasNoBreak first →
-    page ++ body_bytes asked text ≡ front → line ≡ page ++ line_view asked first → now ≡ line ++ codes "\n" →
-    now ++ body_bytes asked others ≡ front
-body_more asked text first others front page line now is none before shown ends =
-    ap (λ t. t ++ body_bytes asked others) (ends ∙ ap (λ t. t ++ codes "\n") shown)
-    ∙ append_assoc (page ++ line_view asked first) (codes "\n") (body_bytes asked others)
-    ∙ append_assoc page (line_view asked first) (codes "\n" ++ body_bytes asked others)
-    ∙ ap (λ t. page ++ t) (sym (body_of asked text first others is none)) ∙ before
+  by_more_lines : (text first others : List ℕ) → text ≡ first ++ 10 ∷ others → HasNoBreak first →
+      by_lines text ≡ f first ++ (codes "\n" ++ by_lines others)
+  by_more_lines text first others is none =
+      ap (λ ls. join_by f (codes "\n") ls) (lines_of text first others is none)
+      ∙ joined_more f (codes "\n") first (lines others) (some_line others)
 
--- the last line is shown
-pub body_ends : (asked : Query) (text front page now : List ℕ) → HasNoBreak text → page ++ body_bytes asked text ≡ front →
-    now ≡ page ++ line_view asked text → now ≡ front
-body_ends asked text front page now none before shown = shown ∙ ap (λ t. page ++ t) (sym (body_of_one asked text none)) ∙ before
+  -- a line is shown
+  pub lines_more : (text first others front page line now : List ℕ) → text ≡ first ++ 10 ∷ others → HasNoBreak first →
+      page ++ join_by f (codes "\n") (lines text) ≡ front → line ≡ page ++ f first → now ≡ line ++ codes "\n" →
+      now ++ join_by f (codes "\n") (lines others) ≡ front
+  lines_more text first others front page line now is none before shown ends =
+      ap (λ t. t ++ by_lines others) (ends ∙ ap (λ t. t ++ codes "\n") shown)
+      ∙ append_assoc (page ++ f first) (codes "\n") (by_lines others)
+      ∙ append_assoc page (f first) (codes "\n" ++ by_lines others)
+      ∙ ap (λ t. page ++ t) (sym (by_more_lines text first others is none)) ∙ before
+
+  -- the last line is shown
+  pub lines_end : (text front page now : List ℕ) → HasNoBreak text → page ++ join_by f (codes "\n") (lines text) ≡ front →
+      now ≡ page ++ f text → now ≡ front
+  lines_end text front page now none before shown = shown ∙ ap (λ t. page ++ t) (sym (by_one_line text none)) ∙ before
 
 -- ---- the counts
 

@@ -45,6 +45,6 @@ list_address vessel voyage side = address_of_two (codes "/pages/lists/") vessel 
 abbrev pub work_address : List ℕ → List ℕ → Side → List ℕ
 work_address vessel voyage side = address_of_two (codes "/pages/work/") vessel voyage ++ side_path side
 
--- a block, in the picture of the yard
+-- a block, in the picture of the yard with its links
 abbrev pub block_address : List ℕ → List ℕ
-block_address letter = address_of_one (codes "/picture#block-") letter
+block_address letter = address_of_one (codes "/pages/picture#block-") letter

@@ -1,7 +1,10 @@
 pub mod Addresses
+pub mod Drawn
 pub mod Fixed
 pub mod Laws
 pub mod Links
+pub mod Meanings
+pub mod Meant
 pub mod Pages
 pub mod Titles
 pub mod Typed

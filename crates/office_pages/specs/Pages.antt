@@ -1,26 +1,28 @@
 -- The page of a report (our own): its lines as they are, with a link around each word that names something.
-use Rattle.std.specs.Prelude.{ℕ, ◌==◌, Bool, true, false, List, [], ◌∷◌, ◌++◌, length, codes, decimal, string_bytes, Option, None, Some, if◌then◌else◌}
-use Rattle.std.specs.List.{flat_map, join_by, range_with_len}
+use Rattle.std.specs.Prelude.{ℕ, ◌-◌, min, ◌==◌, Bool, true, false, List, [], ◌∷◌, ◌++◌, length, codes, decimal, string_bytes, Option, None, Some, if◌then◌else◌}
+use Rattle.std.specs.List.{before_first, flat_map, join_by, range_with_len}
 use Rattle.std.specs.Str.{bytes_eq}
 use Rattle.edi_messages.specs.declared.call.Call.{Call}
+use Rattle.edi_syntax.specs.Numbers.{number_of}
 use Rattle.terminal_core.specs.declared.lines.Side.{Side}
 use Rattle.office_picture.specs.Fields.{field_text}
 use Rattle.office_queries.specs.declared.query.Query.{Query}
 use Rattle.office_queries.specs.declared.query.Query.TheVariants as query
-use Rattle.office_pages.specs.Addresses.{address_of_two, container_address, list_address, partner_address, visits_address, work_address}
+use Rattle.office_pages.specs.Addresses.{address_of_two, container_address, list_address, partner_address, reply_address, visits_address, work_address}
+use Rattle.office_pages.specs.Drawn.{picture_view}
 use Rattle.office_pages.specs.Fixed.{foot, head, top}
 use Rattle.office_pages.specs.Links.{link_at}
+use Rattle.office_pages.specs.Meanings.{framed, meanings_view}
 use Rattle.office_pages.specs.Titles.{notice_title, title}
-use Rattle.office_pages.specs.Words.{lines, word_at, words}
+use Rattle.office_pages.specs.Words.{is_at, lines, without_front, word_at, words}
 use Rattle.office_pages.specs.declared.notices.Notice.{Notice}
 use Rattle.office_pages.specs.declared.notices.Notice.TheVariants as notice
 
 -- ---- which reports
 
--- The picture is a page already; the table is for programs, and so are health, metrics and a partner's next number.
+-- The table is for programs, and so are health, metrics and a partner's next number.
 abbrev pub has_page : Query → Bool
 has_page query.YardTable = false
-has_page query.Picture = false
 has_page (query.Next code) = false
 has_page query.Health = false
 has_page query.Metrics = false
@@ -118,13 +120,51 @@ links_beside other = []
 abbrev pub beside : Query → List ℕ
 beside asked = codes "<p class='beside'>\n" ++ links_beside asked ++ codes "</p>\n"
 
+-- ---- what stands below it
+
+-- the number that is next, of what follows the code in a partner's line CODE KIND NEXT n
+abbrev pub next_behind : Option (List ℕ) → Option ℕ
+next_behind None = None
+next_behind (Some rest) = if is_at (words rest) 2 (codes "NEXT") then number_of 14 (word_at (words rest) 3) else None
+
+abbrev pub next_of : List ℕ → List ℕ → Option ℕ
+next_of code text = next_behind (without_front code (before_first (λ c. c == 10) text))
+
+-- at most so many
+abbrev pub most_last : ℕ
+most_last = 20
+
+abbrev pub numbered_reply : List ℕ → ℕ → List ℕ
+numbered_reply partner number = link_beside (reply_address partner (decimal number)) (decimal number)
+
+-- the replies to the numbers before that one, the last first
+abbrev pub last_replies : List ℕ → ℕ → List ℕ
+last_replies partner next =
+    flat_map (λ back. numbered_reply partner (next - 1 - back)) (range_with_len 0 (min most_last (next - 1)))
+
+abbrev pub last_view : List ℕ → Option ℕ → List ℕ
+last_view partner None = []
+last_view partner (Some next) =
+    framed (codes "<p class='beside'>\nIts last interchanges\n") (last_replies partner next) (codes "</p>\n")
+
+-- what the names in a reply mean, and of a partner its last interchanges
+abbrev pub below : Query → List ℕ → List ℕ
+below (query.Reply partner number) text = meanings_view text
+below (query.Partner code) text = last_view (string_bytes code) (next_of (string_bytes code) text)
+below other text = []
+
 -- ---- pages
 
--- a report's page. A browser drops the first LF behind <pre>.
-abbrev pub page_bytes : Query → List ℕ → List ℕ
-page_bytes asked text =
+-- what shows the text of a report; a browser drops the first LF behind <pre>
+abbrev pub text_page : Query → List ℕ → List ℕ
+text_page asked text =
     page_head (asks_again asked) (title asked) ++ beside asked ++ codes "<pre>\n" ++ body_bytes asked text
-    ++ codes "</pre>\n" ++ foot
+    ++ codes "</pre>\n" ++ below asked text ++ foot
+
+-- a report's page; the picture is one, and has links there
+abbrev pub page_bytes : Query → List ℕ → List ℕ
+page_bytes query.Picture text = picture_view text
+page_bytes other text = text_page other text
 
 -- what is counted by a metric
 abbrev pub label_of : List ℕ → List ℕ

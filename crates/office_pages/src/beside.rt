@@ -75,7 +75,7 @@ fn push_one(
     push_link_beside(alloc, page, address.as_str(), label)
 }
 
-fn push_link_beside(
+pub(crate) fn push_link_beside(
     alloc: Global,
     page: &mut String,
     address: &str,
@@ -83,7 +83,7 @@ fn push_link_beside(
 ) -> Result<(), AllocError>
     ensures { OnOk result (string_bytes page.new ≡ string_bytes page.old ++ link_beside address.now label.now) }
 {
-    push_link(alloc, page, address.as_bytes(), label.as_bytes())?;
+    push_link(alloc, page, address, label)?;
     page.push_str("\n")
 }
 

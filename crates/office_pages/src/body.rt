@@ -1,6 +1,8 @@
 //! A report's own text, shown.
+ghost use Rattle.std.specs.List.{list_all};
 ghost use Rattle.std.specs.Prelude.{◌≡◌, ◌++◌, OnOk, string_bytes};
 ghost use Rattle.office_picture.specs.Fields.{field_text};
+ghost use Rattle.office_picture.specs.Markup.{is_plain};
 ghost use Rattle.office_pages.specs.Pages.{body_bytes, gap, line_view, link, linked, word_view};
 ghost use Rattle.office_pages.specs.Words.{texts_of};
 
@@ -52,13 +54,8 @@ fn push_word(
 {
     page.push_str(gap(place))?;
     match link_at(alloc, query, words, place)? {
-        Some(address) => push_link(
-            alloc,
-            page,
-            address.as_bytes(),
-            word_at(words, place).as_bytes(),
-        ),
-        None => push_field(alloc, page, word_at(words, place).as_bytes()),
+        Some(address) => push_link(alloc, page, address.as_str(), word_at(words, place)),
+        None => push_text(alloc, page, word_at(words, place)),
     }
 }
 
@@ -74,16 +71,58 @@ fn gap(place: usize) -> &'static str
 pub(crate) fn push_link(
     alloc: Global,
     page: &mut String,
-    address: &[u8],
-    shown: &[u8],
+    address: &str,
+    shown: &str,
 ) -> Result<(), AllocError>
     ensures { OnOk result (string_bytes page.new ≡ string_bytes page.old ++ link address.now shown.now) }
 {
     page.push_str("<a href='")?;
-    push_field(alloc, page, address)?;
+    push_text(alloc, page, address)?;
     page.push_str("'>")?;
-    push_field(alloc, page, shown)?;
+    push_text(alloc, page, shown)?;
     page.push_str("</a>")
+}
+
+/// Appends a link from a container's number.
+#[tactic(auto, unfolding(crate::specs::Pages::link))]
+pub(crate) fn push_number_link(
+    alloc: Global,
+    page: &mut String,
+    address: &str,
+    number: &[u8],
+) -> Result<(), AllocError>
+    ensures { OnOk result (string_bytes page.new ≡ string_bytes page.old ++ link address.now number.now) }
+{
+    page.push_str("<a href='")?;
+    push_text(alloc, page, address)?;
+    page.push_str("'>")?;
+    push_field(alloc, page, number)?;
+    page.push_str("</a>")
+}
+
+/// Appends a text, written so that no markup comes of it; one of plain characters only is appended as it is.
+#[tactic(auto, using(crate::proofs::Plain::plain_field))]
+pub(crate) fn push_text(alloc: Global, page: &mut String, text: &str) -> Result<(), AllocError>
+    ensures { OnOk result (string_bytes page.new ≡ string_bytes page.old ++ field_text text.now) }
+{
+    if are_plain(text.as_bytes()) {
+        page.push_str(text)
+    } else {
+        push_field(alloc, page, text.as_bytes())
+    }
+}
+
+fn are_plain(bytes: &[u8]) -> bool
+    ensures { result ≡ list_all is_plain bytes.now }
+{
+    bytes.iter().all(|byte| is_plain(*byte))
+}
+
+/// A character of ASCII that needs no other form in a page.
+fn is_plain(byte: u8) -> bool
+    ensures { result ≡ is_plain byte }
+{
+    byte < 128 && byte != b'&' && byte != b'<' && byte != b'>' && byte != b'"' && byte != b'\''
 }
 
 /// Appends bytes, written so that no markup comes of them.

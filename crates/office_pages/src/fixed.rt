@@ -16,6 +16,7 @@ const HEAD: &str = "<!doctype html>\n\
     justify-content:space-between;padding:1rem;background:#fff;border-bottom:1px solid #c6d0da}\n\
     main{padding:1.5rem 1rem 3rem}\n\
     h1{margin:0;font-size:2rem;line-height:1.2;overflow-wrap:anywhere}\n\
+    h2{margin:1.5rem 0 0;font-size:1.25rem}\n\
     p{margin:.5rem 0 0}\n\
     nav,form,.beside{display:flex;flex-wrap:wrap;gap:.5rem;align-items:center}\n\
     a{color:#1f5a8c}\n\
@@ -30,13 +31,17 @@ const HEAD: &str = "<!doctype html>\n\
     ul{display:flex;flex-wrap:wrap;gap:.75rem;margin:1rem 0 0;padding:0;list-style:none}\n\
     li{padding:.75rem 1rem;background:#fff;border:1px solid #c6d0da;border-radius:.5rem;color:#526375}\n\
     b{display:block;color:#16263a;font-size:1.5rem}\n\
+    dl{margin:.75rem 0 0;padding:.5rem 1rem 1rem;background:#fff;border:1px solid #c6d0da;\
+    border-radius:.5rem}\n\
+    dt{margin:.5rem 0 0;font-weight:600}\n\
+    dd{margin:0}\n\
     pre{margin:1.25rem 0 0;padding:1rem;background:#fff;border:1px solid #c6d0da;border-radius:.5rem;\
     font:15px/1.9 ui-monospace,'DejaVu Sans Mono',Menlo,Consolas,monospace;white-space:pre-wrap;\
     overflow-wrap:anywhere}\n\
     @media(max-width:40rem){header{padding:.5rem}main{padding:1rem .5rem 2rem}\
     pre{padding:.75rem .5rem;font-size:13px}}\n\
-    @media print{body{background:none}header,.beside{display:none}main,pre{padding:0}pre{border:0;\
-    line-height:1.5}a{color:inherit;text-decoration:none}}\n\
+    @media print{body{background:none}header,.beside{display:none}main,pre,dl{padding:0}\
+    pre,dl{border:0}pre{line-height:1.5}a{color:inherit;text-decoration:none}}\n\
     </style>\n";
 
 const TOP: &str = "</head>\n\
@@ -46,7 +51,7 @@ const TOP: &str = "</head>\n\
     <a href='/'>Start</a>\n\
     <a href='/pages/yard'>Yard</a>\n\
     <a href='/pages/blocks'>Blocks</a>\n\
-    <a href='/picture'>Picture</a>\n\
+    <a href='/pages/picture'>Picture</a>\n\
     <a href='/pages/partners'>Partners</a>\n\
     <a href='/pages/calls'>Calls</a>\n\
     </nav>\n\

@@ -2,11 +2,14 @@
 #![tactic(auto)]
 
 mod addresses;
+mod below;
 mod beside;
 mod body;
+mod drawn;
 mod fixed;
 pub mod laws;
 mod links;
+mod meanings;
 mod notices;
 mod pages;
 mod titles;

@@ -52,7 +52,7 @@ fn place_link(
 }
 
 /// A container number, check digit and all.
-fn container_link(alloc: Global, word: &str) -> Result<Option<String>, AllocError>
+pub(crate) fn container_link(alloc: Global, word: &str) -> Result<Option<String>, AllocError>
     ensures { IfOk result (λ found. option_map string_bytes found ≡ container_link word.now) }
 {
     if BoxNumber::parse(word.as_bytes()).is_err() {
@@ -185,7 +185,7 @@ fn block_link(alloc: Global, words: &[&str], place: usize) -> Result<Option<Stri
     ensures { IfOk result (λ found. option_map string_bytes found ≡ block_link (texts_of words.now) place) }
 {
     if place == 0 && is_at(words, 1, "BAYS") {
-        let address = address_of_one(alloc, "/picture#block-", word_at(words, 0).as_bytes())?;
+        let address = address_of_one(alloc, "/pages/picture#block-", word_at(words, 0).as_bytes())?;
         Ok(Some(address))
     } else {
         Ok(None)

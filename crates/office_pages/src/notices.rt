@@ -2,7 +2,7 @@ ghost use Rattle.std.specs.Prelude.{◌≡◌, ◌++◌, IfOk, OnOk, string_byte
 ghost use Rattle.office_pages.specs.Pages.{notice_bytes, notice_view};
 
 use crate::addresses::address_of_one;
-use crate::body::push_link;
+use crate::body::push_number_link;
 use crate::fixed::foot;
 use crate::pages::push_head;
 use crate::titles::notice_title;
@@ -45,7 +45,7 @@ fn push_notice(alloc: Global, page: &mut String, notice: &Notice) -> Result<(), 
         Notice::CheckDigit(number) => {
             let address = address_of_one(alloc, "/pages/containers/", &number.text())?;
             page.push_str("The last digit is not the check digit. With the right one it is ")?;
-            push_link(alloc, page, address.as_bytes(), &number.text())?;
+            push_number_link(alloc, page, address.as_str(), &number.text())?;
             page.push_str(".")
         }
     }

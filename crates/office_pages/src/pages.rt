@@ -1,24 +1,25 @@
 ghost use Rattle.std.specs.List.{flat_map};
 ghost use Rattle.std.specs.Prelude.{◌≡◌, ◌++◌, IfOk, OnOk, string_bytes};
-ghost use Rattle.office_pages.specs.Pages.{again, asks_again, count_view, counted, has_page, label_of, page_bytes, page_head, start_bytes};
+ghost use Rattle.office_pages.specs.Pages.{again, asks_again, count_view, counted, has_page, label_of, page_bytes, page_head, start_bytes, text_page};
 ghost use Rattle.office_pages.specs.Words.{lines};
 
+use crate::below::push_below;
 use crate::beside::push_beside;
-use crate::body::{push_body, push_field};
+use crate::body::{push_body, push_field, push_text};
+use crate::drawn::linked_picture;
 use crate::fixed::{foot, head, top};
 use crate::titles::title;
 use crate::words::{word_at, words_of};
 use office_queries::Query;
 use std::alloc::{AllocError, Global};
 
-/// Whether what is asked for is shown as a page of its own. The picture is one already, the table of the yard is for
-/// programs, and so are health and metrics.
+/// Whether what is asked for is shown as a page of its own. The table of the yard is for programs, and so are health,
+/// metrics and a partner's next number.
 pub fn has_page(query: &Query) -> bool
     ensures { result ≡ has_page query.now }
 {
     match query {
         Query::YardTable => false,
-        Query::Picture => false,
         Query::Next(_) => false,
         Query::Health => false,
         Query::Metrics => false,
@@ -26,9 +27,21 @@ pub fn has_page(query: &Query) -> bool
     }
 }
 
-/// The page of a report: what was asked for, and its text.
+/// The page of a report: what was asked for, its text, and below it what the names in a reply mean, or links to the
+/// replies to a partner's last interchanges. That of the picture is the picture, with a link from each container to its
+/// page.
 pub fn page(alloc: Global, query: &Query, text: &str) -> Result<String, AllocError>
     ensures { IfOk result (λ page. string_bytes page ≡ page_bytes query.now text.now) }
+{
+    match query {
+        Query::Picture => linked_picture(alloc, text),
+        _ => text_page(alloc, query, text),
+    }
+}
+
+/// The page that shows a report's text.
+fn text_page(alloc: Global, query: &Query, text: &str) -> Result<String, AllocError>
+    ensures { IfOk result (λ page. string_bytes page ≡ text_page query.now text.now) }
 {
     let title = title(alloc, query)?;
     let mut page = String::new(alloc);
@@ -37,6 +50,7 @@ pub fn page(alloc: Global, query: &Query, text: &str) -> Result<String, AllocErr
     page.push_str("<pre>\n")?;
     push_body(alloc, &mut page, query, text)?;
     page.push_str("</pre>\n")?;
+    push_below(alloc, &mut page, query, text)?;
     page.push_str(foot())?;
     Ok(page)
 }
@@ -133,7 +147,7 @@ fn push_counted(
         return Ok(());
     }
     page.push_str("<li><b>")?;
-    push_field(alloc, page, value.as_bytes())?;
+    push_text(alloc, page, value)?;
     page.push_str("</b> ")?;
     page.push_str(label)?;
     page.push_str("</li>\n")

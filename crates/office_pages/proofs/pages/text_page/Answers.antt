@@ -1,9 +1,9 @@
 use Rattle.std.proofs.Common.{◌++◌, ap, ◌∙◌, codes, string_bytes}
 use Rattle.office_pages.specs.Fixed.{foot}
-use Rattle.office_pages.specs.Pages.{asks_again, beside, body_bytes, page_head}
+use Rattle.office_pages.specs.Pages.{asks_again, below, beside, body_bytes, page_head}
 use Rattle.office_pages.specs.Titles.{title}
 use Rattle.office_pages.proofs.Growing.{behind}
-use Rattle.office_pages.proofs.pages.page.Goals as goal
+use Rattle.office_pages.proofs.pages.text_page.Goals as goal
 
 pub returns : goal.returns
 returns c =
@@ -22,5 +22,8 @@ returns c =
     let d = behind (top ++ links) (codes "<pre>\n") linked begun b c.in_ok-push_str.ensures.bytes in
     let e = behind (top ++ links ++ codes "<pre>\n") body begun shown d c.in_ok-push_body.ensures in
     let f = behind (top ++ links ++ codes "<pre>\n" ++ body) (codes "</pre>\n") shown ended e c.in_ok-push_str-2.ensures.bytes in
-    behind (top ++ links ++ codes "<pre>\n" ++ body ++ codes "</pre>\n") foot ended (string_bytes c.push_str-3.new.self) f
-    (c.in_ok-push_str-3.ensures.bytes ∙ ap (λ t. ended ++ t) c.foot.ensures)
+    let told = string_bytes c.push_below.new.page in
+    let last = below asked c.args.text.now in
+    let g = behind (top ++ links ++ codes "<pre>\n" ++ body ++ codes "</pre>\n") last ended told f c.in_ok-push_below.ensures in
+    behind (top ++ links ++ codes "<pre>\n" ++ body ++ codes "</pre>\n" ++ last) foot told (string_bytes c.push_str-3.new.self) g
+    (c.in_ok-push_str-3.ensures.bytes ∙ ap (λ t. told ++ t) c.foot.ensures)
