@@ -42,7 +42,7 @@ NOBODYS = [
     ('POST', '/partners/HAULA/interchanges'), ('POST', '/partners/HAULC/port'), ('POST', '/partners/%48AULC/gate'),
     ('POST', '/partners/HAULC/gate?x'), ('POST', '/yard'), ('PUT', '/partners/HAULC/gate'), ('DELETE', '/partners/HAULA'),
     ('POST', '/'), ('GET', '/pages'), ('GET', '/pages/'), ('GET', '/pages/nothing'), ('GET', '/pages/yard.csv'),
-    ('GET', '/pages/picture'), ('GET', '/pages/health'), ('GET', '/pages/metrics'), ('GET', '/pages/interchanges'),
+    ('GET', '/pages/health'), ('GET', '/pages/metrics'), ('GET', '/pages/interchanges'),
     ('GET', '/pages/yard/'), ('GET', '/pages/yard?x'), ('GET', '/pages/%79ard'), ('GET', '/pages//yard'), ('GET', '//pages/yard'),
     ('GET', '/pages/pages/yard'), ('GET', '/PAGES/yard'), ('GET', '/pages/../partners'), ('GET', '/pages/find/'),
     ('GET', '/pages/find/x?container=ABCU0000017'), ('GET', '/pages/finder'), ('POST', '/pages/find'), ('POST', '/pages/yard'),
