@@ -78,10 +78,10 @@ def slots(office):
 
 
 def moved(office, before):
-    """How many containers stand elsewhere than before."""
+    """How many containers stand elsewhere than before, or in the yard where they weren't or the other way round: what left may be
+    refused another time, under a container that stands on it."""
     after = slots(office)
-    expect('containers', sorted(before), sorted(after))
-    return sum(after[each] != slot for each, slot in before.items())
+    return sum(after.get(each) != before.get(each) for each in {*before, *after})
 
 
 def drill(program, seed, counted):

@@ -34,7 +34,7 @@ def try_places(program, seed, counted):
         for passed in NO_NUMBERS:
             expect('texts after %r' % passed, USAGE, texts_of(book, passed))
             counted['FROM: no number'] += 1
-        for passed in ('-1', '-0', '--'):
+        for passed in ('-1', '-0'):
             expect('texts after %r' % passed, ('', 2), texts_of(book, passed)[::2])
             counted['FROM: an option'] += 1
         for passed in (count + 1, count + 2, 1000, 999999999):
