@@ -13,12 +13,12 @@ from contextlib import closing
 
 import streams
 from rows import FEW, IN_MEMORY, MARKS, MORE, PART, Row
-from running import Stream, instructions
+from running import Stream, command, instructions
 
 SIZES = [512, 1024, 2048, 4096]
-TURNS = 7                   # of which the least counts
-MEGABYTE = 1000000
-FEW_KEPT = 6000             # where a page of a megabyte is timed: the opening before it is short
+TURNS, LONG = 5, 15         # of which the least counts; of what is a difference
+MEGABYTE = 1000000          # of the journal
+MOST_TEXTS = 7000           # gate-ins and gate-outs, which have more than a megabyte
 
 
 def processor(turns, *words, statuses=(0, 1)):
@@ -54,58 +54,65 @@ def filled(stores, store, kept):
     return store
 
 
-def openings(stores, store, size, kept):
-    """Its file, its opening with a small report, and the kit's own opening, of which `init` is one that then writes nothing."""
+def begun(stores, size, kept):
+    """A store with pages of that size in which so much is kept, in a file system in memory, if there is one."""
+    with tempfile.TemporaryDirectory(prefix='bench-', dir=IN_MEMORY) as folder:
+        yield filled(stores, sized(stores.new('pages', folder=folder), size), kept)
+
+
+def what_of(what, size, kept):
+    """The name of a row."""
+    return '%s, %s kept, pages of %s bytes' % (what, format(kept, ','), format(size, ','))
+
+
+def opening(stores, store):
+    """The words that open a store, with a small report; and those of the kit's own opening: `init`, which then writes nothing."""
     report = stores.office, 'report', store, 'visits', streams.box(0)
-    own = stores.office, 'init', store, stores.path_of('partners.csv'), stores.path_of('large.csv')
-    what = '%s kept, pages of %s bytes' % (format(kept, ','), format(size, ','))
-    found = [
-        Row(what + ': the file', 'MB', os.path.getsize(store) / 1e6),
-        Row(what + ": opening, processor; peer: the kit's own", 'ms', processor(TURNS, *report) * 1e3,
-            processor(TURNS, *own, statuses=(3,)) * 1e3, '1.15 times')]
-    if shutil.which('valgrind'):
-        counts = [instructions(os.devnull, *words, statuses=statuses) / 1e6 for words, statuses in ((report, (0, 1)), (own, (3,)))]
-        found.append(Row(what + ": opening; peer: the kit's own", 'million instructions', *counts, '1.15 times'))
-    return found
+    return report, (stores.office, 'init', store, stores.path_of('partners.csv'), stores.path_of('large.csv'))
 
 
 def journal(stores, store, kept):
-    """The last texts of a megabyte, by `office texts`, without the start and the opening, which are all of it after the last."""
-    data = subprocess.run([stores.office, 'texts', store, str(kept - FEW_KEPT)], stdout=subprocess.PIPE, check=True).stdout
+    """The words that print the last texts of a megabyte; and those that print none, which take as long to start and to open."""
+    data = command(stores.office, 'texts', store, str(max(0, kept - MOST_TEXTS)))
     passed = kept - data[-MEGABYTE:].count(b'\n') + 1
-    return passed, (stores.office, 'texts', store, str(passed)), (stores.office, 'texts', store, str(kept))
+    return (stores.office, 'texts', store, str(passed)), (stores.office, 'texts', store, str(kept))
 
 
-def journals(stores, store, size, kept):
-    """A page of a megabyte: its time, or where the opening before it is long its instructions."""
-    passed, page, none = journal(stores, store, kept)
-    what = 'a page of the journal, %s texts of %s, pages of %s bytes' % (
-        format(kept - passed, ','), format(kept, ','), format(size, ','))
-    if kept > FEW_KEPT:
-        return [Row(what, 'million instructions', (instructions(os.devnull, *page) - instructions(os.devnull, *none)) / 1e6)]
-    return [Row(what + ', processor', 'ms', (processor(3 * TURNS, *page) - processor(3 * TURNS, *none)) * 1e3, None, '10 ms')]
-
-
-def deliveries(stores, store, size, kept):
-    """Instructions of a gate-in or gate-out, without those of start and opening."""
-    texts = streams.gates(kept + MORE)[kept:]
-    totals = []
+def deliveries(stores, store, kept):
+    """Thousands of instructions of a gate-in or gate-out, without those of start and opening."""
+    texts, totals = streams.gates(kept + MORE)[kept:], []
     for count in (FEW, MORE):
         stream = stores.file('counted.edi', ''.join(text + '\n' for text in texts[:count]))
         totals.append(instructions(stream, stores.office, 'deliver', stores.copy(store, stores.path('counted')), '-'))
-    what = 'a gate-in or gate-out, %s kept, pages of %s bytes' % (format(kept, ','), format(size, ','))
-    return [Row(what, 'thousand instructions', (totals[1] - totals[0]) / (MORE - FEW) / 1e3, None, '300')]
+    return (totals[1] - totals[0]) / (MORE - FEW) / 1e3
+
+
+def counts(stores, size):
+    """What is counted in instructions: a delivery, an opening, a page of the journal."""
+    for store in begun(stores, size, MARKS[0]):
+        kept = MARKS[0]
+        count = deliveries(stores, store, kept)
+        yield Row(what_of('a gate-in or gate-out', size, kept), 'thousand instructions', count, None, '300')
+    for store in begun(stores, size, MARKS[1]):
+        kept = MARKS[1]
+        report, init = opening(stores, store)
+        opened = instructions(os.devnull, *report, statuses=(0, 1)), instructions(os.devnull, *init, statuses=(3,))
+        name = what_of("opening; peer: the kit's own", size, kept)
+        yield Row(name, 'million instructions', *(each / 1e6 for each in opened), '1.15 times')
+        page, none = (instructions(os.devnull, *words) for words in journal(stores, store, kept))
+        yield Row(what_of('the last megabyte of the journal', size, kept), 'million instructions', (page - none) / 1e6)
+        page, none = (processor(LONG, *words) for words in journal(stores, store, kept))
+        yield Row(what_of('the same, processor', size, kept), 'ms', (page - none) * 1e3, None, '10 ms')
 
 
 def pages(stores):
-    """All of these, size by size."""
-    rows = []
+    """The largest stores first, and then what is counted."""
     for size in SIZES:
-        with tempfile.TemporaryDirectory(prefix='bench-', dir=IN_MEMORY) as folder:
-            for kept in (MARKS[0], FEW_KEPT, MARKS[-1]):
-                store = filled(stores, sized(stores.new('pages-%d' % kept, folder=folder), size), kept)
-                has_valgrind = shutil.which('valgrind')
-                rows += deliveries(stores, store, size, kept) if has_valgrind and kept != FEW_KEPT else []
-                rows += openings(stores, store, size, kept) if kept == MARKS[-1] else []
-                rows += journals(stores, store, size, kept) if kept == FEW_KEPT or has_valgrind and kept == MARKS[-1] else []
-    return rows
+        for store in begun(stores, size, MARKS[-1]):
+            yield Row(what_of('the file', size, MARKS[-1]), 'MB', os.path.getsize(store) / 1e6)
+            report, init = opening(stores, store)
+            opened = processor(TURNS, *report), processor(TURNS, *init, statuses=(3,))
+            name = what_of("opening, processor; peer: the kit's own", size, MARKS[-1])
+            yield Row(name, 'ms', *(each * 1e3 for each in opened), '1.15 times')
+    for size in SIZES if shutil.which('valgrind') else []:
+        yield from counts(stores, size)
