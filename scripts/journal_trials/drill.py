@@ -136,8 +136,8 @@ def in_their_order(first, copy, stood, copied_at, counted):
 
 
 def stands_by(first, stood, texts, counted):
-    """A standby that has followed to the end, or but for the last three texts: nothing can be read of the first, and partners send
-    again what the standby has not."""
+    """A standby that has followed to the end, or but for the last three texts: of the first nothing can be read, and partners
+    send again what the standby has not."""
     for missing in (0, 3):
         with tempfile.TemporaryDirectory(prefix='journal-') as folder, tempfile.TemporaryDirectory(prefix='journal-') as other:
             before = Made(first, other)

@@ -1,35 +1,27 @@
-"""A standby that asks office-first, at a first office that serves meanwhile: each turn by a copy that office-copy makes.
+"""A standby that asks office-first, at a first office that serves meanwhile: texts come by its route, a page at a time.
 
-Serving is killed by chance between turns, the standby's part of a turn within them; office-first goes on, as on another machine.
+The server is killed by chance between turns and within them, and so is a whole turn.
 """
 import os
 import signal
 import tempfile
+import threading
 
 from hostile.books import Different, expect
 from hostile.kills import Moment, Pace
 from hostile.working import Served
 from model.deliveries import kept_texts
 
-from .follow import TOP, Standby, script
-from .offices import are_same, is_addition, new_book
+from .follow import TOP, Standby
+from .offices import are_same, new_book
 
 FIRST = os.path.join(TOP, 'examples/standby/bin/office-first')
-COPY = os.path.join(TOP, 'examples/gateway/bin/office-copy')
 
 SHARE = 5                   # of the lists, one in so many
-TURNS = 5
-TRIES = 20                  # of the last turn, while office-first of an earlier one makes its copy
+TURNS = 6
 MOST = 6                    # deliveries and additions from turn to turn
-KILLED = 0.4                # of the turns; and of the times that the first takes something
-
-# The command that copies, of the process that serves; and the first, in a session of its own.
-COPYING = """#!/bin/sh
-exec %s "$1" "$2" "$(cat "$SERVES")"
-""" % COPY
-ASKED = """#!/bin/sh
-exec setsid -w %s "$@"
-""" % FIRST
+KILLED = 0.4                # of the times that the first takes something
+WHOLE, SERVER = 0.3, 0.4    # of the turns: killed whole, or the first's server meanwhile
 
 
 class AsksServed(Standby):
@@ -37,17 +29,13 @@ class AsksServed(Standby):
 
     def __init__(self, book, folder):
         super().__init__(book, folder)
-        self.serves, copies = os.path.join(folder, 'serves'), os.path.join(folder, 'copies')
-        os.mkdir(copies)
-        script(folder, 'office-copy', COPYING)
-        self.environment.update(
-            FIRST=script(folder, 'asked', ASKED), COPIES=copies, SERVES=self.serves, TMPDIR=folder, OFFICE=self.program,
-            PATH=folder + os.pathsep + os.environ['PATH'])
+        self.environment.update(FIRST=FIRST, SOCKET='', TMPDIR=folder, OFFICE=self.program)
 
-    def served_by(self, process):
-        """The process that serves the first."""
-        with open(self.serves, 'w', encoding='ascii') as file:
-            file.write(str(process.pid))
+    def asks(self, served):
+        """It asks this server from now on, which is ready for it."""
+        expect('it serves', True, served.listening())
+        self.environment['URL'] = 'http://127.0.0.1:%d' % served.port
+        return served
 
 
 def goes_on(book, served, pace, counted):
@@ -65,37 +53,42 @@ def goes_on(book, served, pace, counted):
     served.stop()
     book.take(moment.lines)
     book.found(sent[len(moment.lines)] if len(moment.lines) < len(sent) else None)
-    counted['kills of the first while it serves'] += 1
-    counted['of these with an addition unanswered'] += len(moment.lines) < len(sent) and is_addition(sent[len(moment.lines)])
+    counted['kills of the first while it takes something'] += 1
     return Served(book.program, book.store)
 
 
-def asks(standby, counted):
-    """A turn, of which the standby's part is killed by chance."""
-    if standby.chance.random() > KILLED:
-        status, said = standby.turn()
-        expect('a turn: %s' % said, True, status in (0, 3))
-        counted['turns' if status == 0 else 'turns while another copy was made'] += 1
-    else:
+def turn(standby, served, counted):
+    """A turn, which is killed by chance, or the server within it. Gives the one that then serves."""
+    book, kind = standby.first, standby.chance.random()
+    if kind < WHOLE:
         status, said = standby.turn(standby.chance.uniform(0, 1.2 * standby.pace))
-        expect('a turn that is killed: %s' % said, True, status in (-signal.SIGKILL, 0, 3))
-        counted['turns killed'] += status == -signal.SIGKILL
+        expect('a turn that is killed: %s' % said, True, status in (-signal.SIGKILL, 0))
+        counted['turns killed whole'] += status == -signal.SIGKILL
+    elif kind < WHOLE + SERVER:
+        killing = threading.Timer(standby.chance.uniform(0, standby.pace), served.process.kill)
+        killing.start()
+        status, said = standby.turn()
+        killing.join()
+        served.stop()
+        expect('a turn whose server is killed: %s' % said, True, status in (0, 3))
+        counted['kills of the first within a turn, which ended with %d' % status] += 1
+        served = Served(book.program, book.store)
+    else:
+        expect('a turn', (0, ''), standby.turn())
+        counted['turns without a kill'] += 1
     counted['texts that came in turns'] += standby.brought()
+    return served
 
 
 def followed(standby, counted):
-    """Turns, between which the first serves on; at the end one that is not killed, and once nobody serves both are the same."""
+    """Turns, between which the first serves on; at the end one without a kill, and once nobody serves both are the same."""
     book, pace = standby.first, Pace()
-    served = Served(book.program, book.store)
+    served = standby.asks(Served(book.program, book.store))
     try:
         for _turn in range(TURNS):
-            expect('it serves', True, served.listening())
-            served = goes_on(book, served, pace, counted)
-            expect('it serves', True, served.listening())
-            standby.served_by(served.process)
-            asks(standby, counted)
-        ends = (standby.turn() for _turn in range(TRIES))
-        expect('the last turn', (0, ''), next((end for end in ends if end[0] != 3), 'none that nothing was in the way of'))
+            served = standby.asks(goes_on(book, served, pace, counted))
+            served = standby.asks(turn(standby, served, counted))
+        expect('the last turn', (0, ''), standby.turn())
     finally:
         served.stop()
     standby.brought()
