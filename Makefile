@@ -1,4 +1,4 @@
-.PHONY: demo test build check strength refusals beside program pages kill9 memory clients gateway fuzz bench
+.PHONY: demo test build check strength refusals beside program pages kill9 memory clients journal gateway fuzz bench
 
 # The main job on a real interchange, by a build that proves nothing (`make build` leaves the proved program).
 demo:
@@ -54,6 +54,11 @@ memory:
 # Real clients against `office serve`, curl and sockets, kind ones and others: once it is built, half a minute.
 clients:
 	scripts/clients
+
+# Offices that are rebuilt of another one's texts or follow it, with kills of either, stores of old versions and restore drills,
+# beside the model: once it is built. `make journal` or `make journal COUNT=5 SEED=7`.
+journal:
+	scripts/journal $(or $(COUNT),60) $(SEED)
 
 # The gateway of examples/gateway with nginx, HAProxy, OpenSSL and curl before the program, beside the model: once it is built.
 gateway:

@@ -111,12 +111,14 @@ class Cost:
             self.peak = max(self.peak, usage.ru_maxrss / 1024)
 
 
-def instructions(path, *words):
+def instructions(path, *words, statuses=(0,)):
     """How many instructions a program runs on a file as its input, by valgrind."""
     with open(path, 'rb') as file:
         done = subprocess.run(
             ['valgrind', '--tool=cachegrind', '--cache-sim=no', '--cachegrind-out-file=/dev/null', *words], stdin=file,
-            stdout=subprocess.DEVNULL, stderr=subprocess.PIPE, check=True)
+            stdout=subprocess.DEVNULL, stderr=subprocess.PIPE, check=False)
+    if done.returncode not in statuses:
+        raise SystemExit('bench: %s ended with %d' % (' '.join(words), done.returncode))
     return int(re.search(rb'I +refs: +([0-9,]+)', done.stderr).group(1).replace(b',', b''))
 
 
