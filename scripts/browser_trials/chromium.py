@@ -41,7 +41,8 @@ class Chromium:
         self.log = open(os.path.join(folder, 'chromium.log'), 'wb')
         self.process = subprocess.Popen(
             ['sh', '-c', 'exec "$0" "$@" 3<&%d 4>&%d' % (asked, answered), path, *FLAGS, '--user-data-dir=' + user],
-            pass_fds=(asked, answered), stdin=subprocess.DEVNULL, stdout=self.log, stderr=self.log)
+            pass_fds=(asked, answered), stdin=subprocess.DEVNULL, stdout=self.log, stderr=self.log,
+            env=dict(os.environ, TMPDIR=folder))
         os.close(asked)
         os.close(answered)
         self.calls, self.unread, self.session = 0, b'', None
@@ -55,8 +56,13 @@ class Chromium:
         return self
 
     def __exit__(self, *_fault):
-        self.process.kill()
-        self.process.wait()
+        self.session = None
+        try:
+            self.call('Browser.close')      # so that none of its other processes is left
+            self.process.wait(SECONDS)
+        except (OSError, subprocess.TimeoutExpired):
+            self.process.kill()
+            self.process.wait()
         os.close(self.asks)
         os.close(self.answers)
         self.log.close()

@@ -76,7 +76,7 @@ def check(top, program):
     if browser is None:
         print('pages: skipped, for want of Chromium')
         return 0
-    with tempfile.TemporaryDirectory(prefix='pages-', dir=room()) as folder:
+    with tempfile.TemporaryDirectory(prefix='pages-', dir=room(), ignore_cleanup_errors=True) as folder:
         for trial, yards in ((walked, yards_of_pages), (drawn, yards_of_pictures)):
             for yard in yards(top):
                 wrong, views = tried(program, browser, folder, yard, trial)
