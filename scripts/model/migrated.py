@@ -128,7 +128,8 @@ def goes_over(beside, name, program, old, office):
 
 def goes_on(beside, name, program, office, day, is_reordered=False):
     """All reports; texts of old times again, those that were refused and those that wait among them; more deliveries,
-    requests, and the rows behind them. The texts as they came, unless the old store had another order."""
+    requests, and the rows behind them. The texts as they came, unless the old store had another order: then no request
+    asks for them."""
     chance = random.Random('migrated %s' % name)
     if not is_reordered:
         as_kept(beside, name, program, office, chance)
@@ -139,7 +140,10 @@ def goes_on(beside, name, program, office, day, is_reordered=False):
     beside.deliver(name, program, office, '\n'.join(again))
     beside.deliver(name, program, office, streamed(day, BEHIND, 0.05))
     beside.rows(name, program, office)
-    beside.serve(name, program, office, random_requests(chance, day, office, REQUESTS))
+    requests = random_requests(chance, day, office, REQUESTS)
+    if is_reordered:
+        requests = [request for request in requests if '/texts' not in request.split('\n', 1)[0]]
+    beside.serve(name, program, office, requests)
     beside.rows(name, program, office)
     if not is_reordered:
         as_kept(beside, name, program, office, chance)
