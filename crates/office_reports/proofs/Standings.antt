@@ -1,5 +1,5 @@
 -- The containers in a yard, by the texts of their slots.
-use Rattle.std.proofs.Common.{◌≡◌, ℕ, ◌+◌, ◌-◌, ◌%◌, ◌≤◌, ◌<◌, List, [], ◌∷◌, ◌++◌, length, map, Bool, true, false, cond, Option, None, Some, is_none, IsTrue, nat_le, refl, sym, ap, ◌∙◌, arith, subst, inl, inr, Contains, option_map, find, count_by, ◌⊎◌, get_or, take, drop}
+use Rattle.std.proofs.Common.{◌≡◌, Bor, ℕ, ◌+◌, ◌-◌, ◌%◌, ◌≤◌, ◌<◌, List, [], ◌∷◌, ◌++◌, length, map, Bool, true, false, cond, Option, None, Some, is_none, IsTrue, nat_le, refl, sym, ap, ◌∙◌, arith, subst, inl, inr, Contains, option_map, find, count_by, ◌⊎◌, get_or, take, drop}
 use Rattle.std.specs.Prelude.{◌&&◌}
 use Rattle.std.specs.Char.{is_ascii_uppercase}
 use Rattle.std.specs.BTreeMap.{BTreeMap, get, is_at}
@@ -32,7 +32,7 @@ use Rattle.yard_core.proofs.Exact.{numbered}
 use Rattle.terminal_core.specs.declared.visits.Departure.{Departure}
 use Rattle.terminal_core.specs.declared.visits.Visit.{Visit}
 use Rattle.terminal_core.specs.Rows.{VisitContent, visit_content}
-use Rattle.terminal_core.specs.State.{TerminalState, is_open_visit, open_visit, IsWhole}
+use Rattle.terminal_core.specs.State.{AreOpenOf, TerminalState, is_open_visit, open_visit, IsWhole}
 use Rattle.terminal_core.proofs.Boxes.{same_self, same_bytes}
 use Rattle.terminal_core.proofs.Numbered.{contained, found_at}
 use Rattle.terminal_core.proofs.Counted.{some_of, is_found, found_is, one_passes}
@@ -184,27 +184,32 @@ module _ (state : TerminalState) (whole : IsWhole state) where
 
 -- ---- the loop's turns
 
-longer : (rows : List Visit) (i : ℕ) (row : Visit) → i < length rows → row ≡ get_or rows i row → map visit_content (take i rows) ++ visit_content row ∷ [] ≡ map visit_content (take (i + 1) rows)
-longer rows i row low is = sym (ap (map visit_content) (take_more rows i row low ∙ ap (λ (r : Visit). take i rows ++ r ∷ []) (sym is)) ∙ map-append visit_content (take i rows) (row ∷ []))
+-- a visit as it is looked at
+abbrev pub shown : Bor Visit → VisitContent
+shown visit = visit_content visit.now
 
-module _ (state : TerminalState) (whole : IsWhole state) (rows : List Visit) (told : map visit_content rows ≡ state.visits) where
-  pub row_left : (i : ℕ) (row : Visit) (entries : List (List ℕ × Standing)) → i < length rows → row ≡ get_or rows i row → standing_of state (visit_content row) ≡ None
-      → Holds state (map visit_content (take i rows)) entries → Holds state (map visit_content (take (i + 1) rows)) entries
-  row_left i row entries low is left holds = subst (λ visits. Holds state visits entries) (longer rows i row low is) (holds_left state whole (map visit_content (take i rows)) (visit_content row) entries holds left)
+longer : (rows : List (Bor Visit)) (i : ℕ) (row : Bor Visit) → i < length rows → row ≡ get_or rows i row → map shown (take i rows) ++ shown row ∷ [] ≡ map shown (take (i + 1) rows)
+longer rows i row low is = sym (ap (map shown) (take_more rows i row low ∙ ap (λ (r : Bor Visit). take i rows ++ r ∷ []) (sym is)) ∙ map-append shown (take i rows) (row ∷ []))
 
-  among : (n : ℕ) (visit : VisitContent) → Contains (map visit_content (take n rows)) visit → Contains state.visits visit
+module _ (state : TerminalState) (whole : IsWhole state) (rows : List (Bor Visit)) (are : AreOpenOf state.visits (map shown rows)) where
+  pub row_left : (i : ℕ) (row : Bor Visit) (entries : List (List ℕ × Standing)) → i < length rows → row ≡ get_or rows i row → standing_of state (shown row) ≡ None
+      → Holds state (map shown (take i rows)) entries → Holds state (map shown (take (i + 1) rows)) entries
+  row_left i row entries low is left holds = subst (λ visits. Holds state visits entries) (longer rows i row low is) (holds_left state whole (map shown (take i rows)) (shown row) entries holds left)
+
+  among : (n : ℕ) (visit : VisitContent) → Contains (map shown (take n rows)) visit → Contains state.visits visit
   among n visit inside =
-      subst (λ visits. Contains visits visit) (sym (map-append visit_content (take n rows) (drop n rows)) ∙ ap (map visit_content) (take-append-drop n rows) ∙ told)
-      (Contains-append_left (map visit_content (take n rows)) (map visit_content (drop n rows)) visit inside)
+      let all = subst (λ visits. Contains visits visit) (sym (map-append shown (take n rows) (drop n rows)) ∙ ap (map shown) (take-append-drop n rows))
+      (Contains-append_left (map shown (take n rows)) (map shown (drop n rows)) visit inside) in
+      (are.only visit all).0
 
-  pub row_stands : (i : ℕ) (row : Visit) (standing : Standing) (old new : BTreeMap (List ℕ) Standing) → i < length rows → row ≡ get_or rows i row → standing_of state (visit_content row) ≡ Some standing
+  pub row_stands : (i : ℕ) (row : Bor Visit) (standing : Standing) (old new : BTreeMap (List ℕ) Standing) → i < length rows → row ≡ get_or rows i row → standing_of state (shown row) ≡ Some standing
       → IsStrictlySortedBy (slice_cmp nat_cmp) (keys_of new.entries)
       → ((q : List ℕ) → get (slice_cmp nat_cmp) new q ≡ cond (is_at (slice_cmp nat_cmp (slot_text standing.slot)) q) (Some standing) (get (slice_cmp nat_cmp) old q))
-      → Holds state (map visit_content (take i rows)) old.entries → Holds state (map visit_content (take (i + 1) rows)) new.entries
+      → Holds state (map shown (take i rows)) old.entries → Holds state (map shown (take (i + 1) rows)) new.entries
   row_stands i row standing old new low is here sorted puts holds =
       let more = longer rows i row low is in
       subst (λ visits. Holds state visits new.entries) more
-      (holds_more state whole (map visit_content (take i rows)) (visit_content row) standing old new holds
+      (holds_more state whole (map shown (take i rows)) (shown row) standing old new holds
       (λ v inside. among (i + 1) v (subst (λ visits. Contains visits v) more inside)) here sorted puts)
 
   stays : (o : Option Departure) → is_none o ≡ true → o ≡ None
@@ -214,9 +219,9 @@ module _ (state : TerminalState) (whole : IsWhole state) (rows : List Visit) (to
   here : (visit : VisitContent) (d : Option Departure) (standing : Standing) → d ≡ None → slot_in state visit.container ≡ Some standing.slot → standing ≡ shown_standing visit standing.slot → standing_if_here state visit d ≡ Some standing
   here visit d standing none stands is = ap (standing_if_here state visit) none ∙ ap (option_map (shown_standing visit)) stands ∙ ap Some (sym is)
 
-  pub are_listed : (i : ℕ) (entries : List (List ℕ × Standing)) → length rows ≤ i → Holds state (map visit_content (take i rows)) entries → AreListed (StandsAt state) entries
+  pub are_listed : (i : ℕ) (entries : List (List ℕ × Standing)) → length rows ≤ i → Holds state (map shown (take i rows)) entries → AreListed (StandsAt state) entries
   are_listed i entries all holds_some =
-      let holds : Holds state state.visits entries = subst (λ visits. Holds state visits entries) (ap (map visit_content) (take_all i rows all) ∙ told) holds_some in
+      let holds : Holds state (map shown rows) entries = subst (λ visits. Holds state visits entries) (ap (map shown) (take_all i rows all)) holds_some in
       record {
         sorted = holds.sorted;
         each = λ text standing at.
@@ -224,7 +229,7 @@ module _ (state : TerminalState) (whole : IsWhole state) (rows : List Visit) (to
             let parts = and_parts (bytes_eq at.visit.container standing.container) (is_none at.visit.departure) found.2 in
             let its : standing.container ≡ at.visit.container = same_bytes at.visit.container standing.container parts.0 in
             let told_here : standing_of state at.visit ≡ Some standing = here at.visit at.visit.departure standing (stays at.visit.departure parts.1) (ap (slot_in state) (sym its) ∙ at.stands) at.is_shown in
-            let there = holds.each at.visit standing (contained state.visits found.0 at.visit found.1) told_here in
+            let there = holds.each at.visit standing (are.each at.visit (contained state.visits found.0 at.visit found.1) parts.1) told_here in
             Contains-from_lookup same_text text standing entries (ap (λ t. lookup (is_at (slice_cmp nat_cmp t)) entries) at.named ∙ there);
         only = λ text standing inside. holds.only text standing
             (lookup-from_Contains (eq_by_cmp_equiv nat_list_cmp_total) text standing entries (IsDistinct-from_sorted (slice_cmp nat_cmp) (keys_of entries) holds.sorted) inside);

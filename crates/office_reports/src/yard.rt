@@ -81,8 +81,9 @@ pub fn standings(
 ) -> Result<BTreeMap<[u8; 7], Standing>, AllocError>
     ensures { IfOk result (λ yard. AreListed (StandsAt terminal.now) yard.entries) }
 {
+    let open = terminal.open_visits(alloc)?;
     let mut yard = BTreeMap::new(alloc);
-    for visit in terminal.visits() {
+    for visit in &open {
         if let Some(standing) = standing_of(terminal, visit) {
             let slot = standing.slot.text();
             yard.insert(slot, standing)?;

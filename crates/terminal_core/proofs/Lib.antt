@@ -29,3 +29,4 @@ pub mod OpenRows
 pub mod Opened
 pub mod LastIndexed
 pub mod OneByOne
+pub mod OpenOnes

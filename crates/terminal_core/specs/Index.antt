@@ -1,5 +1,5 @@
 -- Where a terminal keeps what it looks up: what the code relies on, and no caller has to read.
-use Rattle.std.specs.Prelude.{◌≡◌, ℕ, ◌<◌, List, Some, true, find, reverse, slice_get}
+use Rattle.std.specs.Prelude.{◌≡◌, ℕ, ◌<◌, List, Option, None, Some, true, is_none, find, reverse, slice_get, if◌then◌else◌}
 use Rattle.std.specs.Coded.{Coded, code_by, coded×, coded_list, coded_ℕ}
 use Rattle.std.specs.Map.{lookup}
 use Rattle.std.specs.Option.{option_map}
@@ -55,3 +55,7 @@ book_code =
       spare_last_indexes = p.1.1.1;
     })
     (λ _. refl)
+
+-- the visit, if it is open
+abbrev pub if_open : VisitContent → Option VisitContent
+if_open visit = if is_none visit.departure then Some visit else None

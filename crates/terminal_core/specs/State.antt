@@ -1,5 +1,5 @@
 -- What a terminal holds: its yard, every visit, and the lines of the vessels' lists.
-use Rattle.std.specs.Prelude.{◌≡◌, ℕ, ◌<◌, ◌≤◌, Bool, List, [], ◌∷◌, length, filter, find, reverse, Option, Some, is_none, is_some, ◌&&◌}
+use Rattle.std.specs.Prelude.{◌≡◌, ℕ, ◌<◌, ◌≤◌, Bool, true, List, [], ◌∷◌, length, filter, find, reverse, Contains, Option, Some, is_none, is_some, ◌&&◌}
 use Rattle.std.specs.Str.{bytes_eq}
 use Rattle.std.specs.Ordering.{nat_cmp}
 use Rattle.std.specs.Cmp.Lexicographic.{slice_cmp}
@@ -60,6 +60,11 @@ is_in state container = is_some (finite_map.get state.yard.boxes container)
 -- the container's visit that is open
 abbrev pub is_open_visit : BoxNumber → VisitContent → Bool
 is_open_visit container visit = bytes_eq visit.container container && is_none visit.departure
+
+-- these are the visits that are open, in whatever order
+pub record AreOpenOf (visits open_ones : List VisitContent) : Type 0 where
+  pub each : (visit : VisitContent) → Contains visits visit → is_none visit.departure ≡ true → Contains open_ones visit
+  pub only : (visit : VisitContent) → Contains open_ones visit → Contains visits visit × (is_none visit.departure ≡ true)
 
 abbrev pub open_visit : TerminalState → BoxNumber → Option VisitContent
 open_visit state container = find (is_open_visit container) state.visits

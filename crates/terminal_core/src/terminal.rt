@@ -5,7 +5,7 @@ ghost use Rattle.yard_core.specs.Decisions.{blocker_on};
 ghost use Rattle.yard_core.specs.YardMap.{placement_of};
 ghost use Rattle.edi_messages.specs.Owned.{call_content};
 ghost use Rattle.terminal_core.specs.Rows.{visit_content, change_content};
-ghost use Rattle.terminal_core.specs.State.{TerminalState, empty_state, last_visit, line_of, open_visit, IsWhole};
+ghost use Rattle.terminal_core.specs.State.{AreOpenOf, TerminalState, empty_state, last_visit, line_of, open_visit, IsWhole};
 ghost use Rattle.terminal_core.specs.Drop.{list_drop, Drops};
 ghost use Rattle.terminal_core.specs.Listings.{lines_of};
 ghost use Rattle.terminal_core.specs.Restoring.{AreOnce, AreRowsOf, RefusesRows};
@@ -130,6 +130,15 @@ impl Terminal {
         ensures whole { IsWhole self.now }
     {
         self.visits.last_visit(container)
+    }
+
+    /// The visits of the containers that are in the yard, in no order. It looks at no closed visit.
+    pub fn open_visits(&self, alloc: Global) -> Result<Vec<&Visit>, AllocError>
+        ensures told { IfOk result (λ found.
+            AreOpenOf self.now.visits (map (λ visit. visit_content visit.now) found.items)) }
+        ensures whole { IsWhole self.now }
+    {
+        self.visits.open_visits(alloc)
     }
 
     /// Every visit, as they were opened.

@@ -1,11 +1,11 @@
-ghost use Rattle.std.specs.Option.{option_map};
-ghost use Rattle.std.specs.Prelude.{◌≡◌, ◌++◌, ◌∷◌, [], ◌≤◌, ◌<◌, ◌-◌, ◌^◌, map, find, filter, reverse, length, is_some, IfOk, OnOk, OnErr, None, true, false, string_bytes, vec_len, vec_capacity};
+ghost use Rattle.std.specs.Option.{option_and_then, option_map};
+ghost use Rattle.std.specs.Prelude.{◌≡◌, ◌++◌, ◌∷◌, [], ◌≤◌, ◌<◌, ◌-◌, ◌^◌, map, find, filter, reverse, length, is_some, IfOk, OnOk, OnErr, None, true, false, string_bytes, slice_get, vec_len, vec_capacity};
 ghost use Rattle.box6346.specs.declared.box_number.BoxNumber.{BoxNumber};
 ghost use Rattle.edi_messages.specs.Owned.{entry_content};
 ghost use Rattle.terminal_core.specs.Calls.{HasOneVisit};
-ghost use Rattle.terminal_core.specs.Index.{AreIndexed, AreLastIndexed, HasRoom};
+ghost use Rattle.terminal_core.specs.Index.{AreIndexed, AreLastIndexed, HasRoom, if_open};
 ghost use Rattle.terminal_core.specs.Rows.{visit_content, change_content, visit_closed};
-ghost use Rattle.terminal_core.specs.State.{is_open_visit, is_visit_of, last_number};
+ghost use Rattle.terminal_core.specs.State.{AreOpenOf, is_open_visit, is_visit_of, last_number};
 ghost use Rattle.terminal_core.specs.Step.{closed_visit, number_of_visit, opened_visit, departure_by};
 
 use crate::change::{Change, Source};
@@ -185,6 +185,19 @@ impl Visits {
         self.rows.get(*row_index as usize)
     }
 
+    /// The visits that are open, in no order. Closed ones cost nothing.
+    pub(crate) fn open_visits(&self, alloc: Global) -> Result<Vec<&Visit>, AllocError>
+        ensures { IfOk result (λ found. AreOpenOf self.now.visits (map (λ visit. visit_content visit.now) found.items)) }
+    {
+        let mut found = Vec::new(alloc);
+        for (_, row_index) in &self.open_indexes {
+            if let Some(visit) = open_at(&self.rows, *row_index) {
+                found.push(visit)?;
+            }
+        }
+        Ok(found)
+    }
+
     /// Makes room for one more.
     pub(crate) fn reserve(&mut self) -> Result<(), AllocError>
         ensures kept { self.new.visits ≡ self.old.visits }
@@ -235,6 +248,19 @@ impl Visits {
             moment,
         });
         visit.number
+    }
+}
+
+/// The visit at that place, if it is open.
+fn open_at(rows: &[Visit], row_index: usize) -> Option<&Visit>
+    ensures { option_map (λ visit. visit_content visit.now) result
+        ≡ option_and_then if_open (slice_get (map visit_content rows.now) row_index) }
+{
+    let visit = rows.get(row_index)?;
+    if visit.departure.is_none() {
+        Some(visit)
+    } else {
+        None
     }
 }
 
