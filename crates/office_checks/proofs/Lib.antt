@@ -1,7 +1,9 @@
 pub mod Lists
 pub mod Kept
+pub mod InOrder
 pub mod Accounted
 pub mod Told
 pub mod Keyed
-pub mod OneByOne
+pub mod OwnVisits
 pub mod Offices
+pub mod Alike

@@ -27,7 +27,6 @@ use Rattle.terminal_core.specs.Rows.{VisitContent, visit_content}
 use Rattle.terminal_core.specs.State.{TerminalState, LineContent, Lines, LineKey, line_key}
 use Rattle.terminal_core.specs.Forms.{IsFormedLine}
 use Rattle.terminal_core.specs.Listings.{line_content, key_of, lines_of}
-use Rattle.terminal_core.specs.OneByOne.{GoOneByOne}
 use Rattle.terminal_core.specs.Restoring.{AreRowsOf}
 use Rattle.terminal_core.proofs.Formed.{by_key_lists, lists_by_key}
 use Rattle.terminal_core.proofs.Lined.{line_first, line_none}
@@ -35,15 +34,19 @@ use Rattle.terminal_core.proofs.Numbered.{contained}
 use Rattle.yard_core.proofs.Exact.{numbered}
 use Rattle.office_setup.specs.Setups.{SetupContent}
 use Rattle.office_setup.specs.Given.{is_party_code, AreDistinct}
-use Rattle.office_rows.specs.Office.{AreAccounts, AreKept, HasAccounts, IsOffice}
+use Rattle.office_rows.specs.Office.{AreAccounts, HasAccounts}
 use Rattle.office_checks.specs.Accounts.{accounts_in, AreWholeAccounts}
+use Rattle.office_checks.specs.Checks.{AreOwnVisits}
+use Rattle.office_checks.specs.Closed.{ClosedContent}
 use Rattle.office_checks.specs.Contents.{partner_content, number_content, setting_content, opened_rows}
 use Rattle.office_checks.specs.Formed.{IsSoundVisit, IsSoundLine, AreSoundVisits, AreSoundLines, AreByLetter, AreTerminal, RefusesTerminal}
+use Rattle.office_checks.specs.OwnOffice.{AreOwnNumbers, IsOwnOffice}
 use Rattle.office_checks.specs.Said.{AreSettings, RefusesSettings}
 use Rattle.office_checks.specs.Refusals.{RefusesTables}
 use Rattle.office_checks.specs.declared.restoring.OpenedTables.{OpenedTables}
 use Rattle.office_checks.specs.declared.numbers.PartnerRow.{PartnerRow}
 use Rattle.office_checks.proofs.Accounted.{accounts_are}
+use Rattle.office_checks.proofs.Lists.{each_mapped}
 use Rattle.office_checks.proofs.Told.{limit_so}
 use Rattle.office_checks.proofs.Keyed.{placed_once, typed_placed_once, listed_once, typed_listed_once, rows_same, first_or_none, key_is, side_is, line_there}
 
@@ -58,13 +61,8 @@ IsCoded account = IsTrue (is_party_code account.0)
 pub all_coded : (rows : List PartnerRow) → list_all (λ (row : PartnerRow). is_party_code (string_bytes row.code)) rows ≡ true → All IsCoded (accounts_in rows)
 all_coded rows e = All-map IsCoded coded_row rows (AllPass-from_list_all (λ (row : PartnerRow). is_party_code (string_bytes row.code)) rows e)
 
-mapped : {A B : Type 0} (P : B → Type 0) (f : A → B) (xs : List A) → All P (map f xs) → All (λ x. P (f x)) xs
-mapped P f xs all k d low =
-    let within : length (map f xs) ≡ length xs = length-map xs f in
-    subst P (get_or-map f xs k d (f d) low) (all k (f d) (omega arith))
-
 coded_all : (rows : List PartnerRow) → All IsCoded (accounts_in rows) → list_all (λ (row : PartnerRow). is_party_code (string_bytes row.code)) rows ≡ true
-coded_all rows all = list_all-from_AllPass (λ (row : PartnerRow). is_party_code (string_bytes row.code)) rows (mapped IsCoded coded_row rows all)
+coded_all rows all = list_all-from_AllPass (λ (row : PartnerRow). is_party_code (string_bytes row.code)) rows (each_mapped IsCoded coded_row rows all)
 
 -- ---- slots
 
@@ -110,7 +108,7 @@ lines_formed rows sound call side container line at = elim (first_or_none call s
 
 -- ---- the terminal
 
-module _ (tables : OpenedTables) (content : SetupContent) (state : TerminalState) (office : IsOffice (opened_rows tables) content state) where
+module _ (closed : ClosedContent) (tables : OpenedTables) (content : SetupContent) (state : TerminalState) (office : IsOwnOffice closed (opened_rows tables) content state) where
   pub settings_of_office : AreSettings (map setting_content tables.settings.items) content
   settings_of_office = record { terminal = office.given.terminal; codes = office.given.codes; limit = office.given.limit; are = office.settings }
 
@@ -165,11 +163,11 @@ module _ (tables : OpenedTables) (content : SetupContent) (state : TerminalState
       office.formed.lines (call_content (get_or tables.lines.items k d).call) (get_or tables.lines.items k d).side (get_or tables.lines.items k d).container (line_content (get_or tables.lines.items k d))
       (ap (λ (l : Lines). finite_map.get l (key_of (get_or tables.lines.items k d))) rows_of_office.lines_are ∙ there)
 
-  pub terminal_of_office : (limit : ℕ) → content.visit_limit ≡ limit → AreTerminal (length tables.partners.items) limit tables.blocks.items tables.visits.items tables.places.items tables.lines.items state
+  pub terminal_of_office : (limit : ℕ) → content.visit_limit ≡ limit → AreTerminal closed.newest_closed (length tables.partners.items) limit tables.blocks.items tables.visits.items tables.places.items tables.lines.items state
   terminal_of_office limit same =
       let P : ℕ → Type 0 = λ n. AreRowsOf tables.blocks.items n tables.visits.items tables.places.items tables.lines.items state in
-      let G : List VisitContent → Type 0 = GoOneByOne 1 in
-      record { visits_sound = visits_of_office; one_by_one = subst G rows_of_office.visits_are office.one_by_one; lines_sound = lines_of_office; rows = subst P same rows_of_office }
+      let G : List VisitContent → Type 0 = AreOwnVisits closed.newest_closed in
+      record { visits_sound = visits_of_office; own_visits = subst G rows_of_office.visits_are office.own_visits; lines_sound = lines_of_office; rows = subst P same rows_of_office }
 
 -- ---- one limit
 
@@ -178,25 +176,25 @@ one_limit one other text low high e f = decimal_injective one other (omega arith
 
 -- ---- refusals
 
-pub tables_refused : (tables : OpenedTables) (said : SetupContent) (fault : RestoreFault) → AreSettings (map setting_content tables.settings.items) said
-    → RefusesTerminal (length tables.partners.items) said.visit_limit tables.blocks.items tables.visits.items tables.places.items tables.lines.items fault → RefusesTables (opened_rows tables) fault
-tables_refused tables said Memory settings refuses = tt
-tables_refused tables said Unsound settings refuses = λ content state office.
-    let mine = settings_of_office tables content state office in
+pub tables_refused : (closed : ClosedContent) (tables : OpenedTables) (said : SetupContent) (fault : RestoreFault) → AreSettings (map setting_content tables.settings.items) said
+    → RefusesTerminal closed.newest_closed (length tables.partners.items) said.visit_limit tables.blocks.items tables.visits.items tables.places.items tables.lines.items fault → RefusesTables closed (opened_rows tables) fault
+tables_refused closed tables said Memory settings refuses = tt
+tables_refused closed tables said Unsound settings refuses = λ content state office.
+    let mine = settings_of_office closed tables content state office in
     let same : content.visit_limit ≡ said.visit_limit = one_limit content.visit_limit said.visit_limit (decimal content.visit_limit) mine.limit.1 settings.limit.1 refl
     (same_Some (decimal content.visit_limit) (decimal said.visit_limit) (sym (limit_so (map setting_content tables.settings.items) content mine.are) ∙ limit_so (map setting_content tables.settings.items) said settings.are)) in
-    refuses state (terminal_of_office tables content state office said.visit_limit same)
+    refuses state (terminal_of_office closed tables content state office said.visit_limit same)
 
-pub settings_refused : (tables : OpenedTables) (fault : RestoreFault) → RefusesSettings (map setting_content tables.settings.items) fault → RefusesTables (opened_rows tables) fault
-settings_refused tables Memory refuses = tt
-settings_refused tables Unsound refuses = λ content state office. refuses content (settings_of_office tables content state office)
+pub settings_refused : (closed : ClosedContent) (tables : OpenedTables) (fault : RestoreFault) → RefusesSettings (map setting_content tables.settings.items) fault → RefusesTables closed (opened_rows tables) fault
+settings_refused closed tables Memory refuses = tt
+settings_refused closed tables Unsound refuses = λ content state office. refuses content (settings_of_office closed tables content state office)
 
 -- ---- the office
 
-module _ (tables : OpenedTables) (content : SetupContent) (state : TerminalState) (settings : AreSettings (map setting_content tables.settings.items) content) (accounts : AreWholeAccounts tables.partners.items)
-    (partners : content.partners ≡ accounts_in tables.partners.items) (blocks : content.blocks ≡ tables.blocks.items) (kept : AreKept (map partner_content tables.partners.items) (map number_content tables.numbers.items))
+module _ (closed : ClosedContent) (tables : OpenedTables) (content : SetupContent) (state : TerminalState) (settings : AreSettings (map setting_content tables.settings.items) content) (accounts : AreWholeAccounts tables.partners.items)
+    (partners : content.partners ≡ accounts_in tables.partners.items) (blocks : content.blocks ≡ tables.blocks.items) (numbers : AreOwnNumbers closed.last_closed (map partner_content tables.partners.items) (map number_content tables.numbers.items))
     (by_letter : AreByLetter tables.blocks.items)
-    (terminal : AreTerminal (length tables.partners.items) content.visit_limit tables.blocks.items tables.visits.items tables.places.items tables.lines.items state) where
+    (terminal : AreTerminal closed.newest_closed (length tables.partners.items) content.visit_limit tables.blocks.items tables.visits.items tables.places.items tables.lines.items state) where
   count_is : length content.partners ≡ length tables.partners.items
   count_is = ap length partners ∙ length-map tables.partners.items coded_row
 
@@ -209,7 +207,7 @@ module _ (tables : OpenedTables) (content : SetupContent) (state : TerminalState
   named_slot : (container : BoxNumber) (s : Placement) → placement_of state.yard.boxes container ≡ Some s → IsNamed s.slot
   named_slot container s at = planned_named state.yard.plan s.slot terminal.rows.whole.plan (terminal.rows.whole.sound.in_plan container s at)
 
-  pub office_of : IsOffice (opened_rows tables) content state
+  pub office_of : IsOwnOffice closed (opened_rows tables) content state
   office_of =
       let A : List (List ℕ × PartnerKind) → Type 0 = λ l. AreAccounts 1 (map partner_content tables.partners.items) l in
       let C : List (List ℕ × PartnerKind) → Type 0 = All IsCoded in
@@ -233,11 +231,11 @@ module _ (tables : OpenedTables) (content : SetupContent) (state : TerminalState
         settings = settings.are;
         blocks = sym blocks;
         accounts = subst A (sym partners) accounts.numbered;
-        kept = kept;
+        own_numbers = record { in_order = numbers.in_order; below = numbers.below; kept = numbers.kept };
         plan = terminal.rows.plan_is ∙ sym blocks;
         limit = terminal.rows.limit_is;
         whole = terminal.rows.whole;
-        one_by_one = (let G : List VisitContent → Type 0 = GoOneByOne 1 in subst G (sym terminal.rows.visits_are) terminal.one_by_one);
+        own_visits = (let G : List VisitContent → Type 0 = AreOwnVisits closed.newest_closed in subst G (sym terminal.rows.visits_are) terminal.own_visits);
         formed = record {
           visits = λ visit inside. (sound_visit visit inside).formed;
           lines = λ call side container line at. lines_formed tables.lines.items terminal.lines_sound call side container line (ap (λ (l : Lines). finite_map.get l (line_key call side container)) (sym terminal.rows.lines_are) ∙ at);

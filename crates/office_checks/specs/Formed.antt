@@ -1,5 +1,5 @@
 -- The forms of rows: what the code relies on, and no caller has to read.
-use Rattle.std.specs.Prelude.{ℕ, ◌≤◌, List, map, Option, None, Some, IsTrue, All}
+use Rattle.std.specs.Prelude.{◌≡◌, ℕ, ◌+◌, ◌<◌, ◌≤◌, List, map, Option, None, Some, IsTrue, All}
 use Rattle.std.specs.List.Sorted.{IsNonDecreasingBy}
 use Rattle.box6346.specs.SlotName.{IsNamed}
 use Rattle.yard_core.specs.declared.plan.Block.{Block}
@@ -14,12 +14,12 @@ use Rattle.terminal_core.specs.declared.restoring.RestoreFault.TheVariants.{Unso
 use Rattle.terminal_core.specs.declared.visits.Visit.{Visit}
 use Rattle.terminal_core.specs.Forms.{IsSource, IsFormedVisit, IsFormedLine}
 use Rattle.terminal_core.specs.Listings.{line_content}
-use Rattle.terminal_core.specs.OneByOne.{GoOneByOne}
 use Rattle.terminal_core.specs.Restoring.{AreRowsOf}
 use Rattle.terminal_core.specs.Rows.{VisitContent, visit_content}
 use Rattle.terminal_core.specs.State.{TerminalState}
 use Rattle.edi_messages.specs.Owned.{call_content}
 use Rattle.office_rows.specs.Office.{HasAccounts}
+use Rattle.office_checks.specs.Checks.{AreOwnVisits}
 
 -- the source has its form, and its partner is among so many
 abbrev pub IsSoundSource : ℕ → Source → Type 0
@@ -54,17 +54,22 @@ AreSoundLines lines = All IsSoundLine lines
 abbrev pub AreByLetter : List Block → Type 0
 AreByLetter blocks = IsNonDecreasingBy (λ (block : Block). block.letter) blocks
 
+-- a visit's number is above that of the visit before it, and beyond the newest closing the next one
+abbrev pub MayFollow : (newest_closed before number : ℕ) → Type 0
+MayFollow newest_closed before number = (before < number) × (newest_closed + 1 < number → number ≡ before + 1)
+
 -- the rows of visits, places and lines are those of the state, visits and lines have their forms, and the numbers of
--- visits go on one by one from 1
-pub record AreTerminal (count limit : ℕ) (blocks : List Block) (visits : List Visit) (places : List Place)
+-- visits go on as a store's own do
+pub record AreTerminal (newest_closed count limit : ℕ) (blocks : List Block) (visits : List Visit) (places : List Place)
     (lines : List Listing) (state : TerminalState) : Type 0 where
   pub visits_sound : AreSoundVisits count visits
-  pub one_by_one : GoOneByOne 1 (map visit_content visits)
+  pub own_visits : AreOwnVisits newest_closed (map visit_content visits)
   pub lines_sound : AreSoundLines lines
   pub rows : AreRowsOf blocks limit visits places lines state
 
 -- why they are not: they are those of no state, or memory was refused
-abbrev pub RefusesTerminal : ℕ → ℕ → List Block → List Visit → List Place → List Listing → RestoreFault → Type 0
-RefusesTerminal count limit blocks visits places lines Unsound =
-    (state : TerminalState) → ¬ AreTerminal count limit blocks visits places lines state
-RefusesTerminal count limit blocks visits places lines Memory = Unit {0}
+abbrev pub RefusesTerminal : (newest_closed count limit : ℕ) → List Block → List Visit → List Place → List Listing →
+    RestoreFault → Type 0
+RefusesTerminal newest_closed count limit blocks visits places lines Unsound =
+    (state : TerminalState) → ¬ AreTerminal newest_closed count limit blocks visits places lines state
+RefusesTerminal newest_closed count limit blocks visits places lines Memory = Unit {0}

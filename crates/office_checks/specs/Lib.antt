@@ -1,4 +1,7 @@
 pub mod Contents
+pub mod Closed
+pub mod Checks
+pub mod OwnOffice
 pub mod Accounts
 pub mod Owned
 pub mod Said

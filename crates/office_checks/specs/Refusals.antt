@@ -4,9 +4,11 @@ use Rattle.terminal_core.specs.declared.restoring.RestoreFault.TheVariants.{Unso
 use Rattle.terminal_core.specs.State.{TerminalState}
 use Rattle.office_setup.specs.Setups.{SetupContent}
 use Rattle.office_rows.specs.Opened.{OpenedRows}
-use Rattle.office_rows.specs.Office.{IsOffice}
+use Rattle.office_checks.specs.Closed.{ClosedContent}
+use Rattle.office_checks.specs.OwnOffice.{IsOwnOffice}
 
 -- they are the rows of no set-up and terminal, or memory was refused
-abbrev pub RefusesTables : OpenedRows → RestoreFault → Type 0
-RefusesTables rows Unsound = (content : SetupContent) (state : TerminalState) → ¬ IsOffice rows content state
-RefusesTables rows Memory = Unit {0}
+abbrev pub RefusesTables : ClosedContent → OpenedRows → RestoreFault → Type 0
+RefusesTables closed rows Unsound = (content : SetupContent) (state : TerminalState) →
+    ¬ IsOwnOffice closed rows content state
+RefusesTables closed rows Memory = Unit {0}

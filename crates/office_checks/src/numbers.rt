@@ -1,15 +1,19 @@
 ghost use Rattle.std.specs.List.{range_with_len, list_all};
-ghost use Rattle.std.specs.Prelude.{◌≡◌, ◌<◌, ◌≤◌, ◌+◌, ◌-◌, ◌==◌, ◌↔◌, IsTrue, map, length, take, drop, true, false, ℕ, IfOk, Some, slice_get, string_bytes};
+ghost use Rattle.std.specs.Prelude.{◌≡◌, ◌<◌, ◌≤◌, ◌+◌, ◌-◌, ◌^◌, ◌==◌, ◌↔◌, IsTrue, All, map, not, nat_le, length, take, drop, true, false, ℕ, IfOk, Some, slice_get, string_bytes};
 ghost use Rattle.edi_syntax.specs.Numbers.{last_number};
 ghost use Rattle.office_checks.specs.Accounts.{accounts_in, AreWholeAccounts};
+ghost use Rattle.office_checks.specs.Checks.{IsKeptBeyond, AreKeptBeyond, numbers_beyond};
+ghost use Rattle.office_checks.specs.Closed.{last_closed};
 ghost use Rattle.office_checks.specs.Contents.{number_content, partner_content};
+ghost use Rattle.office_checks.specs.OwnOffice.{AreOwnNumbers, AreInOrder, ComesAfter, IsClosedBelow, IsInOrder};
 ghost use Rattle.office_checks.specs.Owned.{AreOwn, BeginsElse};
 ghost use Rattle.office_checks.specs.declared.numbers.PartnerRow.{PartnerRow};
-ghost use Rattle.office_rows.specs.Office.{taken_numbers, AreWaiting, IsKeptFor, AreKept, AreAccounts};
+ghost use Rattle.office_rows.specs.Office.{AreWaiting, AreAccounts};
 ghost use Rattle.office_setup.specs.Given.{is_party_code, AreDistinct};
 ghost use Rattle.office_setup.specs.Limits.{most_partners};
 ghost use Rattle.office_setup.specs.Setups.{account_contents};
 
+use crate::closed::Closed;
 use crate::settings::are_same;
 use edi_messages::PartnerKind;
 use edi_syntax::LAST_NUMBER;
@@ -27,16 +31,95 @@ pub struct NumberRow {
     pub is_taken: bool,
 }
 
-/// Whether the interchanges that are kept are each partner's: those below its next number, which were taken, and above
-/// it those that wait.
-pub(crate) fn are_kept(partners: &[PartnerRow], numbers: &[NumberRow]) -> bool
+/// Whether the interchanges that are kept stand in order, and are each partner's beyond what is closed.
+pub(crate) fn are_own_numbers(
+    closed: &Closed,
+    partners: &[PartnerRow],
+    numbers: Vec<NumberRow>,
+) -> bool
     requires { AreAccounts 1 (map partner_content partners.now) (accounts_in partners.now) }
-    ensures { IsTrue result ↔ AreKept (map partner_content partners.now) (map number_content numbers.now) }
+    ensures { IsTrue result ↔ AreOwnNumbers (last_closed closed.now) (map partner_content partners.now)
+        (map number_content numbers.items) }
+{
+    if !are_in_order(partners.len(), &numbers) {
+        return false;
+    }
+    let mut beyond = numbers;
+    drop_closed(closed, &mut beyond);
+    are_closed_below(closed, partners) && are_kept(closed, partners, &beyond)
+}
+
+/// Whether interchanges stand by partner and number, none twice, each of one of so many partners.
+fn are_in_order(count: usize, numbers: &[NumberRow]) -> bool
+    ensures { IsTrue result ↔ AreInOrder count 1 0 (map number_content numbers.now) }
+{
+    let mut partner = 1;
+    let mut number = 0;
+    for row in numbers {
+        if !is_in_order(count, partner, number, row) {
+            return false;
+        }
+        partner = row.partner;
+        number = row.number;
+    }
+    true
+}
+
+/// Whether an interchange comes after that number of that partner, and is of one of so many.
+fn is_in_order(count: usize, partner: u32, number: u32, row: &NumberRow) -> bool
+    ensures { IsTrue result ↔ IsInOrder count partner number (number_content row.now) }
+{
+    comes_after(partner, number, row) && row.partner as usize <= count && row.number <= LAST_NUMBER
+}
+
+fn comes_after(partner: u32, number: u32, row: &NumberRow) -> bool
+    ensures { IsTrue result ↔ ComesAfter partner number (number_content row.now) }
+{
+    if row.partner == partner {
+        number < row.number
+    } else {
+        partner < row.partner && 1 <= row.number
+    }
+}
+
+/// Drops the interchanges that are closed.
+fn drop_closed(closed: &Closed, numbers: &mut Vec<NumberRow>)
+    ensures { map number_content numbers.new.items
+        ≡ numbers_beyond (last_closed closed.now) (map number_content numbers.old.items) }
+{
+    numbers.retain(|row| is_beyond(closed, row));
+}
+
+/// Whether an interchange is beyond the last one of its partner that is closed.
+fn is_beyond(closed: &Closed, row: &NumberRow) -> bool
+    ensures { result ≡ not (nat_le row.now.number (last_closed closed.now row.now.partner)) }
+{
+    closed.last_of(row.partner) < row.number
+}
+
+/// Whether of each partner the last number that is closed is below the one that may be taken next.
+fn are_closed_below(closed: &Closed, partners: &[PartnerRow]) -> bool
+    ensures { IsTrue result ↔ All (IsClosedBelow (last_closed closed.now)) (map partner_content partners.now) }
+{
+    for partner in partners {
+        if partner.next <= closed.last_of(partner.id) {
+            return false;
+        }
+    }
+    true
+}
+
+/// Whether interchanges beyond what is closed are each partner's: those below its next number, which were taken, and
+/// above it those that wait.
+fn are_kept(closed: &Closed, partners: &[PartnerRow], numbers: &[NumberRow]) -> bool
+    requires { AreAccounts 1 (map partner_content partners.now) (accounts_in partners.now) }
+    ensures { IsTrue result ↔
+        AreKeptBeyond (last_closed closed.now) (map partner_content partners.now) (map number_content numbers.now) }
 {
     let mut rest = numbers;
     for partner in partners {
         let (own, others) = rest.split_at(own_count(partner.id, rest));
-        if !is_kept_for(partner, own) {
+        if !is_kept_for(closed, partner, own) {
             return false;
         }
         rest = others;
@@ -58,28 +141,32 @@ fn own_count(partner: u32, numbers: &[NumberRow]) -> usize
     numbers.len()
 }
 
-/// Whether these are the interchanges that are kept for the partner.
-fn is_kept_for(partner: &PartnerRow, numbers: &[NumberRow]) -> bool
+/// Whether these are the interchanges that are kept for the partner beyond the last one that is closed.
+fn is_kept_for(closed: &Closed, partner: &PartnerRow, numbers: &[NumberRow]) -> bool
     requires { 1 ≤ partner.now.next }
-    ensures { IsTrue result ↔ IsKeptFor (partner_content partner.now) (map number_content numbers.now) }
+    ensures { IsTrue result ↔
+        IsKeptBeyond (last_closed closed.now) (partner_content partner.now) (map number_content numbers.now) }
 {
-    let count = (partner.next - 1) as usize;
+    let last = closed.last_of(partner.id);
+    let count = (partner.next - 1).saturating_sub(last) as usize;
     if numbers.len() < count {
         return false;
     }
     let (taken, waiting) = numbers.split_at(count);
-    are_taken(partner.id, taken) && are_waiting(partner.id, partner.next, waiting)
+    are_taken(partner.id, last as usize + 1, taken)
+        && are_waiting(partner.id, partner.next, waiting)
 }
 
-/// Whether these are the interchanges of the partner from 1 on, and taken.
-fn are_taken(partner: u32, numbers: &[NumberRow]) -> bool
+/// Whether these are the interchanges of the partner from that number on, and taken.
+fn are_taken(partner: u32, first: usize, numbers: &[NumberRow]) -> bool
+    requires { first ≤ 2 ^ 32 }
     ensures { IsTrue result ↔
         (map number_content numbers.now
         ≡ map (λ number. record { partner = partner; number = number; is_taken = true })
-        (range_with_len 1 (length numbers.now))) }
+        (range_with_len first (length numbers.now))) }
 {
     for (index, row) in numbers.iter().enumerate() {
-        if !is_taken(partner, index + 1, row) {
+        if !is_taken(partner, first + index, row) {
             return false;
         }
     }

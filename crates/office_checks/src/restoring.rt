@@ -1,13 +1,15 @@
 ghost use Rattle.std.specs.Prelude.{IfOk, IfErr, length};
+ghost use Rattle.office_checks.specs.Closed.{closed_content};
 ghost use Rattle.office_checks.specs.Contents.{opened_rows};
 ghost use Rattle.office_checks.specs.Formed.{AreTerminal, RefusesTerminal};
+ghost use Rattle.office_checks.specs.OwnOffice.{IsOwnOffice};
 ghost use Rattle.office_checks.specs.Refusals.{RefusesTables};
-ghost use Rattle.office_rows.specs.Office.{IsOffice};
 ghost use Rattle.office_setup.specs.Setups.{setup_content};
 
-use crate::numbers::{NumberRow, PartnerRow, accounts_of, are_accounts, are_kept};
+use crate::closed::Closed;
+use crate::numbers::{NumberRow, PartnerRow, accounts_of, are_accounts, are_own_numbers};
 use crate::settings::{
-    Setting, are_by_letter, are_one_by_one, are_sound_lines, are_sound_visits, read_settings,
+    Setting, are_by_letter, are_own_visits, are_sound_lines, are_sound_visits, read_settings,
 };
 use office_setup::Setup;
 use std::alloc::Global;
@@ -33,11 +35,16 @@ pub struct OpenedTables {
     pub blocks: Vec<Block>,
 }
 
-/// The set-up and the terminal of an office, whose rows these are. Unsound if they are those of no office, and
-/// Memory. What was handed in is given up.
-pub fn restore(alloc: Global, tables: OpenedTables) -> Result<(Setup, Terminal), RestoreFault>
-    ensures ok { IfOk result (λ p. IsOffice (opened_rows tables) (setup_content p.0) p.1) }
-    ensures refused { IfErr result (RefusesTables (opened_rows tables)) }
+/// The set-up and the terminal of an office, whose rows these are beyond what is closed. Unsound if they are those of no
+/// office, and Memory. The tables are given up.
+pub fn restore(
+    alloc: Global,
+    tables: OpenedTables,
+    closed: &Closed,
+) -> Result<(Setup, Terminal), RestoreFault>
+    ensures ok { IfOk result
+        (λ p. IsOwnOffice (closed_content closed.now) (opened_rows tables) (setup_content p.0) p.1) }
+    ensures refused { IfErr result (RefusesTables (closed_content closed.now) (opened_rows tables)) }
 {
     let OpenedTables {
         partners,
@@ -52,7 +59,7 @@ pub fn restore(alloc: Global, tables: OpenedTables) -> Result<(Setup, Terminal),
     if !are_accounts(&partners) {
         return Err(RestoreFault::Unsound);
     }
-    if !are_kept(&partners, &numbers) {
+    if !are_own_numbers(closed, &partners, numbers) {
         return Err(RestoreFault::Unsound);
     }
     if !are_by_letter(&blocks) {
@@ -60,6 +67,7 @@ pub fn restore(alloc: Global, tables: OpenedTables) -> Result<(Setup, Terminal),
     }
     let terminal = restore_terminal(
         alloc,
+        closed.newest_visit,
         partners.len(),
         said.visit_limit,
         &blocks,
@@ -81,6 +89,7 @@ pub fn restore(alloc: Global, tables: OpenedTables) -> Result<(Setup, Terminal),
 /// The terminal of rows that have their forms.
 fn restore_terminal(
     alloc: Global,
+    newest_closed: u32,
     count: usize,
     visit_limit: u32,
     blocks: &[Block],
@@ -88,14 +97,14 @@ fn restore_terminal(
     places: Vec<Place>,
     lines: Vec<Listing>,
 ) -> Result<Terminal, RestoreFault>
-    ensures ok { IfOk result (AreTerminal count visit_limit blocks.now visits.items places.items lines.items) }
+    ensures ok { IfOk result (AreTerminal newest_closed count visit_limit blocks.now visits.items places.items lines.items) }
     ensures refused { IfErr result
-        (RefusesTerminal count visit_limit blocks.now visits.items places.items lines.items) }
+        (RefusesTerminal newest_closed count visit_limit blocks.now visits.items places.items lines.items) }
 {
     if !are_sound_visits(count, &visits) {
         return Err(RestoreFault::Unsound);
     }
-    if !are_one_by_one(&visits) {
+    if !are_own_visits(newest_closed, &visits) {
         return Err(RestoreFault::Unsound);
     }
     if !are_sound_lines(&lines) {

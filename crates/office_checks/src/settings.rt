@@ -8,12 +8,12 @@ ghost use Rattle.edi_messages.specs.Forms.{is_name_if_any, IsFormedCall};
 ghost use Rattle.edi_messages.specs.Owned.{call_content};
 ghost use Rattle.edi_messages.specs.Texts.{is_name};
 ghost use Rattle.edi_moments.specs.Moments.{is_moment};
+ghost use Rattle.office_checks.specs.Checks.{AreOwnVisits};
 ghost use Rattle.office_checks.specs.Contents.{setting_content};
-ghost use Rattle.office_checks.specs.Formed.{IsSoundSource, IsSoundArrival, IsSoundDeparture, IsSoundExit, IsSoundVisit, IsSoundLine, AreSoundVisits, AreSoundLines, AreByLetter};
+ghost use Rattle.office_checks.specs.Formed.{IsSoundSource, IsSoundArrival, IsSoundDeparture, IsSoundExit, IsSoundVisit, IsSoundLine, AreSoundVisits, AreSoundLines, AreByLetter, MayFollow};
 ghost use Rattle.office_checks.specs.Said.{setting_names, names_of, values_of, code_values, set_up_with, AreSettings, RefusesSettings};
 ghost use Rattle.office_setup.specs.Limits.{most_visits};
 ghost use Rattle.terminal_core.specs.Forms.{IsFormedPort};
-ghost use Rattle.terminal_core.specs.OneByOne.{GoOneByOne};
 ghost use Rattle.terminal_core.specs.Rows.{visit_content};
 
 use box6346::{BoxNumber, SizeType, Slot};
@@ -81,16 +81,25 @@ pub(crate) fn are_sound_visits(count: usize, visits: &[Visit]) -> bool
     true
 }
 
-/// Whether visits are numbered 1, 2, .. as they stand.
-pub(crate) fn are_one_by_one(visits: &[Visit]) -> bool
-    ensures { IsTrue result ↔ GoOneByOne 1 (map visit_content visits.now) }
+/// Whether the numbers of visits rise, and go on one by one after the newest closing.
+pub(crate) fn are_own_visits(newest_closed: u32, visits: &[Visit]) -> bool
+    ensures { IsTrue result ↔ AreOwnVisits newest_closed (map visit_content visits.now) }
 {
-    for (index, visit) in visits.iter().enumerate() {
-        if visit.number as usize != index + 1 {
+    let mut before = 0;
+    for visit in visits {
+        if !may_follow(newest_closed, before, visit.number) {
             return false;
         }
+        before = visit.number;
     }
     true
+}
+
+/// Whether the number of a visit may follow that of the visit before it.
+fn may_follow(newest_closed: u32, before: u32, number: u32) -> bool
+    ensures { IsTrue result ↔ MayFollow newest_closed before number }
+{
+    before < number && (number - 1 <= newest_closed || number - 1 == before)
 }
 
 fn is_sound_visit(count: usize, visit: &Visit) -> bool

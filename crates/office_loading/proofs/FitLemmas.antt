@@ -2,7 +2,7 @@
 use Rattle.std.proofs.Common.{◌≡◌, ℕ, zero, suc, ◌+◌, ◌-◌, ◌<◌, ◌≤◌, ◌^◌, Bool, true, false, ◌||◌, ◌==◌, List, [], ◌∷◌, ◌++◌, map, length, Option, None, Some, IsTrue, sym, subst, arith, slice_index_or}
 use Rattle.std.specs.Prelude.{IsUtf8}
 use Rattle.std.specs.Str.{IsAscii}
-use Rattle.std.specs.List.{AllByRecursion, list_all, range_with_len}
+use Rattle.std.specs.List.{AllByRecursion, list_all}
 use Rattle.std.proofs.lemmas.Bool.{and_parts}
 use Rattle.std.proofs.lemmas.Bool.Decides.{nat_tests}
 use Rattle.std.proofs.lemmas.Str.{IsUtf8-from_ascii, IsUtf8-nil}
@@ -23,7 +23,8 @@ use Rattle.yard_core.specs.Plan.{IsSized}
 use Rattle.office_setup.specs.Given.{is_party_byte, is_party_code}
 use Rattle.office_rows.specs.Rows.{Partner}
 use Rattle.office_rows.specs.Opened.{NumberKept}
-use Rattle.office_rows.specs.Office.{AreAccounts, AreWaiting, AreKept, taken_numbers}
+use Rattle.office_rows.specs.Office.{AreAccounts}
+use Rattle.office_checks.specs.OwnOffice.{AreInOrder}
 use Rattle.office_loading.specs.Fits.{FitsPartner, FitsNumber, FitsSource, FitsExit, FitsVisit, FitsBlock}
 
 -- ---- texts
@@ -74,35 +75,12 @@ partners_fit id (p ∷ partners) (a ∷ accounts) are few coded =
 
 -- ---- interchanges
 
-taken_fit : (partner from count : ℕ) → partner ≤ 1000 → from + count ≤ 1000000000 → AllByRecursion FitsNumber (map (λ (number : ℕ). record { partner = partner; number = number; is_taken = true }) (range_with_len from count))
-taken_fit partner from zero small few = tt
-taken_fit partner from (suc count) small few = (record { partner = omega arith; number = omega arith }, taken_fit partner (from + 1) count small (omega arith))
-
-waiting_fit : (partner above : ℕ) (numbers : List NumberKept) → partner ≤ 1000 → AreWaiting partner above numbers → AllByRecursion FitsNumber numbers
-waiting_fit partner above [] small wait = tt
-waiting_fit partner above (n ∷ numbers) small wait =
-    let is = wait.0 in
-    let high = wait.3 in
-    (record { partner = omega arith; number = omega arith }, waiting_fit partner n.number numbers small wait.4)
-
-all_joined : {X : Type 0} (P : X → Type 0) (xs ys : List X) → AllByRecursion P xs → AllByRecursion P ys → AllByRecursion P (xs ++ ys)
-all_joined P [] ys p q = q
-all_joined P (x ∷ xs) ys p q = (p.0, all_joined P xs ys p.1 q)
-
-pub numbers_fit : (id : ℕ) (partners : List Partner) (accounts : List (List ℕ × PartnerKind)) (numbers : List NumberKept) → AreAccounts id partners accounts → id + length accounts ≤ 1000 → AreKept partners numbers → AllByRecursion FitsNumber numbers
-numbers_fit id [] accounts numbers are few kept = subst (AllByRecursion FitsNumber) (sym kept) tt
-numbers_fit id (p ∷ partners) [] numbers are few kept = absurd are
-numbers_fit id (p ∷ partners) (a ∷ accounts) numbers are few kept =
-    let own = kept.0 in
-    let others = kept.1 in
-    let held = kept.3 in
-    let is = are.0 in
-    let low = are.3 in
-    let high = are.4 in
-    let taken = taken_fit p.id 1 (p.next - 1) (omega arith) (omega arith) in
-    let wait = waiting_fit p.id p.next held.waiting (omega arith) held.wait in
-    let mine : AllByRecursion FitsNumber own = subst (AllByRecursion FitsNumber) (sym held.are) (all_joined FitsNumber (taken_numbers p) held.waiting taken wait) in
-    subst (AllByRecursion FitsNumber) (sym kept.2) (all_joined FitsNumber own others mine (numbers_fit (id + 1) partners accounts others are.5 (omega arith) kept.4))
+pub numbers_fit : (count partner number : ℕ) (numbers : List NumberKept) → count ≤ 999 → AreInOrder count partner number numbers → AllByRecursion FitsNumber numbers
+numbers_fit count partner number [] few order = tt
+numbers_fit count partner number (n ∷ numbers) few order =
+    let within : n.partner ≤ count = order.0.1 in
+    let high : n.number ≤ 999999999 = order.0.2 in
+    (record { partner = omega arith; number = omega arith }, numbers_fit count n.partner n.number numbers few order.1)
 
 -- ---- blocks
 

@@ -1,7 +1,8 @@
 -- The rows of an office can be read, and in one way.
-use Rattle.std.proofs.Common.{◌≡◌, ◌+◌, ◌<◌, ◌≤◌, ◌^◌, List, [], ◌∷◌, map, length, Contains, refl, sym, ap, ap₂, subst, ◌∙◌, arith, Equal}
+use Rattle.std.proofs.Common.{◌≡◌, ℕ, suc, ◌+◌, ◌<◌, ◌≤◌, ◌^◌, List, [], ◌∷◌, map, length, Contains, refl, sym, ap, ap₂, subst, ◌∙◌, arith, Equal}
 use Rattle.std.specs.List.{AllByRecursion}
 use Rattle.box6346.specs.declared.box_number.BoxNumber.{BoxNumber}
+use Rattle.edi_messages.specs.declared.codes.PartnerKind.{PartnerKind}
 use Rattle.sqlite.specs.Effect.{Database}
 use Rattle.sqlite_rules.specs.Lists.{Has}
 use Rattle.sqlite_rules.proofs.ListLemmas.{has_contained, contains_had}
@@ -13,16 +14,19 @@ use Rattle.terminal_core.specs.declared.restoring.RestoreFault.{RestoreFault}
 use Rattle.terminal_core.specs.declared.restoring.RestoreFault.TheVariants as restoring
 use Rattle.office_setup.specs.Setups.{SetupContent}
 use Rattle.office_rows.specs.Tables as table
-use Rattle.office_rows.specs.Rows.{Interchange}
+use Rattle.office_rows.specs.Rows.{Partner, Interchange}
 use Rattle.office_rows.specs.Values.{partner_values, visit_values, place_values, line_values, setting_values, block_values}
 use Rattle.office_rows.specs.ByKey.{standing_by, lines_by}
 use Rattle.office_rows.specs.Opened.{number_kept, reply_values, OpenedRows, Shows}
-use Rattle.office_rows.specs.Office.{IsOffice}
+use Rattle.office_rows.specs.Office.{AreAccounts}
+use Rattle.office_checks.specs.Closed.{ClosedContent, nothing_closed}
+use Rattle.office_checks.specs.OwnOffice.{IsOwnOffice}
 use Rattle.office_checks.specs.Refusals.{RefusesTables}
+use Rattle.office_checks.proofs.Alike.{own_office, whole_office}
 use Rattle.office_loading.specs.Fits.{FitsPartner, FitsVisit, FitsPlace, FitsLine, FitsSetting, FitsBlock}
 use Rattle.office_tables.specs.declared.table_fault.TableFault.{TableFault}
 use Rattle.office_tables.specs.Faults.{IsOfStoreOr}
-use Rattle.office_loading.specs.Tables.{FitsRows, FailsTables, FailsToLoad, ShowsNoOffice, ShowsUnfit, HasVersion, fault_of_restoring}
+use Rattle.office_loading.specs.Tables.{FitsRows, FailsTables, FailsToLoad, FailsToLoadOwn, Loads, LoadsOwn, ShowsNoOffice, ShowsNoOwnOffice, ShowsUnfit, HasVersion, fault_of_restoring}
 use Rattle.office_loading.proofs.OrderLemmas.{all_in}
 use Rattle.office_loading.proofs.VersionLemmas.{fails_weaker}
 use Rattle.office_loading.proofs.KeyLemmas.{number_tied, text_tied, one_showing, one_reading}
@@ -45,7 +49,13 @@ replies_same (i ∷ is) (j ∷ js) same =
     let reply : i.reply ≡ j.reply = cc in
     ap₂ (λ a l. a ∷ l) (λ k. number_kept (record { partner = partner k; number = n k; body = []; reply = reply k })) (replies_same is js rest)
 
-module _ (rows : OpenedRows) (content : SetupContent) (state : TerminalState) (office : IsOffice rows content state) where
+many : (id : ℕ) (partners : List Partner) (accounts : List (List ℕ × PartnerKind)) → AreAccounts id partners accounts → length partners ≡ length accounts
+many id [] [] are = refl
+many id [] (a ∷ accounts) are = absurd are
+many id (p ∷ partners) [] are = absurd are
+many id (p ∷ partners) (a ∷ accounts) are = ap suc (many (id + 1) partners accounts are.5)
+
+module _ (closed : ClosedContent) (rows : OpenedRows) (content : SetupContent) (state : TerminalState) (office : IsOwnOffice closed rows content state) where
   visits_are : rows.visits ≡ state.visits
   visits_are = ap (λ (t : TerminalRows). t.visits) office.terminal
 
@@ -57,6 +67,9 @@ module _ (rows : OpenedRows) (content : SetupContent) (state : TerminalState) (o
 
   few : 1 + length content.partners ≤ 1000
   few = omega (arith, office.given.counted.1)
+
+  counted : length rows.partners ≤ 999
+  counted = omega (arith, many 1 rows.partners content.partners office.accounts, office.given.counted.1)
 
   state_visits : AllByRecursion FitsVisit state.visits
   state_visits =
@@ -71,7 +84,7 @@ module _ (rows : OpenedRows) (content : SetupContent) (state : TerminalState) (o
   pub office_fits : FitsRows rows
   office_fits = record {
     partners = partners_fit 1 rows.partners content.partners office.accounts few (λ k d low. office.given.coded k d low);
-    numbers = numbers_fit 1 rows.partners content.partners rows.numbers office.accounts few office.kept;
+    numbers = numbers_fit (length rows.partners) 1 0 rows.numbers counted office.own_numbers.in_order;
     visits = subst (AllByRecursion FitsVisit) (sym visits_are) state_visits;
     places = all_from FitsPlace rows.places (place_fits state rows.places office.whole office.formed small office.placed_once places_are);
     lines = all_from FitsLine rows.lines (line_fits state rows.lines office.formed office.listed_once lines_are);
@@ -93,7 +106,7 @@ module _ (rows : OpenedRows) (content : SetupContent) (state : TerminalState) (o
         let same = one_showing table.interchange_table (0 ∷ 1 ∷ 3 ∷ []) (0 ∷ 1 ∷ []) (λ r. refl) db reply_values is js shown.numbers.shown that.numbers.shown (λ x y p q tied.
         let a = number_tied x.partner y.partner _ tied in
         let b = number_tied x.number y.number Equal a.1 in
-        ap reply_values (interchanges_differ rows.partners content.partners rows.numbers is office.accounts office.kept shown.numbers.are x y p q a.0 b.0)) in
+        ap reply_values (interchanges_differ (length rows.partners) rows.numbers is office.own_numbers.in_order shown.numbers.are x y p q a.0 b.0)) in
         shown.numbers.are ∙ replies_same is js same ∙ sym that.numbers.are
 
     one_visits : rows.visits ≡ other.visits
@@ -145,18 +158,27 @@ module _ (rows : OpenedRows) (content : SetupContent) (state : TerminalState) (o
 
 -- ---- faults
 
-pub tables_fail : (db : Database) (fault : TableFault) → FailsTables db fault → FailsToLoad db fault
-tables_fail db fault = fails_weaker (HasVersion db) (ShowsUnfit db) (ShowsNoOffice db) fault (λ h rows content state shown office. h rows shown (office_fits rows content state office))
+pub tables_fail : (closed : ClosedContent) (db : Database) (fault : TableFault) → FailsTables db fault → FailsToLoadOwn closed db fault
+tables_fail closed db fault = fails_weaker (HasVersion db) (ShowsUnfit db) (ShowsNoOwnOffice closed db) fault (λ h rows content state shown office. h rows shown (office_fits closed rows content state office))
 
-pub none_shown : (db : Database) (other : OpenedRows) → Shows db other → FitsRows other → ((content : SetupContent) (state : TerminalState) → ¬ IsOffice other content state) → ShowsNoOffice db
-none_shown db other that fits none rows content state shown = λ office. none content state (subst (λ r. IsOffice r content state) (office_one rows content state office db shown other that fits) office)
+pub none_shown : (closed : ClosedContent) (db : Database) (other : OpenedRows) → Shows db other → FitsRows other → ((content : SetupContent) (state : TerminalState) → ¬ IsOwnOffice closed other content state) → ShowsNoOwnOffice closed db
+none_shown closed db other that fits none rows content state shown = λ office. none content state (subst (λ r. IsOwnOffice closed r content state) (office_one closed rows content state office db shown other that fits) office)
 
 -- what can't be restored isn't loaded
-pub restoring_fails : (db : Database) (read : OpenedRows) → HasVersion db → Shows db read → FitsRows read → (fault : RestoreFault) → RefusesTables read fault → FailsToLoad db (fault_of_restoring fault)
-restoring_fails db read version that fits restoring.Unsound refuses = (version, none_shown db read that fits refuses)
-restoring_fails db read version that fits restoring.Memory refuses = tt
+pub restoring_fails : (closed : ClosedContent) (db : Database) (read : OpenedRows) → HasVersion db → Shows db read → FitsRows read → (fault : RestoreFault) → RefusesTables closed read fault → FailsToLoadOwn closed db (fault_of_restoring fault)
+restoring_fails closed db read version that fits restoring.Unsound refuses = (version, none_shown closed db read that fits refuses)
+restoring_fails closed db read version that fits restoring.Memory refuses = tt
 
 -- it is damage, or memory was refused
 pub restoring_tells : (fault : RestoreFault) → IsOfStoreOr (Unit {0}) (fault_of_restoring fault)
 restoring_tells restoring.Unsound = tt
 restoring_tells restoring.Memory = tt
+
+-- ---- where nothing is closed
+
+pub loads_whole : (db : Database) (content : SetupContent) (state : TerminalState) → LoadsOwn nothing_closed db content state → Loads db content state
+loads_whole db content state loads = (loads.0, loads.1, whole_office loads.0 content state loads.2)
+
+pub fails_whole : (db : Database) (fault : TableFault) → FailsToLoadOwn nothing_closed db fault → FailsToLoad db fault
+fails_whole db fault =
+    fails_weaker (HasVersion db) (ShowsNoOwnOffice nothing_closed db) (ShowsNoOffice db) fault (λ none rows content state shown office. none rows content state shown (own_office rows content state office))

@@ -27,7 +27,9 @@ use Rattle.office_rows.specs.Opened.{OpenedRows, Shows}
 use Rattle.office_rows.specs.Bare.{with_weights}
 use Rattle.office_rows.specs.Migrated.{migrated_settings, migrated_opened}
 use Rattle.office_rows.specs.Office.{IsOffice}
+use Rattle.office_checks.specs.Closed.{nothing_closed}
 use Rattle.office_checks.specs.Refusals.{RefusesTables}
+use Rattle.office_checks.proofs.Alike.{own_office}
 use Rattle.office_tables.specs.declared.table_fault.TableFault.{TableFault}
 use Rattle.office_loading.specs.Fits.{FitsSetting}
 use Rattle.office_loading.specs.Tables.{FitsRows, ShowsUnfit, fault_of_restoring}
@@ -70,7 +72,7 @@ forth (s ∷ settings) all = (forth_by s _ all.0, forth settings all.1)
 
 pub older_fits : (rows : OpenedRows) (content : SetupContent) (state : TerminalState) → IsOffice (migrated_opened rows) content state → FitsRows rows
 older_fits rows content state office =
-    let f = office_fits (migrated_opened rows) content state office in
+    let f = office_fits nothing_closed (migrated_opened rows) content state (own_office (migrated_opened rows) content state office) in
     record { partners = f.partners; numbers = f.numbers; visits = f.visits; places = f.places; lines = f.lines; settings = back rows.settings f.settings; blocks = f.blocks }
 
 newest_fits : (rows : OpenedRows) → FitsRows rows → FitsRows (migrated_opened rows)
@@ -143,13 +145,13 @@ older_tables_fail db fault = fails_weaker (HasOlder db) (ShowsUnfit (with_weight
 -- the rows that were read are those of the office that the tables show
 pub older_one : (db : Database) (rows : OpenedRows) (content : SetupContent) (state : TerminalState) → IsOffice (migrated_opened rows) content state → Shows (with_weights db) rows → (read : OpenedRows) → Shows (with_weights db) read → FitsRows read → IsOffice (migrated_opened read) content state
 older_one db rows content state office shown read that fits =
-    let same = office_one (migrated_opened rows) content state office (renamed (with_weights db)) (newest_shown (with_weights db) rows shown) (migrated_opened read) (newest_shown (with_weights db) read that) (newest_fits read fits) in
+    let same = office_one nothing_closed (migrated_opened rows) content state (own_office (migrated_opened rows) content state office) (renamed (with_weights db)) (newest_shown (with_weights db) rows shown) (migrated_opened read) (newest_shown (with_weights db) read that) (newest_fits read fits) in
     subst (λ r. IsOffice r content state) same office
 
 pub none_older : (db : Database) (other : OpenedRows) → Shows (with_weights db) other → FitsRows other → ((content : SetupContent) (state : TerminalState) → ¬ IsOffice (migrated_opened other) content state) → ShowsNoOlder db
 none_older db other that fits none rows content state shown = λ office. none content state (older_one db rows content state office shown other that fits)
 
 -- what can't be restored isn't loaded
-pub older_restoring_fails : (db : Database) (other : OpenedRows) → HasOlder db → Shows (with_weights db) other → FitsRows other → (fault : RestoreFault) → RefusesTables (migrated_opened other) fault → FailsToLoadOlder db (fault_of_restoring fault)
-older_restoring_fails db other older that fits restoring.Unsound refuses = (older, none_older db other that fits refuses)
+pub older_restoring_fails : (db : Database) (other : OpenedRows) → HasOlder db → Shows (with_weights db) other → FitsRows other → (fault : RestoreFault) → RefusesTables nothing_closed (migrated_opened other) fault → FailsToLoadOlder db (fault_of_restoring fault)
+older_restoring_fails db other older that fits restoring.Unsound refuses = (older, none_older db other that fits (λ content state office. refuses content state (own_office (migrated_opened other) content state office)))
 older_restoring_fails db other older that fits restoring.Memory refuses = tt

@@ -19,7 +19,9 @@ use Rattle.office_rows.specs.Stored.{columns_of}
 use Rattle.office_rows.specs.Shown.{ShowsTable}
 use Rattle.office_rows.specs.Opened.{OpenedRows, Shows}
 use Rattle.office_rows.specs.Office.{IsOffice}
+use Rattle.office_checks.specs.Closed.{ClosedContent}
 use Rattle.office_checks.specs.Contents.{opened_rows, setting_content}
+use Rattle.office_checks.specs.OwnOffice.{IsOwnOffice}
 use Rattle.office_checks.specs.declared.restoring.OpenedTables.{OpenedTables}
 use Rattle.office_tables.specs.declared.table_fault.TableFault.{TableFault}
 use Rattle.office_tables.specs.declared.table_fault.TableFault.TheVariants.{Store, Damaged, Version, Memory}
@@ -154,6 +156,21 @@ ShowsNoOffice db = (rows : OpenedRows) (content : SetupContent) (state : Termina
 -- the version is another one; or it is this and the tables show no office
 abbrev pub FailsToLoad : Database → TableFault → Type 0
 FailsToLoad db fault = FailsByVersion (HasVersion db) (ShowsNoOffice db) fault
+
+-- ---- the office of a store of which this is closed
+
+-- the set-up and the terminal are those of the rows that the tables show
+abbrev pub LoadsOwn : ClosedContent → Database → SetupContent → TerminalState → Type 0
+LoadsOwn closed db content state = (rows : OpenedRows) × Shows db rows × IsOwnOffice closed rows content state
+
+-- whatever rows the tables show, they are those of no office
+abbrev pub ShowsNoOwnOffice : ClosedContent → Database → Type 0
+ShowsNoOwnOffice closed db = (rows : OpenedRows) (content : SetupContent) (state : TerminalState) → Shows db rows →
+    ¬ IsOwnOffice closed rows content state
+
+-- the version is another one; or it is this and the tables show no office
+abbrev pub FailsToLoadOwn : ClosedContent → Database → TableFault → Type 0
+FailsToLoadOwn closed db fault = FailsByVersion (HasVersion db) (ShowsNoOwnOffice closed db) fault
 
 -- rows that were read and are those of no office are damaged
 abbrev pub fault_of_restoring : RestoreFault → TableFault

@@ -8,6 +8,6 @@ mod rows;
 mod selecting;
 mod table_reading;
 
-pub use loading::{load, nexts};
+pub use loading::{load, load_own, nexts};
 pub use older::{load_old, read_older_tables};
 pub use rows::waiting_numbers;

@@ -1,8 +1,12 @@
 ghost use Rattle.std.specs.Prelude.{◌≡◌, ℕ, IfOk, IfErr, IsErrAnd, ◌<◌, ◌^◌, List, ⊤, map};
+ghost use Rattle.office_checks.specs.Closed.{closed_content, nothing_closed};
+ghost use Rattle.office_checks.specs.Contents.{opened_rows};
+ghost use Rattle.office_checks.specs.OwnOffice.{IsOwnOffice};
+ghost use Rattle.office_checks.specs.Refusals.{RefusesTables};
 ghost use Rattle.office_loading.specs.Columns.{SaysSource, SaysArrival, SaysExit, IsOpen, SaysNumber};
 ghost use Rattle.office_loading.specs.Decoded.{Decodes, ReadsAs, itself, IsSaid, FailsOne};
 ghost use Rattle.office_loading.specs.Settings.{HasNoSettings, HasSettings};
-ghost use Rattle.office_loading.specs.Tables.{Loads, FailsToLoad, TellsVersion, fault_of_restoring, ReadsTables, HasHighNext, ShowsPartners};
+ghost use Rattle.office_loading.specs.Tables.{Loads, LoadsOwn, FailsToLoad, FailsToLoadOwn, TellsVersion, fault_of_restoring, ReadsTables, HasHighNext, ShowsPartners};
 ghost use Rattle.office_rows.specs.Rows.{Partner};
 ghost use Rattle.office_rows.specs.Shown.{AreNexts};
 ghost use Rattle.office_rows.specs.Stored.{HasRows};
@@ -21,7 +25,7 @@ use crate::older::read_settings;
 use crate::rows::append;
 use crate::selecting::select_partners;
 use crate::table_reading::{Weights, read_others};
-use office_checks::{OpenedTables, restore};
+use office_checks::{Closed, OpenedTables, restore};
 use office_setup::Setup;
 use office_tables::TableFault;
 use sqlite::{Alter, Connection, Row};
@@ -48,11 +52,46 @@ pub fn load<S: Alter>(
         TellsVersion ((state S.Store conn.old).now.trees tree) result }
     ensures reads { Reads (state S.Store conn.old) (state S.Store conn.new) result }
 {
+    let closed = Closed::nothing(alloc);
+    load_own(alloc, conn, &closed)
+}
+
+/// The office that the tables hold beyond what is closed: its set-up and its terminal. It changes nothing, and fails as
+/// `load` does.
+pub fn load_own<S: Alter>(
+    alloc: Global,
+    conn: &mut Connection<S>,
+    closed: &Closed,
+) -> Result<(Setup, Terminal), TableFault>
+    ensures loaded { HasCleanDisk (state S.Store conn.new) → (state S.Store conn.old).now.schema ≡ office_schema →
+        IfOk result (λ p. LoadsOwn (closed_content closed.now) (state S.Store conn.old).now (setup_content p.0) p.1) }
+    ensures given { IfOk result (λ p. IsGiven (setup_content p.0)) }
+    ensures refused { HasCleanDisk (state S.Store conn.new) → (state S.Store conn.old).now.schema ≡ office_schema →
+        IfErr result (FailsToLoadOwn (closed_content closed.now) (state S.Store conn.old).now) }
+    ensures missing { HasCleanDisk (state S.Store conn.new) → HasNoSettings (state S.Store conn.old).now.schema →
+        IsErrAnd result IsOfStore }
+    ensures version { HasCleanDisk (state S.Store conn.new) → (tree : ℕ) →
+        HasSettings (state S.Store conn.old).now.schema tree →
+        TellsVersion ((state S.Store conn.old).now.trees tree) result }
+    ensures reads { Reads (state S.Store conn.old) (state S.Store conn.new) result }
+{
     let tables = read_tables(alloc, conn)?;
-    match restore(alloc, tables) {
+    match restore(alloc, tables, closed) {
         Ok(office) => Ok(office),
         Err(fault) => Err(fault_of_restoring(fault)),
     }
+}
+
+/// The office of rows of which none is closed.
+pub(crate) fn restore_whole(
+    alloc: Global,
+    tables: OpenedTables,
+) -> Result<(Setup, Terminal), RestoreFault>
+    ensures ok { IfOk result (λ p. IsOwnOffice nothing_closed (opened_rows tables) (setup_content p.0) p.1) }
+    ensures refused { IfErr result (RefusesTables nothing_closed (opened_rows tables)) }
+{
+    let closed = Closed::nothing(alloc);
+    restore(alloc, tables, &closed)
 }
 
 /// What a fault of restoring the rows that were read is to a caller of the tables.

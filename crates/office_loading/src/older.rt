@@ -15,11 +15,11 @@ ghost use Rattle.sqlite.specs.Held.{state};
 ghost use Rattle.sqlite.specs.Order.{column};
 ghost use Rattle.sqlite.specs.State.{HasCleanDisk};
 
-use crate::loading::fault_of_restoring;
+use crate::loading::{fault_of_restoring, restore_whole};
 use crate::rows::read_all;
 use crate::selecting::select_settings;
 use crate::table_reading::{Weights, read_others};
-use office_checks::{OpenedTables, Setting, restore};
+use office_checks::{OpenedTables, Setting};
 use office_setup::Setup;
 use office_tables::TableFault;
 use sqlite::types::ValueRef;
@@ -99,7 +99,7 @@ pub fn load_old<S: Alter>(
     ensures reads { Reads (state S.Store conn.old) (state S.Store conn.new) result }
 {
     let tables = read_older_tables(alloc, conn)?;
-    match restore(alloc, tables) {
+    match restore_whole(alloc, tables) {
         Ok(office) => Ok(office),
         Err(fault) => Err(fault_of_restoring(fault)),
     }

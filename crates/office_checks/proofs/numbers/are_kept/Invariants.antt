@@ -1,6 +1,8 @@
 use Rattle.std.proofs.Common.{map, drop, ◌+◌, ◌↔◌}
-use Rattle.office_rows.specs.Office.{AreAccounts, AreKept}
+use Rattle.office_rows.specs.Office.{AreAccounts}
 use Rattle.office_checks.specs.Accounts.{accounts_in}
+use Rattle.office_checks.specs.Checks.{AreKeptBeyond}
+use Rattle.office_checks.specs.Closed.{last_closed}
 use Rattle.office_checks.specs.Contents.{number_content, partner_content}
 use Rattle.office_checks.proofs.numbers.are_kept.Given as goal
 
@@ -8,5 +10,5 @@ abbrev pub invariant-loop-partner : goal.invariant-loop-partner
 invariant-loop-partner l =
     record {
       accounts : AreAccounts (l.partner-index + 1) (map partner_content (drop l.partner-index l.partners)) (accounts_in (drop l.partner-index l.partners));
-      same : AreKept (map partner_content l.partners) (map number_content l.numbers) ↔ AreKept (map partner_content (drop l.partner-index l.partners)) (map number_content l.rest);
+      same : AreKeptBeyond (last_closed l.closed) (map partner_content l.partners) (map number_content l.numbers) ↔ AreKeptBeyond (last_closed l.closed) (map partner_content (drop l.partner-index l.partners)) (map number_content l.rest);
     }

@@ -9,9 +9,9 @@ none = record { partner = 0; number = 0; is_taken = false }
 pub returns-then-not-is_taken : goal.returns-then-not-is_taken
 returns-then-not-is_taken c = (
   λ f. absurd (cc),
-  λ all. absurd (taken_not c.args.partner c.args.numbers.now c.loop-index.index none (get_or c.args.numbers.now c.loop-index.index none) c.loop-index-test.true refl c.is_taken.result c.is_taken.ensures c.if-not-is_taken.true all),
+  λ all. absurd (taken_not c.args.partner c.args.first c.args.numbers.now c.loop-index.index none (get_or c.args.numbers.now c.loop-index.index none) c.loop-index-test.true refl c.is_taken.result c.is_taken.ensures c.if-not-is_taken.true all),
 )
 
 pub loop-index-preserved : goal.loop-index-preserved
 loop-index-preserved c =
-    taken_more c.args.partner c.args.numbers.now c.loop-index.index none (get_or c.args.numbers.now c.loop-index.index none) c.loop-index-test.true refl c.is_taken.result c.is_taken.ensures c.loop-index.invariant c.if-not-is_taken.false
+    taken_more c.args.partner c.args.first c.args.numbers.now c.loop-index.index none (get_or c.args.numbers.now c.loop-index.index none) c.loop-index-test.true refl c.is_taken.result c.is_taken.ensures c.loop-index.invariant c.if-not-is_taken.false

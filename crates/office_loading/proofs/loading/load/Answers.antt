@@ -1,47 +1,19 @@
-use Rattle.std.proofs.lemmas.Result.{err_from_is_err_and}
+use Rattle.std.proofs.Common.{subst}
+use Rattle.std.proofs.lemmas.Result.{IfErr-weaker, IfOk-weaker}
 use Rattle.sqlite.specs.Held.{state}
-use Rattle.terminal_core.specs.State.{TerminalState}
-use Rattle.office_setup.specs.declared.setup.Setup.{Setup}
-use Rattle.office_checks.specs.Contents.{opened_rows}
-use Rattle.office_loading.proofs.OfficeLemmas.{restoring_fails, restoring_tells, tables_fail}
-use Rattle.office_loading.proofs.VersionLemmas.{fault_tells}
-use Rattle.office_loading.specs.Tables.{NamesVersion, fault_of_restoring}
+use Rattle.office_setup.specs.Setups.{setup_content}
+use Rattle.office_loading.specs.Tables.{FailsToLoadOwn, LoadsOwn}
+use Rattle.office_loading.proofs.OfficeLemmas.{fails_whole, loads_whole}
 use Rattle.office_loading.proofs.loading.load.Goals as goal
 
-pub returns-in_err-tables-clause-refused : goal.returns-in_err-tables-clause-refused
-returns-in_err-tables-clause-refused g c clean is =
-    let p = err_from_is_err_and c.from_residual.result c.from_residual.ensures.1 in
-    rw (p.1, p.2) (tables_fail (state g.S.Store c.args.conn.now).now c.in_err-tables.field-0.0 (c.in_err-tables.ensures.read clean is))
+pub returns-clause-loaded : goal.returns-clause-loaded
+returns-clause-loaded g c clean is =
+    IfOk-weaker c.load_own.result _ _
+    (λ p loads. loads_whole _ _ _ (subst (λ closed. LoadsOwn closed (state g.S.Store c.args.conn.now).now (setup_content p.0) p.1) c.nothing-closed.ensures loads))
+    (c.load_own.ensures.loaded clean is)
 
-pub returns-in-Ok-clause-loaded : goal.returns-in-Ok-clause-loaded
-returns-in-Ok-clause-loaded g c clean is =
-    let read = c.in_ok-tables.ensures.read clean is in
-    (opened_rows c.in_ok-tables.tables, read.1, c.in-Ok.ensures.ok)
-
-pub returns-in-Err-clause-refused : goal.returns-in-Err-clause-refused
-returns-in-Err-clause-refused g c clean is =
-    let read = c.in_ok-tables.ensures.read clean is in
-    rw c.fault_of_restoring.ensures (restoring_fails (state g.S.Store c.args.conn.now).now (opened_rows c.in_ok-tables.tables) read.0 read.1 read.2 c.in-Err.fault c.in-Err.ensures.refused)
-
-pub returns-in-Ok-clause-given : goal.returns-in-Ok-clause-given
-returns-in-Ok-clause-given g c = c.in-Ok.ensures.ok.given
-
--- ---- under any schema
-
-pub returns-in_err-tables-clause-version : goal.returns-in_err-tables-clause-version
-returns-in_err-tables-clause-version g c clean tree has =
-    let p = err_from_is_err_and c.from_residual.result c.from_residual.ensures.1 in
-    rw (p.1, p.2) (c.in_err-tables.ensures.version clean tree has)
-
-pub returns-in-Ok-clause-version : goal.returns-in-Ok-clause-version
-returns-in-Ok-clause-version g c clean tree has = c.in_ok-tables.ensures.version clean tree has
-
-pub returns-in-Err-clause-version : goal.returns-in-Err-clause-version
-returns-in-Err-clause-version g c clean tree has =
-    rw c.fault_of_restoring.ensures (fault_tells (Setup × TerminalState) (NamesVersion ((state g.S.Store c.args.conn.now).now.trees tree)) (fault_of_restoring c.in-Err.fault) (c.in_ok-tables.ensures.version clean tree has) (restoring_tells c.in-Err.fault))
-
-pub returns-in-Ok-clause-missing : goal.returns-in-Ok-clause-missing
-returns-in-Ok-clause-missing g c clean none = absurd (c.in_ok-tables.ensures.missing clean none)
-
-pub returns-in-Err-clause-missing : goal.returns-in-Err-clause-missing
-returns-in-Err-clause-missing g c clean none = absurd (c.in_ok-tables.ensures.missing clean none)
+pub returns-clause-refused : goal.returns-clause-refused
+returns-clause-refused g c clean is =
+    IfErr-weaker c.load_own.result _ _
+    (λ fault fails. fails_whole (state g.S.Store c.args.conn.now).now fault (subst (λ closed. FailsToLoadOwn closed (state g.S.Store c.args.conn.now).now fault) c.nothing-closed.ensures fails))
+    (c.load_own.ensures.refused clean is)

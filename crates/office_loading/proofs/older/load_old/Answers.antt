@@ -5,7 +5,10 @@ use Rattle.terminal_core.specs.State.{TerminalState}
 use Rattle.office_setup.specs.Setups.{setup_content}
 use Rattle.office_setup.specs.declared.setup.Setup.{Setup}
 use Rattle.office_rows.specs.Office.{IsOffice}
+use Rattle.office_checks.specs.Closed.{nothing_closed}
+use Rattle.office_checks.specs.Contents.{opened_rows}
 use Rattle.office_checks.specs.Refusals.{RefusesTables}
+use Rattle.office_checks.proofs.Alike.{whole_office}
 use Rattle.office_loading.proofs.OlderOffice.{older_restoring_fails, older_tables_fail}
 use Rattle.office_loading.proofs.OfficeLemmas.{restoring_tells}
 use Rattle.office_loading.proofs.VersionLemmas.{fault_tells}
@@ -21,13 +24,13 @@ returns-in_err-tables-clause-refused g c clean is =
 pub returns-in-Ok-clause-loaded : goal.returns-in-Ok-clause-loaded
 returns-in-Ok-clause-loaded g c clean is =
     let read = c.in_ok-tables.ensures.read clean is in
-    (read.0, read.1, read.3, subst (λ r. IsOffice r (setup_content c.in-Ok.office.0) c.in-Ok.office.1) read.2 c.in-Ok.ensures.ok)
+    (read.0, read.1, read.3, subst (λ r. IsOffice r (setup_content c.in-Ok.office.0) c.in-Ok.office.1) read.2 (whole_office (opened_rows c.in_ok-tables.tables) (setup_content c.in-Ok.office.0) c.in-Ok.office.1 c.in-Ok.ensures.ok))
 
 pub returns-in-Err-clause-refused : goal.returns-in-Err-clause-refused
 returns-in-Err-clause-refused g c clean is =
     let read = c.in_ok-tables.ensures.read clean is in
     let fault = c.in-Err.fault in
-    rw c.fault_of_restoring.ensures (older_restoring_fails (state g.S.Store c.args.conn.now).now read.1 read.0 read.3 read.4 fault (subst (λ r. RefusesTables r fault) read.2 c.in-Err.ensures.refused))
+    rw c.fault_of_restoring.ensures (older_restoring_fails (state g.S.Store c.args.conn.now).now read.1 read.0 read.3 read.4 fault (subst (λ r. RefusesTables nothing_closed r fault) read.2 c.in-Err.ensures.refused))
 
 -- ---- under any schema
 
