@@ -8,7 +8,7 @@ use Rattle.office_rows.specs.Opened.{NumberKept}
 use Rattle.office_rows.specs.Office.{AreWaiting}
 use Rattle.office_history.specs.After.{accounts_from}
 use Rattle.office_history.proofs.Kept.{Starts, Rise, Has}
-use Rattle.office_parts.specs.Checks.{taken_beyond, AreKeptBeyond}
+use Rattle.office_checks.specs.Checks.{taken_beyond, AreKeptBeyond}
 
 -- what is kept is one of so many partners', beyond what is closed, and was taken if it is within the partner's run
 pub record IsBeyond (closed : ℕ → ℕ) (count : ℕ) (runs : ℕ → ℕ) (n : NumberKept) : Type 0 where
@@ -39,7 +39,7 @@ has_after q m (n ∷ ns) p k starts rise (inr later) = elim (has_after n.partner
   | inr own ↦ elim starts [ inl far ↦ inl (omega (arith, own.0, far)) | inr near ↦ inr (own.0 ∙ near.0, omega (arith, own.1, near.1)) ]
 ]
 
-module _ (closed : ℕ → ℕ) (count : ℕ) (runs : ℕ → ℕ) (below : (p : ℕ) → closed p ≤ runs p) where
+module _ (closed : ℕ → ℕ) (count : ℕ) (runs : ℕ → ℕ) (below : (p : ℕ) → 1 ≤ p → p ≤ count → closed p ≤ runs p) where
   abbrev next : ℕ → ℕ
   next p = runs p + 1
 
@@ -156,7 +156,7 @@ module _ (closed : ℕ → ℕ) (count : ℕ) (runs : ℕ → ℕ) (below : (p :
       → AreKeptBeyond closed (accounts_from id next accounts) ns
   kept_from id low [] ns e ends from rise all there = none_left id ns (omega arith) from all
   kept_from id low (account ∷ accounts) ns e ends from rise all there =
-      let own = taken_first id (closed id) (runs id - closed id) ns (let b = below id in omega (arith, b)) (start id ns from all) rise all (λ k above within. there id k (omega arith) above within) (λ q k far one within. there q k (omega arith) one within) in
+      let own = taken_first id (closed id) (runs id - closed id) ns (let b = below id (omega arith) (omega (arith, ends)) in omega (arith, b)) (start id ns from all) rise all (λ k above within. there id k (omega arith) above within) (λ q k far one within. there q k (omega arith) one within) in
       let partner : Partner = record { id = id; code = account.0; kind = account.1; next = next id } in
       let many : runs id + 1 - 1 - closed id ≡ runs id - closed id = omega arith in
       let taken : taken_beyond closed partner ≡ map (taken_by id) (range_with_len (closed id + 1) (runs id - closed id)) = ap (λ c. map (taken_by id) (range_with_len (closed id + 1) c)) many in (

@@ -103,6 +103,7 @@ pub visits_same : (content : SetupContent) (es : List Event) (rows : Rows) → A
 visits_same content es rows after = ap (λ (r : TerminalRows). r.visits) after.terminal
 
 pub record AddsAll (content : SetupContent) (es : List Event) (archived : Archived) (own whole : Rows) (sent : List ℕ) (p n : ℕ) (taken : List TakenContent) (machine : MachineState) : Type 0 where
+  pub on_whole : AreTakenFrom p (texts_with whole p n (interchange_of sent)) n (machine_after content es) taken machine
   pub adds : AddsRun content es sent p (length taken) (with_run p n (interchange_of sent) taken whole) machine
   pub parts : ArePartsAfter content (es ++ delivered sent ∷ []) archived (with_run p n (interchange_of sent) taken own) (with_run p n (interchange_of sent) taken whole)
 
@@ -121,6 +122,7 @@ next_parts content es archived own whole sent p n taken machine given are for fr
     (waiting_parts archived own whole p n text are.parts) from in
     let adds = next_adds content es whole sent p n taken machine given are.after for (free_in_whole content es archived own whole p n are (omega (arith, is)) ∙ free) is left.from in
     record {
+      on_whole = left.from;
       adds = adds;
       parts = record {
         after = adds.rows_are;

@@ -12,7 +12,7 @@ use Rattle.office_rows.specs.Values.{number_value, interchange_values}
 use Rattle.office_rows.specs.Effects.{is_pair}
 use Rattle.office_rows.specs.Opened.{NumberKept, number_kept}
 use Rattle.office_history.proofs.Kept.{Rise, Has}
-use Rattle.office_parts.specs.Checks.{numbers_beyond}
+use Rattle.office_checks.specs.Checks.{numbers_beyond}
 use Rattle.office_parts.specs.Closing.{is_beyond}
 use Rattle.office_history.proofs.Runs.{is_pair_at}
 use Rattle.office_history.proofs.Shown.{fewer, head_in, tail_in}

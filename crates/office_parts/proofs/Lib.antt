@@ -14,4 +14,5 @@ pub mod LeftOver
 pub mod InOrder
 pub mod Beyond
 pub mod Opening
-pub mod Alike
+pub mod OwnOffices
+pub mod OwnOpening

@@ -39,7 +39,7 @@ use Rattle.office_history.proofs.Sorting.{InTurn, is_before, shows_records, by_k
 use Rattle.office_history.proofs.Telling.{delivered_within}
 use Rattle.office_parts.specs.OwnTerminal.{own_visits}
 use Rattle.office_parts.specs.Parts.{Archived, ArePartsAfter}
-use Rattle.office_parts.specs.Checks.{visits_after, AreKeptBeyond, numbers_beyond}
+use Rattle.office_checks.specs.Checks.{visits_after, AreKeptBeyond, numbers_beyond}
 use Rattle.office_parts.specs.Closing.{is_closed, is_beyond}
 use Rattle.office_parts.specs.LeftOver.{rows_beyond}
 use Rattle.office_parts.specs.Laws.{OwnAreBeyond, NewVisitsAreNew, OwnNumbersAreKept, OwnVisitsGoOn}
@@ -53,7 +53,7 @@ use Rattle.office_parts.proofs.Splits.{Has as HasElement, has_contained, contain
 
 -- ---- visits
 
-sound_after : (content : SetupContent) (es : List Event) → IsGiven content → IsSoundMachine (machine_after content es)
+pub sound_after : (content : SetupContent) (es : List Event) → IsGiven content → IsSoundMachine (machine_after content es)
 sound_after content es given = state_sound (taking_in newest content es) (content_after content es) (deliveries_of content es) (sound_in newest content es) (given_after es content given)
 
 -- no number is above the last
@@ -187,7 +187,7 @@ module _ (content : SetupContent) (es : List Event) (archived : Archived) (own w
   whole_reply i inside one =
       ap (option_and_then (λ (x : Interchange). reply_if_any x.reply)) (found_beyond archived own whole i.partner i.number are.closed are.parts (beyond_closed i inside one)) ∙ own_reply i inside
 
-  is_beyond_closed : (i : Interchange) → Contains own.interchanges i → IsBeyond archived.last_closed (length now.partners) (run D) (number_kept i)
+  pub is_beyond_closed : (i : Interchange) → Contains own.interchanges i → IsBeyond archived.last_closed (length now.partners) (run D) (number_kept i)
   is_beyond_closed i inside =
       let range = delivered_within content es i.partner i.number i.body (first_of i inside) in
       let reply = whole_reply i inside range.2 in
@@ -200,7 +200,7 @@ module _ (content : SetupContent) (es : List Event) (archived : Archived) (own w
         waits = λ beyond. (past_next i inside beyond, sym (has_reply i.reply) ∙ ap is_some (sym reply ∙ unreplied newest taking now D whole i.partner i.number are.after (omega (arith, beyond))));
       }
 
-  body_found : (o : Option Interchange) → is_some (option_map (λ (x : Interchange). x.body) o) ≡ true → (i : Interchange) × (o ≡ Some i)
+  pub body_found : (o : Option Interchange) → is_some (option_map (λ (x : Interchange). x.body) o) ≡ true → (i : Interchange) × (o ≡ Some i)
   body_found None e = cc
   body_found (Some i) e = (i, refl)
 
@@ -223,7 +223,7 @@ module _ (content : SetupContent) (es : List Event) (archived : Archived) (own w
   kept_in : (zs : List Interchange) → IsPermutation own.interchanges zs → StandInOrder zs → AreKeptBeyond archived.last_closed own.partners (map number_kept zs)
   kept_in zs same stand =
       subst (λ l. AreKeptBeyond archived.last_closed l (map number_kept zs)) (sym (sym are.parts.partners ∙ are.after.partners))
-      (all_kept archived.last_closed (length now.partners) (run D) (λ p. closed_within content es archived own whole p are) now.partners (map number_kept zs) refl (rise_of zs stand (once_in zs same))
+      (all_kept archived.last_closed (length now.partners) (run D) (λ p one most. closed_within content es archived own whole p are) now.partners (map number_kept zs) refl (rise_of zs stand (once_in zs same))
       (all_numbered (IsBeyond archived.last_closed (length now.partners) (run D)) zs (λ i inside. is_beyond_closed i (Contains-permutation zs own.interchanges i (IsPermutation-sym own.interchanges zs same) inside)))
       (complete zs same))
 

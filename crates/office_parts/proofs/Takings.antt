@@ -172,7 +172,7 @@ next_adds_to_parts content es archived own whole sent p n taken there given are 
     let may : MayStay archived.stays (machine_after content es).terminal.visits = subst (MayStay archived.stays) (visits_same content es whole are.after) are.stay in
     let run = led archived.stays p (texts_with own p n (interchange_of sent)) n (machine_after content es) taken there sound.whole may from in
     let all = next_parts content es archived own whole sent p n taken run.machine' given are for free is run.from in
-    record { machine = run.machine'; adds = all.adds; parts = all.parts; beside = run.beside }
+    record { machine = run.machine'; on_whole = all.on_whole; adds = all.adds; parts = all.parts; beside = run.beside }
 
 -- ---- an opening
 

@@ -1,5 +1,5 @@
 -- The laws of a store and its archives.
-use Rattle.std.specs.Prelude.{◌≡◌, ◌↔◌, ℕ, ◌+◌, ◌<◌, ◌≤◌, Bool, true, List, [], ◌∷◌, ◌++◌, length, Contains, None, Some}
+use Rattle.std.specs.Prelude.{◌≡◌, ℕ, ◌+◌, ◌<◌, ◌≤◌, Bool, true, List, [], ◌∷◌, ◌++◌, length, Contains, None, Some}
 use Rattle.std.specs.List.{AllByRecursion}
 use Rattle.sqlite.specs.Effect.{Database}
 use Rattle.edi_messages.specs.Orders.{OrderContent}
@@ -12,7 +12,6 @@ use Rattle.terminal_core.specs.declared.change.Source.{Source}
 use Rattle.terminal_core.specs.declared.change.Version.{Version}
 use Rattle.terminal_core.specs.Changes.{TerminalRows, rows_of, rows_with_all, AreApplicable}
 use Rattle.terminal_core.specs.Forms.{IsWellFormed}
-use Rattle.terminal_core.specs.OneByOne.{GoOneByOne}
 use Rattle.terminal_core.specs.Rows.{VisitContent, ChangeContent}
 use Rattle.terminal_core.specs.State.{TerminalState, IsWhole, last_number}
 use Rattle.terminal_core.specs.Step.{step_by}
@@ -22,22 +21,22 @@ use Rattle.office_admission.specs.Deliveries.{deliveries_of}
 use Rattle.office_replies.specs.Events.{Event, delivered, added}
 use Rattle.office_rows.specs.ByKey.{terminal_rows}
 use Rattle.office_rows.specs.Effects.{with_waiting, with_partner}
-use Rattle.office_rows.specs.Opened.{NumberKept, ShowsNumbers}
-use Rattle.office_rows.specs.Office.{AreKept}
-use Rattle.office_rows.specs.Rows.{Partner, Rows}
+use Rattle.office_rows.specs.Opened.{NumberKept, ShowsNumbers, OpenedRows, Shows}
+use Rattle.office_rows.specs.Rows.{Interchange, Rows}
 use Rattle.office_rows.specs.Stored.{HasRows}
 use Rattle.office_setup.specs.Given.{IsGiven}
 use Rattle.office_setup.specs.Kinds.{kind_named}
 use Rattle.office_setup.specs.Setups.{SetupContent}
 use Rattle.office_taking.specs.Taking.{MachineState, interchange_taken_by, interchange_changes_by}
-use Rattle.office_history.specs.After.{opening_of, taking_in, machine_after, reply_in, AreAfter}
+use Rattle.office_history.specs.After.{opening_of, taking_in, machine_after, reply_in, AreAfter, AreKeptOnce}
 use Rattle.office_history.specs.Cascade.{text_in, TakenContent, texts_with, with_run, AreTakenFrom}
 use Rattle.office_history.specs.Laws.{IsFor, answer_model_of, AddsRun}
 use Rattle.office_parts.specs.OwnTerminal.{own_terminal, own_step, own_machine, MayStay, IsOfOwn}
 use Rattle.office_parts.specs.Parts.{Archived, nothing_archived, rows_of_archives, ArePartsAfter}
 use Rattle.office_parts.specs.Closing.{carried, archived_with, whole_with, MayClose}
 use Rattle.office_parts.specs.Archives.{Archive, text_by, reply_by, Hold, HoldsWhatGoes}
-use Rattle.office_parts.specs.Checks.{numbers_beyond, AreKeptBeyond, AreOwnVisits}
+use Rattle.office_checks.specs.Checks.{numbers_beyond, AreKeptBeyond, AreOwnVisits}
+use Rattle.office_checks.specs.OwnOffice.{IsOwnOffice}
 use Rattle.office_parts.specs.LeftOver.{rows_beyond}
 
 -- ---- the terminal
@@ -168,11 +167,13 @@ EarlyAddsToParts =
     → ArePartsAfter content (es ++ delivered sent ∷ []) archived
     (with_waiting partner number (interchange_of sent) own) (with_waiting partner number (interchange_of sent) whole)
 
--- what was taken is written to the store, and the parts are those after the delivery; beside the store stands its own
--- machine
+-- it is taken by the whole's texts and at the whole machine too; what was taken is written to the store, and the parts are
+-- those after the delivery; beside the store stands its own machine
 pub record AddsToParts (content : SetupContent) (es : List Event) (archived : Archived) (own whole : Rows)
     (sent : List ℕ) (partner number : ℕ) (taken : List TakenContent) (there : MachineState) : Type 0 where
   pub machine : MachineState
+  pub on_whole : AreTakenFrom partner (texts_with whole partner number (interchange_of sent)) number
+      (machine_after content es) taken machine
   pub adds : AddsRun content es sent partner (length taken)
       (with_run partner number (interchange_of sent) taken whole) machine
   pub parts : ArePartsAfter content (es ++ delivered sent ∷ []) archived
@@ -255,9 +256,16 @@ OwnVisitsGoOn =
     ((number : ℕ) → newest_closed < number → archived.stays number ≡ true)
     → AreOwnVisits newest_closed own.visits
 
--- where nothing was closed this is what every store is checked for
-abbrev pub NothingClosedIsCheckedAlike : Type 0
-NothingClosedIsCheckedAlike =
-    (partners : List Partner) (numbers : List NumberKept) (visits : List VisitContent)
-    → (AreKeptBeyond (λ partner. 0) partners numbers ↔ AreKept partners numbers)
-    × (AreOwnVisits 0 visits ↔ GoOneByOne 1 visits)
+-- Whatever closed interchanges still stand in the store, its tables show what every store is checked for, where those
+-- numbers are closed and each visit after the newest closing stays: the set-up with the accounts so far, and the
+-- store's own terminal. The rows are of the whole, and none has the partner and the number of another.
+abbrev pub OwnRowsAreOwnOffice : Type 0
+OwnRowsAreOwnOffice =
+    (content : SetupContent) (es : List Event) (archived : Archived) (own whole rows : Rows) (db : Database)
+    (newest_closed : ℕ) → IsGiven content → ArePartsAfter content es archived own whole →
+    rows_beyond archived.last_closed rows ≡ own → AreKeptOnce rows.interchanges →
+    ((i : Interchange) → Contains rows.interchanges i → Contains whole.interchanges i) →
+    ((number : ℕ) → newest_closed < number → archived.stays number ≡ true) → HasRows rows db
+    → (shown : OpenedRows) × Shows db shown
+    × IsOwnOffice (record { last_closed = archived.last_closed; newest_closed = newest_closed }) shown
+    (content_after content es) (own_terminal archived.stays (machine_after content es).terminal)

@@ -3,5 +3,4 @@ pub mod Parts
 pub mod Closing
 pub mod Archives
 pub mod LeftOver
-pub mod Checks
 pub mod Laws

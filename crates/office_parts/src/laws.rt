@@ -4,7 +4,7 @@
 ghost use Rattle.office_parts.specs.Laws.{OrdersActAlike, OwnTerminalsAreSound, ChangesAreOfOwn, InterchangesAreTakenAlike};
 ghost use Rattle.office_parts.specs.Laws.{NumbersAreTold, ClosedAreWithinRuns, ArchivesAnswer, NewVisitsAreNew, OwnRowsGiveOwnTerminal};
 ghost use Rattle.office_parts.specs.Laws.{RowsAreParts, EarlyAddsToParts, NextAddsToParts, AccountAddsToParts};
-ghost use Rattle.office_parts.specs.Laws.{ClosingKeepsParts, AddedArchivesHold, ClosingsAreHeld, OwnAreBeyond, OwnNumbersAreKept, OwnVisitsGoOn, NothingClosedIsCheckedAlike};
+ghost use Rattle.office_parts.specs.Laws.{ClosingKeepsParts, AddedArchivesHold, ClosingsAreHeld, OwnAreBeyond, OwnNumbersAreKept, OwnVisitsGoOn, OwnRowsAreOwnOffice};
 ghost use Rattle.office_parts.specs.LeftOver.{LeftOverTellNothing, LeftOverStayApart, LeftOverMayGo, RaisingCloses};
 
 /// An order does to the store's own terminal what it does to the whole one: the same outcome, the same changes.
@@ -106,9 +106,10 @@ pub fn own_visits_go_on()
     ensures { OwnVisitsGoOn }
 {}
 
-/// Where nothing was closed, what a store's own rows are checked for is what every store is checked for.
-pub fn nothing_closed_is_checked_alike()
-    ensures { NothingClosedIsCheckedAlike }
+/// What the store's tables show, whichever closed interchanges still stand there, is what every store is checked for:
+/// the set-up with the accounts so far, and the store's own terminal.
+pub fn own_rows_are_own_office()
+    ensures { OwnRowsAreOwnOffice }
 {}
 
 /// Beyond what is closed, text and reply are looked up as if no closed interchange stood in the store.
