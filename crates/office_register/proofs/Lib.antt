@@ -1,0 +1,11 @@
+pub mod WriteTexts
+pub mod ReadTexts
+pub mod Created
+pub mod Inserting
+pub mod Inserted
+pub mod Committing
+pub mod Listed
+pub mod ReadLemmas
+pub mod SoundLemmas
+pub mod RegisterLemmas
+pub mod LoopLemmas

@@ -1,0 +1,7 @@
+pub mod Register
+pub mod Sound
+pub mod Tables
+pub mod Stored
+pub mod Changes
+pub mod Transactions
+pub mod Reading

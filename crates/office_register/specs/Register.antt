@@ -1,0 +1,54 @@
+-- What a register of archives says: which archives hold a store's history, and which numbers each of them closed.
+use Rattle.std.specs.Prelude.{ℕ, ◌==◌, ◌&&◌, nat_le, max, Bool, List, [], ◌∷◌, map, find, fold, if◌then◌else◌, Option, string_bytes}
+use Rattle.std.specs.Option.{option_map}
+use Rattle.office_register.specs.declared.register.Archive.{Archive}
+use Rattle.office_register.specs.declared.register.Register.{Register}
+use Rattle.office_register.specs.declared.register.Segment.{Segment}
+
+-- an archive: its place in the order of closing, the name of its file, the number of its newest visit
+pub record ArchiveContent : Type 0 where
+  pub place : ℕ
+  pub file : List ℕ
+  pub visits : ℕ
+
+-- a segment of a partner's numbers: up to its last one they are in the archives from the first to this one
+pub record RegisterContent : Type 0 where
+  pub archives : List ArchiveContent
+  pub segments : List Segment
+  -- in an archive's own register: the file of the store that goes on
+  pub closed_for : Option (List ℕ)
+
+abbrev pub archive_content : Archive → ArchiveContent
+archive_content archive =
+    record { place = archive.place; file = string_bytes archive.file; visits = archive.visits }
+
+abbrev pub register_content : Register → RegisterContent
+register_content register =
+    record {
+      archives = map archive_content register.archives.items;
+      segments = register.segments.items;
+      closed_for = option_map string_bytes register.closed_for;
+    }
+
+-- ---- what it tells
+
+abbrev pub is_of : ℕ → Segment → Bool
+is_of partner segment = segment.partner == partner
+
+-- the last number of a partner that is closed, 0 if none is
+abbrev pub last_closed : List Segment → ℕ → ℕ
+last_closed [] partner = 0
+last_closed (segment ∷ segments) partner =
+    max (if is_of partner segment then segment.last else 0) (last_closed segments partner)
+
+abbrev pub reaches : ℕ → ℕ → Segment → Bool
+reaches partner number segment = is_of partner segment && nat_le number segment.last
+
+-- the place of the archive of a partner's number: of the first segment that reaches it
+abbrev pub archive_of : List Segment → ℕ → ℕ → Option ℕ
+archive_of segments partner number =
+    option_map (λ (segment : Segment). segment.archive) (find (reaches partner number) segments)
+
+-- the number of the newest visit as the last archive was closed, 0 if there is none
+abbrev pub newest_visit : List ArchiveContent → ℕ
+newest_visit archives = fold (λ _ archive. archive.visits) 0 archives

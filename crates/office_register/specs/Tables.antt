@@ -1,0 +1,66 @@
+-- The tables of a register as SQL declares them.
+use Rattle.std.specs.Prelude.{false, [], ◌∷◌, Some, None, codes, List}
+use Rattle.sqlite_value.specs.Keys.{plain}
+use Rattle.sqlite.specs.Table.{Table}
+use Rattle.sqlite.specs.Schema.{Schema}
+use Rattle.sqlite.specs.Kind.TheVariants.{Integer, Text}
+use Rattle.office_rows.specs.Tables.{required_column, key_column, schema_of}
+
+-- a row for each archive
+abbrev pub archive_table : Table
+archive_table = record {
+  name = codes "archive";
+  tree = 0;
+  columns = key_column (codes "place") ∷ required_column (codes "file") Text ∷ required_column (codes "visits") Integer ∷ [];
+  key = Some 0;
+  primary = 0 ∷ [];
+  uniques = (2 ∷ []) ∷ [];
+  orders = plain ∷ [];
+  checks = [];
+  references = [];
+  computed = [];
+  stamps = record { places = []; terms = []; formats = [] };
+  is_counted = false;
+}
+
+-- a row for each partner of which an archive closed numbers
+abbrev pub segment_table : Table
+segment_table = record {
+  name = codes "segment";
+  tree = 2;
+  columns = required_column (codes "partner") Integer ∷ required_column (codes "archive") Integer ∷ required_column (codes "last") Integer ∷ [];
+  key = None;
+  primary = 1 ∷ 2 ∷ [];
+  uniques = (1 ∷ 2 ∷ []) ∷ [];
+  orders = plain ∷ [];
+  checks = [];
+  references = [];
+  computed = [];
+  stamps = record { places = []; terms = []; formats = [] };
+  is_counted = false;
+}
+
+-- in an archive's own register a row, and else none
+abbrev pub closed_for_table : Table
+closed_for_table = record {
+  name = codes "closed_for";
+  tree = 4;
+  columns = required_column (codes "file") Text ∷ [];
+  key = None;
+  primary = 1 ∷ [];
+  uniques = (1 ∷ []) ∷ [];
+  orders = plain ∷ [];
+  checks = [];
+  references = [];
+  computed = [];
+  stamps = record { places = []; terms = []; formats = [] };
+  is_counted = false;
+}
+
+-- the tables in the order in which they are made
+abbrev pub register_tables : List Table
+register_tables = archive_table ∷ segment_table ∷ closed_for_table ∷ []
+
+-- the schema that they make, with their automatic indexes
+abbrev pub register_schema : Schema
+register_schema = schema_of register_tables

@@ -1,0 +1,146 @@
+ghost use Rattle.std.specs.Prelude.{◌≡◌, [], ◌∷◌, false, OnOk, OnErr, IfErr, IsTrue};
+ghost use Rattle.office_register.specs.Changes.{unchanged, with_archive, with_segments, closed_with, unmarked, marked_for};
+ghost use Rattle.office_register.specs.Register.{archive_content};
+ghost use Rattle.office_register.specs.Transactions.{Writes, WritesIfOpen, Becomes, HasBecome};
+ghost use Rattle.office_tables.specs.Faults.{IsOfStore};
+ghost use Rattle.sqlite.specs.Held.{state};
+ghost use Rattle.sqlite.specs.State.{HasCleanDisk, Survives};
+ghost use Rattle.sqlite_value.specs.Value.{owned};
+ghost use Rattle.sqlite_value.specs.declared.value.Value.TheVariants.{Text};
+
+use crate::register::{Archive, Segment};
+use office_tables::{TableFault, integer};
+use sqlite::types::ValueRef;
+use sqlite::{Alter, Connection, Transaction};
+
+/// Adds an archive with the segments that it closes, all or none of them; the caller gives the next place, and of each
+/// partner a last number above the one before.
+///
+/// It fails where the place, the file or a segment's partner and archive are there.
+pub fn close_with<S: Alter>(
+    conn: &mut Connection<S>,
+    archive: &Archive,
+    segments: &[Segment],
+) -> Result<(), TableFault>
+    requires { (state S.Store conn.old).in_transaction ≡ false }
+    ensures idle { (state S.Store conn.new).in_transaction ≡ false }
+    ensures ok { HasCleanDisk (state S.Store conn.new) →
+        OnOk result (Becomes unchanged (closed_with (archive_content archive.now) segments.now)
+        (state S.Store conn.old) (state S.Store conn.new)) }
+    ensures err { HasCleanDisk (state S.Store conn.new) → IsTrue (state S.Store conn.new).is_open
+        → OnErr result (((state S.Store conn.new).now ≡ (state S.Store conn.old).committed)
+        × ((state S.Store conn.new).committed ≡ (state S.Store conn.old).committed)) }
+    ensures crash { Survives (state S.Store conn.old) (state S.Store conn.new)
+        (HasBecome unchanged (closed_with (archive_content archive.now) segments.now) (state S.Store conn.old)) }
+    ensures fault { IfErr result IsOfStore }
+{
+    let is_idle = conn.is_autocommit();
+    prove!(is_idle);
+    let mut tx = conn.transaction();
+    write_closing(&mut tx, archive, segments)?;
+    tx.commit()?;
+    Ok(())
+}
+
+/// Marks the register of an archive: the store in this file goes on. All of it, or nothing.
+pub fn mark<S: Alter>(conn: &mut Connection<S>, file: &str) -> Result<(), TableFault>
+    requires { (state S.Store conn.old).in_transaction ≡ false }
+    ensures idle { (state S.Store conn.new).in_transaction ≡ false }
+    ensures ok { HasCleanDisk (state S.Store conn.new) →
+        OnOk result (Becomes unmarked (marked_for file.now) (state S.Store conn.old) (state S.Store conn.new)) }
+    ensures err { HasCleanDisk (state S.Store conn.new) → IsTrue (state S.Store conn.new).is_open
+        → OnErr result (((state S.Store conn.new).now ≡ (state S.Store conn.old).committed)
+        × ((state S.Store conn.new).committed ≡ (state S.Store conn.old).committed)) }
+    ensures crash { Survives (state S.Store conn.old) (state S.Store conn.new)
+        (HasBecome unmarked (marked_for file.now) (state S.Store conn.old)) }
+    ensures fault { IfErr result IsOfStore }
+{
+    let is_idle = conn.is_autocommit();
+    prove!(is_idle);
+    let mut tx = conn.transaction();
+    insert_mark(&mut tx, file)?;
+    tx.commit()?;
+    Ok(())
+}
+
+/// The archive and its segments, in the transaction.
+fn write_closing<S: Alter>(
+    tx: &mut Transaction<'_, S>,
+    archive: &Archive,
+    segments: &[Segment],
+) -> Result<(), TableFault>
+    ensures same_reference { tx.new.conn.ghost_name ≡ tx.old.conn.ghost_name }
+    ensures writes { Writes unchanged (closed_with (archive_content archive.now) segments.now)
+        (state S.Store tx.old.conn.now) (state S.Store tx.new.conn.now) result }
+{
+    insert_archive(tx, archive)?;
+    insert_segments(tx, segments)
+}
+
+fn insert_archive<S: Alter>(
+    tx: &mut Transaction<'_, S>,
+    archive: &Archive,
+) -> Result<(), TableFault>
+    ensures same_reference { tx.new.conn.ghost_name ≡ tx.old.conn.ghost_name }
+    ensures writes { Writes unchanged (with_archive (archive_content archive.now)) (state S.Store tx.old.conn.now)
+        (state S.Store tx.new.conn.now) result }
+{
+    tx.execute(
+        "INSERT INTO archive (place, file, visits) VALUES (?1, ?2, ?3)",
+        &[
+            integer(u32::from(archive.place)),
+            characters(archive.file.as_str()),
+            integer(archive.visits),
+        ],
+    )?;
+    Ok(())
+}
+
+fn insert_segments<S: Alter>(
+    tx: &mut Transaction<'_, S>,
+    segments: &[Segment],
+) -> Result<(), TableFault>
+    ensures same_reference { tx.new.conn.ghost_name ≡ tx.old.conn.ghost_name }
+    ensures writes { WritesIfOpen unchanged (with_segments segments.now) (state S.Store tx.old.conn.now)
+        (state S.Store tx.new.conn.now) result }
+{
+    for segment in segments {
+        insert_segment(tx, *segment)?;
+    }
+    Ok(())
+}
+
+fn insert_segment<S: Alter>(tx: &mut Transaction<'_, S>, segment: Segment) -> Result<(), TableFault>
+    ensures same_reference { tx.new.conn.ghost_name ≡ tx.old.conn.ghost_name }
+    ensures writes { Writes unchanged (with_segments (segment ∷ [])) (state S.Store tx.old.conn.now)
+        (state S.Store tx.new.conn.now) result }
+{
+    tx.execute(
+        "INSERT INTO segment (partner, archive, last) VALUES (?1, ?2, ?3)",
+        &[
+            integer(u32::from(segment.partner)),
+            integer(u32::from(segment.archive)),
+            integer(segment.last),
+        ],
+    )?;
+    Ok(())
+}
+
+fn insert_mark<S: Alter>(tx: &mut Transaction<'_, S>, file: &str) -> Result<(), TableFault>
+    ensures same_reference { tx.new.conn.ghost_name ≡ tx.old.conn.ghost_name }
+    ensures writes { Writes unmarked (marked_for file.now) (state S.Store tx.old.conn.now)
+        (state S.Store tx.new.conn.now) result }
+{
+    tx.execute(
+        "INSERT INTO closed_for (file) VALUES (?1)",
+        &[characters(file)],
+    )?;
+    Ok(())
+}
+
+/// A text as SQL has it.
+fn characters<'a>(text: &'a str) -> ValueRef<'a>
+    ensures { owned result ≡ Text text.now }
+{
+    ValueRef::Text(text.as_bytes())
+}
