@@ -1,0 +1,7 @@
+mod DeleteLemmas
+mod NumberLemmas
+mod ClearLemmas
+mod LoopLemmas
+mod CompareLemmas
+mod LawLemmas
+mod VisitLemmas
