@@ -18,6 +18,7 @@ use Rattle.office_history.specs.After.{SaysSame, content_after, deliveries_of, m
 use Rattle.office_history.specs.Laws.{answer_model_of}
 pub use Rattle.office_history.proofs.Alike.{codes_after}
 use Rattle.office_history.proofs.Alike.{after_with_codes, delivered_with_codes, now_with_codes, opening_like, reply_like, state_like, taking_with_codes, with_codes}
+use Rattle.office_journal.specs.Kept.{kept}
 use Rattle.office_desk.specs.Answers.{code_of, answer_by_model, answer_at, answer_to}
 use Rattle.office_desk.specs.Alike.{AnswersAlike}
 
@@ -70,6 +71,7 @@ module _ (content : SetupContent) (table : CodeTable) (same : table_texts table 
     answers = answers_same;
     terminal = terminal_same;
     rows = λ rows are. after_with_codes newest other es rows content.codes (sym same ∙ ap table_texts (sym (codes_after es other))) are;
+    order = λ rows are. are ∙ ap kept (delivered_with_codes es content table);
   }
 
 -- set-ups that say the same differ in codes that say the same

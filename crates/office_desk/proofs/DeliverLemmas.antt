@@ -148,13 +148,17 @@ module _ {S : Type 0} (g : Ghosts S) (content : SetupContent) (es : List Event) 
 
   -- ---- what a crash leaves
 
+  -- the accounts so far refuse it
+  pub refused_at : (sent text : List ℕ) (desk : Desk S g) (refusal : Refusal) → text ≡ interchange_of sent → StandsFor g content es desk → IsRefused desk.setup text refusal →
+      admission parties (interchange_of sent) ≡ Err (fault_in refusal)
+  refused_at sent text desk refusal is stands refused =
+      subst (λ others. admission others (interchange_of sent) ≡ Err (fault_in refusal)) (parties_now desk stands)
+      (subst (λ other. admission (parties_of desk.setup) other ≡ Err (fault_in refusal)) is (refused_for desk.setup text refusal refused))
+
   pub refusal_leaves : (sent text : List ℕ) (given : Response) (desk : Desk S g) (refusal : Refusal) → text ≡ interchange_of sent → StandsFor g content es desk →
       IsRefused desk.setup text refusal → Leaves content es (state g desk.conn) → LeavesBehind content es sent given (state g desk.conn)
   refusal_leaves sent text given desk refusal is stands refused leaves =
-      let here : admission parties (interchange_of sent) ≡ Err (fault_in refusal) =
-      subst (λ others. admission others (interchange_of sent) ≡ Err (fault_in refusal)) (parties_now desk stands)
-      (subst (λ other. admission (parties_of desk.setup) other ≡ Err (fault_in refusal)) is (refused_for desk.setup text refusal refused)) in
-      answered_behind content es sent given (state g desk.conn) (refused_leaves content es sent (fault_in refusal) (state g desk.conn) here leaves)
+      answered_behind content es sent given (state g desk.conn) (refused_leaves content es sent (fault_in refusal) (state g desk.conn) (refused_at sent text desk refusal is stands refused) leaves)
 
 -- ---- over any office
 

@@ -11,8 +11,11 @@ pub mod NumberLemmas
 pub mod OfficeAccounts
 pub mod OfficeLemmas
 pub mod OfficeSteps
+pub mod OrderLemmas
+pub mod PageLemmas
 pub mod PartLemmas
 pub mod ReportLemmas
+pub mod RebuiltLemmas
 pub mod RunLoads
 pub mod RunNexts
 pub mod RunSteps

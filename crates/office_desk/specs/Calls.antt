@@ -28,11 +28,12 @@ use Rattle.office_desk.specs.Kept.{AnswersOver, Office}
 use Rattle.office_desk.specs.Looking.{DeskShows, IsOpenAt, ShowsUnfitReply}
 use Rattle.office_desk.specs.Noting.{IsNow, NotesCause, NotesFault, NotesLook, NotesStore}
 use Rattle.office_desk.specs.Offices.{DeskHolds}
+use Rattle.office_desk.specs.Order.{AddsInOrder, DeliversInOrder}
 use Rattle.office_desk.specs.declared.desk.Desk.{Desk}
 
 -- A text was delivered, with that response. From whatever events it is answered at its place; over any office's rows by
--- what is kept; what a crash leaves; the set-up stays; what is refused is refused so, and touches nothing; why it is
--- NotNow; and what is admitted and answered otherwise is so over an open connection.
+-- what is kept; what a crash leaves; the order of arrival is kept; the set-up stays; what is refused is refused so, and
+-- touches nothing; why it is NotNow; and what is admitted and answered otherwise is so over an open connection.
 pub record Leads {S : Type 0} (g : Ghosts S) (old : Desk S g) (sent : List ℕ) (response : Response) (new : Desk S g)
     : Type 0 where
   pub delivers : IsSound g new → (content : SetupContent) (es : List Event) → StandsFor g content es old →
@@ -43,6 +44,7 @@ pub record Leads {S : Type 0} (g : Ghosts S) (old : Desk S g) (sent : List ℕ) 
   pub stays : IsSound g new → IsSound g old
   pub crash : IsSound g old → HasCleanDisk (state g new.conn) → (content : SetupContent) (es : List Event) →
       StandsFor g content es old → LeavesBehind content es sent response (state g new.conn)
+  pub order : DeliversInOrder g old sent response new
   pub refused : Refuses g sent old response new
   pub sure : RefusedSurely (parties_of old.setup) (interchange_of sent) response
   pub noted : NotesFault response old.last_fault new.last_fault
@@ -50,7 +52,7 @@ pub record Leads {S : Type 0} (g : Ghosts S) (old : Desk S g) (sent : List ℕ) 
       admission (parties_of old.setup) (interchange_of sent) ≡ Ok place → IsNow response → IsSound g new
 
 -- An account was asked for under a code, of a kind, with that answer. From whatever events it is answered at its place;
--- by the desk's own set-up, whatever rows it has; what a crash leaves; and why it is NotNow.
+-- by the desk's own set-up, whatever rows it has; what a crash leaves; the order of arrival is kept; and why it is NotNow.
 pub record Enrols {S : Type 0} (g : Ghosts S) (old : Desk S g) (code kind : List ℕ) (answer : AccountAnswer)
     (new : Desk S g) : Type 0 where
   pub adds : IsSound g new → (content : SetupContent) (es : List Event) → StandsFor g content es old →
@@ -60,15 +62,17 @@ pub record Enrols {S : Type 0} (g : Ghosts S) (old : Desk S g) (code kind : List
   pub over : IsSound g new → AddsOver g old code kind answer new
   pub crash : IsSound g old → HasCleanDisk (state g new.conn) → (content : SetupContent) (es : List Event) →
       StandsFor g content es old → LeavesAdded content es code kind answer (state g new.conn)
+  pub order : AddsInOrder g old code kind answer new
   pub noted : NotesStore answer old.last_fault new.last_fault
 
--- The desk stands where it stood, and holds what it held; a crash leaves nothing that it would not have left before; and
--- what isn't sound stays so.
+-- The desk stands where it stood, and holds what it held: what is committed stays as it is; a crash leaves nothing that it
+-- would not have left before; and what isn't sound stays so.
 pub record OnlyLooks {S : Type 0} (g : Ghosts S) (old new : Desk S g) : Type 0 where
   pub same : IsSound g new → (content : SetupContent) (es : List Event) → StandsFor g content es old →
       StandsFor g content es new
   pub holds : IsSound g new → (rows : Rows) (terminal : TerminalState) → DeskHolds g old rows terminal →
       DeskHolds g new rows terminal
+  pub committed : IsSound g new → (state g new.conn).committed ≡ (state g old.conn).committed
   pub crash : IsSound g old → HasCleanDisk (state g new.conn) → (state g old.conn).committed.schema ≡ office_schema →
       LeavesNoMore (state g old.conn) (state g new.conn)
   pub stays : IsSound g new → IsSound g old

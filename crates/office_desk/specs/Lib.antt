@@ -9,8 +9,10 @@ pub mod Looking
 pub mod Finding
 pub mod Kept
 pub mod Taking
+pub mod Order
 pub mod Noting
 pub mod Alike
 pub mod Accounts
 pub mod Calls
+pub mod Rebuilding
 pub mod Causes

@@ -1,6 +1,6 @@
 ghost use Rattle.std.specs.Prelude.{◌≡◌, ◌<◌, false, length, string_bytes, IfOk, OnOk, OnErr, IsTrue, ◌≤◌, ◌++◌, [], ◌∷◌, Some, IfErr, map, option_map};
 ghost use Rattle.office_delivery.specs.Reading.{OnlyReads};
-ghost use Rattle.office_delivery.specs.Writing.{WritesWhole};
+ghost use Rattle.office_delivery.specs.Writing.{IsWholeInOrder, WritesWhole};
 ghost use Rattle.office_desk.specs.Accounts.{IsLengthened, IsSameOrNone};
 ghost use Rattle.office_desk.specs.Causes.{LacksNumbers, LacksSome};
 ghost use Rattle.office_desk.specs.Reports.{AreLookedUp, IsLookedUp, TellsPartners, TellsNext, TellsPartner, partner_called};
@@ -15,7 +15,7 @@ ghost use Rattle.office_setup.specs.Setups.{setup_content, setup_with_account, a
 ghost use Rattle.office_tables.specs.Faults.{IsOfStoreOr};
 ghost use Rattle.office_tables.specs.Reading.{Reads};
 ghost use Rattle.sqlite.specs.Held.{state};
-ghost use Rattle.sqlite.specs.State.{HasCleanDisk};
+ghost use Rattle.sqlite.specs.State.{HasCleanDisk, Survives};
 
 use crate::beside::Beside;
 use edi_messages::PartnerKind;
@@ -61,6 +61,8 @@ pub(crate) fn add_new<S: Alter>(
     ensures less { OnErr result (IsSameOrNone beside.old beside.new) }
     ensures writes { WritesWhole (with_partner id code.now kind) (state S.Store conn.old) (state S.Store conn.new)
         result }
+    ensures crash_in_order { Survives (state S.Store conn.old) (state S.Store conn.new)
+        (IsWholeInOrder (with_partner id code.now kind) (state S.Store conn.old)) }
 {
     let body = account_added(alloc, id, code)?;
     let grown = setup.with_account(alloc, code, kind)?;

@@ -2,6 +2,8 @@
 
 ghost use Rattle.office_desk.specs.Alike.{SameSetupsAnswerAlike};
 ghost use Rattle.office_desk.specs.Calls.{DeliveriesAreAnswered, DeliveriesOutlastCrashes};
+ghost use Rattle.office_desk.specs.Rebuilding.{NewStoresAreInOrder, OpenedStandInOrder, LooksStayInOrder, DeliveriesStayInOrder};
+ghost use Rattle.office_desk.specs.Rebuilding.{DesksKeepJournals, DesksHandOutJournals, DesksAreRebuilt};
 
 use sqlite::Alter;
 
@@ -21,4 +23,40 @@ pub fn deliveries_are_answered<S: Alter>()
 /// the rows after those that were answered, and of a last one that was answered NotNow all or nothing.
 pub fn deliveries_outlast_crashes<S: Alter>()
     ensures { DeliveriesOutlastCrashes S.Store }
+{}
+
+/// The rows of a new store stand in the order of arrival: there is no interchange.
+pub fn new_stores_are_in_order()
+    ensures { NewStoresAreInOrder }
+{}
+
+/// A desk that is opened on rows in the order of arrival stands in it.
+pub fn opened_stand_in_order<S: Alter>()
+    ensures { OpenedStandInOrder S.Store }
+{}
+
+/// A desk that stands in the order of arrival does so after a look.
+pub fn looks_stay_in_order<S: Alter>()
+    ensures { LooksStayInOrder S.Store }
+{}
+
+/// After any number of deliveries a desk stands in the order of arrival, if it did before.
+pub fn deliveries_stay_in_order<S: Alter>()
+    ensures { DeliveriesStayInOrder S.Store }
+{}
+
+/// A desk that stands in the order of arrival has the journal in its table, in the order of the rowids.
+pub fn desks_keep_journals<S: Alter>()
+    ensures { DesksKeepJournals S.Store }
+{}
+
+/// What such a desk hands out is a page of the journal, from the number on that is asked for.
+pub fn desks_hand_out_journals<S: Alter>()
+    ensures { DesksHandOutJournals S.Store }
+{}
+
+/// The texts that a desk keeps, delivered in the order of their rowids to a new desk with its set-up and accounts, make
+/// the same office: with the same rows, in the same order, the same terminal, and the same answers from then on.
+pub fn desks_are_rebuilt<S: Alter>()
+    ensures { DesksAreRebuilt S.Store }
 {}

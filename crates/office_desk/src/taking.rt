@@ -1,11 +1,12 @@
 ghost use Rattle.std.specs.Prelude.{◌≡◌, None, Some, false, IfOk, IsTrue, OnOk, ◌≤◌, IfErr, ◌+◌, List, MatchOption, length, map, nat_lt, if◌then◌else◌};
 ghost use Rattle.office_admission.specs.Accounts.{AccountPair, account_answer, added_as, by_number, by_own_kind, refused_for};
 ghost use Rattle.office_delivery.specs.Reading.{OnlyReads};
-ghost use Rattle.office_delivery.specs.Writing.{EndsIdle, WritesWhole};
+ghost use Rattle.office_delivery.specs.Writing.{EndsIdle, IsWholeInOrder, WritesWhole};
 ghost use Rattle.office_desk.specs.Accounts.{standing_content};
 ghost use Rattle.office_desk.specs.Answers.{answer_by_model};
 ghost use Rattle.office_desk.specs.Finding.{IsFound, IsNotFound, IsOpenIfKept};
 ghost use Rattle.office_desk.specs.Noting.{IsNow};
+ghost use Rattle.office_desk.specs.Order.{RunsInOrder, TakesInOrder};
 ghost use Rattle.office_desk.specs.Taking.{IsDelivered, IsNew, TakesDelivery, TakesRun};
 ghost use Rattle.office_desk.specs.Telling.{delivery_of};
 ghost use Rattle.office_replies.specs.Contents.{content_of};
@@ -19,7 +20,7 @@ ghost use Rattle.office_setup.specs.Setups.{setup_content};
 ghost use Rattle.partner_core.specs.Answers.{Waiting};
 ghost use Rattle.partner_core.specs.Numbered.{with_number};
 ghost use Rattle.sqlite.specs.Held.{state};
-ghost use Rattle.sqlite.specs.State.{HasCleanDisk};
+ghost use Rattle.sqlite.specs.State.{HasCleanDisk, Survives};
 ghost use Rattle.office_replies.specs.declared.accounts.AccountFault.TheVariants as fault;
 
 use crate::accounts::AccountStanding;
@@ -66,6 +67,8 @@ pub(crate) fn take_in<S: Alter>(
     ensures is_open { HasCleanDisk (state S.Store conn.new) → OnOk result (IsTrue (state S.Store conn.new).is_open) }
     ensures takes { TakesDelivery (setup_content setup.now) (delivery_of delivery.now) delivery.now.code.now
         (state S.Store conn.old) beside.old result (state S.Store conn.new) beside.new }
+    ensures in_order { TakesInOrder (setup_content setup.now) (delivery_of delivery.now) (state S.Store conn.old)
+        beside.old result (state S.Store conn.new) }
 {
     let is_idle = conn.is_autocommit();
     prove!(is_idle);
@@ -105,6 +108,9 @@ fn take_new<S: Alter>(
     ensures takes { IsNew (delivery_of delivery.now) there (state S.Store conn.old) →
         TakesDelivery (setup_content setup.now) (delivery_of delivery.now) delivery.now.code.now
         (state S.Store conn.old) (Some there) result (state S.Store conn.new) beside.new }
+    ensures in_order { IsNew (delivery_of delivery.now) there (state S.Store conn.old) →
+        TakesInOrder (setup_content setup.now) (delivery_of delivery.now) (state S.Store conn.old)
+        (Some there) result (state S.Store conn.new) }
 {
     if delivery.number < next {
         return Err(TableFault::Damaged);
@@ -233,6 +239,9 @@ pub(crate) fn keep_early<S: Alter>(
         content_of response ≡ answer_by_model delivery.now.code.now delivery.now.number (Waiting next)) }
     ensures writes { WritesWhole (with_waiting delivery.now.admitted.partner delivery.now.number delivery.now.text.now)
         (state S.Store conn.old) (state S.Store conn.new) result }
+    ensures crash_in_order { Survives (state S.Store conn.old) (state S.Store conn.new)
+        (IsWholeInOrder (with_waiting delivery.now.admitted.partner delivery.now.number delivery.now.text.now)
+        (state S.Store conn.old)) }
 {
     let partner = delivery.admitted.partner;
     let answer = answer_waiting(alloc, next, delivery)?;
@@ -259,6 +268,9 @@ pub(crate) fn take_next<S: Alter>(
     ensures is_open { HasCleanDisk (state S.Store conn.new) → OnOk result (IsTrue (state S.Store conn.new).is_open) }
     ensures takes { HasCleanDisk (state S.Store conn.new) →
         TakesRun (delivery_of delivery.now) delivery.now.code.now setup.now beside (state S.Store conn.old) result
+        (state S.Store conn.new) }
+    ensures in_order { HasCleanDisk (state S.Store conn.new) →
+        RunsInOrder (delivery_of delivery.now) setup.now beside (state S.Store conn.old) result
         (state S.Store conn.new) }
 {
     let mut beside = beside;

@@ -10,6 +10,7 @@ use Rattle.office_delivery.specs.Reading.{IsSame}
 use Rattle.office_delivery.proofs.ReadLemmas.{text_kept, was_clean, was_open}
 use Rattle.office_desk.specs.Beside.{IsAt}
 use Rattle.office_desk.specs.Finding.{IsOpenIfKept, KeepsBeside}
+use Rattle.office_desk.specs.Order.{IsInOrder, stored}
 use Rattle.office_desk.specs.Taking.{IsNew}
 use Rattle.office_desk.specs.Telling.{delivery_of}
 use Rattle.office_desk.proofs.CrashLemmas.{leaves_less, used_leaves}
@@ -17,6 +18,7 @@ use Rattle.office_desk.proofs.DeliverLemmas.{is_now}
 use Rattle.office_desk.proofs.HoldLemmas.{held_with, next_is, used_answers}
 use Rattle.office_desk.proofs.KeptLemmas.{failed_stays, next_found, used_by_kept}
 use Rattle.office_desk.proofs.OfficeLemmas.{office_with}
+use Rattle.office_desk.proofs.OrderLemmas.{failed_in_order, failed_leaves_in_order, used_in_order}
 use Rattle.office_desk.proofs.TakingLemmas.{failed_holds, failed_leaves}
 use Rattle.office_desk.proofs.taking.take_in.Goals as goal
 
@@ -204,3 +206,97 @@ returns-in_ok-answer_used-in-Some-clause-is_open g c clean =
     let found = c.in_ok-kept.field-0 in
     let kept_is : found.kept ≡ Some c.in-Some.kept = let e = c.in_ok-kept.kept-is in let is = c.in-Some.is in cc in
     subst (λ kept. IsOpenIfKept kept mid) kept_is (c.in_ok-kept.ensures.is_open clean)
+
+-- ---- the order of arrival
+
+pub returns-in_ok-answer_used-in-Some-clause-in_order : goal.returns-in_ok-answer_used-in-Some-clause-in_order
+returns-in_ok-answer_used-in-Some-clause-in_order g c =
+    let a = c.args in
+    let d = a.delivery.now in
+    let partner = d.admitted.partner in
+    let old = state g.S.Store a.conn.now in
+    let mid = state g.S.Store c.look.new.conn in
+    let found = c.in_ok-kept.field-0 in
+    let kept_is : found.kept ≡ Some c.in-Some.kept = let e = c.in_ok-kept.kept-is in let is = c.in-Some.is in cc in
+    let idle = c.is_autocommit-is_idle.ensures.value ∙ ap not c.requires.idle in
+    record {
+      rows = λ clean is_open opening es sent holds order comes.
+          let settled : old.now ≡ old.committed = c.is_autocommit-is_idle.ensures.settled idle ((c.look.ensures.reads.reads.keeps clean).was_open is_open) in
+          let has : HasRows holds.rows old.now = subst (HasRows holds.rows) (sym settled) holds.has in
+          let same : IsSame old mid = c.in_ok-kept.ensures.reads.same clean in
+          let is_found = c.in_ok-kept.ensures.found clean in
+          let at : IsAt opening es found.there = is_found.beside.events opening es holds.rows holds.given has holds.after holds.beside in
+          let kept : IsKept partner d.number holds.rows (Some c.in-Some.kept) = subst (IsKept partner d.number holds.rows) kept_is (is_found.kept.events opening es holds.rows has holds.after at) in
+          used_in_order opening es sent holds.rows partner d.number c.in-Some.kept.text.items mid.committed holds.after comes.is_for
+          (text_kept partner d.number holds.rows c.in-Some.kept holds.after.kept_once kept) (subst (IsInOrder opening es) (sym same.committed) order);
+      crash = λ clean was_open opening es sent holds order leaves comes db left.
+          let settled : old.now ≡ old.committed = c.is_autocommit-is_idle.ensures.settled idle was_open in
+          let has : HasRows holds.rows old.now = subst (HasRows holds.rows) (sym settled) holds.has in
+          let is_found = c.in_ok-kept.ensures.found clean in
+          let at : IsAt opening es found.there = is_found.beside.events opening es holds.rows holds.given has holds.after holds.beside in
+          let kept : IsKept partner d.number holds.rows (Some c.in-Some.kept) = subst (IsKept partner d.number holds.rows) kept_is (is_found.kept.events opening es holds.rows has holds.after at) in
+          used_in_order opening es sent holds.rows partner d.number c.in-Some.kept.text.items (stored db) holds.after comes.is_for
+          (text_kept partner d.number holds.rows c.in-Some.kept holds.after.kept_once kept) (leaves db (leaves_less old mid clean c.look.ensures.reads.reads.survives db left));
+    }
+
+pub returns-in-None-clause-in_order : goal.returns-in-None-clause-in_order
+returns-in-None-clause-in_order g c =
+    let a = c.args in
+    let d = a.delivery.now in
+    let partner = d.admitted.partner in
+    let old = state g.S.Store a.conn.now in
+    let mid = state g.S.Store c.look.new.conn in
+    let ends = c.take_new.ensures.ends in
+    let found = c.in_ok-kept.field-0 in
+    let kept_is : found.kept ≡ None = let e = c.in_ok-kept.kept-is in let is = c.in-None.is in cc in
+    let idle = c.is_autocommit-is_idle.ensures.value ∙ ap not c.requires.idle in
+    let is_new : HasCleanDisk mid → old.now ≡ old.committed → IsSame old mid → IsNew (delivery_of d) found.there mid = λ clean settled same. record {
+      settled = same.now ∙ settled ∙ sym same.committed;
+      free = subst (λ db. KeepsBeside partner d.number db found.there None) (settled ∙ sym same.committed)
+          (subst (KeepsBeside partner d.number old.now found.there) kept_is (c.in_ok-kept.ensures.found clean).kept);
+    } in
+    record {
+      rows = λ clean is_open opening es sent holds order comes.
+          let before = ends.clean clean in
+          let settled : old.now ≡ old.committed = c.is_autocommit-is_idle.ensures.settled idle ((c.look.ensures.reads.reads.keeps before).was_open (ends.was_open clean is_open)) in
+          let has : HasRows holds.rows old.now = subst (HasRows holds.rows) (sym settled) holds.has in
+          let same : IsSame old mid = c.in_ok-kept.ensures.reads.same before in
+          let at : IsAt opening es found.there = (c.in_ok-kept.ensures.found before).beside.events opening es holds.rows holds.given has holds.after holds.beside in
+          (c.take_new.ensures.in_order (is_new before settled same)).rows clean is_open opening es sent
+          (held_with holds mid.committed (Some found.there) (subst (HasRows holds.rows) (sym same.committed) holds.has) at)
+          (subst (IsInOrder opening es) (sym same.committed) order) comes;
+      crash = λ clean was_open opening es sent holds order leaves comes.
+          let before = ends.clean clean in
+          let settled : old.now ≡ old.committed = c.is_autocommit-is_idle.ensures.settled idle was_open in
+          let has : HasRows holds.rows old.now = subst (HasRows holds.rows) (sym settled) holds.has in
+          let same : IsSame old mid = c.in_ok-kept.ensures.reads.same before in
+          let at : IsAt opening es found.there = (c.in_ok-kept.ensures.found before).beside.events opening es holds.rows holds.given has holds.after holds.beside in
+          (c.take_new.ensures.in_order (is_new before settled same)).crash clean (c.in_ok-kept.ensures.reads.reads.unchanged before was_open).0.is_open opening es sent
+          (held_with holds mid.committed (Some found.there) (subst (HasRows holds.rows) (sym same.committed) holds.has) at)
+          (subst (IsInOrder opening es) (sym same.committed) order)
+          (λ db left. leaves db (leaves_less old mid before c.look.ensures.reads.reads.survives db left)) comes;
+    }
+
+pub returns-in_err-kept-clause-in_order : goal.returns-in_err-kept-clause-in_order
+returns-in_err-kept-clause-in_order g c =
+    let old = state g.S.Store c.args.conn.now in
+    let mid = state g.S.Store c.look.new.conn in
+    record {
+      rows = λ clean is_open opening es sent holds order comes.
+          failed_in_order opening es sent _ c.from_residual.result mid.committed c.from_residual.ensures.1 (subst (IsInOrder opening es) (sym ((c.look.ensures.reads.reads.keeps clean).committed is_open)) order);
+      crash = λ clean was_open opening es sent holds order leaves comes. failed_leaves_in_order opening es sent _ c.from_residual.result mid c.from_residual.ensures.1 (λ db left.
+          inl (leaves db (leaves_less old mid clean c.look.ensures.reads.reads.survives db left)));
+    }
+
+pub returns-in_err-answer_used-in-Some-clause-in_order : goal.returns-in_err-answer_used-in-Some-clause-in_order
+returns-in_err-answer_used-in-Some-clause-in_order g c =
+    let old = state g.S.Store c.args.conn.now in
+    let mid = state g.S.Store c.look.new.conn in
+    let result = c.from_residual-in_err-answer_used-in-Some.result in
+    let failed = c.from_residual-in_err-answer_used-in-Some.ensures.1 in
+    record {
+      rows = λ clean is_open opening es sent holds order comes.
+          failed_in_order opening es sent _ result mid.committed failed (subst (IsInOrder opening es) (sym (c.in_ok-kept.ensures.reads.same clean).committed) order);
+      crash = λ clean was_open opening es sent holds order leaves comes. failed_leaves_in_order opening es sent _ result mid failed (λ db left.
+          inl (leaves db (leaves_less old mid clean c.look.ensures.reads.reads.survives db left)));
+    }

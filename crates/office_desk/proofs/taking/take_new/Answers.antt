@@ -11,6 +11,8 @@ use Rattle.office_tables.specs.Faults.{IsOfStore}
 use Rattle.office_tables.proofs.FaultLemmas.{of_store_alone, of_store_or}
 use Rattle.office_history.specs.After.{machine_with}
 use Rattle.office_desk.specs.Beside.{IsBeside, IsOrNone}
+use Rattle.office_desk.specs.Order.{IsInOrder, IsRunInOrder, stored}
+use Rattle.office_desk.specs.Taking.{HasNumbered}
 use Rattle.office_desk.specs.Telling.{IsRunDone, delivery_of}
 use Rattle.office_desk.proofs.CrashLemmas.{committed_leaves, either_of, run_after}
 use Rattle.office_desk.proofs.DeliverLemmas.{is_now}
@@ -21,6 +23,7 @@ use Rattle.office_desk.proofs.NextLemmas.{free_after, free_over}
 use Rattle.office_desk.proofs.NumberLemmas.{number_within}
 use Rattle.office_desk.proofs.OfficeAccounts.{keeps_accounts, next_follows}
 use Rattle.office_desk.proofs.OfficeLemmas.{office_with}
+use Rattle.office_desk.proofs.OrderLemmas.{committed_in_order, early_crash, early_rows, failed_in_order, failed_leaves_in_order, held_in_order, run_in_order}
 use Rattle.office_desk.proofs.TakingLemmas.{early_events, early_leaves, failed_holds, failed_leaves}
 use Rattle.office_desk.proofs.taking.take_new.Goals as goal
 
@@ -152,3 +155,78 @@ returns-in_err-answer-clause-takes g c new =
 pub returns-then-next-delivery-clause-is_open : goal.returns-then-next-delivery-clause-is_open
 returns-then-next-delivery-clause-is_open g c clean =
     on_ok c.keep_early.result (λ (done : Commits _ (state g.S.Store c.args.conn.now) (state g.S.Store c.keep_early.new.conn)). done.is_open) (c.keep_early.ensures.writes.ok clean)
+
+-- ---- the order of arrival
+
+pub returns-then-delivery-next-clause-in_order : goal.returns-then-delivery-next-clause-in_order
+returns-then-delivery-next-clause-in_order g c new = record {
+  rows = λ clean is_open opening es sent holds order comes. order;
+  crash = λ clean was_open opening es sent holds order leaves comes db left. inl (leaves db left);
+}
+
+pub returns-then-next-delivery-clause-in_order : goal.returns-then-next-delivery-clause-in_order
+returns-then-next-delivery-clause-in_order g c new =
+    let a = c.args in
+    let d = a.delivery.now in
+    let was = state g.S.Store a.conn.now in
+    let end = state g.S.Store c.keep_early.new.conn in
+    let partner = d.admitted.partner in
+    let writes = c.keep_early.ensures.writes in
+    let later = c.if-next-delivery.true in
+    record {
+      rows = λ clean is_open opening es sent holds order comes.
+          early_rows opening es sent (delivery_of d) was end a.next order comes (free_after new (held_in_order holds order)) (next_is opening es a.there partner a.next holds.beside c.requires.next) later
+          c.keep_early.result (writes.ok clean) (writes.err clean is_open);
+      crash = λ clean was_open opening es sent holds order leaves comes.
+          early_crash opening es sent (delivery_of d) was end a.next order comes (free_after new (held_in_order holds order)) (next_is opening es a.there partner a.next holds.beside c.requires.next) later
+          c.keep_early.result leaves (writes.ok clean) (c.keep_early.ensures.crash_in_order.crash clean);
+    }
+
+pub returns-clause-in_order : goal.returns-clause-in_order
+returns-clause-in_order g c new =
+    let a = c.args in
+    let d = a.delivery.now in
+    let was = state g.S.Store a.conn.now in
+    let end = state g.S.Store c.take_next.new.conn in
+    let partner = d.admitted.partner in
+    let same : d.number ≡ a.next = omega (arith, c.if-delivery-next.false, c.if-next-delivery.false) in
+    let runs = rw c.in_ok-answer.was at c.take_next.ensures.takes in
+    let in_order = rw c.in_ok-answer.was at c.take_next.ensures.in_order in
+    record {
+      rows = λ clean is_open opening es sent holds order comes.
+          let rows = order.rows in
+          let there : HasNumbered rows partner was = record { settled = new.settled; has = subst (HasRows rows) (sym new.settled) order.has.has; numbered = numbered opening es rows partner order.after.after } in
+          run_in_order opening es sent rows d.text.now partner d.number a.next a.there end.committed holds.given order.after holds.beside comes
+          (free_after new (held_in_order holds order)) (next_is opening es a.there partner a.next holds.beside c.requires.next) same
+          (subst (λ m. IsRunInOrder rows (delivery_of d) m end.committed) (machine_same a.setup.now a.there.terminal ∙ ap (λ k. machine_with k a.there.terminal) (sym holds.now_is))
+          ((in_order clean).ok rows there order.has));
+      crash = λ clean was_open opening es sent holds order leaves comes.
+          let rows = order.rows in
+          let there : HasNumbered rows partner was = record { settled = new.settled; has = subst (HasRows rows) (sym new.settled) order.has.has; numbered = numbered opening es rows partner order.after.after } in
+          committed_in_order opening (es ++ delivered sent ∷ []) end ((runs clean).ok rows there).alone
+          (run_in_order opening es sent rows d.text.now partner d.number a.next a.there end.committed holds.given order.after holds.beside comes
+          (free_after new (held_in_order holds order)) (next_is opening es a.there partner a.next holds.beside c.requires.next) same
+          (subst (λ m. IsRunInOrder rows (delivery_of d) m end.committed) (machine_same a.setup.now a.there.terminal ∙ ap (λ k. machine_with k a.there.terminal) (sym holds.now_is))
+          ((in_order clean).ok rows there order.has)));
+    }
+
+pub returns-in_err-answer-clause-in_order : goal.returns-in_err-answer-clause-in_order
+returns-in_err-answer-clause-in_order g c new =
+    let a = c.args in
+    let d = a.delivery.now in
+    let end = state g.S.Store c.take_next.new.conn in
+    let partner = d.admitted.partner in
+    let same : d.number ≡ a.next = omega (arith, c.if-delivery-next.false, c.if-next-delivery.false) in
+    let runs = rw c.in_err-answer.was at c.take_next.ensures.takes in
+    let in_order = rw c.in_err-answer.was at c.take_next.ensures.in_order in
+    record {
+      rows = λ clean is_open opening es sent holds order comes.
+          failed_in_order opening es sent _ c.from_residual.result end.committed c.from_residual.ensures.1 (subst (IsInOrder opening es) (sym ((runs clean).err is_open)) order);
+      crash = λ clean was_open opening es sent holds order leaves comes. failed_leaves_in_order opening es sent _ c.from_residual.result end c.from_residual.ensures.1 (λ db left.
+          let rows = order.rows in
+          either_of (λ before. leaves db before)
+          (λ done. run_in_order opening es sent rows d.text.now partner d.number a.next a.there (stored db) holds.given order.after holds.beside comes
+          (free_after new (held_in_order holds order)) (next_is opening es a.there partner a.next holds.beside c.requires.next) same
+          (subst (λ m. IsRunInOrder rows (delivery_of d) m (stored db)) (machine_same a.setup.now a.there.terminal ∙ ap (λ k. machine_with k a.there.terminal) (sym holds.now_is)) done))
+          ((in_order clean).crash rows (record { settled = new.settled; has = subst (HasRows rows) (sym new.settled) order.has.has; numbered = numbered opening es rows partner order.after.after }) order.has db left));
+    }

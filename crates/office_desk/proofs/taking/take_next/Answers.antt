@@ -10,7 +10,8 @@ use Rattle.office_delivery.proofs.ReadLemmas.{was_clean, was_open}
 use Rattle.office_delivery.specs.Taken.{taken_contents}
 use Rattle.office_delivery.specs.declared.running.Taken.{Taken}
 use Rattle.office_rows.specs.Stored.{HasRows}
-use Rattle.office_delivery.specs.Writing.{Commits, IsWhole}
+use Rattle.office_delivery.specs.Writing.{Commits, IsWhole, IsWholeInOrder}
+use Rattle.office_tables.specs.Order.{HasRowsInOrder}
 use Rattle.office_tables.proofs.FaultLemmas.{of_store_or}
 use Rattle.office_desk.proofs.AnswerLemmas.{takes_next}
 use Rattle.office_desk.proofs.CrashLemmas.{either_of, leaves_less}
@@ -137,3 +138,61 @@ overflow_add-index g c =
 -- what was written is committed over an open connection
 pub returns-clause-is_open : goal.returns-clause-is_open
 returns-clause-is_open g c clean = (c.in_ok-write_run.ensures.writes.ok clean).is_open
+
+-- ---- the order of arrival
+
+pub returns-clause-in_order : goal.returns-clause-in_order
+returns-clause-in_order g c clean =
+    let d = c.args.delivery.now in
+    let old = state g.S.Store c.args.conn.now in
+    let mid = state g.S.Store c.take_run.new.conn in
+    let new = state g.S.Store c.write_run.new.conn in
+    let items = c.in_ok-taken.taken.items in
+    let before : HasCleanDisk mid = c.write_run.ensures.writes.ends.clean clean in
+    let wrote : Commits (with_run d.admitted.partner d.number d.text.now (taken_contents items)) mid new = rw c.deref.ensures.value at (c.in_ok-write_run.ensures.writes.ok clean) in
+    let same : IsSame old mid = c.in_ok-taken.ensures.reads.same before in
+    record {
+      ok = λ rows there held. record {
+        taken = taken_contents items;
+        new = machine_of c.args.setup.now c.take_run.new.terminal;
+        are_taken = c.in_ok-taken.ensures.taken before rows d.text.now there.has there.numbered c.requires.delivered.admitted;
+        has = wrote.in_order rows (subst (HasRowsInOrder rows) (sym same.committed) held);
+      };
+      crash = tt;
+    }
+
+pub returns-in_err-taken-clause-in_order : goal.returns-in_err-taken-clause-in_order
+returns-in_err-taken-clause-in_order g c clean =
+    let old = state g.S.Store c.args.conn.now in
+    let new = state g.S.Store c.take_run.new.conn in
+    let p = err_from_is_err_and c.from_residual.result c.from_residual.ensures.1 in
+    rw (p.1, p.2) (record { ok = tt; crash = λ rows there held db left. inl (leaves_less old new clean c.take_run.ensures.reads.reads.survives db left) })
+
+pub returns-in_err-body-clause-in_order : goal.returns-in_err-body-clause-in_order
+returns-in_err-body-clause-in_order g c clean =
+    let old = state g.S.Store c.args.conn.now in
+    let new = state g.S.Store c.take_run.new.conn in
+    let p = err_from_is_err_and c.from_residual-in_err-body.result c.from_residual-in_err-body.ensures.1 in
+    rw (p.1, p.2) (record { ok = tt; crash = λ rows there held db left. inl (leaves_less old new clean c.take_run.ensures.reads.reads.survives db left) })
+
+pub returns-in_err-write_run-clause-in_order : goal.returns-in_err-write_run-clause-in_order
+returns-in_err-write_run-clause-in_order g c clean =
+    let a = c.args in
+    let d = a.delivery.now in
+    let old = state g.S.Store a.conn.now in
+    let mid = state g.S.Store c.take_run.new.conn in
+    let items = c.in_ok-taken.taken.items in
+    let before : HasCleanDisk mid = c.write_run.ensures.writes.ends.clean clean in
+    let p = err_from_is_err_and c.from_residual-in_err-write_run.result c.from_residual-in_err-write_run.ensures.1 in
+    rw (p.1, p.2) (record {
+      ok = tt;
+      crash = λ rows there held db left.
+          let wrote : mid.may_leave db ⊎ IsWholeInOrder (with_run d.admitted.partner d.number d.text.now (taken_contents items)) mid db = rw c.deref.ensures.value at (c.write_run.ensures.crash_in_order.crash clean db left) in
+          either_of (leaves_less old mid before c.take_run.ensures.reads.reads.survives db)
+          (λ is. record {
+            taken = taken_contents items;
+            new = machine_of a.setup.now c.take_run.new.terminal;
+            are_taken = c.in_ok-taken.ensures.taken before rows d.text.now there.has there.numbered c.requires.delivered.admitted;
+            has = is rows (subst (HasRowsInOrder rows) (sym (c.in_ok-taken.ensures.reads.same before).committed) held);
+          }) wrote;
+    })

@@ -13,14 +13,17 @@ use Rattle.office_rows.specs.Stored.{HasRows, StoresRows}
 use Rattle.office_setup.specs.Given.{IsGiven}
 use Rattle.office_setup.specs.Parties.{partner_from}
 use Rattle.office_setup.specs.Setups.{SetupContent, setup_content, setup_with_account}
+use Rattle.office_tables.specs.Order.{HasRowsInOrder}
 use Rattle.office_tables.specs.declared.table_fault.TableFault.TheVariants.{Memory}
 use Rattle.office_history.proofs.Growing.{account_adds_row}
 use Rattle.office_desk.specs.Accounts.{standing_content}
 use Rattle.office_desk.specs.Desks.{StandsFor}
+use Rattle.office_desk.specs.Order.{IsInOrder, StandsInOrder, stored}
 use Rattle.office_desk.specs.Telling.{Holds}
 use Rattle.office_desk.proofs.AccountLemmas.{account_after, account_held, asked_is, given_left, given_with, not_added, says_now, says_of}
 use Rattle.office_desk.proofs.CrashLemmas.{committed_leaves, either_of, held_leaves}
 use Rattle.office_desk.proofs.LookLemmas.{noted_fault, noted_told}
+use Rattle.office_desk.proofs.OrderLemmas.{account_in_order, committed_in_order}
 use Rattle.office_desk.proofs.desk.Desk.answer_account.Goals as goal
 
 -- ---- no code or no kind
@@ -40,6 +43,10 @@ returns-in_default g c =
         says = says;
         over = λ sound. (refl, refl, refl);
         crash = λ sound clean content es stands. held_leaves content es (setup_content desk.setup) (state g.S.Store desk.conn) desk.beside sound.1 (λ db left. g.met.S.Store.settled desk.conn.store db sound.1 left) stands;
+        order = record {
+          rows = λ sound content es was. was.in_order;
+          crash = λ sound clean content es was. committed_in_order content es (state g.S.Store desk.conn) (λ db left. g.met.S.Store.settled desk.conn.store db sound.1 left) was.in_order;
+        };
         noted = refl;
       };
     }
@@ -63,6 +70,10 @@ returns-in-Refused g c =
         says = says;
         over = λ sound. (refl, refl, refl);
         crash = λ sound clean content es stands. held_leaves content es (setup_content desk.setup) (state g.S.Store desk.conn) desk.beside sound.1 (λ db left. g.met.S.Store.settled desk.conn.store db sound.1 left) stands;
+        order = record {
+          rows = λ sound content es was. was.in_order;
+          crash = λ sound clean content es was. committed_in_order content es (state g.S.Store desk.conn) (λ db left. g.met.S.Store.settled desk.conn.store db sound.1 left) was.in_order;
+        };
         noted = refl;
       };
     }
@@ -87,6 +98,10 @@ returns-in-Ok g c =
         says = says;
         over = λ sound. (refl, refl, refl);
         crash = λ sound clean content es stands. held_leaves content es (setup_content desk.setup) (state g.S.Store desk.conn) desk.beside sound.1 (λ db left. g.met.S.Store.settled desk.conn.store db sound.1 left) stands;
+        order = record {
+          rows = λ sound content es was. was.in_order;
+          crash = λ sound clean content es was. committed_in_order content es (state g.S.Store desk.conn) (λ db left. g.met.S.Store.settled desk.conn.store db sound.1 left) was.in_order;
+        };
         noted = refl;
       };
     }
@@ -111,6 +126,11 @@ returns-in-Err g c =
         over = λ sound. (refl, refl, inl refl);
         crash = λ sound clean content es stands db left.
             inl (held_leaves content es (setup_content desk.setup) (state g.S.Store desk.conn) desk.beside sound.1 (λ db left. g.met.S.Store.settled desk.conn.store db sound.1 left) stands db left);
+        order = record {
+          rows = λ sound content es was. was.in_order;
+          crash = λ sound clean content es was db left.
+              inl (committed_in_order content es (state g.S.Store desk.conn) (λ db left. g.met.S.Store.settled desk.conn.store db sound.1 left) was.in_order db left);
+        };
         noted = (Memory, refl, tt);
       };
     }
@@ -144,6 +164,10 @@ returns-in-Ok-noted g c =
     (stood ∙ ap (λ (k : SetupContent). by_number k.partners own (partner_from 1 c.in-Some.code.now (map (λ (account : AccountPair). account.0) k.partners))) (sym stands.now_is)) in
     let has : HasCleanDisk new → (rows : Rows) → HasRows rows old.committed → HasRows (with_partner id code own rows) new.committed = λ clean rows had.
     subst (λ text. HasRows (with_partner id text own rows) new.committed) p.0 ((writes.ok clean).rows rows had) in
+    let in_order : HasCleanDisk new → (content : SetupContent) (es : List Event) → StandsInOrder g.S.Store content es desk → IsInOrder content (es ++ added code kind ∷ []) new.committed = λ clean content es was.
+    let rows = was.in_order.rows in
+    account_in_order content es code kind own id rows new.committed p.2 (is_now content es was.stands) was.in_order.after
+    (subst (λ text. HasRowsInOrder (with_partner id text own rows) new.committed) p.0 ((writes.ok clean).in_order rows was.in_order.has)) in
     record {
       enrols = record {
         adds = λ sound content es stands. (
@@ -157,6 +181,10 @@ returns-in-Ok-noted g c =
         crash = λ sound clean content es stands.
             committed_leaves content (es ++ added code kind ∷ []) new (with_partner id code own stands.rows) (writes.ok clean).alone (has clean stands.rows stands.has)
             (account_adds_row content es stands.rows code kind own id stands.after p.2 (is_now content es stands)).rows_are;
+        order = record {
+          rows = λ sound content es was. in_order sound.0 content es was;
+          crash = λ sound clean content es was. committed_in_order content (es ++ added code kind ∷ []) new (writes.ok clean).alone (in_order clean content es was);
+        };
         noted = met.1;
       };
     }
@@ -200,6 +228,18 @@ returns-in-Err-noted g c =
             either_of (λ was. before db was)
             (λ whole. account_after content es code kind own id p.2 is stands.rows db stands.after (subst (λ text. StoresRows (with_partner id text own stands.rows) db) p.0 (whole stands.rows stands.has)))
             (writes.crash.crash clean db left);
+        order = record {
+          rows = λ sound content es was. subst (IsInOrder content es) (sym (writes.err sound.0 sound.1)) was.in_order;
+          crash = λ sound clean content es was db left.
+              let is : account_answer (content_after content es).partners code kind ≡ added_as id =
+              asked_is (content_after content es).partners c.in-Some.code.now code kind own (added_as id) p.0 p.1 p.2
+              (stood ∙ ap (λ (k : SetupContent). by_number k.partners own (partner_from 1 c.in-Some.code.now (map (λ (account : AccountPair). account.0) k.partners))) (sym was.stands.now_is)) in
+              let before = committed_in_order content es old (λ d l. g.met.S.Store.settled desk.conn.store d sound.1 l) was.in_order in
+              let rows = was.in_order.rows in
+              either_of (λ was. before db was)
+              (λ whole. account_in_order content es code kind own id rows (stored db) p.2 is was.in_order.after (subst (λ text. HasRowsInOrder (with_partner id text own rows) (stored db)) p.0 (whole rows was.in_order.has)))
+              (made.crash_in_order.crash clean db left);
+        };
         noted = (met.0, met.2, writes.fault);
       };
     }

@@ -1,16 +1,18 @@
-use Rattle.std.proofs.Common.{◌≡◌, Ok, Err, Some, ◌-◌, get_or, string_bytes, arith, refl, sym, ap, subst, ◌∙◌}
+use Rattle.std.proofs.Common.{◌≡◌, [], ◌∷◌, ◌++◌, Ok, Err, Some, ◌-◌, get_or, string_bytes, arith, refl, sym, ap, subst, ◌∙◌}
 use Rattle.std.proofs.lemmas.Option.{slice_get-get_or}
 use Rattle.edi_segments.specs.Interchange.{interchange_of}
 use Rattle.edi_syntax.specs.Envelope.{header_of}
 use Rattle.edi_syntax.specs.Heads.{head_segments}
 use Rattle.edi_syntax.proofs.FaultLemmas.{control_number_within}
+use Rattle.office_replies.specs.Events.{delivered}
 use Rattle.office_replies.specs.declared.deliver.Response.TheVariants.{NotNow}
 use Rattle.office_admission.specs.Refusals.{RefusedSurely}
 use Rattle.office_setup.specs.Parties.{parties_of}
 use Rattle.office_setup.specs.Setups.{setup_content}
 use Rattle.office_desk.proofs.Admitted.{code_at, admitted_surely, never_refused, numbered, refused_for, refused_so}
-use Rattle.office_desk.proofs.DeliverLemmas.{refusal_delivered, refusal_leaves, refusal_over, comes_for, answers_over, not_now_surely, notes_memory, notes_none, taken_in, not_taken}
+use Rattle.office_desk.proofs.DeliverLemmas.{refusal_delivered, refusal_leaves, refusal_over, refused_at, comes_for, answers_over, not_now_surely, notes_memory, notes_none, taken_in, not_taken}
 use Rattle.office_desk.proofs.CrashLemmas.{answered_behind, held_leaves}
+use Rattle.office_desk.proofs.OrderLemmas.{answered_in_order, behind_in_order, committed_in_order, now_in_order, refused_in_order}
 use Rattle.office_admission.specs.Admission.{admission}
 use Rattle.office_desk.specs.Crashes.{Leaves}
 use Rattle.office_desk.specs.Kept.{IsNotedFor}
@@ -45,6 +47,16 @@ returns-in-Err g c =
         crash = λ sound clean content es stands.
             refusal_leaves g.S.Store content es sent text given desk c.in-Err.refusal exact stands refused
             (held_leaves content es (setup_content desk.setup) (state g.S.Store desk.conn) desk.beside sound.1 (λ db left. g.met.S.Store.settled desk.conn.store db sound.1 left) stands);
+        order = record {
+          rows = λ sound content es was.
+              let here = refused_at g.S.Store content es sent text desk c.in-Err.refusal exact was.stands refused in
+              answered_in_order content es sent given _ was.in_order (refused_in_order content es sent _ _ here was.in_order);
+          crash = λ sound clean content es was.
+              let here = refused_at g.S.Store content es sent text desk c.in-Err.refusal exact was.stands refused in
+              let s = state g.S.Store desk.conn in
+              behind_in_order content es sent given s
+              (committed_in_order content (es ++ delivered sent ∷ []) s (λ db left. g.met.S.Store.settled desk.conn.store db sound.1 left) (refused_in_order content es sent _ s.committed here was.in_order));
+        };
         refused = λ fault e. (refl, refl, refl, refused_so desk.setup sent text c.in-Err.refusal fault given exact refused e answer);
         sure = subst (λ other. RefusedSurely (parties_of desk.setup) other given) exact sure;
         noted = notes_memory given desk.last_fault _ c.note_memory.ensures;
@@ -75,6 +87,7 @@ returns-in-Ok-noted g c =
     let taken : c.take_in-taken.result ≡ Ok given = handed.0 in
     let now : IsNow given = rw taken at c.take_in-taken.ensures.now in
     let takes = rw taken at c.take_in-taken.ensures.takes in
+    let in_order = rw taken at c.take_in-taken.ensures.in_order in
     let ends = c.take_in-taken.ensures.ends in
     let after = c.take_in-taken.new in
     record {
@@ -90,6 +103,16 @@ returns-in-Ok-noted g c =
             held_leaves content es (setup_content desk.setup) (state g.S.Store desk.conn) desk.beside sound.1 (λ db left. g.met.S.Store.settled desk.conn.store db sound.1 left) stands in
             answered_behind content es sent given (state g.S.Store after.conn)
             (takes.crash clean sound.1 content es sent stands leaves (comes_for g.S.Store content es sent text desk partner number exact stands place));
+        order = record {
+          rows = λ sound content es was.
+              now_in_order content es sent given _ now
+              (in_order.rows sound.0 sound.1 content es sent was.stands was.in_order (comes_for g.S.Store content es sent text desk partner number exact was.stands place));
+          crash = λ sound clean content es was.
+              behind_in_order content es sent given (state g.S.Store after.conn)
+              (in_order.crash clean sound.1 content es sent was.stands was.in_order
+              (committed_in_order content es (state g.S.Store desk.conn) (λ db left. g.met.S.Store.settled desk.conn.store db sound.1 left) was.in_order)
+              (comes_for g.S.Store content es sent text desk partner number exact was.stands place));
+        };
         refused = λ fault e. absurd (never_refused (parties_of desk.setup) sent text _ fault exact is.admits e);
         sure = admitted_surely (parties_of desk.setup) sent text _ given exact is.admits;
         noted = subst (NotesFault given desk.last_fault) (sym handed.1) (notes_none given desk.last_fault now);
@@ -113,6 +136,7 @@ returns-in-Err-noted g c =
     let met = noted_fault c.take_in-taken.result _ _ _ c.in-Err-noted.ensures in
     let taken : c.take_in-taken.result ≡ Err met.0 = met.1 in
     let takes = rw taken at c.take_in-taken.ensures.takes in
+    let in_order = rw taken at c.take_in-taken.ensures.in_order in
     let ends = c.take_in-taken.ensures.ends in
     let after = c.take_in-taken.new in
     let surely = admitted_surely P sent text _ NotNow exact is.admits in
@@ -132,6 +156,14 @@ returns-in-Err-noted g c =
             let leaves : Leaves content es (state g.S.Store desk.conn) =
             held_leaves content es (setup_content desk.setup) (state g.S.Store desk.conn) desk.beside sound.1 (λ db left. g.met.S.Store.settled desk.conn.store db sound.1 left) stands in
             takes.crash clean sound.1 content es sent stands leaves (comes_for g.S.Store content es sent text desk partner number exact stands place);
+        order = record {
+          rows = λ sound content es was.
+              in_order.rows sound.0 sound.1 content es sent was.stands was.in_order (comes_for g.S.Store content es sent text desk partner number exact was.stands place);
+          crash = λ sound clean content es was.
+              in_order.crash clean sound.1 content es sent was.stands was.in_order
+              (committed_in_order content es (state g.S.Store desk.conn) (λ db left. g.met.S.Store.settled desk.conn.store db sound.1 left) was.in_order)
+              (comes_for g.S.Store content es sent text desk partner number exact was.stands place);
+        };
         refused = λ fault e. absurd (never_refused P sent text _ fault exact is.admits e);
         sure = surely;
         noted = (met.0, met.2);

@@ -78,6 +78,7 @@ returns-clause-looks g c =
           let same : IsSame old mid = c.in_ok-there.ensures.reads.same clean in
           office_with content rows kept old.committed end.committed c.args.self.now.beside (Some there) ((reads.reads.keeps sound.0).committed sound.1 ∙ same.committed)
           ((stays clean).office content rows kept now) holds;
+      committed = λ sound. (reads.reads.keeps sound.0).committed sound.1 ∙ (c.in_ok-there.ensures.reads.same (was_clean reads sound.0)).committed;
       crash = λ sound clean schema db left. leaves_less old mid (was_clean reads clean) first.reads.survives db (leaves_less mid end clean reads.reads.survives db left);
       stays = λ sound. (was_clean first (was_clean reads sound.0), was_open first (was_clean reads sound.0) (was_open reads sound.0 sound.1));
     }
@@ -95,6 +96,7 @@ returns-in_err-there-clause-looks g c =
           held_with stands mid.committed after (subst (HasRows stands.rows) (sym ((reads.reads.keeps sound.0).committed sound.1)) stands.has) (subst (IsBeside opening es) (sym c.take.ensures.after) tt);
       holds = λ sound rows kept holds.
           office_with content rows kept old.committed mid.committed c.args.self.now.beside after ((reads.reads.keeps sound.0).committed sound.1) (subst (IsOrNone rows kept) (sym c.take.ensures.after) tt) holds;
+      committed = λ sound. (reads.reads.keeps sound.0).committed sound.1;
       crash = λ sound clean schema db left. leaves_less old mid clean reads.reads.survives db left;
       stays = λ sound. (was_clean reads sound.0, was_open reads sound.0 sound.1);
     }

@@ -42,6 +42,7 @@ returns-clause-looks g c =
           held_with stands new.committed there (subst (HasRows stands.rows) (sym ((reads.reads.keeps sound.0).committed sound.1)) stands.has) stands.beside;
       holds = λ sound rows kept holds.
           office_with content rows kept old.committed new.committed there there ((reads.reads.keeps sound.0).committed sound.1) holds.beside holds;
+      committed = λ sound. (reads.reads.keeps sound.0).committed sound.1;
       crash = λ sound clean schema db left. leaves_less old new clean reads.reads.survives db left;
       stays = λ sound. (was_clean reads sound.0, was_open reads sound.0 sound.1);
     }
