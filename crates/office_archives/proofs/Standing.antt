@@ -1,0 +1,247 @@
+-- A delivery under a number that is not closed, to a desk over a store's own rows.
+use Rattle.std.proofs.Common.{◌≡◌, ℕ, ◌+◌, ◌<◌, ◌≤◌, inl, inr, List, [], ◌∷◌, ◌++◌, Bool, true, false, cond, Option, None, Some, is_some, Result, Ok, Err, refl, sym, ap, subst, ◌∙◌, arith}
+use Rattle.std.specs.Cmp.Lexicographic.{bytes_decides}
+use Rattle.std.specs.Prelude.{nat_lt, Contains, find}
+use Rattle.std.specs.Option.{option_map, option_and_then}
+use Rattle.std.proofs.lemmas.Bool.{cases_order, eqb-true, ltb-true}
+use Rattle.sqlite_trees.specs.declared.store.Store.{Ghosts}
+use Rattle.edi_segments.specs.Interchange.{interchange_of, segments_in}
+use Rattle.edi_syntax.specs.Envelope.{header_of}
+use Rattle.partner_core.specs.Answers.{AnswerModel, Waiting, answer_by}
+use Rattle.partner_core.specs.Deliveries.{delivery, run}
+use Rattle.partner_core.specs.Standings.{is_same_text, standing_of}
+use Rattle.partner_core.specs.declared.runs.Standing.TheVariants.{Known, Other, Early, Next}
+use Rattle.terminal_core.specs.State.{TerminalState}
+use Rattle.terminal_core.specs.Versions.{newest}
+use Rattle.office_replies.specs.Contents.{content_of}
+use Rattle.office_replies.specs.Delivering.{Delivers}
+use Rattle.office_replies.specs.Events.{Event, delivered}
+use Rattle.office_replies.specs.declared.deliver.Fault.{Fault}
+use Rattle.office_replies.specs.declared.deliver.Response.{Response}
+use Rattle.office_replies.specs.declared.deliver.Response.TheVariants as response
+use Rattle.sqlite_rules.proofs.ListLemmas.{contains_had, has_contained, has_filtered}
+use Rattle.office_rows.specs.Rows.{Interchange, Rows}
+use Rattle.office_rows.specs.Effects.{is_pair, with_waiting}
+use Rattle.office_setup.specs.Given.{IsGiven}
+use Rattle.office_setup.specs.Parties.{Parties, parties_of}
+use Rattle.office_setup.specs.Setups.{SetupContent, parties_in, setup_content}
+use Rattle.office_admission.specs.Admission.{admission}
+use Rattle.office_admission.specs.Refusals.{refusal_of, MayBeNotNow}
+use Rattle.office_tables.specs.Answers.{IsNextOf, has_id}
+use Rattle.office_taking.specs.Taking.{MachineState}
+use Rattle.office_taking.proofs.Reaching.{runs_alone}
+use Rattle.office_history.specs.After.{content_after, deliveries_of, machine_after, machine_with, opening_of, reply_if_any, reply_in, taking_in}
+use Rattle.office_history.specs.Cascade.{text_in, texts_with, with_run, AreTakenFrom}
+use Rattle.office_history.specs.Laws.{IsFor, AnswersBy, answer_model_of}
+use Rattle.office_history.proofs.Lawful.{early_adds, now_same, refused_adds, used_adds}
+use Rattle.office_history.proofs.Places.{alone_in}
+use Rattle.office_history.proofs.Telling.{answers, next_follows, within}
+use Rattle.office_parts.specs.Archives.{Archive, archive_of, Hold}
+use Rattle.office_parts.specs.OwnTerminal.{own_machine, own_terminal}
+use Rattle.office_parts.specs.Parts.{Archived, rows_of_archives, AreClosed, ArePartsAfter}
+use Rattle.office_parts.proofs.Events.{early_parts}
+use Rattle.office_parts.proofs.Lookups.{numbers_told}
+use Rattle.office_parts.proofs.Takings.{next_adds_to_parts}
+use Rattle.office_desk.specs.Answers.{AnswersNext, answer_at, answer_by_model, answer_to, code_of}
+use Rattle.office_desk.specs.Kept.{AnswersAt, AnswersOver, Office, TakesIn}
+use Rattle.office_desk.specs.Offices.{DeskHolds}
+use Rattle.office_desk.specs.declared.desk.Desk.{Desk}
+use Rattle.office_desk.proofs.DeliverLemmas.{parties_same}
+use Rattle.office_archives.specs.Standing.{StandsBeside, IsBeyond, DeliveriesBeyondAreAnswered}
+
+-- ---- the machine
+
+machine_is : (content : SetupContent) (es : List Event) → machine_with (content_after content es) (machine_after content es).terminal ≡ machine_after content es
+machine_is content es = sym (runs_alone (taking_in newest content es) (opening_of (content_after content es)) (deliveries_of content es) (alone_in newest content es))
+
+own_is : (content : SetupContent) (es : List Event) (stays : ℕ → Bool) → machine_with (content_after content es) (own_terminal stays (machine_after content es).terminal) ≡ own_machine stays (machine_after content es)
+own_is content es stays = ap (own_machine stays) (machine_is content es)
+
+-- ---- which numbers are closed
+
+none_replied : (o : Option Interchange) → option_map (λ (i : Interchange). i.body) o ≡ None → is_some (option_and_then (λ (i : Interchange). reply_if_any i.reply) o) ≡ true → ⊥
+none_replied None e is = absurd cc
+none_replied (Some i) e is = absurd cc
+
+-- where no archive reaches a number it is beyond what is closed
+pub beyond : (archives : List Archive) (archived : Archived) (p n : ℕ) → AreClosed archived → Hold archives archived → 1 ≤ n → archive_of archives p n ≡ None → archived.last_closed p < n
+beyond archives archived p n closed hold low none = elim (cases_order (archived.last_closed p) n) [
+  | inl same ↦ absurd (never (omega (arith, same)))
+  | inr o ↦ elim o [
+    | inl less ↦ less
+    | inr more ↦ absurd (never (omega (arith, more)))
+  ]
+]
+  where
+    never : n ≤ archived.last_closed p → ⊥
+    never high =
+        let told : text_in (rows_of_archives archived) p n ≡ None = sym (hold.texts p n low high) ∙ ap (option_and_then (λ (archive : Archive). text_in archive.rows p n)) none in
+        none_replied (find (is_pair p n) archived.interchanges) told (closed.replied p n low high)
+
+-- ---- what a delivery makes of the parts
+
+-- what is told is what is to be told, and the office that is left is of parts after the delivery
+record Follows (content : SetupContent) (es : List Event) (archived : Archived) (sent : List ℕ) (p n : ℕ) (told : AnswerModel) (new : Office) : Type 0 where
+  is_told : told ≡ answer_model_of content es p n sent
+  left : Rows
+  parts : ArePartsAfter content (es ++ delivered sent ∷ []) archived new.rows left
+  terminal : new.terminal ≡ own_terminal archived.stays (machine_after content (es ++ delivered sent ∷ [])).terminal
+
+module _ (content : SetupContent) (es : List Event) (archived : Archived) (own whole : Rows) (sent : List ℕ) (p n : ℕ) (given : IsGiven content) (parts : ArePartsAfter content es archived own whole) (for : IsFor content es sent p n)
+    (far : archived.last_closed p < n) where
+  abbrev text : List ℕ
+  text = interchange_of sent
+
+  abbrev now : SetupContent
+  now = content_after content es
+
+  abbrev old : Office
+  old = record { rows = own; terminal = own_terminal archived.stays (machine_after content es).terminal }
+
+  abbrev next_number : ℕ
+  next_number = run (deliveries_of content es) p + 1
+
+  text_same : text_in whole p n ≡ text_in own p n
+  text_same = parts.after.texts p n ∙ sym ((numbers_told content es archived own whole p n parts).own_text far)
+
+  reply_same : reply_in whole p n ≡ reply_in own p n
+  reply_same = parts.after.replies p n ∙ sym ((numbers_told content es archived own whole p n parts).own_reply far)
+
+  by_whole : AnswersBy content es whole sent p n
+  by_whole = answers content es whole sent p n parts.after for
+
+  next_is : (next : ℕ) → IsNextOf p own next → next ≡ next_number
+  next_is next is =
+      let there = has_filtered (has_id p) own.partners is.0 (has_contained _ is.0 is.1) in
+      let account : Contains whole.partners is.0 = subst (λ l. Contains l is.0) (sym parts.parts.partners) (contains_had own.partners is.0 there.0) in
+      sym is.2 ∙ next_follows content es whole is.0 parts.after account ∙ ap (λ q. run (deliveries_of content es) q + 1) (eqb-true is.0.id p there.1)
+
+  -- a number that is used leaves the parts as they are
+  stays_same : (kept : List ℕ) (told : AnswerModel) (new : Office) → text_in own p n ≡ Some kept → told ≡ answer_model_of content es p n sent → new ≡ old → Follows content es archived sent p n told new
+  stays_same kept told new is is_told same =
+      let adds = used_adds content es whole sent p n kept parts.after for (text_same ∙ is) in
+      record {
+        is_told = is_told;
+        left = whole;
+        parts = subst (λ (o : Office). ArePartsAfter content (es ++ delivered sent ∷ []) archived o.rows whole) (sym same) (record { after = adds.rows_are; closed = parts.closed; parts = parts.parts; stay = parts.stay });
+        terminal = ap (λ (o : Office). o.terminal) same ∙ ap (λ (m : MachineState). own_terminal archived.stays m.terminal) (sym adds.machine);
+      }
+
+  known : (reply : Option (List ℕ)) (next : ℕ) (told : AnswerModel) → text_in own p n ≡ Some text → reply_in own p n ≡ reply → next ≡ next_number → told ≡ answer_by Known next reply None → told ≡ answer_model_of content es p n sent
+  known (Some reply) next told is has e is_told = is_told ∙ sym (by_whole.repeat reply (text_same ∙ is) (reply_same ∙ has))
+  known None next told is has e is_told = is_told ∙ ap Waiting e ∙ sym (by_whole.waits (text_same ∙ is) (reply_same ∙ has))
+
+  used : (kept : List ℕ) (same : Bool) (next : ℕ) (told : AnswerModel) (new : Office) → text_in own p n ≡ Some kept → is_same_text kept text ≡ same → next ≡ next_number → TakesIn (cond same Known Other) now (delivery p n text) next told old new →
+      Follows content es archived sent p n told new
+  used kept true next told new is same e takes =
+      let body : text_in own p n ≡ Some text = is ∙ ap Some ((bytes_decides kept text).0 same) in
+      stays_same kept told new is (known (reply_in own p n) next told body refl e takes.0) takes.1
+  used kept false next told new is same e takes =
+      let apart : kept ≡ text → ⊥ = λ one. let never : true ≡ false = sym ((bytes_decides kept text).1 one) ∙ same in absurd cc in
+      stays_same kept told new is (takes.0 ∙ sym (by_whole.clash kept (text_same ∙ is) apart)) takes.1
+
+  free : (early : Bool) (next : ℕ) (told : AnswerModel) (new : Office) → text_in own p n ≡ None → nat_lt next n ≡ early → next ≡ next_number → TakesIn (cond early Early Next) now (delivery p n text) next told old new →
+      Follows content es archived sent p n told new
+  free true next told new is early e takes =
+      let later : next_number < n = subst (λ k. k < n) e (ltb-true next n early) in
+      let adds = early_adds content es whole sent p n parts.after for (text_same ∙ is) later in
+      record {
+        is_told = takes.0 ∙ ap Waiting e ∙ sym (by_whole.early (text_same ∙ is) later);
+        left = with_waiting p n text whole;
+        parts = subst (λ (o : Office). ArePartsAfter content (es ++ delivered sent ∷ []) archived o.rows (with_waiting p n text whole)) (sym takes.1) (early_parts content es archived own whole sent p n parts for is later);
+        terminal = ap (λ (o : Office). o.terminal) takes.1 ∙ ap (λ (m : MachineState). own_terminal archived.stays m.terminal) (sym adds.machine);
+      }
+  free false next told new is early e takes =
+      let run = takes.1 in
+      let is_next : n ≡ next_number = takes.0 ∙ e in
+      let from : AreTakenFrom p (texts_with own p n text) n (own_machine archived.stays (machine_after content es)) (run.first ∷ run.later) (machine_with now new.terminal) =
+      subst (λ m. AreTakenFrom p (texts_with own p n text) n m (run.first ∷ run.later) (machine_with now new.terminal)) (own_is content es archived.stays) run.taken in
+      let all = next_adds_to_parts content es archived own whole sent p n (run.first ∷ run.later) (machine_with now new.terminal) given parts for is is_next from in
+      record {
+        is_told = run.is_told ∙ sym (by_whole.next run.first run.later all.machine given (text_same ∙ is) is_next all.on_whole);
+        left = with_run p n text (run.first ∷ run.later) whole;
+        parts = subst (λ r. ArePartsAfter content (es ++ delivered sent ∷ []) archived r (with_run p n text (run.first ∷ run.later) whole)) (sym run.rows) all.parts;
+        terminal = ap (λ (m : MachineState). m.terminal) (all.beside ∙ ap (own_machine archived.stays) all.adds.machine_is);
+      }
+
+  by_kept : (kept : Option (List ℕ)) (next : ℕ) (told : AnswerModel) (new : Office) → text_in own p n ≡ kept → next ≡ next_number → TakesIn (standing_of next n kept text) now (delivery p n text) next told old new →
+      Follows content es archived sent p n told new
+  by_kept (Some kept) next told new is e takes = used kept (is_same_text kept text) next told new is refl e takes
+  by_kept None next told new is e takes = free (nat_lt next n) next told new is refl e takes
+
+-- ---- what the desk answers
+
+module _ {S : Type 0} (g : Ghosts S) (archives : List Archive) (content : SetupContent) (es : List Event) (old : Desk S g) (sent : List ℕ) (new : Desk S g) (stands : StandsBeside g archives content es old) (setup : new.setup ≡ old.setup)
+    (far : IsBeyond g archives old sent) where
+  abbrev office : Office
+  office = record { rows = stands.own; terminal = own_terminal stands.archived.stays (machine_after content es).terminal }
+
+  abbrev parties : Parties
+  parties = parties_in (content_after content es)
+
+  now_is : content_after content es ≡ setup_content new.setup
+  now_is = stands.now_is ∙ ap setup_content (sym setup)
+
+  parties_now : parties_of new.setup ≡ parties
+  parties_now = parties_same new.setup ∙ ap parties_in (sym now_is)
+
+  admitted_here : (place : Result (ℕ × ℕ) Fault) → admission (parties_of new.setup) (interchange_of sent) ≡ place → admission parties (interchange_of sent) ≡ place
+  admitted_here place is = subst (λ P. admission P (interchange_of sent) ≡ place) parties_now is
+
+  -- with these parts after the delivery, desk and archives stand there
+  stands_after : (rows whole : Rows) (terminal : TerminalState) → ArePartsAfter content (es ++ delivered sent ∷ []) stands.archived rows whole →
+      terminal ≡ own_terminal stands.archived.stays (machine_after content (es ++ delivered sent ∷ [])).terminal → DeskHolds g new rows terminal →
+      StandsBeside g archives content (es ++ delivered sent ∷ []) new
+  stands_after rows whole terminal parts same holds = record {
+    given = stands.given;
+    now_is = now_same content es sent ∙ now_is;
+    archived = stands.archived;
+    own = rows;
+    whole = whole;
+    parts = parts;
+    hold = stands.hold;
+    holds = subst (DeskHolds g new rows) same holds;
+  }
+
+  at_place : (response : Response) (place : Result (ℕ × ℕ) Fault) → admission (parties_of new.setup) (interchange_of sent) ≡ place → AnswersAt g place (interchange_of sent) office response new →
+      (content_of response ≡ answer_to content es sent) × StandsBeside g archives content (es ++ delivered sent ∷ []) new
+  at_place response (Err fault) admits by =
+      let here = admitted_here (Err fault) admits in
+      let adds = refused_adds content es stands.whole sent fault stands.parts.after here in
+      let parts = stands.parts in (
+        by.0 ∙ ap (λ P. refusal_of P (header_of (segments_in (interchange_of sent))) fault) parties_now ∙ ap (answer_at content es sent) (sym here),
+        stands_after stands.own stands.whole office.terminal (record { after = adds.rows_are; closed = parts.closed; parts = parts.parts; stay = parts.stay })
+            (ap (λ (m : MachineState). own_terminal stands.archived.stays m.terminal) (sym adds.machine)) by.1,
+      )
+  at_place response (Ok place) admits by =
+      let for : IsFor content es sent place.0 place.1 = admitted_here (Ok place) admits in
+      let low : 1 ≤ place.1 = (within parties (interchange_of sent) place.0 place.1 for).2 in
+      let open_ = beyond archives stands.archived place.0 place.1 stands.parts.closed stands.hold low
+      (far place (subst (λ s. admission (parties_of s) (interchange_of sent) ≡ Ok place) setup admits)) in
+      let next = next_is content es stands.archived stands.own stands.whole sent place.0 place.1 stands.given stands.parts for open_ by.next by.is_next in
+      let takes = subst (λ c. TakesIn (standing_of by.next place.1 (text_in stands.own place.0 place.1) (interchange_of sent)) c (delivery place.0 place.1 (interchange_of sent)) by.next by.told office by.new) (sym now_is) by.takes in
+      let follows = by_kept content es stands.archived stands.own stands.whole sent place.0 place.1 stands.given stands.parts for open_ (text_in stands.own place.0 place.1) by.next by.told by.new refl next takes in (
+        by.answers ∙ ap (answer_by_model (code_of (parties_of new.setup) place.0) place.1) follows.is_told
+            ∙ ap (λ P. answer_by_model (code_of P place.0) place.1 (answer_model_of content es place.0 place.1 sent)) parties_now ∙ ap (answer_at content es sent) (sym for),
+        stands_after by.new.rows follows.left by.new.terminal follows.parts follows.terminal by.holds,
+      )
+
+  answered : (response : Response) → AnswersOver g office sent response new → Delivers (StandsBeside g archives content) (AnswersNext content) es sent response new
+  answered response.NotNow by = (
+    subst (λ P. MayBeNotNow P (interchange_of sent)) parties_now by.0,
+    record {
+      given = stands.given;
+      now_is = now_is;
+      archived = stands.archived;
+      own = stands.own;
+      whole = stands.whole;
+      parts = stands.parts;
+      hold = stands.hold;
+      holds = by.2;
+    },
+  )
+  answered given by = at_place given (admission (parties_of new.setup) (interchange_of sent)) refl by
+
+pub beyond_answered : {S : Type 0} (g : Ghosts S) → DeliveriesBeyondAreAnswered g
+beyond_answered g archives content es old sent response new leads sound stands far =
+    answered g archives content es old sent new stands leads.setup far response (leads.office sound (office g archives content es old sent new stands leads.setup far) stands.holds)

@@ -1,0 +1,24 @@
+-- What the archives of a store keep under a number.
+use Rattle.std.specs.Prelude.{◌≡◌, ℕ, List, [], ◌∷◌, Some, is_some, string_bytes, true}
+use Rattle.std.specs.Option.{option_map}
+use Rattle.sqlite.specs.Effect.{Database}
+use Rattle.office_rows.specs.Stored.{HasRows}
+use Rattle.office_history.specs.After.{AreKeptOnce}
+use Rattle.office_tables.specs.declared.interchanges.Kept.{Kept}
+use Rattle.office_parts.specs.Archives.{Archive, archive_of, text_by, reply_by}
+
+-- the number is closed: one of the archives reaches it
+abbrev pub IsClosedIn : List Archive → ℕ → ℕ → Type 0
+IsClosedIn archives partner number = is_some (archive_of archives partner number) ≡ true
+
+-- it is the text and the reply that the number's archive keeps
+pub record IsKeptIn (archives : List Archive) (partner number : ℕ) (kept : Kept) : Type 0 where
+  pub text : text_by archives partner number ≡ Some kept.text.items
+  pub reply : reply_by archives partner number ≡ option_map string_bytes kept.reply
+
+-- there is one archive, whose rows these are; an office keeps no interchange twice
+pub record AreOneIn (archives : List Archive) (db : Database) : Type 0 where
+  pub archive : Archive
+  pub is_all : archives ≡ archive ∷ []
+  pub has : HasRows archive.rows db
+  pub kept_once : AreKeptOnce archive.rows.interchanges

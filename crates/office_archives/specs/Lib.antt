@@ -1,0 +1,4 @@
+pub mod Keeping
+pub mod Answering
+pub mod Standing
+pub mod Reporting

@@ -1,0 +1,50 @@
+-- Where a desk over the own rows of a store and the store's archives stand together.
+use Rattle.std.specs.Prelude.{◌≡◌, ℕ, List, Ok, None}
+use Rattle.sqlite_trees.specs.declared.store.Store.{Ghosts}
+use Rattle.edi_segments.specs.Interchange.{interchange_of}
+use Rattle.office_replies.specs.Delivering.{Delivers}
+use Rattle.office_replies.specs.Events.{Event}
+use Rattle.office_replies.specs.declared.deliver.Response.{Response}
+use Rattle.office_rows.specs.Rows.{Rows}
+use Rattle.office_setup.specs.Given.{IsGiven}
+use Rattle.office_setup.specs.Parties.{parties_of}
+use Rattle.office_setup.specs.Setups.{SetupContent, setup_content}
+use Rattle.office_admission.specs.Admission.{admission}
+use Rattle.office_history.specs.After.{content_after, machine_after}
+use Rattle.office_desk.specs.Answers.{AnswersNext}
+use Rattle.office_desk.specs.Calls.{Leads}
+use Rattle.office_desk.specs.Desks.{IsSound}
+use Rattle.office_desk.specs.Offices.{DeskHolds}
+use Rattle.office_desk.specs.declared.desk.Desk.{Desk}
+use Rattle.office_parts.specs.Archives.{Archive, archive_of, Hold}
+use Rattle.office_parts.specs.OwnTerminal.{own_terminal}
+use Rattle.office_parts.specs.Parts.{Archived, ArePartsAfter}
+
+-- For that opening set-up, after those events: with the accounts so far it is the desk's set-up. The desk holds the own
+-- rows of a store and its own terminal, the archives hold what was put away, and these are parts of the rows after the
+-- events.
+pub record StandsBeside {S : Type 0} (g : Ghosts S) (archives : List Archive) (content : SetupContent) (es : List Event)
+    (desk : Desk S g) : Type 0 where
+  pub given : IsGiven content
+  pub now_is : content_after content es ≡ setup_content desk.setup
+  pub archived : Archived
+  pub own : Rows
+  pub whole : Rows
+  pub parts : ArePartsAfter content es archived own whole
+  pub hold : Hold archives archived
+  pub holds : DeskHolds g desk own (own_terminal archived.stays (machine_after content es).terminal)
+
+-- the desk's accounts admit the text under no number that is closed
+abbrev pub IsBeyond : {S : Type 0} (g : Ghosts S) → List Archive → Desk S g → List ℕ → Type 0
+IsBeyond g archives desk sent =
+    (place : ℕ × ℕ) → admission (parties_of desk.setup) (interchange_of sent) ≡ Ok place →
+    archive_of archives place.0 place.1 ≡ None
+
+-- A text that is delivered to the desk, under no number that is closed, is answered at its place, or NotNow; and then desk
+-- and archives stand after it, or where they stood.
+abbrev pub DeliveriesBeyondAreAnswered : {S : Type 0} → Ghosts S → Type 0
+DeliveriesBeyondAreAnswered {S} g =
+    (archives : List Archive) (content : SetupContent) (es : List Event) (old : Desk S g) (sent : List ℕ)
+    (response : Response) (new : Desk S g) → Leads g old sent response new → IsSound g new →
+    StandsBeside g archives content es old → IsBeyond g archives old sent
+    → Delivers (StandsBeside g archives content) (AnswersNext content) es sent response new

@@ -1,0 +1,18 @@
+//! Laws of a store and its archives: each function has an empty body, and its contract is the law.
+
+ghost use Rattle.office_archives.specs.Reporting.{WhatStandsIsToldAlike};
+ghost use Rattle.office_archives.specs.Standing.{DeliveriesBeyondAreAnswered};
+
+use sqlite::Alter;
+
+/// A text that is delivered under no number that is closed to a desk over a store's own rows is answered at its place in
+/// the list of events, whatever was put away before; and after it the rows of store and archives are those after it.
+pub fn deliveries_beyond_are_answered<S: Alter>()
+    ensures { DeliveriesBeyondAreAnswered S.Store }
+{}
+
+/// What stands in the yard, how full it is, what the lists say and what is left of them, and which number comes next, is
+/// reported by the store's own rows as by the whole.
+pub fn what_stands_is_told_alike()
+    ensures { WhatStandsIsToldAlike }
+{}
