@@ -1,5 +1,6 @@
 mod Fronts
 mod Growing
+mod Naming
 pub mod Plain
 mod Shown
 mod Splitting

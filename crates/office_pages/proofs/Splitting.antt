@@ -1,6 +1,6 @@
--- The lines of a text.
-use Rattle.std.proofs.Common.{◌≡◌, ◌≢◌, ℕ, ◌<◌, ◌==◌, false, List, [], ◌∷◌, ◌++◌, length, get_or, inl, inr, refl, sym, ap, ◌∙◌, append_assoc, codes}
-use Rattle.std.specs.List.{join_by, onto_first, flat_map}
+-- The pieces of a text between bytes of one kind: its lines, and the words of a line.
+use Rattle.std.proofs.Common.{◌≡◌, ◌≢◌, ℕ, ◌<◌, ◌==◌, false, List, [], ◌∷◌, ◌++◌, length, get_or, inl, inr, refl, sym, ap, ◌∙◌, append_assoc, eq-eqb}
+use Rattle.std.specs.List.{join_by, onto_first, flat_map, slice_split}
 use Rattle.std.proofs.lemmas.Bool.{ne_eqb, cases_Bool}
 use Rattle.std.proofs.lemmas.List.{append-nil}
 use Rattle.std.proofs.lemmas.List.Elements.{All-from_get_or}
@@ -8,76 +8,80 @@ use Rattle.std.proofs.lemmas.List.Splits.{slice_split_none, slice_split_at, slic
 use Rattle.office_pages.specs.Pages.{count_view}
 use Rattle.office_pages.specs.Words.{lines}
 
--- no byte is LF
-abbrev pub HasNoBreak : List ℕ → Type 0
-HasNoBreak text = (i : ℕ) → i < length text → get_or text i 0 ≢ 10
+module _ (c : ℕ) where
+  abbrev pub pieces : List ℕ → List (List ℕ)
+  pieces text = slice_split (λ b. b == c) text
 
-pub one_line_of : (text : List ℕ) → HasNoBreak text → lines text ≡ text ∷ []
-one_line_of text none = slice_split_none (λ b. b == 10) text (All-from_get_or (λ b. (b == 10) ≡ false) text 0 (λ i within. ne_eqb (get_or text i 0) 10 (none i within)))
+  -- no byte is that one
+  abbrev pub HasNone : List ℕ → Type 0
+  HasNone text = (i : ℕ) → i < length text → get_or text i 0 ≢ c
 
-pub lines_of : (text first others : List ℕ) → text ≡ first ++ 10 ∷ others → HasNoBreak first → lines text ≡ first ∷ lines others
-lines_of text first others is none =
-    ap lines is ∙ slice_split_at (λ b. b == 10) first 10 others (All-from_get_or (λ b. (b == 10) ≡ false) first 0 (λ i within. ne_eqb (get_or first i 0) 10 (none i within))) refl
+  pub one_piece : (text : List ℕ) → HasNone text → pieces text ≡ text ∷ []
+  one_piece text none = slice_split_none (λ b. b == c) text (All-from_get_or (λ b. (b == c) ≡ false) text 0 (λ i within. ne_eqb (get_or text i 0) c (none i within)))
 
--- a text has a line
-onto_some : (x : ℕ) (ps : List (List ℕ)) → onto_first x ps ≡ [] → ⊥
-onto_some x [] is = cc
-onto_some x (p ∷ ps) is = cc
+  pub first_piece : (text first others : List ℕ) → text ≡ first ++ c ∷ others → HasNone first → pieces text ≡ first ∷ pieces others
+  first_piece text first others is none =
+      ap pieces is ∙ slice_split_at (λ b. b == c) first c others (All-from_get_or (λ b. (b == c) ≡ false) first 0 (λ i within. ne_eqb (get_or first i 0) c (none i within))) (eq-eqb c c refl)
 
-pub some_line : (text : List ℕ) → lines text ≡ [] → ⊥
-some_line [] is = cc
-some_line (x ∷ text) is = elim (cases_Bool (x == 10)) [
-  | inl ends ↦ let e = sym (slice_split-cons_yes (λ b. b == 10) x text ends) ∙ is in cc
-  | inr other ↦ onto_some x (lines text) (sym (slice_split-cons_no (λ b. b == 10) x text other) ∙ is)
-]
+  -- a text has a piece
+  onto_some : (x : ℕ) (ps : List (List ℕ)) → onto_first x ps ≡ [] → ⊥
+  onto_some x [] is = cc
+  onto_some x (p ∷ ps) is = cc
+
+  pub some_piece : (text : List ℕ) → pieces text ≡ [] → ⊥
+  some_piece [] is = cc
+  some_piece (x ∷ text) is = elim (cases_Bool (x == c)) [
+    | inl ends ↦ let e = sym (slice_split-cons_yes (λ b. b == c) x text ends) ∙ is in cc
+    | inr other ↦ onto_some x (pieces text) (sym (slice_split-cons_no (λ b. b == c) x text other) ∙ is)
+  ]
 
 -- one piece more at the front
-pub joined_more : (f : List ℕ → List ℕ) (between a : List ℕ) (ps : List (List ℕ)) → (ps ≡ [] → ⊥) →
+joined_more : (f : List ℕ → List ℕ) (between a : List ℕ) (ps : List (List ℕ)) → (ps ≡ [] → ⊥) →
     join_by f between (a ∷ ps) ≡ f a ++ (between ++ join_by f between ps)
 joined_more f between a [] some = absurd (some refl)
 joined_more f between a (p ∷ ps) some = ap (λ t. f a ++ t) (append_assoc between (f p) (flat_map (λ y. between ++ f y) ps))
 
--- ---- lines with an LF between them
+-- ---- pieces that are shown, with something between them
 
-module _ (f : List ℕ → List ℕ) where
-  abbrev by_lines : List ℕ → List ℕ
-  by_lines text = join_by f (codes "\n") (lines text)
+module _ (c : ℕ) (f : List ℕ → List ℕ) (between : List ℕ) where
+  abbrev by_pieces : List ℕ → List ℕ
+  by_pieces text = join_by f between (pieces c text)
 
-  by_one_line : (text : List ℕ) → HasNoBreak text → by_lines text ≡ f text
-  by_one_line text none = ap (λ ls. join_by f (codes "\n") ls) (one_line_of text none) ∙ append-nil (f text)
+  by_one_piece : (text : List ℕ) → HasNone c text → by_pieces text ≡ f text
+  by_one_piece text none = ap (λ ps. join_by f between ps) (one_piece c text none) ∙ append-nil (f text)
 
-  by_more_lines : (text first others : List ℕ) → text ≡ first ++ 10 ∷ others → HasNoBreak first →
-      by_lines text ≡ f first ++ (codes "\n" ++ by_lines others)
-  by_more_lines text first others is none =
-      ap (λ ls. join_by f (codes "\n") ls) (lines_of text first others is none)
-      ∙ joined_more f (codes "\n") first (lines others) (some_line others)
+  by_more_pieces : (text first others : List ℕ) → text ≡ first ++ c ∷ others → HasNone c first →
+      by_pieces text ≡ f first ++ (between ++ by_pieces others)
+  by_more_pieces text first others is none =
+      ap (λ ps. join_by f between ps) (first_piece c text first others is none)
+      ∙ joined_more f between first (pieces c others) (some_piece c others)
 
-  -- a line is shown
-  pub lines_more : (text first others front page line now : List ℕ) → text ≡ first ++ 10 ∷ others → HasNoBreak first →
-      page ++ join_by f (codes "\n") (lines text) ≡ front → line ≡ page ++ f first → now ≡ line ++ codes "\n" →
-      now ++ join_by f (codes "\n") (lines others) ≡ front
-  lines_more text first others front page line now is none before shown ends =
-      ap (λ t. t ++ by_lines others) (ends ∙ ap (λ t. t ++ codes "\n") shown)
-      ∙ append_assoc (page ++ f first) (codes "\n") (by_lines others)
-      ∙ append_assoc page (f first) (codes "\n" ++ by_lines others)
-      ∙ ap (λ t. page ++ t) (sym (by_more_lines text first others is none)) ∙ before
+  -- a piece is shown
+  pub pieces_more : (text first others front page piece now : List ℕ) → text ≡ first ++ c ∷ others → HasNone c first →
+      page ++ by_pieces text ≡ front → piece ≡ page ++ f first → now ≡ piece ++ between →
+      now ++ by_pieces others ≡ front
+  pieces_more text first others front page piece now is none before shown ends =
+      ap (λ t. t ++ by_pieces others) (ends ∙ ap (λ t. t ++ between) shown)
+      ∙ append_assoc (page ++ f first) between (by_pieces others)
+      ∙ append_assoc page (f first) (between ++ by_pieces others)
+      ∙ ap (λ t. page ++ t) (sym (by_more_pieces text first others is none)) ∙ before
 
-  -- the last line is shown
-  pub lines_end : (text front page now : List ℕ) → HasNoBreak text → page ++ join_by f (codes "\n") (lines text) ≡ front →
+  -- the last piece is shown
+  pub pieces_end : (text front page now : List ℕ) → HasNone c text → page ++ by_pieces text ≡ front →
       now ≡ page ++ f text → now ≡ front
-  lines_end text front page now none before shown = shown ∙ ap (λ t. page ++ t) (sym (by_one_line text none)) ∙ before
+  pieces_end text front page now none before shown = shown ∙ ap (λ t. page ++ t) (sym (by_one_piece text none)) ∙ before
 
 -- ---- the counts
 
-pub counts_more : (text first others front page now : List ℕ) → text ≡ first ++ 10 ∷ others → HasNoBreak first →
+pub counts_more : (text first others front page now : List ℕ) → text ≡ first ++ 10 ∷ others → HasNone 10 first →
     page ++ flat_map count_view (lines text) ≡ front → now ≡ page ++ count_view first →
     now ++ flat_map count_view (lines others) ≡ front
 counts_more text first others front page now is none before shown =
     ap (λ t. t ++ flat_map count_view (lines others)) shown
     ∙ append_assoc page (count_view first) (flat_map count_view (lines others))
-    ∙ ap (λ ls. page ++ flat_map count_view ls) (sym (lines_of text first others is none)) ∙ before
+    ∙ ap (λ ls. page ++ flat_map count_view ls) (sym (first_piece 10 text first others is none)) ∙ before
 
-pub counts_end : (text front page now : List ℕ) → HasNoBreak text → page ++ flat_map count_view (lines text) ≡ front →
+pub counts_end : (text front page now : List ℕ) → HasNone 10 text → page ++ flat_map count_view (lines text) ≡ front →
     now ≡ page ++ count_view text → now ≡ front
 counts_end text front page now none before shown =
-    shown ∙ ap (λ t. page ++ t) (sym (append-nil (count_view text)) ∙ ap (λ ls. flat_map count_view ls) (sym (one_line_of text none))) ∙ before
+    shown ∙ ap (λ t. page ++ t) (sym (append-nil (count_view text)) ∙ ap (λ ls. flat_map count_view ls) (sym (one_piece 10 text none))) ∙ before

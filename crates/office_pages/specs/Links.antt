@@ -1,5 +1,5 @@
 -- Which words of a report lead where.
-use Rattle.std.specs.Prelude.{ℕ, ◌-◌, ◌==◌, ◌&&◌, ◌||◌, nat_le, nat_lt, Bool, List, length, codes, is_ok, is_some, Option, None, Some, if◌then◌else◌}
+use Rattle.std.specs.Prelude.{ℕ, ◌-◌, ◌==◌, ◌&&◌, ◌||◌, nat_le, nat_lt, Bool, true, false, List, length, codes, is_ok, is_some, Option, None, Some, if◌then◌else◌}
 use Rattle.std.specs.Str.{bytes_eq}
 use Rattle.box6346.specs.ContainerNumber.{number_of as box_of}
 use Rattle.edi_syntax.specs.Numbers.{number_of}
@@ -92,6 +92,16 @@ place_link query.Partners words place = partner_link words place
 place_link query.Blocks words place = block_link words place
 place_link query.Calls words place = call_link words place
 place_link other words place = None
+
+-- whether a word of that report may lead anywhere by its place
+abbrev pub leads_by_place : Query → Bool
+leads_by_place (query.Visits number) = true
+leads_by_place (query.Container number) = true
+leads_by_place (query.Ticket partner number) = true
+leads_by_place query.Partners = true
+leads_by_place query.Blocks = true
+leads_by_place query.Calls = true
+leads_by_place other = false
 
 -- where the word at a place of a line leads, if it names something
 abbrev pub link_at : Query → List (List ℕ) → ℕ → Option (List ℕ)

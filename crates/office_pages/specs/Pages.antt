@@ -11,7 +11,7 @@ use Rattle.office_queries.specs.declared.query.Query.TheVariants as query
 use Rattle.office_pages.specs.Addresses.{address_of_two, container_address, list_address, partner_address, reply_address, visits_address, work_address}
 use Rattle.office_pages.specs.Drawn.{picture_view}
 use Rattle.office_pages.specs.Fixed.{foot, head, top}
-use Rattle.office_pages.specs.Links.{link_at}
+use Rattle.office_pages.specs.Links.{container_link, link_at}
 use Rattle.office_pages.specs.Meanings.{framed, meanings_view}
 use Rattle.office_pages.specs.Titles.{notice_title, title}
 use Rattle.office_pages.specs.Words.{is_at, lines, without_front, word_at, words}
@@ -56,6 +56,10 @@ words_view asked words = flat_map (word_view asked words) (range_with_len 0 (len
 
 abbrev pub line_view : Query → List ℕ → List ℕ
 line_view asked line = words_view asked (words line)
+
+-- a word that leads by what it names only
+abbrev pub named_view : List ℕ → List ℕ
+named_view word = linked (container_link word) word
 
 -- what of the page shows the report
 abbrev pub body_bytes : Query → List ℕ → List ℕ

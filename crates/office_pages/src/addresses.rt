@@ -7,7 +7,7 @@ use std::alloc::{AllocError, Global};
 use terminal_core::Side;
 
 /// Appends a part of a path: letters and digits stand for themselves, another byte is written as `%` and two digits.
-fn push_part(text: &mut String, bytes: &[u8]) -> Result<(), AllocError>
+pub(crate) fn push_part(text: &mut String, bytes: &[u8]) -> Result<(), AllocError>
     ensures { OnOk result (string_bytes text.new ≡ string_bytes text.old ++ part bytes.now) }
 {
     percent_encode(bytes, NON_ALPHANUMERIC).append_to(text)

@@ -1,13 +1,15 @@
 //! A report's own text, shown.
-ghost use Rattle.std.specs.List.{list_all};
-ghost use Rattle.std.specs.Prelude.{◌≡◌, ◌++◌, OnOk, string_bytes};
+ghost use Rattle.std.specs.List.{join_by, list_all};
+ghost use Rattle.std.specs.Prelude.{◌≡◌, ◌++◌, OnOk, codes, string_bytes};
 ghost use Rattle.office_picture.specs.Fields.{field_text};
 ghost use Rattle.office_picture.specs.Markup.{is_plain};
-ghost use Rattle.office_pages.specs.Pages.{body_bytes, gap, line_view, link, linked, word_view};
-ghost use Rattle.office_pages.specs.Words.{texts_of};
+ghost use Rattle.office_pages.specs.Pages.{body_bytes, gap, line_view, link, linked, named_view, word_view};
+ghost use Rattle.office_pages.specs.Words.{texts_of, words};
 
-use crate::links::link_at;
+use crate::addresses::push_part;
+use crate::links::{leads_by_place, link_at};
 use crate::words::{word_at, words_of};
+use box6346::BoxNumber;
 use office_picture::field_text;
 use office_queries::Query;
 use std::alloc::{AllocError, Global};
@@ -31,7 +33,52 @@ pub(crate) fn push_body(
 }
 
 /// Appends a line.
+#[tactic(auto, using(crate::proofs::Naming::named_line))]
 fn push_line(alloc: Global, page: &mut String, query: &Query, line: &str) -> Result<(), AllocError>
+    ensures { OnOk result (string_bytes page.new ≡ string_bytes page.old ++ line_view query.now line.now) }
+{
+    if leads_by_place(query) {
+        push_placed_line(alloc, page, query, line)
+    } else {
+        push_named_line(alloc, page, line)
+    }
+}
+
+/// Appends a line whose words lead by what they name only.
+fn push_named_line(alloc: Global, page: &mut String, line: &str) -> Result<(), AllocError>
+    ensures { OnOk result (string_bytes page.new
+        ≡ string_bytes page.old ++ join_by named_view (codes " ") (words line.now)) }
+{
+    let mut rest = line;
+    'words: while let Some((word, behind)) = rest.split_once(' ') {
+        push_named_word(alloc, page, word)?;
+        page.push_str(" ")?;
+        rest = behind;
+    }
+    push_named_word(alloc, page, rest)
+}
+
+/// Appends a word, with a link around it if it is a container number. The address is written into the page at once.
+fn push_named_word(alloc: Global, page: &mut String, word: &str) -> Result<(), AllocError>
+    ensures { OnOk result (string_bytes page.new ≡ string_bytes page.old ++ named_view word.now) }
+{
+    if BoxNumber::parse(word.as_bytes()).is_err() {
+        return push_text(alloc, page, word);
+    }
+    page.push_str("<a href='/pages/containers/")?;
+    push_part(page, word.as_bytes())?;
+    page.push_str("'>")?;
+    push_text(alloc, page, word)?;
+    page.push_str("</a>")
+}
+
+/// Appends a line whose words may lead by their places too.
+fn push_placed_line(
+    alloc: Global,
+    page: &mut String,
+    query: &Query,
+    line: &str,
+) -> Result<(), AllocError>
     ensures { OnOk result (string_bytes page.new ≡ string_bytes page.old ++ line_view query.now line.now) }
 {
     let words = words_of(alloc, line)?;

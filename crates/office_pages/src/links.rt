@@ -1,7 +1,7 @@
 //! Which words of a report lead where.
 ghost use Rattle.std.specs.Option.{option_map};
 ghost use Rattle.std.specs.Prelude.{◌≡◌, ◌≤◌, IfOk, string_bytes};
-ghost use Rattle.office_pages.specs.Links.{block_link, call_link, container_link, is_number, is_way_at, link_at, number_link, open_line_link, partner_link, passage_link, place_link, side_named, ticket_link, work_link};
+ghost use Rattle.office_pages.specs.Links.{block_link, call_link, container_link, is_number, is_way_at, leads_by_place, link_at, number_link, open_line_link, partner_link, passage_link, place_link, side_named, ticket_link, work_link};
 ghost use Rattle.office_pages.specs.Words.{texts_of};
 
 use crate::addresses::{address_of_one, address_of_two, work_address};
@@ -24,6 +24,21 @@ pub(crate) fn link_at(
     match place_link(alloc, query, words, place)? {
         Some(address) => Ok(Some(address)),
         None => container_link(alloc, word_at(words, place)),
+    }
+}
+
+/// Whether a word of that report may lead anywhere by its place.
+pub(crate) fn leads_by_place(query: &Query) -> bool
+    ensures { result ≡ leads_by_place query.now }
+{
+    match query {
+        Query::Visits(_)
+        | Query::Container(_)
+        | Query::Ticket { .. }
+        | Query::Partners
+        | Query::Blocks
+        | Query::Calls => true,
+        _ => false,
     }
 }
 
