@@ -1,15 +1,15 @@
 -- What the words of a command line ask for.
-use Rattle.std.specs.Prelude.{◌≡◌, ℕ, Bool, true, false, ◌&&◌, nat_le, ◌==◌, slice_index, List, [], Option, None, Some, codes, if◌then◌else◌}
+use Rattle.std.specs.Prelude.{◌≡◌, ℕ, Bool, true, false, ◌&&◌, nat_le, List, [], Option, None, Some, codes, if◌then◌else◌}
 use Rattle.std.specs.Option.{option_map, option_map_or, option_and_then}
 use Rattle.std.specs.Str.{bytes_eq}
 use Rattle.clap.specs.Words.{Row, Text, first_of, subcommand_of, kind_of, fault_of, IsAmong}
 use Rattle.clap.specs.declared.error.kind.ErrorKind.{ErrorKind}
 use Rattle.clap.specs.declared.error.kind.ErrorKind.TheVariants.{DisplayHelp, DisplayVersion}
-use Rattle.edi_segments.specs.Bytes.{digit_zero}
 use Rattle.edi_syntax.specs.Numbers.{number_of}
 use Rattle.office_command_line.specs.Commands.{office_app}
 use Rattle.office_command_line.specs.declared.command_reading.CommandFault.{CommandFault}
 use Rattle.office_command_line.specs.declared.command_reading.CommandFault.TheVariants.{Words, Values, Memory}
+use Rattle.office_queries.specs.Keys.{passed_of}
 use Rattle.office_queries.specs.declared.query.ReportKind.{ReportKind}
 use Rattle.office_queries.specs.declared.query.ReportKind.TheVariants.{Yard, YardTable, Visits, List as VesselList, Ticket, Reply, Container, Work, Partners, Partner, Blocks, Calls, Contrl, Picture, Health, Metrics}
 use Rattle.office_command_line.specs.declared.command_reading.Request.{Request}
@@ -136,13 +136,10 @@ report_request rows =
     (option_and_then kind_said (first_of (codes "KIND") rows)))
     (first_of (codes "DB") rows)
 
--- how many texts to pass over: 0, or a number that does not begin with 0; 0 if nothing is said
+-- how many texts to pass over; 0 if nothing is said
 abbrev pub from_said : Option Text → Option ℕ
 from_said None = Some 0
-from_said (Some text) =
-    if bytes_eq text (codes "0") then Some 0
-    else if slice_index text 0 == digit_zero then None
-    else number_upto 999999999 text
+from_said (Some text) = passed_of text
 
 abbrev pub texts_asked : List Row → Option RequestContent
 texts_asked rows = option_and_then

@@ -1,13 +1,12 @@
 ghost use Rattle.std.specs.Option.{option_map};
-ghost use Rattle.edi_segments.specs.Bytes.{digit_zero};
-ghost use Rattle.std.specs.Prelude.{◌≡◌, ◌==◌, slice_index, IfOk, IfErr, map};
+ghost use Rattle.std.specs.Prelude.{◌≡◌, IfOk, IfErr, map};
 ghost use Rattle.clap.specs.Words.{found_of, rows_of, subcommand_rows_of, first_of};
 ghost use Rattle.office_command_line.specs.Requests.{request_content, init_request, account_request, migrate_request, explain_asked, deliver_request, serve_request, report_request, report_with, texts_asked, from_said, request_by, request_met, is_set, kind_said, usage_line, wants_key, RefusesWords, RefusesMet, WordsAsk, number_if_any, number_upto};
 
 use crate::builders::office_command;
 use clap::error::ErrorKind;
 use clap::{ArgMatches, Error};
-use office_queries::{ReportKind, number_of};
+use office_queries::{ReportKind, number_of, passed_of};
 use std::alloc::Global;
 use std::fmt;
 
@@ -353,22 +352,8 @@ fn from_said(text: Option<&str>) -> Option<u32>
 {
     match text {
         None => Some(0),
-        Some("0") => Some(0),
-        Some(text) => {
-            if begins_with_zero(text.as_bytes()) {
-                None
-            } else {
-                number_upto(999_999_999, text)
-            }
-        }
+        Some(text) => passed_of(text),
     }
-}
-
-/// Whether the first character is a zero.
-fn begins_with_zero(text: &[u8]) -> bool
-    ensures { result ≡ (slice_index text.now 0 == digit_zero) }
-{
-    !text.is_empty() && text[0] == b'0'
 }
 
 /// The number that 1 to 9 digits write, if it is from 1 to the greatest.

@@ -1,5 +1,5 @@
 -- Where the paths lead (our own).
-use Rattle.std.specs.Prelude.{ℕ, List, [], codes, Option, None, Some, option_map, Result, Ok, Err, if◌then◌else◌}
+use Rattle.std.specs.Prelude.{ℕ, List, [], ◌∷◌, codes, Option, None, Some, option_map, Result, Ok, Err, if◌then◌else◌}
 use Rattle.std.specs.Option.{option_and_then}
 use Rattle.std.specs.Str.{bytes_eq}
 use Rattle.matchit.specs.Rows.{RowsOf}
@@ -16,41 +16,57 @@ use Rattle.office_http.specs.declared.targets.View.{View}
 use Rattle.office_http.specs.declared.targets.View.TheVariants as view
 use Rattle.office_http.specs.declared.routes.Endpoint.{Endpoint}
 use Rattle.office_http.specs.declared.routes.Endpoint.TheVariants as endpoint
+use Rattle.office_http.specs.declared.routes.Route.{Route}
 use Rattle.office_http.specs.declared.response.Refusal.{Refusal}
 use Rattle.office_http.specs.declared.response.Refusal.TheVariants.{NotFound, OnlyGet, OnlyPost}
 
 -- ---- the routes
 
-abbrev place_route : Result Scan InsertError → Endpoint → RowsOf (RouteOf Endpoint) → RowsOf (RouteOf Endpoint)
+-- a path, and what it leads to
+abbrev pub RouteContent : Type 0
+RouteContent = List ℕ × Endpoint
+
+abbrev pub route_content : Route → RouteContent
+route_content route = (route.0.now, route.1)
+
+unfoldable pub routes : List RouteContent
+routes =
+    (codes "/interchanges", endpoint.Interchanges)
+    ∷ (codes "/replies/{partner}/{number}", endpoint.Report kind.Reply)
+    ∷ (codes "/tickets/{partner}/{number}", endpoint.Report kind.Ticket)
+    ∷ (codes "/yard", endpoint.Report kind.Yard)
+    ∷ (codes "/visits/{box}", endpoint.Report kind.Visits)
+    ∷ (codes "/lists/{vessel}/{voyage}/{side}", endpoint.Report kind.List)
+    ∷ (codes "/partners/{code}/{kind}", endpoint.Accounts)
+    ∷ (codes "/yard.csv", endpoint.Report kind.YardTable)
+    ∷ (codes "/containers/{box}", endpoint.Report kind.Container)
+    ∷ (codes "/work/{vessel}/{voyage}/{side}", endpoint.Report kind.Work)
+    ∷ (codes "/blocks", endpoint.Report kind.Blocks)
+    ∷ (codes "/contrls/{partner}/{number}", endpoint.Report kind.Contrl)
+    ∷ (codes "/picture", endpoint.Report kind.Picture)
+    ∷ (codes "/partners", endpoint.Report kind.Partners)
+    ∷ (codes "/partners/{code}/interchanges", endpoint.PartnerInterchanges)
+    ∷ (codes "/partners/{code}", endpoint.Report kind.Partner)
+    ∷ (codes "/health", endpoint.Report kind.Health)
+    ∷ (codes "/metrics", endpoint.Report kind.Metrics)
+    ∷ (codes "/calls", endpoint.Report kind.Calls)
+    ∷ (codes "/texts/{from}", endpoint.Texts)
+    ∷ []
+
+abbrev pub place_route : Result Scan InsertError → Endpoint → RowsOf (RouteOf Endpoint) → RowsOf (RouteOf Endpoint)
 place_route (Ok s) to rows = placed (s.pattern, route_from s to) rows
 place_route (Err e) to rows = rows
 
--- the routes with one more
-abbrev pub with_route : List ℕ → Endpoint → RowsOf (RouteOf Endpoint) → RowsOf (RouteOf Endpoint)
-with_route text to rows = place_route (parse_route text) to rows
+-- the rows with one route more
+abbrev pub with_route : RouteContent → RowsOf (RouteOf Endpoint) → RowsOf (RouteOf Endpoint)
+with_route route rows = place_route (parse_route route.0) route.1 rows
+
+abbrev pub with_routes : List RouteContent → RowsOf (RouteOf Endpoint) → RowsOf (RouteOf Endpoint)
+with_routes [] rows = rows
+with_routes (route ∷ rest) rows = with_routes rest (with_route route rows)
 
 unfoldable pub endpoints : RowsOf (RouteOf Endpoint)
-endpoints =
-    with_route (codes "/texts/{from}") endpoint.Texts
-    (with_route (codes "/calls") (endpoint.Report kind.Calls)
-    (with_route (codes "/metrics") (endpoint.Report kind.Metrics)
-    (with_route (codes "/health") (endpoint.Report kind.Health)
-    (with_route (codes "/partners/{code}") (endpoint.Report kind.Partner)
-    (with_route (codes "/partners/{code}/interchanges") endpoint.PartnerInterchanges
-    (with_route (codes "/partners") (endpoint.Report kind.Partners)
-    (with_route (codes "/picture") (endpoint.Report kind.Picture)
-    (with_route (codes "/contrls/{partner}/{number}") (endpoint.Report kind.Contrl)
-    (with_route (codes "/blocks") (endpoint.Report kind.Blocks)
-    (with_route (codes "/work/{vessel}/{voyage}/{side}") (endpoint.Report kind.Work)
-    (with_route (codes "/containers/{box}") (endpoint.Report kind.Container)
-    (with_route (codes "/yard.csv") (endpoint.Report kind.YardTable)
-    (with_route (codes "/partners/{code}/{kind}") endpoint.Accounts
-    (with_route (codes "/lists/{vessel}/{voyage}/{side}") (endpoint.Report kind.List)
-    (with_route (codes "/visits/{box}") (endpoint.Report kind.Visits)
-    (with_route (codes "/yard") (endpoint.Report kind.Yard)
-    (with_route (codes "/tickets/{partner}/{number}") (endpoint.Report kind.Ticket)
-    (with_route (codes "/replies/{partner}/{number}") (endpoint.Report kind.Reply)
-    (with_route (codes "/interchanges") endpoint.Interchanges [])))))))))))))))))))
+endpoints = with_routes routes []
 
 -- what a path leads to
 abbrev pub endpoint_at : List ℕ → Option Endpoint

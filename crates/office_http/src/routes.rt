@@ -1,7 +1,7 @@
-ghost use Rattle.std.specs.Prelude.{◌≡◌, ◌⊎◌, IfOk, option_map, codes, Err, ℕ, List, Result, string_bytes};
+ghost use Rattle.std.specs.Prelude.{◌≡◌, ◌⊎◌, IfOk, OnOk, map, option_map, codes, Err, ℕ, List, Result, string_bytes};
 ghost use Rattle.edi_segments.specs.Interchange.{interchange_of};
 ghost use Rattle.office_http.specs.Requests.{Posts, PostsFrom, PostsOwn};
-ghost use Rattle.office_http.specs.Routes.{method_of, endpoint_of, endpoint_at, endpoints, front_of, key_in, other_method, page_at, partner_key_in, passed_in, seen_at};
+ghost use Rattle.office_http.specs.Routes.{method_of, endpoint_of, endpoint_at, endpoints, front_of, key_in, other_method, page_at, partner_key_in, passed_in, route_content, routes, seen_at, with_route, with_routes};
 ghost use Rattle.office_http.specs.Senders.{sender_at};
 ghost use Rattle.office_http.specs.Targets.{behind};
 ghost use Rattle.office_http.specs.declared.requests.Request.TheVariants.{Refused};
@@ -66,50 +66,81 @@ pub(crate) fn direct(alloc: Global, method: &[u8], target: &str) -> Result<Endpo
     }
 }
 
+/// A path, and what it leads to.
+#[derive(Clone, Copy)]
+pub(crate) struct Route(&'static str, Endpoint);
+
 /// The routes.
+const ROUTES: [Route; 20] = [
+    Route("/interchanges", Endpoint::Interchanges),
+    Route(
+        "/replies/{partner}/{number}",
+        Endpoint::Report(ReportKind::Reply),
+    ),
+    Route(
+        "/tickets/{partner}/{number}",
+        Endpoint::Report(ReportKind::Ticket),
+    ),
+    Route("/yard", Endpoint::Report(ReportKind::Yard)),
+    Route("/visits/{box}", Endpoint::Report(ReportKind::Visits)),
+    Route(
+        "/lists/{vessel}/{voyage}/{side}",
+        Endpoint::Report(ReportKind::List),
+    ),
+    Route("/partners/{code}/{kind}", Endpoint::Accounts),
+    Route("/yard.csv", Endpoint::Report(ReportKind::YardTable)),
+    Route("/containers/{box}", Endpoint::Report(ReportKind::Container)),
+    Route(
+        "/work/{vessel}/{voyage}/{side}",
+        Endpoint::Report(ReportKind::Work),
+    ),
+    Route("/blocks", Endpoint::Report(ReportKind::Blocks)),
+    Route(
+        "/contrls/{partner}/{number}",
+        Endpoint::Report(ReportKind::Contrl),
+    ),
+    Route("/picture", Endpoint::Report(ReportKind::Picture)),
+    Route("/partners", Endpoint::Report(ReportKind::Partners)),
+    Route(
+        "/partners/{code}/interchanges",
+        Endpoint::PartnerInterchanges,
+    ),
+    Route("/partners/{code}", Endpoint::Report(ReportKind::Partner)),
+    Route("/health", Endpoint::Report(ReportKind::Health)),
+    Route("/metrics", Endpoint::Report(ReportKind::Metrics)),
+    Route("/calls", Endpoint::Report(ReportKind::Calls)),
+    Route("/texts/{from}", Endpoint::Texts),
+];
+
+#[tactic(auto, unfolding(crate::specs::Routes::routes))]
+fn routes() -> &'static [Route]
+    ensures { map route_content result.now ≡ routes }
+{
+    &ROUTES
+}
+
 fn router(alloc: Global) -> Result<Router<Endpoint>, InsertError>
     ensures { IfOk result (λ router. router ≡ endpoints) }
 {
     let mut router = Router::new(alloc);
-    router.insert("/interchanges", Endpoint::Interchanges)?;
-    router.insert(
-        "/replies/{partner}/{number}",
-        Endpoint::Report(ReportKind::Reply),
-    )?;
-    router.insert(
-        "/tickets/{partner}/{number}",
-        Endpoint::Report(ReportKind::Ticket),
-    )?;
-    router.insert("/yard", Endpoint::Report(ReportKind::Yard))?;
-    router.insert("/visits/{box}", Endpoint::Report(ReportKind::Visits))?;
-    router.insert(
-        "/lists/{vessel}/{voyage}/{side}",
-        Endpoint::Report(ReportKind::List),
-    )?;
-    router.insert("/partners/{code}/{kind}", Endpoint::Accounts)?;
-    router.insert("/yard.csv", Endpoint::Report(ReportKind::YardTable))?;
-    router.insert("/containers/{box}", Endpoint::Report(ReportKind::Container))?;
-    router.insert(
-        "/work/{vessel}/{voyage}/{side}",
-        Endpoint::Report(ReportKind::Work),
-    )?;
-    router.insert("/blocks", Endpoint::Report(ReportKind::Blocks))?;
-    router.insert(
-        "/contrls/{partner}/{number}",
-        Endpoint::Report(ReportKind::Contrl),
-    )?;
-    router.insert("/picture", Endpoint::Report(ReportKind::Picture))?;
-    router.insert("/partners", Endpoint::Report(ReportKind::Partners))?;
-    router.insert(
-        "/partners/{code}/interchanges",
-        Endpoint::PartnerInterchanges,
-    )?;
-    router.insert("/partners/{code}", Endpoint::Report(ReportKind::Partner))?;
-    router.insert("/health", Endpoint::Report(ReportKind::Health))?;
-    router.insert("/metrics", Endpoint::Report(ReportKind::Metrics))?;
-    router.insert("/calls", Endpoint::Report(ReportKind::Calls))?;
-    router.insert("/texts/{from}", Endpoint::Texts)?;
+    add_routes(&mut router, routes())?;
     Ok(router)
+}
+
+/// Adds routes, one after the other.
+fn add_routes(router: &mut Router<Endpoint>, routes: &[Route]) -> Result<(), InsertError>
+    ensures { OnOk result (router.new ≡ with_routes (map route_content routes.now) router.old) }
+{
+    for route in routes {
+        add_route(router, *route)?;
+    }
+    Ok(())
+}
+
+fn add_route(router: &mut Router<Endpoint>, route: Route) -> Result<(), InsertError>
+    ensures { OnOk result (router.new ≡ with_route (route_content route) router.old) }
+{
+    router.insert(route.0, route.1)
 }
 
 fn endpoint_at(router: &Router<Endpoint>, path: &str) -> Option<Endpoint>
