@@ -1,4 +1,5 @@
 pub mod Places
 pub mod Named
 pub mod Names
+pub mod Kinds
 pub mod Told

@@ -1,4 +1,7 @@
-ghost use Rattle.std.specs.Prelude.{◌≡◌, ◌≤◌, length, IfOk, IfSome};
+ghost use Rattle.std.specs.Prelude.{◌≡◌, ◌≤◌, length, IfOk, IfSome, unwrap_or};
+ghost use Rattle.edi_syntax.specs.Envelope.{messages_of};
+ghost use Rattle.edi_syntax.specs.Envelopes.{envelope_segments};
+ghost use Rattle.office_explain.specs.Kinds.{kind_wanted};
 ghost use Rattle.office_explain.specs.Told.{Explains};
 ghost use Rattle.office_setup.specs.Parties.{parties_of};
 
@@ -22,7 +25,7 @@ use std::fmt;
 /// What is told of an interchange.
 #[derive(Drop)]
 pub enum Told {
-    /// It can't be told apart from what follows, and nothing behind it is read.
+    /// It can't be told apart from what follows, and nothing after it is read.
     Cut(Finding),
     /// It is refused.
     Refused(Finding),
@@ -154,7 +157,10 @@ fn reading_of(
     text: &[u8],
     opened: &Opened<'_>,
     placed: &[PlacedSegment<'_>],
-) -> Result<Reading, AllocError> {
+) -> Result<Reading, AllocError>
+    ensures { IfOk result (λ reading. reading.kind ≡ unwrap_or opened.now.kind
+        (kind_wanted partners.now.setup.codes (messages_of (envelope_segments opened.now.envelope)))) }
+{
     let kind = match opened.kind {
         Some(kind) => kind,
         None => kind_wanted(alloc, partners.table(), &opened.envelope),
@@ -225,7 +231,7 @@ impl fmt::Display for Block<'_> {
         write!(f, "interchange {number}, from byte {first}: ")?;
         match &self.told {
             Told::Cut(finding) => {
-                f.write_str("cut, and nothing behind is read\n")?;
+                f.write_str("cut, and nothing after it is read\n")?;
                 write_finding(finding, self.text, self.before, f)
             }
             Told::Refused(finding) => {

@@ -1,10 +1,14 @@
 ghost use Rattle.std.specs.Option.{option_map};
 ghost use Rattle.std.specs.Result.{result_err};
-ghost use Rattle.std.specs.Prelude.{◌≡◌, ◌≤◌, IfOk, IfErr, IfSome, Some, None, Err, true, false, length};
+ghost use Rattle.std.specs.Prelude.{◌≡◌, ◌≤◌, IfOk, IfErr, IfSome, Some, None, Err, true, false, length, string_bytes};
 ghost use Rattle.edi_segments.specs.declared.interchange.SyntaxFault.{SyntaxFault};
+ghost use Rattle.edi_syntax.specs.Envelope.{messages_of};
+ghost use Rattle.edi_syntax.specs.Envelopes.{envelope_segments};
 ghost use Rattle.edi_syntax.specs.Faults.{fault_of};
+ghost use Rattle.edi_syntax.specs.Frames.{message};
 ghost use Rattle.office_admission.specs.Admission.{admission};
 ghost use Rattle.office_admission.specs.Refusals.{error_of};
+ghost use Rattle.office_explain.specs.Kinds.{is_of_order, kind_for, kind_wanted, may_send};
 ghost use Rattle.office_replies.specs.declared.deliver.Fault.{Fault};
 ghost use Rattle.office_setup.specs.Limits.{most_partners};
 ghost use Rattle.office_setup.specs.Parties.{parties_of};
@@ -61,12 +65,16 @@ impl Partners {
     }
 
     /// The terminal's codes.
-    pub fn table(&self) -> &CodeTable {
+    pub fn table(&self) -> &CodeTable
+        ensures { result.now ≡ self.now.setup.codes }
+    {
         &self.setup.codes
     }
 
     /// The terminal's own code.
-    pub fn terminal(&self) -> &str {
+    pub fn terminal(&self) -> &str
+        ensures { result.now ≡ string_bytes self.now.setup.terminal }
+    {
         self.setup.terminal.as_str()
     }
 
@@ -148,11 +156,9 @@ const KINDS: [PartnerKind; 4] = [
 
 /// The kind of account that the messages of an interchange want: the first that may send the first message which any may
 /// send, or else that of the gate.
-pub(crate) fn kind_wanted(
-    alloc: Global,
-    table: &CodeTable,
-    envelope: &Envelope<'_>,
-) -> PartnerKind {
+pub(crate) fn kind_wanted(alloc: Global, table: &CodeTable, envelope: &Envelope<'_>) -> PartnerKind
+    ensures { result ≡ kind_wanted table.now (messages_of (envelope_segments envelope.now)) }
+{
     let moment = envelope.head().moment();
     for frame in envelope.frames() {
         if let Some(kind) = kind_for(alloc, table, &frame, moment) {
@@ -168,7 +174,9 @@ fn kind_for(
     table: &CodeTable,
     frame: &Frame<'_>,
     moment: Moment,
-) -> Option<PartnerKind> {
+) -> Option<PartnerKind>
+    ensures { result ≡ kind_for table.now (message frame.now) }
+{
     for kind in KINDS {
         if may_send(alloc, frame, moment, &Codes::for_kind(table, kind)) {
             return Some(kind);
@@ -178,9 +186,26 @@ fn kind_for(
 }
 
 /// Whether a partner with these codes may send a message of its type and code.
-fn may_send(alloc: Global, frame: &Frame<'_>, moment: Moment, codes: &Codes) -> bool {
-    !matches!(
-        read_message(alloc, frame, moment, codes),
-        Err(MessageFault::OtherType | MessageFault::NoBgm | MessageFault::Code)
-    )
+fn may_send(alloc: Global, frame: &Frame<'_>, moment: Moment, codes: &Codes) -> bool
+    ensures { result ≡ may_send codes.now (message frame.now) }
+{
+    match read_message(alloc, frame, moment, codes).err() {
+        Some(fault) => !is_of_order(fault),
+        None => true,
+    }
+}
+
+/// Whether a message is rejected because its type, its BGM or its code orders nothing that its sender may order.
+fn is_of_order(fault: MessageFault) -> bool
+    ensures { result ≡ is_of_order fault }
+{
+    match fault {
+        MessageFault::OtherType | MessageFault::NoBgm | MessageFault::Code => true,
+        MessageFault::Function
+        | MessageFault::NoTransport
+        | MessageFault::NoEquipment
+        | MessageFault::EquipmentCount
+        | MessageFault::TooMany
+        | MessageFault::Memory => false,
+    }
 }

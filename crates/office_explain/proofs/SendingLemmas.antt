@@ -1,0 +1,119 @@
+-- A message names no order of a sender's codes exactly if the fault that it is rejected for is of its type, its BGM or its
+-- code.
+use Rattle.std.proofs.Common.{◌≡◌, Bool, true, false, cond, not, [], ◌∷◌, Option, None, Some, Result, Ok, Err, refl, sym, ap, subst, ◌∙◌}
+use Rattle.std.specs.Prelude.{MatchResult, IfOk, IfErr, is_some, is_none}
+use Rattle.std.specs.List.{find}
+use Rattle.std.specs.Option.{option_and_then, option_map_or}
+use Rattle.std.specs.Result.{result_err}
+use Rattle.edi_moments.specs.Moments.{CivilMoment}
+use Rattle.edi_syntax.specs.Messages.{Message}
+use Rattle.edi_messages.specs.Faults.{beginning, order_kind_of, purpose_of, applies, fault_of}
+use Rattle.edi_messages.specs.Message.{MessageContent, judged_message, message_of, reading}
+use Rattle.edi_messages.specs.Types.{message_type_of}
+use Rattle.edi_messages.specs.declared.codes.Codes.{Codes}
+use Rattle.edi_messages.specs.declared.message.MessageFault.{MessageFault}
+use Rattle.edi_messages.specs.declared.message.MessageFault.TheVariants.{OtherType, NoBgm, Code, Function, NoTransport, NoEquipment, EquipmentCount, TooMany, Memory}
+use Rattle.edi_messages.proofs.PurposeLemmas.{purpose_there}
+use Rattle.office_explain.specs.Kinds.{is_of_order, may_send}
+
+abbrev is_order_fault : Option MessageFault → Bool
+is_order_fault fault = option_map_or is_of_order fault false
+
+-- ---- by the faults that apply
+
+-- a later fault is none of the order
+later : (b : Bool) (fault : MessageFault) (rest : Option MessageFault) → is_of_order fault ≡ false → is_order_fault rest ≡ false
+    → is_order_fault (cond b (Some fault) rest) ≡ false
+later true fault rest is others = is
+later false fault rest is others = others
+
+others : (codes : Codes) (message : Message)
+    → is_order_fault (find (applies codes message) (Function ∷ NoTransport ∷ NoEquipment ∷ EquipmentCount ∷ TooMany ∷ [])) ≡ false
+others codes message =
+    later (applies codes message Function) Function _ refl
+    (later (applies codes message NoTransport) NoTransport _ refl
+    (later (applies codes message NoEquipment) NoEquipment _ refl
+    (later (applies codes message EquipmentCount) EquipmentCount _ refl
+    (later (applies codes message TooMany) TooMany None refl refl))))
+
+first_three : (type begin code : Bool) (rest : Option MessageFault) → (type ≡ true → code ≡ true) → (begin ≡ true → code ≡ true)
+    → is_order_fault rest ≡ false
+    → is_order_fault (cond type (Some OtherType) (cond begin (Some NoBgm) (cond code (Some Code) rest))) ≡ code
+first_three true begin code rest typed begun none = sym (typed refl)
+first_three false true code rest typed begun none = sym (begun refl)
+first_three false false true rest typed begun none = refl
+first_three false false false rest typed begun none = none
+
+untyped : {A B : Type 0} (f : A → Option B) (o : Option A) → is_none o ≡ true → is_none (option_and_then f o) ≡ true
+untyped f None e = refl
+untyped f (Some x) e = cc
+
+unbegun : {A B C : Type 0} (f : A → B → Option C) (type : Option A) (segment : Option B) → is_none segment ≡ true
+    → is_none (option_and_then (λ t. option_and_then (f t) segment) type) ≡ true
+unbegun f None segment e = refl
+unbegun f (Some t) segment e = untyped (f t) segment e
+
+named : (codes : Codes) (message : Message) → is_order_fault (fault_of codes message) ≡ is_none (order_kind_of codes message)
+named codes message =
+    first_three (applies codes message OtherType) (applies codes message NoBgm) (applies codes message Code) _
+    (untyped _ (message_type_of message.header)) (unbegun _ (message_type_of message.header) (beginning message))
+    (others codes message)
+
+-- ---- by what is read
+
+rejected : (codes : Codes) (opened : CivilMoment) (message : Message) (fault : MessageFault) → fault_of codes message ≡ Some fault
+    → reading codes opened message ≡ Err fault
+rejected codes opened message fault e =
+    ap (λ f. judged_message f (option_map_or (λ purpose. Ok (message_of purpose opened message)) (purpose_of codes message) (Err Code))) e
+
+accepted : (codes : Codes) (opened : CivilMoment) (message : Message) → fault_of codes message ≡ None
+    → (content : MessageContent) × (reading codes opened message ≡ Ok content)
+accepted codes opened message e =
+    let found = purpose_there codes message e in
+    (message_of found.0 opened message, rw (e, found.1) refl)
+
+abbrev IsFault : Result MessageContent MessageFault → MessageFault → Type 0
+IsFault read fault = MatchResult read (λ _. fault ≡ Memory) (λ lowest. fault ≡ lowest)
+
+-- what is answered, by the lowest fault that applies
+answered : (codes : Codes) (opened : CivilMoment) (message : Message) (fault : MessageFault) (lowest : Option MessageFault)
+    → fault_of codes message ≡ lowest → IsFault (reading codes opened message) fault → is_of_order fault ≡ is_order_fault lowest
+answered codes opened message fault (Some lowest) e told =
+    ap is_of_order (subst (λ read. IsFault read fault) (rejected codes opened message lowest e) told)
+answered codes opened message fault None e told =
+    ap is_of_order (subst (λ read. IsFault read fault) (accepted codes opened message e).1 told)
+
+faultless : (codes : Codes) (opened : CivilMoment) (message : Message) (content : MessageContent) (lowest : Option MessageFault)
+    → fault_of codes message ≡ lowest → reading codes opened message ≡ Ok content → is_order_fault lowest ≡ false
+faultless codes opened message content (Some lowest) e is =
+    let other = rejected codes opened message lowest e in
+    absurd cc
+faultless codes opened message content None e is = refl
+
+sent : {A : Type 0} (o : Option A) (b : Bool) → b ≡ is_none o → is_some o ≡ not b
+sent None b e = ap not (sym e)
+sent (Some x) b e = ap not (sym e)
+
+sent_if_rejected : (codes : Codes) (opened : CivilMoment) (message : Message) (fault : MessageFault)
+    → IsFault (reading codes opened message) fault → may_send codes message ≡ not (is_of_order fault)
+sent_if_rejected codes opened message fault told =
+    sent (order_kind_of codes message) (is_of_order fault)
+    (answered codes opened message fault (fault_of codes message) refl told ∙ named codes message)
+
+sent_if_read : (codes : Codes) (opened : CivilMoment) (message : Message) (content : MessageContent)
+    → reading codes opened message ≡ Ok content → may_send codes message ≡ true
+sent_if_read codes opened message content is =
+    sent (order_kind_of codes message) false
+    (sym (faultless codes opened message content (fault_of codes message) refl is) ∙ named codes message)
+
+-- by the fault of what is answered, if there is one
+abbrev pub sent_by : Option MessageFault → Bool
+sent_by None = true
+sent_by (Some fault) = not (is_of_order fault)
+
+pub sent_if_answered : {M : Type 0} (content : M → MessageContent) (codes : Codes) (opened : CivilMoment) (message : Message)
+    (answer : Result M MessageFault) → IfOk answer (λ read. reading codes opened message ≡ Ok (content read))
+    → IfErr answer (λ fault. MatchResult (reading codes opened message) (λ _. fault ≡ Memory) (λ lowest. fault ≡ lowest))
+    → may_send codes message ≡ sent_by (result_err answer)
+sent_if_answered content codes opened message (Ok read) ok err = sent_if_read codes opened message (content read) ok
+sent_if_answered content codes opened message (Err fault) ok err = sent_if_rejected codes opened message fault err
