@@ -135,7 +135,7 @@ def counts(stores):
         cost = [counted(stores, program, store, texts[mark:]) for program in (stores.office, stores.peer) if program] + [None]
         costs.append(cost)
         rows.append(Row('gate-ins and gate-outs, instructions, %s kept' % format(mark, ','), 'thousands', *(
-            number and number / 1000 for number in cost[:2]), 'at most 580'))
+            number and number / 1000 for number in cost[:2]), 'at most 300'))
     ratios = [after and after / before for before, after in zip(*costs)]
     return rows + [Row('the latter by the former', 'times', ratios[0], ratios[1], 'at most 1.2')]
 

@@ -111,15 +111,21 @@ class Cost:
             self.peak = max(self.peak, usage.ru_maxrss / 1024)
 
 
+COUNTING = ['valgrind', '--tool=cachegrind', '--cache-sim=no', '--cachegrind-out-file=/dev/null']
+
+
+def counted_in(told):
+    """The count in what valgrind tells."""
+    return int(re.search(rb'I +refs: +([0-9,]+)', told).group(1).replace(b',', b''))
+
+
 def instructions(path, *words, statuses=(0,)):
     """How many instructions a program runs on a file as its input, by valgrind."""
     with open(path, 'rb') as file:
-        done = subprocess.run(
-            ['valgrind', '--tool=cachegrind', '--cache-sim=no', '--cachegrind-out-file=/dev/null', *words], stdin=file,
-            stdout=subprocess.DEVNULL, stderr=subprocess.PIPE, check=False)
+        done = subprocess.run([*COUNTING, *words], stdin=file, stdout=subprocess.DEVNULL, stderr=subprocess.PIPE, check=False)
     if done.returncode not in statuses:
         raise SystemExit('bench: %s ended with %d' % (' '.join(words), done.returncode))
-    return int(re.search(rb'I +refs: +([0-9,]+)', done.stderr).group(1).replace(b',', b''))
+    return counted_in(done.stderr)
 
 
 class Server:

@@ -80,7 +80,7 @@ WRONG = '''(() => {
     expect(all('*').every(e => [...e.attributes].every(each => !each.name.startsWith('on'))), 'a script in an attribute');
     all('input, button, a').filter(is_shown).forEach(e => expect((e.computedName || '').trim(), `no name: ${e.outerHTML}`));
     all('input').forEach(e => expect(e.labels.length === 1 && e.labels[0].textContent.trim(), `no label: ${e.outerHTML}`));
-    all('a').forEach(e => expect(e.getAttribute('href') && !e.hash || e.pathname === '/picture', `odd link: ${e.outerHTML}`));
+    all('a').forEach(e => expect(e.getAttribute('href') && !e.hash || ['/picture', '/pages/picture'].includes(e.pathname), `odd link: ${e.outerHTML}`));
     return [...new Set(faults)];
 })()'''
 
@@ -118,14 +118,16 @@ class Reader(HTMLParser):
     def handle_starttag(self, tag, attrs):
         if tag == 'title' and 'main' in self.inside:
             return                      # of a container in the picture
-        if tag in ('title', 'h1', 'pre', 'main', 'a'):
+        if tag == 'a' and 'svg' in self.inside:
+            return                      # of a container in the picture, which is none of a document's links
+        if tag in ('title', 'h1', 'pre', 'main', 'a', 'svg'):
             self.inside.append(tag)
             self.texts.setdefault(tag, '')
         if tag == 'a':
             self.links.append([dict(attrs)['href'], ''])
 
     def handle_endtag(self, tag):
-        if tag in self.inside:
+        if tag in self.inside and not (tag == 'a' and 'svg' in self.inside):
             self.inside.remove(tag)
 
     def handle_data(self, data):

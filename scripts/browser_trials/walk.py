@@ -93,9 +93,9 @@ class Walk:
         return asked_at(path)[0], status
 
     def reported(self, path, status, shows):
-        """Title and text of a report's page are the report's."""
+        """Title and text of a report's page are the report's. The picture is drawn, and shows no text of a report."""
         kind, key = asked_at(path)
-        if status != 200 or kind not in KINDS or not is_page(path):
+        if status != 200 or kind not in KINDS or kind == 'picture' or not is_page(path):
             return
         values = read_key(kind, key) if PARTS[kind] else [None]
         name = shown_as(title(kind, values[0] if len(values) == 1 else values))

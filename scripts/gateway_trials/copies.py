@@ -8,7 +8,7 @@ import threading
 import time
 from datetime import datetime, timezone
 
-from .installed import Installed, free_port, script, until
+from .installed import SECONDS, Installed, free_port, script, until
 from .judged import Replayed, texts_in
 from .load import PARTNERS, SETUP, Senders, prepared, text_of, word_of
 
@@ -199,14 +199,15 @@ def slow_tools(installed):
 
 
 def ended(checks, copying, path, earlier, number):
-    """The script is ended by a signal while it copies."""
+    """The script is ended by a signal while it copies, also where this trial runs in the background or by nohup, and so with
+    signals ignored."""
     name, office = 'a copy ended by ' + signal.Signals(number).name, copying.installed.office
-    words = [script('office-copy'), office.store, copying.into, str(office.process.pid)]
+    words = ['env', '--default-signal', script('office-copy'), office.store, copying.into, str(office.process.pid)]
     process = subprocess.Popen(
         words, env=dict(os.environ, OFFICE=office.program, PATH=path), stdin=subprocess.DEVNULL, stderr=subprocess.DEVNULL)
     until('the copy', lambda: state_of(office.process) == 'T')
     process.send_signal(number)
-    checks.expect(name, 1, process.wait(30))
+    checks.expect(name, 1, process.wait(SECONDS))
     went_on(checks, name, copying, earlier)
 
 

@@ -13,7 +13,7 @@ from model.setups import files_of
 TOP = os.path.dirname(os.path.dirname(os.path.dirname(os.path.abspath(__file__))))
 EXAMPLES = os.path.join(TOP, 'examples/gateway')
 HOST = 'office.test'
-SECONDS = 60                # that the office or a part may take to start or to stop
+SECONDS = 300               # that the office or a part may take to start or to stop, on a busy machine too
 LIFE = 4 * 3600             # seconds after which nothing of a trial is left, whatever happens
 AHEAD = 1000                # how far ahead a partner may send
 GROUP = 'www-data'          # of nginx on Debian

@@ -21,7 +21,7 @@ CLIENTS = 200
 STOPS = 4                   # of each kind
 BETWEEN = 1.5               # seconds from one start to the next stop
 PATIENCE = 900              # seconds after which a client gives up
-AWAY = 30                   # seconds that a client may wait for word that the office is away
+AWAY = 120                  # seconds that a client may wait for word that the office is away: some 20 where nothing else runs
 
 PARTNERS = ['HAULIER-%02d' % place for place in range(1, 25)]
 SETUP = DEMO._replace(partners={code: 'gate' for code in PARTNERS}, plan=[Block('A', bays=40, rows=12, tiers=6)])

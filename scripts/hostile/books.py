@@ -4,6 +4,7 @@ import os
 import random
 import shutil
 import subprocess
+from contextlib import contextmanager
 
 from model.cuts import cut
 from model.days import Day
@@ -26,6 +27,15 @@ ADDED = 0.08                # of what is sent, where accounts are added
 
 class Different(Exception):
     """What the program did is not what the model has."""
+
+
+@contextmanager
+def naming(tried):
+    """Names what was tried, where something differs within it."""
+    try:
+        yield
+    except Different as fault:
+        raise Different('%s: %s' % (tried, fault)) from fault
 
 
 def expect(what, wanted, got):

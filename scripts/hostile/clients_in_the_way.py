@@ -9,9 +9,10 @@ FIRST_BYTE_LIMIT = 2        # seconds for the first byte of a request
 REQUEST_LIMIT = 10          # seconds until a request is whole
 RESPONSE_LIMIT = 10         # seconds until a response is taken, and until the peer has closed behind it
 DRAIN_LIMIT = 1             # seconds for a read of what is dropped behind a response
-SLACK = 3
+SLACK = 6                   # seconds besides, on a busy machine; from the first byte's limit not as far as a request's
 SLOWEST = REQUEST_LIMIT + RESPONSE_LIMIT + SLACK     # seconds that a slow client goes on
 SILENT = 3                  # clients that send nothing, one behind the other
+TRIES = 20                  # of a client that is in time, on a machine that holds it up itself
 
 MESSAGES = 145              # of 999 lines each: a mebibyte, whose reply is some seven
 TOO_SMALL = 4096            # bytes that a client takes in unread
@@ -52,14 +53,35 @@ def silent_ones(checks, path):
 
 def late(checks, path):
     """Its first byte comes in time, and its request whole, but not at once: it is answered."""
+    in_time(checks, path, 'a client that is late, but in time', [
+        (FIRST_BYTE_LIMIT / 2, 'GET /yard HT'), (REQUEST_LIMIT / 2 + 1, 'TP/1.1\r\n\r\n')])
+
+
+def in_time(checks, path, name, pieces):
+    """A client that sends a request piece by piece, each at its second, is answered. It begins anew where the machine was so busy
+    that it was not in time itself."""
     with Served(path) as server:
-        with server.connect() as connection:
-            time.sleep(FIRST_BYTE_LIMIT / 2)
-            connection.sendall(b'GET /yard HT')
-            time.sleep(REQUEST_LIMIT / 2)
-            connection.sendall(b'TP/1.1\r\n\r\n')
-            checks.expect('a client that is late, but in time', server.owed(get('/yard')), received(connection))
-        behind(checks, server, 'a client that is late, but in time', SLACK)
+        for _try in range(TRIES):
+            came, is_in_time = sent_in(server, pieces)
+            if is_in_time:
+                break
+        checks.expect(name, (server.owed(get('/yard')), True), (came, is_in_time))
+        behind(checks, server, name, SLACK)
+
+
+def sent_in(server, pieces):
+    """What comes back for these pieces, and whether the first one and the last one were sent in time."""
+    began, sent = time.monotonic(), []
+    with server.connect() as connection:
+        try:
+            for second, piece in pieces:
+                time.sleep(max(0, began + second - time.monotonic()))
+                sent.append(time.monotonic() - began)
+                connection.sendall(piece.encode('latin-1'))
+            came = received(connection)
+        except OSError as fault:
+            came = repr(fault)
+    return came, sent[0] < FIRST_BYTE_LIMIT and sent[-1] < REQUEST_LIMIT
 
 
 def slow(checks, path):
@@ -107,13 +129,8 @@ def trickle(connection, front, seconds, pause=1):
 
 def slow_but_whole(checks, path):
     """It sends a byte each twentieth of a second, which is slow and within the limits: it is answered."""
-    with Served(path) as server:
-        with server.connect() as connection:
-            for byte in get('/yard').encode('latin-1'):
-                connection.sendall(bytes([byte]))
-                time.sleep(0.05)
-            checks.expect('a client that is slow, but not too slow', server.owed(get('/yard')), received(connection))
-        behind(checks, server, 'a client that is slow, but not too slow', SLACK)
+    in_time(checks, path, 'a client that is slow, but not too slow', [
+        (0.05 * place, byte) for place, byte in enumerate(get('/yard'), 1)])
 
 
 def long_reply():

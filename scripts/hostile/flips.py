@@ -1,14 +1,13 @@
 """Single bits that turn over in a store's file and in its log, beside what SQLite's own library reads of the same bytes."""
 import os
 import random
-import shutil
 import sqlite3
 import tempfile
 from contextlib import closing
 
 from model.damaged import yard_of
 from model.opened import fault_of_rows
-from model.rows import COLUMNS, faults_of, rows_of, tables_of
+from model.rows import COLUMNS, copied, copied_to, faults_of, rows_of, tables_of
 
 from .books import expect, prefilled
 from .working import Served, run
@@ -18,18 +17,9 @@ BEFORE = 60                 # deliveries
 TABLES = set(COLUMNS)
 
 
-def copied(store, folder):
-    """A copy of a file, and of the log beside it, if there is one, in a folder; gives its path."""
-    path = os.path.join(folder, 'office.db')
-    for end in ('', '-wal'):
-        if os.path.exists(store + end):
-            shutil.copyfile(store + end, path + end)
-    return path
-
-
 def settled(store, folder):
     """A copy whose log SQLite's own library has moved into the file."""
-    path = copied(store, folder)
+    path = copied_to(store, folder)
     with closing(sqlite3.connect(path)) as other:
         other.execute('SELECT count(*) FROM visit').fetchall()
     expect('a log behind SQLite', False, os.path.exists(path + '-wal'))
@@ -48,13 +38,12 @@ def flip(path, chance):
 
 def read_by_sqlite(path):
     """The rows that SQLite's own library reads of a copy, and what it finds wrong."""
-    with tempfile.TemporaryDirectory(prefix='flips-') as folder:
-        with closing(sqlite3.connect(copied(path, folder))) as store:
-            store.text_factory = lambda text: text.decode('utf-8', 'surrogateescape')
-            try:
-                return tables_of(store), faults_of(store)
-            except (sqlite3.DatabaseError, UnicodeError) as fault:
-                return None, [str(fault)]
+    with copied(path) as store:
+        store.text_factory = lambda text: text.decode('utf-8', 'surrogateescape')
+        try:
+            return tables_of(store), faults_of(store)
+        except (sqlite3.DatabaseError, UnicodeError) as fault:
+            return None, [str(fault)]
 
 
 def replies_of(tables):
@@ -115,7 +104,7 @@ def moments(book):
 def try_one(program, what, store, end, chance, earlier, keys):
     """One bit of a copy; gives what was found."""
     with tempfile.TemporaryDirectory(prefix='flips-') as folder:
-        path = copied(store, folder)
+        path = copied_to(store, folder)
         flip(path + end, chance)
         tables, faults = read_by_sqlite(path)
         kind = kind_of(tables, faults, earlier)

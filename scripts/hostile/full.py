@@ -9,7 +9,7 @@ import signal
 import subprocess
 import tempfile
 
-from .books import NOT_NOW, Book, Different, answer, expect, prefilled
+from .books import NOT_NOW, Book, answer, expect, naming, prefilled
 from .working import Delivering, Served, run
 
 TRIALS = 25                 # of each kind
@@ -147,7 +147,5 @@ def try_all(program, seed, counted):
     """Each kind, many times."""
     for name, trial in (('a full disk', try_full_disk), ('a limit', try_limit), ('init', try_init)):
         for place in range(TRIALS):
-            try:
+            with naming('%s, seed %d' % (name, seed + place)):
                 trial(program, seed + place, counted)
-            except Different as fault:
-                raise Different('%s, seed %d: %s' % (name, seed + place, fault)) from fault

@@ -12,7 +12,7 @@ from model.rows import rows_in, rows_of
 from model.setup import DEMO
 from model.setups import files_of
 
-from .books import Book, Different, expect, prefilled
+from .books import Book, Different, expect, naming, prefilled
 from .working import Delivering, Served, run
 
 TRIALS = 40                 # of processes that start at once
@@ -144,7 +144,5 @@ def try_all(program, seed, counted):
     """Each kind."""
     trials = [try_second, try_sqlite, try_at_once] + [try_inits] * 10
     for place, trial in enumerate(trials):
-        try:
+        with naming('%s, seed %d' % (trial.__name__, seed + place)):
             trial(program, seed + place, counted)
-        except Different as fault:
-            raise Different('%s, seed %d: %s' % (trial.__name__, seed + place, fault)) from fault

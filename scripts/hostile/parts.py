@@ -1,14 +1,9 @@
 """All parts, with what was counted: scripts/kill9."""
-import os
 import sys
-from collections import Counter
-from time import monotonic
 
 from . import calls, calls_of_others, commands, flips, full, kills, pairs, places, power
-from .books import Different
+from .trials import status_of
 
-TOP = os.path.dirname(os.path.dirname(os.path.dirname(os.path.abspath(__file__))))
-PROGRAM = os.path.join(TOP, 'crates/office/out/office')
 KILLS = 1000
 PARTS = {
     'calls': calls.try_calls, 'others': calls_of_others.try_all, 'commands': commands.try_all, 'power': power.try_losses,
@@ -20,21 +15,6 @@ USAGE = """usage: scripts/kill9 [KILLS [SEED]]
 SIGKILL while deliveries are under way, KILLS times (%d), and then each of the other parts; or one of these alone. The
 program is crates/office/out/office, or the one that OFFICE names in the environment.
 """ % KILLS
-
-
-def done(name, trial, *given):
-    """Runs one part, and prints what was counted and what differs; gives whether nothing does."""
-    counted, began, fault = Counter(), monotonic(), None
-    try:
-        trial(*given, counted)
-    except Different as different:
-        fault = different
-    print('%s, %d seconds' % (name, monotonic() - began))
-    for what, count in sorted(counted.items()):
-        print('%10s  %s' % (count, what))
-    print('differs: %s' % fault if fault else 'nothing differs')
-    sys.stdout.flush()
-    return fault is None
 
 
 def parts_of(words):
@@ -54,11 +34,4 @@ def main():
         parts = parts_of(sys.argv[1:])
     except ValueError:
         parts = None
-    if parts is None:
-        print(USAGE, end='', file=sys.stderr)
-        return 2
-    program = os.path.realpath(os.environ.get('OFFICE', PROGRAM))
-    if not os.access(program, os.X_OK):
-        print('%s is not built: make build' % program, file=sys.stderr)
-        return 2
-    return 0 if all(done(name, trial, program, *given) for name, trial, given in parts) else 1
+    return status_of(parts, USAGE)

@@ -8,7 +8,7 @@ import subprocess
 import tempfile
 from contextlib import closing
 
-from .books import Different, expect, prefilled
+from .books import expect, naming, prefilled
 from .full import Mounted
 from .working import Delivering, Served, post, run
 
@@ -207,7 +207,5 @@ def try_hanging_up(program, seed, counted):
 def try_all(program, seed, counted):
     """Each kind."""
     for trial in (try_read_only, try_gone, try_removed, try_unmounted, try_copies, try_leaving, try_hanging_up):
-        try:
+        with naming('%s, seed %d' % (trial.__name__, seed)):
             trial(program, seed, counted)
-        except Different as fault:
-            raise Different('%s, seed %d: %s' % (trial.__name__, seed, fault)) from fault

@@ -8,7 +8,7 @@ import os
 import random
 import tempfile
 
-from hostile.books import Book, Different, expect
+from hostile.books import Book, Different, expect, naming
 from hostile.served import gate_in
 from hostile.working import run
 from model.names import check_digit
@@ -156,9 +156,7 @@ def stands_by(first, stood, texts, counted):
 def try_all(program, lists, seed, counted):
     """Drills, one for so many lists."""
     for each in range(seed, seed + -(-lists // DRILLS_EVERY)):
-        try:
+        with naming('seed %d' % each):
             drill(program, each, counted)
-        except Different as fault:
-            raise Different('seed %d: %s' % (each, fault)) from fault
     if counted['moved, sent again one after the other'] == 0:
         raise Different('no container moved, so that nothing was tried')

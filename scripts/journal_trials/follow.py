@@ -10,7 +10,7 @@ import subprocess
 import tempfile
 from time import monotonic, sleep
 
-from hostile.books import Different, expect
+from hostile.books import expect, naming
 from hostile.kills import Moment, Pace
 from hostile.working import Delivering, run
 from model.deliveries import kept_texts
@@ -217,7 +217,5 @@ def try_one(program, seed, counted):
 def try_all(program, lists, seed, counted):
     """That many standbys."""
     for each in range(seed, seed + lists):
-        try:
+        with naming('seed %d' % each):
             try_one(program, each, counted)
-        except Different as fault:
-            raise Different('seed %d: %s' % (each, fault)) from fault

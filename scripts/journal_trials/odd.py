@@ -5,7 +5,7 @@ import sqlite3
 import tempfile
 from contextlib import closing
 
-from hostile.books import Different, expect
+from hostile.books import expect, naming
 from hostile.served import gate_in
 from hostile.working import run
 from model.deliveries import kept_texts
@@ -189,7 +189,5 @@ def try_all(program, lists, seed, counted):
     """Each once, and the mixed texts for some lists."""
     for trial, count in ((try_places, 1), (try_missing, 1), (try_mixed, -(-lists // 20)), (try_sizes, 1), (try_gaps, 1)):
         for each in range(seed, seed + count):
-            try:
+            with naming('%s, seed %d' % (trial.__name__, each)):
                 trial(program, each, counted)
-            except Different as fault:
-                raise Different('%s, seed %d: %s' % (trial.__name__, each, fault)) from fault

@@ -1,11 +1,7 @@
 """An office that is rebuilt of another one's texts or that follows it, beside the model, and what both have to have alike."""
 import copy
 import os
-import shutil
-import sqlite3
 import subprocess
-import tempfile
-from contextlib import closing
 from itertools import groupby
 
 from hostile.books import Book, expect
@@ -15,7 +11,7 @@ from model.days import NEWCOMERS
 from model.deliveries import kept_texts
 from model.events import Added
 from model.office import Office, json_text
-from model.rows import rows_in, rows_of
+from model.rows import copied, copied_to, rows_in, rows_of
 
 BETWEEN = ['', '', '\n', '\r\n', '\n\n']     # texts of one call
 
@@ -54,20 +50,10 @@ def send(book, count, others=()):
 
 # ---- stores
 
-def copied_to(path, folder):
-    """A copy of a store and of its log, in a folder."""
-    made = os.path.join(folder, 'office.db')
-    for end in ('', '-wal'):
-        if os.path.exists(path + end):
-            shutil.copyfile(path + end, made + end)
-    return made
-
-
 def asked(path, query):
     """What SQLite's own library finds in a copy of a store."""
-    with tempfile.TemporaryDirectory(prefix='journal-') as folder:
-        with closing(sqlite3.connect(copied_to(path, folder))) as store:
-            return store.execute(query).fetchall()
+    with copied(path) as store:
+        return store.execute(query).fetchall()
 
 
 def rows_in_order(path):

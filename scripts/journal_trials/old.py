@@ -10,7 +10,7 @@ import sqlite3
 import tempfile
 from contextlib import closing
 
-from hostile.books import Book, Different, expect
+from hostile.books import Book, expect, naming
 from hostile.working import run
 from model.days import NEWCOMERS, Day
 from model.deliveries import kept_texts
@@ -140,10 +140,8 @@ def try_all(program, lists, seed, counted):
         with tempfile.TemporaryDirectory(prefix='journal-') as folder:
             goes_on(*real(program, folder, path), 'version 1, of its program', counted)
     for each in range(seed, seed + -(-lists // EVERY)):
-        try:
+        with naming('seed %d' % each):
             for version in (1, 2):
                 with tempfile.TemporaryDirectory(prefix='journal-') as folder:
                     goes_on(*played(program, folder, each, version), 'version %d' % version, counted)
             opened(program, each, [4096, 512, 8192, 2048, 65536][each % 5], counted)
-        except Different as fault:
-            raise Different('seed %d: %s' % (each, fault)) from fault

@@ -1,8 +1,7 @@
 """All parts, with what was counted: scripts/journal."""
-import os
 import sys
 
-from hostile.parts import PROGRAM, done
+from hostile.trials import status_of
 
 from . import drill, follow, odd, old, rebuild, serving
 
@@ -31,12 +30,4 @@ def parts_of(words):
 
 def main():
     """Gives the status: 1 at the first difference, 2 for another command line or where there is no program."""
-    parts = parts_of(sys.argv[1:])
-    if parts is None:
-        print(USAGE, end='', file=sys.stderr)
-        return 2
-    program = os.path.realpath(os.environ.get('OFFICE', PROGRAM))
-    if not os.access(program, os.X_OK):
-        print('%s is not built: make build' % program, file=sys.stderr)
-        return 2
-    return 0 if all(done(name, trial, program, *given) for name, trial, given in parts) else 1
+    return status_of(parts_of(sys.argv[1:]), USAGE)

@@ -1,7 +1,7 @@
 """Random lists of deliveries, rebuilt of the texts that are kept of them: the same office, also behind what comes later."""
 import tempfile
 
-from hostile.books import Different
+from hostile.books import naming
 
 from .offices import are_same, hands_out, kinds_sent, new_book, rebuilt, send
 
@@ -29,7 +29,5 @@ def rebuilt_once(program, seed, counted):
 def try_all(program, lists, seed, counted):
     """That many lists."""
     for each in range(seed, seed + lists):
-        try:
+        with naming('seed %d' % each):
             rebuilt_once(program, each, counted)
-        except Different as fault:
-            raise Different('seed %d: %s' % (each, fault)) from fault

@@ -7,7 +7,7 @@ import signal
 import tempfile
 import threading
 
-from hostile.books import Different, expect
+from hostile.books import expect, naming
 from hostile.kills import Moment, Pace
 from hostile.working import Served
 from model.deliveries import kept_texts
@@ -100,10 +100,7 @@ def followed(standby, counted):
 def try_all(program, lists, seed, counted):
     """A share of that many lists."""
     for each in range(seed, seed + -(-lists // SHARE)):
-        try:
-            with tempfile.TemporaryDirectory(prefix='journal-') as folder:
-                book, other = new_book(program, folder, each), os.path.join(folder, 'standby')
-                os.mkdir(other)
-                followed(AsksServed(book, other).begun(), counted)
-        except Different as fault:
-            raise Different('seed %d: %s' % (each, fault)) from fault
+        with naming('seed %d' % each), tempfile.TemporaryDirectory(prefix='journal-') as folder:
+            book, other = new_book(program, folder, each), os.path.join(folder, 'standby')
+            os.mkdir(other)
+            followed(AsksServed(book, other).begun(), counted)

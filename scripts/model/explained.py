@@ -320,7 +320,7 @@ def explained(setup, file):
         begin = past_breaks(file, begin + len(text))
     if fault:
         told.append(Explained(
-            place, file[place:], 'cut, and nothing behind is read', [Found('', fault, None, *CUTS[fault](file[place:]))]))
+            place, file[place:], 'cut, and nothing after it is read', [Found('', fault, None, *CUTS[fault](file[place:]))]))
     return told
 
 

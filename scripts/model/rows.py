@@ -109,15 +109,20 @@ def rows_of(office):
 
 # ---- what a store holds
 
+def copied_to(path, folder):
+    """A copy of a store, and of the log beside it, if there is one, in a folder; gives its path."""
+    copy = os.path.join(folder, 'office.db')
+    for end in ('', '-wal'):
+        if os.path.exists(path + end):
+            shutil.copyfile(path + end, copy + end)
+    return copy
+
+
 @contextmanager
 def copied(path):
-    """A copy of a store and of the log beside it, opened by SQLite's own library, so that the store is left as it is."""
+    """A copy of a store, opened by SQLite's own library, so that the store is left as it is."""
     with tempfile.TemporaryDirectory(prefix='beside-') as folder:
-        copy = os.path.join(folder, 'store')
-        for end in ('', '-wal'):
-            if os.path.exists(path + end):
-                shutil.copyfile(path + end, copy + end)
-        with closing(sqlite3.connect(copy)) as store:
+        with closing(sqlite3.connect(copied_to(path, folder))) as store:
             yield store
 
 
