@@ -3,7 +3,7 @@ use Rattle.std.proofs.Common.{◌≡◌, inl, inr, ℕ, List, Option, Some, opti
 use Rattle.std.specs.Prelude.{string_bytes}
 use Rattle.sqlite_disk.specs.declared.Disk.{Ghosts}
 use Rattle.sqlite.specs.Effect.{Database}
-use Rattle.sqlite.specs.Files.{over_files}
+use Rattle.sqlite.specs.Files.{file_state, over_files}
 use Rattle.sqlite.specs.Tree.{Trees}
 use Rattle.sqlite.specs.declared.FileStore.{FileStore}
 use Rattle.terminal_core.specs.State.{TerminalState}
@@ -13,7 +13,9 @@ use Rattle.office_setup.specs.Setups.{SetupContent, setup_content}
 use Rattle.office_rows.specs.Opening.{tables_version}
 use Rattle.office_rows.specs.Rows.{Rows}
 use Rattle.office_rows.specs.Stored.{HasRows}
-use Rattle.office_loading.specs.Tables.{Loads}
+use Rattle.office_checks.specs.Closed.{closed_content, nothing_closed}
+use Rattle.office_checks.proofs.Alike.{whole_office}
+use Rattle.office_loading.specs.Tables.{Loads, LoadsOwn}
 use Rattle.office_history.specs.After.{SaysSame, content_after}
 use Rattle.office_history.proofs.Alike.{parties_same}
 use Rattle.office_queries.specs.Program.{program_version}
@@ -86,16 +88,22 @@ module _ (one other : SetupContent) (says : SaysSame one other) where
             (of_alike (content_after one es) (content_after other es) (now_alike one other says es) _ told.rows asked found told.tells);
       }
 
--- what a desk that was opened over those tables tells
+-- an office of which nothing is closed is a whole one
+whole_loads : (db : Database) (content : SetupContent) (terminal : TerminalState) → LoadsOwn nothing_closed db content terminal → Loads db content terminal
+whole_loads db content terminal loads = (loads.0, loads.1, whole_office loads.0 content terminal loads.2)
+
+-- what a desk tells that was opened over those tables, with nothing closed
 pub told_over : {D : Type 0} {g : Ghosts D} (db : Trees) (desk : Desk (FileStore D g) over_files) (asked : Query) (found : Option (List ℕ)) → OpensOver db desk
-    → DeskTells over_files desk asked found → TellsOver db asked found
-told_over db desk asked found over told =
+    → closed_content desk.closed ≡ nothing_closed → DeskTells over_files desk asked found → TellsOver db asked found
+told_over db desk asked found over none told =
     let content = setup_content desk.setup in
     let terminal = over.office.there.terminal in
+    let there = (file_state over.was).committed in
+    let whole = whole_loads there content terminal (subst (λ closed. LoadsOwn closed there content terminal) none over.office.loads) in
     record {
       content = content;
       terminal = terminal;
-      loads = subst (λ (d : Database). Loads d content terminal) over.shows over.office.loads;
+      loads = subst (λ (d : Database). Loads d content terminal) over.shows whole;
       tells = λ rows has. told.office rows terminal (over.office.holds rows (subst (HasRows rows) (sym over.shows) has));
     }
 

@@ -1,4 +1,5 @@
 ghost use Rattle.std.specs.Prelude.{◌≡◌, ◌≤◌, ℕ, List, [], length, false, IfOk, not};
+ghost use Rattle.office_checks.specs.Closed.{closed_content, nothing_closed};
 ghost use Rattle.office_commands.specs.Opening.{HoldsAfter, HoldsNoTables, HoldsTables, OpensOver, ShowsHeld, OpensEmpty};
 ghost use Rattle.office_commands.specs.Serving.{EnrolsWhile, LeadsWhile};
 ghost use Rattle.office_desk.specs.Crashes.{Leaves};
@@ -15,6 +16,7 @@ ghost use Rattle.sqlite.specs.WalFiles.{image_at};
 
 use crate::first_page::begin_file;
 use crate::telling::{Faults, Tallied};
+use office_checks::Closed;
 use office_desk::Desk;
 use office_queries::{NotNow, Query, Report};
 use office_replies::{AccountAnswer, AddAccount, Deliver, Response};
@@ -43,9 +45,11 @@ pub fn open_store<S: Start>(
         IsGiven content → HoldsAfter (image_at S.Start) content es → OpensAt over_files content es desk) }
     ensures office { IfOk result
         (λ desk. IsSound over_files desk → (db : Trees) → HoldsTables (image_at S.Start) db → OpensOver db desk) }
+    ensures closed { IfOk result (λ desk. closed_content desk.closed ≡ nothing_closed) }
 {
     let conn = open_there(rt, path, start)?;
-    Desk::open(rt.alloc(), conn)
+    let closed = Closed::nothing(rt.alloc());
+    Desk::open(rt.alloc(), conn, closed)
 }
 
 /// A connection to the store in the file at a path, as `open_found` makes it. No file is made, and an empty one is no
@@ -140,7 +144,7 @@ pub fn open_desk(alloc: Global, setup: &Setup) -> Result<Desk<MemStore>, TableFa
     let is_idle = conn.is_autocommit();
     prove!(is_idle);
     create(&mut conn, setup)?;
-    Desk::open(alloc, conn)
+    Desk::open(alloc, conn, Closed::nothing(alloc))
 }
 
 /// What tells whether a store's file has a name still.

@@ -108,7 +108,7 @@ module _ (content : SetupContent) (es : List Event) (code kind : List ℕ) (own 
 
   -- ---- beside the rows
 
-  machine_grown : (terminal : TerminalState) → machine_with (setup_with_account now code own) terminal ≡ with_account code own (machine_with now terminal)
+  pub machine_grown : (terminal : TerminalState) → machine_with (setup_with_account now code own) terminal ≡ with_account code own (machine_with now terminal)
   machine_grown terminal = λ i. record {
     parties = parties_grown now code own i;
     codes = now.codes;
@@ -121,7 +121,7 @@ module _ (content : SetupContent) (es : List Event) (code kind : List ℕ) (own 
   abbrev numbers : List Event → ℕ → ℕ
   numbers events p = run (deliveries_of content events) p + 1
 
-  nexts_grown : nexts_after content later ≡ nexts_after content es ++ 1 ∷ []
+  pub nexts_grown : nexts_after content later ≡ nexts_after content es ++ 1 ∷ []
   nexts_grown =
       let same : numbers later ≡ numbers es = ap (λ ds. λ p. run ds p + 1) (account_adds es content code kind) in
       let many : length (content_after content later).partners ≡ length now.partners + 1 = ap (λ (c : SetupContent). length c.partners) grown ∙ length-append now.partners ((code, own) ∷ []) in

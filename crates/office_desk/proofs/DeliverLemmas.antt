@@ -24,6 +24,7 @@ use Rattle.office_admission.specs.declared.refusal.Refusal.{Refusal}
 use Rattle.office_history.specs.After.{content_after, parties_in}
 use Rattle.office_history.specs.Laws.{answer_model_of}
 use Rattle.office_history.proofs.Lawful.{now_same, refused_adds}
+use Rattle.office_checks.specs.Closed.{closed_content}
 use Rattle.office_desk.specs.Answers.{AnswersNext, answer_by_model, answer_at, answer_to, code_of}
 use Rattle.office_desk.proofs.Admitted.{refused_for}
 use Rattle.office_desk.specs.Telling.{Answers, Comes, Holds}
@@ -183,16 +184,16 @@ module _ {S : Type 0} (g : Ghosts S) where
       at : (given : Response) → GivesOrNotNow (refusal_of (parties_of desk.setup) (header_of (segments_in (interchange_of sent))) (fault_in refusal)) given → RefusedSurely (parties_of desk.setup) (interchange_of sent) given →
           admission (parties_of desk.setup) (interchange_of sent) ≡ Err (fault_in refusal) → NotesMemory given was desk.last_fault → AnswersOver g old sent given desk
       at response.NotNow e surely here noted =
-          (not_now_surely (parties_of desk.setup) (interchange_of sent) surely, subst (λ place. IsNotedFor place old.rows desk.last_fault) (sym here) noted, holds)
+          (not_now_surely (parties_of desk.setup) (interchange_of sent) surely, subst (λ place. IsNotedFor (closed_content desk.closed) place old.rows desk.last_fault) (sym here) noted, holds)
       at given e surely here noted = told given e here
 
   pub answers_over : (old : Office) (sent text : List ℕ) (given : Response) (desk : Desk S g) (partner number : ℕ) (code : List ℕ) → text ≡ interchange_of sent →
       admission (parties_of desk.setup) text ≡ Ok (partner, number) → code ≡ code_of (parties_of desk.setup) partner →
-      AnswersByKept (setup_content desk.setup) (delivery partner number text) code old given (state g desk.conn).committed desk.beside → AnswersOver g old sent given desk
+      AnswersByKept (closed_content desk.closed) (setup_content desk.setup) (delivery partner number text) code old given (state g desk.conn).committed desk.beside → AnswersOver g old sent given desk
   answers_over old sent text given desk partner number code is admits is_code told =
       let P = parties_of desk.setup in
       let here : admission P (interchange_of sent) ≡ Ok (partner, number) = subst (λ other. admission P other ≡ Ok (partner, number)) is admits in
-      let by : AnswersByKept (setup_content desk.setup) (delivery partner number (interchange_of sent)) (code_of P partner) old given (state g desk.conn).committed desk.beside =
-      subst (λ c. AnswersByKept (setup_content desk.setup) (delivery partner number (interchange_of sent)) c old given (state g desk.conn).committed desk.beside) is_code
-      (subst (λ t. AnswersByKept (setup_content desk.setup) (delivery partner number t) code old given (state g desk.conn).committed desk.beside) is told) in
+      let by : AnswersByKept (closed_content desk.closed) (setup_content desk.setup) (delivery partner number (interchange_of sent)) (code_of P partner) old given (state g desk.conn).committed desk.beside =
+      subst (λ c. AnswersByKept (closed_content desk.closed) (setup_content desk.setup) (delivery partner number (interchange_of sent)) c old given (state g desk.conn).committed desk.beside) is_code
+      (subst (λ t. AnswersByKept (closed_content desk.closed) (setup_content desk.setup) (delivery partner number t) code old given (state g desk.conn).committed desk.beside) is told) in
       over g old sent given desk (code_of P partner) number by.told by.answers (subst (λ place. AnswersAt g place (interchange_of sent) old given desk) (sym here) by)

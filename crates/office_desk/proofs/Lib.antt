@@ -7,10 +7,13 @@ pub mod DeliverLemmas
 pub mod Faults
 pub mod HoldLemmas
 pub mod KeptLemmas
+pub mod LeavingLemmas
 pub mod NumberLemmas
 pub mod OfficeAccounts
 pub mod OfficeLemmas
 pub mod OfficeSteps
+pub mod OwnNumbers
+pub mod OwnVisits
 pub mod OrderLemmas
 pub mod PageLemmas
 pub mod PartLemmas

@@ -11,6 +11,7 @@ use Rattle.office_replies.specs.Events.{Event}
 use Rattle.office_rows.specs.Rows.{Interchange, Rows}
 use Rattle.office_rows.specs.Stored.{HasRows}
 use Rattle.office_setup.specs.Setups.{SetupContent}
+use Rattle.office_checks.specs.Closed.{ClosedContent}
 use Rattle.office_tables.specs.Answers.{IsKept, pair_of}
 use Rattle.office_tables.specs.declared.interchanges.Kept.{Kept}
 use Rattle.office_history.specs.After.{AreKeptOnce, deliveries_of}
@@ -39,27 +40,27 @@ none_in partner number rows once free = at (pair_of partner number rows) refl
         let never : Some i.body ≡ None = sym there ∙ free in cc
 
 -- what any rows keep, those keep that this stands beside
-pub read_beside : (partner number : ℕ) (db : Database) (there : Beside) (kept : Option Kept) → ((rows : Rows) → HasRows rows db → IsKept partner number rows kept) → KeepsBeside partner number db there kept
-read_beside partner number db there kept each = record { events = λ content es rows has after at. each rows has; office = λ content rows terminal holds. each rows holds.has }
+pub read_beside : (closed : ClosedContent) (partner number : ℕ) (db : Database) (there : Beside) (kept : Option Kept) → ((rows : Rows) → HasRows rows db → IsKept partner number rows kept) → KeepsBeside closed partner number db there kept
+read_beside closed partner number db there kept each = record { events = λ content es rows has after at. each rows has; office = λ content rows terminal holds. each rows holds.has }
 
 -- nothing is kept under the number that is next
-pub next_beside : (partner number : ℕ) (db : Database) (there : Beside) → 1 ≤ partner → with_number there.nexts.items partner ≡ Some number → KeepsBeside partner number db there None
-next_beside partner number db there one is = record {
+pub next_beside : (closed : ClosedContent) (partner number : ℕ) (db : Database) (there : Beside) → 1 ≤ partner → with_number there.nexts.items partner ≡ Some number → KeepsBeside closed partner number db there None
+next_beside closed partner number db there one is = record {
   events = λ content es rows has after at.
       let D = deliveries_of content es in
       let next : number ≡ run D partner + 1 = next_is content es there partner number at is in
       none_in partner number rows after.kept_once (ap (text_in rows partner) next ∙ after.texts partner (run D partner + 1) ∙ free_after_run D partner);
   office = λ content rows terminal holds.
-      let its = (keeps_accounts content rows terminal db holds.has holds.loads).0 in
+      let its = (keeps_accounts closed content rows terminal db holds.has holds.loads).0 in
       let old : Office = record { rows = rows; terminal = terminal } in
-      let next : number ≡ its.runs partner + 1 = next_follows content rows its partner number (next_found content old db (Some there) holds partner number there one holds.beside is) in
+      let next : number ≡ its.runs partner + 1 = next_follows closed content rows its partner number (next_found closed content old db (Some there) holds partner number there one holds.beside is) in
       none_in partner number rows its.keeps.once (ap (text_in rows partner) next ∙ its.keeps.free partner);
 }
 
 -- ---- a text that is new
 
-pub free_after : {d : Delivery} {there : Beside} {s : State} {content : SetupContent} {es : List Event} {now : SetupContent} → IsNew d there s → (holds : Holds content es now s.committed (Some there)) → text_in holds.rows d.partner d.number ≡ None
-free_after {d} {there} {s} {content} {es} {now} new holds = no_text d.partner d.number holds.rows (new.free.events content es holds.rows holds.has holds.after holds.beside)
+pub free_after : {closed : ClosedContent} {d : Delivery} {there : Beside} {s : State} {content : SetupContent} {es : List Event} {now : SetupContent} → IsNew closed d there s → (holds : Holds content es now s.committed (Some there)) → text_in holds.rows d.partner d.number ≡ None
+free_after {closed} {d} {there} {s} {content} {es} {now} new holds = no_text d.partner d.number holds.rows (new.free.events content es holds.rows holds.has holds.after holds.beside)
 
-pub free_over : {d : Delivery} {there : Beside} {s : State} {content : SetupContent} (rows : Rows) {terminal : TerminalState} → IsNew d there s → HoldsOffice content rows terminal s.committed (Some there) → text_in rows d.partner d.number ≡ None
-free_over {d} {there} {s} {content} rows {terminal} new holds = no_text d.partner d.number rows (new.free.office content rows terminal holds)
+pub free_over : {closed : ClosedContent} {d : Delivery} {there : Beside} {s : State} {content : SetupContent} (rows : Rows) {terminal : TerminalState} → IsNew closed d there s → HoldsOffice closed content rows terminal s.committed (Some there) → text_in rows d.partner d.number ≡ None
+free_over {closed} {d} {there} {s} {content} rows {terminal} new holds = no_text d.partner d.number rows (new.free.office content rows terminal holds)

@@ -82,7 +82,7 @@ rise low (x ∷ xs) up once above = (
       | inr o ↦ elim o [ inl below ↦ below | inr above ↦ absurd (omega (arith, low, above)) ]
     ]
 
-rises_from : (low a n : ℕ) → low < a → Rises (λ x. x) low (range_with_len a n)
+pub rises_from : (low a n : ℕ) → low < a → Rises (λ x. x) low (range_with_len a n)
 rises_from low a zero below = tt
 rises_from low a (suc n) below = (below, rises_from a (a + 1) n (omega arith))
 
@@ -101,7 +101,7 @@ in_range n xs same sorted =
 abbrev pub id_of : Partner → ℕ
 id_of p = p.id
 
-ids_from : (id : ℕ) (f : ℕ → ℕ) (accounts : List (List ℕ × PartnerKind)) → map id_of (accounts_from id f accounts) ≡ range_with_len id (length accounts)
+pub ids_from : (id : ℕ) (f : ℕ → ℕ) (accounts : List (List ℕ × PartnerKind)) → map id_of (accounts_from id f accounts) ≡ range_with_len id (length accounts)
 ids_from id f [] = refl
 ids_from id f (account ∷ accounts) = ap (λ l. id ∷ l) (ids_from (id + 1) f accounts)
 

@@ -1,44 +1,58 @@
 -- The rows of an office: its accounts and what is kept for them, whether or not deliveries led to them.
-use Rattle.std.proofs.Common.{◌≡◌, ℕ, ◌+◌, ◌<◌, ◌≤◌, List, [], ◌∷◌, length, map, inl, inr, Some, refl, sym, ap, subst, ◌∙◌, arith}
-use Rattle.std.specs.Prelude.{Contains}
+use Rattle.std.proofs.Common.{◌≡◌, ◌⊎◌, ℕ, ◌+◌, ◌<◌, ◌≤◌, List, [], ◌∷◌, length, map, inl, inr, Some, refl, sym, ap, subst, ◌∙◌, arith}
 use Rattle.std.specs.List.Sorted.{IsPermutation}
-use Rattle.std.proofs.lemmas.Bool.{cases_order, eq-eqb, eqb-true}
+use Rattle.std.proofs.lemmas.Bool.{eq-eqb, eqb-true}
 use Rattle.std.proofs.lemmas.List.Sorted.{Contains-permutation, IsPermutation-sym, IsPermutation-trans}
 use Rattle.sqlite.specs.Effect.{Database}
 use Rattle.sqlite_rules.proofs.ListLemmas.{contains_had, has_contained, has_filtered, has_kept}
-use Rattle.edi_messages.specs.declared.codes.PartnerKind.{PartnerKind}
 use Rattle.partner_core.specs.Numbered.{with_number}
 use Rattle.terminal_core.specs.State.{TerminalState}
 use Rattle.office_rows.specs.Rows.{Partner, Rows}
 use Rattle.office_rows.specs.Values.{number_value, interchange_values, partner_values}
 use Rattle.office_rows.specs.Stored.{HasRows}
 use Rattle.office_rows.specs.Shown.{AreNexts, columns_at}
-use Rattle.office_rows.specs.Opened.{number_kept}
-use Rattle.office_rows.specs.Office.{AreKept}
+use Rattle.office_rows.specs.Opened.{NumberKept, OpenedRows, Shows, number_kept}
 use Rattle.office_rows.specs.Tables.{partner_table as partners_table}
 use Rattle.office_rows.proofs.Listed.{unmapped}
 use Rattle.office_setup.specs.Setups.{SetupContent}
 use Rattle.office_tables.specs.Answers.{IsNextOf, has_id}
-use Rattle.office_history.specs.After.{accounts_from}
+use Rattle.office_checks.specs.Closed.{ClosedContent}
+use Rattle.office_checks.specs.OwnOffice.{AreInOrder, AreOwnNumbers, IsOwnOffice}
+use Rattle.office_history.specs.After.{AreKeptOnce, accounts_from}
 use Rattle.office_history.proofs.Loads.{partner_one}
-use Rattle.office_history.proofs.Once.{kept_once, numbers_same}
-use Rattle.office_history.proofs.Shown.{head_in, tail_in, same_records, shown_in}
-use Rattle.office_loading.specs.Tables.{Loads}
-use Rattle.office_history.proofs.KeptNumbers.{KeepsNumbers, have_runs, kept_numbers}
+use Rattle.office_history.proofs.Once.{numbers_same, once_if_rising, place, place_of}
+use Rattle.office_history.proofs.Shown.{Rises, same_records, shown_in}
+use Rattle.office_history.proofs.KeptNumbers.{have_runs}
+use Rattle.office_loading.specs.Tables.{LoadsOwn}
 use Rattle.office_desk.proofs.NumberLemmas.{next_by, nexts_are, number_of}
+use Rattle.office_desk.proofs.OwnNumbers.{KeepsBeyond, account_there, by_number, keeps_own}
+
+-- ---- no number is kept twice
+
+-- in the order of partners and numbers they rise
+rising : (count partner number : ℕ) (ns : List NumberKept) → number ≤ 999999999 → AreInOrder count partner number ns → Rises place (place_of partner number) ns
+rising count partner number [] most order = tt
+rising count partner number (n ∷ ns) most order = (above order.0.0, rising count n.partner n.number ns order.0.2 order.1)
+  where
+    above : ((n.partner ≡ partner) × (number < n.number)) ⊎ ((partner < n.partner) × (1 ≤ n.number)) → place_of partner number < place n
+    above (inl near) = omega (arith, near.0, near.1)
+    above (inr far) = omega (arith, far.0, far.1, most)
+
+pub own_once : (closed : ClosedContent) (db : Database) (rows : Rows) (shown : OpenedRows) (content : SetupContent) (terminal : TerminalState) → HasRows rows db → Shows db shown → IsOwnOffice closed shown content terminal → AreKeptOnce rows.interchanges
+own_once closed db rows shown content terminal has shows office = once_if_rising db rows shown has shows (rising (length shown.partners) 1 0 shown.numbers (omega arith) office.own_numbers.in_order)
 
 -- ---- the accounts
 
 -- the accounts by id, each with the number after its partner's run, and what is kept for them
-pub record KeepsAccounts (content : SetupContent) (rows : Rows) : Type 0 where
+pub record KeepsAccounts (closed : ClosedContent) (content : SetupContent) (rows : Rows) : Type 0 where
   pub runs : ℕ → ℕ
   pub high : (p : ℕ) → runs p ≤ 999999999
   pub by_id : IsPermutation rows.partners (accounts_from 1 (λ p. runs p + 1) content.partners)
-  pub keeps : KeepsNumbers (length content.partners) runs rows
+  pub keeps : KeepsBeyond closed.last_closed (length content.partners) runs rows
 
-pub keeps_accounts : (content : SetupContent) (rows : Rows) (terminal : TerminalState) (db : Database) → HasRows rows db → (loads : Loads db content terminal) →
-    (its : KeepsAccounts content rows) × (loads.0.partners ≡ accounts_from 1 (λ p. its.runs p + 1) content.partners)
-keeps_accounts content rows terminal db has loads =
+pub keeps_accounts : (closed : ClosedContent) (content : SetupContent) (rows : Rows) (terminal : TerminalState) (db : Database) → HasRows rows db → (loads : LoadsOwn closed db content terminal) →
+    (its : KeepsAccounts closed content rows) × (loads.0.partners ≡ accounts_from 1 (λ p. its.runs p + 1) content.partners)
+keeps_accounts closed content rows terminal db has loads =
     let shown = loads.0 in
     let shows = loads.1 in
     let office = loads.2 in
@@ -53,24 +67,14 @@ keeps_accounts content rows terminal db has loads =
         runs = its.runs;
         high = its.high;
         by_id = subst (IsPermutation rows.partners) (sym same ∙ its.are) in_order.1;
-        keeps = kept_numbers shown.partners content.partners rows placed.0 its placed.1 (kept_once db rows shown content terminal has shows office) (subst (AreKept shown.partners) numbers office.kept);
+        keeps = by_number closed.last_closed (length content.partners) its.runs rows
+            (keeps_own closed.last_closed shown.partners content.partners rows placed.0 its placed.1 (own_once closed db rows shown content terminal has shows office)
+            (subst (AreOwnNumbers closed.last_closed shown.partners) numbers office.own_numbers));
       },
       its.are,
     )
 
-account_there : (id : ℕ) (f : ℕ → ℕ) (accounts : List (List ℕ × PartnerKind)) (p : ℕ) → id ≤ p → p < id + length accounts → (q : Partner) × Contains (accounts_from id f accounts) q × (q.id ≡ p) × (q.next ≡ f p)
-account_there id f [] p low below = absurd (omega (arith, low, below))
-account_there id f (account ∷ accounts) p low below = elim (cases_order id p) [
-  | inl same ↦ (record { id = id; code = account.0; kind = account.1; next = f id }, head_in _ _, same, ap f same)
-  | inr o ↦ elim o [
-    | inl less ↦
-        let rest = account_there (id + 1) f accounts p (omega (arith, less)) (omega (arith, below)) in
-        (rest.0, tail_in _ rest.0 _ rest.1, rest.2, rest.3)
-    | inr more ↦ absurd (omega (arith, more, low))
-  ]
-]
-
-module _ (content : SetupContent) (rows : Rows) (its : KeepsAccounts content rows) where
+module _ (closed : ClosedContent) (content : SetupContent) (rows : Rows) (its : KeepsAccounts closed content rows) where
   -- a partner's next number follows its run
   pub next_follows : (p next : ℕ) → IsNextOf p rows next → next ≡ its.runs p + 1
   next_follows p next is =

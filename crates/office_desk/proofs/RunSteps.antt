@@ -9,45 +9,46 @@ use Rattle.partner_core.specs.Machine.{Taking}
 use Rattle.partner_core.specs.Order.{numbers_above, reply_among}
 use Rattle.terminal_core.specs.Versions.{newest}
 use Rattle.terminal_core.specs.Forms.{IsWellFormed}
-use Rattle.terminal_core.specs.OneByOne.{GoOneByOne}
 use Rattle.terminal_core.specs.State.{IsWhole}
+use Rattle.office_checks.specs.Checks.{AreOwnVisits}
 use Rattle.office_taking.specs.Taking.{MachineState, interchange_taken}
 use Rattle.office_taking.proofs.Forming.{interchange_formed}
 use Rattle.office_taking.proofs.Reaching.{terminal_alone}
-use Rattle.office_taking.proofs.Turning.{interchange_goes_on, interchange_leads}
+use Rattle.office_taking.proofs.Turning.{interchange_leads}
 use Rattle.office_history.specs.Cascade.{TakenContent, AreTakenFrom}
 use Rattle.office_history.proofs.Accounted.{IsAccounted, interchange_keeps}
 use Rattle.office_history.proofs.Ground.{OnGround, interchange_stays}
+use Rattle.office_desk.proofs.OwnVisits.{interchange_keeps_own}
 
 -- ---- interchanges, one after the other
 
--- the machine is sound, and stands on the ground of the first
-pub record StandsOn (first machine : MachineState) : Type 0 where
+-- the machine is sound as that of a store is whose newest closing was that, and stands on the ground of the first
+pub record StandsOn (newest_closed : ℕ) (first machine : MachineState) : Type 0 where
   pub ground : OnGround first.terminal machine.terminal
   pub few : length machine.kinds ≤ 999
   pub whole : IsWhole machine.terminal
-  pub one_by_one : GoOneByOne 1 machine.terminal.visits
+  pub own_visits : AreOwnVisits newest_closed machine.terminal.visits
   pub formed : IsWellFormed machine.terminal
   pub accounted : IsAccounted first.parties machine
 
-stands_next : (first machine : MachineState) (p : ℕ) (text : List ℕ) → StandsOn first machine → StandsOn first (interchange_taken machine p text).0
-stands_next first machine p text stands =
+stands_next : (newest_closed : ℕ) (first machine : MachineState) (p : ℕ) (text : List ℕ) → StandsOn newest_closed first machine → StandsOn newest_closed first (interchange_taken machine p text).0
+stands_next newest_closed first machine p text stands =
     let stays = interchange_stays newest machine p text in
     let kinds = ap (λ (m : MachineState). length m.kinds) (terminal_alone newest machine p text) in
     record {
       ground = record { plan = stays.plan ∙ stands.ground.plan; limit = stays.limit ∙ stands.ground.limit };
       few = subst (λ n. n ≤ 999) (sym kinds) stands.few;
       whole = (interchange_leads machine p text stands.whole).whole;
-      one_by_one = interchange_goes_on newest machine p text stands.whole stands.one_by_one;
+      own_visits = interchange_keeps_own newest_closed machine p text stands.whole (record { rise = stands.own_visits.rise; one_by_one = stands.own_visits.one_by_one });
       formed = interchange_formed machine p text stands.few stands.whole stands.formed;
       accounted = interchange_keeps newest first.parties machine p text stands.accounted;
     }
 
-pub run_stands : (first : MachineState) (p : ℕ) (texts : ℕ → Option (List ℕ)) (number : ℕ) (old : MachineState) (taken : List TakenContent) (new : MachineState) → AreTakenFrom p texts number old taken new → StandsOn first old →
-    StandsOn first new
-run_stands first p texts number old [] new taken stands = subst (StandsOn first) (sym taken.1) stands
-run_stands first p texts number old (t ∷ later) new taken stands =
-    run_stands first p texts (number + 1) (interchange_taken old p taken.0).0 later new taken.5 (stands_next first old p taken.0 stands)
+pub run_stands : (newest_closed : ℕ) (first : MachineState) (p : ℕ) (texts : ℕ → Option (List ℕ)) (number : ℕ) (old : MachineState) (taken : List TakenContent) (new : MachineState) → AreTakenFrom p texts number old taken new → StandsOn newest_closed first old →
+    StandsOn newest_closed first new
+run_stands newest_closed first p texts number old [] new taken stands = subst (StandsOn newest_closed first) (sym taken.1) stands
+run_stands newest_closed first p texts number old (t ∷ later) new taken stands =
+    run_stands newest_closed first p texts (number + 1) (interchange_taken old p taken.0).0 later new taken.5 (stands_next newest_closed first old p taken.0 stands)
 
 -- ---- the replies of a run
 

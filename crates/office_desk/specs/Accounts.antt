@@ -5,17 +5,18 @@ use Rattle.sqlite.specs.State.{State}
 use Rattle.sqlite.specs.Tree.{Trees}
 use Rattle.sqlite_trees.specs.declared.store.Store.{Ghosts}
 use Rattle.edi_messages.specs.declared.codes.PartnerKind.{PartnerKind}
-use Rattle.office_admission.specs.Accounts.{AccountContent, added_as, known_as, refused_for, account_answer, content_after}
+use Rattle.office_admission.specs.Accounts.{AccountContent, AccountPair, added_as, known_as, refused_for, account_answer, content_after}
 use Rattle.office_replies.specs.AccountAnswers.{account_added_text, account_known_text}
 use Rattle.office_replies.specs.Events.{Event, added}
 use Rattle.office_replies.specs.declared.accounts.AccountAnswer.{AccountAnswer}
 use Rattle.office_replies.specs.declared.accounts.AccountAnswer.TheVariants.{Added, Known, Refused, NotNow}
 use Rattle.office_rows.specs.Effects.{with_partner}
 use Rattle.office_rows.specs.Rows.{Rows}
-use Rattle.office_rows.specs.Stored.{HasRows}
+use Rattle.office_rows.specs.Stored.{HasRows, StoresRows}
 use Rattle.office_setup.specs.Kinds.{kind_named}
 use Rattle.office_setup.specs.Setups.{SetupContent, setup_content, setup_with_account}
 use Rattle.office_desk.specs.Crashes.{IsAfter, Leaves}
+use Rattle.office_desk.specs.Leaving.{LeavesRows}
 use Rattle.office_desk.specs.declared.accounts.AccountStanding.{AccountStanding}
 use Rattle.office_desk.specs.declared.accounts.AccountStanding.TheVariants as standing
 use Rattle.office_desk.specs.declared.beside.Beside.{Beside}
@@ -78,3 +79,14 @@ LeavesAdded content es code kind (Added id body) s = Leaves content (es ++ added
 LeavesAdded content es code kind NotNow s =
     (db : Trees) → s.may_leave db → IsAfter content es db ⊎ IsAfter content (es ++ added code kind ∷ []) db
 LeavesAdded content es code kind answer s = Leaves content es s
+
+-- of whatever rows were committed: with an account that is added a crash leaves those with it alone; NotNow leaves these
+-- or the old ones; any other answer leaves the old ones
+abbrev pub LeavesAddedOver : List AccountPair → Rows → List ℕ → List ℕ → AccountAnswer → State → Type 0
+LeavesAddedOver accounts rows code kind (Added id body) s =
+    (own : PartnerKind) × (kind_named kind ≡ Some own) × LeavesRows (with_partner id code own rows) s
+LeavesAddedOver accounts rows code kind NotNow s =
+    (db : Trees) → s.may_leave db → StoresRows rows db
+    ⊎ ((own : PartnerKind) × (id : ℕ) × (kind_named kind ≡ Some own) × (account_answer accounts code kind ≡ added_as id)
+    × StoresRows (with_partner id code own rows) db)
+LeavesAddedOver accounts rows code kind answer s = LeavesRows rows s

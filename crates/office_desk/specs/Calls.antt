@@ -19,12 +19,14 @@ use Rattle.office_admission.specs.Accounts.{account_answer}
 use Rattle.office_admission.specs.Admission.{admission}
 use Rattle.office_admission.specs.Refusals.{RefusedSurely}
 use Rattle.office_rows.specs.Rows.{Rows}
+use Rattle.office_rows.specs.Stored.{HasRows}
 use Rattle.office_rows.specs.Tables.{office_schema}
-use Rattle.office_desk.specs.Accounts.{AddsOver, AnswersAccount, LeavesAdded, Says}
+use Rattle.office_desk.specs.Accounts.{AddsOver, AnswersAccount, LeavesAdded, LeavesAddedOver, Says}
 use Rattle.office_desk.specs.Answers.{AnswersNext}
 use Rattle.office_desk.specs.Crashes.{Leaves, LeavesAll, LeavesBehind, LeavesNoMore}
 use Rattle.office_desk.specs.Desks.{IsSound, StandsFor, Refuses}
 use Rattle.office_desk.specs.Kept.{AnswersOver, Office}
+use Rattle.office_desk.specs.Leaving.{LeavesOver}
 use Rattle.office_desk.specs.Looking.{DeskShows, IsOpenAt, ShowsUnfitReply}
 use Rattle.office_desk.specs.Noting.{IsNow, NotesCause, NotesFault, NotesLook, NotesStore}
 use Rattle.office_desk.specs.Offices.{DeskHolds}
@@ -32,7 +34,7 @@ use Rattle.office_desk.specs.Order.{AddsInOrder, DeliversInOrder}
 use Rattle.office_desk.specs.declared.desk.Desk.{Desk}
 
 -- A text was delivered, with that response. From whatever events it is answered at its place; over any office's rows by
--- what is kept; what a crash leaves; the order of arrival is kept; the set-up stays; what is refused is refused so, and
+-- what is kept; what a crash leaves, from both; the order of arrival is kept; the set-up stays; what is refused is refused so, and
 -- touches nothing; why it is NotNow; and what is admitted and answered otherwise is so over an open connection.
 pub record Leads {S : Type 0} (g : Ghosts S) (old : Desk S g) (sent : List ℕ) (response : Response) (new : Desk S g)
     : Type 0 where
@@ -41,9 +43,14 @@ pub record Leads {S : Type 0} (g : Ghosts S) (old : Desk S g) (sent : List ℕ) 
   pub office : IsSound g new → (before : Office) → DeskHolds g old before.rows before.terminal →
       AnswersOver g before sent response new
   pub setup : new.setup ≡ old.setup
+  pub closed : new.closed ≡ old.closed
   pub stays : IsSound g new → IsSound g old
   pub crash : IsSound g old → HasCleanDisk (state g new.conn) → (content : SetupContent) (es : List Event) →
       StandsFor g content es old → LeavesBehind content es sent response (state g new.conn)
+  pub office_crash : IsSound g old → HasCleanDisk (state g new.conn) → (before : Office) →
+      DeskHolds g old before.rows before.terminal →
+      LeavesOver (setup_content old.setup) (admission (parties_of old.setup) (interchange_of sent))
+      (interchange_of sent) before response (state g new.conn)
   pub order : DeliversInOrder g old sent response new
   pub refused : Refuses g sent old response new
   pub sure : RefusedSurely (parties_of old.setup) (interchange_of sent) response
@@ -52,16 +59,21 @@ pub record Leads {S : Type 0} (g : Ghosts S) (old : Desk S g) (sent : List ℕ) 
       admission (parties_of old.setup) (interchange_of sent) ≡ Ok place → IsNow response → IsSound g new
 
 -- An account was asked for under a code, of a kind, with that answer. From whatever events it is answered at its place;
--- by the desk's own set-up, whatever rows it has; what a crash leaves; the order of arrival is kept; and why it is NotNow.
+-- by the desk's own set-up, whatever rows it has; what a crash leaves, from both; the order of arrival is kept; and why it
+-- is NotNow.
 pub record Enrols {S : Type 0} (g : Ghosts S) (old : Desk S g) (code kind : List ℕ) (answer : AccountAnswer)
     (new : Desk S g) : Type 0 where
   pub adds : IsSound g new → (content : SetupContent) (es : List Event) → StandsFor g content es old →
       Adds (StandsFor g content) (AnswersAccount content) es code kind answer new
+  pub closed : new.closed ≡ old.closed
   pub stays : IsSound g new → IsSound g old
   pub says : Says (account_answer (setup_content old.setup).partners code kind) code answer
   pub over : IsSound g new → AddsOver g old code kind answer new
   pub crash : IsSound g old → HasCleanDisk (state g new.conn) → (content : SetupContent) (es : List Event) →
       StandsFor g content es old → LeavesAdded content es code kind answer (state g new.conn)
+  pub crash_over : IsSound g old → HasCleanDisk (state g new.conn) → (rows : Rows) →
+      HasRows rows (state g old.conn).committed →
+      LeavesAddedOver (setup_content old.setup).partners rows code kind answer (state g new.conn)
   pub order : AddsInOrder g old code kind answer new
   pub noted : NotesStore answer old.last_fault new.last_fault
 
@@ -73,6 +85,7 @@ pub record OnlyLooks {S : Type 0} (g : Ghosts S) (old new : Desk S g) : Type 0 w
   pub holds : IsSound g new → (rows : Rows) (terminal : TerminalState) → DeskHolds g old rows terminal →
       DeskHolds g new rows terminal
   pub committed : IsSound g new → (state g new.conn).committed ≡ (state g old.conn).committed
+  pub closed : new.closed ≡ old.closed
   pub crash : IsSound g old → HasCleanDisk (state g new.conn) → (state g old.conn).committed.schema ≡ office_schema →
       LeavesNoMore (state g old.conn) (state g new.conn)
   pub stays : IsSound g new → IsSound g old

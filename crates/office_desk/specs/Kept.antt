@@ -1,5 +1,5 @@
 -- What a desk answers by what it keeps, whether or not events led to its rows.
-use Rattle.std.specs.Prelude.{◌≡◌, ℕ, ◌∷◌, List, Option, None, Some, Result, Ok, Err}
+use Rattle.std.specs.Prelude.{◌≡◌, ◌⊎◌, ℕ, ◌≤◌, ◌∷◌, List, Option, None, Some, Result, Ok, Err}
 use Rattle.sqlite.specs.Effect.{Database}
 use Rattle.sqlite.specs.Held.{state}
 use Rattle.sqlite_trees.specs.declared.store.Store.{Ghosts}
@@ -15,6 +15,7 @@ use Rattle.office_replies.specs.Contents.{content_of}
 use Rattle.office_replies.specs.declared.deliver.Fault.{Fault}
 use Rattle.office_replies.specs.declared.deliver.Response.{Response}
 use Rattle.office_replies.specs.declared.deliver.Response.TheVariants as response
+use Rattle.office_checks.specs.Closed.{ClosedContent, closed_content}
 use Rattle.office_rows.specs.Rows.{Rows}
 use Rattle.office_rows.specs.Effects.{with_waiting}
 use Rattle.office_setup.specs.Parties.{parties_of}
@@ -65,23 +66,34 @@ TakesIn Next content d next told old new = (d.number ≡ next) × IsRunTaken con
 
 -- the response to the partner with that code is what is to be told of the delivery, and the office that it makes is
 -- held
-pub record AnswersByKept (content : SetupContent) (d : Delivery) (code : List ℕ) (old : Office) (response : Response)
-    (db : Database) (there : Option Beside) : Type 0 where
+pub record AnswersByKept (closed : ClosedContent) (content : SetupContent) (d : Delivery) (code : List ℕ) (old : Office)
+    (response : Response) (db : Database) (there : Option Beside) : Type 0 where
   pub next : ℕ
   pub is_next : IsNextOf d.partner old.rows next
   pub told : AnswerModel
   pub new : Office
   pub takes : TakesIn (standing_in old d next) content d next told old new
   pub answers : content_of response ≡ answer_by_model code d.number told
-  pub holds : HoldsOffice content new.rows new.terminal db there
+  pub holds : HoldsOffice closed content new.rows new.terminal db there
+
+-- the number is closed, and the rows keep nothing under it
+abbrev pub IsPutAway : ClosedContent → (partner number : ℕ) → Rows → Type 0
+IsPutAway closed partner number rows =
+    (number ≤ closed.last_closed partner) × (text_in rows partner number ≡ None)
+
+-- the rows can't answer it: the reply that they keep under its number is no text, or it was put away
+abbrev pub LacksAnswer : ClosedContent → (partner number : ℕ) → Rows → Type 0
+LacksAnswer closed partner number rows = HasUnfitReply partner number rows ⊎ IsPutAway closed partner number rows
 
 -- it is answered so, or the call failed and the office is held as it was: the store failed, or memory was refused, or
--- the reply that is kept under its number is no text
-abbrev pub AnswersOrStays : SetupContent → Delivery → List ℕ → Office → Result Response TableFault → Database →
-    Option Beside → Type 0
-AnswersOrStays content d code old (Ok response) db there = AnswersByKept content d code old response db there
-AnswersOrStays content d code old (Err fault) db there =
-    IsOfStoreOr (HasUnfitReply d.partner d.number old.rows) fault × HoldsOffice content old.rows old.terminal db there
+-- the rows can't answer it
+abbrev pub AnswersOrStays : ClosedContent → SetupContent → Delivery → List ℕ → Office → Result Response TableFault →
+    Database → Option Beside → Type 0
+AnswersOrStays closed content d code old (Ok response) db there =
+    AnswersByKept closed content d code old response db there
+AnswersOrStays closed content d code old (Err fault) db there =
+    IsOfStoreOr (LacksAnswer closed d.partner d.number old.rows) fault
+    × HoldsOffice closed content old.rows old.terminal db there
 
 -- ---- what a desk answers
 
@@ -92,21 +104,22 @@ AnswersAt g (Err fault) text old given desk =
     (content_of given ≡ refusal_of (parties_of desk.setup) (header_of (segments_in text)) fault)
     × DeskHolds g desk old.rows old.terminal
 AnswersAt g (Ok place) text old given desk =
-    AnswersByKept (setup_content desk.setup) (delivery place.0 place.1 text) (code_of (parties_of desk.setup) place.0)
-    old given (state g desk.conn).committed desk.beside
+    AnswersByKept (closed_content desk.closed) (setup_content desk.setup) (delivery place.0 place.1 text)
+    (code_of (parties_of desk.setup) place.0) old given (state g desk.conn).committed desk.beside
 
 -- why that is answered NotNow, as the desk notes it: a refusal for want of memory; what is admitted by its store too,
--- or by a reply kept under its number that is no text
-abbrev pub IsNotedFor : Result (ℕ × ℕ) Fault → Rows → Option TableFault → Type 0
-IsNotedFor (Err refused) rows noted = noted ≡ Some Memory
-IsNotedFor (Ok place) rows noted =
-    (fault : TableFault) × (noted ≡ Some fault) × IsOfStoreOr (HasUnfitReply place.0 place.1 rows) fault
+-- or because the rows can't answer it
+abbrev pub IsNotedFor : ClosedContent → Result (ℕ × ℕ) Fault → Rows → Option TableFault → Type 0
+IsNotedFor closed (Err refused) rows noted = noted ≡ Some Memory
+IsNotedFor closed (Ok place) rows noted =
+    (fault : TableFault) × (noted ≡ Some fault) × IsOfStoreOr (LacksAnswer closed place.0 place.1 rows) fault
 
 -- what is delivered to a desk over that office is answered so, or NotNow if that may be, and the office stays
 abbrev pub AnswersOver : {S : Type 0} (g : Ghosts S) → Office → List ℕ → Response → Desk S g → Type 0
 AnswersOver g old sent response.NotNow desk =
     MayBeNotNow (parties_of desk.setup) (interchange_of sent)
-    × IsNotedFor (admission (parties_of desk.setup) (interchange_of sent)) old.rows desk.last_fault
+    × IsNotedFor (closed_content desk.closed) (admission (parties_of desk.setup) (interchange_of sent)) old.rows
+    desk.last_fault
     × DeskHolds g desk old.rows old.terminal
 AnswersOver g old sent given desk =
     AnswersAt g (admission (parties_of desk.setup) (interchange_of sent)) (interchange_of sent) old given desk

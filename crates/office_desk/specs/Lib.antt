@@ -8,6 +8,7 @@ pub mod Reports
 pub mod Looking
 pub mod Finding
 pub mod Kept
+pub mod Leaving
 pub mod Taking
 pub mod Order
 pub mod Noting

@@ -7,6 +7,7 @@ use Rattle.edi_syntax.specs.Numbers.{last_number}
 use Rattle.partner_core.specs.Deliveries.{Delivery}
 use Rattle.office_replies.specs.Events.{Event, delivered}
 use Rattle.office_replies.specs.declared.deliver.Response.{Response}
+use Rattle.office_checks.specs.Closed.{ClosedContent}
 use Rattle.office_rows.specs.Rows.{Rows}
 use Rattle.office_rows.specs.Stored.{HasRows}
 use Rattle.office_setup.specs.Setups.{SetupContent}
@@ -20,6 +21,7 @@ use Rattle.office_delivery.specs.Taking.{IsNumbered}
 use Rattle.office_desk.specs.Crashes.{Leaves, LeavesEither}
 use Rattle.office_desk.specs.Finding.{KeepsBeside}
 use Rattle.office_desk.specs.Kept.{AnswersOrStays, Office}
+use Rattle.office_desk.specs.Leaving.{LeavesRows, LeavesTakenOver}
 use Rattle.office_desk.specs.Offices.{HoldsOffice}
 use Rattle.office_desk.specs.Telling.{Answers, Comes, Holds, IsRunDone, TakesNext}
 use Rattle.office_desk.specs.declared.beside.Beside.{Beside}
@@ -34,9 +36,9 @@ pub record IsDelivered (setup : Setup) (d : Delivered) : Type 0 where
   pub admitted : IsAdmitted setup d.text.now d.admitted
 
 -- no change is under way, and the rows that this stands beside keep nothing under its number
-pub record IsNew (d : Delivery) (there : Beside) (s : State) : Type 0 where
+pub record IsNew (closed : ClosedContent) (d : Delivery) (there : Beside) (s : State) : Type 0 where
   pub settled : s.now ≡ s.committed
-  pub free : KeepsBeside d.partner d.number s.committed there None
+  pub free : KeepsBeside closed d.partner d.number s.committed there None
 
 -- no change is under way, these are the rows, and they have numbers of interchanges alone
 pub record HasNumbered (rows : Rows) (partner : ℕ) (s : State) : Type 0 where
@@ -73,14 +75,17 @@ LeavesTaken content es sent (Ok response) s = Leaves content (es ++ delivered se
 LeavesTaken content es sent (Err fault) s = LeavesEither content es sent s
 
 -- The partner with a code gets an answer to its delivery, from a desk of that set-up, or the call fails. From whatever
--- events: its answer, and what is held; what a crash leaves. Over any office's rows: by what is kept.
-pub record TakesDelivery (now : SetupContent) (d : Delivery) (code : List ℕ) (old : State) (before : Option Beside)
-    (result : Result Response TableFault) (new : State) (after : Option Beside) : Type 0 where
+-- events: its answer, and what is held; what a crash leaves. Over any office's rows: by what is kept, and what a crash leaves.
+pub record TakesDelivery (closed : ClosedContent) (now : SetupContent) (d : Delivery) (code : List ℕ) (old : State)
+    (before : Option Beside) (result : Result Response TableFault) (new : State) (after : Option Beside) : Type 0 where
   pub events : HasCleanDisk new → IsTrue new.is_open → (content : SetupContent) (es : List Event) →
       Holds content es now old.committed before → AnswersOrHolds content es d code result now new.committed after
   pub crash : HasCleanDisk new → IsTrue old.is_open → (content : SetupContent) (es : List Event) (sent : List ℕ) →
       Holds content es now old.committed before → Leaves content es old → Comes content es sent d →
       LeavesTaken content es sent result new
   pub office : HasCleanDisk new → IsTrue new.is_open → (office : Office) →
-      HoldsOffice now office.rows office.terminal old.committed before →
-      AnswersOrStays now d code office result new.committed after
+      HoldsOffice closed now office.rows office.terminal old.committed before →
+      AnswersOrStays closed now d code office result new.committed after
+  pub office_crash : HasCleanDisk new → IsTrue old.is_open → (office : Office) →
+      HoldsOffice closed now office.rows office.terminal old.committed before → LeavesRows office.rows old →
+      LeavesTakenOver now d office result new

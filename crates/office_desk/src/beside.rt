@@ -1,10 +1,11 @@
 ghost use Rattle.std.specs.Prelude.{◌≡◌, ◌≤◌, ◌-◌, length, slice_set, Some, IfOk, IfErr, option_map, string_bytes};
+ghost use Rattle.office_checks.specs.Closed.{closed_content};
 ghost use Rattle.office_delivery.specs.Reading.{OnlyReads};
 ghost use Rattle.office_desk.specs.Causes.{LacksSome};
 ghost use Rattle.office_desk.specs.Finding.{StaysBeside};
 ghost use Rattle.office_desk.specs.Offices.{FailsToOpen, HoldsOffice};
 ghost use Rattle.office_desk.specs.Reports.{TellsMetrics};
-ghost use Rattle.office_loading.specs.Tables.{Loads};
+ghost use Rattle.office_loading.specs.Tables.{LoadsOwn};
 ghost use Rattle.office_lookups.specs.Metrics.{ready_text};
 ghost use Rattle.office_rows.specs.Rows.{Rows};
 ghost use Rattle.office_rows.specs.Shown.{AreNexts};
@@ -22,7 +23,8 @@ ghost use Rattle.sqlite.specs.State.{HasCleanDisk};
 ghost use Rattle.terminal_core.specs.State.{TerminalState};
 
 use crate::accounts::look_all_up;
-use office_loading::{load, nexts};
+use office_checks::Closed;
+use office_loading::{load_own, nexts};
 use office_lookups::{Versions, metrics_report, ready};
 use office_queries::program_version;
 use office_setup::Setup;
@@ -61,25 +63,27 @@ impl Beside {
     }
 }
 
-/// The set-up that the tables hold, and what stands beside them: all that opening a desk does with its connection. It
-/// changes nothing.
+/// The set-up that the tables of a store hold, of which that is closed, and what stands beside them: all that opening a
+/// desk does with its connection. It changes nothing.
 ///
 /// Version if no setting names this version; Damaged if the rows are those of no office; Store and Memory say
 /// nothing of the rows.
 pub fn load_beside<S: Alter>(
     alloc: Global,
     conn: &mut Connection<S>,
+    closed: &Closed,
 ) -> Result<(Setup, Beside), TableFault>
     ensures loaded { HasCleanDisk (state S.Store conn.new) → (state S.Store conn.old).now.schema ≡ office_schema →
-        IfOk result (λ p. Loads (state S.Store conn.old).now (setup_content p.0) p.1.terminal) }
+        IfOk result (λ p. LoadsOwn (closed_content closed.now) (state S.Store conn.old).now (setup_content p.0)
+        p.1.terminal) }
     ensures nexts { HasCleanDisk (state S.Store conn.new) → IfOk result (λ p. (rows : Rows) →
         HasRows rows (state S.Store conn.old).now → AreNexts rows p.1.nexts.items) }
     ensures given { IfOk result (λ p. IsGiven (setup_content p.0)) }
     ensures refused { HasCleanDisk (state S.Store conn.new) → (state S.Store conn.old).now.schema ≡ office_schema →
-        IfErr result (FailsToOpen (state S.Store conn.old).now) }
+        IfErr result (FailsToOpen (closed_content closed.now) (state S.Store conn.old).now) }
     ensures reads { Reads (state S.Store conn.old) (state S.Store conn.new) result }
 {
-    let (setup, terminal) = load(alloc, conn)?;
+    let (setup, terminal) = load_own(alloc, conn, closed)?;
     let nexts = nexts(alloc, conn)?;
     Ok((setup, Beside { terminal, nexts }))
 }
@@ -88,19 +92,21 @@ pub fn load_beside<S: Alter>(
 pub(crate) fn beside_of<S: Alter>(
     alloc: Global,
     conn: &mut Connection<S>,
+    closed: &Closed,
     beside: Option<Beside>,
 ) -> Result<Beside, TableFault>
     ensures beside { HasCleanDisk (state S.Store conn.new) →
-        IfOk result (λ now. StaysBeside (state S.Store conn.old).now beside (Some now)) }
+        IfOk result (λ now. StaysBeside (closed_content closed.now) (state S.Store conn.old).now beside (Some now)) }
     ensures fault { HasCleanDisk (state S.Store conn.new) →
         IfErr result (λ fault. (content : SetupContent) (rows : Rows) (terminal : TerminalState) →
-        HoldsOffice content rows terminal (state S.Store conn.old).now beside → IsOfStore fault) }
+        HoldsOffice (closed_content closed.now) content rows terminal (state S.Store conn.old).now beside →
+        IsOfStore fault) }
     ensures reads { OnlyReads (state S.Store conn.old) (state S.Store conn.new) result }
 {
     match beside {
         Some(there) => Ok(there),
         None => {
-            let (_, there) = load_beside(alloc, conn)?;
+            let (_, there) = load_beside(alloc, conn, closed)?;
             Ok(there)
         }
     }

@@ -1,6 +1,9 @@
-ghost use Rattle.std.specs.Prelude.{◌≡◌, List, None, Some, false, IfErr, IfOk, option_map, OnOk};
+ghost use Rattle.std.specs.Prelude.{◌≡◌, ◌≤◌, List, None, Some, false, IfErr, IfOk, length, nat_le, option_map, OnOk};
+ghost use Rattle.office_checks.specs.Closed.{last_closed};
+ghost use Rattle.office_desk.specs.Answers.{code_of};
 ghost use Rattle.office_replies.specs.Events.{Event};
 ghost use Rattle.office_setup.specs.Given.{IsGiven};
+ghost use Rattle.office_setup.specs.Parties.{parties_of};
 ghost use Rattle.office_setup.specs.Setups.{SetupContent, setup_content};
 
 use crate::accounts::{AccountStanding, add_new};
@@ -9,7 +12,8 @@ use crate::beside::{Beside, beside_of, load_beside};
 use crate::taking::{Delivery, account_from, judge_account, take_in};
 use crate::texts::lines_from;
 use edi_segments::interchange_text;
-use office_admission::admit;
+use office_admission::{Admitted, Refusal, admit};
+use office_checks::Closed;
 use office_queries::{NotNow, Query, Report};
 use office_replies::{AccountAnswer, AccountFault, AddAccount, Deliver, Response, account_known};
 use office_setup::Setup;
@@ -24,6 +28,8 @@ use std::alloc::Global;
 pub struct Desk<S: Alter> {
     conn: Connection<S>,
     setup: Setup,
+    // What is closed of the store.
+    closed: Closed,
     // What the rows say; none if it has to be loaded again.
     beside: Option<Beside>,
     // Why it last answered NotNow.
@@ -35,12 +41,13 @@ pub struct Desk<S: Alter> {
 }
 
 impl<S: Alter> Desk<S> {
-    /// A desk over tables that were opened, with what stands beside them.
-    pub fn new(conn: Connection<S>, setup: Setup, beside: Beside) -> Desk<S>
+    /// A desk over tables that were opened, with what is closed of them and what stands beside them.
+    pub fn new(conn: Connection<S>, setup: Setup, closed: Closed, beside: Beside) -> Desk<S>
         requires idle { conn.in_transaction ≡ false }
         requires given { IsGiven (setup_content setup) }
         ensures conn { result.conn ≡ conn }
         ensures setup { result.setup ≡ setup }
+        ensures closed { result.closed ≡ closed }
         ensures beside { result.beside ≡ Some beside }
         ensures no_fault { result.last_fault ≡ None }
         ensures nothing_taken { result.last_taken ≡ Tally.NOTHING }
@@ -48,6 +55,7 @@ impl<S: Alter> Desk<S> {
         Desk {
             conn,
             setup,
+            closed,
             beside: Some(beside),
             last_fault: None,
             last_taken: Tally::NOTHING,
@@ -69,6 +77,35 @@ impl<S: Alter> Desk<S> {
         self.last_taken
     }
 
+    /// Whether an interchange of the partner under that number is closed.
+    pub fn is_closed(&self, partner: u16, number: u32) -> bool
+        ensures { result ≡ nat_le number (last_closed self.now.closed partner) }
+    {
+        number <= self.closed.last_of(u32::from(partner))
+    }
+
+    /// The code of a partner's account.
+    pub fn code_of(&self, partner: u16) -> &str
+        requires from_one { 1 ≤ partner }
+        requires known { partner ≤ length self.now.setup.partners.items }
+        ensures { result.now ≡ code_of (parties_of self.now.setup) partner }
+    {
+        let accounts = self.setup.partners.as_slice();
+        let place = partner as usize - 1;
+        accounts[place].code.as_str()
+    }
+
+    /// Keeps the fault for which what stands beside it answered NotNow.
+    pub fn note(&mut self, fault: TableFault)
+        ensures conn { self.new.conn ≡ self.old.conn }
+        ensures setup { self.new.setup ≡ self.old.setup }
+        ensures closed { self.new.closed ≡ self.old.closed }
+        ensures beside { self.new.beside ≡ self.old.beside }
+        ensures fault { self.new.last_fault ≡ Some fault }
+    {
+        self.last_fault = Some(fault);
+    }
+
     /// The connection to its tables.
     pub fn into_connection(self) -> Connection<S>
         ensures { result ≡ self.conn }
@@ -76,6 +113,7 @@ impl<S: Alter> Desk<S> {
         let Desk {
             conn,
             setup: _,
+            closed: _,
             beside: _,
             last_fault: _,
             last_taken: _,
@@ -85,11 +123,14 @@ impl<S: Alter> Desk<S> {
 }
 
 impl<S: Alter + Drop> Desk<S> {
-    ghost use Rattle.std.specs.Prelude.{string_bytes};
+    ghost use Rattle.std.specs.Prelude.{ℕ, string_bytes};
+    ghost use Rattle.edi_segments.specs.Interchange.{interchange_of};
+    ghost use Rattle.office_admission.specs.Outcomes.{IsAdmitted, IsRefused};
     ghost use Rattle.std.specs.Option.{option_map};
     ghost use Rattle.std.specs.Result.{result_map_both};
     ghost use Rattle.sqlite.specs.Held.{state};
     ghost use Rattle.sqlite.specs.State.{HasCleanDisk};
+    ghost use Rattle.office_checks.specs.Closed.{closed_content};
     ghost use Rattle.office_rows.specs.Rows.{Rows};
     ghost use Rattle.office_rows.specs.Stored.{HasRows};
     ghost use Rattle.office_rows.specs.Tables.{office_schema};
@@ -105,11 +146,12 @@ impl<S: Alter + Drop> Desk<S> {
     ghost use Rattle.office_desk.specs.Reports.{DeskTells, IsOpenFor};
 
     /// The desk of a store that holds an office: its set-up, its terminal and its partners' numbers are those that the
-    /// tables hold. If it is refused, nothing is written, and the connection is given up.
+    /// tables hold. That is closed of the store: its rows may be gone or left. If it is refused, nothing is written, and
+    /// the connection is given up.
     ///
     /// Version if no setting names this version; Damaged if the rows are those of no office; Store and Memory say
     /// nothing of the rows.
-    pub fn open(alloc: Global, conn: Connection<S>) -> Result<Desk<S>, TableFault>
+    pub fn open(alloc: Global, conn: Connection<S>, closed: Closed) -> Result<Desk<S>, TableFault>
         requires idle { conn.in_transaction ≡ false }
         ensures opens { IfOk result
             (λ desk. IsSound S.Store desk → (content : SetupContent) (es : List Event) (rows : Rows) →
@@ -119,13 +161,14 @@ impl<S: Alter + Drop> Desk<S> {
             (λ desk. IsSound S.Store desk → (state S.Store conn).committed.schema ≡ office_schema →
             OpensOffice S.Store (state S.Store conn) desk) }
         ensures stays { IfOk result (λ desk. IsSound S.Store desk → HasCleanDisk (state S.Store conn)) }
-        ensures refused { IfErr result (RefusesToOpen S.Store (state S.Store conn)) }
+        ensures closed { IfOk result (λ desk. desk.closed ≡ closed) }
+        ensures refused { IfErr result (RefusesToOpen S.Store (closed_content closed) (state S.Store conn)) }
     {
         let mut conn = conn;
         let is_idle = conn.is_autocommit();
         prove!(is_idle);
-        let (setup, beside) = load_beside(alloc, &mut conn)?;
-        Ok(Desk::new(conn, setup, beside))
+        let (setup, beside) = load_beside(alloc, &mut conn, &closed)?;
+        Ok(Desk::new(conn, setup, closed, beside))
     }
 
     /// What the rows tell at a query, if there is something. No row changes.
@@ -146,7 +189,7 @@ impl<S: Alter + Drop> Desk<S> {
     {
         let is_idle = self.conn.is_autocommit();
         prove!(is_idle);
-        let there = beside_of(alloc, &mut self.conn, self.beside.take())?;
+        let there = beside_of(alloc, &mut self.conn, &self.closed, self.beside.take())?;
         let found = tell(alloc, &mut self.conn, &self.setup, &there.terminal, query);
         self.beside = Some(there);
         found
@@ -185,19 +228,30 @@ impl<S: Alter + Drop> Desk<S> {
         noted(&mut self.last_fault, found)
     }
 
-    /// Delivers a text, and answers it. A refusal without a CONTRL takes no memory and no store, so it is never answered NotNow.
-    fn answer_text(&mut self, alloc: Global, delivered: &[u8]) -> Response
-        ensures leads { Leads S.Store self.old delivered.now result self.new }
+    /// Whose interchange a text is, by the desk's accounts, or why it is refused.
+    pub fn admit_text<'a>(&self, text: &'a [u8]) -> Result<Admitted<'a>, Refusal<'a>>
+        ensures ok { IfOk result (IsAdmitted self.now.setup text.now) }
+        ensures err { IfErr result (IsRefused self.now.setup text.now) }
     {
-        let text = interchange_text(delivered);
-        let admitted = match admit(&self.setup, text) {
-            Ok(admitted) => admitted,
-            Err(refusal) => {
-                let answer = refusal.answer(alloc);
-                note_memory(&mut self.last_fault, &answer);
-                return answer;
-            }
-        };
+        admit(&self.setup, text)
+    }
+
+    /// Answers a delivered text that was refused. Without a CONTRL this takes no memory and no store, so it is never
+    /// answered NotNow.
+    pub fn refuse(&mut self, alloc: Global, refusal: Refusal<'_>) -> Response
+        ensures leads { (sent : List ℕ) → IsRefused self.old.setup (interchange_of sent) refusal.entry →
+            Leads S.Store self.old sent result self.new }
+    {
+        let answer = refusal.answer(alloc);
+        note_memory(&mut self.last_fault, &answer);
+        answer
+    }
+
+    /// Takes a delivered text in that was admitted, and answers it.
+    pub fn take_admitted(&mut self, alloc: Global, admitted: Admitted<'_>, text: &[u8]) -> Response
+        requires admitted { IsAdmitted self.old.setup text.now admitted }
+        ensures leads { (sent : List ℕ) → text.now ≡ interchange_of sent → Leads S.Store self.old sent result self.new }
+    {
         let number = admitted.envelope.head().number();
         let setup = &self.setup;
         let accounts = setup.partners.as_slice();
@@ -213,6 +267,7 @@ impl<S: Alter + Drop> Desk<S> {
             alloc,
             &mut self.conn,
             setup,
+            &self.closed,
             &mut self.beside,
             &delivery,
             &mut self.last_taken,
@@ -220,6 +275,17 @@ impl<S: Alter + Drop> Desk<S> {
         match noted(&mut self.last_fault, taken) {
             Ok(response) => response,
             Err(NotNow) => Response::NotNow,
+        }
+    }
+
+    /// Delivers a text, and answers it.
+    fn answer_text(&mut self, alloc: Global, delivered: &[u8]) -> Response
+        ensures leads { Leads S.Store self.old delivered.now result self.new }
+    {
+        let text = interchange_text(delivered);
+        match self.admit_text(text) {
+            Ok(admitted) => self.take_admitted(alloc, admitted, text),
+            Err(refusal) => self.refuse(alloc, refusal),
         }
     }
 

@@ -1,5 +1,6 @@
 ghost use Rattle.std.specs.Prelude.{◌≡◌, None, Some, false, IfOk, IsTrue, OnOk, ◌≤◌, IfErr, ◌+◌, List, MatchOption, length, map, nat_lt, if◌then◌else◌};
 ghost use Rattle.office_admission.specs.Accounts.{AccountPair, account_answer, added_as, by_number, by_own_kind, refused_for};
+ghost use Rattle.office_checks.specs.Closed.{ClosedContent, closed_content};
 ghost use Rattle.office_delivery.specs.Reading.{OnlyReads};
 ghost use Rattle.office_delivery.specs.Writing.{EndsIdle, IsWholeInOrder, WritesWhole};
 ghost use Rattle.office_desk.specs.Accounts.{standing_content};
@@ -28,6 +29,7 @@ use crate::answers::{answer_used, answer_waiting};
 use crate::beside::{Beside, beside_of};
 use edi_messages::PartnerKind;
 use office_admission::Admitted;
+use office_checks::Closed;
 use office_delivery::{take_run, write_early, write_run};
 use office_replies::{AccountFault, Response, taken_body};
 use office_setup::{MOST_PARTNERS, Setup, kind_named, party_code};
@@ -55,6 +57,7 @@ pub(crate) fn take_in<S: Alter>(
     alloc: Global,
     conn: &mut Connection<S>,
     setup: &Setup,
+    closed: &Closed,
     beside: &mut Option<Beside>,
     delivery: &Delivery<'_>,
     last_taken: &mut Tally,
@@ -65,7 +68,7 @@ pub(crate) fn take_in<S: Alter>(
     ensures ends { EndsIdle (state S.Store conn.old) (state S.Store conn.new) }
     ensures now { IfOk result IsNow }
     ensures is_open { HasCleanDisk (state S.Store conn.new) → OnOk result (IsTrue (state S.Store conn.new).is_open) }
-    ensures takes { TakesDelivery (setup_content setup.now) (delivery_of delivery.now) delivery.now.code.now
+    ensures takes { TakesDelivery (closed_content closed.now) (setup_content setup.now) (delivery_of delivery.now) delivery.now.code.now
         (state S.Store conn.old) beside.old result (state S.Store conn.new) beside.new }
     ensures in_order { TakesInOrder (setup_content setup.now) (delivery_of delivery.now) (state S.Store conn.old)
         beside.old result (state S.Store conn.new) }
@@ -73,7 +76,7 @@ pub(crate) fn take_in<S: Alter>(
     let is_idle = conn.is_autocommit();
     prove!(is_idle);
     let partner = delivery.admitted.partner;
-    let Found { kept, next, there } = look(alloc, conn, beside, partner, delivery.number)?;
+    let Found { kept, next, there } = look(alloc, conn, closed, beside, partner, delivery.number)?;
     match kept {
         Some(kept) => {
             *beside = Some(there);
@@ -105,10 +108,10 @@ fn take_new<S: Alter>(
     ensures ends { EndsIdle (state S.Store conn.old) (state S.Store conn.new) }
     ensures now { IfOk result IsNow }
     ensures is_open { HasCleanDisk (state S.Store conn.new) → OnOk result (IsTrue (state S.Store conn.new).is_open) }
-    ensures takes { IsNew (delivery_of delivery.now) there (state S.Store conn.old) →
-        TakesDelivery (setup_content setup.now) (delivery_of delivery.now) delivery.now.code.now
+    ensures takes { (closed : ClosedContent) → IsNew closed (delivery_of delivery.now) there (state S.Store conn.old) →
+        TakesDelivery closed (setup_content setup.now) (delivery_of delivery.now) delivery.now.code.now
         (state S.Store conn.old) (Some there) result (state S.Store conn.new) beside.new }
-    ensures in_order { IsNew (delivery_of delivery.now) there (state S.Store conn.old) →
+    ensures in_order { (closed : ClosedContent) → IsNew closed (delivery_of delivery.now) there (state S.Store conn.old) →
         TakesInOrder (setup_content setup.now) (delivery_of delivery.now) (state S.Store conn.old)
         (Some there) result (state S.Store conn.new) }
 {
@@ -143,6 +146,7 @@ pub struct Found {
 pub(crate) fn look<S: Alter>(
     alloc: Global,
     conn: &mut Connection<S>,
+    closed: &Closed,
     beside: &mut Option<Beside>,
     partner: u16,
     number: u32,
@@ -151,14 +155,15 @@ pub(crate) fn look<S: Alter>(
     ensures next { IfOk result (λ found. with_number found.there.nexts.items partner ≡ Some found.next) }
     ensures out { OnOk result (beside.new ≡ None) }
     ensures found { HasCleanDisk (state S.Store conn.new) →
-        IfOk result (IsFound partner number (state S.Store conn.old).now beside.old) }
+        IfOk result (IsFound (closed_content closed.now) partner number (state S.Store conn.old).now beside.old) }
     ensures not_found { HasCleanDisk (state S.Store conn.new) → IfErr result
-        (λ fault. IsNotFound partner number (state S.Store conn.old).now beside.old fault beside.new) }
+        (λ fault. IsNotFound (closed_content closed.now) partner number (state S.Store conn.old).now beside.old fault
+        beside.new) }
     ensures is_open { HasCleanDisk (state S.Store conn.new) →
         IfOk result (λ found. IsOpenIfKept found.kept (state S.Store conn.new)) }
     ensures reads { OnlyReads (state S.Store conn.old) (state S.Store conn.new) result }
 {
-    let there = beside_of(alloc, conn, beside.take())?;
+    let there = beside_of(alloc, conn, closed, beside.take())?;
     let Some(next) = there.next_of(partner) else {
         return Err(TableFault::Damaged);
     };

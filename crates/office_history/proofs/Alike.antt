@@ -51,12 +51,12 @@ use Rattle.office_taking.specs.Taking.{MachineState, verdict_on_by, report_on, b
 use Rattle.office_taking.specs.Readings.{unweighed_reading, reading_by}
 use Rattle.office_rows.specs.Rows.{Rows}
 use Rattle.office_rows.specs.Opened.{OpenedRows, Shows}
-use Rattle.office_rows.specs.Office.{IsOffice}
 use Rattle.office_rows.specs.Stored.{HasRows}
 use Rattle.office_rows.specs.Opening.{setting_row, settings_in, version_text, code_names, settings_named}
 use Rattle.std.specs.Prelude.{codes, decimal}
 use Rattle.office_history.specs.After.{SaysSame, migration_in, taking_by, taking_in, opening_of, AreRowsOf, AreAfterBy, AreAfter}
 use Rattle.office_history.specs.Laws.{Reopens}
+use Rattle.office_history.proofs.Loads.{ShowsSetupAndTerminal}
 use Rattle.office_history.proofs.Offices.{says_same}
 use Rattle.office_history.proofs.Likeness.{TakesAlike as RunsAlike, reply_alike, state_alike}
 use Rattle.office_history.proofs.Places.{alone_in, in_force, moved}
@@ -290,7 +290,7 @@ given_with_codes content table same given = record {
 }
 
 pub reopens : (content : SetupContent) (es : List Event) (rows : Rows) (db : Database) (shown : OpenedRows) (other : SetupContent) (terminal : TerminalState)
-    → AreAfter content es rows → IsGiven content → HasRows rows db → Shows db shown → IsOffice shown other terminal → Reopens content es rows other
+    → AreAfter content es rows → IsGiven content → HasRows rows db → Shows db shown → ShowsSetupAndTerminal shown other terminal → Reopens content es rows other
 reopens content es rows db shown other terminal are given has shows office =
     let says = says_same content es rows db shown other terminal given are has shows office in
     record {

@@ -67,6 +67,27 @@ have_runs id (partner ∷ partners) (account ∷ accounts) are =
     high true run most = let its : partner.next ≤ 1000000000 = are.4 in omega (arith, its)
     high false run most = most
 
+-- ---- where a number stands
+
+pub has_left : (p k : ℕ) (ns ms : List NumberKept) → Has p k ns → Has p k (ns ++ ms)
+has_left p k [] ms has = absurd has
+has_left p k (n ∷ ns) ms (inl here) = inl here
+has_left p k (n ∷ ns) ms (inr later) = inr (has_left p k ns ms later)
+
+pub has_right : (p k : ℕ) (ns ms : List NumberKept) → Has p k ms → Has p k (ns ++ ms)
+has_right p k [] ms has = has
+has_right p k (n ∷ ns) ms has = inr (has_right p k ns ms has)
+
+pub has_taken : (p k from many : ℕ) → from ≤ k → k < from + many → Has p k (map (taken_by p) (range_with_len from many))
+has_taken p k from zero low below = absurd (omega (arith, low, below))
+has_taken p k from (suc many) low below = elim (cases_order from k) [
+  | inl same ↦ inl (refl, same)
+  | inr o ↦ elim o [
+    | inl less ↦ inr (has_taken p k (from + 1) many (omega (arith, less)) (omega (arith, below)))
+    | inr more ↦ absurd (omega (arith, more, low))
+  ]
+]
+
 -- ---- what is kept for one account after the other
 
 module _ (count : ℕ) (runs : ℕ → ℕ) (high : (p : ℕ) → runs p ≤ 999999999) where
@@ -122,25 +143,6 @@ module _ (count : ℕ) (runs : ℕ → ℕ) (high : (p : ℕ) → runs p ≤ 999
       subst AreWithin (sym (kept.2 ∙ ap (λ l. l ++ kept.1) its.are))
       (within_both _ kept.1 own (kept_within (id + 1) accounts kept.1 (omega arith) (omega (arith, ends)) kept.4))
 
-  has_left : (p k : ℕ) (ns ms : List NumberKept) → Has p k ns → Has p k (ns ++ ms)
-  has_left p k [] ms has = absurd has
-  has_left p k (n ∷ ns) ms (inl here) = inl here
-  has_left p k (n ∷ ns) ms (inr later) = inr (has_left p k ns ms later)
-
-  has_right : (p k : ℕ) (ns ms : List NumberKept) → Has p k ms → Has p k (ns ++ ms)
-  has_right p k [] ms has = has
-  has_right p k (n ∷ ns) ms has = inr (has_right p k ns ms has)
-
-  has_taken : (p k from many : ℕ) → from ≤ k → k < from + many → Has p k (map (taken_by p) (range_with_len from many))
-  has_taken p k from zero low below = absurd (omega (arith, low, below))
-  has_taken p k from (suc many) low below = elim (cases_order from k) [
-    | inl same ↦ inl (refl, same)
-    | inr o ↦ elim o [
-      | inl less ↦ inr (has_taken p k (from + 1) many (omega (arith, less)) (omega (arith, below)))
-      | inr more ↦ absurd (omega (arith, more, low))
-    ]
-  ]
-
   kept_has : (id : ℕ) (accounts : List (List ℕ × PartnerKind)) (ns : List NumberKept) (p k : ℕ) → AreKept (accounts_from id next accounts) ns → id ≤ p → p < id + length accounts → 1 ≤ k → k ≤ runs p → Has p k ns
   kept_has id [] ns p k kept low below one within = absurd (omega (arith, low, below))
   kept_has id (account ∷ accounts) ns p k kept low below one within =
@@ -169,25 +171,25 @@ pub record KeepsNumbers (count : ℕ) (runs : ℕ → ℕ) (rows : Rows) : Type 
   pub free : (p : ℕ) → text_in rows p (runs p + 1) ≡ None
   pub waits : (p k : ℕ) → runs p < k → reply_in rows p k ≡ None
 
-found_pair : (rows : Rows) (p k : ℕ) (i : Interchange) → find (is_pair p k) rows.interchanges ≡ Some i → Contains rows.interchanges i × (i.partner ≡ p) × (i.number ≡ k)
+pub found_pair : (rows : Rows) (p k : ℕ) (i : Interchange) → find (is_pair p k) rows.interchanges ≡ Some i → Contains rows.interchanges i × (i.partner ≡ p) × (i.number ≡ k)
 found_pair rows p k i e =
     let here = found_is (is_pair p k) rows.interchanges i e in
     let pair = pair_of p k i here.2 in
     (contained rows.interchanges here.0 i here.1, pair.0, pair.1)
 
 -- what was taken has a reply
-replies : (reply : List ℕ) → is_some (reply_if_any reply) ≡ not (length reply == 0)
+pub replies : (reply : List ℕ) → is_some (reply_if_any reply) ≡ not (length reply == 0)
 replies [] = refl
 replies (byte ∷ bytes) = sym (ap not (ne_eqb (length (byte ∷ bytes)) 0 (λ none. absurd (omega arith))))
 
 -- ---- from what is kept in order
 
-within_at : (P : NumberKept → Type 0) (zs : List Interchange) (i : Interchange) (k : ℕ) → AllByRecursion P (map number_kept zs) → k < length zs → slice_index_or zs k i ≡ i → P (number_kept i)
+pub within_at : (P : NumberKept → Type 0) (zs : List Interchange) (i : Interchange) (k : ℕ) → AllByRecursion P (map number_kept zs) → k < length zs → slice_index_or zs k i ≡ i → P (number_kept i)
 within_at P [] i k all below is = absurd (omega (arith, below))
 within_at P (z ∷ zs) i zero all below is = subst (λ x. P (number_kept x)) is all.0
 within_at P (z ∷ zs) i (suc k) all below is = within_at P zs i k all.1 (omega (arith, below)) is
 
-has_in : (zs : List Interchange) (p k : ℕ) → Has p k (map number_kept zs) → (i : Interchange) × Contains zs i × (i.partner ≡ p) × (i.number ≡ k)
+pub has_in : (zs : List Interchange) (p k : ℕ) → Has p k (map number_kept zs) → (i : Interchange) × Contains zs i × (i.partner ≡ p) × (i.number ≡ k)
 has_in [] p k has = absurd has
 has_in (z ∷ zs) p k (inl here) = (z, head_in z zs, here.0, here.1)
 has_in (z ∷ zs) p k (inr later) = let rest = has_in zs p k later in (rest.0, tail_in z rest.0 zs rest.1, rest.2, rest.3)
@@ -355,7 +357,7 @@ module _ (count : ℕ) (runs : ℕ → ℕ) (rows : Rows) (keeps : KeepsNumbers 
         waits = λ beyond. (beyond_next i inside beyond, sym (replies i.reply) ∙ ap is_some (sym (own_reply i inside) ∙ keeps.waits i.partner i.number beyond));
       }
 
-  body_found : (o : Option Interchange) → is_some (option_map (λ (x : Interchange). x.body) o) ≡ true → (i : Interchange) × (o ≡ Some i)
+  pub body_found : (o : Option Interchange) → is_some (option_map (λ (x : Interchange). x.body) o) ≡ true → (i : Interchange) × (o ≡ Some i)
   body_found None e = cc
   body_found (Some i) e = (i, refl)
 

@@ -32,15 +32,16 @@ use Rattle.terminal_core.specs.declared.lines.Side.{Side}
 use Rattle.terminal_core.specs.declared.lines.Side.TheVariants.{Load, Discharge}
 use Rattle.terminal_core.specs.declared.visits.Way.{Way}
 use Rattle.terminal_core.specs.declared.visits.Way.TheVariants as way
-use Rattle.terminal_core.specs.Changes.{Standing, standing_in, standing_of, TerminalRows}
+use Rattle.terminal_core.specs.Changes.{Standing, standing_in, standing_of, TerminalRows, rows_of}
 use Rattle.terminal_core.specs.Forms.{IsFormedVisit, IsFormedExit, IsWellFormed}
 use Rattle.terminal_core.specs.Rows.{VisitContent}
-use Rattle.terminal_core.specs.State.{TerminalState, LineKey, AreNumbered, side_code, open_visit}
+use Rattle.terminal_core.specs.State.{TerminalState, LineKey, AreNumbered, IsWhole, side_code, open_visit}
 use Rattle.terminal_core.specs.Step.{number_of_visit}
 use Rattle.terminal_core.proofs.Boxes.{same_self}
 use Rattle.terminal_core.proofs.Counted.{found_is}
 use Rattle.terminal_core.proofs.Formed.{state_of_rows}
 use Rattle.terminal_core.proofs.Lined.{order, keys_total, keys_apart, same_key}
+use Rattle.office_setup.specs.Given.{IsGiven}
 use Rattle.office_setup.specs.Setups.{SetupContent}
 use Rattle.std.specs.Str.{bytes_eq}
 use Rattle.office_rows.specs.Rows.{Partner, PlaceContent, ListingContent, Setting}
@@ -51,7 +52,7 @@ use Rattle.office_rows.specs.Opening.{setting_row}
 use Rattle.office_rows.specs.Opened.{OpenedRows, Shows}
 use Rattle.office_rows.specs.Shown.{columns_at, ShowsTable}
 use Rattle.office_rows.proofs.Listed.{unmapped}
-use Rattle.office_rows.specs.Office.{settings_by_name, AreAccounts, IsOffice}
+use Rattle.office_rows.specs.Office.{settings_by_name, AreAccounts, IsOffice, opened_terminal}
 use Rattle.office_rows.specs.Tables.{partner_table, visit_table, place_table, listing_table, block_table, setting_table as settings_table}
 use Rattle.office_history.specs.After.{SaysSame, accounts_from}
 use Rattle.office_history.proofs.ByKeys.{key_of, said, finds, line_tied, none_found}
@@ -307,8 +308,38 @@ shown_twice table columns key values xs ys db one two =
     let shuffled = IsPermutation-map (columns_at columns) one.by_key two.by_key (IsPermutation-trans _ _ _ (IsPermutation-sym _ _ one.same) two.same) in
     unmapped values xs (map values ys) (subst (IsPermutation (map values xs)) (sym two.is) (subst (λ l. IsPermutation l (map (columns_at columns) two.by_key)) (sym one.is) shuffled))
 
+-- ---- the set-up and the terminal of rows, whatever interchanges they have, and whichever closed visits
+
+pub record ShowsSetupAndTerminal (rows : OpenedRows) (content : SetupContent) (state : TerminalState) : Type 0 where
+  pub given : IsGiven content
+  pub settings : rows.settings ≡ settings_by_name content
+  pub blocks : rows.blocks ≡ content.blocks
+  pub accounts : AreAccounts 1 rows.partners content.partners
+  pub plan : state.yard.plan ≡ content.blocks
+  pub limit : state.limit ≡ content.visit_limit
+  pub whole : IsWhole state
+  pub formed : IsWellFormed state
+  pub placed_once : ArePlacedOnce rows.places
+  pub listed_once : AreListedOnce rows.lines
+  pub terminal : opened_terminal rows ≡ rows_of state
+
+pub shown_by_office : (rows : OpenedRows) (content : SetupContent) (state : TerminalState) → IsOffice rows content state → ShowsSetupAndTerminal rows content state
+shown_by_office rows content state office = record {
+  given = office.given;
+  settings = office.settings;
+  blocks = office.blocks;
+  accounts = office.accounts;
+  plan = office.plan;
+  limit = office.limit;
+  whole = office.whole;
+  formed = office.formed;
+  placed_once = office.placed_once;
+  listed_once = office.listed_once;
+  terminal = office.terminal;
+}
+
 module _ (db : Database) (one two : OpenedRows) (content other : SetupContent) (state own : TerminalState)
-    (shows : Shows db one) (also : Shows db two) (office : IsOffice one content state) (second : IsOffice two other own) where
+    (shows : Shows db one) (also : Shows db two) (office : ShowsSetupAndTerminal one content state) (second : ShowsSetupAndTerminal two other own) where
   visits_of : one.visits ≡ state.visits
   visits_of = ap (λ (r : TerminalRows). r.visits) office.terminal
 

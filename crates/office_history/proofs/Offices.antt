@@ -49,7 +49,7 @@ use Rattle.office_history.proofs.Afters.{state_sound, unreplied}
 use Rattle.office_history.proofs.Ground.{state_on_ground}
 use Rattle.office_history.proofs.Kept.{accounts_are}
 use Rattle.office_history.proofs.KeptNumbers.{KeepsNumbers, numbers_kept}
-use Rattle.office_history.proofs.Loads.{accounts_rise, numbered_rise, letter_key, blocks_rise, any_head, places_same, lines_same, one_terminal, one_setup}
+use Rattle.office_history.proofs.Loads.{accounts_rise, numbered_rise, letter_key, blocks_rise, any_head, places_same, lines_same, one_terminal, one_setup, ShowsSetupAndTerminal, shown_by_office}
 use Rattle.office_history.proofs.Shown.{Rises}
 use Rattle.office_history.proofs.Sorting.{InTurn, is_before, number_order, text_order, shows_records, by_keys}
 use Rattle.office_history.proofs.Telling.{delivered_within}
@@ -314,7 +314,7 @@ older_rows_are content version es rows db given are has =
 -- ---- what opens again
 
 module _ (content : SetupContent) (es : List Event) (rows : Rows) (db : Database) (shown : OpenedRows) (other : SetupContent) (state : TerminalState)
-    (given : IsGiven content) (are : AreAfter content es rows) (has : HasRows rows db) (shows : Shows db shown) (office : IsOffice shown other state) where
+    (given : IsGiven content) (are : AreAfter content es rows) (has : HasRows rows db) (shows : Shows db shown) (office : ShowsSetupAndTerminal shown other state) where
   abbrev so_far : SetupContent
   so_far = content_after content es
 
@@ -325,7 +325,7 @@ module _ (content : SetupContent) (es : List Event) (rows : Rows) (db : Database
   its = loaded so_far (run (deliveries_of content es)) rows theirs db (are_of newest content es rows given are) has.rows_are
 
   pub state_given : state ≡ theirs
-  state_given = one_terminal db shown its.0 other so_far state theirs shows its.1 office its.2
+  state_given = one_terminal db shown its.0 other so_far state theirs shows its.1 office (shown_by_office its.0 so_far theirs its.2)
 
   pub says_same : SaysSame other so_far
-  says_same = one_setup db shown its.0 other so_far state theirs shows its.1 office its.2
+  says_same = one_setup db shown its.0 other so_far state theirs shows its.1 office (shown_by_office its.0 so_far theirs its.2)

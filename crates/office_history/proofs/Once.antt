@@ -48,10 +48,10 @@ climbs_on key low mid high (x ∷ xs) ys one two = (one.0, climbs_on key (key x)
 -- ---- what is kept, in the order of partners and numbers
 
 -- the place of a partner's number among all
-abbrev place_of : ℕ → ℕ → ℕ
+abbrev pub place_of : ℕ → ℕ → ℕ
 place_of partner number = partner * 1000000000 + number
 
-abbrev place : NumberKept → ℕ
+abbrev pub place : NumberKept → ℕ
 place n = place_of n.partner n.number
 
 taken_climb : (partner from many low high : ℕ) → low < place_of partner from → place_of partner from + many ≤ high + 1 → Climbs place low (map (taken_by partner) (range_with_len from many)) high
@@ -112,14 +112,18 @@ rises_in low (x ∷ xs) rises = (rises.0, rises_in (place_in x) xs rises.1)
 pair_at : (partner number : ℕ) (i : Interchange) → is_pair partner number i ≡ true → place_in i ≡ place_of partner number
 pair_at partner number i passes = let pair = pair_of partner number i passes in ap₂ place_of pair.0 pair.1
 
--- of the rows of an office
-pub kept_once : (db : Database) (rows : Rows) (shown : OpenedRows) (content : SetupContent) (state : TerminalState) → HasRows rows db → Shows db shown → IsOffice shown content state → AreKeptOnce rows.interchanges
-kept_once db rows shown content state has shows office partner number =
+-- if what the table shows rises by partner and number, none stands there twice
+pub once_if_rising : (db : Database) (rows : Rows) (shown : OpenedRows) → HasRows rows db → Shows db shown → Rises place (place_of 1 0) shown.numbers → AreKeptOnce rows.interchanges
+once_if_rising db rows shown has shows rises partner number =
     let its = shows.numbers in
     let table = its.shown in
     let placed = unmapped interchange_values rows.interchanges table.by_key (IsPermutation-trans _ _ _ has.rows_are.interchanges.same table.same) in
     let same : map number_kept its.interchanges ≡ map number_kept placed.0 = numbers_same its.interchanges placed.0 (table.is ∙ ap (map (columns_at (0 ∷ 1 ∷ 3 ∷ []))) placed.2) in
-    let rise : Rises place (place_of 1 0) (map number_kept placed.0) = subst (Rises place (place_of 1 0)) (its.are ∙ same) (kept_rise 1 shown.partners content.partners shown.numbers office.accounts office.kept) in
+    let rise : Rises place (place_of 1 0) (map number_kept placed.0) = subst (Rises place (place_of 1 0)) (its.are ∙ same) rises in
     let one : count_by (is_pair partner number) placed.0 ≡ count_by (is_pair partner number) rows.interchanges =
     sum_by-IsPermutation (λ i. cond (is_pair partner number i) 1 0) rows.interchanges placed.0 placed.1 in
     subst (λ n. n ≤ 1) one (one_at place_in (is_pair partner number) (place_of partner number) (pair_at partner number) (place_of 1 0) placed.0 (rises_in (place_of 1 0) placed.0 rise))
+
+-- of the rows of an office
+pub kept_once : (db : Database) (rows : Rows) (shown : OpenedRows) (content : SetupContent) (state : TerminalState) → HasRows rows db → Shows db shown → IsOffice shown content state → AreKeptOnce rows.interchanges
+kept_once db rows shown content state has shows office = once_if_rising db rows shown has shows (kept_rise 1 shown.partners content.partners shown.numbers office.accounts office.kept)

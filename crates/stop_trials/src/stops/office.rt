@@ -6,6 +6,7 @@ ghost use Rattle.std.specs.Prelude.{◌≡◌, ◌≤◌, false, IfOk, length, s
 use crate::stops::files::{Held, NO_STOP, empty, files_with, left_of};
 use crate::stops::worked_rows::Request;
 use edi_messages::{CodeTable, PartnerKind};
+use office_checks::Closed;
 use office_desk::Desk;
 use office_queries::{ReportKind, read_query};
 use office_replies::AddAccount;
@@ -114,7 +115,7 @@ fn answered<S: Alter + Drop>(
 ) -> Option<(usize, S)>
     requires idle { conn.in_transaction ≡ false }
 {
-    let mut desk = match Desk::open(alloc, conn) {
+    let mut desk = match Desk::open(alloc, conn, Closed::nothing(alloc)) {
         Ok(desk) => desk,
         Err(_) => return None,
     };
@@ -185,7 +186,7 @@ fn sent_all<S: Alter + Drop>(
 {
     let mut conn = conn;
     let first = rows(alloc, &mut conn).ok();
-    let mut desk = match Desk::open(alloc, conn) {
+    let mut desk = match Desk::open(alloc, conn, Closed::nothing(alloc)) {
         Ok(desk) => desk,
         Err(_) => return None,
     };

@@ -1,6 +1,7 @@
 //! An account that is added over the tables, and a desk that is opened behind it.
 
 use super::made;
+use office_checks::Closed;
 use office_desk::Desk;
 use office_queries::Query;
 use office_replies::{AccountAnswer, AddAccount, Deliver};
@@ -70,7 +71,7 @@ fn an_account_is_added_and_opened_again(rt: HostRuntime) -> Result<(), Fail> {
     let mut conn = made(&rt, rt.alloc())?;
     for (asked, sent) in ASKED.into_iter().zip(SENT) {
         assert!(&rt; conn.is_autocommit());
-        let mut desk = Desk::open(rt.alloc(), conn)?;
+        let mut desk = Desk::open(rt.alloc(), conn, Closed::nothing(rt.alloc()))?;
         assert_asked(&rt, rt.alloc(), &mut desk, asked);
         assert_sent(&rt, rt.alloc(), &mut desk, sent);
         conn = desk.into_connection();
@@ -83,7 +84,7 @@ fn an_account_is_added_and_opened_again(rt: HostRuntime) -> Result<(), Fail> {
 fn a_text_before_its_account_is_refused(rt: HostRuntime) -> Result<(), Fail> {
     let conn = made(&rt, rt.alloc())?;
     assert!(&rt; conn.is_autocommit());
-    let mut desk = Desk::open(rt.alloc(), conn)?;
+    let mut desk = Desk::open(rt.alloc(), conn, Closed::nothing(rt.alloc()))?;
     assert_sent(&rt, rt.alloc(), &mut desk, &[(FIRST, 400)]);
     assert_asked(&rt, rt.alloc(), &mut desk, &[(b"HAULC", b"gate", ADDED)]);
     assert_sent(&rt, rt.alloc(), &mut desk, &[(SECOND, 202), (FIRST, 200)]);
@@ -98,7 +99,7 @@ const PARTNERS: &str =
 fn what_waits_for_a_new_partner_is_told(rt: HostRuntime) -> Result<(), Fail> {
     let conn = made(&rt, rt.alloc())?;
     assert!(&rt; conn.is_autocommit());
-    let mut desk = Desk::open(rt.alloc(), conn)?;
+    let mut desk = Desk::open(rt.alloc(), conn, Closed::nothing(rt.alloc()))?;
     assert_asked(&rt, rt.alloc(), &mut desk, &[(b"HAULC", b"gate", ADDED)]);
     assert_sent(&rt, rt.alloc(), &mut desk, &[(SECOND, 202)]);
     let told = desk.find_report(rt.alloc(), &Query::Partners)?;
@@ -132,12 +133,12 @@ fn assert_each(rt: &impl Abort, alloc: Global, desk: &mut Desk<MemStore>, is_new
 fn many_accounts_are_added_one_by_one(rt: HostRuntime) -> Result<(), Fail> {
     let conn = made(&rt, rt.alloc())?;
     assert!(&rt; conn.is_autocommit());
-    let mut desk = Desk::open(rt.alloc(), conn)?;
+    let mut desk = Desk::open(rt.alloc(), conn, Closed::nothing(rt.alloc()))?;
     assert_each(&rt, rt.alloc(), &mut desk, true);
     assert_each(&rt, rt.alloc(), &mut desk, false);
     let conn = desk.into_connection();
     assert!(&rt; conn.is_autocommit());
-    let mut again = Desk::open(rt.alloc(), conn)?;
+    let mut again = Desk::open(rt.alloc(), conn, Closed::nothing(rt.alloc()))?;
     assert_each(&rt, rt.alloc(), &mut again, false);
     Ok(())
 }

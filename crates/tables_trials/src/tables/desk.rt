@@ -1,6 +1,7 @@
 //! The desk over the tables, opened three times.
 
 use super::made;
+use office_checks::Closed;
 use office_desk::Desk;
 use office_replies::Deliver;
 use sqlite::MemStore;
@@ -46,7 +47,7 @@ fn a_store_is_opened_again_where_it_was(rt: HostRuntime) -> Result<(), Fail> {
     let mut conn = made(&rt, rt.alloc())?;
     for expected in OPENINGS {
         assert!(&rt; conn.is_autocommit());
-        let mut desk = Desk::open(rt.alloc(), conn)?;
+        let mut desk = Desk::open(rt.alloc(), conn, Closed::nothing(rt.alloc()))?;
         assert_answers(&rt, rt.alloc(), &mut desk, expected);
         conn = desk.into_connection();
     }
@@ -58,7 +59,7 @@ fn a_store_is_opened_again_where_it_was(rt: HostRuntime) -> Result<(), Fail> {
 fn more_than_a_mebibyte_is_too_long(rt: HostRuntime) -> Result<(), Fail> {
     let conn = made(&rt, rt.alloc())?;
     assert!(&rt; conn.is_autocommit());
-    let mut desk = Desk::open(rt.alloc(), conn)?;
+    let mut desk = Desk::open(rt.alloc(), conn, Closed::nothing(rt.alloc()))?;
     let long = vec![in rt.alloc(); b'A'; 1_048_577]?;
     assert_answers(&rt, rt.alloc(), &mut desk, &[(long.as_slice(), 413)]);
     Ok(())

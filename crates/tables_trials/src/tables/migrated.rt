@@ -2,6 +2,7 @@
 //! `scripts/model/migrated.py`.
 
 use super::made;
+use office_checks::Closed;
 use office_desk::Desk;
 use office_loading::load_old;
 use office_migration::migrate;
@@ -113,7 +114,7 @@ fn migrated(rt: &impl Abort, alloc: Global, version: &str) -> Result<Desk<MemSto
     let (_, terminal) = load_old(alloc, &mut old)?;
     assert!(rt; terminal.visits().len() == 3);
     assert!(rt; new.is_autocommit());
-    Ok(Desk::open(alloc, new)?)
+    Ok(Desk::open(alloc, new, Closed::nothing(alloc))?)
 }
 
 /// The second is next, and then the third; the first gets the reply that was kept.

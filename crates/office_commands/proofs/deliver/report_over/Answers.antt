@@ -26,7 +26,7 @@ returns-clause-ok g c =
                 (λ asked tells. after_alike at.opening content at.opening_says es asked ends.found (tells.after at.opening es at.stands)) told;
             office = λ db held.
                 key_also (DeskTells over_files desk) (TellsOver db) kind key ends.found
-                (λ asked tells. told_over db desk asked ends.found (c.in_ok-desk.ensures.office was db held) tells) told;
+                (λ asked tells. told_over db desk asked ends.found (c.in_ok-desk.ensures.office was db held) c.in_ok-desk.ensures.closed tells) told;
           };
     })
     c.report_on-status.ensures.ok

@@ -1,6 +1,8 @@
-use Rattle.std.proofs.Common.{◌≡◌, ap, sym, subst}
+use Rattle.std.proofs.Common.{◌≡◌, ap, sym, subst, ◌∙◌}
 use Rattle.sqlite.specs.Effect.{Database}
 use Rattle.sqlite.specs.Files.{file_state}
+use Rattle.office_checks.specs.Closed.{closed_content}
+use Rattle.office_rows.proofs.StepLemmas.{if_ok}
 use Rattle.office_rows.specs.Stored.{HasRows}
 use Rattle.office_rows.specs.Tables.{office_schema}
 use Rattle.office_commands.proofs.OpenedLemmas.{if_both}
@@ -23,3 +25,6 @@ returns-clause-office g c =
     c.in_ok-conn.ensures.found (stays sound) db office_schema held.held held.lists in
     record { was = was; shows = shows; office = office sound (ap (λ (d : Database). d.schema) shows) })
     c.open.ensures.office c.open.ensures.stays
+
+pub returns-clause-closed : goal.returns-clause-closed
+returns-clause-closed g c = if_ok c.open.result (λ desk is. ap closed_content is ∙ c.nothing-closed.ensures) c.open.ensures.closed

@@ -7,6 +7,7 @@ use Rattle.office_tables.proofs.FaultLemmas.{of_store_or}
 use Rattle.office_tables.proofs.ReadingLemmas.{clean_first, reads_on, reads_stopped}
 use Rattle.office_delivery.specs.Reading.{IsSame}
 use Rattle.office_delivery.proofs.ReadLemmas.{one_read, only_on, only_stopped, then_read}
+use Rattle.office_checks.specs.Closed.{closed_content}
 use Rattle.office_desk.specs.Finding.{StaysBeside}
 use Rattle.office_desk.specs.Offices.{HoldsOffice}
 use Rattle.office_desk.proofs.Faults.{next_known}
@@ -21,9 +22,10 @@ pub returns-then-number-next-clause-found : goal.returns-then-number-next-clause
 returns-then-number-next-clause-found g c clean =
     let was = state g.S.Store c.args.conn.now in
     let there = c.in_ok-there.there in
+    let closed = closed_content c.args.closed.now in
     record {
-      kept = next_beside c.args.partner c.args.number was.now there c.requires (sym c.next_of.ensures ∙ c.in-Some.is ∙ ap Some (sym c.if-number-next.true));
-      beside = subst (λ b. StaysBeside was.now b (Some there)) c.take.ensures.value (c.in_ok-there.ensures.beside clean);
+      kept = next_beside closed c.args.partner c.args.number was.now there c.requires (sym c.next_of.ensures ∙ c.in-Some.is ∙ ap Some (sym c.if-number-next.true));
+      beside = subst (λ b. StaysBeside closed was.now b (Some there)) c.take.ensures.value (c.in_ok-there.ensures.beside clean);
     }
 
 pub returns-then-number-next-clause-reads : goal.returns-then-number-next-clause-reads
@@ -33,9 +35,10 @@ pub returns-in-Ok-clause-found : goal.returns-in-Ok-clause-found
 returns-in-Ok-clause-found g c clean =
     let was = state g.S.Store c.args.conn.now in
     let before = clean_first c.kept.ensures.reads clean in
+    let closed = closed_content c.args.closed.now in
     record {
-      kept = read_beside c.args.partner c.args.number was.now c.in_ok-there.there c.in-Ok.kept (λ rows has. c.in-Ok.ensures.answer clean rows (subst (HasRows rows) (sym (c.in_ok-there.ensures.reads.same before).now) has));
-      beside = subst (λ b. StaysBeside was.now b (Some c.in_ok-there.there)) c.take.ensures.value (c.in_ok-there.ensures.beside before);
+      kept = read_beside closed c.args.partner c.args.number was.now c.in_ok-there.there c.in-Ok.kept (λ rows has. c.in-Ok.ensures.answer clean rows (subst (HasRows rows) (sym (c.in_ok-there.ensures.reads.same before).now) has));
+      beside = subst (λ b. StaysBeside closed was.now b (Some c.in_ok-there.there)) c.take.ensures.value (c.in_ok-there.ensures.beside before);
     }
 
 pub returns-in-Ok-clause-reads : goal.returns-in-Ok-clause-reads
@@ -55,21 +58,23 @@ returns-in_default-clause-reads g c = only_stopped (Err Damaged) refl c.in_ok-th
 pub returns-in_err-there-clause-not_found : goal.returns-in_err-there-clause-not_found
 returns-in_err-there-clause-not_found g c clean =
     let was = state g.S.Store c.args.conn.now in
+    let closed = closed_content c.args.closed.now in
     let p = err_from_is_err_and c.from_residual.result c.from_residual.ensures.1 in
     rw (p.1, p.2) (record {
-      beside = subst (λ b. StaysBeside was.now c.args.beside.now b) (sym c.take.ensures.after) (none_beside was.now c.args.beside.now);
-      why = λ content rows terminal holds known. of_store_or _ _ (c.in_err-there.ensures.fault clean content rows terminal (subst (λ b. HoldsOffice content rows terminal was.now b) (sym c.take.ensures.value) holds));
+      beside = subst (λ b. StaysBeside closed was.now c.args.beside.now b) (sym c.take.ensures.after) (none_beside closed was.now c.args.beside.now);
+      why = λ content rows terminal holds known. of_store_or _ _ (c.in_err-there.ensures.fault clean content rows terminal (subst (λ b. HoldsOffice closed content rows terminal was.now b) (sym c.take.ensures.value) holds));
     })
 
 pub returns-in_default-clause-not_found : goal.returns-in_default-clause-not_found
 returns-in_default-clause-not_found g c clean =
     let was = state g.S.Store c.args.conn.now in
+    let closed = closed_content c.args.closed.now in
     record {
-      beside = subst (λ b. StaysBeside was.now c.args.beside.now b) (sym c.take.ensures.after) (none_beside was.now c.args.beside.now);
+      beside = subst (λ b. StaysBeside closed was.now c.args.beside.now b) (sym c.take.ensures.after) (none_beside closed was.now c.args.beside.now);
       why = λ content rows terminal holds known.
-          let there = (c.in_ok-there.ensures.beside clean).office content rows terminal (subst (λ b. HoldsOffice content rows terminal was.now b) (sym c.take.ensures.value) holds) in
-          let its = (keeps_accounts content rows terminal was.now holds.has holds.loads).0 in
-          absurd (next_known content rows its c.in_ok-there.there.nexts.items there.nexts c.args.partner c.requires known (sym c.next_of.ensures ∙ c.in_default.is));
+          let there = (c.in_ok-there.ensures.beside clean).office content rows terminal (subst (λ b. HoldsOffice closed content rows terminal was.now b) (sym c.take.ensures.value) holds) in
+          let its = (keeps_accounts closed content rows terminal was.now holds.has holds.loads).0 in
+          absurd (next_known closed content rows its c.in_ok-there.there.nexts.items there.nexts c.args.partner c.requires known (sym c.next_of.ensures ∙ c.in_default.is));
     }
 
 pub returns-in-Err-clause-not_found : goal.returns-in-Err-clause-not_found
@@ -77,8 +82,9 @@ returns-in-Err-clause-not_found g c clean =
     let was = state g.S.Store c.args.conn.now in
     let mid = state g.S.Store c.beside_of.new.conn in
     let before = clean_first c.kept.ensures.reads clean in
+    let closed = closed_content c.args.closed.now in
     record {
-      beside = subst (λ b. StaysBeside was.now b (Some c.in_ok-there.there)) c.take.ensures.value (c.in_ok-there.ensures.beside before);
+      beside = subst (λ b. StaysBeside closed was.now b (Some c.in_ok-there.there)) c.take.ensures.value (c.in_ok-there.ensures.beside before);
       why = λ content rows terminal holds known.
           let same : IsSame was mid = c.in_ok-there.ensures.reads.same before in
           c.in-Err.ensures.fault clean rows (subst (HasRows rows) (sym same.now) holds.has);

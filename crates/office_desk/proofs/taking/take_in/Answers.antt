@@ -6,10 +6,13 @@ use Rattle.office_rows.specs.Stored.{HasRows}
 use Rattle.office_setup.specs.Setups.{setup_content}
 use Rattle.office_tables.specs.Answers.{HasUnfitReply, IsKept}
 use Rattle.office_tables.specs.Faults.{IsOfStoreOr}
+use Rattle.office_tables.proofs.FaultLemmas.{of_store_weaker}
 use Rattle.office_delivery.specs.Reading.{IsSame}
 use Rattle.office_delivery.proofs.ReadLemmas.{text_kept, was_clean, was_open}
+use Rattle.office_checks.specs.Closed.{closed_content}
 use Rattle.office_desk.specs.Beside.{IsAt}
 use Rattle.office_desk.specs.Finding.{IsOpenIfKept, KeepsBeside}
+use Rattle.office_desk.specs.Kept.{LacksAnswer}
 use Rattle.office_desk.specs.Order.{IsInOrder, stored}
 use Rattle.office_desk.specs.Taking.{IsNew}
 use Rattle.office_desk.specs.Telling.{delivery_of}
@@ -17,6 +20,7 @@ use Rattle.office_desk.proofs.CrashLemmas.{leaves_less, used_leaves}
 use Rattle.office_desk.proofs.DeliverLemmas.{is_now}
 use Rattle.office_desk.proofs.HoldLemmas.{held_with, next_is, used_answers}
 use Rattle.office_desk.proofs.KeptLemmas.{failed_stays, next_found, used_by_kept}
+use Rattle.office_desk.proofs.LeavingLemmas.{failed_over, used_into}
 use Rattle.office_desk.proofs.OfficeLemmas.{office_with}
 use Rattle.office_desk.proofs.OrderLemmas.{failed_in_order, failed_leaves_in_order, used_in_order}
 use Rattle.office_desk.proofs.TakingLemmas.{failed_holds, failed_leaves}
@@ -36,6 +40,7 @@ returns-in_ok-answer_used-in-Some-clause-takes g c =
     let d = a.delivery.now in
     let partner = d.admitted.partner in
     let content = setup_content a.setup.now in
+    let closed = closed_content a.closed.now in
     let old = state g.S.Store a.conn.now in
     let mid = state g.S.Store c.look.new.conn in
     let found = c.in_ok-kept.field-0 in
@@ -62,15 +67,25 @@ returns-in_ok-answer_used-in-Some-clause-takes g c =
           (text_kept partner d.number holds.rows c.in-Some.kept holds.after.kept_once kept) (leaves_less old mid clean c.look.ensures.reads.reads.survives) leaves;
       office = λ clean is_open office holds.
           let settled : old.now ≡ old.committed = c.is_autocommit-is_idle.ensures.settled idle ((c.look.ensures.reads.reads.keeps clean).was_open is_open) in
-          let held = office_with content office.rows office.terminal old.committed old.now a.beside.now a.beside.now settled holds.beside holds in
+          let held = office_with closed content office.rows office.terminal old.committed old.now a.beside.now a.beside.now settled holds.beside holds in
           let same : IsSame old mid = c.in_ok-kept.ensures.reads.same clean in
           let is_found = c.in_ok-kept.ensures.found clean in
           let is_of = is_found.beside.office content office.rows office.terminal held in
-          let theirs = office_with content office.rows office.terminal old.now old.now a.beside.now (Some found.there) refl is_of held in
+          let theirs = office_with closed content office.rows office.terminal old.now old.now a.beside.now (Some found.there) refl is_of held in
           let kept : IsKept partner d.number office.rows (Some c.in-Some.kept) = subst (IsKept partner d.number office.rows) kept_is (is_found.kept.office content office.rows office.terminal theirs) in
-          used_by_kept content office old.now a.beside.now held (delivery_of d) d.code.now c.in-Some.kept response mid.committed found.there found.next
-          (same.committed ∙ sym settled) is_of (next_found content office old.now a.beside.now held partner found.next found.there c.requires.delivered.admitted.from_one is_of c.in_ok-kept.ensures.next)
+          used_by_kept closed content office old.now a.beside.now held (delivery_of d) d.code.now c.in-Some.kept response mid.committed found.there found.next
+          (same.committed ∙ sym settled) is_of (next_found closed content office old.now a.beside.now held partner found.next found.there c.requires.delivered.admitted.from_one is_of c.in_ok-kept.ensures.next)
           kept c.in_ok-answer_used-in-Some.ensures;
+      office_crash = λ clean was_open office holds leaves db left.
+          let settled : old.now ≡ old.committed = c.is_autocommit-is_idle.ensures.settled idle was_open in
+          let held = office_with closed content office.rows office.terminal old.committed old.now a.beside.now a.beside.now settled holds.beside holds in
+          let is_found = c.in_ok-kept.ensures.found clean in
+          let is_of = is_found.beside.office content office.rows office.terminal held in
+          let theirs = office_with closed content office.rows office.terminal old.now old.now a.beside.now (Some found.there) refl is_of held in
+          let kept : IsKept partner d.number office.rows (Some c.in-Some.kept) = subst (IsKept partner d.number office.rows) kept_is (is_found.kept.office content office.rows office.terminal theirs) in
+          used_into closed content office old.now a.beside.now held (delivery_of d) c.in-Some.kept found.next
+          (next_found closed content office old.now a.beside.now held partner found.next found.there c.requires.delivered.admitted.from_one is_of c.in_ok-kept.ensures.next) kept db
+          (leaves db (leaves_less old mid clean c.look.ensures.reads.reads.survives db left));
     }
 
 -- ---- one that is new
@@ -91,16 +106,17 @@ returns-in-None-clause-takes g c =
     let d = a.delivery.now in
     let partner = d.admitted.partner in
     let content = setup_content a.setup.now in
+    let closed = closed_content a.closed.now in
     let old = state g.S.Store a.conn.now in
     let mid = state g.S.Store c.look.new.conn in
     let ends = c.take_new.ensures.ends in
     let found = c.in_ok-kept.field-0 in
     let kept_is : found.kept ≡ None = let e = c.in_ok-kept.kept-is in let is = c.in-None.is in cc in
     let idle = c.is_autocommit-is_idle.ensures.value ∙ ap not c.requires.idle in
-    let is_new : HasCleanDisk mid → old.now ≡ old.committed → IsSame old mid → IsNew (delivery_of d) found.there mid = λ clean settled same. record {
+    let is_new : HasCleanDisk mid → old.now ≡ old.committed → IsSame old mid → IsNew (closed_content a.closed.now) (delivery_of d) found.there mid = λ clean settled same. record {
       settled = same.now ∙ settled ∙ sym same.committed;
-      free = subst (λ db. KeepsBeside partner d.number db found.there None) (settled ∙ sym same.committed)
-          (subst (KeepsBeside partner d.number old.now found.there) kept_is (c.in_ok-kept.ensures.found clean).kept);
+      free = subst (λ db. KeepsBeside (closed_content a.closed.now) partner d.number db found.there None) (settled ∙ sym same.committed)
+          (subst (KeepsBeside (closed_content a.closed.now) partner d.number old.now found.there) kept_is (c.in_ok-kept.ensures.found clean).kept);
     } in
     record {
       events = λ clean is_open opening es holds.
@@ -109,7 +125,7 @@ returns-in-None-clause-takes g c =
           let has : HasRows holds.rows old.now = subst (HasRows holds.rows) (sym settled) holds.has in
           let same : IsSame old mid = c.in_ok-kept.ensures.reads.same before in
           let at : IsAt opening es found.there = (c.in_ok-kept.ensures.found before).beside.events opening es holds.rows holds.given has holds.after holds.beside in
-          (c.take_new.ensures.takes (is_new before settled same)).events clean is_open opening es
+          (c.take_new.ensures.takes (closed_content a.closed.now) (is_new before settled same)).events clean is_open opening es
           (held_with holds mid.committed (Some found.there) (subst (HasRows holds.rows) (sym same.committed) holds.has) at);
       crash = λ clean was_open opening es sent holds leaves comes.
           let before = ends.clean clean in
@@ -117,17 +133,26 @@ returns-in-None-clause-takes g c =
           let has : HasRows holds.rows old.now = subst (HasRows holds.rows) (sym settled) holds.has in
           let same : IsSame old mid = c.in_ok-kept.ensures.reads.same before in
           let at : IsAt opening es found.there = (c.in_ok-kept.ensures.found before).beside.events opening es holds.rows holds.given has holds.after holds.beside in
-          (c.take_new.ensures.takes (is_new before settled same)).crash clean (c.in_ok-kept.ensures.reads.reads.unchanged before was_open).0.is_open opening es sent
+          (c.take_new.ensures.takes (closed_content a.closed.now) (is_new before settled same)).crash clean (c.in_ok-kept.ensures.reads.reads.unchanged before was_open).0.is_open opening es sent
           (held_with holds mid.committed (Some found.there) (subst (HasRows holds.rows) (sym same.committed) holds.has) at)
           (λ db left. leaves db (leaves_less old mid before c.look.ensures.reads.reads.survives db left)) comes;
       office = λ clean is_open office holds.
           let before = ends.clean clean in
           let settled : old.now ≡ old.committed = c.is_autocommit-is_idle.ensures.settled idle ((c.look.ensures.reads.reads.keeps before).was_open (ends.was_open clean is_open)) in
-          let held = office_with content office.rows office.terminal old.committed old.now a.beside.now a.beside.now settled holds.beside holds in
+          let held = office_with closed content office.rows office.terminal old.committed old.now a.beside.now a.beside.now settled holds.beside holds in
           let same : IsSame old mid = c.in_ok-kept.ensures.reads.same before in
           let is_of = (c.in_ok-kept.ensures.found before).beside.office content office.rows office.terminal held in
-          (c.take_new.ensures.takes (is_new before settled same)).office clean is_open office
-          (office_with content office.rows office.terminal old.now mid.committed a.beside.now (Some found.there) (same.committed ∙ sym settled) is_of held);
+          (c.take_new.ensures.takes (closed_content a.closed.now) (is_new before settled same)).office clean is_open office
+          (office_with closed content office.rows office.terminal old.now mid.committed a.beside.now (Some found.there) (same.committed ∙ sym settled) is_of held);
+      office_crash = λ clean was_open office holds leaves.
+          let before = ends.clean clean in
+          let settled : old.now ≡ old.committed = c.is_autocommit-is_idle.ensures.settled idle was_open in
+          let held = office_with closed content office.rows office.terminal old.committed old.now a.beside.now a.beside.now settled holds.beside holds in
+          let same : IsSame old mid = c.in_ok-kept.ensures.reads.same before in
+          let is_of = (c.in_ok-kept.ensures.found before).beside.office content office.rows office.terminal held in
+          (c.take_new.ensures.takes closed (is_new before settled same)).office_crash clean (c.in_ok-kept.ensures.reads.reads.unchanged before was_open).0.is_open office
+          (office_with closed content office.rows office.terminal old.now mid.committed a.beside.now (Some found.there) (same.committed ∙ sym settled) is_of held)
+          (λ db left. leaves db (leaves_less old mid before c.look.ensures.reads.reads.survives db left));
     }
 
 -- ---- the look failed
@@ -137,6 +162,7 @@ returns-in_err-kept-clause-takes g c =
     let a = c.args in
     let d = a.delivery.now in
     let content = setup_content a.setup.now in
+    let closed = closed_content a.closed.now in
     let old = state g.S.Store a.conn.now in
     let mid = state g.S.Store c.look.new.conn in
     let idle = c.is_autocommit-is_idle.ensures.value ∙ ap not c.requires.idle in
@@ -153,14 +179,16 @@ returns-in_err-kept-clause-takes g c =
           inl (leaves db (leaves_less old mid clean c.look.ensures.reads.reads.survives db left)));
       office = λ clean is_open office holds.
           let settled : old.now ≡ old.committed = c.is_autocommit-is_idle.ensures.settled idle ((c.look.ensures.reads.reads.keeps clean).was_open is_open) in
-          let held = office_with content office.rows office.terminal old.committed old.now a.beside.now a.beside.now settled holds.beside holds in
+          let held = office_with closed content office.rows office.terminal old.committed old.now a.beside.now a.beside.now settled holds.beside holds in
           let most = c.requires.delivered.admitted.known in
           let many : length content.partners ≡ length a.setup.now.partners.items = length-map a.setup.now.partners.items _ in
           let not_found = c.in_err-kept.ensures.not_found clean in
-          failed_stays _ content office (delivery_of d) d.code.now c.from_residual.result _ _ c.from_residual.ensures.1
-          (λ fault is. subst (IsOfStoreOr (HasUnfitReply d.admitted.partner d.number office.rows)) (sym is) (not_found.why content office.rows office.terminal held (omega (arith, most, many))))
-          (office_with content office.rows office.terminal old.committed mid.committed a.beside.now c.look.new.beside ((c.look.ensures.reads.reads.keeps clean).committed is_open)
+          failed_stays _ closed content office (delivery_of d) d.code.now c.from_residual.result _ _ c.from_residual.ensures.1
+          (λ fault is. of_store_weaker _ _ (λ unfit. inl unfit) fault (subst (IsOfStoreOr (HasUnfitReply d.admitted.partner d.number office.rows)) (sym is) (not_found.why content office.rows office.terminal held (omega (arith, most, many)))))
+          (office_with closed content office.rows office.terminal old.committed mid.committed a.beside.now c.look.new.beside ((c.look.ensures.reads.reads.keeps clean).committed is_open)
           (not_found.beside.office content office.rows office.terminal held) holds);
+      office_crash = λ clean was_open office holds leaves. failed_over _ content (delivery_of d) office c.from_residual.result mid c.from_residual.ensures.1 (λ db left.
+          inl (leaves db (leaves_less old mid clean c.look.ensures.reads.reads.survives db left)));
     }
 
 -- ---- memory was refused for the answer
@@ -170,6 +198,7 @@ returns-in_err-answer_used-in-Some-clause-takes g c =
     let a = c.args in
     let d = a.delivery.now in
     let content = setup_content a.setup.now in
+    let closed = closed_content a.closed.now in
     let old = state g.S.Store a.conn.now in
     let mid = state g.S.Store c.look.new.conn in
     let found = c.in_ok-kept.field-0 in
@@ -190,12 +219,14 @@ returns-in_err-answer_used-in-Some-clause-takes g c =
           inl (leaves db (leaves_less old mid clean c.look.ensures.reads.reads.survives db left)));
       office = λ clean is_open office holds.
           let settled : old.now ≡ old.committed = c.is_autocommit-is_idle.ensures.settled idle ((c.look.ensures.reads.reads.keeps clean).was_open is_open) in
-          let held = office_with content office.rows office.terminal old.committed old.now a.beside.now a.beside.now settled holds.beside holds in
+          let held = office_with closed content office.rows office.terminal old.committed old.now a.beside.now a.beside.now settled holds.beside holds in
           let same : IsSame old mid = c.in_ok-kept.ensures.reads.same clean in
-          failed_stays _ content office (delivery_of d) d.code.now result _ _ failed
-          (λ fault is. subst (IsOfStoreOr (HasUnfitReply d.admitted.partner d.number office.rows)) (sym is) tt)
-          (office_with content office.rows office.terminal old.committed mid.committed a.beside.now (Some found.there) same.committed
+          failed_stays _ closed content office (delivery_of d) d.code.now result _ _ failed
+          (λ fault is. subst (IsOfStoreOr (LacksAnswer closed d.admitted.partner d.number office.rows)) (sym is) tt)
+          (office_with closed content office.rows office.terminal old.committed mid.committed a.beside.now (Some found.there) same.committed
           ((c.in_ok-kept.ensures.found clean).beside.office content office.rows office.terminal held) holds);
+      office_crash = λ clean was_open office holds leaves. failed_over _ content (delivery_of d) office result mid failed (λ db left.
+          inl (leaves db (leaves_less old mid clean c.look.ensures.reads.reads.survives db left)));
     }
 
 -- ---- over an open connection
@@ -250,10 +281,10 @@ returns-in-None-clause-in_order g c =
     let found = c.in_ok-kept.field-0 in
     let kept_is : found.kept ≡ None = let e = c.in_ok-kept.kept-is in let is = c.in-None.is in cc in
     let idle = c.is_autocommit-is_idle.ensures.value ∙ ap not c.requires.idle in
-    let is_new : HasCleanDisk mid → old.now ≡ old.committed → IsSame old mid → IsNew (delivery_of d) found.there mid = λ clean settled same. record {
+    let is_new : HasCleanDisk mid → old.now ≡ old.committed → IsSame old mid → IsNew (closed_content a.closed.now) (delivery_of d) found.there mid = λ clean settled same. record {
       settled = same.now ∙ settled ∙ sym same.committed;
-      free = subst (λ db. KeepsBeside partner d.number db found.there None) (settled ∙ sym same.committed)
-          (subst (KeepsBeside partner d.number old.now found.there) kept_is (c.in_ok-kept.ensures.found clean).kept);
+      free = subst (λ db. KeepsBeside (closed_content a.closed.now) partner d.number db found.there None) (settled ∙ sym same.committed)
+          (subst (KeepsBeside (closed_content a.closed.now) partner d.number old.now found.there) kept_is (c.in_ok-kept.ensures.found clean).kept);
     } in
     record {
       rows = λ clean is_open opening es sent holds order comes.
@@ -262,7 +293,7 @@ returns-in-None-clause-in_order g c =
           let has : HasRows holds.rows old.now = subst (HasRows holds.rows) (sym settled) holds.has in
           let same : IsSame old mid = c.in_ok-kept.ensures.reads.same before in
           let at : IsAt opening es found.there = (c.in_ok-kept.ensures.found before).beside.events opening es holds.rows holds.given has holds.after holds.beside in
-          (c.take_new.ensures.in_order (is_new before settled same)).rows clean is_open opening es sent
+          (c.take_new.ensures.in_order (closed_content a.closed.now) (is_new before settled same)).rows clean is_open opening es sent
           (held_with holds mid.committed (Some found.there) (subst (HasRows holds.rows) (sym same.committed) holds.has) at)
           (subst (IsInOrder opening es) (sym same.committed) order) comes;
       crash = λ clean was_open opening es sent holds order leaves comes.
@@ -271,7 +302,7 @@ returns-in-None-clause-in_order g c =
           let has : HasRows holds.rows old.now = subst (HasRows holds.rows) (sym settled) holds.has in
           let same : IsSame old mid = c.in_ok-kept.ensures.reads.same before in
           let at : IsAt opening es found.there = (c.in_ok-kept.ensures.found before).beside.events opening es holds.rows holds.given has holds.after holds.beside in
-          (c.take_new.ensures.in_order (is_new before settled same)).crash clean (c.in_ok-kept.ensures.reads.reads.unchanged before was_open).0.is_open opening es sent
+          (c.take_new.ensures.in_order (closed_content a.closed.now) (is_new before settled same)).crash clean (c.in_ok-kept.ensures.reads.reads.unchanged before was_open).0.is_open opening es sent
           (held_with holds mid.committed (Some found.there) (subst (HasRows holds.rows) (sym same.committed) holds.has) at)
           (subst (IsInOrder opening es) (sym same.committed) order)
           (λ db left. leaves db (leaves_less old mid before c.look.ensures.reads.reads.survives db left)) comes;

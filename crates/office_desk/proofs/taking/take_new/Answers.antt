@@ -1,4 +1,5 @@
-use Rattle.std.proofs.Common.{◌≡◌, ◌∷◌, ◌++◌, [], Some, inl, length, refl, sym, ap, subst, ◌∙◌, arith}
+use Rattle.std.proofs.Common.{◌≡◌, ◌∷◌, ◌++◌, [], Some, inl, inr, length, refl, sym, ap, subst, ◌∙◌, arith}
+use Rattle.std.proofs.lemmas.Bool.{cases_order}
 use Rattle.std.proofs.lemmas.List.{length-map}
 use Rattle.sqlite.specs.Held.{state}
 use Rattle.partner_core.specs.Answers.{Waiting}
@@ -18,7 +19,8 @@ use Rattle.office_desk.proofs.CrashLemmas.{committed_leaves, either_of, run_afte
 use Rattle.office_desk.proofs.DeliverLemmas.{is_now}
 use Rattle.office_desk.proofs.Faults.{behind_fits, low_is_kept}
 use Rattle.office_desk.proofs.HoldLemmas.{held_with, machine_same, next_answers, next_is, numbered}
-use Rattle.office_desk.proofs.KeptLemmas.{early_or_stays, failed_stays, next_answers_so, next_found}
+use Rattle.office_desk.proofs.KeptLemmas.{early_or_stays, failed_stays, next_answers_so, next_found, numbered_in}
+use Rattle.office_desk.proofs.LeavingLemmas.{early_leaves_over, failed_over, run_into, taken_leaves_over}
 use Rattle.office_desk.proofs.NextLemmas.{free_after, free_over}
 use Rattle.office_desk.proofs.NumberLemmas.{number_within}
 use Rattle.office_desk.proofs.OfficeAccounts.{keeps_accounts, next_follows}
@@ -33,7 +35,7 @@ take_next-requires-clause-known g c = number_within c.args.there.nexts.items c.a
 -- ---- a number below the next that is not used: no office has it
 
 pub returns-then-delivery-next-clause-takes : goal.returns-then-delivery-next-clause-takes
-returns-then-delivery-next-clause-takes g c new =
+returns-then-delivery-next-clause-takes g c closed new =
     let a = c.args in
     let d = a.delivery.now in
     let was = state g.S.Store a.conn.now in
@@ -43,13 +45,20 @@ returns-then-delivery-next-clause-takes g c new =
       events = λ clean is_open opening es holds. held_with holds was.committed a.beside.now holds.has (subst (IsBeside opening es) (sym c.requires.out) tt);
       crash = λ clean was_open opening es sent holds leaves comes db left. inl (leaves db left);
       office = λ clean is_open old holds.
-          let its = (keeps_accounts content old.rows old.terminal was.committed holds.has holds.loads).0 in
-          let is_next = next_found content old was.committed (Some a.there) holds partner a.next a.there c.requires.delivered.admitted.from_one holds.beside c.requires.next in
-          let follows = next_follows content old.rows its partner a.next is_next in
+          let its = (keeps_accounts closed content old.rows old.terminal was.committed holds.has holds.loads).0 in
+          let is_next = next_found closed content old was.committed (Some a.there) holds partner a.next a.there c.requires.delivered.admitted.from_one holds.beside c.requires.next in
+          let follows = next_follows closed content old.rows its partner a.next is_next in
           let low = c.if-delivery-next.true in (
-            absurd (low_is_kept content old.rows its partner d.number c.requires.delivered.from_one (omega (arith, low, follows)) (free_over old.rows new holds)),
-            office_with content old.rows old.terminal was.committed was.committed (Some a.there) a.beside.now refl (subst (IsOrNone old.rows old.terminal) (sym c.requires.out) tt) holds,
+            elim (cases_order (closed.last_closed partner) d.number) [
+              | inl same ↦ inr (omega (arith, same), free_over old.rows new holds)
+              | inr o ↦ elim o [
+                | inl far ↦ absurd (low_is_kept closed content old.rows its partner d.number far (omega (arith, low, follows)) (free_over old.rows new holds))
+                | inr near ↦ inr (omega (arith, near), free_over old.rows new holds)
+              ]
+            ],
+            office_with closed content old.rows old.terminal was.committed was.committed (Some a.there) a.beside.now refl (subst (IsOrNone old.rows old.terminal) (sym c.requires.out) tt) holds,
           );
+      office_crash = λ clean was_open old holds leaves db left. inl (leaves db left);
     }
 
 -- ---- one that is early
@@ -58,7 +67,7 @@ pub returns-then-next-delivery-clause-now : goal.returns-then-next-delivery-clau
 returns-then-next-delivery-clause-now g c = if_ok c.keep_early.result (λ response told. is_now response c.args.delivery.now.code.now c.args.delivery.now.number (Waiting c.args.next) told) c.keep_early.ensures.told
 
 pub returns-then-next-delivery-clause-takes : goal.returns-then-next-delivery-clause-takes
-returns-then-next-delivery-clause-takes g c new =
+returns-then-next-delivery-clause-takes g c closed new =
     let a = c.args in
     let d = a.delivery.now in
     let content = setup_content a.setup.now in
@@ -79,15 +88,18 @@ returns-then-next-delivery-clause-takes g c new =
           let most = c.requires.delivered.admitted.known in
           let many : length content.partners ≡ length a.setup.now.partners.items = length-map a.setup.now.partners.items _ in
           let one = c.requires.delivered.admitted.from_one in
-          let is_next = next_found content old was.committed (Some a.there) holds partner a.next a.there one holds.beside c.requires.next in
-          early_or_stays content old (delivery_of d) d.code.now c.keep_early.result was end a.there a.next holds is_next (free_over old.rows new holds) later c.requires.delivered.number one (omega (arith, most, many))
+          let is_next = next_found closed content old was.committed (Some a.there) holds partner a.next a.there one holds.beside c.requires.next in
+          early_or_stays closed content old (delivery_of d) d.code.now c.keep_early.result was end a.there a.next holds is_next (free_over old.rows new holds) later c.requires.delivered.number one (omega (arith, most, many))
           told (writes.ok clean) (writes.err clean is_open) writes.fault;
+      office_crash = λ clean was_open old holds leaves.
+          let is_next = next_found closed content old was.committed (Some a.there) holds partner a.next a.there c.requires.delivered.admitted.from_one holds.beside c.requires.next in
+          early_leaves_over content (delivery_of d) old a.next is_next (free_over old.rows new holds) later c.keep_early.result was end holds.has leaves (writes.ok clean) (writes.crash.crash clean);
     }
 
 -- ---- the next one
 
 pub returns-clause-takes : goal.returns-clause-takes
-returns-clause-takes g c new =
+returns-clause-takes g c closed new =
     let a = c.args in
     let d = a.delivery.now in
     let content = setup_content a.setup.now in
@@ -110,16 +122,20 @@ returns-clause-takes g c new =
       office = λ clean is_open old holds.
           let most = c.requires.delivered.admitted.known in
           let many : length content.partners ≡ length a.setup.now.partners.items = length-map a.setup.now.partners.items _ in
-          let is_next = next_found content old was.committed (Some a.there) holds partner a.next a.there one holds.beside c.requires.next in
-          next_answers_so a.setup.now old (delivery_of d) d.code.now c.in_ok-answer.answer was.committed a.there c.in_ok-answer.now end a.next holds is_next (free_over old.rows new holds) same
+          let is_next = next_found closed content old was.committed (Some a.there) holds partner a.next a.there one holds.beside c.requires.next in
+          next_answers_so closed a.setup.now old (delivery_of d) d.code.now c.in_ok-answer.answer was.committed a.there c.in_ok-answer.now end a.next holds is_next (free_over old.rows new holds) same
           one (omega (arith, most, many)) c.requires.delivered.number
           (λ rows has numbers. (runs clean).ok rows (record { settled = new.settled; has = subst (HasRows rows) (sym new.settled) has; numbered = numbers }));
+      office_crash = λ clean was_open old holds leaves.
+          let is_next = next_found closed content old was.committed (Some a.there) holds partner a.next a.there one holds.beside c.requires.next in
+          let there : HasNumbered old.rows partner was = record { settled = new.settled; has = subst (HasRows old.rows) (sym new.settled) holds.has; numbered = numbered_in closed content old was.committed (Some a.there) partner old.rows holds refl } in
+          taken_leaves_over a.setup.now (delivery_of d) d.code.now old a.next a.there c.in_ok-answer.now c.in_ok-answer.answer end is_next (free_over old.rows new holds) same holds.beside.terminal_is ((runs clean).ok old.rows there);
     }
 
 -- ---- and it failed
 
 pub returns-in_err-answer-clause-takes : goal.returns-in_err-answer-clause-takes
-returns-in_err-answer-clause-takes g c new =
+returns-in_err-answer-clause-takes g c closed new =
     let a = c.args in
     let d = a.delivery.now in
     let content = setup_content a.setup.now in
@@ -141,13 +157,19 @@ returns-in_err-answer-clause-takes g c new =
           (subst (λ m. IsRunDone rows (delivery_of d) m db) (machine_same a.setup.now a.there.terminal ∙ ap (λ k. machine_with k a.there.terminal) (sym holds.now_is)) done))
           ((runs clean).crash rows (record { settled = new.settled; has = subst (HasRows rows) (sym new.settled) holds.has; numbered = numbered opening es rows partner holds.after }) db left));
       office = λ clean is_open old holds.
-          let its = (keeps_accounts content old.rows old.terminal was.committed holds.has holds.loads).0 in
-          let is_next = next_found content old was.committed (Some a.there) holds partner a.next a.there one holds.beside c.requires.next in
-          let follows = next_follows content old.rows its partner a.next is_next in
-          let stored = of_store_alone _ (behind_fits content old.rows its partner d.number (omega (arith, same, follows))) _ ((runs clean).fault old.rows (subst (HasRows old.rows) (sym new.settled) holds.has)) in
-          failed_stays _ content old (delivery_of d) d.code.now c.from_residual.result _ _ c.from_residual.ensures.1
+          let its = (keeps_accounts closed content old.rows old.terminal was.committed holds.has holds.loads).0 in
+          let is_next = next_found closed content old was.committed (Some a.there) holds partner a.next a.there one holds.beside c.requires.next in
+          let follows = next_follows closed content old.rows its partner a.next is_next in
+          let stored = of_store_alone _ (behind_fits closed content old.rows its partner d.number (omega (arith, same, follows))) _ ((runs clean).fault old.rows (subst (HasRows old.rows) (sym new.settled) holds.has)) in
+          failed_stays _ closed content old (delivery_of d) d.code.now c.from_residual.result _ _ c.from_residual.ensures.1
           (λ fault is. of_store_or _ fault (subst IsOfStore (sym is) stored))
-          (office_with content old.rows old.terminal was.committed end.committed (Some a.there) a.beside.now ((runs clean).err is_open) (subst (IsOrNone old.rows old.terminal) (sym c.requires.out) tt) holds);
+          (office_with closed content old.rows old.terminal was.committed end.committed (Some a.there) a.beside.now ((runs clean).err is_open) (subst (IsOrNone old.rows old.terminal) (sym c.requires.out) tt) holds);
+      office_crash = λ clean was_open old holds leaves.
+          let is_next = next_found closed content old was.committed (Some a.there) holds partner a.next a.there one holds.beside c.requires.next in
+          let there : HasNumbered old.rows partner was = record { settled = new.settled; has = subst (HasRows old.rows) (sym new.settled) holds.has; numbered = numbered_in closed content old was.committed (Some a.there) partner old.rows holds refl } in
+          failed_over _ content (delivery_of d) old c.from_residual.result end c.from_residual.ensures.1 (λ db left.
+          either_of (λ before. leaves db before) (λ done. run_into a.setup.now (delivery_of d) old a.next a.there db is_next (free_over old.rows new holds) same holds.beside.terminal_is done)
+          ((runs clean).crash old.rows there db left));
     }
 
 -- ---- over an open connection
@@ -159,13 +181,13 @@ returns-then-next-delivery-clause-is_open g c clean =
 -- ---- the order of arrival
 
 pub returns-then-delivery-next-clause-in_order : goal.returns-then-delivery-next-clause-in_order
-returns-then-delivery-next-clause-in_order g c new = record {
+returns-then-delivery-next-clause-in_order g c closed new = record {
   rows = λ clean is_open opening es sent holds order comes. order;
   crash = λ clean was_open opening es sent holds order leaves comes db left. inl (leaves db left);
 }
 
 pub returns-then-next-delivery-clause-in_order : goal.returns-then-next-delivery-clause-in_order
-returns-then-next-delivery-clause-in_order g c new =
+returns-then-next-delivery-clause-in_order g c closed new =
     let a = c.args in
     let d = a.delivery.now in
     let was = state g.S.Store a.conn.now in
@@ -183,7 +205,7 @@ returns-then-next-delivery-clause-in_order g c new =
     }
 
 pub returns-clause-in_order : goal.returns-clause-in_order
-returns-clause-in_order g c new =
+returns-clause-in_order g c closed new =
     let a = c.args in
     let d = a.delivery.now in
     let was = state g.S.Store a.conn.now in
@@ -211,7 +233,7 @@ returns-clause-in_order g c new =
     }
 
 pub returns-in_err-answer-clause-in_order : goal.returns-in_err-answer-clause-in_order
-returns-in_err-answer-clause-in_order g c new =
+returns-in_err-answer-clause-in_order g c closed new =
     let a = c.args in
     let d = a.delivery.now in
     let end = state g.S.Store c.take_next.new.conn in

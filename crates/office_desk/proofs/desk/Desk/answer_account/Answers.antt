@@ -16,6 +16,8 @@ use Rattle.office_setup.specs.Setups.{SetupContent, setup_content, setup_with_ac
 use Rattle.office_tables.specs.Order.{HasRowsInOrder}
 use Rattle.office_tables.specs.declared.table_fault.TableFault.TheVariants.{Memory}
 use Rattle.office_history.proofs.Growing.{account_adds_row}
+use Rattle.office_desk.proofs.LeavingLemmas.{held_rows_leave}
+use Rattle.office_rows.proofs.StepLemmas.{stores}
 use Rattle.office_desk.specs.Accounts.{standing_content}
 use Rattle.office_desk.specs.Desks.{StandsFor}
 use Rattle.office_desk.specs.Order.{IsInOrder, StandsInOrder, stored}
@@ -39,10 +41,12 @@ returns-in_default g c =
     record {
       enrols = record {
         adds = λ sound content es stands. (says_now g.S.Store content es code kind desk (Refused Partner) stands says, stands);
+        closed = refl;
         stays = λ sound. (sound.0, sound.1);
         says = says;
         over = λ sound. (refl, refl, refl);
         crash = λ sound clean content es stands. held_leaves content es (setup_content desk.setup) (state g.S.Store desk.conn) desk.beside sound.1 (λ db left. g.met.S.Store.settled desk.conn.store db sound.1 left) stands;
+        crash_over = λ sound clean rows has. held_rows_leave rows (state g.S.Store desk.conn) (λ db left. g.met.S.Store.settled desk.conn.store db sound.1 left) has;
         order = record {
           rows = λ sound content es was. was.in_order;
           crash = λ sound clean content es was. committed_in_order content es (state g.S.Store desk.conn) (λ db left. g.met.S.Store.settled desk.conn.store db sound.1 left) was.in_order;
@@ -66,10 +70,12 @@ returns-in-Refused g c =
     record {
       enrols = record {
         adds = λ sound content es stands. (says_now g.S.Store content es code kind desk (Refused fault) stands says, stands);
+        closed = refl;
         stays = λ sound. (sound.0, sound.1);
         says = says;
         over = λ sound. (refl, refl, refl);
         crash = λ sound clean content es stands. held_leaves content es (setup_content desk.setup) (state g.S.Store desk.conn) desk.beside sound.1 (λ db left. g.met.S.Store.settled desk.conn.store db sound.1 left) stands;
+        crash_over = λ sound clean rows has. held_rows_leave rows (state g.S.Store desk.conn) (λ db left. g.met.S.Store.settled desk.conn.store db sound.1 left) has;
         order = record {
           rows = λ sound content es was. was.in_order;
           crash = λ sound clean content es was. committed_in_order content es (state g.S.Store desk.conn) (λ db left. g.met.S.Store.settled desk.conn.store db sound.1 left) was.in_order;
@@ -94,10 +100,12 @@ returns-in-Ok g c =
     record {
       enrols = record {
         adds = λ sound content es stands. (says_now g.S.Store content es code kind desk (Known id c.in-Ok.body) stands says, stands);
+        closed = refl;
         stays = λ sound. (sound.0, sound.1);
         says = says;
         over = λ sound. (refl, refl, refl);
         crash = λ sound clean content es stands. held_leaves content es (setup_content desk.setup) (state g.S.Store desk.conn) desk.beside sound.1 (λ db left. g.met.S.Store.settled desk.conn.store db sound.1 left) stands;
+        crash_over = λ sound clean rows has. held_rows_leave rows (state g.S.Store desk.conn) (λ db left. g.met.S.Store.settled desk.conn.store db sound.1 left) has;
         order = record {
           rows = λ sound content es was. was.in_order;
           crash = λ sound clean content es was. committed_in_order content es (state g.S.Store desk.conn) (λ db left. g.met.S.Store.settled desk.conn.store db sound.1 left) was.in_order;
@@ -121,11 +129,13 @@ returns-in-Err g c =
     record {
       enrols = record {
         adds = λ sound content es stands. (says_now g.S.Store content es code kind desk NotNow stands says, stands);
+        closed = refl;
         stays = λ sound. (sound.0, sound.1);
         says = says;
         over = λ sound. (refl, refl, inl refl);
         crash = λ sound clean content es stands db left.
             inl (held_leaves content es (setup_content desk.setup) (state g.S.Store desk.conn) desk.beside sound.1 (λ db left. g.met.S.Store.settled desk.conn.store db sound.1 left) stands db left);
+        crash_over = λ sound clean rows has db left. inl (held_rows_leave rows (state g.S.Store desk.conn) (λ db left. g.met.S.Store.settled desk.conn.store db sound.1 left) has db left);
         order = record {
           rows = λ sound content es was. was.in_order;
           crash = λ sound clean content es was db left.
@@ -175,12 +185,14 @@ returns-in-Ok-noted g c =
           subst (λ k. Holds content (es ++ added code kind ∷ []) k new.committed after.beside) (sym grown)
               (account_held content es code kind own id p.2 (is_now content es stands) (setup_content desk.setup) old.committed new.committed desk.beside after.beside stands (has sound.0 stands.rows stands.has) long),
         );
+        closed = refl;
         stays = λ sound. (writes.ends.clean sound.0, writes.ends.was_open sound.0 sound.1);
         says = says;
         over = λ sound. (own, p.2, grown, has sound.0, long);
         crash = λ sound clean content es stands.
             committed_leaves content (es ++ added code kind ∷ []) new (with_partner id code own stands.rows) (writes.ok clean).alone (has clean stands.rows stands.has)
             (account_adds_row content es stands.rows code kind own id stands.after p.2 (is_now content es stands)).rows_are;
+        crash_over = λ sound clean rows had. (own, p.2, λ db left. subst (StoresRows (with_partner id code own rows)) (sym ((writes.ok clean).alone db left)) (stores (with_partner id code own rows) new.committed (has clean rows had)));
         order = record {
           rows = λ sound content es was. in_order sound.0 content es was;
           crash = λ sound clean content es was. committed_in_order content (es ++ added code kind ∷ []) new (writes.ok clean).alone (in_order clean content es was);
@@ -217,6 +229,7 @@ returns-in-Err-noted g c =
           not_added content es (setup_content desk.setup) (setup_content after.setup) old.committed new.committed desk.beside after.beside stands
               (ap setup_content same) (writes.err sound.0 sound.1) less,
         );
+        closed = refl;
         stays = λ sound. (writes.ends.clean sound.0, writes.ends.was_open sound.0 sound.1);
         says = says;
         over = λ sound. (same, writes.err sound.0 sound.1, less);
@@ -227,6 +240,11 @@ returns-in-Err-noted g c =
             let before = held_leaves content es (setup_content desk.setup) old desk.beside sound.1 (λ d l. g.met.S.Store.settled desk.conn.store d sound.1 l) stands in
             either_of (λ was. before db was)
             (λ whole. account_after content es code kind own id p.2 is stands.rows db stands.after (subst (λ text. StoresRows (with_partner id text own stands.rows) db) p.0 (whole stands.rows stands.has)))
+            (writes.crash.crash clean db left);
+        crash_over = λ sound clean rows had db left.
+            let said = asked_is accounts c.in-Some.code.now code kind own (added_as id) p.0 p.1 p.2 stood in
+            either_of (λ was. held_rows_leave rows old (λ db left. g.met.S.Store.settled desk.conn.store db sound.1 left) had db was)
+            (λ whole. (own, id, p.2, said, subst (λ text. StoresRows (with_partner id text own rows) db) p.0 (whole rows had)))
             (writes.crash.crash clean db left);
         order = record {
           rows = λ sound content es was. subst (IsInOrder content es) (sym (writes.err sound.0 sound.1)) was.in_order;

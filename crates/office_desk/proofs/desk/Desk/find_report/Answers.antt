@@ -1,9 +1,10 @@
-use Rattle.std.proofs.Common.{◌≡◌, Some, not, option_map, string_bytes, sym, ap, subst, ◌∙◌}
+use Rattle.std.proofs.Common.{◌≡◌, Some, not, option_map, string_bytes, refl, sym, ap, subst, ◌∙◌}
 use Rattle.sqlite.specs.Held.{state}
 use Rattle.sqlite.specs.State.{HasCleanDisk}
 use Rattle.std.proofs.lemmas.Result.{IfErr-weaker, err_from_is_err_and}
 use Rattle.office_rows.specs.Stored.{HasRows}
 use Rattle.office_tables.proofs.FaultLemmas.{of_store_or, of_store_weaker}
+use Rattle.office_checks.specs.Closed.{closed_content}
 use Rattle.office_desk.proofs.Faults.{asked_unfit}
 use Rattle.office_desk.proofs.OfficeAccounts.{keeps_accounts}
 use Rattle.office_rows.proofs.StepLemmas.{if_ok}
@@ -25,13 +26,14 @@ pub returns-clause-told : goal.returns-clause-told
 returns-clause-told g c = λ sound.
     let own = c.args.self.now.setup in
     let content = setup_content own in
+    let closed = closed_content c.args.self.now.closed in
     let old = state g.S.Store c.args.self.now.conn in
     let mid = state g.S.Store c.beside_of.new.conn in
     let there = c.in_ok-there.there in
     let reads = c.tell-found.ensures.reads in
     let clean : HasCleanDisk mid = was_clean reads sound.0 in
     let settled : old.now ≡ old.committed = c.is_autocommit-is_idle.ensures.settled (c.is_autocommit-is_idle.ensures.value ∙ ap not c.args.self.now.idle) (was_open c.beside_of.ensures.reads clean (was_open reads sound.0 sound.1)) in
-    let stays : StaysBeside old.now c.args.self.now.beside (Some there) = subst (λ b. StaysBeside old.now b (Some there)) c.take.ensures.value (c.in_ok-there.ensures.beside clean) in
+    let stays : StaysBeside closed old.now c.args.self.now.beside (Some there) = subst (λ b. StaysBeside closed old.now b (Some there)) c.take.ensures.value (c.in_ok-there.ensures.beside clean) in
     if_ok c.tell-found.result (λ found told. record {
       after = λ opening es holds.
           let has : HasRows holds.rows old.now = subst (HasRows holds.rows) (sym settled) holds.has in
@@ -45,16 +47,17 @@ returns-clause-told g c = λ sound.
                 (told holds.rows (subst (HasRows holds.rows) (sym same.now) has) holds.after.kept_once));
           };
       office = λ rows kept holds.
-          let now : HoldsOffice content rows kept old.now c.args.self.now.beside = office_with content rows kept old.committed old.now c.args.self.now.beside c.args.self.now.beside settled holds.beside holds in
+          let now : HoldsOffice closed content rows kept old.now c.args.self.now.beside = office_with closed content rows kept old.committed old.now c.args.self.now.beside c.args.self.now.beside settled holds.beside holds in
           let same : IsSame old mid = c.in_ok-there.ensures.reads.same clean in
           subst (λ t. TellsOf content t rows c.args.query.now (option_map string_bytes found)) (stays.office content rows kept now).terminal_is
-          (told rows (subst (HasRows rows) (sym same.now) now.has) (office_once content rows kept old.now c.args.self.now.beside now));
+          (told rows (subst (HasRows rows) (sym same.now) now.has) (office_once closed content rows kept old.now c.args.self.now.beside now));
     })
     (c.tell-found.ensures.told sound.0)
 
 pub returns-clause-looks : goal.returns-clause-looks
 returns-clause-looks g c =
     let content = setup_content c.args.self.now.setup in
+    let closed = closed_content c.args.self.now.closed in
     let there = c.in_ok-there.there in
     let old = state g.S.Store c.args.self.now.conn in
     let mid = state g.S.Store c.beside_of.new.conn in
@@ -62,7 +65,7 @@ returns-clause-looks g c =
     let first = c.beside_of.ensures.reads in
     let reads = c.tell-found.ensures.reads in
     let idle = c.is_autocommit-is_idle.ensures.value ∙ ap not c.args.self.now.idle in
-    let stays : HasCleanDisk mid → StaysBeside old.now c.args.self.now.beside (Some there) = λ clean. subst (λ b. StaysBeside old.now b (Some there)) c.take.ensures.value (c.in_ok-there.ensures.beside clean) in
+    let stays : HasCleanDisk mid → StaysBeside closed old.now c.args.self.now.beside (Some there) = λ clean. subst (λ b. StaysBeside closed old.now b (Some there)) c.take.ensures.value (c.in_ok-there.ensures.beside clean) in
     record {
       same = λ sound opening es stands.
           let clean : HasCleanDisk mid = was_clean reads sound.0 in
@@ -74,11 +77,12 @@ returns-clause-looks g c =
       holds = λ sound rows kept holds.
           let clean : HasCleanDisk mid = was_clean reads sound.0 in
           let settled : old.now ≡ old.committed = c.is_autocommit-is_idle.ensures.settled idle (was_open first clean (was_open reads sound.0 sound.1)) in
-          let now : HoldsOffice content rows kept old.now c.args.self.now.beside = office_with content rows kept old.committed old.now c.args.self.now.beside c.args.self.now.beside settled holds.beside holds in
+          let now : HoldsOffice closed content rows kept old.now c.args.self.now.beside = office_with closed content rows kept old.committed old.now c.args.self.now.beside c.args.self.now.beside settled holds.beside holds in
           let same : IsSame old mid = c.in_ok-there.ensures.reads.same clean in
-          office_with content rows kept old.committed end.committed c.args.self.now.beside (Some there) ((reads.reads.keeps sound.0).committed sound.1 ∙ same.committed)
+          office_with closed content rows kept old.committed end.committed c.args.self.now.beside (Some there) ((reads.reads.keeps sound.0).committed sound.1 ∙ same.committed)
           ((stays clean).office content rows kept now) holds;
       committed = λ sound. (reads.reads.keeps sound.0).committed sound.1 ∙ (c.in_ok-there.ensures.reads.same (was_clean reads sound.0)).committed;
+      closed = refl;
       crash = λ sound clean schema db left. leaves_less old mid (was_clean reads clean) first.reads.survives db (leaves_less mid end clean reads.reads.survives db left);
       stays = λ sound. (was_clean first (was_clean reads sound.0), was_open first (was_clean reads sound.0) (was_open reads sound.0 sound.1));
     }
@@ -87,6 +91,7 @@ returns-clause-looks g c =
 pub returns-in_err-there-clause-looks : goal.returns-in_err-there-clause-looks
 returns-in_err-there-clause-looks g c =
     let content = setup_content c.args.self.now.setup in
+    let closed = closed_content c.args.self.now.closed in
     let old = state g.S.Store c.args.self.now.conn in
     let mid = state g.S.Store c.beside_of.new.conn in
     let after = c.take.new.self in
@@ -95,8 +100,9 @@ returns-in_err-there-clause-looks g c =
       same = λ sound opening es stands.
           held_with stands mid.committed after (subst (HasRows stands.rows) (sym ((reads.reads.keeps sound.0).committed sound.1)) stands.has) (subst (IsBeside opening es) (sym c.take.ensures.after) tt);
       holds = λ sound rows kept holds.
-          office_with content rows kept old.committed mid.committed c.args.self.now.beside after ((reads.reads.keeps sound.0).committed sound.1) (subst (IsOrNone rows kept) (sym c.take.ensures.after) tt) holds;
+          office_with closed content rows kept old.committed mid.committed c.args.self.now.beside after ((reads.reads.keeps sound.0).committed sound.1) (subst (IsOrNone rows kept) (sym c.take.ensures.after) tt) holds;
       committed = λ sound. (reads.reads.keeps sound.0).committed sound.1;
+      closed = refl;
       crash = λ sound clean schema db left. leaves_less old mid clean reads.reads.survives db left;
       stays = λ sound. (was_clean reads sound.0, was_open reads sound.0 sound.1);
     }
@@ -106,6 +112,7 @@ returns-in_err-there-clause-looks g c =
 pub returns-clause-fault : goal.returns-clause-fault
 returns-clause-fault g c = λ sound.
     let content = setup_content c.args.self.now.setup in
+    let closed = closed_content c.args.self.now.closed in
     let asked = c.args.query.now in
     let old = state g.S.Store c.args.self.now.conn in
     let mid = state g.S.Store c.beside_of.new.conn in
@@ -114,18 +121,19 @@ returns-clause-fault g c = λ sound.
     let settled : old.now ≡ old.committed = c.is_autocommit-is_idle.ensures.settled (c.is_autocommit-is_idle.ensures.value ∙ ap not c.args.self.now.idle) (was_open c.beside_of.ensures.reads clean (was_open reads sound.0 sound.1)) in
     let same : IsSame old mid = c.in_ok-there.ensures.reads.same clean in
     IfErr-weaker c.tell-found.result _ _ (λ fault why rows kept holds.
-    let now : HoldsOffice content rows kept old.now c.args.self.now.beside = office_with content rows kept old.committed old.now c.args.self.now.beside c.args.self.now.beside settled holds.beside holds in
-    let its = (keeps_accounts content rows kept old.now now.has now.loads).0 in
-    of_store_weaker _ _ (asked_unfit content rows its asked) fault (why rows (subst (HasRows rows) (sym same.now) now.has)))
+    let now : HoldsOffice closed content rows kept old.now c.args.self.now.beside = office_with closed content rows kept old.committed old.now c.args.self.now.beside c.args.self.now.beside settled holds.beside holds in
+    let its = (keeps_accounts closed content rows kept old.now now.has now.loads).0 in
+    of_store_weaker _ _ (asked_unfit closed content rows its asked) fault (why rows (subst (HasRows rows) (sym same.now) now.has)))
     (c.tell-found.ensures.fault sound.0)
 
 pub returns-in_err-there-clause-fault : goal.returns-in_err-there-clause-fault
 returns-in_err-there-clause-fault g c = λ sound.
     let content = setup_content c.args.self.now.setup in
+    let closed = closed_content c.args.self.now.closed in
     let old = state g.S.Store c.args.self.now.conn in
     let reads = c.beside_of.ensures.reads in
     let p = err_from_is_err_and c.from_residual.result c.from_residual.ensures.1 in
     let settled : old.now ≡ old.committed = c.is_autocommit-is_idle.ensures.settled (c.is_autocommit-is_idle.ensures.value ∙ ap not c.args.self.now.idle) (was_open reads sound.0 sound.1) in
     rw (p.1, p.2) (λ rows kept holds.
-    let now : HoldsOffice content rows kept old.now c.take.result = office_with content rows kept old.committed old.now c.args.self.now.beside c.take.result settled (subst (IsOrNone rows kept) (sym c.take.ensures.value) holds.beside) holds in
+    let now : HoldsOffice closed content rows kept old.now c.take.result = office_with closed content rows kept old.committed old.now c.args.self.now.beside c.take.result settled (subst (IsOrNone rows kept) (sym c.take.ensures.value) holds.beside) holds in
     of_store_or _ _ (c.in_err-there.ensures.fault sound.0 content rows kept now))

@@ -1,4 +1,4 @@
-use Rattle.std.proofs.Common.{◌≡◌, List, ℕ, Option, option_map, not, sym, ap, subst, ◌∙◌}
+use Rattle.std.proofs.Common.{◌≡◌, List, ℕ, Option, option_map, not, refl, sym, ap, subst, ◌∙◌}
 use Rattle.std.proofs.lemmas.Result.{IfErr-weaker}
 use Rattle.sqlite.specs.Effect.{Database}
 use Rattle.sqlite.specs.Held.{state}
@@ -6,6 +6,7 @@ use Rattle.office_rows.specs.Stored.{HasRows}
 use Rattle.office_rows.proofs.StepLemmas.{if_ok}
 use Rattle.office_delivery.proofs.ReadLemmas.{one_read, was_clean, was_open}
 use Rattle.office_setup.specs.Setups.{setup_content}
+use Rattle.office_checks.specs.Closed.{closed_content}
 use Rattle.office_desk.specs.Looking.{PagesOf}
 use Rattle.office_desk.proofs.CrashLemmas.{leaves_less}
 use Rattle.office_desk.proofs.HoldLemmas.{held_with}
@@ -41,8 +42,9 @@ returns-clause-looks g c =
       same = λ sound opening es stands.
           held_with stands new.committed there (subst (HasRows stands.rows) (sym ((reads.reads.keeps sound.0).committed sound.1)) stands.has) stands.beside;
       holds = λ sound rows kept holds.
-          office_with content rows kept old.committed new.committed there there ((reads.reads.keeps sound.0).committed sound.1) holds.beside holds;
+          office_with (closed_content c.args.self.now.closed) content rows kept old.committed new.committed there there ((reads.reads.keeps sound.0).committed sound.1) holds.beside holds;
       committed = λ sound. (reads.reads.keeps sound.0).committed sound.1;
+      closed = refl;
       crash = λ sound clean schema db left. leaves_less old new clean reads.reads.survives db left;
       stays = λ sound. (was_clean reads sound.0, was_open reads sound.0 sound.1);
     }
