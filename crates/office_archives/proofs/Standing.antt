@@ -4,6 +4,9 @@ use Rattle.std.specs.Cmp.Lexicographic.{bytes_decides}
 use Rattle.std.specs.Prelude.{nat_lt, Contains, find}
 use Rattle.std.specs.Option.{option_map, option_and_then}
 use Rattle.std.proofs.lemmas.Bool.{cases_order, eqb-true, ltb-true}
+use Rattle.sqlite.specs.Held.{state}
+use Rattle.sqlite.specs.State.{State, HasCleanDisk}
+use Rattle.sqlite.specs.Tree.{Trees}
 use Rattle.sqlite_trees.specs.declared.store.Store.{Ghosts}
 use Rattle.edi_segments.specs.Interchange.{interchange_of, segments_in}
 use Rattle.edi_syntax.specs.Envelope.{header_of}
@@ -22,6 +25,8 @@ use Rattle.office_replies.specs.declared.deliver.Response.TheVariants as respons
 use Rattle.sqlite_rules.proofs.ListLemmas.{contains_had, has_contained, has_filtered}
 use Rattle.office_rows.specs.Rows.{Interchange, Rows}
 use Rattle.office_rows.specs.Effects.{is_pair, with_waiting}
+use Rattle.office_rows.specs.Stored.{StoresRows}
+use Rattle.office_checks.specs.Closed.{ClosedContent, closed_content}
 use Rattle.office_setup.specs.Given.{IsGiven}
 use Rattle.office_setup.specs.Parties.{Parties, parties_of}
 use Rattle.office_setup.specs.Setups.{SetupContent, parties_in, setup_content}
@@ -40,14 +45,21 @@ use Rattle.office_parts.specs.Archives.{Archive, archive_of, Hold}
 use Rattle.office_parts.specs.OwnTerminal.{own_machine, own_terminal}
 use Rattle.office_parts.specs.Parts.{Archived, rows_of_archives, AreClosed, ArePartsAfter}
 use Rattle.office_parts.proofs.Events.{early_parts}
+use Rattle.office_parts.proofs.LeftOver.{told_alike}
 use Rattle.office_parts.proofs.Lookups.{numbers_told}
 use Rattle.office_parts.proofs.Takings.{next_adds_to_parts}
 use Rattle.office_desk.specs.Answers.{AnswersNext, answer_at, answer_by_model, answer_to, code_of}
+use Rattle.office_desk.specs.Calls.{Leads}
+use Rattle.office_desk.specs.Desks.{IsSound}
 use Rattle.office_desk.specs.Kept.{AnswersAt, AnswersOver, Office, TakesIn}
+use Rattle.office_desk.specs.Leaving.{IsTakenInto, LeavesOver}
 use Rattle.office_desk.specs.Offices.{DeskHolds}
 use Rattle.office_desk.specs.declared.desk.Desk.{Desk}
+use Rattle.office_desk.proofs.CrashLemmas.{either_of}
 use Rattle.office_desk.proofs.DeliverLemmas.{parties_same}
-use Rattle.office_archives.specs.Standing.{StandsBeside, IsBeyond, DeliveriesBeyondAreAnswered}
+use Rattle.office_archives.specs.Standing.{IsOwnWithRest, KnowsClosed, StandsBeside, IsBeyond, DeliveriesBeyondAreAnswered}
+use Rattle.office_archives.specs.Together.{IsBesideAfter, LeavesBeside, LeavesDelivered}
+use Rattle.office_archives.proofs.Resting.{run_is_own, taken_alike, texts_own, waiting_is_own}
 
 -- ---- the machine
 
@@ -83,12 +95,14 @@ beyond archives archived p n closed hold low none = elim (cases_order (archived.
 -- what is told is what is to be told, and the office that is left is of parts after the delivery
 record Follows (content : SetupContent) (es : List Event) (archived : Archived) (sent : List ℕ) (p n : ℕ) (told : AnswerModel) (new : Office) : Type 0 where
   is_told : told ≡ answer_model_of content es p n sent
+  own : Rows
   left : Rows
-  parts : ArePartsAfter content (es ++ delivered sent ∷ []) archived new.rows left
+  parts : ArePartsAfter content (es ++ delivered sent ∷ []) archived own left
+  is_own : IsOwnWithRest archived own new.rows
   terminal : new.terminal ≡ own_terminal archived.stays (machine_after content (es ++ delivered sent ∷ [])).terminal
 
-module _ (content : SetupContent) (es : List Event) (archived : Archived) (own whole : Rows) (sent : List ℕ) (p n : ℕ) (given : IsGiven content) (parts : ArePartsAfter content es archived own whole) (for : IsFor content es sent p n)
-    (far : archived.last_closed p < n) where
+module _ (content : SetupContent) (es : List Event) (archived : Archived) (own whole rows : Rows) (sent : List ℕ) (p n : ℕ) (given : IsGiven content) (parts : ArePartsAfter content es archived own whole)
+    (is_own : IsOwnWithRest archived own rows) (for : IsFor content es sent p n) (far : archived.last_closed p < n) where
   abbrev text : List ℕ
   text = interchange_of sent
 
@@ -96,85 +110,110 @@ module _ (content : SetupContent) (es : List Event) (archived : Archived) (own w
   now = content_after content es
 
   abbrev old : Office
-  old = record { rows = own; terminal = own_terminal archived.stays (machine_after content es).terminal }
+  old = record { rows = rows; terminal = own_terminal archived.stays (machine_after content es).terminal }
 
   abbrev next_number : ℕ
   next_number = run (deliveries_of content es) p + 1
 
-  text_same : text_in whole p n ≡ text_in own p n
-  text_same = parts.after.texts p n ∙ sym ((numbers_told content es archived own whole p n parts).own_text far)
+  -- beyond what is closed the rows tell what the store's own do
+  text_own : text_in own p n ≡ text_in rows p n
+  text_own = ap (λ r. text_in r p n) (sym is_own.beyond) ∙ (told_alike archived.last_closed rows p n far).text
 
-  reply_same : reply_in whole p n ≡ reply_in own p n
+  text_same : text_in whole p n ≡ text_in rows p n
+  text_same = parts.after.texts p n ∙ sym ((numbers_told content es archived own whole p n parts).own_text far) ∙ text_own
+
+  reply_same : reply_in whole p n ≡ reply_in rows p n
   reply_same = parts.after.replies p n ∙ sym ((numbers_told content es archived own whole p n parts).own_reply far)
+      ∙ ap (λ r. reply_in r p n) (sym is_own.beyond) ∙ (told_alike archived.last_closed rows p n far).reply
+
+  partners_same : whole.partners ≡ rows.partners
+  partners_same = parts.parts.partners ∙ ap (λ (r : Rows). r.partners) (sym is_own.beyond)
 
   by_whole : AnswersBy content es whole sent p n
   by_whole = answers content es whole sent p n parts.after for
 
-  next_is : (next : ℕ) → IsNextOf p own next → next ≡ next_number
+  next_is : (next : ℕ) → IsNextOf p rows next → next ≡ next_number
   next_is next is =
-      let there = has_filtered (has_id p) own.partners is.0 (has_contained _ is.0 is.1) in
-      let account : Contains whole.partners is.0 = subst (λ l. Contains l is.0) (sym parts.parts.partners) (contains_had own.partners is.0 there.0) in
+      let there = has_filtered (has_id p) rows.partners is.0 (has_contained _ is.0 is.1) in
+      let account : Contains whole.partners is.0 = subst (λ l. Contains l is.0) (sym partners_same) (contains_had rows.partners is.0 there.0) in
       sym is.2 ∙ next_follows content es whole is.0 parts.after account ∙ ap (λ q. run (deliveries_of content es) q + 1) (eqb-true is.0.id p there.1)
 
   -- a number that is used leaves the parts as they are
-  stays_same : (kept : List ℕ) (told : AnswerModel) (new : Office) → text_in own p n ≡ Some kept → told ≡ answer_model_of content es p n sent → new ≡ old → Follows content es archived sent p n told new
+  stays_same : (kept : List ℕ) (told : AnswerModel) (new : Office) → text_in rows p n ≡ Some kept → told ≡ answer_model_of content es p n sent → new ≡ old → Follows content es archived sent p n told new
   stays_same kept told new is is_told same =
       let adds = used_adds content es whole sent p n kept parts.after for (text_same ∙ is) in
       record {
         is_told = is_told;
+        own = own;
         left = whole;
-        parts = subst (λ (o : Office). ArePartsAfter content (es ++ delivered sent ∷ []) archived o.rows whole) (sym same) (record { after = adds.rows_are; closed = parts.closed; parts = parts.parts; stay = parts.stay });
+        parts = record { after = adds.rows_are; closed = parts.closed; parts = parts.parts; stay = parts.stay };
+        is_own = subst (λ (o : Office). IsOwnWithRest archived own o.rows) (sym same) is_own;
         terminal = ap (λ (o : Office). o.terminal) same ∙ ap (λ (m : MachineState). own_terminal archived.stays m.terminal) (sym adds.machine);
       }
 
-  known : (reply : Option (List ℕ)) (next : ℕ) (told : AnswerModel) → text_in own p n ≡ Some text → reply_in own p n ≡ reply → next ≡ next_number → told ≡ answer_by Known next reply None → told ≡ answer_model_of content es p n sent
+  known : (reply : Option (List ℕ)) (next : ℕ) (told : AnswerModel) → text_in rows p n ≡ Some text → reply_in rows p n ≡ reply → next ≡ next_number → told ≡ answer_by Known next reply None → told ≡ answer_model_of content es p n sent
   known (Some reply) next told is has e is_told = is_told ∙ sym (by_whole.repeat reply (text_same ∙ is) (reply_same ∙ has))
   known None next told is has e is_told = is_told ∙ ap Waiting e ∙ sym (by_whole.waits (text_same ∙ is) (reply_same ∙ has))
 
-  used : (kept : List ℕ) (same : Bool) (next : ℕ) (told : AnswerModel) (new : Office) → text_in own p n ≡ Some kept → is_same_text kept text ≡ same → next ≡ next_number → TakesIn (cond same Known Other) now (delivery p n text) next told old new →
+  used : (kept : List ℕ) (same : Bool) (next : ℕ) (told : AnswerModel) (new : Office) → text_in rows p n ≡ Some kept → is_same_text kept text ≡ same → next ≡ next_number → TakesIn (cond same Known Other) now (delivery p n text) next told old new →
       Follows content es archived sent p n told new
   used kept true next told new is same e takes =
-      let body : text_in own p n ≡ Some text = is ∙ ap Some ((bytes_decides kept text).0 same) in
-      stays_same kept told new is (known (reply_in own p n) next told body refl e takes.0) takes.1
+      let body : text_in rows p n ≡ Some text = is ∙ ap Some ((bytes_decides kept text).0 same) in
+      stays_same kept told new is (known (reply_in rows p n) next told body refl e takes.0) takes.1
   used kept false next told new is same e takes =
       let apart : kept ≡ text → ⊥ = λ one. let never : true ≡ false = sym ((bytes_decides kept text).1 one) ∙ same in absurd cc in
       stays_same kept told new is (takes.0 ∙ sym (by_whole.clash kept (text_same ∙ is) apart)) takes.1
 
-  free : (early : Bool) (next : ℕ) (told : AnswerModel) (new : Office) → text_in own p n ≡ None → nat_lt next n ≡ early → next ≡ next_number → TakesIn (cond early Early Next) now (delivery p n text) next told old new →
+  free : (early : Bool) (next : ℕ) (told : AnswerModel) (new : Office) → text_in rows p n ≡ None → nat_lt next n ≡ early → next ≡ next_number → TakesIn (cond early Early Next) now (delivery p n text) next told old new →
       Follows content es archived sent p n told new
   free true next told new is early e takes =
       let later : next_number < n = subst (λ k. k < n) e (ltb-true next n early) in
       let adds = early_adds content es whole sent p n parts.after for (text_same ∙ is) later in
       record {
         is_told = takes.0 ∙ ap Waiting e ∙ sym (by_whole.early (text_same ∙ is) later);
+        own = with_waiting p n text own;
         left = with_waiting p n text whole;
-        parts = subst (λ (o : Office). ArePartsAfter content (es ++ delivered sent ∷ []) archived o.rows (with_waiting p n text whole)) (sym takes.1) (early_parts content es archived own whole sent p n parts for is later);
+        parts = early_parts content es archived own whole sent p n parts for (text_own ∙ is) later;
+        is_own = subst (λ (o : Office). IsOwnWithRest archived (with_waiting p n text own) o.rows) (sym takes.1) (waiting_is_own archived own rows p n text is_own far);
         terminal = ap (λ (o : Office). o.terminal) takes.1 ∙ ap (λ (m : MachineState). own_terminal archived.stays m.terminal) (sym adds.machine);
       }
   free false next told new is early e takes =
       let run = takes.1 in
+      let taken = run.first ∷ run.later in
       let is_next : n ≡ next_number = takes.0 ∙ e in
-      let from : AreTakenFrom p (texts_with own p n text) n (own_machine archived.stays (machine_after content es)) (run.first ∷ run.later) (machine_with now new.terminal) =
-      subst (λ m. AreTakenFrom p (texts_with own p n text) n m (run.first ∷ run.later) (machine_with now new.terminal)) (own_is content es archived.stays) run.taken in
-      let all = next_adds_to_parts content es archived own whole sent p n (run.first ∷ run.later) (machine_with now new.terminal) given parts for is is_next from in
+      let machine = own_machine archived.stays (machine_after content es) in
+      let here : AreTakenFrom p (texts_with rows p n text) n machine taken (machine_with now new.terminal) =
+      subst (λ m. AreTakenFrom p (texts_with rows p n text) n m taken (machine_with now new.terminal)) (own_is content es archived.stays) run.taken in
+      let from : AreTakenFrom p (texts_with own p n text) n machine taken (machine_with now new.terminal) =
+      taken_alike p (texts_with rows p n text) (texts_with own p n text) n (λ k above. texts_own archived own rows p n text is_own k (omega (arith, far, above))) n (omega arith) machine taken (machine_with now new.terminal) here in
+      let all = next_adds_to_parts content es archived own whole sent p n taken (machine_with now new.terminal) given parts for (text_own ∙ is) is_next from in
       record {
         is_told = run.is_told ∙ sym (by_whole.next run.first run.later all.machine given (text_same ∙ is) is_next all.on_whole);
-        left = with_run p n text (run.first ∷ run.later) whole;
-        parts = subst (λ r. ArePartsAfter content (es ++ delivered sent ∷ []) archived r (with_run p n text (run.first ∷ run.later) whole)) (sym run.rows) all.parts;
+        own = with_run p n text taken own;
+        left = with_run p n text taken whole;
+        parts = all.parts;
+        is_own = subst (IsOwnWithRest archived (with_run p n text taken own)) (sym run.rows) (run_is_own archived own rows p n text (texts_with rows p n text) machine taken (machine_with now new.terminal) is_own far here);
         terminal = ap (λ (m : MachineState). m.terminal) (all.beside ∙ ap (own_machine archived.stays) all.adds.machine_is);
       }
 
-  by_kept : (kept : Option (List ℕ)) (next : ℕ) (told : AnswerModel) (new : Office) → text_in own p n ≡ kept → next ≡ next_number → TakesIn (standing_of next n kept text) now (delivery p n text) next told old new →
+  by_kept : (kept : Option (List ℕ)) (next : ℕ) (told : AnswerModel) (new : Office) → text_in rows p n ≡ kept → next ≡ next_number → TakesIn (standing_of next n kept text) now (delivery p n text) next told old new →
       Follows content es archived sent p n told new
   by_kept (Some kept) next told new is e takes = used kept (is_same_text kept text) next told new is refl e takes
   by_kept None next told new is e takes = free (nat_lt next n) next told new is refl e takes
 
+-- ---- what a crash leaves, by the answer
+
+pub answered_left : (archives : List Archive) (closed : ClosedContent) (content : SetupContent) (es : List Event) (sent : List ℕ) (given : Response) (s : State) → LeavesBeside archives closed content (es ++ delivered sent ∷ []) s
+    → LeavesDelivered archives closed content es sent given s
+answered_left archives closed content es sent response.NotNow s leaves = λ db left. inr (leaves db left)
+answered_left archives closed content es sent given s leaves = leaves
+
 -- ---- what the desk answers
 
-module _ {S : Type 0} (g : Ghosts S) (archives : List Archive) (content : SetupContent) (es : List Event) (old : Desk S g) (sent : List ℕ) (new : Desk S g) (stands : StandsBeside g archives content es old) (setup : new.setup ≡ old.setup)
+module _ {S : Type 0} (g : Ghosts S) (archives : List Archive) (content : SetupContent) (es : List Event) (old : Desk S g) (sent : List ℕ) (new : Desk S g) (stands : StandsBeside g archives content es old) (setup : new.setup ≡ old.setup) (closed : new.closed ≡ old.closed)
     (far : IsBeyond g archives old sent) where
   abbrev office : Office
-  office = record { rows = stands.own; terminal = own_terminal stands.archived.stays (machine_after content es).terminal }
+  office = record { rows = stands.rows; terminal = own_terminal stands.archived.stays (machine_after content es).terminal }
 
   abbrev parties : Parties
   parties = parties_in (content_after content es)
@@ -188,18 +227,24 @@ module _ {S : Type 0} (g : Ghosts S) (archives : List Archive) (content : SetupC
   admitted_here : (place : Result (ℕ × ℕ) Fault) → admission (parties_of new.setup) (interchange_of sent) ≡ place → admission parties (interchange_of sent) ≡ place
   admitted_here place is = subst (λ P. admission P (interchange_of sent) ≡ place) parties_now is
 
+  knows_still : KnowsClosed (closed_content new.closed) stands.archived
+  knows_still = subst (λ k. KnowsClosed (closed_content k) stands.archived) (sym closed) stands.knows
+
   -- with these parts after the delivery, desk and archives stand there
-  stands_after : (rows whole : Rows) (terminal : TerminalState) → ArePartsAfter content (es ++ delivered sent ∷ []) stands.archived rows whole →
+  stands_after : (own whole rows : Rows) (terminal : TerminalState) → ArePartsAfter content (es ++ delivered sent ∷ []) stands.archived own whole → IsOwnWithRest stands.archived own rows →
       terminal ≡ own_terminal stands.archived.stays (machine_after content (es ++ delivered sent ∷ [])).terminal → DeskHolds g new rows terminal →
       StandsBeside g archives content (es ++ delivered sent ∷ []) new
-  stands_after rows whole terminal parts same holds = record {
+  stands_after own whole rows terminal parts is_own same holds = record {
     given = stands.given;
     now_is = now_same content es sent ∙ now_is;
     archived = stands.archived;
-    own = rows;
+    own = own;
     whole = whole;
     parts = parts;
     hold = stands.hold;
+    knows = knows_still;
+    rows = rows;
+    is_own = is_own;
     holds = subst (DeskHolds g new rows) same holds;
   }
 
@@ -210,7 +255,7 @@ module _ {S : Type 0} (g : Ghosts S) (archives : List Archive) (content : SetupC
       let adds = refused_adds content es stands.whole sent fault stands.parts.after here in
       let parts = stands.parts in (
         by.0 ∙ ap (λ P. refusal_of P (header_of (segments_in (interchange_of sent))) fault) parties_now ∙ ap (answer_at content es sent) (sym here),
-        stands_after stands.own stands.whole office.terminal (record { after = adds.rows_are; closed = parts.closed; parts = parts.parts; stay = parts.stay })
+        stands_after stands.own stands.whole stands.rows office.terminal (record { after = adds.rows_are; closed = parts.closed; parts = parts.parts; stay = parts.stay }) stands.is_own
             (ap (λ (m : MachineState). own_terminal stands.archived.stays m.terminal) (sym adds.machine)) by.1,
       )
   at_place response (Ok place) admits by =
@@ -218,12 +263,12 @@ module _ {S : Type 0} (g : Ghosts S) (archives : List Archive) (content : SetupC
       let low : 1 ≤ place.1 = (within parties (interchange_of sent) place.0 place.1 for).2 in
       let open_ = beyond archives stands.archived place.0 place.1 stands.parts.closed stands.hold low
       (far place (subst (λ s. admission (parties_of s) (interchange_of sent) ≡ Ok place) setup admits)) in
-      let next = next_is content es stands.archived stands.own stands.whole sent place.0 place.1 stands.given stands.parts for open_ by.next by.is_next in
-      let takes = subst (λ c. TakesIn (standing_of by.next place.1 (text_in stands.own place.0 place.1) (interchange_of sent)) c (delivery place.0 place.1 (interchange_of sent)) by.next by.told office by.new) (sym now_is) by.takes in
-      let follows = by_kept content es stands.archived stands.own stands.whole sent place.0 place.1 stands.given stands.parts for open_ (text_in stands.own place.0 place.1) by.next by.told by.new refl next takes in (
+      let next = next_is content es stands.archived stands.own stands.whole stands.rows sent place.0 place.1 stands.given stands.parts stands.is_own for open_ by.next by.is_next in
+      let takes = subst (λ c. TakesIn (standing_of by.next place.1 (text_in stands.rows place.0 place.1) (interchange_of sent)) c (delivery place.0 place.1 (interchange_of sent)) by.next by.told office by.new) (sym now_is) by.takes in
+      let follows = by_kept content es stands.archived stands.own stands.whole stands.rows sent place.0 place.1 stands.given stands.parts stands.is_own for open_ (text_in stands.rows place.0 place.1) by.next by.told by.new refl next takes in (
         by.answers ∙ ap (answer_by_model (code_of (parties_of new.setup) place.0) place.1) follows.is_told
             ∙ ap (λ P. answer_by_model (code_of P place.0) place.1 (answer_model_of content es place.0 place.1 sent)) parties_now ∙ ap (answer_at content es sent) (sym for),
-        stands_after by.new.rows follows.left by.new.terminal follows.parts follows.terminal by.holds,
+        stands_after follows.own follows.left by.new.rows by.new.terminal follows.parts follows.is_own follows.terminal by.holds,
       )
 
   answered : (response : Response) → AnswersOver g office sent response new → Delivers (StandsBeside g archives content) (AnswersNext content) es sent response new
@@ -237,11 +282,53 @@ module _ {S : Type 0} (g : Ghosts S) (archives : List Archive) (content : SetupC
       whole = stands.whole;
       parts = stands.parts;
       hold = stands.hold;
+      knows = knows_still;
+      rows = stands.rows;
+      is_own = stands.is_own;
       holds = by.2;
     },
   )
   answered given by = at_place given (admission (parties_of new.setup) (interchange_of sent)) refl by
 
+  -- ---- and what a crash leaves
+
+  abbrev knows : ClosedContent
+  knows = closed_content old.closed
+
+  -- the store's rows as they were are those after the events
+  as_before : (es' : List Event) (whole : Rows) → ArePartsAfter content es' stands.archived stands.own whole → (db : Trees) → StoresRows stands.rows db → IsBesideAfter archives knows content es' db
+  as_before es' whole parts db are = record { archived = stands.archived; own = stands.own; whole = whole; parts = parts; hold = stands.hold; knows = stands.knows; rows = stands.rows; is_own = stands.is_own; are = are }
+
+  into : (place : ℕ × ℕ) → admission (parties_of old.setup) (interchange_of sent) ≡ Ok place → (db : Trees) → IsTakenInto (setup_content old.setup) (delivery place.0 place.1 (interchange_of sent)) office db
+      → IsBesideAfter archives knows content (es ++ delivered sent ∷ []) db
+  into place admits db is =
+      let for : IsFor content es sent place.0 place.1 = admitted_here (Ok place) (subst (λ s. admission (parties_of s) (interchange_of sent) ≡ Ok place) (sym setup) admits) in
+      let low : 1 ≤ place.1 = (within parties (interchange_of sent) place.0 place.1 for).2 in
+      let open_ = beyond archives stands.archived place.0 place.1 stands.parts.closed stands.hold low (far place admits) in
+      let next = next_is content es stands.archived stands.own stands.whole stands.rows sent place.0 place.1 stands.given stands.parts stands.is_own for open_ is.next is.is_next in
+      let takes = subst (λ c. TakesIn (standing_of is.next place.1 (text_in stands.rows place.0 place.1) (interchange_of sent)) c (delivery place.0 place.1 (interchange_of sent)) is.next is.told office is.new) (sym stands.now_is) is.takes in
+      let follows = by_kept content es stands.archived stands.own stands.whole stands.rows sent place.0 place.1 stands.given stands.parts stands.is_own for open_ (text_in stands.rows place.0 place.1) is.next is.told is.new refl next takes in
+      record { archived = stands.archived; own = follows.own; whole = follows.left; parts = follows.parts; hold = stands.hold; knows = stands.knows; rows = is.new.rows; is_own = follows.is_own; are = is.are }
+
+  refused_here : (fault : Fault) → admission (parties_of old.setup) (interchange_of sent) ≡ Err fault → (db : Trees) → StoresRows stands.rows db → IsBesideAfter archives knows content (es ++ delivered sent ∷ []) db
+  refused_here fault admits db are =
+      let here = admitted_here (Err fault) (subst (λ s. admission (parties_of s) (interchange_of sent) ≡ Err fault) (sym setup) admits) in
+      let adds = refused_adds content es stands.whole sent fault stands.parts.after here in
+      let parts = stands.parts in
+      as_before (es ++ delivered sent ∷ []) stands.whole (record { after = adds.rows_are; closed = parts.closed; parts = parts.parts; stay = parts.stay }) db are
+
+  left : (response : Response) (place : Result (ℕ × ℕ) Fault) (s : State) → admission (parties_of old.setup) (interchange_of sent) ≡ place → LeavesOver (setup_content old.setup) place (interchange_of sent) office response s
+      → LeavesDelivered archives knows content es sent response s
+  left response (Err fault) s admits leaves = answered_left archives knows content es sent response s (λ db left. refused_here fault admits db (leaves db left))
+  left response.NotNow (Ok place) s admits leaves = λ db left. either_of (λ are. as_before es stands.whole stands.parts db are) (λ is. into place admits db is) (leaves db left)
+  left given (Ok place) s admits leaves = answered_left archives knows content es sent given s (λ db left. into place admits db (leaves db left))
+
 pub beyond_answered : {S : Type 0} (g : Ghosts S) → DeliveriesBeyondAreAnswered g
 beyond_answered g archives content es old sent response new leads sound stands far =
-    answered g archives content es old sent new stands leads.setup far response (leads.office sound (office g archives content es old sent new stands leads.setup far) stands.holds)
+    answered g archives content es old sent new stands leads.setup leads.closed far response (leads.office sound (office g archives content es old sent new stands leads.setup leads.closed far) stands.holds)
+
+pub beyond_left : {S : Type 0} (g : Ghosts S) (archives : List Archive) (content : SetupContent) (es : List Event) (old : Desk S g) (sent : List ℕ) (response : Response) (new : Desk S g) → Leads g old sent response new → IsSound g old →
+    HasCleanDisk (state g new.conn) → StandsBeside g archives content es old → IsBeyond g archives old sent → LeavesDelivered archives (closed_content old.closed) content es sent response (state g new.conn)
+beyond_left g archives content es old sent response new leads sound clean stands far =
+    left g archives content es old sent new stands leads.setup leads.closed far response (admission (parties_of old.setup) (interchange_of sent)) (state g new.conn) refl
+    (leads.office_crash sound clean (office g archives content es old sent new stands leads.setup leads.closed far) stands.holds)

@@ -13,7 +13,7 @@ use Rattle.office_replies.specs.declared.deliver.Response.{Response}
 use Rattle.office_rows.specs.Rows.{Interchange}
 use Rattle.office_tables.specs.Answers.{IsKept, RepliesAs}
 use Rattle.office_tables.specs.declared.interchanges.Kept.{Kept}
-use Rattle.office_history.specs.After.{reply_if_any, reply_in}
+use Rattle.office_history.specs.After.{AreKeptOnce, reply_if_any, reply_in}
 use Rattle.office_history.specs.Cascade.{text_in}
 use Rattle.office_delivery.proofs.ReadLemmas.{one_kept, text_kept}
 use Rattle.office_parts.specs.Archives.{Archive, archive_of, reaches, text_by}
@@ -39,16 +39,19 @@ told_some f (Some x) y e = refl
 closed_by : (archives : List Archive) (p n : ℕ) (text : List ℕ) → text_by archives p n ≡ Some text → IsClosedIn archives p n
 closed_by archives p n text has = told_some (λ (archive : Archive). text_in archive.rows p n) (archive_of archives p n) text has
 
--- what the rows of the one archive keep is what it tells
+-- what the rows of a number's archive keep is what the archives keep
+pub told_by : (archives : List Archive) (archive : Archive) (p n : ℕ) (kept : Kept) → archive_of archives p n ≡ Some archive → AreKeptOnce archive.rows.interchanges → IsKept p n archive.rows (Some kept) → IsKeptIn archives p n kept
+told_by archives archive p n kept reached once is = record {
+  text = ap (option_and_then (λ (a : Archive). text_in a.rows p n)) reached ∙ text_kept p n archive.rows kept once is;
+  reply = ap (option_and_then (λ (a : Archive). reply_in a.rows p n)) reached
+      ∙ ap (option_and_then (λ (i : Interchange). reply_if_any i.reply)) (one_kept p n archive.rows is.0 once is.1) ∙ reply_is kept.reply is.0.reply is.3;
+}
+
+-- so of the one archive
 pub one_told : (archives : List Archive) (db : Database) (p n : ℕ) (kept : Kept) → (are : AreOneIn archives db) → IsClosedIn archives p n → IsKept p n are.archive.rows (Some kept) → IsKeptIn archives p n kept
 one_told archives db p n kept are closed is =
-    let reached : archive_of archives p n ≡ Some are.archive =
-    ap (λ all. archive_of all p n) are.is_all ∙ one_found (reaches p n are.archive) are.archive (subst (λ all. IsClosedIn all p n) are.is_all closed) in
-    record {
-      text = ap (option_and_then (λ (archive : Archive). text_in archive.rows p n)) reached ∙ text_kept p n are.archive.rows kept are.kept_once is;
-      reply = ap (option_and_then (λ (archive : Archive). reply_in archive.rows p n)) reached
-          ∙ ap (option_and_then (λ (i : Interchange). reply_if_any i.reply)) (one_kept p n are.archive.rows is.0 are.kept_once is.1) ∙ reply_is kept.reply is.0.reply is.3;
-    }
+    told_by archives are.archive p n kept
+    (ap (λ all. archive_of all p n) are.is_all ∙ one_found (reaches p n are.archive) are.archive (subst (λ all. IsClosedIn all p n) are.is_all closed)) are.kept_once is
 
 -- the same text is a repeat with the reply that is kept
 pub repeat_answers : (archives : List Archive) (p : ℕ) (code : List ℕ) (n : ℕ) (kept : Kept) (text : List ℕ) (reply : String Global) (response : Response) →

@@ -2,3 +2,6 @@ pub mod Keeping
 pub mod Answering
 pub mod Standing
 pub mod Reporting
+pub mod Together
+pub mod Opening
+pub mod Shelves

@@ -1,11 +1,12 @@
 -- Where a desk over the own rows of a store and the store's archives stand together.
-use Rattle.std.specs.Prelude.{◌≡◌, ℕ, List, Ok, None}
+use Rattle.std.specs.Prelude.{◌≡◌, ℕ, ◌<◌, List, Contains, filter, Ok, None, true}
 use Rattle.sqlite_trees.specs.declared.store.Store.{Ghosts}
 use Rattle.edi_segments.specs.Interchange.{interchange_of}
 use Rattle.office_replies.specs.Delivering.{Delivers}
 use Rattle.office_replies.specs.Events.{Event}
 use Rattle.office_replies.specs.declared.deliver.Response.{Response}
-use Rattle.office_rows.specs.Rows.{Rows}
+use Rattle.office_checks.specs.Closed.{ClosedContent, closed_content}
+use Rattle.office_rows.specs.Rows.{Interchange, Rows}
 use Rattle.office_setup.specs.Given.{IsGiven}
 use Rattle.office_setup.specs.Parties.{parties_of}
 use Rattle.office_setup.specs.Setups.{SetupContent, setup_content}
@@ -17,12 +18,26 @@ use Rattle.office_desk.specs.Desks.{IsSound}
 use Rattle.office_desk.specs.Offices.{DeskHolds}
 use Rattle.office_desk.specs.declared.desk.Desk.{Desk}
 use Rattle.office_parts.specs.Archives.{Archive, archive_of, Hold}
+use Rattle.office_parts.specs.Closing.{is_closed}
+use Rattle.office_parts.specs.LeftOver.{rows_beyond}
 use Rattle.office_parts.specs.OwnTerminal.{own_terminal}
 use Rattle.office_parts.specs.Parts.{Archived, ArePartsAfter}
 
--- For that opening set-up, after those events: with the accounts so far it is the desk's set-up. The desk holds the own
--- rows of a store and its own terminal, the archives hold what was put away, and these are parts of the rows after the
--- events.
+-- The rows that a store has: beyond what is closed its own, and interchanges that are closed and still to be deleted,
+-- which its archives hold.
+pub record IsOwnWithRest (archived : Archived) (own rows : Rows) : Type 0 where
+  pub beyond : rows_beyond archived.last_closed rows ≡ own
+  pub rest : (i : Interchange) → Contains (filter (is_closed archived.last_closed) rows.interchanges) i →
+      Contains archived.interchanges i
+
+-- What a desk takes for closed is what the archives hold: the numbers, and visits up to that one.
+pub record KnowsClosed (closed : ClosedContent) (archived : Archived) : Type 0 where
+  pub numbers : (partner : ℕ) → closed.last_closed partner ≡ archived.last_closed partner
+  pub visits : (number : ℕ) → closed.newest_closed < number → archived.stays number ≡ true
+
+-- For that opening set-up, after those events: with the accounts so far it is the desk's set-up. The archives hold what
+-- was put away, the desk knows it for closed, and holds the store's own rows and its own terminal; with what was put away
+-- these are parts of the rows after the events.
 pub record StandsBeside {S : Type 0} (g : Ghosts S) (archives : List Archive) (content : SetupContent) (es : List Event)
     (desk : Desk S g) : Type 0 where
   pub given : IsGiven content
@@ -32,7 +47,10 @@ pub record StandsBeside {S : Type 0} (g : Ghosts S) (archives : List Archive) (c
   pub whole : Rows
   pub parts : ArePartsAfter content es archived own whole
   pub hold : Hold archives archived
-  pub holds : DeskHolds g desk own (own_terminal archived.stays (machine_after content es).terminal)
+  pub knows : KnowsClosed (closed_content desk.closed) archived
+  pub rows : Rows
+  pub is_own : IsOwnWithRest archived own rows
+  pub holds : DeskHolds g desk rows (own_terminal archived.stays (machine_after content es).terminal)
 
 -- the desk's accounts admit the text under no number that is closed
 abbrev pub IsBeyond : {S : Type 0} (g : Ghosts S) → List Archive → Desk S g → List ℕ → Type 0

@@ -1,6 +1,7 @@
 ghost use Rattle.std.specs.Prelude.{◌≡◌, ℕ, List, IfOk, Some};
 ghost use Rattle.office_archives.specs.Answering.{AnswersClosed};
 ghost use Rattle.office_desk.specs.Answers.{answer_by_model};
+ghost use Rattle.office_desk.specs.Noting.{IsNow};
 ghost use Rattle.office_parts.specs.Archives.{Archive};
 ghost use Rattle.office_replies.specs.Contents.{content_of};
 ghost use Rattle.partner_core.specs.Answers.{Clash, Repeat};
@@ -24,8 +25,8 @@ pub fn answer_closed<A: Archives>(
 ) -> Result<Response, TableFault>
     ensures answers { A.is_sound archives.new → IfOk result (λ response. (list : List Archive) →
         A.are list archives.old → AnswersClosed list partner code.now number text.now response) }
+    ensures now { IfOk result IsNow }
     ensures same { A.is_sound archives.new → (list : List Archive) → A.are list archives.old → A.are list archives.new }
-    ensures stays { A.is_sound archives.new → A.is_sound archives.old }
 {
     let Kept { text: own, reply } = archives.kept(partner, number)?;
     if own.as_slice() != text {

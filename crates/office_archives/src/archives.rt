@@ -6,8 +6,8 @@ use office_tables::{Kept, TableFault};
 
 /// What the archives of a store keep.
 pub trait Archives {
-    /// What they are read from has told the truth so far. If it has not, nothing is said of what they tell, and it stays
-    /// so.
+    /// What they are read from, as far as it is open, has told the truth. If it has not, nothing is said of what was told
+    /// last.
     ghost is_sound: { Self → Type 0 };
 
     /// They are these, in the order in which they were closed.
@@ -20,6 +20,5 @@ pub trait Archives {
     fn kept(&mut self, partner: u16, number: u32) -> Result<Kept, TableFault>
         ensures kept { is_sound self.new → IfOk result (λ kept. (archives : List Archive) → are archives self.old →
             IsClosedIn archives partner number → IsKeptIn archives partner number kept) }
-        ensures same { is_sound self.new → (archives : List Archive) → are archives self.old → are archives self.new }
-        ensures stays { is_sound self.new → is_sound self.old };
+        ensures same { is_sound self.new → (archives : List Archive) → are archives self.old → are archives self.new };
 }

@@ -1,5 +1,6 @@
 //! Laws of a store and its archives: each function has an empty body, and its contract is the law.
 
+ghost use Rattle.office_archives.specs.Opening.{OpenedStandBeside};
 ghost use Rattle.office_archives.specs.Reporting.{WhatStandsIsToldAlike};
 ghost use Rattle.office_archives.specs.Standing.{DeliveriesBeyondAreAnswered};
 
@@ -15,4 +16,10 @@ pub fn deliveries_beyond_are_answered<S: Alter>()
 /// reported by the store's own rows as by the whole.
 pub fn what_stands_is_told_alike()
     ensures { WhatStandsIsToldAlike }
+{}
+
+/// A desk that is opened on the rows that a store has of its own, with what is closed, goes on from the events after which
+/// store and archives stand.
+pub fn opened_stand_beside<S: Alter>()
+    ensures { OpenedStandBeside S.Store }
 {}

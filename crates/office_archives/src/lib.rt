@@ -2,10 +2,16 @@
 #![tactic(auto)]
 
 mod answering;
+mod archived_desk;
 mod archives;
 pub mod laws;
+mod many_archives;
 mod one_archive;
+mod opened;
 
 pub use answering::answer_closed;
+pub use archived_desk::ArchivedDesk;
 pub use archives::Archives;
+pub use many_archives::{ManyArchives, Shelf};
 pub use one_archive::OneArchive;
+pub use opened::Opened;

@@ -1,0 +1,5 @@
+//! A store of which history was put away, and its archive, over databases in memory.
+#![tactic(auto)]
+
+#[cfg(test)]
+mod archives;

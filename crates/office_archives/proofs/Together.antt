@@ -1,0 +1,187 @@
+-- What a delivery does to a desk and the archives beside it.
+use Rattle.std.proofs.Common.{◌≡◌, ℕ, ◌+◌, ◌<◌, ◌≤◌, inl, List, [], ◌∷◌, ◌++◌, true, false, Option, Some, Ok, sym, refl, ap, subst, ◌∙◌, arith}
+use Rattle.std.specs.Prelude.{nat_le, None, IsTrue}
+use Rattle.std.proofs.lemmas.Bool.{leb-true, leb-false}
+use Rattle.sqlite.specs.Held.{Held, state}
+use Rattle.sqlite.specs.State.{HasCleanDisk}
+use Rattle.sqlite.specs.Tree.{Trees}
+use Rattle.sqlite_trees.specs.declared.store.Store.{Ghosts}
+use Rattle.edi_segments.specs.Interchange.{interchange_of}
+use Rattle.partner_core.specs.Answers.{AnswerModel}
+use Rattle.partner_core.specs.Deliveries.{run}
+use Rattle.partner_core.proofs.Firsts.{some_of}
+use Rattle.partner_core.proofs.Unbroken.{used_within_run}
+use Rattle.office_replies.specs.Contents.{content_of}
+use Rattle.office_replies.specs.Delivering.{with_answered}
+use Rattle.office_replies.specs.Events.{Event, delivered}
+use Rattle.office_replies.specs.declared.deliver.Response.{Response}
+use Rattle.office_replies.specs.declared.deliver.Response.TheVariants as response
+use Rattle.office_checks.specs.Closed.{closed_content, last_closed}
+use Rattle.office_rows.specs.Rows.{Rows}
+use Rattle.office_rows.specs.Stored.{StoresRows}
+use Rattle.office_rows.proofs.StepLemmas.{stores}
+use Rattle.office_setup.specs.Parties.{parties_of}
+use Rattle.office_setup.specs.Setups.{SetupContent, parties_in, setup_content}
+use Rattle.office_admission.specs.Admission.{admission}
+use Rattle.office_admission.specs.Refusals.{RefusedSurely}
+use Rattle.office_taking.specs.Taking.{MachineState}
+use Rattle.office_history.specs.After.{content_after, deliveries_of, machine_after}
+use Rattle.office_history.specs.Laws.{IsFor, answer_model_of}
+use Rattle.office_history.proofs.Lawful.{now_same, used_adds}
+use Rattle.office_history.proofs.Telling.{within}
+use Rattle.office_desk.specs.Answers.{AnswersNext, answer_at, answer_by_model, answer_to, code_of}
+use Rattle.office_desk.specs.Calls.{Leads}
+use Rattle.office_desk.specs.Desks.{IsSound}
+use Rattle.office_desk.specs.Noting.{HasFault, IsNow, NotesFault}
+use Rattle.office_desk.specs.Offices.{DeskHolds, HoldsOffice}
+use Rattle.office_desk.specs.declared.desk.Desk.{Desk}
+use Rattle.office_desk.proofs.DeliverLemmas.{is_now, not_now_surely, notes_none, parties_same}
+use Rattle.office_parts.specs.Archives.{Archive, archive_of}
+use Rattle.office_parts.specs.OwnTerminal.{own_terminal}
+use Rattle.office_parts.specs.Parts.{ArePartsAfter}
+use Rattle.office_parts.proofs.Lookups.{closed_within}
+use Rattle.office_archives.specs.Answering.{AnswersClosed}
+use Rattle.office_archives.specs.Standing.{IsBeyond, KnowsClosed, StandsBeside}
+use Rattle.office_archives.specs.Together.{IsBesideAfter, LeavesDelivered, LeadsTogether, StandTogether}
+use Rattle.office_archives.proofs.Standing.{answered_left, beyond_answered, beyond_left}
+
+module _ {S A : Type 0} (g : Ghosts S) (is_sound : A → Type 0) (are : List Archive → A → Type 0) where
+  -- ---- by the desk
+
+  pub by_desk : (old : Desk S g) (a : A) (sent : List ℕ) (given : Response) (new : Desk S g) → Leads g old sent given new → ((list : List Archive) (content : SetupContent) (es : List Event) → StandsBeside g list content es old → IsBeyond g list old sent) →
+      LeadsTogether g is_sound are old a sent given new a
+  by_desk old a sent given new leads far = record {
+    delivers = λ sound whole content es stand.
+        let it = beyond_answered g stand.list content es old sent given new leads sound stand.stands (far stand.list content es stand.stands) in
+        (it.0, record { list = stand.list; these = stand.these; stands = it.1 });
+    crash = λ sound clean whole content es stand. beyond_left g stand.list content es old sent given new leads sound clean stand.stands (far stand.list content es stand.stands);
+    setup = leads.setup;
+    closed = leads.closed;
+    stays = leads.stays;
+    noted = leads.noted;
+  }
+
+  -- no archive is asked for a number that is not closed
+  pub far_open : (old : Desk S g) (sent : List ℕ) (partner number : ℕ) → admission (parties_of old.setup) (interchange_of sent) ≡ Ok (partner, number) → nat_le number (last_closed old.closed partner) ≡ false →
+      (list : List Archive) (content : SetupContent) (es : List Event) → StandsBeside g list content es old → IsBeyond g list old sent
+  far_open old sent partner number admits is_open list content es stands place is =
+      let same : place ≡ (partner, number) = let e = sym is ∙ admits in cc in
+      let far = leb-false number (last_closed old.closed partner) is_open in
+      subst (λ (q : ℕ × ℕ). archive_of list q.0 q.1 ≡ None) (sym same) (stands.hold.none_beyond partner number (omega (arith, far, stands.knows.numbers partner)))
+
+  -- ---- by the archives
+
+  module _ (old : Desk S g) (sent : List ℕ) (partner number : ℕ) (admits : admission (parties_of old.setup) (interchange_of sent) ≡ Ok (partner, number))
+      (settled : IsSound g old → (db : Trees) → (state g old.conn).may_leave db → db ≡ (state g old.conn).committed.trees) where
+    parties_now : (list : List Archive) (content : SetupContent) (es : List Event) → StandsBeside g list content es old → parties_of old.setup ≡ parties_in (content_after content es)
+    parties_now list content es stands = parties_same old.setup ∙ ap parties_in (sym stands.now_is)
+
+    is_for : (list : List Archive) (content : SetupContent) (es : List Event) → StandsBeside g list content es old → IsFor content es sent partner number
+    is_for list content es stands = subst (λ P. admission P (interchange_of sent) ≡ Ok (partner, number)) (parties_now list content es stands) admits
+
+    -- what a crash leaves of the store, which is not written
+    stored : (list : List Archive) (content : SetupContent) (es es' : List Event) (stands : StandsBeside g list content es old) (whole : Rows) → ArePartsAfter content es' stands.archived stands.own whole → IsSound g old → (db : Trees) → (state g old.conn).may_leave db
+        → IsBesideAfter list (closed_content old.closed) content es' db
+    stored list content es es' stands whole parts sound db left = record {
+      archived = stands.archived;
+      own = stands.own;
+      whole = whole;
+      parts = parts;
+      hold = stands.hold;
+      knows = stands.knows;
+      rows = stands.rows;
+      is_own = stands.is_own;
+      are = subst (StoresRows stands.rows) (sym (settled sound db left)) (stores stands.rows (state g old.conn).committed stands.holds.has);
+    }
+
+    module _ (closed : nat_le number (last_closed old.closed partner) ≡ true) (code : List ℕ) (is_code : code ≡ code_of (parties_of old.setup) partner) where
+      number_closed : (list : List Archive) (content : SetupContent) (es : List Event) (stands : StandsBeside g list content es old) → number ≤ stands.archived.last_closed partner
+      number_closed list content es stands = let low = leb-true number (last_closed old.closed partner) closed in omega (arith, low, stands.knows.numbers partner)
+
+      -- the terminal stays what it was
+      machine_stays : (list : List Archive) (content : SetupContent) (es : List Event) (stands : StandsBeside g list content es old) → machine_after content (es ++ delivered sent ∷ []) ≡ machine_after content es
+      machine_stays list content es stands =
+          let for = is_for list content es stands in
+          let low : 1 ≤ number = (within (parties_in (content_after content es)) (interchange_of sent) partner number for).2 in
+          let high = closed_within content es stands.archived stands.own stands.whole partner stands.parts in
+          let below = number_closed list content es stands in
+          let kept = some_of _ (used_within_run (deliveries_of content es) partner number low (omega (arith, high, below))) in
+          (used_adds content es stands.whole sent partner number kept.0 stands.parts.after for (stands.parts.after.texts partner number ∙ kept.1)).machine
+
+      stand_after : (list : List Archive) (content : SetupContent) (es : List Event) (stands : StandsBeside g list content es old) → ArePartsAfter content (es ++ delivered sent ∷ []) stands.archived stands.own stands.whole → StandsBeside g list content (es ++ delivered sent ∷ []) old
+      stand_after list content es stands parts = record {
+        given = stands.given;
+        now_is = now_same content es sent ∙ stands.now_is;
+        archived = stands.archived;
+        own = stands.own;
+        whole = stands.whole;
+        parts = parts;
+        hold = stands.hold;
+        knows = stands.knows;
+        rows = stands.rows;
+        is_own = stands.is_own;
+        holds = subst (DeskHolds g old stands.rows) (ap (λ (m : MachineState). own_terminal stands.archived.stays m.terminal) (sym (machine_stays list content es stands))) stands.holds;
+      }
+
+      pub by_archives : (a b : A) (given : Response) → (is_sound b → (list : List Archive) → are list a → AnswersClosed list partner code number (interchange_of sent) given) → (is_sound b → (list : List Archive) → are list a → are list b) →
+          IsNow given → LeadsTogether g is_sound are old a sent given old b
+      by_archives a b given answers same now = record {
+        delivers = λ sound whole content es stand.
+            let stands = stand.stands in
+            let for = is_for stand.list content es stands in
+            let is = answers whole stand.list stand.these content es stands.archived stands.own stands.whole sent stands.parts stands.hold refl for (number_closed stand.list content es stands) in
+            let named : code ≡ code_of (parties_in (content_after content es)) partner = is_code ∙ ap (λ P. code_of P partner) (parties_now stand.list content es stands) in
+            let told : content_of given ≡ answer_to content es sent =
+            is.answers ∙ ap (λ c. answer_by_model c number (answer_model_of content es partner number sent)) named ∙ ap (answer_at content es sent) (sym for) in
+            at content es given now told (record { list = stand.list; these = same whole stand.list stand.these; stands = stand_after stand.list content es stands is.parts });
+        crash = λ sound clean whole content es stand.
+            let stands = stand.stands in
+            let is = answers whole stand.list stand.these content es stands.archived stands.own stands.whole sent stands.parts stands.hold refl (is_for stand.list content es stands) (number_closed stand.list content es stands) in
+            answered_left stand.list (closed_content old.closed) content es sent given (state g old.conn) (λ db left. stored stand.list content es (es ++ delivered sent ∷ []) stands stands.whole is.parts sound db left);
+        setup = refl;
+        closed = refl;
+        stays = λ sound. sound;
+        noted = notes_none given old.last_fault now;
+      }
+        where
+          at : (content : SetupContent) (es : List Event) (given : Response) → IsNow given → content_of given ≡ answer_to content es sent → StandTogether g are content (es ++ delivered sent ∷ []) old b
+              → AnswersNext content es sent given × StandTogether g are content (with_answered es sent given) old b
+          at content es response.NotNow now told stand = absurd now
+          at content es given now told stand = (told, stand)
+
+    -- the archives could not be asked
+    pub not_now : (a b : A) (new : Desk S g) → RefusedSurely (parties_of old.setup) (interchange_of sent) response.NotNow → new.conn ≡ old.conn → new.setup ≡ old.setup → new.closed ≡ old.closed → new.beside ≡ old.beside → HasFault new.last_fault →
+        (is_sound b → (list : List Archive) → are list a → are list b) → LeadsTogether g is_sound are old a sent response.NotNow new b
+    not_now a b new surely conn setup closed beside fault same = record {
+      delivers = λ sound whole content es stand.
+          let stands = stand.stands in (
+            not_now_surely (parties_in (content_after content es)) (interchange_of sent) (subst (λ P. RefusedSurely P (interchange_of sent) response.NotNow) (parties_now stand.list content es stands) surely),
+            record { list = stand.list; these = same whole stand.list stand.these; stands = still stand.list content es stands },
+          );
+      crash = λ sound clean whole content es stand.
+          λ db left. inl (stored stand.list content es es stand.stands stand.stands.whole stand.stands.parts sound db (subst (λ k. (state g k).may_leave db) conn left));
+      setup = setup;
+      closed = closed;
+      stays = λ sound. subst (λ (k : Held S). HasCleanDisk (state g k) × IsTrue (state g k).is_open) conn sound;
+      noted = fault;
+    }
+      where
+        still : (list : List Archive) (content : SetupContent) (es : List Event) → StandsBeside g list content es old → StandsBeside g list content es new
+        still list content es stands = record {
+          given = stands.given;
+          now_is = stands.now_is ∙ ap setup_content (sym setup);
+          archived = stands.archived;
+          own = stands.own;
+          whole = stands.whole;
+          parts = stands.parts;
+          hold = stands.hold;
+          knows = subst (λ k. KnowsClosed (closed_content k) stands.archived) (sym closed) stands.knows;
+          rows = stands.rows;
+          is_own = stands.is_own;
+          holds =
+              let T = own_terminal stands.archived.stays (machine_after content es).terminal in
+              subst (λ k. HoldsOffice (closed_content new.closed) (setup_content new.setup) stands.rows T (state g k).committed new.beside) (sym conn)
+              (subst (λ k. HoldsOffice (closed_content new.closed) (setup_content k) stands.rows T (state g old.conn).committed new.beside) (sym setup)
+              (subst (λ k. HoldsOffice (closed_content k) (setup_content old.setup) stands.rows T (state g old.conn).committed new.beside) (sym closed)
+              (subst (HoldsOffice (closed_content old.closed) (setup_content old.setup) stands.rows T (state g old.conn).committed) (sym beside) stands.holds)));
+        }

@@ -1,0 +1,58 @@
+use Rattle.std.proofs.Common.{◌≡◌, ℕ, List, Ok, false, sym, subst, ◌∙◌}
+use Rattle.edi_segments.specs.Interchange.{interchange_of}
+use Rattle.edi_syntax.specs.Heads.{head_segments}
+use Rattle.office_admission.specs.Admission.{admission}
+use Rattle.office_replies.specs.declared.deliver.Response.TheVariants.{NotNow}
+use Rattle.office_setup.specs.Parties.{parties_of}
+use Rattle.office_desk.proofs.Admitted.{admitted_surely, numbered}
+use Rattle.office_archives.specs.Answering.{AnswersClosed}
+use Rattle.office_archives.proofs.Together.{by_archives, by_desk, far_open, not_now}
+use Rattle.office_archives.proofs.archived_desk.ArchivedDesk.take_admitted.Goals as goal
+
+pub returns-then-not-is_closed : goal.returns-then-not-is_closed
+returns-then-not-is_closed g c = record {
+  leads = λ sent exact.
+      let old = c.args.self.now.desk in
+      let P = parties_of old.setup in
+      let text = c.args.text.now in
+      let partner = c.args.admitted.partner in
+      let number = c.number-number.result in
+      let is = c.requires.admitted in
+      let place = numbered P text (head_segments c.head.result) partner number (c.head.ensures ∙ is.segments) c.number-number.ensures.number is.admits in
+      let here = subst (λ other. admission P other ≡ Ok (partner, number)) exact place in
+      by_desk g.S.Store g.A.Archives.is_sound g.A.Archives.are old c.args.self.now.archives sent c.take_admitted.result c.take_admitted.new.self (c.take_admitted.ensures.leads sent exact)
+      (far_open g.S.Store g.A.Archives.is_sound g.A.Archives.are old sent partner number here (sym c.is_closed.ensures ∙ c.if-not-is_closed.true));
+}
+
+pub returns-in-Ok : goal.returns-in-Ok
+returns-in-Ok g c = record {
+  leads = λ sent exact.
+      let old = c.args.self.now.desk in
+      let P = parties_of old.setup in
+      let text = c.args.text.now in
+      let partner = c.args.admitted.partner in
+      let number = c.number-number.result in
+      let is = c.requires.admitted in
+      let place = numbered P text (head_segments c.head.result) partner number (c.head.ensures ∙ is.segments) c.number-number.ensures.number is.admits in
+      let here = subst (λ other. admission P other ≡ Ok (partner, number)) exact place in
+      let code = c.code_of-code.result.now in
+      by_archives g.S.Store g.A.Archives.is_sound g.A.Archives.are old sent partner number here (λ sound db left. g.met.S.Store.settled old.conn.store db sound.1 left)
+      (sym c.is_closed.ensures ∙ c.if-not-is_closed.false) code c.code_of-code.ensures c.args.self.now.archives c.answer_closed.new.archives c.in-Ok.response
+      (λ whole list are. subst (λ t. AnswersClosed list partner code number t c.in-Ok.response) exact (c.in-Ok.ensures.answers whole list are)) c.answer_closed.ensures.same c.in-Ok.ensures.now;
+}
+
+pub returns-in-Err : goal.returns-in-Err
+returns-in-Err g c = record {
+  leads = λ sent exact.
+      let old = c.args.self.now.desk in
+      let P = parties_of old.setup in
+      let text = c.args.text.now in
+      let partner = c.args.admitted.partner in
+      let number = c.number-number.result in
+      let is = c.requires.admitted in
+      let place = numbered P text (head_segments c.head.result) partner number (c.head.ensures ∙ is.segments) c.number-number.ensures.number is.admits in
+      let here = subst (λ other. admission P other ≡ Ok (partner, number)) exact place in
+      let noted = c.note.ensures in
+      not_now g.S.Store g.A.Archives.is_sound g.A.Archives.are old sent partner number here (λ sound db left. g.met.S.Store.settled old.conn.store db sound.1 left)
+      c.args.self.now.archives c.answer_closed.new.archives c.note.new.self (admitted_surely P sent text _ NotNow exact is.admits) noted.conn noted.setup noted.closed noted.beside (c.in-Err.fault, noted.fault) c.answer_closed.ensures.same;
+}

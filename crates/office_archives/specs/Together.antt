@@ -1,0 +1,107 @@
+-- A desk over the rows that a store has, and the store's archives: where they stand together, and what a call does.
+use Rattle.std.specs.Prelude.{◌≡◌, ◌⊎◌, ℕ, List, [], ◌∷◌, ◌++◌}
+use Rattle.sqlite.specs.Held.{state}
+use Rattle.sqlite.specs.State.{State, HasCleanDisk}
+use Rattle.sqlite.specs.Tree.{Trees}
+use Rattle.sqlite_trees.specs.declared.store.Store.{Ghosts}
+use Rattle.office_replies.specs.Delivering.{with_answered}
+use Rattle.office_replies.specs.Adding.{with_added}
+use Rattle.office_replies.specs.Events.{Event, added, delivered}
+use Rattle.office_replies.specs.declared.accounts.AccountAnswer.{AccountAnswer}
+use Rattle.office_replies.specs.declared.accounts.AccountAnswer.TheVariants as account
+use Rattle.office_replies.specs.declared.deliver.Response.{Response}
+use Rattle.office_replies.specs.declared.deliver.Response.TheVariants as response
+use Rattle.office_checks.specs.Closed.{ClosedContent, closed_content}
+use Rattle.office_rows.specs.Rows.{Rows}
+use Rattle.office_rows.specs.Stored.{StoresRows}
+use Rattle.office_setup.specs.Setups.{SetupContent}
+use Rattle.office_desk.specs.Accounts.{AnswersAccount}
+use Rattle.office_desk.specs.Answers.{AnswersNext}
+use Rattle.office_desk.specs.Desks.{IsSound}
+use Rattle.office_desk.specs.Noting.{NotesFault, NotesStore}
+use Rattle.office_desk.specs.declared.desk.Desk.{Desk}
+use Rattle.office_parts.specs.Archives.{Archive, Hold}
+use Rattle.office_parts.specs.Parts.{Archived, ArePartsAfter}
+use Rattle.office_archives.specs.Standing.{IsOwnWithRest, KnowsClosed, StandsBeside}
+
+-- the archives are those of a store, and desk and archives stand after the events
+pub record StandTogether {S A : Type 0} (g : Ghosts S) (are : List Archive → A → Type 0) (content : SetupContent)
+    (es : List Event) (desk : Desk S g) (archives : A) : Type 0 where
+  pub list : List Archive
+  pub these : are list archives
+  pub stands : StandsBeside g list content es desk
+
+-- ---- what a crash leaves
+
+-- a store holds the rows that, with what these archives hold, are parts of the rows after those events
+pub record IsBesideAfter (archives : List Archive) (closed : ClosedContent) (content : SetupContent) (es : List Event)
+    (db : Trees) : Type 0 where
+  pub archived : Archived
+  pub own : Rows
+  pub whole : Rows
+  pub parts : ArePartsAfter content es archived own whole
+  pub hold : Hold archives archived
+  pub knows : KnowsClosed closed archived
+  pub rows : Rows
+  pub is_own : IsOwnWithRest archived own rows
+  pub are : StoresRows rows db
+
+-- a crash leaves these alone
+abbrev pub LeavesBeside : List Archive → ClosedContent → SetupContent → List Event → State → Type 0
+LeavesBeside archives closed content es s = (db : Trees) → s.may_leave db → IsBesideAfter archives closed content es db
+
+-- what is answered stands, and a delivery that is answered NotNow is there whole or not at all
+abbrev pub LeavesDelivered : List Archive → ClosedContent → SetupContent → List Event → List ℕ → Response → State →
+    Type 0
+LeavesDelivered archives closed content es sent response.NotNow s =
+    (db : Trees) → s.may_leave db → IsBesideAfter archives closed content es db
+    ⊎ IsBesideAfter archives closed content (es ++ delivered sent ∷ []) db
+LeavesDelivered archives closed content es sent given s =
+    LeavesBeside archives closed content (es ++ delivered sent ∷ []) s
+
+-- ---- a delivery
+
+-- A text was delivered to the desk and the archives, with that response. From whatever events, however much was put
+-- away of their rows, it is answered at its place, and they stand after it; or NotNow, and they stand where they stood.
+-- What a crash leaves of the store; the set-up stays, and what is closed; and why it is NotNow.
+pub record LeadsTogether {S A : Type 0} (g : Ghosts S) (is_sound : A → Type 0) (are : List Archive → A → Type 0)
+    (old : Desk S g) (before : A) (sent : List ℕ) (response : Response) (new : Desk S g) (after : A) : Type 0 where
+  pub delivers : IsSound g new → is_sound after → (content : SetupContent) (es : List Event) →
+      StandTogether g are content es old before
+      → AnswersNext content es sent response × StandTogether g are content (with_answered es sent response) new after
+  pub crash : IsSound g old → HasCleanDisk (state g new.conn) → is_sound after → (content : SetupContent)
+      (es : List Event) (stand : StandTogether g are content es old before)
+      → LeavesDelivered stand.list (closed_content old.closed) content es sent response (state g new.conn)
+  pub setup : new.setup ≡ old.setup
+  pub closed : new.closed ≡ old.closed
+  pub stays : IsSound g new → IsSound g old
+  pub noted : NotesFault response old.last_fault new.last_fault
+
+-- ---- an account
+
+-- an account that is added stands, one that is answered NotNow is there whole or not at all, and any other answer changes
+-- nothing
+abbrev pub LeavesAccount : List Archive → ClosedContent → SetupContent → List Event → List ℕ → List ℕ → AccountAnswer →
+    State → Type 0
+LeavesAccount archives closed content es code kind (account.Added id body) s =
+    LeavesBeside archives closed content (es ++ added code kind ∷ []) s
+LeavesAccount archives closed content es code kind account.NotNow s =
+    (db : Trees) → s.may_leave db → IsBesideAfter archives closed content es db
+    ⊎ IsBesideAfter archives closed content (es ++ added code kind ∷ []) db
+LeavesAccount archives closed content es code kind answer s = LeavesBeside archives closed content es s
+
+-- An account was asked for. From whatever events it is answered at its place, and desk and archives stand after it; what a
+-- crash leaves of the store; what is closed stays; and why it is NotNow.
+pub record EnrolsTogether {S A : Type 0} (g : Ghosts S) (is_sound : A → Type 0) (are : List Archive → A → Type 0)
+    (old : Desk S g) (before : A) (code kind : List ℕ) (answer : AccountAnswer) (new : Desk S g) (after : A)
+    : Type 0 where
+  pub adds : IsSound g new → is_sound after → (content : SetupContent) (es : List Event) →
+      StandTogether g are content es old before
+      → AnswersAccount content es code kind answer
+      × StandTogether g are content (with_added es code kind answer) new after
+  pub crash : IsSound g old → HasCleanDisk (state g new.conn) → (content : SetupContent) (es : List Event)
+      (stand : StandTogether g are content es old before)
+      → LeavesAccount stand.list (closed_content old.closed) content es code kind answer (state g new.conn)
+  pub closed : new.closed ≡ old.closed
+  pub stays : IsSound g new → IsSound g old
+  pub noted : NotesStore answer old.last_fault new.last_fault

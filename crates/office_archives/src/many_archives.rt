@@ -1,0 +1,88 @@
+ghost use Rattle.std.specs.Prelude.{◌≡◌, false, IfOk, List, None};
+ghost use Rattle.office_archives.specs.Shelves.{AreShelved, IsOpenAt, IsSoundIfAny};
+ghost use Rattle.office_parts.specs.Archives.{Archive};
+
+use crate::archives::Archives;
+use crate::opened::Opened;
+use office_register::Register;
+use office_tables::{Kept, TableFault, kept};
+use sqlite::{Alter, Connection};
+
+/// Where the archives of a store are kept: each is opened by its place in the order in which they were closed.
+pub trait Shelf<S: Alter> {
+    /// It holds these.
+    ghost holds: { List Archive → Self → Type 0 };
+
+    /// A connection to the archive at that place, the first at 1. Nothing on the shelf changes.
+    fn open(&mut self, place: u16) -> Result<Connection<S>, TableFault>
+        ensures idle { IfOk result (λ conn. conn.in_transaction ≡ false) }
+        ensures opened { IfOk result (λ conn. (list : List Archive) → holds list self.old →
+            IsOpenAt S.Store list place conn) }
+        ensures same { (list : List Archive) → holds list self.old → holds list self.new };
+}
+
+/// The archives of a store on a shelf. The one that was asked last stays open; another takes its place when it is asked.
+#[derive(Drop)]
+pub struct ManyArchives<S: Alter, F: Shelf<S>> {
+    shelf: F,
+    register: Register,
+    opened: Option<Opened<S>>,
+}
+
+impl<S: Alter, F: Shelf<S>> ManyArchives<S, F> {
+    /// The archives that the store's register names, none of them open.
+    pub fn new(shelf: F, register: Register) -> ManyArchives<S, F>
+        ensures shelf { result.shelf ≡ shelf }
+        ensures register { result.register ≡ register }
+        ensures opened { result.opened ≡ None }
+    {
+        ManyArchives {
+            shelf,
+            register,
+            opened: None,
+        }
+    }
+}
+
+impl<S: Alter + Drop, F: Shelf<S>> ManyArchives<S, F> {
+    /// The archive at a place: the one that is open, or else it is opened. No other stays open.
+    fn take_out(&mut self, place: u16) -> Result<Opened<S>, TableFault>
+        ensures place { IfOk result (λ opened. opened.place ≡ place) }
+        ensures opened { IfOk result (λ opened. (list : List Archive) →
+            AreShelved S.Store F.holds list self.old.shelf self.old.register self.old.opened →
+            IsOpenAt S.Store list place opened.conn) }
+        ensures none { self.new.opened ≡ None }
+        ensures register { self.new.register ≡ self.old.register }
+        ensures shelf { (list : List Archive) → F.holds list self.old.shelf → F.holds list self.new.shelf }
+    {
+        if let Some(opened) = self.opened.take() {
+            if opened.place == place {
+                return Ok(opened);
+            }
+        }
+        let conn = self.shelf.open(place)?;
+        Ok(Opened { place, conn })
+    }
+}
+
+impl<S: Alter + Drop, F: Shelf<S>> Archives for ManyArchives<S, F> {
+    ghost is_sound = { λ archives. IsSoundIfAny S.Store archives.opened };
+
+    ghost are = { λ list archives.
+        AreShelved S.Store F.holds list archives.shelf archives.register archives.opened };
+
+    fn kept(&mut self, partner: u16, number: u32) -> Result<Kept, TableFault> {
+        let Some(place) = self.register.archive_of(partner, number) else {
+            return Err(TableFault::Damaged);
+        };
+        let mut opened = self.take_out(place)?;
+        let is_idle = opened.conn.is_autocommit();
+        prove!(is_idle);
+        let found = kept(&mut opened.conn, partner, number)?;
+        self.opened = Some(opened);
+        match found {
+            Some(kept) => Ok(kept),
+            None => Err(TableFault::Damaged),
+        }
+    }
+}
