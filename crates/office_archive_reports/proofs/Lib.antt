@@ -1,0 +1,16 @@
+pub mod Sources
+pub mod Later
+pub mod Told
+pub mod Tickets
+pub mod Archived
+pub mod Copied
+pub mod Oldest
+pub mod ClosedTold
+pub mod BeyondTold
+pub mod StayedTold
+pub mod CountedTold
+pub mod Kept
+pub mod Asked
+pub mod Moves
+pub mod Going
+pub mod Older
