@@ -9,13 +9,14 @@ PAPER = 718                 # A4 with margins of a centimetre, in pixels of CSS
 LEAST_CONTRAST = 4.5
 MOST_FRAME = 20000          # bytes of a page without its text
 
-# what of a page is compared: its title, heading, what its report shows, all that its middle shows, and its links, each with
+# what of a page is compared: its title, heading, what its reports show, all that its middle shows, and its links, each with
 # its address and what it shows
 Held = namedtuple('Held', 'title heading report shown links')
 
 HELD = '''(() => {
     const text = what => { const found = document.querySelector(what); return found ? found.textContent : null; };
-    return [document.title, text('h1'), text('pre'), text('main'),
+    const reports = [...document.querySelectorAll('pre')].map(each => each.textContent);
+    return [document.title, text('h1'), reports.length ? reports.join('') : null, text('main'),
         [...document.links].map(link => [link.getAttribute('href'), link.textContent])];
 })()'''
 
@@ -112,7 +113,7 @@ class Reader(HTMLParser):
 
     def __init__(self, text):
         super().__init__()
-        self.inside, self.texts, self.links = [], {}, []
+        self.inside, self.texts, self.links, self.begins_report = [], {}, [], False
         self.feed(text)
 
     def handle_starttag(self, tag, attrs):
@@ -123,6 +124,7 @@ class Reader(HTMLParser):
         if tag in ('title', 'h1', 'pre', 'main', 'a', 'svg'):
             self.inside.append(tag)
             self.texts.setdefault(tag, '')
+        self.begins_report = tag == 'pre'
         if tag == 'a':
             self.links.append([dict(attrs)['href'], ''])
 
@@ -131,8 +133,9 @@ class Reader(HTMLParser):
             self.inside.remove(tag)
 
     def handle_data(self, data):
-        is_first = self.inside[-1:] == ['pre'] and not self.texts['pre']
-        data = data[1:] if is_first and data.startswith('\n') else data     # a line's end right after `<pre>` is not shown
+        if self.begins_report and data.startswith('\n'):
+            data = data[1:]             # a line's end right after `<pre>` is not shown
+        self.begins_report = False
         for tag in self.inside:
             self.texts[tag] += data
         if 'a' in self.inside:

@@ -93,7 +93,8 @@ class Walk:
         return asked_at(path)[0], status
 
     def reported(self, path, status, shows):
-        """Title and text of a report's page are the report's. The picture is drawn, and shows no text of a report."""
+        """Title and text of a report's page are the report's, with a container's visits below it. The picture is drawn, and shows
+        no text of a report."""
         kind, key = asked_at(path)
         if status != 200 or kind not in KINDS or kind == 'picture' or not is_page(path):
             return
@@ -101,7 +102,9 @@ class Walk:
         name = shown_as(title(kind, values[0] if len(values) == 1 else values))
         self.expect(
             (shows.title, shows.heading) == (looks.collapsed(name), name), path, 'is called', shows.title, shows.heading)
-        self.expect(shows.report == shown_as(report(self.served.office, kind, key)), path, 'has another report:', shows.report)
+        kinds = [kind, 'visits'] if kind == 'container' else [kind]
+        told = ''.join(report(self.served.office, each, key) for each in kinds)
+        self.expect(shows.report == shown_as(told), path, 'has another report:', shows.report)
 
     def leading(self, shows):
         """All links of a page, or some, if it has many: each leads to a page of the model. One may lead to a container that never

@@ -146,7 +146,7 @@ def paged(office, head):
     address = address_of(head)
     if address == '/':
         check_method(head, 'GET')
-        return 200, start(report(office, 'metrics', ''))
+        return 200, start(office.setup.terminal, report(office, 'metrics', ''))
     if address == PAGES + '/find':
         check_method(head, 'GET')
         what, number = typed(typed_in(head))
@@ -159,12 +159,13 @@ def paged(office, head):
 
 
 def page_of(office, kind, key):
-    """Status and page of a report: its text, shown, or that there is nothing."""
+    """Status and page of a report: its text, shown, with the visits of a container; or that there is nothing."""
     text = report(office, kind, key)
     if text is None:
         return 404, told('not here')
     values = read_key(kind, key) if PARTS[kind] else [None]
-    return 200, page(kind, values[0] if len(values) == 1 else values, text)
+    visits = report(office, 'visits', key) if kind == 'container' else None
+    return 200, page(kind, values[0] if len(values) == 1 else values, text, visits)
 
 
 # ---- the body

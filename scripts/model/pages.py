@@ -217,12 +217,18 @@ def drawn(text):
     return linked.replace('\n<main>\n', "\n<main>\n<nav>\n<a href='/'>Start</a>\n</nav>\n", 1)
 
 
-def page(kind, key, text):
-    """The page of a report: what was asked for, its text, and what stands below it. The picture is one, and has links there."""
+def titled(kind, key, text):
+    """A report under its title."""
+    return '<h2>%s</h2>\n<pre>\n%s</pre>\n' % (escaped(title(kind, key)), body(kind, text))
+
+
+def page(kind, key, text, visits=None):
+    """The page of a report: what was asked for, its text, and what stands below it; of a container its visits too. The picture
+    is one, and has links there."""
     if kind == 'picture':
         return drawn(text)
     return (head(title(kind, key), kind in ('list', 'work')) + beside(kind, key) + '<pre>\n' + body(kind, text)
-            + '</pre>\n' + below(kind, key, text) + END)
+            + '</pre>\n' + below(kind, key, text) + ('' if visits is None else titled('visits', key, visits)) + END)
 
 
 # what the start page shows of the metrics
@@ -236,11 +242,11 @@ COUNTS = {
 }
 
 
-def start(text):
-    """The start page, over the text of the report on metrics."""
+def start(terminal, text):
+    """The start page of a terminal's name, over the text of the report on metrics."""
     pairs = [line.split(' ')[:2] for line in text.split('\n')]
     counts = ['<li><b>%s</b> %s</li>\n' % (escaped(pair[1]), COUNTS[pair[0]]) for pair in pairs if pair[0] in COUNTS]
-    return head('Office') + '<ul>\n' + ''.join(counts) + '</ul>\n' + END
+    return head('Office of ' + terminal) + '<ul>\n' + ''.join(counts) + '</ul>\n' + END
 
 
 def told(what, right=None):

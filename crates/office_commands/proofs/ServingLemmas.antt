@@ -2,6 +2,7 @@
 use Rattle.std.proofs.Common.{◌≡◌, ◌⊎◌, inl, inr, ℕ, Bool, true, false, List, [], ◌∷◌, ◌++◌, Option, Some, Result, Ok, Err, refl, sym, ap, subst, ◌∙◌}
 use Rattle.std.proofs.KnownBytes.{Appends-nil, Appends-trans}
 use Rattle.std.specs.Io.KnownBytes.{Appends}
+use Rattle.std.specs.Prelude.{string_bytes}
 use Rattle.sqlite_disk.specs.declared.Disk.{Ghosts}
 use Rattle.sqlite.specs.Files.{over_files}
 use Rattle.sqlite.specs.Held.{state}
@@ -10,7 +11,7 @@ use Rattle.sqlite.specs.Tree.{Trees}
 use Rattle.sqlite.specs.declared.FileStore.{FileStore}
 use Rattle.office_replies.specs.Adding.{with_added}
 use Rattle.office_replies.specs.Delivering.{with_answered}
-use Rattle.office_replies.specs.Events.{Event, delivered, added}
+use Rattle.office_replies.specs.Events.{Event, delivered, migrated, added}
 use Rattle.office_replies.specs.declared.accounts.AccountAnswer.{AccountAnswer}
 use Rattle.office_replies.specs.declared.accounts.AccountAnswer.TheVariants as account_answer
 use Rattle.office_replies.specs.declared.deliver.Response.{Response}
@@ -18,6 +19,7 @@ use Rattle.office_replies.specs.declared.deliver.Response.TheVariants as respons
 use Rattle.office_queries.specs.Looking.{Look, report, texts_after, Tells}
 use Rattle.office_queries.specs.declared.query.NotNow.{NotNow}
 use Rattle.office_setup.specs.Setups.{SetupContent}
+use Rattle.office_admission.specs.Accounts.{content_after, content_with}
 use Rattle.office_history.specs.After.{SaysSame}
 use Rattle.office_stream.specs.Fronts.{AppendsFront}
 use Rattle.office_stream.specs.declared.port.Port.{Port}
@@ -102,6 +104,18 @@ module _ (one other : SetupContent) (says : SaysSame one other) where
   served_alike : (es : List Event) (steps : List Step) → AreServed one es steps → AreServed other es steps
   served_alike es [] served = tt
   served_alike es (step ∷ steps) served = (step_alike es step served.0, served_alike (with_step es step) steps served.1)
+
+-- ---- the terminal
+
+-- no event changes it
+terminal_with : (content : SetupContent) (event : Event) → (content_with content event).terminal ≡ content.terminal
+terminal_with content (delivered text) = refl
+terminal_with content (migrated version) = refl
+terminal_with content (added code kind) = refl
+
+terminal_after : (content : SetupContent) (es : List Event) → (content_after content es).terminal ≡ content.terminal
+terminal_after content [] = refl
+terminal_after content (event ∷ es) = terminal_after (content_with content event) es ∙ terminal_with content event
 
 -- ---- one step
 
@@ -238,6 +252,11 @@ module _ {D : Type 0} {g : Ghosts D} where
         | inr more ↦ inr (more.0, one_before Pends step steps more.0 more.1, more.2)
       ]
 
+  -- a desk that stands for events of a set-up has its terminal
+  named_alike : (content : SetupContent) (es : List Event) (desk : Desk (FileStore D g) over_files) → StandsAlike content es desk → string_bytes desk.setup.terminal ≡ content.terminal
+  named_alike content es desk alike =
+      sym (ap (λ (k : SetupContent). k.terminal) alike.holds.now_is) ∙ terminal_after alike.opening es ∙ alike.says.terminal
+
   -- requests that were served of a desk that was opened on files
   pub served_over : (image : Image) (count : ℕ) (opened desk : Desk (FileStore D g) over_files) → OpensOn image opened → AreServedBy (Leads over_files) (Enrols over_files) (Looks over_files) count opened desk
       → IsServedOver image count desk
@@ -249,6 +268,10 @@ module _ {D : Type 0} {g : Ghosts D} where
         let at = opens.events (sound_first opened served.steps desk served.led sound) content es begins in
         let done = stand_steps at.opening es opened served.steps desk served.led sound at.stands in
         (served_alike at.opening content at.opening_says es served.steps done.0, stand_alike at.opening content at.opening_says (events_after es served.steps) desk done.1);
+    named = λ sound content es begins.
+        let at = opens.events (sound_first opened served.steps desk served.led sound) content es begins in
+        let done = stand_steps at.opening es opened served.steps desk served.led sound at.stands in
+        named_alike content (events_after es served.steps) desk (stand_alike at.opening content at.opening_says (events_after es served.steps) desk done.1);
     leaves = λ sound content es begins.
         let at = opens.events (sound_first opened served.steps desk served.led sound) content es begins in
         record {

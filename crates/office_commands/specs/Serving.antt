@@ -1,5 +1,5 @@
 -- What requests that are served leave of an office whose files held the rows after some events.
-use Rattle.std.specs.Prelude.{◌≡◌, ◌⊎◌, ℕ, Bool, true, false, List, [], ◌∷◌, ◌++◌, Option, None, Some, Result, codes, decimal}
+use Rattle.std.specs.Prelude.{◌≡◌, ◌⊎◌, ℕ, Bool, true, false, List, [], ◌∷◌, ◌++◌, Option, None, Some, Result, codes, decimal, string_bytes}
 use Rattle.std.specs.Io.KnownBytes.{Appends}
 use Rattle.sqlite_disk.specs.declared.Disk.{Ghosts}
 use Rattle.sqlite.specs.Files.{over_files}
@@ -114,6 +114,9 @@ module _ {D : Type 0} {g : Ghosts D} where
         AreServed content es served.steps × StandsAlike content (events_after es served.steps) desk
     pub leaves : IsSound over_files desk → (content : SetupContent) (es : List Event) → BeginsAt image content es →
         LeavesServed content es served.steps (state over_files desk.conn)
+    -- the name that the start page shows
+    pub named : IsSound over_files desk → (content : SetupContent) (es : List Event) → BeginsAt image content es →
+        string_bytes desk.setup.terminal ≡ content.terminal
 
 -- ---- what is printed and told
 

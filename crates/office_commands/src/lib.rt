@@ -22,7 +22,7 @@ pub use opening::{
 };
 pub use serving::{Service, serve_over};
 pub use telling::{
-    COMMAND_LINE, DONE, FAILED, Faults, REFUSED, Tallied, demonstrate, print, tell, tell_fault,
-    tell_outcome,
+    COMMAND_LINE, DONE, FAILED, Faults, HasTerminal, REFUSED, Tallied, demonstrate, print, tell,
+    tell_fault, tell_outcome,
 };
 pub use texts::{print_texts, texts_over};

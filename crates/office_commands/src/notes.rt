@@ -3,7 +3,7 @@ ghost use Rattle.std.specs.Prelude.{◌≡◌};
 use crate::telling::{Faults, Tallied};
 use edi_segments::interchange_text;
 use edi_syntax::Head;
-use office_http::{Seen, Watch};
+use office_http::{OfTerminal, Seen, Watch};
 use office_queries::{NotNow, Query, Report};
 use office_replies::{AccountAnswer, AccountFault, AddAccount, Deliver, Fault, Response, Worst};
 use office_stream::{Cut, StreamFault};
@@ -216,6 +216,14 @@ impl<D: Report + Faults + Tallied, N: Notes> Report for Noted<'_, D, N> {
         let found = self.desk.texts(alloc, from);
         self.notes.answered();
         found
+    }
+}
+
+impl<D: OfTerminal, N> OfTerminal for Noted<'_, D, N> {
+    ghost terminal_name = { λ noted. D.terminal_name noted.desk };
+
+    fn terminal(&self) -> &str {
+        self.desk.terminal()
     }
 }
 

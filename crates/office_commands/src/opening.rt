@@ -15,9 +15,10 @@ ghost use Rattle.sqlite.specs.Tree.{Trees};
 ghost use Rattle.sqlite.specs.WalFiles.{image_at};
 
 use crate::first_page::begin_file;
-use crate::telling::{Faults, Tallied};
+use crate::telling::{Faults, HasTerminal, Tallied};
 use office_checks::Closed;
 use office_desk::Desk;
+use office_http::OfTerminal;
 use office_queries::{NotNow, Query, Report};
 use office_replies::{AccountAnswer, AddAccount, Deliver, Response};
 use office_setup::Setup;
@@ -263,6 +264,14 @@ impl<D: Report + Faults, F: Names> Report for Named<D, F> {
 
     fn texts(&mut self, alloc: Global, from: u32) -> Result<Option<Vec<u8>>, NotNow> {
         self.desk.texts(alloc, from)
+    }
+}
+
+impl<D: HasTerminal, F> OfTerminal for Named<D, F> {
+    ghost terminal_name = { λ named. D.terminal_of named.desk };
+
+    fn terminal(&self) -> &str {
+        self.desk.terminal_name()
     }
 }
 

@@ -7,9 +7,9 @@ ghost use Rattle.sqlite.specs.WalFiles.{image_at};
 
 use crate::notes::{Noted, Notes, Watching};
 use crate::opening::{Named, StoreFile, open_store};
-use crate::telling::{DONE, FAILED, Faults, Tallied, print, tell};
+use crate::telling::{DONE, FAILED, Faults, HasTerminal, Tallied, print, tell};
 use office_desk::Desk;
-use office_http::serve_on;
+use office_http::{OfTerminal, serve_on};
 use office_queries::Report;
 use office_replies::AddAccount;
 use office_stream::Port;
@@ -45,7 +45,7 @@ pub fn serve_over<S: Start, N: Notes, W: Write, E: Write>(
 ) -> Result<(u8, Named<Desk<FileStore<FileFrom<S>>>, StoreFile>), TableFault>
     // What was printed and told, and how many calls at most were made for requests. From whatever events the files held the
     // rows, each is answered by that office at its place, or `not now`, and what was answered outlasts a crash. And what
-    // each did to the desk, whatever the files held.
+    // each did to the desk, whatever the files held. The start page is of the terminal of these rows.
     ensures ok { IfOk result (λ ended. EndsServing service.port service.count writer.old writer.new
         (W.contents writer.old.inner) (W.contents writer.new.inner)
         (Tells errors.new.failed (E.contents errors.old.inner) (E.contents errors.new.inner))
@@ -57,7 +57,12 @@ pub fn serve_over<S: Start, N: Notes, W: Write, E: Write>(
 }
 
 /// Serves what a desk over the store at a path answers, whatever desk it is, and gives it back as it was left.
-fn serve_named<D: Report + AddAccount + Faults + Tallied, N: Notes, W: Write, E: Write>(
+fn serve_named<
+    D: Report + AddAccount + Faults + HasTerminal + Tallied,
+    N: Notes,
+    W: Write,
+    E: Write,
+>(
     rt: &HostRuntime,
     path: &str,
     desk: D,
@@ -78,7 +83,7 @@ fn serve_named<D: Report + AddAccount + Faults + Tallied, N: Notes, W: Write, E:
 }
 
 /// Listens at a port of this machine, and answers one request of each connection.
-fn serve_at<D: Report + AddAccount, N: Notes, W: Write, E: Write>(
+fn serve_at<D: Report + AddAccount + OfTerminal, N: Notes, W: Write, E: Write>(
     rt: &HostRuntime,
     desk: &mut D,
     service: Service,

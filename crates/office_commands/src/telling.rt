@@ -1,5 +1,5 @@
 ghost use Rattle.std.specs.Io.KnownBytes.{Appends};
-ghost use Rattle.std.specs.Prelude.{◌≡◌, true, OnOk, OnErr};
+ghost use Rattle.std.specs.Prelude.{◌≡◌, List, ℕ, true, OnOk, OnErr, string_bytes};
 ghost use Rattle.office_commands.specs.Command.{DemoEnds};
 ghost use Rattle.office_commands.specs.Demo.{port_failures};
 ghost use Rattle.office_commands.specs.Ending.{Tells, Prints, status_of, store_text, stream_text, outcome_status, outcome_text};
@@ -146,6 +146,24 @@ impl<S: Alter> Faults for Desk<S> {
 
     fn is_nameless(&self) -> bool {
         false
+    }
+}
+
+/// What knows the name of its terminal.
+pub trait HasTerminal {
+    /// That name.
+    ghost terminal_of: { Self → List ℕ };
+
+    /// The terminal's name.
+    fn terminal_name(&self) -> &str
+        ensures { result.now ≡ terminal_of self.now };
+}
+
+impl<S: Alter> HasTerminal for Desk<S> {
+    ghost terminal_of = { λ desk. string_bytes desk.setup.terminal };
+
+    fn terminal_name(&self) -> &str {
+        self.terminal()
     }
 }
 

@@ -1,4 +1,4 @@
-ghost use Rattle.std.specs.Prelude.{◌≡◌, ◌≤◌, List, None, Some, false, IfErr, IfOk, length, nat_le, option_map, OnOk};
+ghost use Rattle.std.specs.Prelude.{◌≡◌, ◌≤◌, List, None, Some, false, IfErr, IfOk, length, nat_le, option_map, OnOk, string_bytes};
 ghost use Rattle.office_checks.specs.Closed.{last_closed};
 ghost use Rattle.office_desk.specs.Answers.{code_of};
 ghost use Rattle.office_replies.specs.Events.{Event};
@@ -104,6 +104,13 @@ impl<S: Alter> Desk<S> {
         ensures fault { self.new.last_fault ≡ Some fault }
     {
         self.last_fault = Some(fault);
+    }
+
+    /// The terminal's name.
+    pub fn terminal(&self) -> &str
+        ensures { result.now ≡ string_bytes self.now.setup.terminal }
+    {
+        self.setup.terminal.as_str()
     }
 
     /// The connection to its tables.

@@ -1,12 +1,17 @@
 -- One connection after the other, and what was done at a request.
-use Rattle.std.proofs.Common.{◌≡◌, ◌⊎◌, inl, inr, Option, None, Some, ℕ, ◌+◌, ◌≤◌, List, [], ◌∷◌, ◌++◌, Result, Ok, OnOk, refl, subst, arith}
+use Rattle.std.proofs.Common.{◌≡◌, ◌⊎◌, inl, inr, Option, None, Some, ℕ, ◌+◌, ◌≤◌, List, [], ◌∷◌, ◌++◌, Result, Ok, Err, OnOk, refl, subst, arith}
+use Rattle.std.specs.Io.KnownBytes.{Appends, Keeps}
+use Rattle.std.specs.Result.{IsErr}
+use Rattle.std.proofs.KnownBytes.{Appends-kept}
+use Rattle.std.proofs.lemmas.Bool.{false≢true}
 use Rattle.std.proofs.lemmas.List.{length-append}
 use Rattle.office_replies.specs.declared.accounts.AccountAnswer.{AccountAnswer}
 use Rattle.office_replies.specs.declared.deliver.Response.{Response}
 use Rattle.office_queries.specs.Looking.{Look, report, texts_after}
 use Rattle.office_queries.specs.declared.query.NotNow.{NotNow as Unreported}
+use Rattle.office_queries.specs.declared.query.Query.{Query}
 use Rattle.office_http.specs.Responses.{refusal_bytes}
-use Rattle.office_http.specs.Served.{Answers, AtMost, Does, DoesAt, DoesOwn, calls_of}
+use Rattle.office_http.specs.Served.{Answers, AtMost, Does, DoesAt, DoesAfter, DoesOwn, asked_after, calls_of}
 use Rattle.office_http.specs.Steps.{Step, delivery, account, look, StepLeads, StepsLead}
 use Rattle.office_http.specs.declared.targets.View.{View}
 use Rattle.office_http.specs.declared.targets.View.TheVariants as view
@@ -19,12 +24,22 @@ use Rattle.office_http.specs.declared.requests.Request.TheVariants.{Delivery, Ow
 
 -- ---- what is written
 
+-- what was written, after a flush that succeeded
+pub if_kept : {T E : Type 0} (r : Result T E) (a b c : Option (List ℕ)) (bytes : List ℕ) → Appends a b bytes → Keeps b c → OnOk r (Appends a c bytes)
+if_kept (Ok value) a b c bytes writes keeps = Appends-kept a b c bytes writes keeps
+if_kept (Err fault) a b c bytes writes keeps = tt
+
 -- whatever a view, what stands for itself
 pub answers_with : (view : View) (bytes : List ℕ) (IsWritten : List ℕ → Type 0) → IsWritten bytes → Answers view bytes IsWritten
 answers_with view.Text bytes IsWritten written = written
 answers_with view.Page bytes IsWritten written = inl written
 answers_with view.Find bytes IsWritten written = inl written
 answers_with view.Start bytes IsWritten written = inl written
+
+-- nothing is said of what failed
+pub if_failed : {T E : Type 0} (r : Result T E) (P : Type 0) → IsErr r → OnOk r P
+if_failed (Ok value) P failed = absurd (false≢true failed)
+if_failed (Err fault) P failed = tt
 
 -- with other words
 paged_so : (bytes : List ℕ) (P Q : List ℕ → Type 0) → ((bytes : List ℕ) → P bytes → Q bytes) → P bytes ⊎ P (refusal_bytes NotNow) → Q bytes ⊎ Q (refusal_bytes NotNow)
@@ -36,6 +51,14 @@ answers_so view.Text bytes P Q on written = on _ written
 answers_so view.Page bytes P Q on written = paged_so bytes P Q on written
 answers_so view.Find bytes P Q on written = paged_so bytes P Q on written
 answers_so view.Start bytes P Q on written = paged_so bytes P Q on written
+
+-- ---- a second report
+
+module _ {D : Type 0} (looks : D → Look → Result (Option (List ℕ)) Unreported → D → Type 0) where
+  -- with other words of what came of it
+  pub after_so : (second : Option Query) (old new : D) (P Q : Result (Option (List ℕ)) Unreported → Type 0) → ((found : Result (Option (List ℕ)) Unreported) → P found → Q found) → DoesAfter looks second old new P → DoesAfter looks second old new Q
+  after_so None old new P Q on (same, answered) = (same, on _ answered)
+  after_so (Some query) old new P Q on (found, led, answered) = (found, led, on _ answered)
 
 -- ---- what was done
 
@@ -81,16 +104,22 @@ module _ {D : Type 0} (leads : D → List ℕ → Response → D → Type 0) (en
   own_at_most (Some ahead) own old new IsWritten (found, looked, led, does) =
       both 1 1 (calls_of 1) old looked new (omega arith) (done_once 1 (look (report own.next) found) old looked (omega arith) led) (at_once _ own.text.items looked new IsWritten does)
 
+  -- after a report
+  after_at_most : (second : Option Query) (old new : D) (IsAnswered : Result (Option (List ℕ)) Unreported → Type 0) → DoesAfter looks second old new IsAnswered → AtMost leads enrols looks 1 old new
+  after_at_most None old new IsAnswered (same, answered) = untouched 1 old new same
+  after_at_most (Some query) old new IsAnswered (found, led, answered) = done_once 1 (look (report query) found) old new (omega arith) led
+
   -- what was done at a request was two calls at most
-  pub one_at_most : (ahead : Option ℕ) (request : Request) (old new : D) (IsWritten : List ℕ → Type 0) → Does leads enrols looks ahead request old new IsWritten →
+  pub one_at_most : (terminal_name : D → List ℕ) (ahead : Option ℕ) (request : Request) (old new : D) (IsWritten : List ℕ → Type 0) → Does leads enrols looks terminal_name ahead request old new IsWritten →
       AtMost leads enrols looks (calls_of 1) old new
-  one_at_most ahead (Delivery body) old new IsWritten (response, led, written) = done_once (calls_of 1) (delivery body.items response) old new (omega arith) led
-  one_at_most ahead (OwnDelivery own) old new IsWritten does = own_at_most ahead own old new IsWritten does
-  one_at_most ahead (Account key) old new IsWritten (answer, led, written) = done_once (calls_of 1) (account key.code.items key.kind.items answer) old new (omega arith) led
-  one_at_most ahead (Report view kind query) old new IsWritten (found, led, written) = done_once (calls_of 1) (look (report query) found) old new (omega arith) led
-  one_at_most ahead (Texts from) old new IsWritten (found, led, written) = done_once (calls_of 1) (look (texts_after from) found) old new (omega arith) led
-  one_at_most ahead (Noticed notice) old new IsWritten (same, written) = untouched (calls_of 1) old new same
-  one_at_most ahead (Refused refusal) old new IsWritten (same, written) = untouched (calls_of 1) old new same
+  one_at_most terminal_name ahead (Delivery body) old new IsWritten (response, led, written) = done_once (calls_of 1) (delivery body.items response) old new (omega arith) led
+  one_at_most terminal_name ahead (OwnDelivery own) old new IsWritten does = own_at_most ahead own old new IsWritten does
+  one_at_most terminal_name ahead (Account key) old new IsWritten (answer, led, written) = done_once (calls_of 1) (account key.code.items key.kind.items answer) old new (omega arith) led
+  one_at_most terminal_name ahead (Report view kind query) old new IsWritten (found, looked, led, behind) =
+      both 1 1 (calls_of 1) old looked new (omega arith) (done_once 1 (look (report query) found) old looked (omega arith) led) (after_at_most (asked_after view query found) looked new _ behind)
+  one_at_most terminal_name ahead (Texts from) old new IsWritten (found, led, written) = done_once (calls_of 1) (look (texts_after from) found) old new (omega arith) led
+  one_at_most terminal_name ahead (Noticed notice) old new IsWritten (same, written) = untouched (calls_of 1) old new same
+  one_at_most terminal_name ahead (Refused refusal) old new IsWritten (same, written) = untouched (calls_of 1) old new same
 
   -- with other words of what is written
   at_so : (to : Door) (text : List ℕ) (old new : D) (P Q : List ℕ → Type 0) → ((bytes : List ℕ) → P bytes → Q bytes) → DoesAt leads to text old new P → DoesAt leads to text old new Q
@@ -103,17 +132,18 @@ module _ {D : Type 0} (leads : D → List ℕ → Response → D → Type 0) (en
   own_so None own old new P Q on (response, led, written) = (response, led, on _ written)
   own_so (Some ahead) own old new P Q on (found, looked, led, does) = (found, looked, led, at_so _ own.text.items looked new P Q on does)
 
-  pub does_so : (ahead : Option ℕ) (request : Request) (old new : D) (P Q : List ℕ → Type 0) → ((bytes : List ℕ) → P bytes → Q bytes) →
-      Does leads enrols looks ahead request old new P → Does leads enrols looks ahead request old new Q
-  does_so ahead (Delivery body) old new P Q on (response, led, written) = (response, led, on _ written)
-  does_so ahead (OwnDelivery own) old new P Q on does = own_so ahead own old new P Q on does
-  does_so ahead (Account key) old new P Q on (answer, led, written) = (answer, led, on _ written)
-  does_so ahead (Report view kind query) old new P Q on (found, led, written) = (found, led, answers_so view _ P Q on written)
-  does_so ahead (Texts from) old new P Q on (found, led, written) = (found, led, on _ written)
-  does_so ahead (Noticed notice) old new P Q on (same, written) = (same, answers_so view.Page _ P Q on written)
-  does_so ahead (Refused refusal) old new P Q on (same, written) = (same, on _ written)
+  pub does_so : (terminal_name : D → List ℕ) (ahead : Option ℕ) (request : Request) (old new : D) (P Q : List ℕ → Type 0) → ((bytes : List ℕ) → P bytes → Q bytes) →
+      Does leads enrols looks terminal_name ahead request old new P → Does leads enrols looks terminal_name ahead request old new Q
+  does_so terminal_name ahead (Delivery body) old new P Q on (response, led, written) = (response, led, on _ written)
+  does_so terminal_name ahead (OwnDelivery own) old new P Q on does = own_so ahead own old new P Q on does
+  does_so terminal_name ahead (Account key) old new P Q on (answer, led, written) = (answer, led, on _ written)
+  does_so terminal_name ahead (Report view kind query) old new P Q on (found, looked, led, behind) =
+      (found, looked, led, after_so looks (asked_after view query found) looked new _ _ (λ second. answers_so view _ P Q on) behind)
+  does_so terminal_name ahead (Texts from) old new P Q on (found, led, written) = (found, led, on _ written)
+  does_so terminal_name ahead (Noticed notice) old new P Q on (same, written) = (same, answers_so view.Page _ P Q on written)
+  does_so terminal_name ahead (Refused refusal) old new P Q on (same, written) = (same, on _ written)
 
-  pub does_at : {T E : Type 0} (ahead : Option ℕ) (request : Request) (old new : D) (r : Result T E) (value : T) (IsWritten : List ℕ → Type 0) →
-      r ≡ Ok value → Does leads enrols looks ahead request old new (λ bytes. OnOk r (IsWritten bytes)) → Does leads enrols looks ahead request old new IsWritten
-  does_at {T} {E} ahead request old new r value IsWritten is done =
-      subst (λ (x : Result T E). Does leads enrols looks ahead request old new (λ bytes. OnOk x (IsWritten bytes))) is done
+  pub does_at : {T E : Type 0} (terminal_name : D → List ℕ) (ahead : Option ℕ) (request : Request) (old new : D) (r : Result T E) (value : T) (IsWritten : List ℕ → Type 0) →
+      r ≡ Ok value → Does leads enrols looks terminal_name ahead request old new (λ bytes. OnOk r (IsWritten bytes)) → Does leads enrols looks terminal_name ahead request old new IsWritten
+  does_at {T} {E} terminal_name ahead request old new r value IsWritten is done =
+      subst (λ (x : Result T E). Does leads enrols looks terminal_name ahead request old new (λ bytes. OnOk x (IsWritten bytes))) is done

@@ -9,7 +9,7 @@ use Rattle.office_queries.specs.declared.query.NotNow.{NotNow as Unreported}
 use Rattle.office_queries.specs.declared.query.Query.{Query}
 use Rattle.office_queries.specs.declared.query.ReportKind.{ReportKind}
 use Rattle.office_queries.specs.declared.query.ReportKind.TheVariants as kind
-use Rattle.office_pages.specs.Pages.{notice_bytes, page_bytes, start_bytes}
+use Rattle.office_pages.specs.Pages.{notice_bytes, page_bytes, second_of, start_bytes}
 use Rattle.office_pages.specs.declared.notices.Notice.{Notice}
 use Rattle.office_pages.specs.declared.notices.Notice.TheVariants.{NotHere}
 use Rattle.office_http.specs.Doors.{door_of}
@@ -58,21 +58,23 @@ abbrev pub nothing_bytes : View → List ℕ
 nothing_bytes view.Text = refusal_bytes NotFound
 nothing_bytes other = notice_response NotHere
 
--- the text of a report as it is shown: itself, its page, or the start page
-abbrev pub shown : View → Query → List ℕ → List ℕ
-shown view.Text query text = text
-shown view.Page query text = page_bytes query text
-shown view.Find query text = page_bytes query text
-shown view.Start query text = start_bytes text
+-- the text of a report as it is shown, with that of a second one: itself, its page, or the start page of the terminal
+abbrev pub shown : (terminal : List ℕ) → View → Query → List ℕ → Option (List ℕ) → List ℕ
+shown terminal view.Text query text second = text
+shown terminal view.Page query text second = page_bytes query text second
+shown terminal view.Find query text second = page_bytes query text second
+shown terminal view.Start query text second = start_bytes terminal text
 
 abbrev pub content_in : View → ReportKind → ContentType
 content_in view.Text kind = content_of kind
 content_in other kind = Page
 
--- the response with a report, if there is something to tell
-abbrev pub report_bytes : View → ReportKind → Query → Option (List ℕ) → List ℕ
-report_bytes view kind query None = nothing_bytes view
-report_bytes view kind query (Some text) = response_bytes 200 (content_in view kind) None (shown view query text)
+-- the response with a report, if there is something to tell, and with a second one
+abbrev pub report_bytes : (terminal : List ℕ) → View → ReportKind → Query → Option (List ℕ) → (second : Option (List ℕ)) →
+    List ℕ
+report_bytes terminal view kind query None second = nothing_bytes view
+report_bytes terminal view kind query (Some text) second =
+    response_bytes 200 (content_in view kind) None (shown terminal view query text second)
 
 -- the response with the answer to a delivery
 abbrev pub answer_bytes : Response → List ℕ
@@ -82,10 +84,22 @@ answer_bytes response = response_bytes (status_of response) Json None (body_of r
 abbrev pub account_bytes : AccountAnswer → List ℕ
 account_bytes answer = response_bytes (account_status answer) Json None (account_body answer)
 
--- the response with what came of a query
-abbrev pub found_bytes : View → ReportKind → Query → Result (Option (List ℕ)) Unreported → List ℕ
-found_bytes view kind query (Ok found) = report_bytes view kind query found
-found_bytes view kind query (Err refusal) = refusal_bytes NotNow
+-- the response with what came of a query, and of the second one
+abbrev pub found_bytes : (terminal : List ℕ) → View → ReportKind → Query →
+    (found second : Result (Option (List ℕ)) Unreported) → List ℕ
+found_bytes terminal view kind query (Ok found) (Ok second) = report_bytes terminal view kind query found second
+found_bytes terminal view kind query found second = refusal_bytes NotNow
+
+-- the response with the page of a report that tells something, and with what came of the second one
+abbrev pub both_bytes : Query → List ℕ → Result (Option (List ℕ)) Unreported → List ℕ
+both_bytes query text (Ok second) = response_bytes 200 Page None (page_bytes query text second)
+both_bytes query text (Err refusal) = refusal_bytes NotNow
+
+-- the report that is asked for after another one, if that tells something, since its page shows both
+abbrev pub asked_after : View → Query → Result (Option (List ℕ)) Unreported → Option Query
+asked_after view.Page query (Ok (Some text)) = second_of query
+asked_after view.Find query (Ok (Some text)) = second_of query
+asked_after view query found = None
 
 -- the response with what came of a look at the kept texts: a page of them, without a view
 abbrev pub texts_bytes : Result (Option (List ℕ)) Unreported → List ℕ
@@ -121,9 +135,16 @@ module _ {D : Type 0} (leads : D → List ℕ → Response → D → Type 0)
       (found : Result (Option (List ℕ)) Unreported) × (looked : D) × looks old (report own.next) found looked
       × DoesAt leads (door_of ahead own.number found) own.text.items looked new IsWritten
 
+module _ {D : Type 0} (looks : D → Look → Result (Option (List ℕ)) Unreported → D → Type 0) where
+  -- a second report is looked at, or none is
+  abbrev pub DoesAfter : Option Query → D → D → (IsAnswered : Result (Option (List ℕ)) Unreported → Type 0) → Type 0
+  DoesAfter None old new IsAnswered = (new ≡ old) × IsAnswered (Ok None)
+  DoesAfter (Some query) old new IsAnswered =
+      (found : Result (Option (List ℕ)) Unreported) × looks old (report query) found new × IsAnswered found
+
 module _ {D : Type 0} (leads : D → List ℕ → Response → D → Type 0)
     (enrols : D → List ℕ → List ℕ → AccountAnswer → D → Type 0)
-    (looks : D → Look → Result (Option (List ℕ)) Unreported → D → Type 0) where
+    (looks : D → Look → Result (Option (List ℕ)) Unreported → D → Type 0) (terminal_name : D → List ℕ) where
   -- The calls that are made of the desk, and the bytes that answer them. A refusal doesn't touch the desk.
   abbrev pub Does : (ahead : Option ℕ) → Request → D → D → (IsWritten : List ℕ → Type 0) → Type 0
   Does ahead (Delivery body) old new IsWritten = DoesDelivery leads body.items old new IsWritten
@@ -131,8 +152,9 @@ module _ {D : Type 0} (leads : D → List ℕ → Response → D → Type 0)
   Does ahead (Account key) old new IsWritten =
       (answer : AccountAnswer) × enrols old key.code.items key.kind.items answer new × IsWritten (account_bytes answer)
   Does ahead (Report view kind query) old new IsWritten =
-      (found : Result (Option (List ℕ)) Unreported) × looks old (report query) found new
-      × Answers view (found_bytes view kind query found) IsWritten
+      (found : Result (Option (List ℕ)) Unreported) × (looked : D) × looks old (report query) found looked
+      × DoesAfter looks (asked_after view query found) looked new
+      (λ second. Answers view (found_bytes (terminal_name new) view kind query found second) IsWritten)
   Does ahead (Texts from) old new IsWritten =
       (found : Result (Option (List ℕ)) Unreported) × looks old (texts_after from) found new × IsWritten (texts_bytes found)
   Does ahead (Noticed notice) old new IsWritten = (new ≡ old) × Answers view.Page (notice_response notice) IsWritten
@@ -144,13 +166,16 @@ module _ {D : Type 0} (leads : D → List ℕ → Response → D → Type 0)
     pub asks : Asks stream request
     pub does : Does ahead request old new IsWritten
 
+module _ {D : Type 0} (leads : D → List ℕ → Response → D → Type 0)
+    (enrols : D → List ℕ → List ℕ → AccountAnswer → D → Type 0)
+    (looks : D → Look → Result (Option (List ℕ)) Unreported → D → Type 0) where
   -- these steps, at most so many, led a desk from what it was to what it is
   pub record AtMost (count : ℕ) (old new : D) : Type 0 where
     pub steps : List Step
     pub few : length steps ≤ count
     pub led : StepsLead leads enrols looks old steps new
 
--- the most calls that so many requests make: a look at the number that is next, and what is asked for
+-- the most calls that so many requests make: a look at the number that is next and what is asked for, or two reports
 abbrev pub calls_of : ℕ → ℕ
 calls_of requests = requests * 2
 

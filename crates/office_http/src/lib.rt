@@ -12,5 +12,5 @@ mod serve;
 mod server;
 mod targets;
 
-pub use serve::{Seen, ServeFault, Watch, serve_one};
+pub use serve::{OfTerminal, Seen, ServeFault, Watch, serve_one};
 pub use server::serve_on;

@@ -1,5 +1,6 @@
 ghost use Rattle.std.specs.Io.KnownBytes.{Appends};
-ghost use Rattle.std.specs.Prelude.{◌≡◌, string_bytes, true, MatchResult, None, OnErr, OnOk, Some};
+ghost use Rattle.std.specs.Prelude.{◌≡◌, string_bytes, true, MatchResult, None, OnErr, OnOk, Some, Ok, option_map};
+ghost use Rattle.office_pages.specs.Pages.{page_bytes};
 ghost use Rattle.office_http.specs.Ports.{Puts};
 ghost use Rattle.office_http.specs.Responses.{refusal_bytes, response_bytes};
 ghost use Rattle.office_http.specs.Served.{Answers, content_of, notice_response, nothing_bytes, report_bytes};
@@ -17,7 +18,7 @@ use office_stream::Port;
 use std::alloc::{AllocError, Global};
 use std::io::{self, Write};
 
-/// Writes the response with a report: its text, its page or the start page.
+/// Writes the response with a report: its text, its page or the start page of the terminal of that name.
 pub(crate) fn write_report<W: Write>(
     alloc: Global,
     port: &mut Port<W>,
@@ -25,17 +26,34 @@ pub(crate) fn write_report<W: Write>(
     kind: ReportKind,
     query: &Query,
     text: &str,
+    terminal: &str,
 ) -> io::Result<()>
-    ensures answers { Answers view (report_bytes view kind query.now (Some text.now))
+    ensures answers { Answers view (report_bytes terminal.now view kind query.now (Some text.now) None)
         (λ bytes. OnOk result (Appends (W.contents port.old.inner) (W.contents port.new.inner) bytes)) }
     ensures kept { OnOk result (port.new.failed ≡ port.old.failed) }
     ensures fails { OnErr result (port.new.failed ≡ true) }
 {
     match view {
         View::Text => write_text(port, StatusCode::OK, content_of(kind), text),
-        View::Page | View::Find => write_page(port, StatusCode::OK, page(alloc, query, text)),
-        View::Start => write_page(port, StatusCode::OK, start_page(alloc, text)),
+        View::Page | View::Find => write_page(port, StatusCode::OK, page(alloc, query, text, None)),
+        View::Start => write_page(port, StatusCode::OK, start_page(alloc, terminal, text)),
     }
+}
+
+/// Writes the response with the page of a report and of a second one.
+pub(crate) fn write_both<W: Write>(
+    alloc: Global,
+    port: &mut Port<W>,
+    query: &Query,
+    text: &str,
+    second: Option<&str>,
+) -> io::Result<()>
+    ensures answers { Answers view.Page (response_bytes 200 Page None (page_bytes query.now text.now (option_map (λ t. t.now) second.entry)))
+        (λ bytes. OnOk result (Appends (W.contents port.old.inner) (W.contents port.new.inner) bytes)) }
+    ensures kept { OnOk result (port.new.failed ≡ port.old.failed) }
+    ensures fails { OnErr result (port.new.failed ≡ true) }
+{
+    write_page(port, StatusCode::OK, page(alloc, query, text, second))
 }
 
 /// Writes the response that there is no report.

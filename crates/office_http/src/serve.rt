@@ -1,20 +1,22 @@
 ghost use Rattle.std.specs.Io.KnownBytes.{Appends};
-ghost use Rattle.std.specs.Prelude.{◌≤◌, ◌≡◌, ℕ, List, Option, Result, ◌⊎◌, ◌+◌, true, false, IfErr, OnOk, OnErr, IfSome, Err};
+ghost use Rattle.std.specs.Prelude.{◌≤◌, ◌≡◌, ℕ, List, Option, Result, ◌⊎◌, ◌+◌, true, false, IfErr, OnOk, OnErr, IfSome, Some, Ok, Err};
 ghost use Rattle.office_http.specs.Deciding.{EndsWhenDecided};
 ghost use Rattle.office_http.specs.Doors.{door_by, door_of};
 ghost use Rattle.office_http.specs.Heads.{most_request_reads};
-ghost use Rattle.office_http.specs.Served.{Answers, AtMost, calls_of, Does, DoesDelivery, DoesOwn, found_bytes, MatchFault, Serves, texts_bytes};
+ghost use Rattle.office_http.specs.Served.{Answers, asked_after, AtMost, both_bytes, calls_of, Does, DoesAfter, DoesDelivery, DoesOwn, found_bytes, MatchFault, Serves, texts_bytes};
 ghost use Rattle.office_queries.specs.Looking.{report, texts_after};
 ghost use Rattle.office_queries.specs.declared.query.NotNow.{NotNow};
+ghost use Rattle.office_http.specs.declared.targets.View.TheVariants as view;
 
 use crate::head::{ContentType, OwnText};
-use crate::pages::{write_nothing, write_notice, write_report};
+use crate::pages::{write_both, write_nothing, write_notice, write_report};
 use crate::requests::{Request, read_request};
 use crate::response::{
     Refusal, write_account_answer, write_answer, write_bytes, write_early, write_refusal,
 };
 use crate::targets::View;
 use http::StatusCode;
+use office_pages::second_of;
 use office_queries::{NotNow, Query, Report, ReportKind, number_of};
 use office_replies::AddAccount;
 use office_stream::Port;
@@ -26,6 +28,16 @@ use thiserror::Error;
 pub trait Watch {
     /// A connection was served.
     fn served(&mut self, seen: &Seen<'_>);
+}
+
+/// What knows the name of its terminal.
+pub trait OfTerminal {
+    /// That name.
+    ghost terminal_name: { Self → List ℕ };
+
+    /// The terminal's name.
+    fn terminal(&self) -> &str
+        ensures { result.now ≡ terminal_name self.now };
 }
 
 /// What was seen of a connection: the first two words of what came, and what was written.
@@ -133,7 +145,7 @@ fn door_by(ahead: u32, number: u32, next: Option<u64>) -> Door
 
 /// Reads one request, does what it asks for, and writes its response. By the path of a partner a number may be above its
 /// next one by `ahead`; by any, if there is no bound. What a reader gives behind a request has no effect.
-pub fn serve_one<R: Read, W: Write, D: Report + AddAccount>(
+pub fn serve_one<R: Read, W: Write, D: Report + AddAccount + OfTerminal>(
     alloc: Global,
     reader: &mut Port<R>,
     writer: &mut Port<W>,
@@ -142,7 +154,7 @@ pub fn serve_one<R: Read, W: Write, D: Report + AddAccount>(
 ) -> Result<(), ServeFault>
     // Unless a read failed, what was asked for is done, whatever desk it is, and at Ok exactly its answer is written.
     ensures serves { IfSome (R.remaining reader.old.inner) (λ stream. (result ≡ Err ServeFault.Read)
-        ⊎ Serves D.leads D.enrols D.looks ahead stream desk.old desk.new
+        ⊎ Serves D.leads D.enrols D.looks D.terminal_name ahead stream desk.old desk.new
         (λ bytes. OnOk result (Appends (W.contents writer.old.inner) (W.contents writer.new.inner) bytes))) }
 
     // After a failed read nothing was delivered, and nothing written.
@@ -150,7 +162,8 @@ pub fn serve_one<R: Read, W: Write, D: Report + AddAccount>(
         ((reader.new.failed ≡ true) × (desk.new ≡ desk.old) × (writer.new ≡ writer.old))
         ((writer.new.failed ≡ true) × (reader.new.failed ≡ reader.old.failed))) }
 
-    // Whatever the reader gives, one thing is asked of the desk at most, behind a look at the number that is next.
+    // Whatever the reader gives, at most two things are asked of the desk: a look at the number that is next and what is
+    // asked for, or the two reports of a page.
     ensures steps { AtMost D.leads D.enrols D.looks (calls_of 1) desk.old desk.new }
 
     // A read for each byte of a head and of a body, at most.
@@ -180,14 +193,14 @@ pub fn serve_one<R: Read, W: Write, D: Report + AddAccount>(
 }
 
 /// Does what a request asks for, writes its response, and flushes it.
-fn send_answer<W: Write, D: Report + AddAccount>(
+fn send_answer<W: Write, D: Report + AddAccount + OfTerminal>(
     alloc: Global,
     writer: &mut Port<W>,
     desk: &mut D,
     ahead: Option<u32>,
     request: Request,
 ) -> io::Result<()>
-    ensures does { Does D.leads D.enrols D.looks ahead request desk.old desk.new
+    ensures does { Does D.leads D.enrols D.looks D.terminal_name ahead request desk.old desk.new
         (λ bytes. OnOk result (Appends (W.contents writer.old.inner) (W.contents writer.new.inner) bytes)) }
     ensures kept { OnOk result (writer.new.failed ≡ writer.old.failed) }
     ensures fails { OnErr result (writer.new.failed ≡ true) }
@@ -198,14 +211,14 @@ fn send_answer<W: Write, D: Report + AddAccount>(
 }
 
 /// Does what a request asks for, and writes its response.
-fn answer<W: Write, D: Report + AddAccount>(
+fn answer<W: Write, D: Report + AddAccount + OfTerminal>(
     alloc: Global,
     writer: &mut Port<W>,
     desk: &mut D,
     ahead: Option<u32>,
     request: Request,
 ) -> io::Result<()>
-    ensures does { Does D.leads D.enrols D.looks ahead request desk.old desk.new
+    ensures does { Does D.leads D.enrols D.looks D.terminal_name ahead request desk.old desk.new
         (λ bytes. OnOk result (Appends (W.contents writer.old.inner) (W.contents writer.new.inner) bytes)) }
     ensures kept { OnOk result (writer.new.failed ≡ writer.old.failed) }
     ensures fails { OnErr result (writer.new.failed ≡ true) }
@@ -266,7 +279,7 @@ fn answer_own<W: Write, D: Report>(
 }
 
 /// Asks for a report, and writes it as it is shown.
-fn answer_report<W: Write, D: Report>(
+fn answer_report<W: Write, D: Report + OfTerminal>(
     alloc: Global,
     writer: &mut Port<W>,
     desk: &mut D,
@@ -274,16 +287,71 @@ fn answer_report<W: Write, D: Report>(
     kind: ReportKind,
     query: &Query,
 ) -> io::Result<()>
-    ensures does { (found : Result (Option (List ℕ)) NotNow)
-        × D.looks desk.old (report query.now) found desk.new
-        × Answers view (found_bytes view kind query.now found)
-        (λ bytes. OnOk result (Appends (W.contents writer.old.inner) (W.contents writer.new.inner) bytes)) }
+    ensures does { (found : Result (Option (List ℕ)) NotNow) × (looked : D)
+        × D.looks desk.old (report query.now) found looked
+        × DoesAfter D.looks (asked_after view query.now found) looked desk.new
+        (λ second. Answers view (found_bytes (D.terminal_name desk.new) view kind query.now found second)
+        (λ bytes. OnOk result (Appends (W.contents writer.old.inner) (W.contents writer.new.inner) bytes))) }
     ensures kept { OnOk result (writer.new.failed ≡ writer.old.failed) }
     ensures fails { OnErr result (writer.new.failed ≡ true) }
 {
     match desk.report(alloc, query) {
-        Ok(Some(text)) => write_report(alloc, writer, view, kind, query, text.as_str()),
+        Ok(Some(text)) => answer_told(alloc, writer, desk, view, kind, query, text.as_str()),
         Ok(None) => write_nothing(alloc, writer, view),
+        Err(NotNow) => write_refusal(writer, Refusal::NotNow),
+    }
+}
+
+/// Writes the text of a report as it is shown, after a look at the one that its page shows below it.
+fn answer_told<W: Write, D: Report + OfTerminal>(
+    alloc: Global,
+    writer: &mut Port<W>,
+    desk: &mut D,
+    view: View,
+    kind: ReportKind,
+    query: &Query,
+    text: &str,
+) -> io::Result<()>
+    ensures does { DoesAfter D.looks (asked_after view query.now (Ok (Some text.now))) desk.old desk.new
+        (λ second. Answers view (found_bytes (D.terminal_name desk.new) view kind query.now (Ok (Some text.now)) second)
+        (λ bytes. OnOk result (Appends (W.contents writer.old.inner) (W.contents writer.new.inner) bytes))) }
+    ensures kept { OnOk result (writer.new.failed ≡ writer.old.failed) }
+    ensures fails { OnErr result (writer.new.failed ≡ true) }
+{
+    match asked_after(view, query) {
+        Some(second) => answer_both(alloc, writer, desk, query, text, &second),
+        None => write_report(alloc, writer, view, kind, query, text, desk.terminal()),
+    }
+}
+
+/// The report that is asked for after one that tells something, since its page shows both.
+fn asked_after(view: View, query: &Query) -> Option<Query>
+    ensures { (text : List ℕ) → result ≡ asked_after view query.now (Ok (Some text)) }
+{
+    match view {
+        View::Page | View::Find => second_of(query),
+        View::Text | View::Start => None,
+    }
+}
+
+/// Asks for a second report, and writes the page of both.
+fn answer_both<W: Write, D: Report>(
+    alloc: Global,
+    writer: &mut Port<W>,
+    desk: &mut D,
+    query: &Query,
+    text: &str,
+    second: &Query,
+) -> io::Result<()>
+    ensures does { (found : Result (Option (List ℕ)) NotNow)
+        × D.looks desk.old (report second.now) found desk.new
+        × Answers view.Page (both_bytes query.now text.now found)
+        (λ bytes. OnOk result (Appends (W.contents writer.old.inner) (W.contents writer.new.inner) bytes)) }
+    ensures kept { OnOk result (writer.new.failed ≡ writer.old.failed) }
+    ensures fails { OnErr result (writer.new.failed ≡ true) }
+{
+    match desk.report(alloc, second) {
+        Ok(found) => write_both(alloc, writer, query, text, found.as_deref()),
         Err(NotNow) => write_refusal(writer, Refusal::NotNow),
     }
 }

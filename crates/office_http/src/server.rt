@@ -2,7 +2,7 @@ ghost use Rattle.office_http.specs.Served.{AtMost, calls_of};
 
 use crate::overheard::Overheard;
 use crate::requests::ROOM;
-use crate::serve::{Seen, Watch, serve_one};
+use crate::serve::{OfTerminal, Seen, Watch, serve_one};
 use office_queries::Report;
 use office_replies::AddAccount;
 use office_stream::Port;
@@ -45,7 +45,7 @@ const PARTING_READS: u32 = 1024;
 /// over, and so is one whose first byte doesn't come within two seconds, whose request isn't whole within ten, or which
 /// doesn't take its response within ten. By the path of a partner a number may be above its next one by `ahead`, or by any
 /// where there is no bound. What watches is told of each connection as soon as it is answered.
-pub fn serve_on<C: Clock, D: Report + AddAccount, H: Watch>(
+pub fn serve_on<C: Clock, D: Report + AddAccount + OfTerminal, H: Watch>(
     alloc: Global,
     clock: &C,
     listener: &TcpListener,
@@ -65,7 +65,7 @@ pub fn serve_on<C: Clock, D: Report + AddAccount, H: Watch>(
 }
 
 /// Answers one request, in one write if the response is small, and then takes leave of the peer.
-fn serve_stream<C: Clock, D: Report + AddAccount, H: Watch>(
+fn serve_stream<C: Clock, D: Report + AddAccount + OfTerminal, H: Watch>(
     alloc: Global,
     clock: &C,
     stream: &TcpStream,

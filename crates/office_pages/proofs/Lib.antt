@@ -5,4 +5,6 @@ pub mod Plain
 mod Shown
 mod Splitting
 mod Standing
+mod TextPages
+mod Titled
 mod Typing

@@ -16,11 +16,11 @@ use Rattle.office_pages.specs.Words.{lines, word_at, words}
 
 -- ---- parts one after the other
 
-behind_append : (p : Place) (a b : List ℕ) → place_after_all p (a ++ b) ≡ place_after_all (place_after_all p a) b
+pub behind_append : (p : Place) (a b : List ℕ) → place_after_all p (a ++ b) ≡ place_after_all (place_after_all p a) b
 behind_append p [] b = refl
 behind_append p (c ∷ a) b = behind_append (place_after p c) a b
 
-tags_append : (p : Place) (a b : List ℕ) → tags p (a ++ b) ≡ tags p a ++ tags (place_after_all p a) b
+pub tags_append : (p : Place) (a b : List ℕ) → tags p (a ++ b) ≡ tags p a ++ tags (place_after_all p a) b
 tags_append p [] b = refl
 tags_append Between (c ∷ a) b = elim (cases_Bool (c == 60)) [
   | inl e ↦ rw e (ap (λ t. c ∷ t) (tags_append Tag a b))

@@ -5,7 +5,7 @@ use Rattle.office_picture.specs.Fields.{field_text}
 use Rattle.office_picture.specs.Markup.{Place, Between, Tag, SingleQuoted, DoubleQuoted, place_after, place_after_all, tags, Shows}
 use Rattle.office_queries.specs.declared.query.Query.{Query}
 use Rattle.office_pages.specs.Links.{link_at}
-use Rattle.office_pages.specs.Pages.{body_bytes}
+use Rattle.office_pages.specs.Pages.{body_bytes, start_bytes}
 use Rattle.office_pages.specs.Words.{lines, words}
 
 -- ---- what is shown
@@ -42,3 +42,8 @@ line_tags asked line =
 abbrev pub ReportsBringNoMarkup : Type 0
 ReportsBringNoMarkup = (asked : Query) (text : List ℕ) →
     tags Between (body_bytes asked text) ≡ flat_map (line_tags asked) (lines text)
+
+-- whatever the terminal's name is, the start page has the same tags, with the same values, in the same order
+abbrev pub NamesBringNoMarkup : Type 0
+NamesBringNoMarkup = (name other : List ℕ) (text : List ℕ) →
+    tags Between (start_bytes name text) ≡ tags Between (start_bytes other text)

@@ -13,7 +13,7 @@ use Rattle.office_pages.specs.Drawn.{picture_view}
 use Rattle.office_pages.specs.Fixed.{foot, head, top}
 use Rattle.office_pages.specs.Links.{container_link, link_at}
 use Rattle.office_pages.specs.Meanings.{framed, meanings_view}
-use Rattle.office_pages.specs.Titles.{notice_title, title}
+use Rattle.office_pages.specs.Titles.{notice_title, start_title, title}
 use Rattle.office_pages.specs.Words.{is_at, lines, without_front, word_at, words}
 use Rattle.office_pages.specs.declared.notices.Notice.{Notice}
 use Rattle.office_pages.specs.declared.notices.Notice.TheVariants as notice
@@ -157,18 +157,35 @@ below (query.Reply partner number) text = meanings_view text
 below (query.Partner code) text = last_view (string_bytes code) (next_of (string_bytes code) text)
 below other text = []
 
+-- ---- a second report
+
+-- the report that a page shows below its own: the visits of a container
+abbrev pub second_of : Query → Option Query
+second_of (query.Container number) = Some (query.Visits number)
+second_of other = None
+
+-- a report under its title
+abbrev pub titled_report : Query → List ℕ → List ℕ
+titled_report asked text =
+    codes "<h2>" ++ field_text (title asked) ++ codes "</h2>\n<pre>\n" ++ body_bytes asked text ++ codes "</pre>\n"
+
+-- so a second one is shown, if it tells something
+abbrev pub second_view : Option Query → Option (List ℕ) → List ℕ
+second_view (Some asked) (Some text) = titled_report asked text
+second_view asked told = []
+
 -- ---- pages
 
--- what shows the text of a report; a browser drops the first LF behind <pre>
-abbrev pub text_page : Query → List ℕ → List ℕ
-text_page asked text =
+-- what shows the text of a report, and that of a second one; a browser drops the first LF behind <pre>
+abbrev pub text_page : Query → List ℕ → Option (List ℕ) → List ℕ
+text_page asked text second =
     page_head (asks_again asked) (title asked) ++ beside asked ++ codes "<pre>\n" ++ body_bytes asked text
-    ++ codes "</pre>\n" ++ below asked text ++ foot
+    ++ codes "</pre>\n" ++ below asked text ++ second_view (second_of asked) second ++ foot
 
 -- a report's page; the picture is one, and has links there
-abbrev pub page_bytes : Query → List ℕ → List ℕ
-page_bytes query.Picture text = picture_view text
-page_bytes other text = text_page other text
+abbrev pub page_bytes : Query → List ℕ → Option (List ℕ) → List ℕ
+page_bytes query.Picture text second = picture_view text
+page_bytes other text second = text_page other text second
 
 -- what is counted by a metric
 abbrev pub label_of : List ℕ → List ℕ
@@ -189,10 +206,10 @@ counted (c ∷ label) value = codes "<li><b>" ++ field_text value ++ codes "</b>
 abbrev pub count_view : List ℕ → List ℕ
 count_view line = counted (label_of (word_at (words line) 0)) (word_at (words line) 1)
 
--- the start page, over the text of the report on metrics
-abbrev pub start_bytes : List ℕ → List ℕ
-start_bytes text =
-    page_head false (codes "Office") ++ codes "<ul>\n" ++ flat_map count_view (lines text) ++ codes "</ul>\n" ++ foot
+-- the start page of a terminal, over the text of the report on metrics
+abbrev pub start_bytes : (terminal : List ℕ) → List ℕ → List ℕ
+start_bytes terminal text =
+    page_head false (start_title terminal) ++ codes "<ul>\n" ++ flat_map count_view (lines text) ++ codes "</ul>\n" ++ foot
 
 -- what is told in place of a report
 abbrev pub notice_view : Notice → List ℕ

@@ -47,6 +47,10 @@ title (query.Next code) = name_title (codes "Next number of ") (string_bytes cod
 title query.Health = codes "Health"
 title query.Metrics = codes "Metrics"
 
+-- that of the start page, by the terminal's name
+abbrev pub start_title : List ℕ → List ℕ
+start_title terminal = name_title (codes "Office of ") terminal
+
 abbrev pub notice_title : Notice → List ℕ
 notice_title notice.NotHere = codes "Not here"
 notice_title notice.Form = codes "No container number"

@@ -1,12 +1,15 @@
 //! What stands below a report.
+ghost use Rattle.office_picture.specs.Fields.{field_text};
 ghost use Rattle.std.specs.List.{before_first};
-ghost use Rattle.std.specs.Prelude.{◌≡◌, ◌++◌, ◌==◌, IfOk, OnOk, Some, string_bytes};
+ghost use Rattle.std.specs.Prelude.{◌≡◌, ◌++◌, ◌==◌, IfOk, OnOk, Some, option_map, string_bytes};
 ghost use Rattle.office_pages.specs.Meanings.{framed};
-ghost use Rattle.office_pages.specs.Pages.{below, last_replies, last_view, next_behind, next_of, numbered_reply};
+ghost use Rattle.office_pages.specs.Pages.{below, last_replies, last_view, next_behind, next_of, numbered_reply, second_of, second_view, titled_report};
 
 use crate::addresses::address_of_two;
 use crate::beside::push_link_beside;
+use crate::body::{push_body, push_field};
 use crate::meanings::push_meanings;
+use crate::titles::title;
 use crate::words::{is_at, word_at, words_of};
 use office_queries::{Query, number_of};
 use std::alloc::{AllocError, Global};
@@ -28,6 +31,49 @@ pub(crate) fn push_below(
         Query::Partner(code) => push_last(alloc, page, code.as_str(), text),
         _ => Ok(()),
     }
+}
+
+/// The report that a page shows below its own: of a container its visits.
+pub fn second_of(query: &Query) -> Option<Query>
+    ensures { result ≡ second_of query.now }
+{
+    match query {
+        Query::Container(number) => Some(Query::Visits(*number)),
+        _ => None,
+    }
+}
+
+/// Appends the report that a page shows below its own, by its text.
+pub(crate) fn push_second(
+    alloc: Global,
+    page: &mut String,
+    query: &Query,
+    text: Option<&str>,
+) -> Result<(), AllocError>
+    ensures { OnOk result (string_bytes page.new
+        ≡ string_bytes page.old ++ second_view (second_of query.now) (option_map (λ t. t.now) text.entry)) }
+{
+    match (second_of(query), text) {
+        (Some(second), Some(text)) => push_titled(alloc, page, &second, text),
+        _ => Ok(()),
+    }
+}
+
+/// Appends a report under its title.
+fn push_titled(
+    alloc: Global,
+    page: &mut String,
+    query: &Query,
+    text: &str,
+) -> Result<(), AllocError>
+    ensures { OnOk result (string_bytes page.new ≡ string_bytes page.old ++ titled_report query.now text.now) }
+{
+    let title = title(alloc, query)?;
+    page.push_str("<h2>")?;
+    push_field(alloc, page, title.as_slice())?;
+    page.push_str("</h2>\n<pre>\n")?;
+    push_body(alloc, page, query, text)?;
+    page.push_str("</pre>\n")
 }
 
 /// Appends links to the replies to a partner's last interchanges, by its line.

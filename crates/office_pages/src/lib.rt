@@ -16,6 +16,7 @@ mod titles;
 mod typed;
 mod words;
 
+pub use below::second_of;
 pub use notices::{Notice, notice_page};
 pub use pages::{has_page, page, start_page};
 pub use typed::typed_number;

@@ -1,14 +1,14 @@
 ghost use Rattle.std.specs.List.{flat_map};
-ghost use Rattle.std.specs.Prelude.{◌≡◌, ◌++◌, IfOk, OnOk, string_bytes};
+ghost use Rattle.std.specs.Prelude.{◌≡◌, ◌++◌, IfOk, OnOk, option_map, string_bytes};
 ghost use Rattle.office_pages.specs.Pages.{again, asks_again, count_view, counted, has_page, label_of, page_bytes, page_head, start_bytes, text_page};
 ghost use Rattle.office_pages.specs.Words.{lines};
 
-use crate::below::push_below;
+use crate::below::{push_below, push_second};
 use crate::beside::push_beside;
 use crate::body::{push_body, push_field, push_text};
 use crate::drawn::linked_picture;
 use crate::fixed::{foot, head, top};
-use crate::titles::title;
+use crate::titles::{start_title, title};
 use crate::words::{word_at, words_of};
 use office_queries::Query;
 use std::alloc::{AllocError, Global};
@@ -28,20 +28,30 @@ pub fn has_page(query: &Query) -> bool
 }
 
 /// The page of a report: what was asked for, its text, and below it what the names in a reply mean, or links to the
-/// replies to a partner's last interchanges. That of the picture is the picture, with a link from each container to its
-/// page.
-pub fn page(alloc: Global, query: &Query, text: &str) -> Result<String, AllocError>
-    ensures { IfOk result (λ page. string_bytes page ≡ page_bytes query.now text.now) }
+/// replies to a partner's last interchanges; then the text of the report that `second_of` names, if that tells something.
+/// That of the picture is the picture, with a link from each container to its page.
+pub fn page(
+    alloc: Global,
+    query: &Query,
+    text: &str,
+    second: Option<&str>,
+) -> Result<String, AllocError>
+    ensures { IfOk result (λ page. string_bytes page ≡ page_bytes query.now text.now (option_map (λ t. t.now) second.entry)) }
 {
     match query {
         Query::Picture => linked_picture(alloc, text),
-        _ => text_page(alloc, query, text),
+        _ => text_page(alloc, query, text, second),
     }
 }
 
-/// The page that shows a report's text.
-fn text_page(alloc: Global, query: &Query, text: &str) -> Result<String, AllocError>
-    ensures { IfOk result (λ page. string_bytes page ≡ text_page query.now text.now) }
+/// The page that shows a report's text, and that of a second one.
+fn text_page(
+    alloc: Global,
+    query: &Query,
+    text: &str,
+    second: Option<&str>,
+) -> Result<String, AllocError>
+    ensures { IfOk result (λ page. string_bytes page ≡ text_page query.now text.now (option_map (λ t. t.now) second.entry)) }
 {
     let title = title(alloc, query)?;
     let mut page = String::new(alloc);
@@ -51,6 +61,7 @@ fn text_page(alloc: Global, query: &Query, text: &str) -> Result<String, AllocEr
     push_body(alloc, &mut page, query, text)?;
     page.push_str("</pre>\n")?;
     push_below(alloc, &mut page, query, text)?;
+    push_second(alloc, &mut page, query, second)?;
     page.push_str(foot())?;
     Ok(page)
 }
@@ -98,13 +109,14 @@ fn again(asks_again: bool) -> &'static str
     }
 }
 
-/// The start page: a field for a container's number, links to the reports without a key, and how much there is of what,
-/// by the text of the report on metrics.
-pub fn start_page(alloc: Global, text: &str) -> Result<String, AllocError>
-    ensures { IfOk result (λ page. string_bytes page ≡ start_bytes text.now) }
+/// The start page of the terminal of that name: a field for a container's number, links to the reports without a key, and
+/// how much there is of what, by the text of the report on metrics.
+pub fn start_page(alloc: Global, terminal: &str, text: &str) -> Result<String, AllocError>
+    ensures { IfOk result (λ page. string_bytes page ≡ start_bytes terminal.now text.now) }
 {
+    let title = start_title(alloc, terminal)?;
     let mut page = String::new(alloc);
-    push_head(alloc, &mut page, false, b"Office")?;
+    push_head(alloc, &mut page, false, title.as_slice())?;
     page.push_str("<ul>\n")?;
     push_counts(alloc, &mut page, text)?;
     page.push_str("</ul>\n")?;

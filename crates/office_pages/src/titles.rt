@@ -1,6 +1,6 @@
 //! What pages are called.
 ghost use Rattle.std.specs.Prelude.{◌≡◌, IfOk};
-ghost use Rattle.office_pages.specs.Titles.{call_title, interchange_title, list_title, name_title, notice_title, title, work_title};
+ghost use Rattle.office_pages.specs.Titles.{call_title, interchange_title, list_title, name_title, notice_title, start_title, title, work_title};
 
 use crate::notices::Notice;
 use edi_messages::Call;
@@ -37,6 +37,13 @@ pub(crate) fn title(alloc: Global, query: &Query) -> Result<Vec<u8>, AllocError>
         Query::Health => Vec::from_slice(alloc, b"Health"),
         Query::Metrics => Vec::from_slice(alloc, b"Metrics"),
     }
+}
+
+/// The title of the start page, by the terminal's name.
+pub(crate) fn start_title(alloc: Global, terminal: &str) -> Result<Vec<u8>, AllocError>
+    ensures { IfOk result (λ bytes. bytes.items ≡ start_title terminal.now) }
+{
+    name_title(alloc, "Office of ", terminal.as_bytes())
 }
 
 /// The title of what is told in place of a report.

@@ -1,6 +1,6 @@
-use Rattle.std.proofs.Common.{◌++◌, ap, ◌∙◌, codes, string_bytes}
+use Rattle.std.proofs.Common.{◌++◌, ap, ◌∙◌, codes, option_map, string_bytes}
 use Rattle.office_pages.specs.Fixed.{foot}
-use Rattle.office_pages.specs.Pages.{asks_again, below, beside, body_bytes, page_head}
+use Rattle.office_pages.specs.Pages.{asks_again, below, beside, body_bytes, page_head, second_of, second_view}
 use Rattle.office_pages.specs.Titles.{title}
 use Rattle.office_pages.proofs.Growing.{behind}
 use Rattle.office_pages.proofs.pages.text_page.Goals as goal
@@ -25,5 +25,8 @@ returns c =
     let told = string_bytes c.push_below.new.page in
     let last = below asked c.args.text.now in
     let g = behind (top ++ links ++ codes "<pre>\n" ++ body ++ codes "</pre>\n") last ended told f c.in_ok-push_below.ensures in
-    behind (top ++ links ++ codes "<pre>\n" ++ body ++ codes "</pre>\n" ++ last) foot told (string_bytes c.push_str-3.new.self) g
-    (c.in_ok-push_str-3.ensures.bytes ∙ ap (λ t. told ++ t) c.foot.ensures)
+    let more = second_view (second_of asked) (option_map (λ t. t.now) c.args.second) in
+    let both = string_bytes c.push_second.new.page in
+    let h = behind (top ++ links ++ codes "<pre>\n" ++ body ++ codes "</pre>\n" ++ last) more told both g c.in_ok-push_second.ensures in
+    behind (top ++ links ++ codes "<pre>\n" ++ body ++ codes "</pre>\n" ++ last ++ more) foot both (string_bytes c.push_str-3.new.self) h
+    (c.in_ok-push_str-3.ensures.bytes ∙ ap (λ t. both ++ t) c.foot.ensures)
