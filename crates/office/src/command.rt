@@ -184,7 +184,10 @@ pub(crate) fn texts<W: Write, E: Write>(
     errors: &mut Port<E>,
 ) -> u8 {
     match texts_over(rt, store, Unknown, from, writer) {
-        Ok(status) => status,
+        Ok((_conn, printed)) => match printed {
+            Ok(status) => status,
+            Err(fault) => tell_store(rt, errors, store, &fault),
+        },
         Err(fault) => tell_store(rt, errors, store, &fault),
     }
 }

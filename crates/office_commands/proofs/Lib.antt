@@ -8,3 +8,5 @@ mod AccountLemmas
 mod LookingLemmas
 mod ServingLemmas
 mod MigratingLemmas
+mod TextLemmas
+mod KeptTextLemmas

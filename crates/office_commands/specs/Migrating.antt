@@ -1,13 +1,11 @@
 -- What a migration leaves of two stores, by what their files held.
 use Rattle.std.specs.Prelude.{◌≡◌, ◌⊎◌, ℕ, List, [], ◌∷◌, ◌++◌, IsTrue, Result, Ok, Err, IfErr, OnOk, OnErr, codes}
 use Rattle.sqlite_disk.specs.declared.Disk.{Ghosts as DiskGhosts}
-use Rattle.sqlite_catalog.specs.Listing.{Lists}
-use Rattle.sqlite_trees.specs.Objects.{catalog_tree}
 use Rattle.sqlite_trees.specs.declared.store.Store.{Ghosts}
+use Rattle.sqlite.specs.Effect.{Database}
 use Rattle.sqlite.specs.Files.{HoldsDatabase, file_state, over_files}
 use Rattle.sqlite.specs.Held.{Held, state}
 use Rattle.sqlite.specs.Recovery.{Image}
-use Rattle.sqlite.specs.Schema.{Schema}
 use Rattle.sqlite.specs.State.{State, HasCleanDisk, Survives}
 use Rattle.sqlite.specs.Tree.{Trees}
 use Rattle.sqlite.specs.declared.FileStore.{FileStore}
@@ -19,14 +17,15 @@ use Rattle.office_rows.specs.Layouts.{bare_schema}
 use Rattle.office_rows.specs.Migrated.{migrated_rows}
 use Rattle.office_rows.specs.Rows.{Rows}
 use Rattle.office_rows.specs.Stored.{HasRows}
-use Rattle.office_rows.specs.Tables.{no_schema}
+use Rattle.office_rows.specs.Tables.{interchange_table, no_schema}
 use Rattle.office_tables.specs.Faults.{IsOfStore}
 use Rattle.office_tables.specs.Reading.{Reads}
 use Rattle.office_tables.specs.declared.table_fault.TableFault.{TableFault}
 use Rattle.office_migration.specs.History.{HoldsAfter, IsOlderAfter, StoresAfter}
-use Rattle.office_migration.specs.Migration.{IsMigration, Migrates}
+use Rattle.office_migration.specs.Migration.{IsMigration, Migrates, StandAlike}
 use Rattle.office_desk.specs.Crashes.{IsAfter, Leaves}
 use Rattle.office_commands.specs.Opening.{HoldsNoTables, ShowsHeld}
+use Rattle.office_commands.specs.Reporting.{office_database}
 
 -- ---- between two stores of any kind
 
@@ -85,14 +84,25 @@ pub record IsJudged {D : Type 0} {g : DiskGhosts D} (image : Image) (conn : Held
 
 -- ---- what the new store holds
 
+-- the rows of an older store's trees, brought to the newest version, with the interchanges in the order in which they
+-- stand there
+pub record TakesOver (rows : Rows) (older : Trees) (db : Database) : Type 0 where
+  pub has : HasRows (migrated_rows rows) db
+  pub in_order : StandAlike (older interchange_table.tree) (db.trees interchange_table.tree)
+
+-- these are committed, and a crash leaves them alone
+pub record CommitsOver (rows : Rows) (older : Trees) (s : State) : Type 0 where
+  pub committed : TakesOver rows older s.committed
+  pub alone : (db : Trees) → s.may_leave db → TakesOver rows older (office_database db)
+
 -- the rows after those events are committed, and a crash leaves them alone
 abbrev pub GoesOnFrom : SetupContent → List Event → State → Type 0
 GoesOnFrom content es s = HoldsAfter content es s.committed × Leaves content es s
 
 -- The new store was made of what the old one keeps, or there is a fault, and it was not. The old store was only read. Said
--- if both disks have told the truth, of new files that held no table: the new store has the old rows, so changed; it
--- goes on from the events of the old one and the migration; a crash leaves what it would have left before, or that whole;
--- and what comes of events is refused only for the store.
+-- if both disks have told the truth, of new files that held no table: the new store has the old rows, so changed, and the
+-- interchanges in their order; it goes on from the events of the old one and the migration; a crash leaves what it would
+-- have left before, or that whole; and what comes of events is refused only for the store.
 pub record IsMigratedOver {D E : Type 0} {g : DiskGhosts D} {h : DiskGhosts E} (old_image new_image : Image)
     (outcome : Result ℕ TableFault) (older : Held (FileStore D g)) (newer : Held (FileStore E h)) : Type 0 where
   pub judged : Held (FileStore D g)
@@ -105,7 +115,10 @@ pub record IsMigratedOver {D E : Type 0} {g : DiskGhosts D} {h : DiskGhosts E} (
   pub refused : HasCleanDisk (file_state older) → (version : Version) (content : SetupContent) (es : List Event) →
       HoldsOlder old_image version content es → IfErr outcome IsOfStore
   pub rows : HasCleanDisk (file_state older) → HasCleanDisk (file_state newer) → HoldsNoTables new_image → (rows : Rows) →
-      HoldsBare old_image rows → OnOk outcome (HasRows (migrated_rows rows) (file_state newer).committed)
+      (held : HoldsBare old_image rows) → OnOk outcome (CommitsOver rows held.db (file_state newer))
+  pub whole : HasCleanDisk (file_state older) → HasCleanDisk (file_state newer) → HoldsNoTables new_image → (rows : Rows) →
+      (held : HoldsBare old_image rows) → (db : Trees) → (file_state newer).may_leave db →
+      (file_state found).may_leave db ⊎ TakesOver rows held.db (office_database db)
   pub goes_on : HasCleanDisk (file_state older) → HasCleanDisk (file_state newer) → HoldsNoTables new_image →
       (version : Version) (content : SetupContent) (es : List Event) → HoldsOlder old_image version content es →
       OnOk outcome (GoesOnFrom content (es ++ migrated version ∷ []) (file_state newer))

@@ -59,7 +59,7 @@ pub fn migrate_over<S: Start, T: Start, W: Write>(
     writer: &mut Port<W>,
 ) -> Result<Migrated<FileStore<FileFrom<S>>, FileStore<FileFrom<T>>>, MigrationFault>
     // From whatever events the old files held the rows, the new store goes on from these and the migration, and what a
-    // crash leaves.
+    // crash leaves. The interchanges stand in the order in which they stood in the old files.
     ensures ok { IfOk result (λ ended.
         IsMigratedOver (image_at S.Start) (image_at T.Start) ended.outcome ended.old ended.new) }
     ensures printed { IfOk result (λ ended. TellsReady (writer.new ≡ writer.old)
