@@ -9,3 +9,4 @@ pub mod ReadLemmas
 pub mod SoundLemmas
 pub mod RegisterLemmas
 pub mod LoopLemmas
+pub mod RaiseLemmas

@@ -30,7 +30,7 @@ partner_at segments i d within all =
 
 -- ---- one more
 
-last_pushed : (partner : ℕ) (segments : List Segment) (s : Segment) → last_closed (segments ++ s ∷ []) partner ≡ max (last_closed segments partner) (if is_of partner s then s.last else 0)
+pub last_pushed : (partner : ℕ) (segments : List Segment) (s : Segment) → last_closed (segments ++ s ∷ []) partner ≡ max (last_closed segments partner) (if is_of partner s then s.last else 0)
 last_pushed partner = max_push (λ (ss : List Segment). last_closed ss partner) (λ (s : Segment). if is_of partner s then s.last else 0) refl (λ x xs. refl)
 
 -- within the list it does not matter what is asked for beyond it

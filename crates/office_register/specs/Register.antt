@@ -1,6 +1,7 @@
 -- What a register of archives says: which archives hold a store's history, and which numbers each of them closed.
 use Rattle.std.specs.Prelude.{ℕ, ◌==◌, ◌&&◌, nat_le, max, Bool, List, [], ◌∷◌, map, find, fold, if◌then◌else◌, Option, string_bytes}
 use Rattle.std.specs.Option.{option_map}
+use Rattle.office_checks.specs.Closed.{ClosedContent}
 use Rattle.office_register.specs.declared.register.Archive.{Archive}
 use Rattle.office_register.specs.declared.register.Register.{Register}
 use Rattle.office_register.specs.declared.register.Segment.{Segment}
@@ -52,3 +53,8 @@ archive_of segments partner number =
 -- the number of the newest visit as the last archive was closed, 0 if there is none
 abbrev pub newest_visit : List ArchiveContent → ℕ
 newest_visit archives = fold (λ _ archive. archive.visits) 0 archives
+
+-- what is closed of the store, as its opening asks for it
+abbrev pub closed_by : RegisterContent → ClosedContent
+closed_by content =
+    record { last_closed = last_closed content.segments; newest_closed = newest_visit content.archives }

@@ -1,5 +1,5 @@
 -- Which registers are sound.
-use Rattle.std.specs.Prelude.{ℕ, ◌+◌, ◌==◌, ◌&&◌, ◌||◌, not, nat_le, nat_lt, Bool, true, List, [], ◌∷◌, ◌++◌, length, IsTrue, IfSome, IsUtf8, Option, None, Some}
+use Rattle.std.specs.Prelude.{ℕ, ◌≤◌, ◌+◌, ◌==◌, ◌&&◌, ◌||◌, not, nat_le, nat_lt, Bool, true, List, [], ◌∷◌, ◌++◌, length, IsTrue, IfSome, IsUtf8, Option, None, Some}
 use Rattle.std.specs.List.{list_all, list_any, AllByRecursion}
 use Rattle.std.specs.Str.{bytes_eq}
 use Rattle.edi_syntax.specs.Numbers.{last_number}
@@ -47,6 +47,11 @@ is_within archives segment =
     ((nat_le 1 segment.partner && nat_le segment.partner most_partners)
     && (nat_le 1 segment.archive && nat_le segment.archive archives))
     && (nat_le 1 segment.last && nat_le segment.last last_number)
+
+-- of an account that may be
+pub record IsOfAccount (segment : Segment) : Type 0 where
+  pub from : 1 ≤ segment.partner
+  pub to : segment.partner ≤ most_partners
 
 -- by archive, and of one archive by partner
 abbrev pub comes_later : ℕ → ℕ → Segment → Bool

@@ -1,10 +1,10 @@
-ghost use Rattle.std.specs.Prelude.{◌≡◌, ◌<◌, [], ◌∷◌, ⊤, IfOk, IfErr, IsUtf8, map, length, string_bytes};
+ghost use Rattle.std.specs.Prelude.{◌≡◌, ◌<◌, [], ◌∷◌, ⊤, IfOk, IfErr, IsTrue, IsUtf8, map, length, string_bytes};
 ghost use Rattle.std.specs.Option.{option_map};
 ghost use Rattle.office_loading.specs.Decoded.{itself};
 ghost use Rattle.office_loading.specs.Tables.{ReadsTable};
 ghost use Rattle.office_register.specs.Reading.{FitsArchive, FitsSegment, ShowsArchives, ShowsSegments, ShowsFiles, ReadsMark, ReadsTables, ReadsRegister};
 ghost use Rattle.office_register.specs.Register.{archive_content, register_content};
-ghost use Rattle.office_register.specs.Sound.{IsSound};
+ghost use Rattle.office_register.specs.Sound.{is_sound, IsSound};
 ghost use Rattle.office_register.specs.Stored.{HasRegister, if_any};
 ghost use Rattle.office_register.specs.Tables.{archive_table, segment_table, closed_for_table, register_schema};
 ghost use Rattle.office_rows.specs.Shown.{ShowsTable};
@@ -33,6 +33,7 @@ pub fn read_register<S: Alter>(
         HasRegister content (state S.Store conn.old).now → IsSound content → register_content register ≡ content) }
     ensures kept { HasCleanDisk (state S.Store conn.new) → IfErr result (λ fault. (content : _) →
         HasRegister content (state S.Store conn.old).now → IsSound content → IsOfStore fault) }
+    ensures sound { IfOk result (λ register. IsTrue (is_sound (register_content register))) }
     ensures version { IfErr result (IsOfStoreOr ⊤) }
     ensures reads { Reads (state S.Store conn.old) (state S.Store conn.new) result }
 {

@@ -1,5 +1,13 @@
-ghost use Rattle.std.specs.Prelude.{◌≡◌};
-ghost use Rattle.office_register.specs.Register.{register_content, last_closed, archive_of, newest_visit};
+ghost use Rattle.std.specs.Prelude.{◌≡◌, ◌↔◌, ◌++◌, ◌∷◌, [], true, ℕ, IfOk, OnOk, IsTrue, get_or, map};
+ghost use Rattle.std.specs.List.{AllByRecursion};
+ghost use Rattle.office_checks.specs.Closed.{closed_content};
+ghost use Rattle.office_register.specs.Changes.{closed_with, unmarked};
+ghost use Rattle.office_register.specs.Register.{archive_content, register_content, last_closed, archive_of, newest_visit, closed_by};
+ghost use Rattle.office_register.specs.Sound.{is_sound, IsOfAccount};
+
+use office_checks::Closed;
+use office_setup::MOST_PARTNERS;
+use std::alloc::{AllocError, Global};
 
 /// An archive of a store: its place in the order of closing, the name of its file, the number of its newest visit.
 #[derive(Debug, Drop)]
@@ -62,4 +70,130 @@ impl Register {
             None => 0,
         }
     }
+
+    /// What is closed, as an opening of the store asks for it.
+    pub fn closed(&self, alloc: Global) -> Result<Closed, AllocError>
+        requires { IsTrue (is_sound (register_content self.now)) }
+        ensures { IfOk result (λ closed. closed_content closed ≡ closed_by (register_content self.now)) }
+    {
+        let last = last_numbers(alloc, &self.segments)?;
+        Ok(Closed {
+            last,
+            newest_visit: self.newest_visit(),
+        })
+    }
+
+    /// The register with one more archive and the segments that it closes, and without a mark.
+    pub fn with_closing(
+        self,
+        alloc: Global,
+        archive: &Archive,
+        segments: &[Segment],
+    ) -> Result<Register, AllocError>
+        ensures { IfOk result (λ register. register_content register
+            ≡ closed_with (archive_content archive.now) segments.now (unmarked (register_content self))) }
+    {
+        let mut archives = self.archives;
+        append(&mut archives, copy_of(alloc, archive)?)?;
+        let mut all = self.segments;
+        append_all(&mut all, segments)?;
+        Ok(Register {
+            archives,
+            segments: all,
+            closed_for: None,
+        })
+    }
+
+    /// Whether two registers tell the same archives and segments, whatever their marks.
+    pub fn tells_same(&self, other: &Register) -> bool
+        ensures { (result ≡ true) ↔ (unmarked (register_content self.now) ≡ unmarked (register_content other.now)) }
+    {
+        are_same_archives(&self.archives, &other.archives)
+            && are_same_segments(&self.segments, &other.segments)
+    }
+}
+
+/// The last number of each account that is closed, in the order of the ids, 0 if none is.
+fn last_numbers(alloc: Global, segments: &[Segment]) -> Result<Vec<u32>, AllocError>
+    requires { AllByRecursion IsOfAccount segments.now }
+    ensures { IfOk result (λ last. (partner : ℕ) → get_or (0 ∷ last.items) partner 0 ≡ last_closed segments.now partner) }
+{
+    let mut last = vec![in alloc; 0u32; MOST_PARTNERS]?;
+    for segment in segments {
+        let at = usize::from(segment.partner) - 1;
+        last[at] = last[at].max(segment.last);
+    }
+    Ok(last)
+}
+
+/// An equal archive.
+fn copy_of(alloc: Global, archive: &Archive) -> Result<Archive, AllocError>
+    ensures { IfOk result (λ copy. archive_content copy ≡ archive_content archive.now) }
+{
+    let file = String::from_str(alloc, archive.file.as_str())?;
+    Ok(Archive {
+        place: archive.place,
+        file,
+        visits: archive.visits,
+    })
+}
+
+/// One more at the end.
+fn append<T: Drop>(records: &mut Vec<T>, one: T) -> Result<(), AllocError>
+    ensures { OnOk result (records.new.items ≡ records.old.items ++ one ∷ []) }
+{
+    records.push(one)?;
+    Ok(())
+}
+
+/// All of these at the end.
+fn append_all(segments: &mut Vec<Segment>, more: &[Segment]) -> Result<(), AllocError>
+    ensures { OnOk result (segments.new.items ≡ segments.old.items ++ more.now) }
+{
+    for segment in more {
+        append(segments, *segment)?;
+    }
+    Ok(())
+}
+
+fn are_same_archives(one: &[Archive], other: &[Archive]) -> bool
+    ensures { (result ≡ true) ↔ (map archive_content one.now ≡ map archive_content other.now) }
+{
+    if one.len() != other.len() {
+        return false;
+    }
+    for (index, archive) in one.iter().enumerate() {
+        if !is_same_archive(archive, &other[index]) {
+            return false;
+        }
+    }
+    true
+}
+
+fn is_same_archive(one: &Archive, other: &Archive) -> bool
+    ensures { (result ≡ true) ↔ (archive_content one.now ≡ archive_content other.now) }
+{
+    one.place == other.place
+        && one.file.as_bytes() == other.file.as_bytes()
+        && one.visits == other.visits
+}
+
+fn are_same_segments(one: &[Segment], other: &[Segment]) -> bool
+    ensures { (result ≡ true) ↔ (one.now ≡ other.now) }
+{
+    if one.len() != other.len() {
+        return false;
+    }
+    for (index, segment) in one.iter().enumerate() {
+        if !is_same_segment(*segment, other[index]) {
+            return false;
+        }
+    }
+    true
+}
+
+fn is_same_segment(one: Segment, other: Segment) -> bool
+    ensures { (result ≡ true) ↔ (one ≡ other) }
+{
+    one.partner == other.partner && one.archive == other.archive && one.last == other.last
 }
