@@ -59,7 +59,7 @@ pub fn deliver_to<D: Deliver, N: Notes, R: Read, W: Write, E: Write>(
 
 /// Delivers the interchanges of a reader to a desk, whatever desk it is, as `deliver_to` does, and gives it back as it was
 /// left. `notes` is told of each.
-fn deliver_noted<D: Report + Faults + Tallied, N: Notes, R: Read, W: Write, E: Write>(
+pub fn deliver_noted<D: Report + Faults + Tallied, N: Notes, R: Read, W: Write, E: Write>(
     alloc: Global,
     desk: D,
     notes: &N,
@@ -145,7 +145,7 @@ pub fn account_over<S: Start, W: Write>(
 }
 
 /// The exit status of an answer, or of a line that could not be written.
-fn outcome_status(outcome: Result<Worst, StreamFault>) -> u8
+pub fn outcome_status(outcome: Result<Worst, StreamFault>) -> u8
     ensures { result ≡ outcome_status outcome }
 {
     match outcome {
@@ -222,7 +222,7 @@ fn find<S: Alter + Drop>(
 }
 
 /// A text in whole lines: a reply is a line without its end, and an empty text has no line.
-fn in_lines(text: String) -> Result<String, AllocError>
+pub fn in_lines(text: String) -> Result<String, AllocError>
     ensures { IfOk result (λ lines. string_bytes lines ≡ in_lines (string_bytes text)) }
 {
     let mut text = text;

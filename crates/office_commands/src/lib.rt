@@ -13,14 +13,17 @@ mod serving;
 mod telling;
 mod texts;
 
-pub use deliver::{TURNS, account_over, deliver_over, deliver_to, report_on, report_over};
+pub use deliver::{
+    TURNS, account_over, deliver_noted, deliver_over, deliver_to, in_lines, outcome_status,
+    report_on, report_over,
+};
 pub use demo::{DemoFault, run_demo};
 pub use migration::{Migrated, MigrationFault, migrate_over};
 pub use notes::{AccountNote, DeliveryNote, Notes, Sender, WhyNotNow};
 pub use opening::{
     NO_STORE, Named, Names, StoreFile, make_store, open_found, open_store, open_there,
 };
-pub use serving::{Service, serve_over};
+pub use serving::{Service, serve_named, serve_over};
 pub use telling::{
     COMMAND_LINE, DONE, FAILED, Faults, HasTerminal, REFUSED, Tallied, demonstrate, print, tell,
     tell_fault, tell_outcome,

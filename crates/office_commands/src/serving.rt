@@ -57,7 +57,7 @@ pub fn serve_over<S: Start, N: Notes, W: Write, E: Write>(
 }
 
 /// Serves what a desk over the store at a path answers, whatever desk it is, and gives it back as it was left.
-fn serve_named<
+pub fn serve_named<
     D: Report + AddAccount + Faults + HasTerminal + Tallied,
     N: Notes,
     W: Write,
