@@ -1,22 +1,24 @@
 -- What is read of both, and whether it is told alike.
-use Rattle.std.proofs.Common.{◌≡◌, ◌⊎◌, inl, inr, ℕ, ◌+◌, ◌<◌, ◌≤◌, List, [], ◌∷◌, ◌++◌, Bool, true, false, ◌&&◌, ◌||◌, ◌==◌, Option, None, Some, Result, Ok, Err, IsErr, Contains, find, refl, sym, ap, subst, ◌∙◌, string_bytes, arith}
+use Rattle.std.proofs.Common.{◌≡◌, ◌⊎◌, inl, inr, ℕ, ◌+◌, ◌<◌, ◌≤◌, List, [], ◌∷◌, ◌++◌, Bool, true, false, ◌&&◌, ◌||◌, ◌==◌, Option, None, Some, refl, sym, ap, subst, ◌∙◌, string_bytes}
 use Rattle.std.specs.Prelude.{nat_le, nat_lt, String}
 use Rattle.std.specs.Option.{option_map, option_and_then}
-use Rattle.std.proofs.lemmas.Bool.{cases_Bool, eqb-true, eq-eqb, le-leb, leb-true, lt-ltb, ltb-true}
+use Rattle.std.proofs.lemmas.Bool.{eqb-true, eq-eqb, le-leb, leb-true, lt-ltb, ltb-true}
 use Rattle.std.proofs.lemmas.List.Folds.{list_any-append}
 use Rattle.office_rows.specs.Rows.{Interchange, Rows}
 use Rattle.office_history.specs.After.{AreKeptOnce, reply_if_any, reply_in}
 use Rattle.office_history.specs.Cascade.{text_in}
-use Rattle.office_tables.specs.Answers.{IsKept, RepliesAs, HasUnfitReply}
+use Rattle.office_tables.specs.Answers.{IsKept, RepliesAs}
 use Rattle.office_tables.specs.Faults.{IsOfStoreOr}
 use Rattle.office_tables.specs.declared.interchanges.Kept.{Kept}
 use Rattle.office_tables.specs.declared.table_fault.TableFault.{TableFault}
 use Rattle.office_tables.specs.declared.table_fault.TableFault.TheVariants.{Store, Damaged, Version, Memory}
 use Rattle.office_delivery.proofs.ReadLemmas.{none_kept, one_kept, no_text, text_kept}
-use Rattle.office_closing.specs.declared.comparing.Difference.{Difference}
+use Rattle.office_closing.specs.declared.faults.File.{File}
+use Rattle.office_closing.specs.declared.faults.File.TheVariants as file
+use Rattle.office_closing.specs.declared.faults.FileFault.{FileFault}
 use Rattle.office_closing.specs.declared.numbers.Numbers.{Numbers}
-use Rattle.office_closing.specs.Comparing.{kept_text, kept_reply, IsSameKept, IsToldAlike, IsComparedAs, HasUnfitAmong}
-use Rattle.office_closing.specs.Numbers.{is_of, is_among, goes}
+use Rattle.office_closing.specs.Comparing.{kept_text, kept_reply, IsSameKept, IsToldAlike, IsComparedAs, HasUnfitAmong, IsOfEither, IsOfFile}
+use Rattle.office_closing.specs.Numbers.{is_of, is_among}
 
 -- ---- one number
 
@@ -55,6 +57,18 @@ fault_of_more f (Store e) is = tt
 fault_of_more f Memory is = tt
 fault_of_more f Damaged is = f is
 fault_of_more f Version is = is
+
+pub either_more : {P P' Q Q' : Type 0} → (P → P') → (Q → Q') → (at : File) (fault : TableFault) → IsOfFile P Q at fault → IsOfFile P' Q' at fault
+either_more f h file.Store fault is = fault_of_more f fault is
+either_more f h file.Archive fault is = fault_of_more h fault is
+either_more f h file.Register fault is = absurd is
+either_more f h file.ArchiveRegister fault is = absurd is
+
+pub of_own : (P Q : Type 0) (fault : FileFault) → fault.file ≡ file.Store → IsOfStoreOr P fault.fault → IsOfEither P Q fault
+of_own P Q fault e is = subst (λ f. IsOfFile P Q f fault.fault) (sym e) is
+
+pub of_copy : (P Q : Type 0) (fault : FileFault) → fault.file ≡ file.Archive → IsOfStoreOr Q fault.fault → IsOfEither P Q fault
+of_copy P Q fault e is = subst (λ f. IsOfFile P Q f fault.fault) (sym e) is
 
 -- ---- numbers
 
@@ -103,8 +117,8 @@ module _ (before : List Numbers) (one : Numbers) (after : List Numbers) (is : af
       ap (λ l. is_among l partner number) whole ∙ list_any-append (is_of partner number) after behind
       ∙ ap (λ b. b || is_among behind partner number) (after_is ∙ or_right (is_among before partner number) (is_among (one ∷ []) partner number) e)
 
-pub unfit_of_all : (before : List Numbers) (one : Numbers) (after behind all : List Numbers) → after ≡ before ++ one ∷ [] → all ≡ after ++ behind → (own copy : Rows) → HasUnfitAmong (one ∷ []) own copy → HasUnfitAmong all own copy
-unfit_of_all before one after behind all is whole own copy it = record { partner = it.partner; number = it.number; among = among_all before one after is it.partner it.number behind all whole it.among; unfit = it.unfit }
+pub unfit_of_all : (before : List Numbers) (one : Numbers) (after behind all : List Numbers) → after ≡ before ++ one ∷ [] → all ≡ after ++ behind → (rows : Rows) → HasUnfitAmong (one ∷ []) rows → HasUnfitAmong all rows
+unfit_of_all before one after behind all is whole rows it = record { partner = it.partner; number = it.number; among = among_all before one after is it.partner it.number behind all whole it.among; unfit = it.unfit }
 
 pub compared_more : (before : List Numbers) (one : Numbers) (after : List Numbers) → after ≡ before ++ one ∷ [] → (own copy : Rows) → IsComparedAs before own copy None → IsComparedAs (one ∷ []) own copy None → IsComparedAs after own copy None
 compared_more before one after is own copy first second partner number e = elim (among_either before one after is partner number e) [

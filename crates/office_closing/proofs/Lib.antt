@@ -5,3 +5,13 @@ mod LoopLemmas
 mod CompareLemmas
 mod LawLemmas
 mod VisitLemmas
+mod PlanLemmas
+mod ShownLemmas
+mod JudgeLemmas
+mod RefuseLemmas
+mod FileLemmas
+mod ClosesLemmas
+mod ReadLemmas
+mod LeftLemmas
+mod CopyLemmas
+mod StepLemmas

@@ -45,7 +45,7 @@ deleted_alike p q same rows = ap (λ l. let r : Rows = record rows { interchange
 pub deleted_none : (p : Interchange → Bool) → ((i : Interchange) → p i ≡ false) → (rows : Rows) → rows_without p rows ≡ rows
 deleted_none p none rows = ap (λ l. let r : Rows = record rows { interchanges = l } in r) (filter_all (λ i. not (p i)) (λ i. ap not (none i)) rows.interchanges)
 
-or_parts : (goes a b : Bool) → (a ≡ true → goes ≡ true) → (b ≡ true → goes ≡ true) → (a || b) ≡ true → goes ≡ true
+pub or_parts : (goes a b : Bool) → (a ≡ true → goes ≡ true) → (b ≡ true → goes ≡ true) → (a || b) ≡ true → goes ≡ true
 or_parts goes true b left right e = left refl
 or_parts goes false b left right e = right e
 
@@ -142,13 +142,13 @@ goes_within numbers to below i e = alone numbers i ∙ under_true (i.partner == 
 
 -- ---- visits
 
-with_both : (p q : ℕ → Bool) (rows : Rows) → with_visits_that q (with_visits_that p rows) ≡ with_visits_that (λ n. p n && q n) rows
+pub with_both : (p q : ℕ → Bool) (rows : Rows) → with_visits_that q (with_visits_that p rows) ≡ with_visits_that (λ n. p n && q n) rows
 with_both p q rows = ap (λ l. let r : Rows = record rows { visits = l } in r) (filter_twice (is_own p) (is_own q) rows.visits)
 
 with_alike : (p q : ℕ → Bool) → ((n : ℕ) → p n ≡ q n) → (rows : Rows) → with_visits_that p rows ≡ with_visits_that q rows
 with_alike p q same rows = ap (λ l. let r : Rows = record rows { visits = l } in r) (filter_agree (is_own p) (is_own q) (λ v. same v.number) rows.visits)
 
-with_all : (p : ℕ → Bool) → ((n : ℕ) → p n ≡ true) → (rows : Rows) → with_visits_that p rows ≡ rows
+pub with_all : (p : ℕ → Bool) → ((n : ℕ) → p n ≡ true) → (rows : Rows) → with_visits_that p rows ≡ rows
 with_all p all rows = ap (λ l. let r : Rows = record rows { visits = l } in r) (filter_all (is_own p) (λ v. all v.number) rows.visits)
 
 pub without_more : (done more : List ℕ) (rows : Rows) → without_visits more (without_visits done rows) ≡ without_visits (done ++ more) rows
@@ -159,7 +159,7 @@ without_more done more rows =
 pub without_none : (rows : Rows) → without_visits [] rows ≡ rows
 without_none rows = with_all (all_but []) (λ n. refl) rows
 
-and_both : (stays a b : Bool) → (stays ≡ true → a ≡ true) → (stays ≡ true → b ≡ true) → stays ≡ true → (a && b) ≡ true
+pub and_both : (stays a b : Bool) → (stays ≡ true → a ≡ true) → (stays ≡ true → b ≡ true) → stays ≡ true → (a && b) ≡ true
 and_both stays a b left right e = ap (λ x. x && b) (left e) ∙ right e
 
 pub some_visits_then : (stays : ℕ → Bool) (a b c : Rows) → IsWithoutSomeVisits stays a b → IsWithoutSomeVisits stays b c → IsWithoutSomeVisits stays a c

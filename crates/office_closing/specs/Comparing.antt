@@ -1,13 +1,18 @@
 -- Whether an archive keeps what is to go from the store.
-use Rattle.std.specs.Prelude.{◌≡◌, ◌⊎◌, ℕ, true, List, Option, None, Some, string_bytes}
+use Rattle.std.specs.Prelude.{◌≡◌, ℕ, true, List, Option, None, Some, string_bytes}
 use Rattle.std.specs.Option.{option_map}
 use Rattle.office_rows.specs.Rows.{Rows}
 use Rattle.office_history.specs.After.{reply_in}
 use Rattle.office_history.specs.Cascade.{text_in}
 use Rattle.office_tables.specs.Answers.{HasUnfitReply}
+use Rattle.office_tables.specs.Faults.{IsOfStoreOr}
 use Rattle.office_tables.specs.declared.interchanges.Kept.{Kept}
+use Rattle.office_tables.specs.declared.table_fault.TableFault.{TableFault}
 use Rattle.office_closing.specs.Numbers.{is_among}
 use Rattle.office_closing.specs.declared.comparing.Difference.{Difference}
+use Rattle.office_closing.specs.declared.faults.File.{File}
+use Rattle.office_closing.specs.declared.faults.File.TheVariants as file
+use Rattle.office_closing.specs.declared.faults.FileFault.{FileFault}
 use Rattle.office_closing.specs.declared.numbers.Numbers.{Numbers}
 
 -- ---- what is kept
@@ -40,9 +45,19 @@ IsComparedAs closing own copy (Some difference) =
     (is_among closing difference.partner difference.number ≡ true)
     × ¬ IsToldAlike difference.partner difference.number own copy
 
--- one of these numbers has a reply that is no text, in the store or in the copy
-pub record HasUnfitAmong (closing : List Numbers) (own copy : Rows) : Type 0 where
+-- one of these numbers has a reply that is no text
+pub record HasUnfitAmong (closing : List Numbers) (rows : Rows) : Type 0 where
   pub partner : ℕ
   pub number : ℕ
   pub among : is_among closing partner number ≡ true
-  pub unfit : HasUnfitReply partner number own ⊎ HasUnfitReply partner number copy
+  pub unfit : HasUnfitReply partner number rows
+
+-- what a fault says of the file that it names; only the store and the archive are compared
+abbrev pub IsOfFile : (own copy : Type 0) → File → TableFault → Type 0
+IsOfFile own copy file.Store fault = IsOfStoreOr own fault
+IsOfFile own copy file.Archive fault = IsOfStoreOr copy fault
+IsOfFile own copy file.Register fault = ⊥
+IsOfFile own copy file.ArchiveRegister fault = ⊥
+
+abbrev pub IsOfEither : (own copy : Type 0) → FileFault → Type 0
+IsOfEither own copy fault = IsOfFile own copy fault.file fault.fault

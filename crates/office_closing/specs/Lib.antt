@@ -4,4 +4,11 @@ pub mod Visits
 pub mod Effects
 pub mod Deleting
 pub mod Clearing
+pub mod Files
+pub mod Copies
+pub mod Planning
+pub mod Refusing
+pub mod Closes
+pub mod Steps
+pub mod Judging
 pub mod Laws

@@ -1,14 +1,15 @@
-ghost use Rattle.std.specs.Prelude.{◌≡◌, ◌↔◌, ◌⊎◌, [], ◌∷◌, true, IfOk, IfErr};
-ghost use Rattle.office_closing.specs.Comparing.{HasUnfitAmong, IsComparedAs, IsSameKept, IsToldAlike};
-ghost use Rattle.office_delivery.specs.Reading.{OnlyReads};
+ghost use Rattle.std.specs.Prelude.{◌≡◌, ◌↔◌, [], ◌∷◌, true, IfOk, IfErr};
+ghost use Rattle.office_closing.specs.Comparing.{HasUnfitAmong, IsComparedAs, IsOfEither, IsSameKept, IsToldAlike};
+ghost use Rattle.office_closing.specs.Files.{IsRead, IsReadIfOpen};
 ghost use Rattle.office_history.specs.After.{AreKeptOnce};
 ghost use Rattle.office_rows.specs.Rows.{Rows};
 ghost use Rattle.office_rows.specs.Stored.{HasRows};
-ghost use Rattle.office_tables.specs.Answers.{HasUnfitReply};
+ghost use Rattle.office_tables.specs.Answers.{HasUnfitReply, IsKept};
 ghost use Rattle.office_tables.specs.Faults.{IsOfStoreOr};
 ghost use Rattle.sqlite.specs.Held.{state};
 ghost use Rattle.sqlite.specs.State.{HasCleanDisk};
 
+use crate::faults::{File, FileFault};
 use crate::numbers::Numbers;
 use office_tables::{Kept, TableFault, kept};
 use sqlite::{Alter, Connection};
@@ -28,16 +29,16 @@ pub fn compare<S: Alter, A: Alter>(
     store: &mut Connection<S>,
     archive: &mut Connection<A>,
     closing: &[Numbers],
-) -> Result<Option<Difference>, TableFault>
+) -> Result<Option<Difference>, FileFault>
     ensures compared { HasCleanDisk (state S.Store store.new) → HasCleanDisk (state A.Store archive.new) →
         IfOk result (λ found. (own copy : Rows) → HasRows own (state S.Store store.old).now →
         HasRows copy (state A.Store archive.old).now → AreKeptOnce own.interchanges → AreKeptOnce copy.interchanges →
         IsComparedAs closing.now own copy found) }
     ensures fault { HasCleanDisk (state S.Store store.new) → HasCleanDisk (state A.Store archive.new) →
         IfErr result (λ fault. (own copy : Rows) → HasRows own (state S.Store store.old).now →
-        HasRows copy (state A.Store archive.old).now → IsOfStoreOr (HasUnfitAmong closing.now own copy) fault) }
-    ensures store_reads { OnlyReads (state S.Store store.old) (state S.Store store.new) result }
-    ensures archive_reads { OnlyReads (state A.Store archive.old) (state A.Store archive.new) result }
+        HasRows copy (state A.Store archive.old).now → IsOfEither (HasUnfitAmong closing.now own) (HasUnfitAmong closing.now copy) fault) }
+    ensures store_reads { IsReadIfOpen (state S.Store store.old) (state S.Store store.new) result }
+    ensures archive_reads { IsReadIfOpen (state A.Store archive.old) (state A.Store archive.new) result }
 {
     for numbers in closing {
         if let Some(difference) = compare_numbers(store, archive, *numbers)? {
@@ -52,16 +53,16 @@ fn compare_numbers<S: Alter, A: Alter>(
     store: &mut Connection<S>,
     archive: &mut Connection<A>,
     numbers: Numbers,
-) -> Result<Option<Difference>, TableFault>
+) -> Result<Option<Difference>, FileFault>
     ensures compared { HasCleanDisk (state S.Store store.new) → HasCleanDisk (state A.Store archive.new) →
         IfOk result (λ found. (own copy : Rows) → HasRows own (state S.Store store.old).now →
         HasRows copy (state A.Store archive.old).now → AreKeptOnce own.interchanges → AreKeptOnce copy.interchanges →
         IsComparedAs (numbers ∷ []) own copy found) }
     ensures fault { HasCleanDisk (state S.Store store.new) → HasCleanDisk (state A.Store archive.new) →
         IfErr result (λ fault. (own copy : Rows) → HasRows own (state S.Store store.old).now →
-        HasRows copy (state A.Store archive.old).now → IsOfStoreOr (HasUnfitAmong (numbers ∷ []) own copy) fault) }
-    ensures store_reads { OnlyReads (state S.Store store.old) (state S.Store store.new) result }
-    ensures archive_reads { OnlyReads (state A.Store archive.old) (state A.Store archive.new) result }
+        HasRows copy (state A.Store archive.old).now → IsOfEither (HasUnfitAmong (numbers ∷ []) own) (HasUnfitAmong (numbers ∷ []) copy) fault) }
+    ensures store_reads { IsReadIfOpen (state S.Store store.old) (state S.Store store.new) result }
+    ensures archive_reads { IsReadIfOpen (state A.Store archive.old) (state A.Store archive.new) result }
 {
     let mut number = numbers.from;
     while number < numbers.to {
@@ -82,7 +83,7 @@ fn is_kept_alike<S: Alter, A: Alter>(
     archive: &mut Connection<A>,
     partner: u16,
     number: u32,
-) -> Result<bool, TableFault>
+) -> Result<bool, FileFault>
     ensures alike { HasCleanDisk (state S.Store store.new) → HasCleanDisk (state A.Store archive.new) →
         IfOk result (λ alike. (own copy : Rows) → HasRows own (state S.Store store.old).now →
         HasRows copy (state A.Store archive.old).now → AreKeptOnce own.interchanges → AreKeptOnce copy.interchanges →
@@ -90,13 +91,33 @@ fn is_kept_alike<S: Alter, A: Alter>(
     ensures fault { HasCleanDisk (state S.Store store.new) → HasCleanDisk (state A.Store archive.new) →
         IfErr result (λ fault. (own copy : Rows) → HasRows own (state S.Store store.old).now →
         HasRows copy (state A.Store archive.old).now →
-        IsOfStoreOr (HasUnfitReply partner number own ⊎ HasUnfitReply partner number copy) fault) }
-    ensures store_reads { OnlyReads (state S.Store store.old) (state S.Store store.new) result }
-    ensures archive_reads { OnlyReads (state A.Store archive.old) (state A.Store archive.new) result }
+        IsOfEither (HasUnfitReply partner number own) (HasUnfitReply partner number copy) fault) }
+    ensures store_reads { IsRead (state S.Store store.old) (state S.Store store.new) result }
+    ensures archive_reads { IsRead (state A.Store archive.old) (state A.Store archive.new) result }
 {
-    let own = kept(store, partner, number)?;
-    let copy = kept(archive, partner, number)?;
+    let own = kept_in(store, File::Store, partner, number)?;
+    let copy = kept_in(archive, File::Archive, partner, number)?;
     Ok(is_same(&own, &copy))
+}
+
+/// What a file keeps under a partner's number.
+fn kept_in<S: Alter>(
+    conn: &mut Connection<S>,
+    file: File,
+    partner: u16,
+    number: u32,
+) -> Result<Option<Kept>, FileFault>
+    ensures answer { HasCleanDisk (state S.Store conn.new) → IfOk result (λ found. (rows : Rows) →
+        HasRows rows (state S.Store conn.old).now → IsKept partner number rows found) }
+    ensures fault { HasCleanDisk (state S.Store conn.new) → IfErr result (λ fault. (fault.file ≡ file)
+        × ((rows : Rows) → HasRows rows (state S.Store conn.old).now →
+        IsOfStoreOr (HasUnfitReply partner number rows) fault.fault)) }
+    ensures reads { IsRead (state S.Store conn.old) (state S.Store conn.new) result }
+{
+    match kept(conn, partner, number) {
+        Ok(found) => Ok(found),
+        Err(fault) => Err(FileFault { file, fault }),
+    }
 }
 
 /// Whether both keep the same text and the same reply.

@@ -64,7 +64,7 @@ fn numbers_of(alloc: Global, visits: &[Visit]) -> Result<Vec<u32>, AllocError>
 }
 
 /// The number of the newest visit, 0 if there is none.
-fn newest_number(visits: &[Visit]) -> u32
+pub(crate) fn newest_number(visits: &[Visit]) -> u32
     ensures { result ≡ last_number (map visit_content visits.now) }
 {
     match visits.last() {

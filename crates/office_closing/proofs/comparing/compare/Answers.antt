@@ -1,13 +1,20 @@
-use Rattle.std.proofs.Common.{◌≡◌, ◌+◌, take, drop, length, sym, ap, subst, ◌∙◌, arith}
+use Rattle.std.proofs.Common.{◌+◌, take, drop, sym, ap, subst, ◌∙◌}
 use Rattle.std.proofs.lemmas.List.{take_more, take_all, take-append-drop}
 use Rattle.std.proofs.lemmas.Result.{err_from_is_err_and}
 use Rattle.sqlite.specs.Held.{state}
 use Rattle.office_rows.specs.Stored.{HasRows}
 use Rattle.office_delivery.specs.Reading.{IsSame}
-use Rattle.office_delivery.proofs.ReadLemmas.{only_on, only_then, was_clean}
 use Rattle.office_closing.specs.Numbers.{is_among}
-use Rattle.office_closing.proofs.CompareLemmas.{among_all, compared_more, fault_of_more, unfit_of_all}
+use Rattle.office_closing.proofs.CompareLemmas.{among_all, compared_more, either_more, unfit_of_all}
+use Rattle.office_closing.proofs.ReadLemmas.{clean_before, if_open_after, if_open_after_failed, if_open_passed, none_read}
 use Rattle.office_closing.proofs.comparing.compare.Goals as goal
+
+pub loop-numbers-init : goal.loop-numbers-init
+loop-numbers-init g c = record {
+  store = none_read (state g.S.Store c.args.store.now) tt;
+  archive = none_read (state g.A.Store c.args.archive.now) tt;
+  alike = λ here there own copy own_has copy_has own_once copy_once partner number e. absurd cc;
+}
 
 pub returns-in_err-difference-clause-fault : goal.returns-in_err-difference-clause-fault
 returns-in_err-difference-clause-fault g c here there =
@@ -16,10 +23,11 @@ returns-in_err-difference-clause-fault g c here there =
     let call = c.in_err-difference.ensures in
     let i = c.loop-numbers.numbers-index in
     let all = c.args.closing.now in
-    let own_same : IsSame (state g.S.Store c.args.store.now) (state g.S.Store c.loop-numbers.store) = before.store.same (was_clean call.store_reads here) in
-    let copy_same : IsSame (state g.A.Store c.args.archive.now) (state g.A.Store c.loop-numbers.archive) = before.archive.same (was_clean call.archive_reads there) in
+    let own_same : IsSame (state g.S.Store c.args.store.now) (state g.S.Store c.loop-numbers.store) = before.store.same (clean_before call.store_reads here) in
+    let copy_same : IsSame (state g.A.Store c.args.archive.now) (state g.A.Store c.loop-numbers.archive) = before.archive.same (clean_before call.archive_reads there) in
     rw (p.1, p.2) (λ own copy own_has copy_has.
-    fault_of_more (unfit_of_all (take i all) _ (take (i + 1) all) (drop (i + 1) all) all (take_more all i _ c.loop-numbers-test.true) (sym (take-append-drop (i + 1) all)) own copy) _
+    either_more (unfit_of_all (take i all) _ (take (i + 1) all) (drop (i + 1) all) all (take_more all i _ c.loop-numbers-test.true) (sym (take-append-drop (i + 1) all)) own)
+    (unfit_of_all (take i all) _ (take (i + 1) all) (drop (i + 1) all) all (take_more all i _ c.loop-numbers-test.true) (sym (take-append-drop (i + 1) all)) copy) _ _
     (call.fault here there own copy (subst (HasRows own) (sym own_same.now) own_has) (subst (HasRows copy) (sym copy_same.now) copy_has)))
 
 pub returns-in-Some-clause-compared : goal.returns-in-Some-clause-compared
@@ -28,8 +36,8 @@ returns-in-Some-clause-compared g c here there own copy own_has copy_has own_onc
     let call = c.in_ok-difference.ensures in
     let i = c.loop-numbers.numbers-index in
     let all = c.args.closing.now in
-    let own_same : IsSame (state g.S.Store c.args.store.now) (state g.S.Store c.loop-numbers.store) = before.store.same (was_clean call.store_reads here) in
-    let copy_same : IsSame (state g.A.Store c.args.archive.now) (state g.A.Store c.loop-numbers.archive) = before.archive.same (was_clean call.archive_reads there) in
+    let own_same : IsSame (state g.S.Store c.args.store.now) (state g.S.Store c.loop-numbers.store) = before.store.same (clean_before call.store_reads here) in
+    let copy_same : IsSame (state g.A.Store c.args.archive.now) (state g.A.Store c.loop-numbers.archive) = before.archive.same (clean_before call.archive_reads there) in
     let told = rw c.in-Some.is at (call.compared here there own copy (subst (HasRows own) (sym own_same.now) own_has) (subst (HasRows copy) (sym copy_same.now) copy_has) own_once copy_once) in
     (among_all (take i all) _ (take (i + 1) all) (take_more all i _ c.loop-numbers-test.true) _ _ (drop (i + 1) all) all (sym (take-append-drop (i + 1) all)) told.0, told.1)
 
@@ -40,11 +48,11 @@ loop-numbers-preserved g c =
     let i = c.loop-numbers.numbers-index in
     let all = c.args.closing.now in
     record {
-      store = only_then before.store (only_on _ call.store_reads);
-      archive = only_then before.archive (only_on _ call.archive_reads);
+      store = if_open_after _ before.store call.store_reads;
+      archive = if_open_after _ before.archive call.archive_reads;
       alike = λ here there own copy own_has copy_has own_once copy_once.
-          let earlier = was_clean call.store_reads here in
-          let earlier' = was_clean call.archive_reads there in
+          let earlier = clean_before call.store_reads here in
+          let earlier' = clean_before call.archive_reads there in
           let own_same : IsSame (state g.S.Store c.args.store.now) (state g.S.Store c.loop-numbers.store) = before.store.same earlier in
           let copy_same : IsSame (state g.A.Store c.args.archive.now) (state g.A.Store c.loop-numbers.archive) = before.archive.same earlier' in
           let told = rw c.in_default.is at (call.compared here there own copy (subst (HasRows own) (sym own_same.now) own_has) (subst (HasRows copy) (sym copy_same.now) copy_has) own_once copy_once) in
@@ -55,3 +63,25 @@ pub returns-clause-compared : goal.returns-clause-compared
 returns-clause-compared g c here there own copy own_has copy_has own_once copy_once partner number e =
     let all = c.args.closing.now in
     c.loop-numbers.invariant.alike here there own copy own_has copy_has own_once copy_once partner number (ap (λ l. is_among l partner number) (take_all c.loop-numbers.numbers-index all c.loop-numbers-test.false) ∙ e)
+
+pub returns-in_err-difference-clause-store_reads : goal.returns-in_err-difference-clause-store_reads
+returns-in_err-difference-clause-store_reads g c =
+    let p = err_from_is_err_and c.from_residual.result c.from_residual.ensures.1 in
+    rw (p.1, p.2) (if_open_after_failed _ c.loop-numbers.invariant.store c.in_err-difference.ensures.store_reads)
+
+pub returns-in_err-difference-clause-archive_reads : goal.returns-in_err-difference-clause-archive_reads
+returns-in_err-difference-clause-archive_reads g c =
+    let p = err_from_is_err_and c.from_residual.result c.from_residual.ensures.1 in
+    rw (p.1, p.2) (if_open_after_failed _ c.loop-numbers.invariant.archive c.in_err-difference.ensures.archive_reads)
+
+pub returns-in-Some-clause-store_reads : goal.returns-in-Some-clause-store_reads
+returns-in-Some-clause-store_reads g c = if_open_after _ c.loop-numbers.invariant.store c.in_ok-difference.ensures.store_reads
+
+pub returns-in-Some-clause-archive_reads : goal.returns-in-Some-clause-archive_reads
+returns-in-Some-clause-archive_reads g c = if_open_after _ c.loop-numbers.invariant.archive c.in_ok-difference.ensures.archive_reads
+
+pub returns-clause-store_reads : goal.returns-clause-store_reads
+returns-clause-store_reads g c = if_open_passed _ c.loop-numbers.invariant.store
+
+pub returns-clause-archive_reads : goal.returns-clause-archive_reads
+returns-clause-archive_reads g c = if_open_passed _ c.loop-numbers.invariant.archive

@@ -4,15 +4,15 @@ use Rattle.sqlite.specs.State.{HasCleanDisk}
 use Rattle.office_rows.specs.Rows.{Rows}
 use Rattle.office_rows.specs.Stored.{HasRows}
 use Rattle.office_history.specs.After.{AreKeptOnce}
-use Rattle.office_delivery.specs.Reading.{OnlyReads}
 use Rattle.office_closing.specs.Comparing.{IsToldAlike}
+use Rattle.office_closing.specs.Files.{IsReadIfOpen}
 use Rattle.office_closing.proofs.comparing.compare_numbers.Given as goal
 
 abbrev pub invariant-loop-number : goal.invariant-loop-number
 invariant-loop-number g l = record {
   above : l.numbers.from ≤ l.number;
-  store : OnlyReads (state g.S.Store l.fn.store) (state g.S.Store l.store) (Ok l.number);
-  archive : OnlyReads (state g.A.Store l.fn.archive) (state g.A.Store l.archive) (Ok l.number);
+  store : IsReadIfOpen {E = Unit {0}} (state g.S.Store l.fn.store) (state g.S.Store l.store) (Ok l.number);
+  archive : IsReadIfOpen {E = Unit {0}} (state g.A.Store l.fn.archive) (state g.A.Store l.archive) (Ok l.number);
   alike : HasCleanDisk (state g.S.Store l.store) → HasCleanDisk (state g.A.Store l.archive) → (own copy : Rows) → HasRows own (state g.S.Store l.fn.store).now → HasRows copy (state g.A.Store l.fn.archive).now →
       AreKeptOnce own.interchanges → AreKeptOnce copy.interchanges → (number : ℕ) → l.numbers.from < number → number ≤ l.number → IsToldAlike l.numbers.partner number own copy;
 }

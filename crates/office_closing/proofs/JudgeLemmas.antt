@@ -1,0 +1,151 @@
+-- What a plan says of the rows and the registers of store and archive.
+use Rattle.std.proofs.Common.{◌≡◌, inl, inr, ℕ, ◌<◌, ◌≤◌, List, [], ◌∷◌, ◌++◌, None, Some, true, map, length, refl, sym, ap, ap₂, subst, ◌∙◌, arith}
+use Rattle.std.specs.Prelude.{Contains, IsUtf8}
+use Rattle.std.specs.List.{AllByRecursion}
+use Rattle.std.proofs.lemmas.List.Sorted.{Contains-permutation, IsPermutation-sym}
+use Rattle.terminal_core.specs.Rows.{VisitContent}
+use Rattle.office_register.specs.declared.register.Segment.{Segment}
+use Rattle.office_register.specs.Changes.{closed_with, unmarked}
+use Rattle.office_register.specs.Register.{ArchiveContent, RegisterContent, last_closed}
+use Rattle.office_register.specs.Sound.{IsSound, is_sound}
+use Rattle.office_closing.specs.declared.numbers.Numbers.{Numbers}
+use Rattle.office_closing.specs.declared.planning.Plan.{Plan}
+use Rattle.office_closing.specs.declared.planning.Stage.{Stage}
+use Rattle.office_closing.specs.declared.planning.Stage.TheVariants as stage
+use Rattle.office_closing.specs.Numbers.{is_among}
+use Rattle.office_closing.specs.Closes.{AreHeld, Closing, Held, IsBelowNext, IsClosing, closed_after, closed_before, closing_content, raised_register}
+use Rattle.office_closing.specs.Comparing.{IsComparedAs}
+use Rattle.office_closing.specs.Copies.{FileNames, HasCome, IsOpened, OfficeContent, archive_in, numbers_of, raised_by, segments_of}
+use Rattle.office_closing.specs.Files.{Files}
+use Rattle.office_closing.specs.Judging.{IsAtStage, IsComparedIf, IsJudged}
+use Rattle.office_closing.specs.Steps.{is_unraised}
+use Rattle.office_closing.specs.Laws.{Raises}
+use Rattle.office_closing.specs.Planning.{IsPlan}
+use Rattle.office_closing.specs.Visits.{AreToGo}
+use Rattle.office_closing.proofs.LawLemmas.{compared_held, goes_if_not, may_stay}
+use Rattle.office_closing.proofs.PlanLemmas.{account_found, numbers_are_from, segments_raise, segments_rise}
+use Rattle.office_closing.proofs.ShownLemmas.{accounts_by_id, visits_loaded}
+
+-- ---- texts
+
+all_pushed : {A : Type 0} (P : A → Type 0) (xs : List A) (x : A) → AllByRecursion P xs → P x → AllByRecursion P (xs ++ x ∷ [])
+all_pushed P [] x all here = (here, tt)
+all_pushed P (y ∷ xs) x all here = (all.0, all_pushed P xs x all.1 here)
+
+-- ---- a plan
+
+module _ (held : Held) (old : Files) (has : AreHeld held old) (names : FileNames) (own copy : OfficeContent) (of_own : IsOpened old.store.now old.register.now own)
+    (of_copy : IsOpened old.archive.now old.archive_register.now copy) (plan : Plan) (is : IsPlan own copy names plan) (text : IsUtf8 names.archive) where
+  own_register : own.register ≡ held.register
+  own_register = of_own.registered held.register has.register has.register_sound
+
+  copy_register : copy.register ≡ held.copied
+  copy_register = of_copy.registered held.copied has.copied has.copied_sound
+
+  own_visits : own.terminal.visits ≡ held.own.visits
+  own_visits = visits_loaded _ old.store.now held.own own.setup own.terminal has.own has.own_orderly (of_own.loaded has.own.schema)
+
+  copy_visits : copy.terminal.visits ≡ held.copy.visits
+  copy_visits = visits_loaded _ old.archive.now held.copy copy.setup copy.terminal has.copy has.copy_orderly (of_copy.loaded has.copy.schema)
+
+  abbrev closing : Closing
+  closing = closing_content plan
+
+  -- the register with the archive
+  raised_is : raised_register held closing ≡ raised_by names.archive copy
+  raised_is =
+      let back = sym copy_register in
+      λ i. closed_with (is.archive i) (is.segments i) (unmarked (back i))
+
+  raised_sound : IsSound (raised_register held closing)
+  raised_sound = record {
+    tested = ap is_sound raised_is ∙ is.is_copy.may.raised;
+    texts = record {
+      files = all_pushed (λ (a : ArchiveContent). IsUtf8 a.file) held.copied.archives closing.archive has.copied_sound.texts.files (subst IsUtf8 (sym (ap (λ (a : ArchiveContent). a.file) is.archive)) text);
+      closed_for = tt;
+    };
+  }
+
+  raises : Raises (last_closed held.copied.segments) closing.numbers (closed_after held closing)
+  raises =
+      let place = (archive_in names.archive copy).place in
+      let first = segments_raise copy.register.segments place (numbers_of copy) (numbers_are_from (last_closed copy.register.segments) 1 copy.nexts) in
+      let second = subst (λ (c : RegisterContent). Raises (last_closed c.segments) (numbers_of copy) (last_closed (c.segments ++ segments_of place (numbers_of copy)))) copy_register first in
+      let third = subst (λ (s : List Segment). Raises (last_closed held.copied.segments) (numbers_of copy) (last_closed (held.copied.segments ++ s))) (sym is.segments) second in
+      subst (λ (l : List Numbers). Raises (last_closed held.copied.segments) l (closed_after held closing)) (sym is.numbers) third
+
+  -- how far it has come
+  at_by : (s : Stage) → HasCome own copy names s → IsAtStage held names closing s
+  at_by stage.New come = (sym own_register ∙ sym come.0 ∙ ap unmarked copy_register, ap (λ (c : RegisterContent). c.closed_for) (sym copy_register) ∙ come.1)
+  at_by stage.Marked come = (sym own_register ∙ sym come.0 ∙ ap unmarked copy_register, ap (λ (c : RegisterContent). c.closed_for) (sym copy_register) ∙ come.1)
+  at_by stage.Raised come = (sym own_register ∙ sym come.0 ∙ sym raised_is, ap (λ (c : RegisterContent). c.closed_for) (sym copy_register) ∙ come.1)
+
+  to_go : AreToGo held.own.visits held.copy.visits closing.visits
+  to_go =
+      subst (λ (l : List VisitContent). AreToGo held.own.visits l closing.visits) copy_visits
+      (subst (λ (l : List VisitContent). AreToGo l copy.terminal.visits closing.visits) own_visits is.visits)
+
+  account_of : (partner number : ℕ) → last_closed held.copied.segments partner < number → number ≤ closed_after held closing partner → IsBelowNext held.own partner number
+  account_of partner number above within =
+      let are = of_own.nexts held.own has.own in
+      let by_id = accounts_by_id held.own own.nexts has.own_orderly are in
+      let among = ap (λ l. is_among l partner number) (sym is.numbers) ∙ raises.each partner number above within in
+      let found = account_found (last_closed copy.register.segments) 1 copy.nexts own.nexts are.0 is.is_copy.of_store.no_later.nexts by_id.next_numbers by_id.ids partner number among in
+      record {
+        account = found.0;
+        is_one = Contains-permutation are.0 held.own.partners found.0 (IsPermutation-sym held.own.partners are.0 by_id.same) found.1;
+        is_its = found.2;
+        below = found.3;
+      }
+
+  -- numbers are closed by this call, or they are closed already
+  module _ (new : held.register ≡ unmarked held.copied) where
+    same_before : closed_before held ≡ last_closed held.copied.segments
+    same_before = ap (λ (c : RegisterContent). last_closed c.segments) new
+
+    new_closing : IsComparedAs closing.numbers held.own held.copy None → IsClosing held names closing
+    new_closing compared = record {
+      file = ap (λ (a : ArchiveContent). a.file) is.archive;
+      sound = raised_sound;
+      numbers = raises;
+      rise = λ partner. subst (λ (f : ℕ → ℕ). f partner ≤ closed_after held closing partner) (sym same_before) (segments_rise held.copied.segments closing.segments partner);
+      below = λ partner number above within. account_of partner number (subst (λ (f : ℕ → ℕ). f partner < number) same_before above) within;
+      holds = λ archived e.
+          (compared_held archived held.own held.copy closing.numbers (closed_after held closing) closing.visits
+          (subst (λ (f : ℕ → ℕ). Raises f closing.numbers (closed_after held closing)) (sym (e ∙ same_before)) raises) compared has.own_orderly.numbered to_go).0;
+      may = may_stay held.own.visits held.copy.visits closing.visits has.own_orderly.numbered to_go;
+    }
+
+  module _ (raised : held.register ≡ raised_register held closing) where
+    same_after : closed_before held ≡ closed_after held closing
+    same_after = ap (λ (c : RegisterContent). last_closed c.segments) raised
+
+    none_more : (partner number : ℕ) → closed_before held partner < number → number ≤ closed_after held closing partner → ⊥
+    none_more partner number above within =
+        let low : closed_after held closing partner < number = subst (λ (f : ℕ → ℕ). f partner < number) same_after above in
+        omega (arith, low, within)
+
+    old_closing : IsClosing held names closing
+    old_closing = record {
+      file = ap (λ (a : ArchiveContent). a.file) is.archive;
+      sound = raised_sound;
+      numbers = raises;
+      rise = λ partner. subst (λ (f : ℕ → ℕ). f partner ≤ closed_after held closing partner) (sym same_after) (omega arith);
+      below = λ partner number above within. absurd (none_more partner number above within);
+      holds = λ archived e. record {
+        texts = λ partner number above within. absurd (none_more partner number (subst (λ (f : ℕ → ℕ). f partner < number) e above) within);
+        replies = λ partner number above within. absurd (none_more partner number (subst (λ (f : ℕ → ℕ). f partner < number) e above) within);
+        visits = λ visit here gone. (goes_if_not held.own.visits held.copy.visits closing.visits has.own_orderly.numbered to_go visit here gone).is_copied;
+      };
+      may = may_stay held.own.visits held.copy.visits closing.visits has.own_orderly.numbered to_go;
+    }
+
+  judged_by : (s : Stage) → IsAtStage held names closing s → (is_unraised s ≡ true → IsComparedAs closing.numbers held.own held.copy None) → IsClosing held names closing
+  judged_by stage.New at compared = new_closing at.0 (compared refl)
+  judged_by stage.Marked at compared = new_closing at.0 (compared refl)
+  judged_by stage.Raised at compared = old_closing at.0
+
+  pub plan_judged : IsComparedIf plan held → IsJudged held names plan
+  plan_judged compared =
+      let at = at_by plan.stage is.is_copy.has_come in
+      record { is_closing = judged_by plan.stage at compared; at = at }

@@ -1,0 +1,170 @@
+-- What an opened office has, of rows in order: their visits, and the next numbers of their accounts.
+use Rattle.std.proofs.Common.{◌≡◌, ℕ, zero, suc, ◌+◌, ◌-◌, ◌<◌, ◌≤◌, inl, inr, List, [], ◌∷◌, length, map, Bool, true, false, cond, Option, Some, None, refl, sym, ap, ap₂, subst, ◌∙◌, arith}
+use Rattle.std.specs.Prelude.{◌==◌, count_by, Contains, IsSorted, IsTrue}
+use Rattle.std.specs.List.{range_with_len}
+use Rattle.std.specs.List.Sorted.{IsPermutation, IsNonDecreasing}
+use Rattle.std.specs.Ordering.{nat_cmp}
+use Rattle.std.proofs.lemmas.Bool.{cases_order, eqb-true, eq-eqb}
+use Rattle.std.proofs.lemmas.List.Sorted.{Contains-permutation, IsNonDecreasingBy-from_sort, IsPermutation-map, IsPermutation-sym, length_permutation, sum_by-IsPermutation}
+use Rattle.sqlite.specs.Effect.{Database}
+use Rattle.sqlite.specs.Order.{Row, column}
+use Rattle.box6346.specs.declared.slot.Slot.{Slot}
+use Rattle.box6346.specs.SlotName.{IsNamed, slot_of, slot_text}
+use Rattle.box6346.proofs.SlotNames.{names_are_read_again_lem}
+use Rattle.edi_moments.specs.Moments.{CivilMoment, is_moment, moment_of, moment_digits}
+use Rattle.edi_moments.proofs.DigitLemmas.{read_back}
+use Rattle.terminal_core.specs.declared.visits.Departure.{Departure}
+use Rattle.terminal_core.specs.declared.visits.Way.{Way}
+use Rattle.terminal_core.specs.declared.visits.Way.TheVariants as way
+use Rattle.terminal_core.specs.Changes.{TerminalRows}
+use Rattle.terminal_core.specs.Forms.{IsFormedVisit, IsFormedExit}
+use Rattle.terminal_core.specs.Rows.{VisitContent}
+use Rattle.terminal_core.specs.State.{TerminalState}
+use Rattle.terminal_core.proofs.Counted.{one_place}
+use Rattle.terminal_core.proofs.Numbered.{found_at}
+use Rattle.office_setup.specs.Setups.{SetupContent}
+use Rattle.office_rows.specs.Rows.{Partner, Rows}
+use Rattle.office_rows.specs.Shown.{AreNexts}
+use Rattle.office_rows.specs.Stored.{HasRows}
+use Rattle.office_rows.specs.Tables.{visit_table}
+use Rattle.office_rows.specs.Values.{way_code, laden_code, out_by, out_partner, out_number, out_at, visit_values}
+use Rattle.office_checks.specs.Closed.{ClosedContent}
+use Rattle.office_loading.specs.Tables.{LoadsOwn}
+use Rattle.office_history.proofs.Loads.{number_one, numbered_rise, text_one}
+use Rattle.office_history.proofs.Shown.{Rises, above, fewer, head_in, one_at, rising_same, same_records, shown_in, tail_in}
+use Rattle.office_closing.specs.Closes.{AreOrderly}
+
+-- ---- a visit by its columns
+
+at : (k : ℕ) (a b : Row) → a ≡ b → column a k ≡ column b k
+at k a b e = ap (λ r. column r k) e
+
+moment_one : (m n : CivilMoment) → IsTrue (is_moment m) → IsTrue (is_moment n) → moment_digits m ≡ moment_digits n → m ≡ n
+moment_one m n a b e = let both : Some m ≡ Some n = sym (read_back m a) ∙ ap moment_of e ∙ read_back n b in cc
+
+slot_one : (s t : Slot) → IsNamed s → IsNamed t → slot_text s ≡ slot_text t → s ≡ t
+slot_one s t a b e = let both : Some s ≡ Some t = sym (names_are_read_again_lem s a) ∙ ap slot_of e ∙ names_are_read_again_lem t b in cc
+
+way_one : (a b : Way) → way_code a ≡ way_code b → a ≡ b
+way_one way.Gate way.Gate e = refl
+way_one way.Ship way.Ship e = refl
+way_one a b e = absurd (omega (arith, e))
+
+laden_one : (a b : Bool) → laden_code a ≡ laden_code b → a ≡ b
+laden_one true true e = refl
+laden_one false false e = refl
+laden_one a b e = absurd (omega (arith, e))
+
+by_way : (w : Way) → way_code w ≡ 0 → ⊥
+by_way way.Gate e = absurd (omega (arith, e))
+by_way way.Ship e = absurd (omega (arith, e))
+
+exit_one : (a b : Option Departure) → IsFormedExit a → IsFormedExit b → out_by a ≡ out_by b → out_partner a ≡ out_partner b → out_number a ≡ out_number b → out_at a ≡ out_at b → a ≡ b
+exit_one None None fa fb by partner number_ moment = refl
+exit_one None (Some b) fa fb by partner number_ moment = absurd (by_way b.way (sym by))
+exit_one (Some a) None fa fb by partner number_ moment = absurd (by_way a.way by)
+exit_one (Some a) (Some b) fa fb by partner number_ moment =
+    let way = way_one a.way b.way by in
+    let when = moment_one a.moment b.moment fa.moment fb.moment moment in
+    λ i. Some (record { way = way i; source = record { partner = partner i; number = number_ i }; moment = when i })
+
+visit_one : (a b : VisitContent) → IsFormedVisit a → IsFormedVisit b → visit_values a ≡ visit_values b → a ≡ b
+visit_one a b fa fb e =
+    let ra = visit_values a in
+    let rb = visit_values b in
+    let n = number_one a.number b.number (at 0 ra rb e) in
+    let container = text_one a.container b.container (at 1 ra rb e) in
+    let size = text_one a.size_type b.size_type (at 2 ra rb e) in
+    let laden = laden_one a.is_laden b.is_laden (number_one _ _ (at 3 ra rb e)) in
+    let booking = text_one a.booking b.booking (at 4 ra rb e) in
+    let way = way_one a.arrival.way b.arrival.way (number_one _ _ (at 5 ra rb e)) in
+    let partner = number_one a.arrival.source.partner b.arrival.source.partner (at 6 ra rb e) in
+    let own = number_one a.arrival.source.number b.arrival.source.number (at 7 ra rb e) in
+    let when = moment_one a.arrival.moment b.arrival.moment fa.moment fb.moment (text_one _ _ (at 8 ra rb e)) in
+    let slot = slot_one a.arrival.slot b.arrival.slot fa.slot fb.slot (text_one _ _ (at 9 ra rb e)) in
+    let exit = exit_one a.departure b.departure fa.exit fb.exit (number_one _ _ (at 10 ra rb e)) (number_one _ _ (at 11 ra rb e)) (number_one _ _ (at 12 ra rb e)) (text_one _ _ (at 13 ra rb e)) in
+    let kilos = number_one a.kilos b.kilos (at 14 ra rb e) in
+    λ i. record {
+      number = n i;
+      container = container i;
+      size_type = size i;
+      is_laden = laden i;
+      booking = booking i;
+      arrival = record { way = way i; source = record { partner = partner i; number = own i }; moment = when i; slot = slot i };
+      departure = exit i;
+      kilos = kilos i;
+    }
+
+-- ---- the visits
+
+-- the terminal that is loaded has the visits of the rows
+pub visits_loaded : (closed : ClosedContent) (db : Database) (rows : Rows) (content : SetupContent) (state : TerminalState) → HasRows rows db → AreOrderly rows → LoadsOwn closed db content state → state.visits ≡ rows.visits
+visits_loaded closed db rows content state has orderly loads =
+    let shown = loads.0 in
+    let office = loads.2 in
+    let are : shown.visits ≡ state.visits = ap (λ (r : TerminalRows). r.visits) office.terminal in
+    let in_order = shown_in visit_table (0 ∷ 1 ∷ 2 ∷ 3 ∷ 4 ∷ 5 ∷ 6 ∷ 7 ∷ 8 ∷ 9 ∷ 10 ∷ 11 ∷ 12 ∷ 13 ∷ 14 ∷ []) (0 ∷ []) visit_values rows.visits db (map visit_values shown.visits) (λ v. refl) has.rows_are.visits loads.1.visits in
+    let same : shown.visits ≡ in_order.0 = same_records IsFormedVisit visit_values visit_one shown.visits in_order.0
+    (λ v inside. office.formed.visits v (subst (λ l. Contains l v) are inside))
+    (λ v inside. orderly.formed v (Contains-permutation in_order.0 rows.visits v (IsPermutation-sym rows.visits in_order.0 in_order.1) inside))
+    in_order.2 in
+    sym are
+    ∙ sym (rising_same (λ (v : VisitContent). v.number) 0 rows.visits shown.visits (numbered_rise 0 rows.visits orderly.numbered)
+    (subst (Rises (λ (v : VisitContent). v.number) 0) (sym are) (numbered_rise 0 state.visits office.whole.numbered)) (subst (IsPermutation rows.visits) (sym same) in_order.1))
+
+-- ---- the accounts
+
+abbrev is_one : ℕ → ℕ → Bool
+is_one v x = x == v
+
+-- numbers in order, none of them twice, rise
+rise : (low : ℕ) (xs : List ℕ) → IsNonDecreasing xs → ((v : ℕ) → count_by (is_one v) xs ≤ 1) → ((x : ℕ) → Contains xs x → low < x) → Rises (λ x. x) low xs
+rise low [] up once above = tt
+rise low (x ∷ xs) up once above = (
+  above x (head_in x xs),
+  rise x xs (λ i j d before within. up (suc i) (suc j) d (omega (arith, before)) (omega (arith, within)))
+      (λ v. fewer (is_one v) x xs (once v))
+      (λ y inside. beyond y inside (subst (λ z. x ≤ z) inside.2 (up zero (suc inside.0) y (omega arith) (omega (arith, inside.1))))),
+)
+  where
+    beyond : (y : ℕ) → Contains xs y → x ≤ y → x < y
+    beyond y inside low = elim (cases_order x y) [
+      | inl same ↦
+          let bad : 0 ≡ suc inside.0 = one_place (is_one y) (x ∷ xs) 0 (suc inside.0) x y (once y) refl (found_at xs y inside) (eq-eqb x y same) (eq-eqb y y refl) in
+          absurd (omega (arith, bad))
+      | inr o ↦ elim o [ inl below ↦ below | inr above ↦ absurd (omega (arith, low, above)) ]
+    ]
+
+rises_from : (low a n : ℕ) → low < a → Rises (λ x. x) low (range_with_len a n)
+rises_from low a zero below = tt
+rises_from low a (suc n) below = (below, rises_from a (a + 1) n (omega arith))
+
+-- the ids in order are 1, 2 and so on
+in_range : (n : ℕ) (xs : List ℕ) → IsPermutation (range_with_len 1 n) xs → IsSorted nat_cmp xs → xs ≡ range_with_len 1 n
+in_range n xs same sorted =
+    let all = range_with_len 1 n in
+    sym (rising_same (λ x. x) 0 all xs (rises_from 0 1 n (omega arith))
+    (rise 0 xs (IsNonDecreasingBy-from_sort (λ x. x) xs sorted)
+    (λ v. subst (λ k. k ≤ 1) (sym (sum_by-IsPermutation (λ x. cond (x == v) 1 0) all xs same)) (one_at (λ x. x) (is_one v) v (λ x e. eqb-true x v e) 0 all (rises_from 0 1 n (omega arith))))
+    (λ x inside. above (λ x. x) 0 all x (rises_from 0 1 n (omega arith)) (Contains-permutation xs all x (IsPermutation-sym all xs same) inside)))
+    same)
+
+abbrev pub id_of : Partner → ℕ
+id_of p = p.id
+
+-- the accounts by id are those of the rows, and numbered from 1
+pub record AreById (rows : Rows) (nexts : List ℕ) (by_id : List Partner) : Type 0 where
+  pub same : IsPermutation rows.partners by_id
+  pub next_numbers : nexts ≡ map (λ (p : Partner). p.next) by_id
+  pub ids : map id_of by_id ≡ range_with_len 1 (length by_id)
+
+pub accounts_by_id : (rows : Rows) (nexts : List ℕ) → AreOrderly rows → (are : AreNexts rows nexts) → AreById rows nexts are.0
+accounts_by_id rows nexts orderly are =
+    let by_id = are.0 in
+    let placed : IsPermutation (range_with_len 1 (length rows.partners)) (map id_of by_id) = subst (λ l. IsPermutation l (map id_of by_id)) orderly.accounts (IsPermutation-map id_of rows.partners by_id are.1) in
+    let count : length by_id ≡ length rows.partners = length_permutation rows.partners by_id are.1 in
+    record {
+      same = are.1;
+      next_numbers = are.3;
+      ids = in_range (length rows.partners) (map id_of by_id) placed are.2 ∙ ap (range_with_len 1) (sym count);
+    }

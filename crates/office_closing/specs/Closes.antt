@@ -1,0 +1,202 @@
+-- What a closing of a store does: what it closes, what is left, and what it leaves at a fault and by a crash.
+use Rattle.std.specs.Prelude.{◌≡◌, ◌⊎◌, ℕ, ◌<◌, ◌≤◌, true, Bool, List, [], Contains, length, map, Result, IfErr, IsTrue, OnErr, OnOk}
+use Rattle.std.specs.List.{range_with_len}
+use Rattle.sqlite.specs.State.{State, Survives}
+use Rattle.sqlite.specs.Tree.{Trees}
+use Rattle.terminal_core.specs.Forms.{IsFormedVisit}
+use Rattle.terminal_core.specs.Rows.{VisitContent}
+use Rattle.terminal_core.specs.State.{AreNumbered}
+use Rattle.office_rows.specs.Rows.{Interchange, Partner, Rows}
+use Rattle.office_rows.specs.Stored.{HasRows, StoresRows}
+use Rattle.office_history.specs.After.{AreKeptOnce}
+use Rattle.office_parts.specs.Archives.{HoldsWhatGoes}
+use Rattle.office_parts.specs.LeftOver.{rows_without}
+use Rattle.office_parts.specs.OwnTerminal.{MayStay}
+use Rattle.office_parts.specs.Parts.{Archived}
+use Rattle.office_tables.specs.Faults.{IsOfStore}
+use Rattle.office_register.specs.declared.register.Segment.{Segment}
+use Rattle.office_register.specs.Changes.{closed_with, marked_for, unmarked}
+use Rattle.office_register.specs.Register.{ArchiveContent, RegisterContent, archive_content, last_closed}
+use Rattle.office_register.specs.Sound.{IsSound}
+use Rattle.office_register.specs.Stored.{HasRegister, StoresRegister}
+use Rattle.office_register.specs.Transactions.{IsSettled}
+use Rattle.office_closing.specs.declared.faults.CloseFault.{CloseFault}
+use Rattle.office_closing.specs.declared.faults.CloseFault.TheVariants as fault
+use Rattle.office_closing.specs.declared.numbers.Numbers.{Numbers}
+use Rattle.office_closing.specs.declared.planning.Plan.{Plan}
+use Rattle.office_closing.specs.Copies.{FileNames}
+use Rattle.office_closing.specs.Effects.{all_but, with_visits_that, without_visits}
+use Rattle.office_closing.specs.Files.{Files, AreClean, AreIdle, AreRead, IsRead}
+use Rattle.office_closing.specs.Laws.{Raises}
+use Rattle.office_closing.specs.Numbers.{goes}
+use Rattle.office_closing.specs.Refusing.{Tells}
+
+-- ---- what the files hold before
+
+-- rows as they stand after events: the accounts by their ids from 1, no interchange twice, the visits by number, each in
+-- its form
+pub record AreOrderly (rows : Rows) : Type 0 where
+  pub accounts : map (λ (p : Partner). p.id) rows.partners ≡ range_with_len 1 (length rows.partners)
+  pub once : AreKeptOnce rows.interchanges
+  pub numbered : AreNumbered 0 rows.visits
+  pub formed : (visit : VisitContent) → Contains rows.visits visit → IsFormedVisit visit
+
+-- the rows of the store and of the archive, and what their registers say
+pub record Held : Type 0 where
+  pub own : Rows
+  pub register : RegisterContent
+  pub copy : Rows
+  pub copied : RegisterContent
+
+pub record AreHeld (held : Held) (files : Files) : Type 0 where
+  pub own : HasRows held.own files.store.now
+  pub register : HasRegister held.register files.register.now
+  pub copy : HasRows held.copy files.archive.now
+  pub copied : HasRegister held.copied files.archive_register.now
+  pub own_orderly : AreOrderly held.own
+  pub copy_orderly : AreOrderly held.copy
+  pub register_sound : IsSound held.register
+  pub copied_sound : IsSound held.copied
+
+-- ---- what is closed
+
+-- the numbers that are closed, the visits that go, the archive, and its segments
+pub record Closing : Type 0 where
+  pub numbers : List Numbers
+  pub visits : List ℕ
+  pub archive : ArchiveContent
+  pub segments : List Segment
+
+abbrev pub closing_content : Plan → Closing
+closing_content plan = record {
+  numbers = plan.numbers.items;
+  visits = plan.visits.items;
+  archive = archive_content plan.archive;
+  segments = plan.segments.items;
+}
+
+-- the store's register with the archive
+abbrev pub raised_register : Held → Closing → RegisterContent
+raised_register held closing = closed_with closing.archive closing.segments (unmarked held.copied)
+
+-- the last numbers that were closed before, as the store's register says, and those that are closed then
+abbrev pub closed_before : Held → ℕ → ℕ
+closed_before held = last_closed held.register.segments
+
+abbrev pub closed_after : Held → Closing → ℕ → ℕ
+closed_after held closing = last_closed (raised_register held closing).segments
+
+-- the number is that of an account, and below its next one
+pub record IsBelowNext (rows : Rows) (partner number : ℕ) : Type 0 where
+  pub account : Partner
+  pub is_one : Contains rows.partners account
+  pub is_its : account.id ≡ partner
+  pub below : number < account.next
+
+-- The archive holds all that goes, and all of that may go: the numbers by which the last closed ones rise, of the archive's
+-- register and so of the store's, are below the next of their accounts; the visits are over, and the newest is none of
+-- them. The store's register is sound with the archive.
+pub record IsClosing (held : Held) (names : FileNames) (closing : Closing) : Type 0 where
+  pub file : closing.archive.file ≡ names.archive
+  pub sound : IsSound (raised_register held closing)
+  pub numbers : Raises (last_closed held.copied.segments) closing.numbers (closed_after held closing)
+  pub rise : (partner : ℕ) → closed_before held partner ≤ closed_after held closing partner
+  pub below : (partner number : ℕ) → closed_before held partner < number → number ≤ closed_after held closing partner →
+      IsBelowNext held.own partner number
+  pub holds : (archived : Archived) → archived.last_closed ≡ closed_before held →
+      HoldsWhatGoes archived held.own held.copy (closed_after held closing) (all_but closing.visits)
+  pub may : MayStay (all_but closing.visits) held.own.visits
+
+-- ---- what is left
+
+-- the rows without all that goes
+abbrev pub cleared : Closing → Rows → Rows
+cleared closing rows = without_visits closing.visits (rows_without (goes closing.numbers) rows)
+
+-- the rows without some interchanges and some visits of what goes
+pub record IsLeft (closing : Closing) (rows left : Rows) : Type 0 where
+  pub deleted : Interchange → Bool
+  pub only : (i : Interchange) → deleted i ≡ true → goes closing.numbers i ≡ true
+  pub kept : ℕ → Bool
+  pub stay : (number : ℕ) → all_but closing.visits number ≡ true → kept number ≡ true
+  pub is : left ≡ with_visits_that kept (rows_without deleted rows)
+
+-- All that goes is gone from the store, its register has the archive, and the archive is marked for it. All is committed,
+-- and a crash leaves only that.
+pub record IsClosed (held : Held) (names : FileNames) (closing : Closing) (new : Files) : Type 0 where
+  pub rows : HasRows (cleared closing held.own) new.store.committed
+  pub register : HasRegister (raised_register held closing) new.register.committed
+  pub mark : HasRegister (marked_for names.store held.copied) new.archive_register.committed
+  pub store_settled : IsSettled new.store
+  pub register_settled : IsSettled new.register
+  pub mark_settled : IsSettled new.archive_register
+
+-- the register has the archive of a closing
+pub record HasArchive (held : Held) (names : FileNames) (closing : Closing) (register : State) : Type 0 where
+  pub is_closing : IsClosing held names closing
+  pub has : HasRegister (raised_register held closing) register.committed
+  pub settled : IsSettled register
+
+-- the store, while its connection is open, has its rows, or the register has the archive and some of what goes is gone
+abbrev pub HasRowsLeft : Held → FileNames → Files → Type 0
+HasRowsLeft held names new =
+    HasRows held.own new.store.committed
+    ⊎ ((closing : Closing) × (left : Rows) × HasArchive held names closing new.register × IsLeft closing held.own left
+    × HasRows left new.store.committed)
+
+-- where a closing stopped, while the connections are open
+pub record IsStopped (held : Held) (names : FileNames) (new : Files) : Type 0 where
+  pub store : IsTrue new.store.is_open → HasRowsLeft held names new
+  pub register : IsTrue new.register.is_open →
+      HasRegister held.register new.register.committed
+      ⊎ ((closing : Closing) × IsClosing held names closing
+      × HasRegister (raised_register held closing) new.register.committed)
+  pub mark : IsTrue new.archive_register.is_open →
+      HasRegister held.copied new.archive_register.committed
+      ⊎ HasRegister (marked_for names.store held.copied) new.archive_register.committed
+
+-- ---- what a crash leaves
+
+-- of the store: its register has the archive, and some of what goes is gone
+abbrev pub StoresLeftRows : FileNames → Files → Files → Trees → Type 0
+StoresLeftRows names old new db =
+    (held : Held) → AreHeld held old →
+    (closing : Closing) × (left : Rows) × HasArchive held names closing new.register × IsLeft closing held.own left
+    × StoresRows left db
+
+-- of its register: the archive is in it
+abbrev pub StoresRaised : FileNames → Files → Trees → Type 0
+StoresRaised names old db =
+    (held : Held) → AreHeld held old →
+    (closing : Closing) × IsClosing held names closing × StoresRegister (raised_register held closing) db
+
+-- of the archive's register: it is marked for the store
+abbrev pub StoresMarked : FileNames → Files → Trees → Type 0
+StoresMarked names old db =
+    (held : Held) → AreHeld held old → StoresRegister (marked_for names.store held.copied) db
+
+-- ---- faults
+
+-- the archive is refused, or a file is damaged or of another version
+abbrev pub IsBeforehand : CloseFault → Type 0
+IsBeforehand (fault.Archive why) = Unit {0}
+IsBeforehand (fault.File of) = ¬ IsOfStore of.fault
+IsBeforehand (fault.Comparing of) = Unit {0}
+IsBeforehand fault.Memory = Unit {0}
+
+-- ---- the whole
+
+-- At Ok the store is closed. At a fault it is stopped somewhere, and before anything was written if the archive was refused
+-- or a file damaged. What the fault tells is so. A crash leaves of each file what it left before, or what these say. The archive's rows stay as they are.
+pub record Closes {T : Type 0} (names : FileNames) (old new : Files) (result : Result T CloseFault) : Type 0 where
+  pub idle : AreIdle new
+  pub ok : AreClean new → OnOk result ((held : Held) → AreHeld held old →
+      (closing : Closing) × IsClosing held names closing × IsClosed held names closing new)
+  pub err : AreClean new → OnErr result ((held : Held) → AreHeld held old → IsStopped held names new)
+  pub untouched : IfErr result (λ fault. IsBeforehand fault → AreRead old new result)
+  pub tells : AreClean new → IfErr result (λ fault. (held : Held) → AreHeld held old →
+      Tells held.own held.copy names old fault)
+  pub store : AreClean new → Survives old.store new.store (StoresLeftRows names old new)
+  pub register : AreClean new → Survives old.register new.register (StoresRaised names old)
+  pub mark : AreClean new → Survives old.archive_register new.archive_register (StoresMarked names old)
+  pub archive : IsRead old.archive new.archive result

@@ -1,0 +1,148 @@
+-- Which archives are copies of a store, of an earlier day or of the same, and what they close.
+use Rattle.std.specs.Prelude.{◌≡◌, ◌≢◌, ℕ, ◌+◌, ◌-◌, ◌≤◌, ◌++◌, Bool, nat_lt, List, [], ◌∷◌, length, map, filter, Option, None, Some, IsTrue}
+use Rattle.sqlite.specs.Effect.{Database}
+use Rattle.terminal_core.specs.State.{TerminalState, last_number}
+use Rattle.office_setup.specs.Limits.{most_partners}
+use Rattle.office_setup.specs.Setups.{SetupContent, setup_content}
+use Rattle.office_rows.specs.Rows.{Rows}
+use Rattle.office_rows.specs.Shown.{AreNexts}
+use Rattle.office_rows.specs.Stored.{HasRows}
+use Rattle.office_rows.specs.Tables.{office_schema}
+use Rattle.office_loading.specs.Tables.{LoadsOwn}
+use Rattle.office_register.specs.declared.register.Segment.{Segment}
+use Rattle.office_register.specs.Changes.{closed_with, unmarked}
+use Rattle.office_register.specs.Register.{ArchiveContent, RegisterContent, register_content, last_closed, closed_by}
+use Rattle.office_register.specs.Sound.{is_sound, is_file_name, IsSound}
+use Rattle.office_register.specs.Stored.{HasRegister}
+use Rattle.office_closing.specs.declared.faults.Refusal.{Refusal}
+use Rattle.office_closing.specs.declared.faults.Refusal.TheVariants as refusal
+use Rattle.office_closing.specs.declared.numbers.Numbers.{Numbers}
+use Rattle.office_closing.specs.declared.opening.Opened.{Opened}
+use Rattle.office_closing.specs.declared.planning.Stage.{Stage}
+use Rattle.office_closing.specs.declared.planning.Stage.TheVariants as stage
+use Rattle.office_closing.specs.declared.visits.VisitFault.TheVariants.{Differs}
+use Rattle.office_closing.specs.Visits.{IsCauseOf}
+
+-- ---- what is opened
+
+-- what a store or an archive has: its set-up with the accounts, their next numbers by id, its terminal and its register
+pub record OfficeContent : Type 0 where
+  pub setup : SetupContent
+  pub nexts : List ℕ
+  pub terminal : TerminalState
+  pub register : RegisterContent
+
+abbrev pub office_content : Opened → OfficeContent
+office_content opened = record {
+  setup = setup_content opened.setup;
+  nexts = opened.nexts.items;
+  terminal = opened.terminal;
+  register = register_content opened.register;
+}
+
+-- the one database has this office beyond what is closed, and the other this register
+pub record IsOpened (db register : Database) (content : OfficeContent) : Type 0 where
+  pub sound : IsTrue (is_sound content.register)
+  pub registered : (held : RegisterContent) → HasRegister held register → IsSound held → content.register ≡ held
+  pub loaded : db.schema ≡ office_schema →
+      LoadsOwn (closed_by content.register) db content.setup content.terminal
+  pub nexts : (rows : Rows) → HasRows rows db → AreNexts rows content.nexts
+
+-- ---- what an archive closes
+
+-- of each account the numbers above its last one that was closed before, and below its next; from this id on
+abbrev pub numbers_from : (last_closed : ℕ → ℕ) → ℕ → List ℕ → List Numbers
+numbers_from last_closed id [] = []
+numbers_from last_closed id (next ∷ nexts) =
+    (record { partner = id; from = last_closed id; to = next - 1 }) ∷ numbers_from last_closed (id + 1) nexts
+
+abbrev pub numbers_of : OfficeContent → List Numbers
+numbers_of copy = numbers_from (last_closed copy.register.segments) 1 copy.nexts
+
+abbrev pub closes_some : Numbers → Bool
+closes_some numbers = nat_lt numbers.from numbers.to
+
+abbrev pub segment_of : ℕ → Numbers → Segment
+segment_of place numbers = record { partner = numbers.partner; archive = place; last = numbers.to }
+
+-- the segments of an archive that closes these numbers
+abbrev pub segments_of : ℕ → List Numbers → List Segment
+segments_of place numbers = map (segment_of place) (filter closes_some numbers)
+
+-- the archive in this file, as the store's register is to name it: after those that its own register names
+abbrev pub archive_in : List ℕ → OfficeContent → ArchiveContent
+archive_in file copy = record {
+  place = length copy.register.archives + 1;
+  file = file;
+  visits = last_number copy.terminal.visits;
+}
+
+-- the store's register with this archive
+abbrev pub raised_by : List ℕ → OfficeContent → RegisterContent
+raised_by file copy =
+    closed_with (archive_in file copy) (segments_of (archive_in file copy).place (numbers_of copy))
+    (unmarked copy.register)
+
+-- ---- copies
+
+-- the names of the files of the store and of the archive
+pub record FileNames : Type 0 where
+  pub store : List ℕ
+  pub archive : List ℕ
+
+-- these are the first of those
+abbrev pub AreFirst : {A : Type 0} → List A → List A → Type 0
+AreFirst {A} xs ys = (rest : List A) × (ys ≡ xs ++ rest)
+
+-- the same terminal, and the first of its accounts, which are as many as may be
+pub record IsSameOffice (own copy : OfficeContent) : Type 0 where
+  pub terminal : copy.setup.terminal ≡ own.setup.terminal
+  pub accounts : AreFirst copy.setup.partners own.setup.partners
+  pub few : length copy.nexts ≤ most_partners
+
+-- each of these numbers is at most the one at its place there
+abbrev pub AreAtMost : List ℕ → List ℕ → Type 0
+AreAtMost [] others = Unit {0}
+AreAtMost (n ∷ numbers) [] = ⊥
+AreAtMost (n ∷ numbers) (m ∷ others) = (n ≤ m) × AreAtMost numbers others
+
+-- no next number is above the store's, and no visit newer than the store's newest
+pub record IsNoLater (own copy : OfficeContent) : Type 0 where
+  pub nexts : AreAtMost copy.nexts own.nexts
+  pub visits : last_number copy.terminal.visits ≤ last_number own.terminal.visits
+
+-- how far the closing has come, as the registers tell: nothing was done; the archive is marked for the store; the store's
+-- register has the archive
+abbrev pub HasCome : OfficeContent → OfficeContent → FileNames → Stage → Type 0
+HasCome own copy names stage.New =
+    (unmarked copy.register ≡ own.register) × (copy.register.closed_for ≡ None)
+HasCome own copy names stage.Marked =
+    (unmarked copy.register ≡ own.register) × (copy.register.closed_for ≡ Some names.store)
+HasCome own copy names stage.Raised =
+    (raised_by names.archive copy ≡ own.register) × (copy.register.closed_for ≡ Some names.store)
+
+-- the store's register may have the archive, and the archive's be marked
+pub record MayBeRaised (copy : OfficeContent) (names : FileNames) : Type 0 where
+  pub raised : IsTrue (is_sound (raised_by names.archive copy))
+  pub mark : IsTrue (is_file_name names.store)
+
+-- the archive is of the store's terminal and of no later day, and the store no archive itself
+pub record IsOfStore (own copy : OfficeContent) : Type 0 where
+  pub unclosed : own.register.closed_for ≡ None
+  pub office : IsSameOffice own copy
+  pub no_later : IsNoLater own copy
+
+-- the archive is a copy of the store, and the closing has come so far
+pub record IsCopy (own copy : OfficeContent) (names : FileNames) (come : Stage) : Type 0 where
+  pub of_store : IsOfStore own copy
+  pub has_come : HasCome own copy names come
+  pub may : MayBeRaised copy names
+
+-- why the archive does not take the store's history; a number that it keeps otherwise is found in rows
+abbrev pub IsReason : OfficeContent → OfficeContent → FileNames → Refusal → Type 0
+IsReason own copy names refusal.Closed = own.register.closed_for ≢ None
+IsReason own copy names refusal.Office = ¬ IsSameOffice own copy
+IsReason own copy names refusal.Later = ¬ IsNoLater own copy
+IsReason own copy names refusal.Register = (come : Stage) → ¬ (HasCome own copy names come × MayBeRaised copy names)
+IsReason own copy names (refusal.Visit number) = IsCauseOf own.terminal.visits copy.terminal.visits (Differs number)
+IsReason own copy names (refusal.Interchange difference) = ⊥

@@ -1,0 +1,42 @@
+-- What is found of the four files before anything is written.
+use Rattle.std.specs.Prelude.{◌≡◌, true, None, Some, IsTrue}
+use Rattle.sqlite.specs.State.{State}
+use Rattle.sqlite.specs.Tree.{Trees}
+use Rattle.office_register.specs.Changes.{unmarked}
+use Rattle.office_closing.specs.declared.planning.Plan.{Plan}
+use Rattle.office_closing.specs.declared.planning.Stage.{Stage}
+use Rattle.office_closing.specs.declared.planning.Stage.TheVariants as stage
+use Rattle.office_closing.specs.Closes.{Closing, Held, IsClosing, closing_content, raised_register}
+use Rattle.office_closing.specs.Comparing.{IsComparedAs}
+use Rattle.office_closing.specs.Copies.{FileNames}
+use Rattle.office_closing.specs.Files.{Files}
+use Rattle.office_closing.specs.Steps.{is_unraised}
+
+-- how far a closing has come, by what the registers hold
+abbrev pub IsAtStage : Held → FileNames → Closing → Stage → Type 0
+IsAtStage held names closing stage.New = (held.register ≡ unmarked held.copied) × (held.copied.closed_for ≡ None)
+IsAtStage held names closing stage.Marked =
+    (held.register ≡ unmarked held.copied) × (held.copied.closed_for ≡ Some names.store)
+IsAtStage held names closing stage.Raised =
+    (held.register ≡ raised_register held closing) × (held.copied.closed_for ≡ Some names.store)
+
+-- the archive is a copy and holds what goes, and the closing has come so far
+pub record IsJudged (held : Held) (names : FileNames) (plan : Plan) : Type 0 where
+  pub is_closing : IsClosing held names (closing_content plan)
+  pub at : IsAtStage held names (closing_content plan) plan.stage
+
+-- if the store's register is still to have the archive, each of the numbers is told alike by store and archive
+abbrev pub IsComparedIf : Plan → Held → Type 0
+IsComparedIf plan held =
+    is_unraised plan.stage ≡ true → IsComparedAs plan.numbers.items held.own held.copy None
+
+-- outside a transaction, while the connection is open: what was committed is in memory, and a crash leaves it alone
+pub record IsResting (state : State) : Type 0 where
+  pub settled : IsTrue state.is_open → state.now ≡ state.committed
+  pub alone : IsTrue state.is_open → (db : Trees) → state.may_leave db → db ≡ state.committed.trees
+
+pub record AreResting (files : Files) : Type 0 where
+  pub store : IsResting files.store
+  pub register : IsResting files.register
+  pub archive : IsResting files.archive
+  pub archive_register : IsResting files.archive_register

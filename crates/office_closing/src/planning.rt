@@ -1,0 +1,324 @@
+ghost use Rattle.std.specs.Prelude.{◌≡◌, ◌↔◌, ◌≤◌, ◌++◌, ◌∷◌, [], true, IfOk, IfErr, IsTrue, MatchOption, OnOk, length, string_bytes};
+ghost use Rattle.std.specs.Option.{option_map};
+ghost use Rattle.office_checks.specs.Closed.{last_closed};
+ghost use Rattle.office_closing.specs.Copies.{AreAtMost, AreFirst, FileNames, HasCome, IsNoLater, IsOfStore, IsReason, IsSameOffice, MayBeRaised, archive_in, numbers_from, numbers_of, office_content, segments_of};
+ghost use Rattle.office_closing.specs.Planning.{IsMarkedAs, IsPlan, IsRefused, IsToldBy};
+ghost use Rattle.office_closing.specs.Steps.{is_unmarked, is_unraised};
+ghost use Rattle.office_closing.specs.Visits.{AreToGo};
+ghost use Rattle.office_closing.specs.declared.planning.Stage.{Stage};
+ghost use Rattle.office_register.specs.Register.{archive_content, register_content};
+ghost use Rattle.office_register.specs.Sound as sound;
+ghost use Rattle.office_setup.specs.Accounts.{account_contents};
+ghost use Rattle.office_setup.specs.Limits.{most_partners};
+
+use crate::faults::{CloseFault, Refusal};
+use crate::numbers::Numbers;
+use crate::opening::Opened;
+use crate::visits::{VisitFault, newest_number, visits_to_go};
+use office_checks::Closed;
+use office_register::{Archive, Register, Segment, is_file_name, is_sound};
+use office_setup::{Account, MOST_PARTNERS};
+use std::alloc::{AllocError, Global};
+
+/// How far a closing has come.
+#[derive(Clone, Copy, Debug, PartialEq, Eq)]
+pub enum Stage {
+    /// Nothing was done.
+    New,
+    /// The archive is marked for the store.
+    Marked,
+    /// The store's register has the archive.
+    Raised,
+}
+
+/// Whether the archive is still to be marked.
+pub(crate) fn is_unmarked(stage: Stage) -> bool
+    ensures { result ≡ is_unmarked stage }
+{
+    match stage {
+        Stage::New => true,
+        Stage::Marked => false,
+        Stage::Raised => false,
+    }
+}
+
+/// Whether the store's register is still to have the archive.
+pub(crate) fn is_unraised(stage: Stage) -> bool
+    ensures { result ≡ is_unraised stage }
+{
+    match stage {
+        Stage::New => true,
+        Stage::Marked => true,
+        Stage::Raised => false,
+    }
+}
+
+/// For which store a register is marked.
+#[derive(Clone, Copy)]
+enum Mark {
+    /// For none.
+    Absent,
+    /// For this one.
+    Own,
+    /// For another.
+    Other,
+}
+
+/// What a closing does.
+#[derive(Drop)]
+pub(crate) struct Plan {
+    /// The numbers that it closes.
+    pub numbers: Vec<Numbers>,
+    /// The visits that go.
+    pub visits: Vec<u32>,
+    /// The archive as the store's register is to name it.
+    pub archive: Archive,
+    /// Its segments.
+    pub segments: Vec<Segment>,
+    /// How far it has come.
+    pub stage: Stage,
+}
+
+/// What is to be closed by an archive, if it is a copy of the store.
+pub(crate) fn make_plan(
+    alloc: Global,
+    own: &Opened,
+    copy: Opened,
+    store_file: &str,
+    archive_file: &str,
+) -> Result<Plan, CloseFault>
+    requires { IsTrue (sound.is_sound (register_content copy.register)) }
+    ensures ok { IfOk result (IsPlan (office_content own.now) (office_content copy)
+        (record { store = store_file.now; archive = archive_file.now })) }
+    ensures err { IfErr result (IsRefused (office_content own.now) (office_content copy)
+        (record { store = store_file.now; archive = archive_file.now })) }
+{
+    check_office(own, &copy)?;
+    let visits = gone_visits(alloc, own, &copy)?;
+    let closed = copy.register.closed(alloc)?;
+    let numbers = numbers_to_close(alloc, &closed, &copy.nexts)?;
+    let archive = archive_in(alloc, &copy, archive_file)?;
+    let segments = segments_of(alloc, archive.place, &numbers)?;
+    let stage = stage_of(alloc, own, copy, &archive, &segments, store_file)?;
+    Ok(Plan {
+        numbers,
+        visits,
+        archive,
+        segments,
+        stage,
+    })
+}
+
+/// That the archive is of the store's terminal and of no later day, and the store no archive itself.
+fn check_office(own: &Opened, copy: &Opened) -> Result<(), Refusal>
+    ensures ok { OnOk result (IsOfStore (office_content own.now) (office_content copy.now)) }
+    ensures err { IfErr result (λ why. (names : FileNames) →
+        IsReason (office_content own.now) (office_content copy.now) names why) }
+{
+    if own.register.closed_for.is_some() {
+        return Err(Refusal::Closed);
+    }
+    if !is_same_office(own, copy) {
+        return Err(Refusal::Office);
+    }
+    if !is_no_later(own, copy) {
+        return Err(Refusal::Later);
+    }
+    Ok(())
+}
+
+fn is_same_office(own: &Opened, copy: &Opened) -> bool
+    ensures { (result ≡ true) ↔ IsSameOffice (office_content own.now) (office_content copy.now) }
+{
+    copy.setup.terminal.as_bytes() == own.setup.terminal.as_bytes()
+        && are_first(
+            copy.setup.partners.as_slice(),
+            own.setup.partners.as_slice(),
+        )
+        && copy.nexts.len() <= MOST_PARTNERS
+}
+
+/// Whether these accounts are the first of those.
+fn are_first(accounts: &[Account], others: &[Account]) -> bool
+    ensures { (result ≡ true) ↔ AreFirst (account_contents accounts.now) (account_contents others.now) }
+{
+    if accounts.len() > others.len() {
+        return false;
+    }
+    for (index, account) in accounts.iter().enumerate() {
+        if !is_same_account(account, &others[index]) {
+            return false;
+        }
+    }
+    true
+}
+
+fn is_same_account(one: &Account, other: &Account) -> bool
+    ensures { (result ≡ true)
+        ↔ ((string_bytes one.now.code ≡ string_bytes other.now.code) × (one.now.kind ≡ other.now.kind)) }
+{
+    one.code.as_bytes() == other.code.as_bytes() && one.kind == other.kind
+}
+
+fn is_no_later(own: &Opened, copy: &Opened) -> bool
+    ensures { (result ≡ true) ↔ IsNoLater (office_content own.now) (office_content copy.now) }
+{
+    are_at_most(&copy.nexts, &own.nexts)
+        && newest_number(copy.terminal.visits()) <= newest_number(own.terminal.visits())
+}
+
+/// Whether each of these numbers is at most the one at its place there.
+fn are_at_most(numbers: &[u32], others: &[u32]) -> bool
+    ensures { (result ≡ true) ↔ AreAtMost numbers.now others.now }
+{
+    if numbers.len() > others.len() {
+        return false;
+    }
+    for (index, number) in numbers.iter().enumerate() {
+        if *number > others[index] {
+            return false;
+        }
+    }
+    true
+}
+
+/// The visits that go.
+fn gone_visits(alloc: Global, own: &Opened, copy: &Opened) -> Result<Vec<u32>, CloseFault>
+    ensures ok { IfOk result
+        (λ numbers. AreToGo own.now.terminal.visits copy.now.terminal.visits numbers.items) }
+    ensures err { IfErr result (λ fault. (names : FileNames) →
+        IsRefused (office_content own.now) (office_content copy.now) names fault) }
+{
+    match visits_to_go(alloc, own.terminal.visits(), copy.terminal.visits()) {
+        Ok(numbers) => Ok(numbers),
+        Err(VisitFault::Differs(number)) => Err(CloseFault::Archive(Refusal::Visit(number))),
+        Err(VisitFault::Memory) => Err(CloseFault::Memory),
+    }
+}
+
+/// What is closed of each account.
+fn numbers_to_close(
+    alloc: Global,
+    closed: &Closed,
+    nexts: &[u32],
+) -> Result<Vec<Numbers>, AllocError>
+    requires { length nexts.now ≤ most_partners }
+    ensures { IfOk result (λ numbers. numbers.items ≡ numbers_from (last_closed closed.now) 1 nexts.now) }
+{
+    let mut numbers = Vec::new(alloc);
+    for (index, next) in nexts.iter().enumerate() {
+        let partner = index as u16 + 1;
+        let from = closed.last_of(u32::from(partner));
+        let to = next.saturating_sub(1);
+        append(&mut numbers, Numbers { partner, from, to })?;
+    }
+    Ok(numbers)
+}
+
+/// One more at the end.
+fn append<T: Drop>(all: &mut Vec<T>, one: T) -> Result<(), AllocError>
+    ensures { OnOk result (all.new.items ≡ all.old.items ++ one ∷ []) }
+{
+    all.push(one)?;
+    Ok(())
+}
+
+/// The archive as the store's register is to name it.
+fn archive_in(alloc: Global, copy: &Opened, file: &str) -> Result<Archive, AllocError>
+    requires { IsTrue (sound.is_sound (register_content copy.now.register)) }
+    ensures { IfOk result (λ archive. archive_content archive ≡ archive_in file.now (office_content copy.now)) }
+{
+    let place = copy.register.archives.len() as u16 + 1;
+    let visits = newest_number(copy.terminal.visits());
+    let file = String::from_str(alloc, file)?;
+    Ok(Archive {
+        place,
+        file,
+        visits,
+    })
+}
+
+/// The segments of an archive that closes these numbers.
+fn segments_of(alloc: Global, place: u16, numbers: &[Numbers]) -> Result<Vec<Segment>, AllocError>
+    ensures { IfOk result (λ segments. segments.items ≡ segments_of place numbers.now) }
+{
+    let mut segments = Vec::new(alloc);
+    for closed in numbers {
+        if closed.from < closed.to {
+            let segment = Segment {
+                partner: closed.partner,
+                archive: place,
+                last: closed.to,
+            };
+            append(&mut segments, segment)?;
+        }
+    }
+    Ok(segments)
+}
+
+/// How far the closing has come.
+fn stage_of(
+    alloc: Global,
+    own: &Opened,
+    copy: Opened,
+    archive: &Archive,
+    segments: &[Segment],
+    store_file: &str,
+) -> Result<Stage, CloseFault>
+    requires unclosed { option_map string_bytes own.now.register.closed_for ≡ None }
+    requires archive { archive_content archive.now ≡ archive_in (archive_content archive.now).file (office_content copy) }
+    requires segments { segments.now ≡ segments_of (archive_content archive.now).place (numbers_of (office_content copy)) }
+    ensures ok { IfOk result (λ stage. (names : FileNames) → names.store ≡ store_file.now →
+        names.archive ≡ (archive_content archive.now).file →
+        HasCome (office_content own.now) (office_content copy) names stage
+        × MayBeRaised (office_content copy) names) }
+    ensures err { IfErr result (λ fault. (names : FileNames) → names.store ≡ store_file.now →
+        names.archive ≡ (archive_content archive.now).file →
+        IsRefused (office_content own.now) (office_content copy) names fault) }
+{
+    let is_same = copy.register.tells_same(&own.register);
+    let mark = mark_of(&copy.register.closed_for, store_file);
+    let raised = copy.register.with_closing(alloc, archive, segments)?;
+    let may = is_sound(alloc, &raised)? && is_file_name(store_file.as_bytes());
+    let has_archive = raised.tells_same(&own.register);
+    match come_so_far(is_same, has_archive, mark) {
+        Some(stage) if may => Ok(stage),
+        _ => Err(CloseFault::Archive(Refusal::Register)),
+    }
+}
+
+/// What the registers and the mark tell of it, if they agree.
+fn come_so_far(is_same: bool, has_archive: bool, mark: Mark) -> Option<Stage>
+    ensures { MatchOption result ((come : Stage) → ¬ IsToldBy is_same has_archive mark come)
+        (IsToldBy is_same has_archive mark) }
+{
+    match mark {
+        Mark::Absent => { if is_same { Some(Stage::New) } else { None } }
+        Mark::Own => {
+            if is_same {
+                Some(Stage::Marked)
+            } else if has_archive {
+                Some(Stage::Raised)
+            } else {
+                None
+            }
+        }
+        Mark::Other => None,
+    }
+}
+
+/// For which store a register is marked.
+fn mark_of(closed_for: &Option<String>, store_file: &str) -> Mark
+    ensures { IsMarkedAs (option_map string_bytes closed_for.now) store_file.now result }
+{
+    match closed_for {
+        None => Mark::Absent,
+        Some(file) => {
+            if file.as_bytes() == store_file.as_bytes() {
+                Mark::Own
+            } else {
+                Mark::Other
+            }
+        }
+    }
+}
