@@ -30,11 +30,11 @@ own_tells content es archived own whole mine are by_numbers beyond =
 
 module _ (StandsSo : (ℕ → ℕ) → Archive → Type 0) (p n : ℕ) where
   -- it stands so to those before it, of which none reaches the number
-  record IsFound (archive : Archive) : Type 0 where
-    closed_before : ℕ → ℕ
-    stands : StandsSo closed_before archive
-    above : closed_before p < n
-    reached : n ≤ archive.last_closed p
+  pub record IsFound (archive : Archive) : Type 0 where
+    pub closed_before : ℕ → ℕ
+    pub stands : StandsSo closed_before archive
+    pub above : closed_before p < n
+    pub reached : n ≤ archive.last_closed p
 
   past : (last : ℕ) → nat_le n last ≡ false → last < n
   past last e = elim (cases_lt last n) [
@@ -48,7 +48,7 @@ module _ (StandsSo : (ℕ → ℕ) → Archive → Type 0) (p n : ℕ) where
       subst IsFound (same_Some first archive found) (record { closed_before = closed_before; stands = stands; above = above; reached = leb-true n (first.last_closed p) e })
   by_reach closed_before first archive later false e stands above rest found = rest (past (first.last_closed p) e) found
 
-  found_in_turn : (closed_before : ℕ → ℕ) (archives : List Archive) (archive : Archive) → AreInTurn StandsSo closed_before archives → closed_before p < n → archive_of archives p n ≡ Some archive → IsFound archive
+  pub found_in_turn : (closed_before : ℕ → ℕ) (archives : List Archive) (archive : Archive) → AreInTurn StandsSo closed_before archives → closed_before p < n → archive_of archives p n ≡ Some archive → IsFound archive
   found_in_turn closed_before [] archive stand above found = cc
   found_in_turn closed_before (first ∷ archives) archive stand above found =
       by_reach closed_before first archive (archive_of archives p n) (nat_le n (first.last_closed p)) refl stand.0 above (found_in_turn first.last_closed archives archive stand.1) found

@@ -60,6 +60,7 @@ copy_stays content es later closed_before archive none copy = record {
   archived = copy.archived;
   whole = copy.whole;
   parts = copy.parts;
+  rest = copy.rest;
   by_numbers = copy.by_numbers;
   closed = copy.closed;
   taken = copy.taken;
@@ -75,7 +76,7 @@ closings_add content es closed_before [] archive copies copy = (copy, tt)
 closings_add content es closed_before (first ∷ archives) archive copies copy = (copies.0, closings_add content es first.last_closed archives archive copies.1 copy)
 
 pub copies_of_now : CopiesOfNowAreCopies
-copies_of_now content es archived own whole rows last_closed are by_numbers is within = record {
+copies_of_now content es archived own whole rows last_closed are by_numbers is rest within = record {
   earlier = es;
   later = [];
   at_its_day = sym (append-nil es);
@@ -83,6 +84,7 @@ copies_of_now content es archived own whole rows last_closed are by_numbers is w
   archived = archived;
   whole = whole;
   parts = subst (λ rows. ArePartsAfter content es archived rows whole) (sym is) are;
+  rest = rest;
   by_numbers = by_numbers;
   closed = λ partner. omega arith;
   taken = within;

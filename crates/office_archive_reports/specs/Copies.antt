@@ -1,13 +1,14 @@
 -- Archives as copies of a store, of earlier days.
-use Rattle.std.specs.Prelude.{◌≡◌, ℕ, ◌≤◌, List, [], ◌∷◌, ◌++◌, Contains}
+use Rattle.std.specs.Prelude.{◌≡◌, ℕ, ◌≤◌, List, [], ◌∷◌, ◌++◌, Contains, filter}
 use Rattle.partner_core.specs.Deliveries.{run}
 use Rattle.terminal_core.specs.Rows.{VisitContent}
 use Rattle.office_admission.specs.Deliveries.{deliveries_of}
 use Rattle.office_replies.specs.Events.{Event}
-use Rattle.office_rows.specs.Rows.{Rows}
+use Rattle.office_rows.specs.Rows.{Interchange, Rows}
 use Rattle.office_setup.specs.Setups.{SetupContent}
 use Rattle.office_history.specs.Laws.{HasNoMigration}
 use Rattle.office_parts.specs.Archives.{Archive}
+use Rattle.office_parts.specs.Closing.{is_closed}
 use Rattle.office_parts.specs.LeftOver.{rows_beyond}
 use Rattle.office_parts.specs.Parts.{Archived, ArePartsAfter}
 use Rattle.office_archive_reports.specs.Visits.{IsVisitWithin}
@@ -18,8 +19,8 @@ GoByNumbers archived =
     (visit : VisitContent) → Contains archived.visits visit → IsVisitWithin archived.last_closed visit
 
 -- The archive is a copy of the store of an earlier day, and no older store was migrated since. Its rows are the store's own
--- after some of the events, besides interchanges that were closed and still stood there. At that day no more was closed
--- than by the archives before it, and what it closes was taken.
+-- after some of the events, besides interchanges that were closed, and put away, and still stood there. At that day no more
+-- was closed than by the archives before it, and what it closes was taken.
 pub record IsCopy (content : SetupContent) (es : List Event) (closed_before : ℕ → ℕ) (archive : Archive) : Type 0 where
   pub earlier : List Event
   pub later : List Event
@@ -28,6 +29,8 @@ pub record IsCopy (content : SetupContent) (es : List Event) (closed_before : �
   pub archived : Archived
   pub whole : Rows
   pub parts : ArePartsAfter content earlier archived (rows_beyond archived.last_closed archive.rows) whole
+  pub rest : (i : Interchange) → Contains (filter (is_closed archived.last_closed) archive.rows.interchanges) i →
+      Contains archived.interchanges i
   pub by_numbers : GoByNumbers archived
   pub closed : (partner : ℕ) → archived.last_closed partner ≤ closed_before partner
   pub taken : (partner : ℕ) → archive.last_closed partner ≤ run (deliveries_of content earlier) partner

@@ -1,5 +1,5 @@
 -- The laws of reports of what was put away.
-use Rattle.std.specs.Prelude.{◌≡◌, ℕ, ◌≤◌, nat_lt, Bool, true, false, ◌||◌, List, [], ◌∷◌, ◌++◌, Contains, Option, Some, string_bytes}
+use Rattle.std.specs.Prelude.{◌≡◌, ℕ, ◌≤◌, nat_lt, Bool, true, false, ◌||◌, List, [], ◌∷◌, ◌++◌, Contains, filter, Option, Some, string_bytes}
 use Rattle.std.specs.declared.alloc.Global.{Global}
 use Rattle.std.specs.declared.string.String.{String}
 use Rattle.box6346.specs.declared.box_number.BoxNumber.{BoxNumber}
@@ -8,7 +8,7 @@ use Rattle.terminal_core.specs.declared.change.Source.{Source}
 use Rattle.terminal_core.specs.Rows.{VisitContent}
 use Rattle.office_admission.specs.Deliveries.{deliveries_of}
 use Rattle.office_replies.specs.Events.{Event}
-use Rattle.office_rows.specs.Rows.{Rows}
+use Rattle.office_rows.specs.Rows.{Interchange, Rows}
 use Rattle.office_setup.specs.Given.{IsGiven}
 use Rattle.office_setup.specs.Setups.{SetupContent}
 use Rattle.office_queries.specs.declared.query.Query.{Query}
@@ -16,7 +16,7 @@ use Rattle.office_queries.specs.declared.query.Query.TheVariants as query
 use Rattle.office_history.specs.After.{AreAfter, content_after, machine_after}
 use Rattle.office_history.specs.Laws.{HasNoMigration}
 use Rattle.office_parts.specs.Archives.{Archive, archive_of, Hold}
-use Rattle.office_parts.specs.Closing.{archived_with, MayClose}
+use Rattle.office_parts.specs.Closing.{archived_with, is_closed, MayClose}
 use Rattle.office_parts.specs.LeftOver.{rows_beyond}
 use Rattle.office_parts.specs.OwnTerminal.{own_terminal}
 use Rattle.office_parts.specs.Parts.{Archived, nothing_archived, ArePartsAfter}
@@ -161,6 +161,8 @@ abbrev pub CopiesOfNowAreCopies : Type 0
 CopiesOfNowAreCopies =
     (content : SetupContent) (es : List Event) (archived : Archived) (own whole rows : Rows) (last_closed : ℕ → ℕ) →
     ArePartsAfter content es archived own whole → GoByNumbers archived → rows_beyond archived.last_closed rows ≡ own →
+    ((i : Interchange) → Contains (filter (is_closed archived.last_closed) rows.interchanges) i →
+    Contains archived.interchanges i) →
     ((partner : ℕ) → last_closed partner ≤ run (deliveries_of content es) partner)
     → IsCopy content es archived.last_closed (record { rows = rows; last_closed = last_closed })
 

@@ -1,7 +1,12 @@
 pub mod Resting
 pub mod Telling
+pub mod Shelved
 pub mod Standing
 pub mod Reporting
 pub mod Together
 pub mod Accounts
 pub mod Opening
+pub mod Looking
+pub mod Told
+pub mod Closed
+pub mod Beside

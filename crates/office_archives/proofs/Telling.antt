@@ -47,6 +47,14 @@ told_by archives archive p n kept reached once is = record {
       ∙ ap (option_and_then (λ (i : Interchange). reply_if_any i.reply)) (one_kept p n archive.rows is.0 once is.1) ∙ reply_is kept.reply is.0.reply is.3;
 }
 
+-- the one archive is each number's
+pub only_one : (archives : List Archive) (db : Database) (p n : ℕ) (archive : Archive) → (are : AreOneIn archives db) → archive_of archives p n ≡ Some archive → archive ≡ are.archive
+only_one archives db p n archive are reached = by (reaches p n are.archive) (sym (ap (λ all. archive_of all p n) are.is_all) ∙ reached)
+  where
+    by : (is : Bool) → cond is (Some are.archive) None ≡ Some archive → archive ≡ are.archive
+    by true e = sym (same_Some are.archive archive e)
+    by false e = cc
+
 -- so of the one archive
 pub one_told : (archives : List Archive) (db : Database) (p n : ℕ) (kept : Kept) → (are : AreOneIn archives db) → IsClosedIn archives p n → IsKept p n are.archive.rows (Some kept) → IsKeptIn archives p n kept
 one_told archives db p n kept are closed is =

@@ -69,6 +69,29 @@ module _ {S A : Type 0} (g : Ghosts S) (is_sound : A → Type 0) (are : List Arc
       let far = leb-false number (last_closed old.closed partner) is_open in
       subst (λ (q : ℕ × ℕ). archive_of list q.0 q.1 ≡ None) (sym same) (stands.hold.none_beyond partner number (omega (arith, far, stands.knows.numbers partner)))
 
+  -- ---- a fault that was noted
+
+  -- a desk that differs in its last fault stands there too
+  pub noted_stands : (list : List Archive) (content : SetupContent) (es : List Event) (old new : Desk S g) → new.conn ≡ old.conn → new.setup ≡ old.setup → new.closed ≡ old.closed → new.beside ≡ old.beside → StandsBeside g list content es old → StandsBeside g list content es new
+  noted_stands list content es old new conn setup closed beside stands = record {
+    given = stands.given;
+    now_is = stands.now_is ∙ ap setup_content (sym setup);
+    archived = stands.archived;
+    own = stands.own;
+    whole = stands.whole;
+    parts = stands.parts;
+    hold = stands.hold;
+    knows = subst (λ k. KnowsClosed (closed_content k) stands.archived) (sym closed) stands.knows;
+    rows = stands.rows;
+    is_own = stands.is_own;
+    holds =
+        let T = own_terminal stands.archived.stays (machine_after content es).terminal in
+        subst (λ k. HoldsOffice (closed_content new.closed) (setup_content new.setup) stands.rows T (state g k).committed new.beside) (sym conn)
+        (subst (λ k. HoldsOffice (closed_content new.closed) (setup_content k) stands.rows T (state g old.conn).committed new.beside) (sym setup)
+        (subst (λ k. HoldsOffice (closed_content k) (setup_content old.setup) stands.rows T (state g old.conn).committed new.beside) (sym closed)
+        (subst (HoldsOffice (closed_content old.closed) (setup_content old.setup) stands.rows T (state g old.conn).committed) (sym beside) stands.holds)));
+  }
+
   -- ---- by the archives
 
   module _ (old : Desk S g) (sent : List ℕ) (partner number : ℕ) (admits : admission (parties_of old.setup) (interchange_of sent) ≡ Ok (partner, number))
@@ -156,7 +179,7 @@ module _ {S A : Type 0} (g : Ghosts S) (is_sound : A → Type 0) (are : List Arc
       delivers = λ sound whole content es stand.
           let stands = stand.stands in (
             not_now_surely (parties_in (content_after content es)) (interchange_of sent) (subst (λ P. RefusedSurely P (interchange_of sent) response.NotNow) (parties_now stand.list content es stands) surely),
-            record { list = stand.list; these = same whole stand.list stand.these; stands = still stand.list content es stands },
+            record { list = stand.list; these = same whole stand.list stand.these; stands = noted_stands stand.list content es old new conn setup closed beside stands },
           );
       crash = λ sound clean whole content es stand.
           λ db left. inl (stored stand.list content es es stand.stands stand.stands.whole stand.stands.parts sound db (subst (λ k. (state g k).may_leave db) conn left));
@@ -165,23 +188,3 @@ module _ {S A : Type 0} (g : Ghosts S) (is_sound : A → Type 0) (are : List Arc
       stays = λ sound. subst (λ (k : Held S). HasCleanDisk (state g k) × IsTrue (state g k).is_open) conn sound;
       noted = fault;
     }
-      where
-        still : (list : List Archive) (content : SetupContent) (es : List Event) → StandsBeside g list content es old → StandsBeside g list content es new
-        still list content es stands = record {
-          given = stands.given;
-          now_is = stands.now_is ∙ ap setup_content (sym setup);
-          archived = stands.archived;
-          own = stands.own;
-          whole = stands.whole;
-          parts = stands.parts;
-          hold = stands.hold;
-          knows = subst (λ k. KnowsClosed (closed_content k) stands.archived) (sym closed) stands.knows;
-          rows = stands.rows;
-          is_own = stands.is_own;
-          holds =
-              let T = own_terminal stands.archived.stays (machine_after content es).terminal in
-              subst (λ k. HoldsOffice (closed_content new.closed) (setup_content new.setup) stands.rows T (state g k).committed new.beside) (sym conn)
-              (subst (λ k. HoldsOffice (closed_content new.closed) (setup_content k) stands.rows T (state g old.conn).committed new.beside) (sym setup)
-              (subst (λ k. HoldsOffice (closed_content k) (setup_content old.setup) stands.rows T (state g old.conn).committed new.beside) (sym closed)
-              (subst (HoldsOffice (closed_content old.closed) (setup_content old.setup) stands.rows T (state g old.conn).committed) (sym beside) stands.holds)));
-        }

@@ -2,8 +2,14 @@
 use Rattle.std.specs.Prelude.{◌≡◌, ℕ, List, [], ◌∷◌, Some, is_some, string_bytes, true}
 use Rattle.std.specs.Option.{option_map}
 use Rattle.sqlite.specs.Effect.{Database}
+use Rattle.terminal_core.specs.State.{TerminalState}
+use Rattle.office_rows.specs.Rows.{Rows}
 use Rattle.office_rows.specs.Stored.{HasRows}
-use Rattle.office_history.specs.After.{AreKeptOnce}
+use Rattle.office_setup.specs.Setups.{SetupContent}
+use Rattle.office_checks.specs.Closed.{ClosedContent}
+use Rattle.office_loading.specs.Tables.{LoadsOwn}
+use Rattle.office_history.specs.After.{AreKeptOnce, reply_in}
+use Rattle.office_reports.specs.Tickets.{ticket_text}
 use Rattle.office_tables.specs.declared.interchanges.Kept.{Kept}
 use Rattle.office_parts.specs.Archives.{Archive, archive_of, text_by, reply_by}
 
@@ -22,3 +28,21 @@ pub record AreOneIn (archives : List Archive) (db : Database) : Type 0 where
   pub is_all : archives ≡ archive ∷ []
   pub has : HasRows archive.rows db
   pub kept_once : AreKeptOnce archive.rows.interchanges
+
+-- The ticket of an interchange that was taken, of the partner with a code: by the terminal of a store that has these rows,
+-- whatever is closed of it.
+pub record IsTicketOf (rows : Rows) (code : List ℕ) (partner number : ℕ) (ticket : List ℕ) : Type 0 where
+  pub db : Database
+  pub has : HasRows rows db
+  pub closed : ClosedContent
+  pub content : SetupContent
+  pub terminal : TerminalState
+  pub loads : LoadsOwn closed db content terminal
+  pub taken : is_some (reply_in rows partner number) ≡ true
+  pub tells : ticket ≡ ticket_text code (record { partner = partner; number = number }) terminal.visits
+
+-- it is the one that the number's archive tells, as the store that it was
+abbrev pub IsTicketIn : List Archive → (code : List ℕ) → (partner number : ℕ) → (ticket : List ℕ) → Type 0
+IsTicketIn archives code partner number ticket =
+    (archive : Archive) → archive_of archives partner number ≡ Some archive →
+    IsTicketOf archive.rows code partner number ticket

@@ -1,5 +1,5 @@
 -- The archives of a store, of which one at a time is open.
-use Rattle.std.specs.Prelude.{◌≡◌, ℕ, ◌-◌, List, Option, None, Some, slice_get, IsTrue}
+use Rattle.std.specs.Prelude.{◌≡◌, ℕ, ◌-◌, nat_lt, List, filter, length, Option, None, Some, slice_get, IsTrue}
 use Rattle.std.specs.Option.{option_and_then}
 use Rattle.sqlite.specs.Effect.{Database}
 use Rattle.sqlite.specs.Held.{Held, state}
@@ -8,9 +8,10 @@ use Rattle.sqlite_trees.specs.declared.store.Store.{Ghosts}
 use Rattle.office_rows.specs.Stored.{HasRows}
 use Rattle.office_history.specs.After.{AreKeptOnce}
 use Rattle.office_parts.specs.Archives.{Archive, archive_of}
-use Rattle.office_register.specs.Register.{register_content}
+use Rattle.office_register.specs.Register.{ArchiveContent, RegisterContent, register_content}
 use Rattle.office_register.specs.Register as register
 use Rattle.office_register.specs.declared.register.Register.{Register}
+use Rattle.office_register.specs.declared.register.Segment.{Segment}
 use Rattle.office_archives.specs.declared.opened.Opened.{Opened}
 
 -- the archive at a place, the first at 1
@@ -37,10 +38,23 @@ abbrev pub IsOpenIfAny : {S : Type 0} (g : Ghosts S) → List Archive → Option
 IsOpenIfAny g list None = Unit {0}
 IsOpenIfAny g list (Some opened) = IsOpenAt g list opened.place opened.conn
 
--- These are on the shelf, and the register names for each number the one that reaches it first; what is open is one of them.
+-- ---- what the register names
+
+-- the register of a store as the archive at that place was closed: it names those before
+abbrev pub register_before : (place : ℕ) → RegisterContent → RegisterContent
+register_before place names =
+    record {
+      archives = filter (λ (archive : ArchiveContent). nat_lt archive.place place) names.archives;
+      segments = filter (λ (segment : Segment). nat_lt segment.archive place) names.segments;
+      closed_for = None;
+    }
+
+-- These are on the shelf. The register names as many, and for each number the one that reaches it first; what is open is
+-- one of them.
 pub record AreShelved {S F : Type 0} (g : Ghosts S) (holds : List Archive → F → Type 0) (list : List Archive) (shelf : F)
     (names : Register) (opened : Option (Opened S g)) : Type 0 where
   pub on_shelf : holds list shelf
+  pub counted : length list ≡ length (register_content names).archives
   pub named : (partner number : ℕ) → archive_of list partner number
       ≡ option_and_then (archive_at list) (register.archive_of (register_content names).segments partner number)
   pub one_open : IsOpenIfAny g list opened

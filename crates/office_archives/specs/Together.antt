@@ -1,5 +1,5 @@
 -- A desk over the rows that a store has, and the store's archives: where they stand together, and what a call does.
-use Rattle.std.specs.Prelude.{◌≡◌, ◌⊎◌, ℕ, List, [], ◌∷◌, ◌++◌}
+use Rattle.std.specs.Prelude.{◌≡◌, ◌⊎◌, ℕ, List, [], ◌∷◌, ◌++◌, Option, OnOk, Result}
 use Rattle.sqlite.specs.Held.{state}
 use Rattle.sqlite.specs.State.{State, HasCleanDisk}
 use Rattle.sqlite.specs.Tree.{Trees}
@@ -11,18 +11,24 @@ use Rattle.office_replies.specs.declared.accounts.AccountAnswer.{AccountAnswer}
 use Rattle.office_replies.specs.declared.accounts.AccountAnswer.TheVariants as account
 use Rattle.office_replies.specs.declared.deliver.Response.{Response}
 use Rattle.office_replies.specs.declared.deliver.Response.TheVariants as response
+use Rattle.office_queries.specs.Looking.{Look, Tells, report, texts_after}
+use Rattle.office_queries.specs.declared.query.NotNow.{NotNow}
+use Rattle.office_queries.specs.declared.query.Query.{Query}
 use Rattle.office_checks.specs.Closed.{ClosedContent, closed_content}
 use Rattle.office_rows.specs.Rows.{Rows}
 use Rattle.office_rows.specs.Stored.{StoresRows}
 use Rattle.office_setup.specs.Setups.{SetupContent}
+use Rattle.office_history.specs.After.{SaysSame}
 use Rattle.office_desk.specs.Accounts.{AnswersAccount}
 use Rattle.office_desk.specs.Answers.{AnswersNext}
 use Rattle.office_desk.specs.Desks.{IsSound}
-use Rattle.office_desk.specs.Noting.{NotesFault, NotesStore}
+use Rattle.office_desk.specs.Looking.{DeskHands, IsOpenAt}
+use Rattle.office_desk.specs.Noting.{NotesFault, NotesLook, NotesStore}
 use Rattle.office_desk.specs.declared.desk.Desk.{Desk}
 use Rattle.office_parts.specs.Archives.{Archive, Hold}
 use Rattle.office_parts.specs.Parts.{Archived, ArePartsAfter}
 use Rattle.office_archives.specs.Standing.{IsOwnWithRest, KnowsClosed, StandsBeside}
+use Rattle.office_archives.specs.Telling.{TellsTogether}
 
 -- the archives are those of a store, and desk and archives stand after the events
 pub record StandTogether {S A : Type 0} (g : Ghosts S) (are : List Archive → A → Type 0) (content : SetupContent)
@@ -105,3 +111,50 @@ pub record EnrolsTogether {S A : Type 0} (g : Ghosts S) (is_sound : A → Type 0
   pub closed : new.closed ≡ old.closed
   pub stays : IsSound g new → IsSound g old
   pub noted : NotesStore answer old.last_fault new.last_fault
+
+-- ---- a look
+
+-- desk and archives stand after the events, for an opening set-up that says the same
+pub record StandAlike {S A : Type 0} (g : Ghosts S) (are : List Archive → A → Type 0) (content : SetupContent)
+    (es : List Event) (desk : Desk S g) (archives : A) : Type 0 where
+  pub opening : SetupContent
+  pub says : SaysSame opening content
+  pub stand : StandTogether g are opening es desk archives
+
+-- Nothing changes: desk and archives stand where they stood, a crash leaves rows that stand so, and what isn't sound stays
+-- so.
+pub record OnlyLooksTogether {S A : Type 0} (g : Ghosts S) (is_sound : A → Type 0) (are : List Archive → A → Type 0)
+    (old : Desk S g) (before : A) (new : Desk S g) (after : A) : Type 0 where
+  pub same : IsSound g new → is_sound after → (content : SetupContent) (es : List Event) →
+      StandTogether g are content es old before → StandAlike g are content es new after
+  pub crash : IsSound g old → HasCleanDisk (state g new.conn) → (content : SetupContent) (es : List Event)
+      (stand : StandTogether g are content es old before)
+      → LeavesBeside stand.list (closed_content old.closed) content es (state g new.conn)
+  pub closed : new.closed ≡ old.closed
+  pub stays : IsSound g new → IsSound g old
+
+-- what is told at a query, from whatever events after which desk and archives stand
+abbrev pub TellsBeside : {S A : Type 0} (g : Ghosts S) (are : List Archive → A → Type 0) → Desk S g → A → Query →
+    Option (List ℕ) → Type 0
+TellsBeside g are desk archives asked found =
+    (content : SetupContent) (es : List Event) (stand : StandTogether g are content es desk archives)
+    → TellsTogether content es stand.list stand.stands.archived stand.stands.whole asked found
+
+-- what is told of whatever is looked at: a page of the kept texts by the store's own rows, if it has no archives
+abbrev pub ShowsBeside : {S A : Type 0} (g : Ghosts S) (are : List Archive → A → Type 0) → Desk S g → A → Look →
+    Option (List ℕ) → Type 0
+ShowsBeside g are desk archives (report asked) found = TellsBeside g are desk archives asked found
+ShowsBeside g are desk archives (texts_after from) found =
+    DeskHands g desk from found
+    × ((content : SetupContent) (es : List Event) (stand : StandTogether g are content es desk archives)
+    → stand.list ≡ [])
+
+-- A report, or a page of the kept texts, was asked for. What is told; desk and archives were only looked at; why it can't be
+-- told now; and where it's told that the office can be asked, the store is open.
+pub record LooksTogether {S A : Type 0} (g : Ghosts S) (is_sound : A → Type 0) (are : List Archive → A → Type 0)
+    (old : Desk S g) (before : A) (look : Look) (found : Result (Option (List ℕ)) NotNow) (new : Desk S g) (after : A)
+    : Type 0 where
+  pub told : IsSound g new → is_sound after → Tells (ShowsBeside g are old before look) found
+  pub looks : OnlyLooksTogether g is_sound are old before new after
+  pub noted : NotesLook found old.last_fault new.last_fault
+  pub is_open : HasCleanDisk (state g new.conn) → OnOk found (IsOpenAt look (state g new.conn))

@@ -1,14 +1,27 @@
-ghost use Rattle.std.specs.Prelude.{◌≡◌, ℕ, List};
+ghost use Rattle.std.specs.Option.{option_map};
+ghost use Rattle.std.specs.Prelude.{◌≡◌, ◌&&◌, ℕ, nat_le, IfOk, List, OnOk, string_bytes};
+ghost use Rattle.std.specs.Result.{result_map_both};
 ghost use Rattle.edi_segments.specs.Interchange.{interchange_of};
 ghost use Rattle.office_admission.specs.Outcomes.{IsAdmitted};
-ghost use Rattle.office_archives.specs.Together.{EnrolsTogether, LeadsTogether};
+ghost use Rattle.office_archives.specs.Telling.{IsOfContainer, IsOfNumber};
+ghost use Rattle.office_archives.specs.Together.{EnrolsTogether, LeadsTogether, LooksTogether, OnlyLooksTogether, TellsBeside};
+ghost use Rattle.office_checks.specs.Closed.{last_closed};
+ghost use Rattle.office_desk.specs.Desks.{IsSound};
+ghost use Rattle.office_desk.specs.Reports.{IsOpenFor};
+ghost use Rattle.office_queries.specs.Looking.{report, texts_after};
+ghost use Rattle.office_queries.specs.declared.query.Query.{Query};
+ghost use Rattle.sqlite.specs.Held.{state};
+ghost use Rattle.sqlite.specs.State.{HasCleanDisk};
 
 use crate::answering::answer_closed;
 use crate::archives::Archives;
+use crate::reports::{partner_called, tell_closed, with_archives};
 use edi_segments::interchange_text;
 use office_admission::Admitted;
 use office_desk::Desk;
+use office_queries::{NotNow, Query, Report};
 use office_replies::{AccountAnswer, AddAccount, Deliver, Response};
+use office_tables::TableFault;
 use sqlite::Alter;
 use std::alloc::Global;
 
@@ -79,6 +92,122 @@ impl<S: Alter + Drop, A: Archives + Drop> ArchivedDesk<S, A> {
             }
         }
     }
+
+    /// What store and archives tell at a query, if there is something: of a number that is closed its archive, else the
+    /// store's own rows; of a container and its visits these, and in a last line how many archives there are. Nothing
+    /// changes.
+    pub fn find_report(
+        &mut self,
+        alloc: Global,
+        query: &Query,
+    ) -> Result<Option<String>, TableFault>
+        ensures told { IsSound S.Store self.new.desk → A.is_sound self.new.archives → IfOk result (λ found.
+            TellsBeside S.Store A.are self.old.desk self.old.archives query.now (option_map string_bytes found)) }
+        ensures looks { OnlyLooksTogether S.Store A.is_sound A.are self.old.desk self.old.archives self.new.desk
+            self.new.archives }
+        ensures is_open { HasCleanDisk (state S.Store self.new.desk.conn) →
+            OnOk result (IsOpenFor query.now (state S.Store self.new.desk.conn)) }
+        ensures last_fault { self.new.desk.last_fault ≡ self.old.desk.last_fault }
+    {
+        match query {
+            Query::Visits(_) | Query::Container(_) => self.find_container(alloc, query),
+            Query::Reply { partner, number } => self.find_number(alloc, query, partner, *number),
+            Query::Contrl { partner, number } => self.find_number(alloc, query, partner, *number),
+            Query::Ticket { partner, number } => self.find_number(alloc, query, partner, *number),
+            _ => self.desk.find_report(alloc, query),
+        }
+    }
+
+    /// What the store tells of a container, and how many archives were not looked at.
+    fn find_container(&mut self, alloc: Global, query: &Query) -> Result<Option<String>, TableFault>
+        requires { IsOfContainer query.now }
+        ensures told { IsSound S.Store self.new.desk → A.is_sound self.new.archives → IfOk result (λ found.
+            TellsBeside S.Store A.are self.old.desk self.old.archives query.now (option_map string_bytes found)) }
+        ensures looks { OnlyLooksTogether S.Store A.is_sound A.are self.old.desk self.old.archives self.new.desk
+            self.new.archives }
+        ensures is_open { HasCleanDisk (state S.Store self.new.desk.conn) →
+            OnOk result (IsOpenFor query.now (state S.Store self.new.desk.conn)) }
+        ensures last_fault { self.new.desk.last_fault ≡ self.old.desk.last_fault }
+    {
+        let told = self.desk.find_report(alloc, query)?;
+        Ok(with_archives(alloc, told, self.archives.count())?)
+    }
+
+    /// What is told of a number: by its archive, if it is closed.
+    fn find_number(
+        &mut self,
+        alloc: Global,
+        query: &Query,
+        code: &str,
+        number: u32,
+    ) -> Result<Option<String>, TableFault>
+        requires { IsOfNumber query.now code.now number }
+        ensures told { IsSound S.Store self.new.desk → A.is_sound self.new.archives → IfOk result (λ found.
+            TellsBeside S.Store A.are self.old.desk self.old.archives query.now (option_map string_bytes found)) }
+        ensures looks { OnlyLooksTogether S.Store A.is_sound A.are self.old.desk self.old.archives self.new.desk
+            self.new.archives }
+        ensures is_open { HasCleanDisk (state S.Store self.new.desk.conn) →
+            OnOk result (IsOpenFor query.now (state S.Store self.new.desk.conn)) }
+        ensures last_fault { self.new.desk.last_fault ≡ self.old.desk.last_fault }
+    {
+        let Some(partner) = partner_called(alloc, &self.desk, code)? else {
+            return self.find_nobody(alloc, code);
+        };
+        if !self.is_closed(partner, number) {
+            return self.desk.find_report(alloc, query);
+        }
+        tell_closed(alloc, &mut self.archives, query, code, partner, number)
+    }
+
+    /// Whether an interchange of the partner under that number is closed: the first number is 1.
+    fn is_closed(&self, partner: u16, number: u32) -> bool
+        ensures { result ≡ (nat_le 1 number && nat_le number (last_closed self.now.desk.closed partner)) }
+    {
+        1 <= number && self.desk.is_closed(partner, number)
+    }
+
+    /// Nothing, as of a partner without an account. Damaged if there is one with that code.
+    fn find_nobody(&mut self, alloc: Global, code: &str) -> Result<Option<String>, TableFault>
+        ensures told { IsSound S.Store self.new.desk → A.is_sound self.new.archives → IfOk result (λ found.
+            (asked : Query) (number : ℕ) → IsOfNumber asked code.now number →
+            TellsBeside S.Store A.are self.old.desk self.old.archives asked (option_map string_bytes found)) }
+        ensures looks { OnlyLooksTogether S.Store A.is_sound A.are self.old.desk self.old.archives self.new.desk
+            self.new.archives }
+        ensures last_fault { self.new.desk.last_fault ≡ self.old.desk.last_fault }
+    {
+        let next = Query::Next(String::from_str(alloc, code)?);
+        match self.desk.find_report(alloc, &next)? {
+            None => Ok(None),
+            Some(_) => Err(TableFault::Damaged),
+        }
+    }
+
+    /// What is told at a query; NotNow, if it met a fault, which the desk keeps.
+    fn answer_query(&mut self, alloc: Global, query: &Query) -> Result<Option<String>, NotNow>
+        ensures looks { LooksTogether S.Store A.is_sound A.are self.old.desk self.old.archives (report query.now)
+            (result_map_both (option_map string_bytes) (λ refusal. refusal) result) self.new.desk self.new.archives }
+    {
+        match self.find_report(alloc, query) {
+            Ok(found) => Ok(found),
+            Err(fault) => {
+                self.desk.note(fault);
+                Err(NotNow)
+            }
+        }
+    }
+
+    /// A page of the kept texts, if nothing was put away. NotNow otherwise: the order in which all came is not told yet.
+    fn answer_texts(&mut self, alloc: Global, from: u32) -> Result<Option<Vec<u8>>, NotNow>
+        ensures looks { LooksTogether S.Store A.is_sound A.are self.old.desk self.old.archives (texts_after from)
+            (result_map_both (option_map (λ lines. lines.items)) (λ refusal. refusal) result) self.new.desk
+            self.new.archives }
+    {
+        if self.archives.count() == 0 {
+            return self.desk.texts(alloc, from);
+        }
+        self.desk.note(TableFault::Version);
+        Err(NotNow)
+    }
 }
 
 impl<S: Alter + Drop, A: Archives + Drop> Deliver for ArchivedDesk<S, A> {
@@ -100,5 +229,20 @@ impl<S: Alter + Drop, A: Archives + Drop> AddAccount for ArchivedDesk<S, A> {
 
     fn add_account(&mut self, alloc: Global, code: &[u8], kind: &[u8]) -> AccountAnswer {
         self.answer_account(alloc, code, kind)
+    }
+}
+
+impl<S: Alter + Drop, A: Archives + Drop> Report for ArchivedDesk<S, A> {
+    ghost use Rattle.office_archives.specs.Together.{LooksTogether};
+
+    ghost looks = { λ old look found new.
+        LooksTogether S.Store A.is_sound A.are old.desk old.archives look found new.desk new.archives };
+
+    fn report(&mut self, alloc: Global, query: &Query) -> Result<Option<String>, NotNow> {
+        self.answer_query(alloc, query)
+    }
+
+    fn texts(&mut self, alloc: Global, from: u32) -> Result<Option<Vec<u8>>, NotNow> {
+        self.answer_texts(alloc, from)
     }
 }

@@ -1,8 +1,9 @@
-ghost use Rattle.std.specs.Prelude.{IfOk, List};
-ghost use Rattle.office_archives.specs.Keeping.{IsClosedIn, IsKeptIn};
+ghost use Rattle.std.specs.Prelude.{◌≡◌, IfOk, List, length, string_bytes};
+ghost use Rattle.office_archives.specs.Keeping.{IsClosedIn, IsKeptIn, IsTicketIn};
 ghost use Rattle.office_parts.specs.Archives.{Archive};
 
 use office_tables::{Kept, TableFault};
+use std::alloc::Global;
 
 /// What the archives of a store keep.
 pub trait Archives {
@@ -21,4 +22,24 @@ pub trait Archives {
         ensures kept { is_sound self.new → IfOk result (λ kept. (archives : List Archive) → are archives self.old →
             IsClosedIn archives partner number → IsKeptIn archives partner number kept) }
         ensures same { is_sound self.new → (archives : List Archive) → are archives self.old → are archives self.new };
+
+    /// The ticket of a partner's number that is closed, for the partner with that code: what the interchange brought in and
+    /// took out, as the number's archive reports it, opened as the store that it was. It changes no archive.
+    ///
+    /// Damaged if the archive keeps no reply under the number, or has the rows of no office; Version if it is of another
+    /// version; Store and Memory say nothing of what it keeps.
+    fn ticket(
+        &mut self,
+        alloc: Global,
+        code: &str,
+        partner: u16,
+        number: u32,
+    ) -> Result<String, TableFault>
+        ensures ticket { is_sound self.new → IfOk result (λ ticket. (archives : List Archive) → are archives self.old →
+            IsTicketIn archives code.now partner number (string_bytes ticket)) }
+        ensures same { is_sound self.new → (archives : List Archive) → are archives self.old → are archives self.new };
+
+    /// How many there are.
+    fn count(&self) -> usize
+        ensures { (archives : List Archive) → are archives self.now → result ≡ length archives };
 }

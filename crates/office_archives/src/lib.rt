@@ -4,10 +4,13 @@
 mod answering;
 mod archived_desk;
 mod archives;
+mod earlier;
 pub mod laws;
 mod many_archives;
 mod one_archive;
 mod opened;
+mod reports;
+mod tickets;
 
 pub use answering::answer_closed;
 pub use archived_desk::ArchivedDesk;

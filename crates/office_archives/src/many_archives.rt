@@ -3,10 +3,13 @@ ghost use Rattle.office_archives.specs.Shelves.{AreShelved, IsOpenAt, IsSoundIfA
 ghost use Rattle.office_parts.specs.Archives.{Archive};
 
 use crate::archives::Archives;
+use crate::earlier::closed_before;
 use crate::opened::Opened;
+use crate::tickets::ticket_by;
 use office_register::Register;
 use office_tables::{Kept, TableFault, kept};
 use sqlite::{Alter, Connection};
+use std::alloc::Global;
 
 /// Where the archives of a store are kept: each is opened by its place in the order in which they were closed.
 pub trait Shelf<S: Alter> {
@@ -84,5 +87,28 @@ impl<S: Alter + Drop, F: Shelf<S>> Archives for ManyArchives<S, F> {
             Some(kept) => Ok(kept),
             None => Err(TableFault::Damaged),
         }
+    }
+
+    fn ticket(
+        &mut self,
+        alloc: Global,
+        code: &str,
+        partner: u16,
+        number: u32,
+    ) -> Result<String, TableFault> {
+        let Some(place) = self.register.archive_of(partner, number) else {
+            return Err(TableFault::Damaged);
+        };
+        let closed = closed_before(alloc, &self.register, place)?;
+        let mut archive = self.take_out(place)?;
+        let is_idle = archive.conn.is_autocommit();
+        prove!(is_idle);
+        let ticket = ticket_by(alloc, &mut archive.conn, &closed, code, partner, number)?;
+        self.opened = Some(archive);
+        Ok(ticket)
+    }
+
+    fn count(&self) -> usize {
+        self.register.archives.len()
     }
 }

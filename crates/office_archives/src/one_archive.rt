@@ -4,8 +4,11 @@ ghost use Rattle.sqlite.specs.State.{HasCleanDisk};
 ghost use Rattle.office_archives.specs.Keeping.{AreOneIn};
 
 use crate::archives::Archives;
+use crate::tickets::ticket_by;
+use office_checks::Closed;
 use office_tables::{Kept, TableFault, kept};
 use sqlite::{Alter, Connection};
+use std::alloc::Global;
 
 /// The archive of a store that has one, which is open.
 #[derive(Drop)]
@@ -37,5 +40,22 @@ impl<S: Alter> Archives for OneArchive<S> {
             Some(kept) => Ok(kept),
             None => Err(TableFault::Damaged),
         }
+    }
+
+    fn ticket(
+        &mut self,
+        alloc: Global,
+        code: &str,
+        partner: u16,
+        number: u32,
+    ) -> Result<String, TableFault> {
+        let is_idle = self.conn.is_autocommit();
+        prove!(is_idle);
+        let closed = Closed::nothing(alloc);
+        ticket_by(alloc, &mut self.conn, &closed, code, partner, number)
+    }
+
+    fn count(&self) -> usize {
+        1
     }
 }

@@ -1,4 +1,4 @@
-use Rattle.std.proofs.Common.{◌≡◌, ℕ, Some, refl, sym, ap, subst, ◌∙◌}
+use Rattle.std.proofs.Common.{◌≡◌, ℕ, length, Some, refl, sym, ap, subst, ◌∙◌}
 use Rattle.std.specs.Option.{option_and_then}
 use Rattle.sqlite.specs.Held.{state}
 use Rattle.partner_core.proofs.Firsts.{some_of}
@@ -8,6 +8,7 @@ use Rattle.office_tables.proofs.ReadingLemmas.{clean_first}
 use Rattle.office_parts.specs.Archives.{archive_of}
 use Rattle.office_register.specs.Register.{register_content}
 use Rattle.office_register.specs.Register as register
+use Rattle.office_register.specs.declared.register.Register.{Register}
 use Rattle.office_archives.specs.Shelves.{archive_at, HasArchive}
 use Rattle.office_archives.proofs.Telling.{told_by}
 use Rattle.office_archives.proofs.many_archives.ManyArchivesArchives.kept.Goals as goal
@@ -27,6 +28,7 @@ returns-in-Some-found-clause-kept g c sound archives are closed =
 pub returns-in-Some-found-clause-same : goal.returns-in-Some-found-clause-same
 returns-in-Some-found-clause-same g c sound archives are = record {
   on_shelf = c.take_out.ensures.shelf archives are.on_shelf;
+  counted = are.counted ∙ ap (λ (names : Register). length (register_content names).archives) (sym c.take_out.ensures.register);
   named = subst (λ names. (partner number : ℕ) → archive_of archives partner number ≡ option_and_then (archive_at archives) (register.archive_of (register_content names).segments partner number)) (sym c.take_out.ensures.register) are.named;
   one_open = λ clean archive at.
       let there = c.in_ok-opened.ensures.opened archives are (clean_first c.kept.ensures.reads clean) archive (subst (λ place. archive_at archives place ≡ Some archive) c.in_ok-opened.ensures.place at) in
@@ -37,6 +39,7 @@ returns-in-Some-found-clause-same g c sound archives are = record {
 pub returns-in-None-clause-same : goal.returns-in-None-clause-same
 returns-in-None-clause-same g c sound archives are = record {
   on_shelf = c.take_out.ensures.shelf archives are.on_shelf;
+  counted = are.counted ∙ ap (λ (names : Register). length (register_content names).archives) (sym c.take_out.ensures.register);
   named = subst (λ names. (partner number : ℕ) → archive_of archives partner number ≡ option_and_then (archive_at archives) (register.archive_of (register_content names).segments partner number)) (sym c.take_out.ensures.register) are.named;
   one_open = λ clean archive at.
       let there = c.in_ok-opened.ensures.opened archives are (clean_first c.kept.ensures.reads clean) archive (subst (λ place. archive_at archives place ≡ Some archive) c.in_ok-opened.ensures.place at) in

@@ -1,0 +1,114 @@
+-- What desk and archives tell, from whatever events after which they stand.
+use Rattle.std.proofs.Common.{◌≡◌, ℕ, zero, ◌<◌, ◌≤◌, List, [], ◌∷◌, length, Bool, true, false, Option, None, Some, Result, Ok, Err, refl, sym, ap, subst, ◌∙◌, arith}
+use Rattle.std.specs.Prelude.{◌&&◌, nat_le, String, string_bytes}
+use Rattle.std.specs.declared.alloc.Global.{Global}
+use Rattle.std.proofs.lemmas.Bool.{le-leb, leb-false, leb-true, and_parts}
+use Rattle.sqlite_trees.specs.declared.store.Store.{Ghosts}
+use Rattle.box6346.specs.declared.box_number.BoxNumber.{BoxNumber}
+use Rattle.terminal_core.specs.State.{TerminalState}
+use Rattle.office_replies.specs.Events.{Event}
+use Rattle.office_checks.specs.Closed.{last_closed}
+use Rattle.office_rows.specs.Rows.{Rows}
+use Rattle.office_setup.specs.Setups.{SetupContent, setup_content}
+use Rattle.office_queries.specs.Looking.{Tells}
+use Rattle.office_queries.specs.declared.query.NotNow.{NotNow}
+use Rattle.office_queries.specs.declared.query.Query.{Query}
+use Rattle.office_queries.specs.declared.query.Query.TheVariants as query
+use Rattle.office_history.specs.After.{content_after, machine_after}
+use Rattle.office_desk.specs.Reports.{DeskTells, TellsNext, TellsOf, partner_called}
+use Rattle.office_desk.specs.declared.desk.Desk.{Desk}
+use Rattle.office_parts.specs.Archives.{Archive}
+use Rattle.office_parts.specs.OwnTerminal.{own_terminal}
+use Rattle.office_parts.specs.Parts.{Archived}
+use Rattle.office_archives.specs.Keeping.{IsClosedIn}
+use Rattle.office_archives.specs.Standing.{StandsBeside}
+use Rattle.office_archives.specs.Telling.{IsOfContainer, IsOfNeither, IsOfNumber, TellsClosed, TellsTogether, with_archives}
+use Rattle.office_archives.specs.Together.{StandTogether, TellsBeside}
+use Rattle.office_archives.proofs.Closed.{closed_here, closed_told}
+use Rattle.office_archives.proofs.Told.{container_told, nobody_told, number_told, others_told}
+
+-- there is no number 0
+none_zero : (content : SetupContent) (es : List Event) (archives : List Archive) (archived : Archived) (whole : Rows) (asked : Query) (code : List ℕ) (n : ℕ) (found : Option (List ℕ)) → IsOfNumber asked code n → n < 1 → TellsTogether content es archives archived whole asked found
+none_zero content es archives archived whole (query.Reply partner k) code n found is none = λ low. absurd (omega (arith, low, none, is.1))
+none_zero content es archives archived whole (query.Contrl partner k) code n found is none = λ low. absurd (omega (arith, low, none, is.1))
+none_zero content es archives archived whole (query.Ticket partner k) code n found is none = λ low by_numbers copies. absurd (omega (arith, low, none, is.1))
+none_zero content es archives archived whole other code n found is none = absurd is
+
+-- nobody has the code under which no next number is told
+no_next : (rows : Rows) (id : Option ℕ) → TellsNext rows id None → id ≡ None
+no_next rows None told = refl
+no_next rows (Some id) told = let never = told.2 in absurd cc
+
+module _ {S A : Type 0} (g : Ghosts S) (are : List Archive → A → Type 0) (old : Desk S g) (a : A) where
+  -- what the desk tells, of the rows that it has
+  told_here : (content : SetupContent) (es : List Event) (stand : StandTogether g are content es old a) (asked : Query) (found : Option (List ℕ)) → DeskTells g old asked found
+      → TellsOf (content_after content es) (own_terminal stand.stands.archived.stays (machine_after content es).terminal) stand.stands.rows asked found
+  told_here content es stand asked found told =
+      let stands = stand.stands in
+      let mine = own_terminal stands.archived.stays (machine_after content es).terminal in
+      subst (λ k. TellsOf k mine stands.rows asked found) (sym stands.now_is) (told.office stands.rows mine stands.holds)
+
+  called_here : (content : SetupContent) (es : List Event) (stand : StandTogether g are content es old a) (code : List ℕ) (p : ℕ) → partner_called (setup_content old.setup) code ≡ Some p → partner_called (content_after content es) code ≡ Some p
+  called_here content es stand code p called = ap (λ k. partner_called k code) stand.stands.now_is ∙ called
+
+  pub neither_beside : (asked : Query) (found : Option (List ℕ)) → IsOfNeither asked → DeskTells g old asked found → TellsBeside g are old a asked found
+  neither_beside asked found is told content es stand =
+      let s = stand.stands in
+      others_told content es stand.list s.archived s.own s.whole s.rows s.parts s.is_own asked found is (told_here content es stand asked found told)
+
+  pub container_beside : (asked : Query) (told found : Option (List ℕ)) (count : ℕ) → IsOfContainer asked → ((list : List Archive) → are list a → count ≡ length list) → DeskTells g old asked told → found ≡ with_archives count told → TellsBeside g are old a asked found
+  container_beside asked told found count is counted tells same content es stand =
+      let s = stand.stands in
+      subst (TellsTogether content es stand.list s.archived s.whole asked) (ap (λ k. with_archives k told) (sym (counted stand.list stand.these)) ∙ sym same)
+      (container_told content es stand.list s.archived s.own s.whole s.rows s.parts s.is_own asked told s.hold is (told_here content es stand asked told tells))
+
+  pub number_beside : (asked : Query) (code : List ℕ) (n p : ℕ) (found : Option (List ℕ)) → IsOfNumber asked code n → partner_called (setup_content old.setup) code ≡ Some p → (nat_le 1 n && nat_le n (last_closed old.closed p)) ≡ false → DeskTells g old asked found
+      → TellsBeside g are old a asked found
+  number_beside asked code n p found is called open_ tells content es stand = by (nat_le 1 n) refl
+    where
+      by : (from_one : Bool) → nat_le 1 n ≡ from_one → TellsTogether content es stand.list stand.stands.archived stand.stands.whole asked found
+      by false e = none_zero content es stand.list stand.stands.archived stand.stands.whole asked code n found is (leb-false 1 n e)
+      by true e =
+          let s = stand.stands in
+          let beyond : nat_le n (last_closed old.closed p) ≡ false = sym (ap (λ b. b && nat_le n (last_closed old.closed p)) e) ∙ open_ in
+          let far = leb-false n (last_closed old.closed p) beyond in
+          number_told content es stand.list s.archived s.own s.whole s.rows s.parts s.is_own code p n (called_here content es stand code p called) asked found is (omega (arith, far, s.knows.numbers p)) (told_here content es stand asked found tells)
+
+  pub nobody_beside : (asked : Query) (code : List ℕ) (n : ℕ) (name : String Global) (found : Option (List ℕ)) → IsOfNumber asked code n → string_bytes name ≡ code → found ≡ None → DeskTells g old (query.Next name) None → TellsBeside g are old a asked found
+  nobody_beside asked code n name found is named none tells content es stand =
+      let s = stand.stands in
+      let nobody = no_next s.rows (partner_called (content_after content es) (string_bytes name)) (told_here content es stand (query.Next name) None tells) in
+      subst (TellsTogether content es stand.list s.archived s.whole asked) (sym none)
+      (nobody_told content es stand.list s.archived s.own s.whole s.rows s.parts s.is_own code n asked is (ap (partner_called (content_after content es)) (sym named) ∙ nobody))
+
+  pub closed_beside : (asked : Query) (code : List ℕ) (n p : ℕ) (found : Option (List ℕ)) → IsOfNumber asked code n → partner_called (setup_content old.setup) code ≡ Some p → (nat_le 1 n && nat_le n (last_closed old.closed p)) ≡ true
+      → ((list : List Archive) → are list a → IsClosedIn list p n → TellsClosed list asked code p n found) → TellsBeside g are old a asked found
+  closed_beside asked code n p found is called closed tells content es stand =
+      let s = stand.stands in
+      let both = and_parts (nat_le 1 n) (nat_le n (last_closed old.closed p)) closed in
+      let low : 1 ≤ n = leb-true 1 n both.0 in
+      let reach = leb-true n (last_closed old.closed p) both.1 in
+      let high : n ≤ s.archived.last_closed p = omega (arith, reach, s.knows.numbers p) in
+      let here = called_here content es stand code p called in
+      closed_told content es stand.list s.archived s.own s.whole s.given s.parts s.hold code p n here low high asked found is
+      (tells stand.list stand.these (closed_here content es stand.list s.archived s.own s.whole s.given s.parts s.hold code p n here low high))
+
+-- it is asked neither of a container nor of a number
+pub is_neither : (asked : Query) → ((container : BoxNumber) → asked ≡ query.Visits container → ⊥) → ((container : BoxNumber) → asked ≡ query.Container container → ⊥) → ((code : String Global) (number : ℕ) → asked ≡ query.Reply code number → ⊥)
+    → ((code : String Global) (number : ℕ) → asked ≡ query.Contrl code number → ⊥) → ((code : String Global) (number : ℕ) → asked ≡ query.Ticket code number → ⊥) → IsOfNeither asked
+is_neither (query.Visits container) visits there reply contrl ticket = visits container refl
+is_neither (query.Container container) visits there reply contrl ticket = there container refl
+is_neither (query.Reply code number) visits there reply contrl ticket = reply code number refl
+is_neither (query.Contrl code number) visits there reply contrl ticket = contrl code number refl
+is_neither (query.Ticket code number) visits there reply contrl ticket = ticket code number refl
+is_neither other visits there reply contrl ticket = tt
+
+-- ---- whatever is looked at
+
+pub tells_so : {P Q : Option (List ℕ) → Type 0} (found : Result (Option (List ℕ)) NotNow) → ((told : Option (List ℕ)) → P told → Q told) → Tells P found → Tells Q found
+tells_so (Ok told) so is = so told is
+tells_so (Err refusal) so is = tt
+
+pub none_there : (list : List Archive) (count : ℕ) → count ≡ length list → count ≡ 0 → list ≡ []
+none_there [] count many none = refl
+none_there (archive ∷ list) count many none = absurd (omega (arith, many, none))

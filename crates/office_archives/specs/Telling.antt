@@ -1,0 +1,87 @@
+-- What a store and its archives report together.
+use Rattle.std.specs.Prelude.{◌≡◌, ◌==◌, ℕ, ◌≤◌, List, [], ◌∷◌, ◌++◌, length, Option, None, Some, codes, decimal, string_bytes, if◌then◌else◌}
+use Rattle.std.specs.Option.{unwrap_or}
+use Rattle.office_replies.specs.Events.{Event}
+use Rattle.office_rows.specs.Rows.{Rows}
+use Rattle.office_setup.specs.Setups.{SetupContent}
+use Rattle.office_queries.specs.declared.query.Query.{Query}
+use Rattle.office_queries.specs.declared.query.Query.TheVariants as query
+use Rattle.office_reports.specs.Names.{line}
+use Rattle.office_history.specs.After.{content_after, machine_after}
+use Rattle.office_desk.specs.Reports.{TellsAfter}
+use Rattle.office_parts.specs.Archives.{Archive}
+use Rattle.office_parts.specs.Parts.{Archived}
+use Rattle.office_archive_reports.specs.Closed.{closed_contrl, closed_reply}
+use Rattle.office_archive_reports.specs.Copies.{AreCopies, GoByNumbers}
+use Rattle.office_archive_reports.specs.Counted.{TellsOwnMetrics}
+use Rattle.office_archive_reports.specs.Stayed.{GoOldestFirst, TellsWhatStays, container_if_there}
+use Rattle.office_archives.specs.Keeping.{IsTicketIn}
+
+-- ---- containers
+
+-- ARCHIVES k
+abbrev pub archives_line : (count : ℕ) → List ℕ
+archives_line count = line (codes "ARCHIVES" ∷ decimal count ∷ [])
+
+-- what the store tells, and that line last, if there are any archives
+abbrev pub with_archives : (count : ℕ) → Option (List ℕ) → Option (List ℕ)
+with_archives count told = if count == 0 then told else Some (unwrap_or told [] ++ archives_line count)
+
+-- it is asked for a container's visits, or where it is
+abbrev pub IsOfContainer : Query → Type 0
+IsOfContainer (query.Visits container) = Unit {0}
+IsOfContainer (query.Container container) = Unit {0}
+IsOfContainer other = ⊥
+
+-- ---- numbers that are closed
+
+-- it is asked for the reply, the CONTRL or the ticket of that number of the partner with that code
+abbrev pub IsOfNumber : Query → (code : List ℕ) → (number : ℕ) → Type 0
+IsOfNumber (query.Reply partner asked) code number = (string_bytes partner ≡ code) × (asked ≡ number)
+IsOfNumber (query.Contrl partner asked) code number = (string_bytes partner ≡ code) × (asked ≡ number)
+IsOfNumber (query.Ticket partner asked) code number = (string_bytes partner ≡ code) × (asked ≡ number)
+IsOfNumber other code number = ⊥
+
+-- it is asked neither of a container nor of a number
+abbrev pub IsOfNeither : Query → Type 0
+IsOfNeither (query.Visits container) = ⊥
+IsOfNeither (query.Container container) = ⊥
+IsOfNeither (query.Reply code number) = ⊥
+IsOfNeither (query.Contrl code number) = ⊥
+IsOfNeither (query.Ticket code number) = ⊥
+IsOfNeither other = Unit {0}
+
+-- this is what the archives tell of it
+abbrev pub TellsClosed : List Archive → Query → (code : List ℕ) → (partner number : ℕ) → Option (List ℕ) → Type 0
+TellsClosed archives (query.Contrl _ _) code partner number found = found ≡ closed_contrl archives partner number
+TellsClosed archives (query.Ticket _ _) code partner number found =
+    (ticket : List ℕ) × IsTicketIn archives code partner number ticket × (found ≡ Some ticket)
+TellsClosed archives other code partner number found = found ≡ closed_reply archives code partner number
+
+-- ---- all reports
+
+-- What is told at a query after those events, where the archives hold what was put away of the whole's rows. Of a container's
+-- visits those that stay, and where it is if it stands in the yard or its last visit stays; both with how many archives
+-- there are. The metrics, of visits those that stay. All else as the whole tells it; of a ticket if visits went by numbers,
+-- and the archives are copies of the store of earlier days.
+abbrev pub TellsTogether : SetupContent → List Event → List Archive → Archived → (whole : Rows) → Query →
+    Option (List ℕ) → Type 0
+TellsTogether content es archives archived whole (query.Visits container) found =
+    (own : Option (List ℕ))
+    × TellsWhatStays (content_after content es) archives archived.stays (machine_after content es).terminal container own
+    × (found ≡ with_archives (length archives) own)
+TellsTogether content es archives archived whole (query.Container container) found =
+    GoOldestFirst archived.stays whole.visits
+    → found
+    ≡ with_archives (length archives)
+    (container_if_there (content_after content es) archived.stays (machine_after content es).terminal container)
+TellsTogether content es archives archived whole query.Metrics found =
+    TellsOwnMetrics (content_after content es) archived.stays (machine_after content es).terminal whole found
+TellsTogether content es archives archived whole (query.Reply code number) found =
+    1 ≤ number → TellsAfter content es (query.Reply code number) found
+TellsTogether content es archives archived whole (query.Contrl code number) found =
+    1 ≤ number → TellsAfter content es (query.Contrl code number) found
+TellsTogether content es archives archived whole (query.Ticket code number) found =
+    1 ≤ number → GoByNumbers archived → AreCopies content es (λ partner. 0) archives →
+    TellsAfter content es (query.Ticket code number) found
+TellsTogether content es archives archived whole asked found = TellsAfter content es asked found
