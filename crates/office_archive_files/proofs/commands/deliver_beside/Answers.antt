@@ -1,0 +1,5 @@
+use Rattle.sqlite.specs.WalFiles.{image_at}
+use Rattle.office_archive_files.proofs.commands.deliver_beside.Goals as goal
+
+pub returns-in-Ok-clause-ends : goal.returns-in-Ok-clause-ends
+returns-in-Ok-clause-ends g c = c.deliver_joined-status.ensures.ends (image_at g.S.Start) c.in-Ok.ensures.opens

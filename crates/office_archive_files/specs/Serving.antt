@@ -1,0 +1,64 @@
+-- What requests that are served leave of a store and its archives, if they stood together after some events.
+use Rattle.std.specs.Prelude.{◌≡◌, ◌⊎◌, ℕ, List, [], ◌∷◌, Option, Result}
+use Rattle.sqlite.specs.Recovery.{Image}
+use Rattle.sqlite_trees.specs.declared.store.Store.{Ghosts}
+use Rattle.office_replies.specs.Events.{Event}
+use Rattle.office_replies.specs.declared.accounts.AccountAnswer.{AccountAnswer}
+use Rattle.office_replies.specs.declared.accounts.AccountAnswer.TheVariants as account_answer
+use Rattle.office_replies.specs.declared.deliver.Response.TheVariants as response
+use Rattle.office_queries.specs.Looking.{Look}
+use Rattle.office_queries.specs.declared.query.NotNow.{NotNow}
+use Rattle.office_checks.specs.Closed.{closed_content}
+use Rattle.office_setup.specs.Given.{IsGiven}
+use Rattle.office_setup.specs.Setups.{SetupContent}
+use Rattle.office_http.specs.Steps.{Step, StepsLead, account, delivery, events_after, look, with_step}
+use Rattle.office_desk.specs.Accounts.{AnswersAccount}
+use Rattle.office_desk.specs.Answers.{AnswersNext}
+use Rattle.office_desk.specs.Desks.{IsSound}
+use Rattle.office_desk.specs.declared.desk.Desk.{Desk}
+use Rattle.office_commands.specs.Serving.{AreServedBy, EnrolsNamed, LeadsNamed}
+use Rattle.office_parts.specs.Archives.{Archive}
+use Rattle.office_archives.specs.Together.{EnrolsTogether, LooksTogether}
+use Rattle.office_archive_files.specs.Delivering.{Leads, StandAlike}
+use Rattle.office_archive_files.specs.Opening.{HoldsBeside, OpensOn}
+
+-- after those events a delivery and an account are answered as the office answers them, or `not now`; of a report nothing is
+-- said
+abbrev pub IsServed : SetupContent → List Event → Step → Type 0
+IsServed content es (delivery text given) = AnswersNext content es text given ⊎ (given ≡ response.NotNow)
+IsServed content es (account code kind given) = AnswersAccount content es code kind given ⊎ (given ≡ account_answer.NotNow)
+IsServed content es (look at found) = Unit {0}
+
+-- each is answered so at its place
+abbrev pub AreServed : SetupContent → List Event → List Step → Type 0
+AreServed content es [] = Unit {0}
+AreServed content es (step ∷ steps) = IsServed content es step × AreServed content (with_step es step) steps
+
+module _ {S A : Type 0} (g : Ghosts S) (is_sound : A → Type 0) (are : List Archive → A → Type 0) where
+  -- what asking for an account does to a desk and its archives, and what looking does
+  abbrev pub Enrols : Desk S g × A → List ℕ → List ℕ → AccountAnswer → Desk S g × A → Type 0
+  Enrols old code kind answer new = EnrolsTogether g is_sound are old.0 old.1 code kind answer new.0 new.1
+
+  abbrev pub Looks : Desk S g × A → Look → Result (Option (List ℕ)) NotNow → Desk S g × A → Type 0
+  Looks old at found new = LooksTogether g is_sound are old.0 old.1 at found new.0 new.1
+
+  -- what a call does to a desk and its archives, or nothing if it was answered `not now` for want of a name of the file
+  abbrev pub AllServed : Desk S g × A → List Step → Desk S g × A → Type 0
+  AllServed = StepsLead (LeadsNamed (Leads g is_sound are)) (EnrolsNamed Enrols) Looks
+
+  -- after each call the archives had told the truth
+  abbrev pub AreSoundAlong : (old : Desk S g × A) (steps : List Step) (new : Desk S g × A) → AllServed old steps new → Type 0
+  AreSoundAlong old [] new led = Unit {0}
+  AreSoundAlong old (step ∷ steps) new led = is_sound led.0.1 × AreSoundAlong led.0 steps new led.2
+
+  -- So many calls at most were made of a store that was opened on those files and of its archives. If its disk told the
+  -- truth in the end, and that of the archives each time, then from whatever events the files held what is left of the rows,
+  -- if these archives are those that hold the rest, each was answered at its place, and store and archives stand after them.
+  pub record IsServedBeside (image : Image) (count : ℕ) (office : Desk S g × A) : Type 0 where
+    pub opened : Desk S g × A
+    pub opens : OpensOn g image opened.0
+    pub served : AreServedBy (Leads g is_sound are) Enrols Looks count opened office
+    pub answered : IsSound g office.0 → AreSoundAlong opened served.steps office served.led → (list : List Archive)
+        (content : SetupContent) (es : List Event) → IsGiven content →
+        HoldsBeside image list (closed_content opened.0.closed) content es → are list opened.1 →
+        AreServed content es served.steps × StandAlike g is_sound are content (events_after es served.steps) office

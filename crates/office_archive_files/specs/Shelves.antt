@@ -1,0 +1,20 @@
+-- The archives of a store in files.
+use Rattle.std.specs.Prelude.{◌≡◌, ℕ, List, Some}
+use Rattle.sqlite.specs.Files.{HoldsDatabase}
+use Rattle.sqlite.specs.Recovery.{Image}
+use Rattle.sqlite.specs.Tree.{Trees}
+use Rattle.office_rows.specs.Stored.{StoresRows}
+use Rattle.office_history.specs.After.{AreKeptOnce}
+use Rattle.office_parts.specs.Archives.{Archive}
+use Rattle.office_archives.specs.Shelves.{archive_at}
+
+-- the files hold the rows of this archive, of which no interchange is kept twice
+pub record HoldsArchive (image : Image) (archive : Archive) : Type 0 where
+  pub db : Trees
+  pub held : ∥ HoldsDatabase image db ∥₁
+  pub are : StoresRows archive.rows db
+  pub kept_once : AreKeptOnce archive.rows.interchanges
+
+-- the files of each archive hold this, so they hold each of these archives
+abbrev pub HoldArchives : Image → List Archive → Type 0
+HoldArchives image list = (place : ℕ) (archive : Archive) → archive_at list place ≡ Some archive → HoldsArchive image archive

@@ -1,0 +1,128 @@
+ghost use Rattle.std.specs.Prelude.{◌≡◌, IfOk, false};
+ghost use Rattle.sqlite.specs.Held.{state};
+
+use crate::register::{beside_path, has_no_tables, is_there, place_of, register_path};
+use office_closing::{CloseFault, File, FileFault, Refusal, close};
+use office_commands::{open_found, open_there};
+use office_register::{create_register, read_register};
+use office_tables::TableFault;
+use sqlite::{Alter, Connection, FileFrom, FileStore, Unknown};
+use std::alloc::{AllocError, Global};
+use std::fs;
+use std::os::unix::fs::MetadataExt;
+use thiserror::Error;
+
+/// Why the command put no history away.
+#[derive(Debug, Drop, Error)]
+pub enum CloseCommandFault {
+    /// The archive does not lie in the store's folder.
+    #[error("the archive is in another folder")]
+    Folder,
+    /// What the closing says.
+    #[error("the store was not closed")]
+    Close(CloseFault),
+}
+
+impl From<AllocError> for CloseCommandFault {
+    fn from(_: AllocError) -> CloseCommandFault {
+        CloseCommandFault::Close(CloseFault::Memory)
+    }
+}
+
+impl From<CloseFault> for CloseCommandFault {
+    fn from(fault: CloseFault) -> CloseCommandFault {
+        CloseCommandFault::Close(fault)
+    }
+}
+
+/// A connection to files, of which nothing is said before they are opened.
+type Files = Connection<FileStore<FileFrom<Unknown>>>;
+
+/// Puts away what the archive at a path, a copy of the store's files in the store's folder, keeps as the store at a path
+/// does. The store is opened first. A register that isn't there is made: the store's, and the archive's if the store's names no
+/// archive.
+pub fn close_over(rt: &HostRuntime, store: &str, archive: &str) -> Result<(), CloseCommandFault> {
+    let store_file = place_of(store).name;
+    let archive_file = place_of(archive).name;
+    if !is_beside(rt, store, archive)? {
+        return Err(CloseCommandFault::Folder);
+    }
+    let mut own = open_office(rt, store, File::Store)?;
+    let mut copy = open_office(rt, archive, File::Archive)?;
+    let (mut names, names_none) = open_register(rt, store, true, File::Register)?;
+    let (mut copied, _) = open_register(rt, archive, names_none, File::ArchiveRegister)?;
+    close(
+        rt.alloc(),
+        &mut own,
+        &mut names,
+        &mut copy,
+        &mut copied,
+        store_file,
+        archive_file,
+    )?;
+    Ok(())
+}
+
+/// Whether the file at a path lies under its name in a store's folder.
+fn is_beside(rt: &HostRuntime, store: &str, file: &str) -> Result<bool, AllocError> {
+    let path = beside_path(rt.alloc(), store, place_of(file).name)?;
+    match (fs::metadata(rt, path.as_str()), fs::metadata(rt, file)) {
+        (Ok(there), Ok(asked)) => Ok(there.ino() == asked.ino() && there.dev() == asked.dev()),
+        // That it isn't there is told when it is opened.
+        _ => Ok(path.as_bytes() == file.as_bytes()),
+    }
+}
+
+/// A connection to the office in a file.
+fn open_office(rt: &HostRuntime, path: &str, file: File) -> Result<Files, CloseFault>
+    ensures { IfOk result (λ conn. conn.in_transaction ≡ false) }
+{
+    match open_there(rt, path, Unknown) {
+        Ok(conn) => Ok(conn),
+        Err(fault) => Err(CloseFault::File(FileFault { file, fault })),
+    }
+}
+
+/// A connection to the register of the office at a path, and whether it names no archive. One that isn't there is made, if it
+/// may; else the archive is refused.
+fn open_register(
+    rt: &HostRuntime,
+    office: &str,
+    may_make: bool,
+    file: File,
+) -> Result<(Files, bool), CloseFault>
+    ensures { IfOk result (λ opened. opened.0.in_transaction ≡ false) }
+{
+    let path = register_path(rt.alloc(), office)?;
+    if !may_make && !is_there(rt, path.as_str()) {
+        return Err(CloseFault::Archive(Refusal::Register));
+    }
+    match open_made(rt, path.as_str()) {
+        Ok(opened) => Ok(opened),
+        Err(fault) => Err(CloseFault::File(FileFault { file, fault })),
+    }
+}
+
+/// A connection to the register at a path, which is made if it isn't there, and whether it names no archive.
+fn open_made(rt: &HostRuntime, path: &str) -> Result<(Files, bool), TableFault>
+    ensures { IfOk result (λ opened. opened.0.in_transaction ≡ false) }
+{
+    let mut conn = open_found(rt, path, Unknown)?;
+    let names_none = make_tables(rt.alloc(), &mut conn)?;
+    Ok((conn, names_none))
+}
+
+/// Makes the tables of a register if they aren't there, and answers whether it names no archive.
+fn make_tables<S: Alter>(alloc: Global, conn: &mut Connection<S>) -> Result<bool, TableFault>
+    requires { (state S.Store conn.old).in_transaction ≡ false }
+    ensures { (state S.Store conn.new).in_transaction ≡ false }
+{
+    match read_register(alloc, conn) {
+        Ok(register) => Ok(register.archives.is_empty()),
+        Err(fault) if has_no_tables(&fault) => {
+            create_register(conn)?;
+            Ok(true)
+        }
+        Err(fault) => Err(fault),
+    }
+}

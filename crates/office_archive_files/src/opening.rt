@@ -1,0 +1,179 @@
+ghost use Rattle.std.specs.Prelude.{◌≡◌, IfOk, IsTrue, None, false};
+ghost use Rattle.office_archive_files.specs.Opening.{IsOpenedOver, OpensOn};
+ghost use Rattle.office_checks.specs.Closed.{closed_content};
+ghost use Rattle.office_commands.specs.Opening.{ShowsHeld};
+ghost use Rattle.office_register.specs.Register.{closed_by, register_content};
+ghost use Rattle.office_register.specs.Sound.{is_sound};
+ghost use Rattle.sqlite.specs.Files.{file_state, over_files};
+ghost use Rattle.sqlite.specs.State.{HasCleanDisk};
+ghost use Rattle.sqlite.specs.WalFiles.{image_at};
+
+use crate::file_archives::FileArchives;
+use crate::joined::Joined;
+use crate::register::read_history;
+use crate::shelf::FileShelf;
+use office_archives::{ArchivedDesk, ManyArchives};
+use office_checks::Closed;
+use office_commands::open_there;
+use office_desk::{Desk, load_beside};
+use office_register::Register;
+use office_setup::Setup;
+use office_tables::TableFault;
+use sqlite::{Alter, Connection, FileFrom, FileStore, Start, Unknown};
+use std::alloc::{AllocError, Global};
+use thiserror::Error;
+
+/// A store in files, joined with its archives.
+pub type FileOffice<'a, S> = Joined<FileStore<FileFrom<S>>, FileArchives<'a>>;
+
+/// Why a store is not opened with its archives.
+#[derive(Debug, Drop, Error)]
+pub enum OpenFault {
+    /// It is an archive itself: another store goes on, and nothing is delivered to this one.
+    #[error("the store is an archive")]
+    Closed,
+    /// The store can't be opened.
+    #[error("the store can't be opened")]
+    Store(TableFault),
+    /// The register of its archives can't be read.
+    #[error("the register of the archives can't be read")]
+    Register(TableFault),
+}
+
+impl From<AllocError> for OpenFault {
+    fn from(_: AllocError) -> OpenFault {
+        OpenFault::Store(TableFault::Memory)
+    }
+}
+
+/// The store at a path, joined with the archives that its register names, to be worked on. The store is opened before its
+/// register is read, so no other process closes it meanwhile.
+///
+/// Closed if it is an archive itself.
+pub fn open_beside<'a, S: Start>(
+    rt: &'a HostRuntime,
+    store: &str,
+    start: S,
+) -> Result<FileOffice<'a, S>, OpenFault>
+    // From whatever events the files held what is left of the rows, with whatever archives hold the rest, the store stands
+    // beside these after them. What is closed is what the register says that was read, and no archive is open.
+    ensures opens { IfOk result (λ office. OpensOn over_files (image_at S.Start) office.office.desk) }
+    ensures closed { IfOk result (λ office.
+        closed_content office.office.desk.closed ≡ closed_by (register_content office.office.archives.archives.register)) }
+    ensures none_open { IfOk result (λ office. office.office.archives.archives.opened ≡ None) }
+{
+    let conn = open_store(rt, store, start)?;
+    let register = read_names(rt, store)?;
+    if register.closed_for.is_some() {
+        return Err(OpenFault::Closed);
+    }
+    join(rt, store, conn, register)
+}
+
+/// The store or the archive at a path, joined with the archives that its register names, to be looked at.
+pub fn open_to_look<'a, S: Start>(
+    rt: &'a HostRuntime,
+    store: &str,
+    start: S,
+) -> Result<FileOffice<'a, S>, OpenFault>
+    // From whatever events the files held what is left of the rows, with whatever archives hold the rest, the store stands
+    // beside these after them. What is closed is what the register says that was read, and no archive is open.
+    ensures opens { IfOk result (λ office. OpensOn over_files (image_at S.Start) office.office.desk) }
+    ensures closed { IfOk result (λ office.
+        closed_content office.office.desk.closed ≡ closed_by (register_content office.office.archives.archives.register)) }
+    ensures none_open { IfOk result (λ office. office.office.archives.archives.opened ≡ None) }
+{
+    let conn = open_store(rt, store, start)?;
+    let register = read_names(rt, store)?;
+    join(rt, store, conn, register)
+}
+
+/// A connection to the store at a path.
+pub(crate) fn open_store<S: Start>(
+    rt: &HostRuntime,
+    store: &str,
+    start: S,
+) -> Result<Connection<FileStore<FileFrom<S>>>, OpenFault>
+    ensures idle { IfOk result (λ conn. conn.in_transaction ≡ false) }
+    ensures found { IfOk result (λ conn. HasCleanDisk (file_state conn) → ShowsHeld (image_at S.Start) conn) }
+{
+    match open_there(rt, store, start) {
+        Ok(conn) => Ok(conn),
+        Err(fault) => Err(OpenFault::Store(fault)),
+    }
+}
+
+/// The register of the store at a path: an empty one, if there is none.
+pub(crate) fn read_names(rt: &HostRuntime, store: &str) -> Result<Register, OpenFault>
+    ensures sound { IfOk result (λ register. IsTrue (is_sound (register_content register))) }
+{
+    match read_history(rt, store) {
+        Ok(Some(register)) => Ok(register),
+        Ok(None) => Ok(Register {
+            archives: Vec::new(rt.alloc()),
+            segments: Vec::new(rt.alloc()),
+            closed_for: None,
+        }),
+        Err(fault) => Err(OpenFault::Register(fault)),
+    }
+}
+
+/// The connection to the store or the archive at a path, its register, and the shelf of its archives.
+pub(crate) fn open_shelf<'a, S: Start>(
+    rt: &'a HostRuntime,
+    store: &str,
+    start: S,
+) -> Result<(Connection<FileStore<FileFrom<S>>>, Register, FileShelf<'a>), OpenFault> {
+    let conn = open_store(rt, store, start)?;
+    let register = read_names(rt, store)?;
+    let closed = register.closed(rt.alloc())?;
+    let (desk, setup) = open_desk(rt.alloc(), conn, closed)?;
+    let path = String::from_str(rt.alloc(), store)?;
+    let shelf = FileShelf::new(rt, path, setup);
+    Ok((desk.into_connection(), register, shelf))
+}
+
+/// The store over a connection, joined with the archives of a register.
+fn join<'a, S: Start>(
+    rt: &'a HostRuntime,
+    store: &str,
+    conn: Connection<FileStore<FileFrom<S>>>,
+    register: Register,
+) -> Result<FileOffice<'a, S>, OpenFault>
+    requires idle { conn.in_transaction ≡ false }
+    requires sound { IsTrue (is_sound (register_content register)) }
+    ensures opened { IfOk result (λ office. IsOpenedOver over_files conn office.office.desk) }
+    ensures closed { IfOk result (λ office. closed_content office.office.desk.closed ≡ closed_by (register_content register)) }
+    ensures register { IfOk result (λ office. office.office.archives.archives.register ≡ register) }
+    ensures none_open { IfOk result (λ office. office.office.archives.archives.opened ≡ None) }
+{
+    let alloc = rt.alloc();
+    let closed = register.closed(alloc)?;
+    let (desk, setup) = open_desk(alloc, conn, closed)?;
+    let path = String::from_str(alloc, store)?;
+    let shelf = FileShelf::new(rt, path, setup);
+    let archives = FileArchives::new(ManyArchives::new(shelf, register));
+    Ok(Joined::new(ArchivedDesk::new(desk, archives)))
+}
+
+/// The desk over a store of which that is closed, and an equal set-up.
+fn open_desk<S: Alter + Drop>(
+    alloc: Global,
+    conn: Connection<S>,
+    closed: Closed,
+) -> Result<(Desk<S>, Setup), OpenFault>
+    requires idle { conn.in_transaction ≡ false }
+    ensures opened { IfOk result (λ opened. IsOpenedOver S.Store conn opened.0) }
+    ensures closed { IfOk result (λ opened. opened.0.closed ≡ closed) }
+{
+    let mut conn = conn;
+    let is_idle = conn.is_autocommit();
+    prove!(is_idle);
+    match load_beside(alloc, &mut conn, &closed) {
+        Ok((setup, beside)) => {
+            let copy = setup.copy(alloc)?;
+            Ok((Desk::new(conn, setup, closed, beside), copy))
+        }
+        Err(fault) => Err(OpenFault::Store(fault)),
+    }
+}

@@ -1,0 +1,168 @@
+ghost use Rattle.std.specs.Prelude.{◌≡◌, false, IfOk, IsTrue, List};
+ghost use Rattle.office_archive_files.specs.Shelves.{HoldArchives};
+ghost use Rattle.office_archives.specs.Shelves.{IsOpenAt};
+ghost use Rattle.office_parts.specs.Archives.{Archive};
+ghost use Rattle.office_register.specs.Register.{register_content};
+ghost use Rattle.office_register.specs.Sound.{is_sound};
+ghost use Rattle.sqlite.specs.Files.{over_files};
+ghost use Rattle.sqlite.specs.WalFiles.{image_at};
+
+use crate::is_archive::{is_register_of, is_same_office, reaches};
+use crate::register::{beside_path, place_of, read_history};
+use office_archives::Shelf;
+use office_checks::Closed;
+use office_commands::open_there;
+use office_desk::load_beside;
+use office_register::{Register, Segment};
+use office_setup::Setup;
+use office_tables::TableFault;
+use sqlite::{Connection, Error, ErrorCode, FileFrom, FileStore, Start, Unknown};
+use std::alloc::{AllocError, Global};
+use std::fs;
+
+/// An archive that is missing, can't be read, or is not the store's own archive of its place. No statement of the office
+/// has this error: it is about names of tables.
+pub const NO_ARCHIVE: Error = Error::SqliteFailure(ErrorCode::BadName);
+
+/// What is found under the name of an archive.
+#[derive(Clone, Copy, Debug, PartialEq, Eq)]
+pub enum Found {
+    /// The archive.
+    Archive,
+    /// No file.
+    Nothing,
+    /// Another file, or one that can't be read.
+    Other,
+}
+
+/// The archives of a store in files, beside the store. Nothing is supposed of what they hold.
+#[derive(Drop)]
+pub struct FileShelf<'a> {
+    rt: &'a HostRuntime,
+    // The path of the store.
+    store: String,
+    // The terminal of the store, and its accounts.
+    setup: Setup,
+}
+
+/// An archive as its store names it.
+#[derive(Drop)]
+struct Named {
+    path: String,
+    // What its own register says is closed of it.
+    closed: Closed,
+    // The numbers that it closed.
+    segments: Vec<Segment>,
+    // The number of its newest visit.
+    visits: u32,
+}
+
+impl<'a> FileShelf<'a> {
+    /// The archives of the store at a path, which has this terminal and these accounts.
+    pub fn new(rt: &'a HostRuntime, store: String, setup: Setup) -> FileShelf<'a> {
+        FileShelf { rt, store, setup }
+    }
+
+    /// What is found of the archive at a place, of which the store's register names the file.
+    pub fn look_at(&self, place: u16, file: &str) -> Result<Found, AllocError> {
+        let path = beside_path(self.rt.alloc(), self.store.as_str(), file)?;
+        if fs::metadata(self.rt, path.as_str()).is_err() {
+            return Ok(Found::Nothing);
+        }
+        match self.opened(place) {
+            Ok(_) => Ok(Found::Archive),
+            Err(TableFault::Memory) => Err(AllocError),
+            Err(_) => Ok(Found::Other),
+        }
+    }
+
+    /// A connection to the archive at a place. Another fault than Memory says that it is not there, or not its own.
+    fn opened(&self, place: u16) -> Result<Connection<FileStore<FileFrom<Unknown>>>, TableFault>
+        ensures idle { IfOk result (λ conn. conn.in_transaction ≡ false) }
+        ensures opened { IfOk result (λ conn. (list : List Archive) → HoldArchives (image_at ⟦<Unknown as Start>⟧) list →
+            IsOpenAt over_files list place conn) }
+    {
+        let named = self.named(place)?;
+        let mut conn = open_there(self.rt, named.path.as_str(), Unknown)?;
+        let is_idle = conn.is_autocommit();
+        prove!(is_idle);
+        let (setup, beside) = load_beside(self.rt.alloc(), &mut conn, &named.closed)?;
+        if is_same_office(&setup, &self.setup) && reaches(&beside, &named.segments, named.visits) {
+            Ok(conn)
+        } else {
+            Err(TableFault::Store(NO_ARCHIVE))
+        }
+    }
+
+    /// The archive at a place as the registers say, if its own is that of this place.
+    fn named(&self, place: u16) -> Result<Named, TableFault> {
+        let alloc = self.rt.alloc();
+        let names = self.register(self.store.as_str())?;
+        let Some(archive) = names.archives.get(usize::from(place).wrapping_sub(1)) else {
+            return Err(TableFault::Store(NO_ARCHIVE));
+        };
+        let path = beside_path(alloc, self.store.as_str(), archive.file.as_str())?;
+        let own = self.register(path.as_str())?;
+        let own_name = place_of(self.store.as_str()).name;
+        if !is_register_of(&own, &names, place, goes_on(&names, own_name)) {
+            return Err(TableFault::Store(NO_ARCHIVE));
+        }
+        let closed = own.closed(alloc)?;
+        let segments = segments_of(alloc, &names.segments, place)?;
+        let visits = archive.visits;
+        Ok(Named {
+            path,
+            closed,
+            segments,
+            visits,
+        })
+    }
+
+    /// The register of the store or the archive at a path.
+    fn register(&self, path: &str) -> Result<Register, TableFault>
+        ensures { IfOk result (λ register. IsTrue (is_sound (register_content register))) }
+    {
+        match read_history(self.rt, path)? {
+            Some(register) => Ok(register),
+            None => Err(TableFault::Store(NO_ARCHIVE)),
+        }
+    }
+}
+
+/// The file of the store that goes on: this one, or the one for which its register is marked.
+fn goes_on<'a>(register: &'a Register, file: &'a str) -> &'a str {
+    match &register.closed_for {
+        Some(store) => store.as_str(),
+        None => file,
+    }
+}
+
+/// The segments of the archive at a place.
+fn segments_of(
+    alloc: Global,
+    segments: &[Segment],
+    place: u16,
+) -> Result<Vec<Segment>, AllocError> {
+    let mut found = Vec::new(alloc);
+    for segment in segments {
+        if segment.archive == place {
+            found.push(*segment)?;
+        }
+    }
+    Ok(found)
+}
+
+impl Shelf<FileStore<FileFrom<Unknown>>> for FileShelf<'_> {
+    ghost use Rattle.office_archive_files.specs.Shelves.{HoldArchives};
+    ghost use Rattle.sqlite.specs.WalFiles.{image_at};
+
+    ghost holds = { λ list shelf. HoldArchives (image_at ⟦<Unknown as Start>⟧) list };
+
+    fn open(&mut self, place: u16) -> Result<Connection<FileStore<FileFrom<Unknown>>>, TableFault> {
+        match self.opened(place) {
+            Ok(conn) => Ok(conn),
+            Err(TableFault::Memory) => Err(TableFault::Memory),
+            Err(_) => Err(TableFault::Store(NO_ARCHIVE)),
+        }
+    }
+}
