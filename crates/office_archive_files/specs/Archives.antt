@@ -1,9 +1,19 @@
 -- Which archive is that of a place of a store.
-use Rattle.std.specs.Prelude.{◌≡◌, ℕ, ◌+◌, ◌-◌, ◌<◌, nat_lt, List, filter, length, Some, slice_get, take}
+use Rattle.std.specs.Prelude.{◌≡◌, ℕ, ◌+◌, ◌-◌, ◌<◌, ◌==◌, nat_lt, List, filter, length, Some, slice_get, take, IsTrue}
 use Rattle.std.specs.List.{AllByRecursion}
+use Rattle.sqlite.specs.Held.{Held, state}
+use Rattle.sqlite.specs.State.{HasCleanDisk}
+use Rattle.sqlite_trees.specs.declared.store.Store.{Ghosts}
 use Rattle.terminal_core.specs.State.{TerminalState, last_number}
+use Rattle.office_rows.specs.Rows.{Rows}
+use Rattle.office_rows.specs.Shown.{AreNexts}
+use Rattle.office_rows.specs.Stored.{HasRows}
+use Rattle.office_rows.specs.Tables.{office_schema}
+use Rattle.office_checks.specs.Closed.{ClosedContent}
+use Rattle.office_loading.specs.Tables.{LoadsOwn}
 use Rattle.office_setup.specs.Setups.{SetupContent}
-use Rattle.office_register.specs.Register.{RegisterContent}
+use Rattle.office_register.specs.Register.{ArchiveContent, RegisterContent, closed_by}
+use Rattle.office_register.specs.Sound.{is_sound}
 use Rattle.office_register.specs.declared.register.Segment.{Segment}
 
 -- An archive's own register is that of the archive at a place of the store whose register names the archives: it is marked for
@@ -27,3 +37,41 @@ IsBelowNext nexts segment = (next : ℕ) × (slice_get nexts (segment.partner - 
 pub record Reaches (segments : List Segment) (visits : ℕ) (nexts : List ℕ) (terminal : TerminalState) : Type 0 where
   pub below : AllByRecursion (IsBelowNext nexts) segments
   pub newest : last_number terminal.visits ≡ visits
+
+-- ---- what is looked at before an archive is read
+
+-- the segments of the archive at a place
+abbrev pub segments_at : ℕ → List Segment → List Segment
+segments_at place = filter (λ (segment : Segment). segment.archive == place)
+
+-- Two sound registers, the store's and an archive's own, name the archive of that place: this is closed of it, these segments
+-- it closed, and its newest visit has that number.
+pub record IsNamedAt (place : ℕ) (closed : ClosedContent) (segments : List Segment) (visits : ℕ) : Type 0 where
+  pub store : List ℕ
+  pub names : RegisterContent
+  pub own : RegisterContent
+  pub archive : ArchiveContent
+  pub names_sound : IsTrue (is_sound names)
+  pub own_sound : IsTrue (is_sound own)
+  pub register : IsRegisterAt store place names own
+  pub is_one : slice_get names.archives (place - 1) ≡ Some archive
+  pub closed_is : closed ≡ closed_by own
+  pub segments_are : segments ≡ segments_at place names.segments
+  pub visits_are : archive.visits ≡ visits
+
+-- What a connection shows is the archive of that place of a store of this set-up, as far as its disk has returned what was
+-- written: registers name it so, its tables are those of an office beyond what its own register closes, of the store's
+-- terminal, with the first of the store's accounts, and it keeps the numbers that it closed.
+pub record PassesAt {S : Type 0} (g : Ghosts S) (store : SetupContent) (place : ℕ) (conn : Held S) : Type 0 where
+  pub closed : ClosedContent
+  pub segments : List Segment
+  pub visits : ℕ
+  pub content : SetupContent
+  pub terminal : TerminalState
+  pub nexts : List ℕ
+  pub named : IsNamedAt place closed segments visits
+  pub loads : HasCleanDisk (state g conn) → (state g conn).now.schema ≡ office_schema →
+      LoadsOwn closed (state g conn).now content terminal
+  pub are_nexts : HasCleanDisk (state g conn) → (rows : Rows) → HasRows rows (state g conn).now → AreNexts rows nexts
+  pub office : IsOfOffice content store
+  pub reaches : Reaches segments visits nexts terminal

@@ -6,3 +6,5 @@ pub mod Telling
 pub mod Accounts
 pub mod Serving
 pub mod Archives
+pub mod Closing
+pub mod Reporting

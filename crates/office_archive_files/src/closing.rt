@@ -1,4 +1,5 @@
 ghost use Rattle.std.specs.Prelude.{◌≡◌, IfOk, false};
+ghost use Rattle.office_archive_files.specs.Closing.{ClosesOver};
 ghost use Rattle.sqlite.specs.Held.{state};
 
 use crate::register::{beside_path, has_no_tables, is_there, place_of, register_path};
@@ -38,12 +39,26 @@ impl From<CloseFault> for CloseCommandFault {
 /// A connection to files, of which nothing is said before they are opened.
 type Files = Connection<FileStore<FileFrom<Unknown>>>;
 
+/// The connections to the four files of a closing.
+#[derive(Drop)]
+pub struct ClosingFiles {
+    store: Files,
+    register: Files,
+    archive: Files,
+    archive_register: Files,
+}
+
 /// Puts away what the archive at a path, a copy of the store's files in the store's folder, keeps as the store at a path
 /// does. The store is opened first. A register that isn't there is made: the store's, and the archive's if the store's names no
-/// archive.
-pub fn close_over(rt: &HostRuntime, store: &str, archive: &str) -> Result<(), CloseCommandFault> {
-    let store_file = place_of(store).name;
-    let archive_file = place_of(archive).name;
+/// archive. The files are given back as they were left, if all were opened.
+pub fn close_over(
+    rt: &HostRuntime,
+    store: &str,
+    archive: &str,
+) -> Result<(ClosingFiles, Result<(), CloseFault>), CloseCommandFault>
+    ensures { IfOk result (λ ended. ClosesOver store.now archive.now ended.0.store ended.0.register ended.0.archive
+        ended.0.archive_register ended.1) }
+{
     if !is_beside(rt, store, archive)? {
         return Err(CloseCommandFault::Folder);
     }
@@ -51,16 +66,22 @@ pub fn close_over(rt: &HostRuntime, store: &str, archive: &str) -> Result<(), Cl
     let mut copy = open_office(rt, archive, File::Archive)?;
     let (mut names, names_none) = open_register(rt, store, true, File::Register)?;
     let (mut copied, _) = open_register(rt, archive, names_none, File::ArchiveRegister)?;
-    close(
+    let closed = close(
         rt.alloc(),
         &mut own,
         &mut names,
         &mut copy,
         &mut copied,
-        store_file,
-        archive_file,
-    )?;
-    Ok(())
+        place_of(store).name,
+        place_of(archive).name,
+    );
+    let files = ClosingFiles {
+        store: own,
+        register: names,
+        archive: copy,
+        archive_register: copied,
+    };
+    Ok((files, closed))
 }
 
 /// Whether the file at a path lies under its name in a store's folder.

@@ -1,12 +1,16 @@
-ghost use Rattle.std.specs.Prelude.{◌≡◌, ◌≤◌, ◌+◌, false, IfErr, IfOk, OnErr};
+ghost use Rattle.std.specs.Prelude.{◌≡◌, ◌≤◌, ◌+◌, false, option_map, string_bytes, IfErr, IfOk, OnErr};
 ghost use Rattle.office_archive_files.specs.Accounts.{IsAskedBeside};
 ghost use Rattle.office_archive_files.specs.Delivering.{AreDeliveredBeside};
 ghost use Rattle.office_archive_files.specs.Opening.{OpensOn};
+ghost use Rattle.office_archive_files.specs.Reporting.{AreOnlyLookedAt, IsReportedBeside};
 ghost use Rattle.office_archive_files.specs.Serving.{IsServedBeside};
 ghost use Rattle.office_archive_files.specs.Telling.{open_text};
+ghost use Rattle.office_archives.specs.Together.{OnlyLooksTogether, TellsBeside};
 ghost use Rattle.office_commands.specs.Accounts.{AccountEnds, AnswersAsked, LeavesWriter};
-ghost use Rattle.office_commands.specs.Ending.{LeavesPorts, StreamEnds, Tells, most_turns, ports};
+ghost use Rattle.office_commands.specs.Ending.{LeavesPorts, Prints, StreamEnds, Tells, most_turns, ports};
+ghost use Rattle.office_commands.specs.Reporting.{Reports, TellsKey};
 ghost use Rattle.office_commands.specs.Serving.{EndsServing};
+ghost use Rattle.office_desk.specs.Desks.{IsSound};
 ghost use Rattle.office_stream.specs.Streams.{Streams, port_bytes};
 ghost use Rattle.sqlite.specs.Files.{over_files};
 ghost use Rattle.sqlite.specs.Recovery.{Image};
@@ -210,6 +214,18 @@ pub fn report_beside<'a, S: Start, W: Write>(
     key: &str,
     writer: &mut Port<W>,
 ) -> Result<(FileOffice<'a, S>, Result<u8, TableFault>), OpenFault>
+    // From whatever events the files held what is left of the rows, if the archives hold the rest, what is printed is what that
+    // office tells.
+    ensures ok { IfOk result (λ ended. IfOk ended.1 (λ status.
+        Reports (IsReportedBeside over_files ⟦<FileArchives<'a> as Archives>⟧.is_sound
+        ⟦<FileArchives<'a> as Archives>⟧.are (image_at S.Start) (ended.0.office.desk, ended.0.office.archives)
+        kind key.now)
+        (Prints writer.old.failed writer.new.failed writer.new.flushed
+        (W.contents writer.old.inner) (W.contents writer.new.inner)) status)) }
+
+    // It only looked, whether it told something or met a fault.
+    ensures looks { IfOk result (λ ended. AreOnlyLookedAt over_files ⟦<FileArchives<'a> as Archives>⟧.is_sound
+        ⟦<FileArchives<'a> as Archives>⟧.are (image_at S.Start) (ended.0.office.desk, ended.0.office.archives)) }
     ensures err { IfOk result (λ ended. OnErr ended.1 (writer.new ≡ writer.old)) }
     ensures refused { OnErr result (writer.new ≡ writer.old) }
 {
@@ -218,7 +234,7 @@ pub fn report_beside<'a, S: Start, W: Write>(
     Ok((office, status))
 }
 
-/// Prints the report that a key asks for, from a store and its archives, and answers the exit status.
+/// Prints the report that a key asks for, from a store and its archives, and answers the exit status. It only looks.
 fn report_on<S: Alter + Drop, A: Archives + Drop, W: Write>(
     alloc: Global,
     office: &mut Joined<S, A>,
@@ -226,17 +242,40 @@ fn report_on<S: Alter + Drop, A: Archives + Drop, W: Write>(
     key: &str,
     writer: &mut Port<W>,
 ) -> Result<u8, TableFault>
-    ensures { OnErr result (writer.new ≡ writer.old) }
+    ensures ok { IfOk result (λ status.
+        Reports (λ found. IsSound S.Store office.new.office.desk → A.is_sound office.new.office.archives →
+        TellsKey (TellsBeside S.Store A.are office.old.office.desk office.old.office.archives) kind key.now found)
+        (Prints writer.old.failed writer.new.failed writer.new.flushed
+        (W.contents writer.old.inner) (W.contents writer.new.inner)) status) }
+    ensures looks { OnlyLooksTogether S.Store A.is_sound A.are office.old.office.desk office.old.office.archives
+        office.new.office.desk office.new.office.archives }
+    ensures err { OnErr result (writer.new ≡ writer.old) }
 {
-    let found = match read_query(alloc, kind, key)? {
-        Some(query) => office.find_report(alloc, &query)?,
-        None => None,
-    };
-    match found {
+    match find(alloc, office, kind, key)? {
         Some(text) => {
             let lines = in_lines(text)?;
             Ok(print(writer, lines.as_str(), DONE))
         }
         None => Ok(print(writer, "none\n", REFUSED)),
+    }
+}
+
+/// What a store and its archives tell under a key, if there is something.
+fn find<S: Alter + Drop, A: Archives + Drop>(
+    alloc: Global,
+    office: &mut Joined<S, A>,
+    kind: ReportKind,
+    key: &str,
+) -> Result<Option<String>, TableFault>
+    ensures found { IfOk result (λ found. IsSound S.Store office.new.office.desk →
+        A.is_sound office.new.office.archives →
+        TellsKey (TellsBeside S.Store A.are office.old.office.desk office.old.office.archives) kind key.now
+        (option_map string_bytes found)) }
+    ensures looks { OnlyLooksTogether S.Store A.is_sound A.are office.old.office.desk office.old.office.archives
+        office.new.office.desk office.new.office.archives }
+{
+    match read_query(alloc, kind, key)? {
+        Some(query) => office.find_report(alloc, &query),
+        None => Ok(None),
     }
 }

@@ -1,4 +1,4 @@
-ghost use Rattle.std.specs.Prelude.{◌≡◌, ◌↔◌, ◌+◌, ◌++◌, ◌∷◌, [], true, IsTrue, Some, filter, length, map, nat_lt, option_map, string_bytes, take};
+ghost use Rattle.std.specs.Prelude.{◌≡◌, ◌↔◌, ◌+◌, ◌-◌, ◌++◌, ◌∷◌, [], true, IfSome, Some, filter, length, map, nat_lt, option_map, slice_get, string_bytes, take};
 ghost use Rattle.std.specs.List.{AllByRecursion};
 ghost use Rattle.office_archive_files.specs.Archives.{IsBelowNext, IsOfOffice, IsRegisterAt, Reaches};
 ghost use Rattle.office_register.specs.Register.{archive_content, register_content};
@@ -13,17 +13,28 @@ use office_register::{Archive, Register, Segment};
 use office_setup::{Account, Setup};
 use terminal_core::Visit;
 
+/// The archive at a place, of those that a register names.
+pub(crate) fn archive_at(archives: &[Archive], place: u16) -> Option<&Archive>
+    ensures { IfSome result (λ archive. slice_get archives.now (place - 1) ≡ Some archive.now) }
+{
+    match usize::from(place).checked_sub(1) {
+        Some(index) => archives.get(index),
+        None => None,
+    }
+}
+
 /// Whether an archive's own register is that of the archive at a place of a store: it is marked for the store in this file,
 /// and has the archives before that place, with their segments, as the store's register has them.
-pub(crate) fn is_register_of(
-    own: &Register,
-    names: &Register,
-    place: u16,
-    store_file: &str,
-) -> bool {
-    is_marked_for(own, store_file)
-        && own.archives.len() + 1 == usize::from(place)
-        && are_first_archives(&own.archives, &names.archives)
+pub(crate) fn is_register_of(own: &Register, names: &Register, place: u16, store_file: &str) -> bool
+    ensures { result ≡ true → IsRegisterAt store_file.now place (register_content names.now) (register_content own.now) }
+{
+    if !is_marked_for(own, store_file) {
+        return false;
+    }
+    if own.archives.len() + 1 != usize::from(place) {
+        return false;
+    }
+    are_first_archives(&own.archives, &names.archives)
         && are_segments_before(&own.segments, &names.segments, place)
 }
 

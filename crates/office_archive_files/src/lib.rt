@@ -13,7 +13,7 @@ mod register;
 mod shelf;
 
 pub use archives::archives_over;
-pub use closing::{CloseCommandFault, close_over};
+pub use closing::{CloseCommandFault, ClosingFiles, close_over};
 pub use commands::{account_beside, deliver_beside, report_beside, serve_beside, tell_open_fault};
 pub use file_archives::FileArchives;
 pub use joined::Joined;

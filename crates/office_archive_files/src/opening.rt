@@ -56,10 +56,12 @@ pub fn open_beside<'a, S: Start>(
     start: S,
 ) -> Result<FileOffice<'a, S>, OpenFault>
     // From whatever events the files held what is left of the rows, with whatever archives hold the rest, the store stands
-    // beside these after them. What is closed is what the register says that was read, and no archive is open.
+    // beside these after them. What is closed is what the register says that was read, it has no mark, and no archive is
+    // open.
     ensures opens { IfOk result (λ office. OpensOn over_files (image_at S.Start) office.office.desk) }
     ensures closed { IfOk result (λ office.
         closed_content office.office.desk.closed ≡ closed_by (register_content office.office.archives.archives.register)) }
+    ensures goes_on { IfOk result (λ office. office.office.archives.archives.register.closed_for ≡ None) }
     ensures none_open { IfOk result (λ office. office.office.archives.archives.opened ≡ None) }
 {
     let conn = open_store(rt, store, start)?;

@@ -1,13 +1,16 @@
 ghost use Rattle.std.specs.Prelude.{◌≡◌, false, IfOk, IsTrue, List};
+ghost use Rattle.office_archive_files.specs.Archives.{IsNamedAt, PassesAt, segments_at};
 ghost use Rattle.office_archive_files.specs.Shelves.{HoldArchives};
 ghost use Rattle.office_archives.specs.Shelves.{IsOpenAt};
+ghost use Rattle.office_checks.specs.Closed.{closed_content};
 ghost use Rattle.office_parts.specs.Archives.{Archive};
 ghost use Rattle.office_register.specs.Register.{register_content};
 ghost use Rattle.office_register.specs.Sound.{is_sound};
+ghost use Rattle.office_setup.specs.Setups.{setup_content};
 ghost use Rattle.sqlite.specs.Files.{over_files};
 ghost use Rattle.sqlite.specs.WalFiles.{image_at};
 
-use crate::is_archive::{is_register_of, is_same_office, reaches};
+use crate::is_archive::{archive_at, is_register_of, is_same_office, reaches};
 use crate::register::{beside_path, place_of, read_history};
 use office_archives::Shelf;
 use office_checks::Closed;
@@ -59,7 +62,10 @@ struct Named {
 
 impl<'a> FileShelf<'a> {
     /// The archives of the store at a path, which has this terminal and these accounts.
-    pub fn new(rt: &'a HostRuntime, store: String, setup: Setup) -> FileShelf<'a> {
+    pub fn new(rt: &'a HostRuntime, store: String, setup: Setup) -> FileShelf<'a>
+        ensures store { result.store ≡ store }
+        ensures setup { result.setup ≡ setup }
+    {
         FileShelf { rt, store, setup }
     }
 
@@ -81,6 +87,7 @@ impl<'a> FileShelf<'a> {
         ensures idle { IfOk result (λ conn. conn.in_transaction ≡ false) }
         ensures opened { IfOk result (λ conn. (list : List Archive) → HoldArchives (image_at ⟦<Unknown as Start>⟧) list →
             IsOpenAt over_files list place conn) }
+        ensures passes { IfOk result (λ conn. PassesAt over_files (setup_content self.now.setup) place conn) }
     {
         let named = self.named(place)?;
         let mut conn = open_there(self.rt, named.path.as_str(), Unknown)?;
@@ -95,10 +102,12 @@ impl<'a> FileShelf<'a> {
     }
 
     /// The archive at a place as the registers say, if its own is that of this place.
-    fn named(&self, place: u16) -> Result<Named, TableFault> {
+    fn named(&self, place: u16) -> Result<Named, TableFault>
+        ensures { IfOk result (λ named. IsNamedAt place (closed_content named.closed) named.segments.items named.visits) }
+    {
         let alloc = self.rt.alloc();
         let names = self.register(self.store.as_str())?;
-        let Some(archive) = names.archives.get(usize::from(place).wrapping_sub(1)) else {
+        let Some(archive) = archive_at(&names.archives, place) else {
             return Err(TableFault::Store(NO_ARCHIVE));
         };
         let path = beside_path(alloc, self.store.as_str(), archive.file.as_str())?;
@@ -138,11 +147,9 @@ fn goes_on<'a>(register: &'a Register, file: &'a str) -> &'a str {
 }
 
 /// The segments of the archive at a place.
-fn segments_of(
-    alloc: Global,
-    segments: &[Segment],
-    place: u16,
-) -> Result<Vec<Segment>, AllocError> {
+fn segments_of(alloc: Global, segments: &[Segment], place: u16) -> Result<Vec<Segment>, AllocError>
+    ensures { IfOk result (λ found. found.items ≡ segments_at place segments.now) }
+{
     let mut found = Vec::new(alloc);
     for segment in segments {
         if segment.archive == place {

@@ -1,4 +1,6 @@
+use Rattle.std.proofs.Common.{sym, ap, ◌∙◌}
 use Rattle.std.proofs.lemmas.Result.{IfOk-weaker}
+use Rattle.partner_core.proofs.Firsts.{none_of}
 use Rattle.office_archive_files.proofs.OpenLemmas.{opens_on}
 use Rattle.office_archive_files.proofs.opening.open_beside.Goals as goal
 
@@ -6,3 +8,9 @@ use Rattle.office_archive_files.proofs.opening.open_beside.Goals as goal
 pub returns-clause-opens : goal.returns-clause-opens
 returns-clause-opens g c =
     IfOk-weaker c.join.result _ _ (λ office opened. opens_on _ c.in_ok-conn.conn office.office.desk c.in_ok-conn.ensures.found opened) c.join.ensures.opened
+
+-- The register was read and has no mark.
+pub returns-clause-goes_on : goal.returns-clause-goes_on
+returns-clause-goes_on g c =
+    let unmarked = none_of c.in_ok-register.register.closed_for (sym c.is_some.ensures ∙ c.if-is_some.false) in
+    IfOk-weaker c.join.result _ _ (λ office is. ap (λ register. register.closed_for) is ∙ unmarked) c.join.ensures.register
