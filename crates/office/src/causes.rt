@@ -29,6 +29,66 @@ impl Words {
         text: "memory ran out: try again",
     };
 
+    /// Nothing is delivered to an archive.
+    pub(crate) const IS_ARCHIVE: Words = Words {
+        follow_path: true,
+        text: " is an archive: work on the store that went on, and ask this one only for reports",
+    };
+
+    /// The texts of a store with archives are in several files.
+    pub(crate) const HAS_ARCHIVES: Words = Words {
+        follow_path: true,
+        text: " has archives, and its texts are told only of a store that has none",
+    };
+
+    /// A register lies where a store is to be made.
+    pub(crate) const HAS_REGISTER: Words = Words {
+        follow_path: true,
+        text: "-archives lies there already, the register of another store: name another file",
+    };
+
+    /// A register holds what no closing wrote.
+    pub(crate) const DAMAGED_REGISTER: Words = Words {
+        follow_path: true,
+        text: " is no register of archives: put the copy back that was made with the store's last copy",
+    };
+
+    /// An archive lies in another folder than its store.
+    pub(crate) const OTHER_FOLDER: Words = Words {
+        follow_path: true,
+        text: " lies in another folder: copy it into the store's folder",
+    };
+
+    /// An archive is of another terminal, or has other accounts.
+    pub(crate) const OTHER_OFFICE: Words = Words {
+        follow_path: true,
+        text: " is of another office: name a copy of the store",
+    };
+
+    /// An archive is of a later day than the store.
+    pub(crate) const LATER: Words = Words {
+        follow_path: true,
+        text: " is later than the store: see that each path is right",
+    };
+
+    /// An archive's register does not go with the store's.
+    pub(crate) const OTHER_REGISTER: Words = Words {
+        follow_path: true,
+        text: " has other archives than the store, or is marked for another one: copy the store again, its register too",
+    };
+
+    /// An archive keeps other bytes under a number.
+    pub(crate) const OTHER_INTERCHANGE: Words = Words {
+        follow_path: true,
+        text: " keeps another interchange than the store under one number: copy the store again",
+    };
+
+    /// An archive has another visit of a number.
+    pub(crate) const OTHER_VISIT: Words = Words {
+        follow_path: true,
+        text: " has another visit than the store under one number: copy the store again",
+    };
+
     const HAS_TABLES: Words = Words {
         follow_path: true,
         text: " has its tables already: work on it, or name another file",
@@ -81,7 +141,7 @@ pub(crate) fn words_of(rt: &HostRuntime, path: &str, fault: &TableFault) -> Word
             "it is a database without the tables of an office: see that the path is right",
         ),
         TableFault::Damaged => Words::plain(
-            "its rows are those of no office: take the last copy, and deliver again what came since",
+            "its rows are those of no office: put its register of archives back if that is missing; else take the last copy, and deliver again what came since",
         ),
         TableFault::Version => Words::plain(
             "its tables are of another version: `office migrate` brings those of version 1 and 2 to this one",
@@ -105,6 +165,9 @@ fn words_of_code(rt: &HostRuntime, path: &str, code: ErrorCode) -> &'static str 
         }
         ErrorCode::Closed => "a write of it failed before: start the program again",
         ErrorCode::CannotOpen => words_at(rt, path),
+        ErrorCode::BadName => {
+            "its archive is missing or another file: `office report DB archives` tells which one"
+        }
         _ => "the database refuses what was asked: see that the path is right",
     }
 }
@@ -175,6 +238,8 @@ impl<'a> Causes<'a> {
     fn cause(&self, rt: &HostRuntime, why: &WhyNotNow<'_>) -> Cause<'a> {
         let words = match why.fault {
             _ if why.is_nameless => Words::NAMELESS,
+            // An open store says so only where its texts are asked for and it has archives.
+            Some(TableFault::Version) => Words::HAS_ARCHIVES,
             Some(fault) => words_of(rt, self.path, fault),
             None => Words::MEMORY,
         };
@@ -223,6 +288,18 @@ pub(crate) fn tell_store_cause<E: Write>(
 ) {
     if stderr_is_terminal(rt) {
         tell_cause(rt.alloc(), errors, cause_of(rt, path, fault));
+    }
+}
+
+/// Tells a person something of the file at a path.
+pub(crate) fn tell_words<E: Write>(
+    rt: &HostRuntime,
+    errors: &mut Port<E>,
+    path: &str,
+    words: Words,
+) {
+    if stderr_is_terminal(rt) {
+        tell_cause(rt.alloc(), errors, Cause::new(path, words));
     }
 }
 

@@ -3,16 +3,22 @@ use crate::causes::{
     tell_with,
 };
 use crate::explain::explain;
+use crate::history::{
+    Way, archives, close, may_be_made, tell_open, tell_open_cause, tell_texts_closed,
+    way_to_deliver, way_to_look,
+};
 use crate::init::init;
 use crate::request_log::RequestLog;
 use crate::watch::DeliveryWatch;
+use office_archive_files::{account_beside, deliver_beside, report_beside, serve_beside};
 use office_command_line::{CommandFault, REPORT_KINDS, Request, read_command};
 use office_commands::{
-    COMMAND_LINE, DONE, FAILED, MigrationFault, Service, account_over, deliver_over, demonstrate,
-    migrate_over, print, report_over, serve_over, tell, texts_over,
+    COMMAND_LINE, DONE, FAILED, Faults, MigrationFault, Service, account_over, deliver_over,
+    demonstrate, migrate_over, print, report_over, serve_over, tell, texts_over,
 };
 use office_queries::ReportKind;
 use office_stream::Port;
+use office_tables::TableFault;
 use sqlite::Unknown;
 use std::fs::File;
 use std::io::{Read, Write};
@@ -49,9 +55,11 @@ pub(crate) fn run<R: Read, W: Write, E: Write>(
             serve(rt, store, service, log, writer, errors)
         }
         Request::Report { store, kind, key } => report(rt, store, kind, key, writer, errors),
+        Request::Archives { store } => archives(rt, store, writer, errors),
         Request::Texts { store, from } => texts(rt, store, from, writer, errors),
         Request::Account { store, code, kind } => account(rt, store, code, kind, writer, errors),
         Request::Migrate { old, new } => migrate(rt, old, new, writer, errors),
+        Request::Close { store, archive } => close(rt, store, archive, writer, errors),
         Request::Explain { file, partners } => {
             explain(rt, file, partners, reader, writer, errors)
         }
@@ -129,17 +137,68 @@ fn deliver_all<R: Read, W: Write, E: Write>(
     errors: &mut Port<E>,
 ) -> u8 {
     let watch = DeliveryWatch::new(rt, stderr_is_terminal(rt), store);
-    let (status, ended) = deliver_over(rt, store, Unknown, &watch, reader, writer, errors);
-    match ended.err() {
-        Some(fault) => tell_store_cause(rt, errors, store, &fault),
-        None if watch.is_unread() => tell_unread_cause(rt, errors, file),
-        None => {}
+    let status = match way_to_deliver(rt, store, errors) {
+        Way::Alone => deliver_alone(rt, store, &watch, reader, writer, errors),
+        Way::BesideArchives => deliver_with_archives(rt, store, &watch, reader, writer, errors),
+        Way::Refused(status) => status,
+    };
+    if watch.is_unread() {
+        tell_unread_cause(rt, errors, file);
+    }
+    status
+}
+
+/// Delivers to a store of which nothing was put away.
+fn deliver_alone<R: Read, W: Write, E: Write>(
+    rt: &HostRuntime,
+    store: &str,
+    watch: &DeliveryWatch<'_>,
+    reader: &mut Port<R>,
+    writer: &mut Port<W>,
+    errors: &mut Port<E>,
+) -> u8 {
+    let (status, ended) = deliver_over(rt, store, Unknown, watch, reader, writer, errors);
+    if let Err(fault) = ended {
+        tell_store_cause(rt, errors, store, &fault);
+    }
+    status
+}
+
+/// Delivers to a store beside its archives.
+fn deliver_with_archives<R: Read, W: Write, E: Write>(
+    rt: &HostRuntime,
+    store: &str,
+    watch: &DeliveryWatch<'_>,
+    reader: &mut Port<R>,
+    writer: &mut Port<W>,
+    errors: &mut Port<E>,
+) -> u8 {
+    let (status, ended) = deliver_beside(rt, store, Unknown, watch, reader, writer, errors);
+    let fault = ended.err();
+    if let Some(fault) = &fault {
+        tell_open_cause(rt, errors, store, fault);
     }
     status
 }
 
 /// `account DB CODE KIND`: adds an account, and prints the answer.
 pub(crate) fn account<W: Write, E: Write>(
+    rt: &HostRuntime,
+    store: &str,
+    code: &str,
+    kind: &str,
+    writer: &mut Port<W>,
+    errors: &mut Port<E>,
+) -> u8 {
+    match way_to_deliver(rt, store, errors) {
+        Way::Alone => account_alone(rt, store, code, kind, writer, errors),
+        Way::BesideArchives => account_with_archives(rt, store, code, kind, writer, errors),
+        Way::Refused(status) => status,
+    }
+}
+
+/// Adds an account to a store of which nothing was put away.
+fn account_alone<W: Write, E: Write>(
     rt: &HostRuntime,
     store: &str,
     code: &str,
@@ -156,6 +215,33 @@ pub(crate) fn account<W: Write, E: Write>(
     }
 }
 
+/// Adds an account to a store beside its archives.
+fn account_with_archives<W: Write, E: Write>(
+    rt: &HostRuntime,
+    store: &str,
+    code: &str,
+    kind: &str,
+    writer: &mut Port<W>,
+    errors: &mut Port<E>,
+) -> u8 {
+    match account_beside(rt, store, Unknown, code, kind, writer) {
+        Ok(ended) => tell_asked(rt, errors, store, ended),
+        Err(fault) => tell_open(rt, errors, store, &fault),
+    }
+}
+
+/// Tells a person why an account was not added now, and answers the status. The office is given up.
+fn tell_asked<E: Write, D: Faults + Drop>(
+    rt: &HostRuntime,
+    errors: &mut Port<E>,
+    store: &str,
+    ended: (u8, D),
+) -> u8 {
+    let (status, office) = ended;
+    tell_not_now(rt, errors, store, office.last_fault());
+    status
+}
+
 /// `report DB KIND [KEY]`: prints a report, or `none` if there is nothing to tell.
 pub(crate) fn report<W: Write, E: Write>(
     rt: &HostRuntime,
@@ -165,11 +251,57 @@ pub(crate) fn report<W: Write, E: Write>(
     writer: &mut Port<W>,
     errors: &mut Port<E>,
 ) -> u8 {
-    match report_over(rt, store, Unknown, kind, key.unwrap_or(""), writer) {
+    let key = key.unwrap_or("");
+    match way_to_look(rt, store, errors) {
+        Way::Alone => report_alone(rt, store, kind, key, writer, errors),
+        Way::BesideArchives => report_with_archives(rt, store, kind, key, writer, errors),
+        Way::Refused(status) => status,
+    }
+}
+
+/// Prints a report on a store of which nothing was put away.
+fn report_alone<W: Write, E: Write>(
+    rt: &HostRuntime,
+    store: &str,
+    kind: ReportKind,
+    key: &str,
+    writer: &mut Port<W>,
+    errors: &mut Port<E>,
+) -> u8 {
+    match report_over(rt, store, Unknown, kind, key, writer) {
         Ok((_desk, told)) => match told {
             Ok(status) => status,
             Err(fault) => tell_store(rt, errors, store, &fault),
         },
+        Err(fault) => tell_store(rt, errors, store, &fault),
+    }
+}
+
+/// Prints a report on a store or an archive beside its own archives.
+fn report_with_archives<W: Write, E: Write>(
+    rt: &HostRuntime,
+    store: &str,
+    kind: ReportKind,
+    key: &str,
+    writer: &mut Port<W>,
+    errors: &mut Port<E>,
+) -> u8 {
+    match report_beside(rt, store, Unknown, kind, key, writer) {
+        Ok(ended) => tell_reported(rt, errors, store, ended),
+        Err(fault) => tell_open(rt, errors, store, &fault),
+    }
+}
+
+/// Tells why a report could not be made, if it could not, and answers the status. The office is given up.
+fn tell_reported<E: Write, D: Drop>(
+    rt: &HostRuntime,
+    errors: &mut Port<E>,
+    store: &str,
+    ended: (D, Result<u8, TableFault>),
+) -> u8 {
+    let (_office, told) = ended;
+    match told {
+        Ok(status) => status,
         Err(fault) => tell_store(rt, errors, store, &fault),
     }
 }
@@ -183,6 +315,11 @@ pub(crate) fn texts<W: Write, E: Write>(
     writer: &mut Port<W>,
     errors: &mut Port<E>,
 ) -> u8 {
+    match way_to_look(rt, store, errors) {
+        Way::Alone => {}
+        Way::BesideArchives => return tell_texts_closed(rt, errors, store),
+        Way::Refused(status) => return status,
+    }
     match texts_over(rt, store, Unknown, from, writer) {
         Ok((_conn, printed)) => match printed {
             Ok(status) => status,
@@ -201,6 +338,9 @@ pub(crate) fn migrate<W: Write, E: Write>(
     writer: &mut Port<W>,
     errors: &mut Port<E>,
 ) -> u8 {
+    if !may_be_made(rt, new, errors) {
+        return FAILED;
+    }
     match migrate_over(rt, (old, Unknown), (new, Unknown), writer) {
         Ok(ended) => match ended.outcome {
             Ok(status) => status,
@@ -222,8 +362,33 @@ pub(crate) fn serve<W: Write, E: Write>(
     errors: &mut Port<E>,
 ) -> u8 {
     let log = RequestLog::new(rt, log || stderr_is_terminal(rt), store);
-    match serve_over(rt, store, Unknown, service, &log, writer, errors) {
-        Ok((status, _desk)) => status,
-        Err(fault) => tell_store(rt, errors, store, &fault),
+    match way_to_deliver(rt, store, errors) {
+        Way::Alone => match serve_over(rt, store, Unknown, service, &log, writer, errors) {
+            Ok((status, _desk)) => status,
+            Err(fault) => tell_store(rt, errors, store, &fault),
+        },
+        Way::BesideArchives => serve_with_archives(rt, store, service, &log, writer, errors),
+        Way::Refused(status) => status,
     }
+}
+
+/// Serves a store beside its archives.
+fn serve_with_archives<W: Write, E: Write>(
+    rt: &HostRuntime,
+    store: &str,
+    service: Service,
+    log: &RequestLog<'_>,
+    writer: &mut Port<W>,
+    errors: &mut Port<E>,
+) -> u8 {
+    match serve_beside(rt, store, Unknown, service, log, writer, errors) {
+        Ok(ended) => status_of(ended),
+        Err(fault) => tell_open(rt, errors, store, &fault),
+    }
+}
+
+/// The status of what was served. The office is given up.
+fn status_of<D: Drop>(ended: (u8, D)) -> u8 {
+    let (status, _office) = ended;
+    status
 }

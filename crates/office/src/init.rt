@@ -1,5 +1,6 @@
 use crate::causes::{stderr_is_terminal, tell_store, tell_unread, tell_with};
-use office_commands::{DONE, NO_STORE, REFUSED, make_store as make_over, print};
+use crate::history::may_be_made;
+use office_commands::{DONE, FAILED, NO_STORE, REFUSED, make_store as make_over, print};
 use office_setup::{MOST_PARTNERS, Setup};
 use office_setup_files::{SetupFault, WrongRecord, first_wrong, read_setup};
 use office_stream::Port;
@@ -45,6 +46,9 @@ pub(crate) fn init<W: Write, E: Write>(
             );
         }
     };
+    if !may_be_made(rt, store, errors) {
+        return FAILED;
+    }
     match make_store(rt, store, &setup) {
         Ok(()) => print(writer, "ready\n", DONE),
         Err(fault) => tell_store(rt, errors, store, &fault),

@@ -7,6 +7,7 @@
 mod causes;
 mod command;
 mod explain;
+mod history;
 mod init;
 mod request_log;
 mod watch;

@@ -53,6 +53,10 @@ account_app = with_rule (with_rule (with_rule (new_app (codes "account")) (word 
 unfoldable pub migrate_app : App
 migrate_app = with_rule (with_rule (new_app (codes "migrate")) (word (codes "OLD"))) (word (codes "NEW"))
 
+-- close DB ARCHIVE
+unfoldable pub close_app : App
+close_app = with_rule (with_rule (new_app (codes "close")) (word (codes "DB"))) (word (codes "ARCHIVE"))
+
 -- explain FILE [--partners PARTNERS]
 unfoldable pub explain_app : App
 explain_app = with_rule (with_rule (new_app (codes "explain")) (word (codes "FILE"))) (valued_option (codes "partners"))
@@ -65,19 +69,21 @@ demo_app = new_app (codes "demo")
 abbrev pub needs_subcommand : App → App
 needs_subcommand a = on_top (λ s. record s { has_version = true; subcommand_required = true }) a
 
-unfoldable pub office_app : App
-office_app =
+-- with the commands of daily work
+abbrev pub with_daily_work : App → App
+with_daily_work a =
     with_subcommand
     (with_subcommand
+    (with_subcommand (with_subcommand (with_subcommand a init_app.top) deliver_app.top) serve_app.top) report_app.top)
+    texts_app.top
+
+-- with the commands that keep a store up, and those that need none
+abbrev pub with_upkeep : App → App
+with_upkeep a =
+    with_subcommand
     (with_subcommand
-    (with_subcommand
-    (with_subcommand
-    (with_subcommand
-    (with_subcommand (with_subcommand
-    (with_subcommand (needs_subcommand (new_app (codes "office"))) init_app.top) deliver_app.top) serve_app.top)
-    report_app.top)
-    texts_app.top)
-    account_app.top)
-    migrate_app.top)
-    explain_app.top)
+    (with_subcommand (with_subcommand (with_subcommand a account_app.top) migrate_app.top) close_app.top) explain_app.top)
     demo_app.top
+
+unfoldable pub office_app : App
+office_app = with_upkeep (with_daily_work (needs_subcommand (new_app (codes "office"))))

@@ -21,9 +21,11 @@ pub data RequestContent : Type 0 where
   deliver : Text → Text → RequestContent
   serve : Text → ℕ → ℕ → Bool → (ahead : Option ℕ) → RequestContent
   report : Text → ReportKind → Option Text → RequestContent
+  archives : Text → RequestContent
   texts : Text → (from : ℕ) → RequestContent
   account : Text → Text → Text → RequestContent
   migrate : Text → Text → RequestContent
+  close : Text → Text → RequestContent
   explain : Text → (partners : Option Text) → RequestContent
   demo : RequestContent
 
@@ -32,9 +34,11 @@ request_content (request.Init store partners blocks) = init store.now partners.n
 request_content (request.Deliver store file) = deliver store.now file.now
 request_content (request.Serve store port count log ahead) = serve store.now port count log ahead
 request_content (request.Report store kind key) = report store.now kind (option_map (λ text. text.now) key)
+request_content (request.Archives store) = archives store.now
 request_content (request.Texts store from) = texts store.now from
 request_content (request.Account store code kind) = account store.now code.now kind.now
 request_content (request.Migrate old new) = migrate old.now new.now
+request_content (request.Close store archive) = close store.now archive.now
 request_content (request.Explain file partners) = explain file.now (option_map (λ text. text.now) partners)
 request_content request.Demo = demo
 
@@ -129,11 +133,21 @@ abbrev pub report_with : Text → ReportKind → Option Text → Option RequestC
 report_with store kind None = if wants_key kind then None else Some (report store kind None)
 report_with store kind (Some key) = if wants_key kind then Some (report store kind (Some key)) else None
 
+-- the report on the store's archives has no key
+abbrev pub archives_with : Text → Option Text → Option RequestContent
+archives_with store None = Some (archives store)
+archives_with store (Some key) = None
+
+-- a report of the kind that a word says
+abbrev pub report_said : Text → Text → Option Text → Option RequestContent
+report_said store word key =
+    if bytes_eq word (codes "archives") then archives_with store key
+    else option_and_then (λ (kind : ReportKind). report_with store kind key) (kind_said word)
+
 abbrev pub report_request : List Row → Option RequestContent
 report_request rows =
     option_and_then (λ (store : Text).
-    option_and_then (λ (kind : ReportKind). report_with store kind (first_of (codes "KEY") rows))
-    (option_and_then kind_said (first_of (codes "KIND") rows)))
+    option_and_then (λ (word : Text). report_said store word (first_of (codes "KEY") rows)) (first_of (codes "KIND") rows))
     (first_of (codes "DB") rows)
 
 -- how many texts to pass over; 0 if nothing is said
@@ -160,6 +174,11 @@ migrate_request rows = option_and_then
     (λ (old : Text). option_map (λ (new : Text). migrate old new) (first_of (codes "NEW") rows))
     (first_of (codes "OLD") rows)
 
+abbrev pub close_request : List Row → Option RequestContent
+close_request rows = option_and_then
+    (λ (store : Text). option_map (λ (archive : Text). close store archive) (first_of (codes "ARCHIVE") rows))
+    (first_of (codes "DB") rows)
+
 -- the partners' file may be left out
 abbrev pub explain_asked : List Row → Option RequestContent
 explain_asked rows =
@@ -175,6 +194,7 @@ request_by name rows =
     else if bytes_eq name (codes "texts") then texts_asked rows
     else if bytes_eq name (codes "account") then account_request rows
     else if bytes_eq name (codes "migrate") then migrate_request rows
+    else if bytes_eq name (codes "close") then close_request rows
     else if bytes_eq name (codes "explain") then explain_asked rows
     else if bytes_eq name (codes "demo") then Some demo
     else None

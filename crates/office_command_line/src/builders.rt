@@ -1,7 +1,7 @@
 ghost use Rattle.std.specs.Prelude.{◌≡◌, IfOk, true, false};
 ghost use Rattle.clap.specs.Words.{app_of, rule_of};
 ghost use Rattle.clap.specs.declared.builder.command.Command.TheViews.{out-Command};
-ghost use Rattle.office_command_line.specs.Commands.{word, word_if_any, flag, valued_option, init_app, deliver_app, serve_app, report_app, texts_app, account_app, migrate_app, explain_app, demo_app, office_app};
+ghost use Rattle.office_command_line.specs.Commands.{word, word_if_any, flag, valued_option, init_app, deliver_app, serve_app, report_app, texts_app, account_app, migrate_app, close_app, explain_app, demo_app, office_app, with_daily_work, with_upkeep};
 
 use clap::{Arg, ArgAction, Command};
 use office_queries::program_version;
@@ -9,7 +9,7 @@ use std::alloc::{AllocError, Global};
 
 /// The kinds of reports. Those from `container` on want a key.
 pub const REPORT_KINDS: &str =
-    "yard, yardcsv, picture, blocks, calls, partners, health, metrics, container, visits, list, work, ticket, reply, contrl or partner";
+    "yard, yardcsv, picture, blocks, calls, partners, health, metrics, archives, container, visits, list, work, ticket, reply, contrl or partner";
 
 /// `init DB PARTNERS BLOCKS`
 pub(crate) fn init_command<'a>(alloc: Global) -> Result<Command<'a>, AllocError>
@@ -165,6 +165,25 @@ pub(crate) fn migrate_command<'a>(alloc: Global) -> Result<Command<'a>, AllocErr
     Ok(migrate)
 }
 
+/// `close DB ARCHIVE`
+pub(crate) fn close_command<'a>(alloc: Global) -> Result<Command<'a>, AllocError>
+    ensures app { IfOk result (λ command. app_of command ≡ close_app) }
+    ensures local { IfOk result (λ command. (out-Command command).has_globals ≡ false) }
+{
+    let store = word(alloc, "DB", "The store");
+    let archive = word(
+        alloc,
+        "ARCHIVE",
+        "A copy of the store in the same folder, which keeps what goes from it",
+    );
+    let close = Command::new(alloc, "close")
+        .about("Put a store's history away: what a copy of it keeps goes from it")
+        .after_help("Example: office close office.db office-0001.db")
+        .arg(store)?
+        .arg(archive)?;
+    Ok(close)
+}
+
 /// `explain FILE [--partners PARTNERS]`
 pub(crate) fn explain_command<'a>(alloc: Global) -> Result<Command<'a>, AllocError>
     ensures app { IfOk result (λ command. app_of command ≡ explain_app) }
@@ -245,26 +264,45 @@ fn flag<'a>(alloc: Global, name: &'a str, help: &'a str) -> Arg<'a>
 pub(crate) fn office_command<'a>(alloc: Global) -> Result<Command<'a>, AllocError>
     ensures { IfOk result (λ command. app_of command ≡ office_app) }
 {
+    let office = Command::new(alloc, "office")
+        .about("The office system of a container terminal")
+        .version(program_version())
+        .subcommand_required(true);
+    let office = with_daily_work(alloc, office)?;
+    with_upkeep(alloc, office)
+}
+
+/// With the commands of daily work.
+fn with_daily_work<'a>(alloc: Global, office: Command<'a>) -> Result<Command<'a>, AllocError>
+    ensures { IfOk result (λ command. app_of command ≡ with_daily_work (app_of office.entry)) }
+{
     let init = init_command(alloc)?;
     let deliver = deliver_command(alloc)?;
     let serve = serve_command(alloc)?;
     let report = report_command(alloc)?;
     let texts = texts_command(alloc)?;
-    let account = account_command(alloc)?;
-    let migrate = migrate_command(alloc)?;
-    let explain = explain_command(alloc)?;
-    let demo = demo_command(alloc);
-    let office = Command::new(alloc, "office")
-        .about("The office system of a container terminal")
-        .version(program_version())
-        .subcommand_required(true)
+    let office = office
         .subcommand(init)?
         .subcommand(deliver)?
         .subcommand(serve)?
         .subcommand(report)?
-        .subcommand(texts)?
+        .subcommand(texts)?;
+    Ok(office)
+}
+
+/// With the commands that keep a store up, and those that need none.
+fn with_upkeep<'a>(alloc: Global, office: Command<'a>) -> Result<Command<'a>, AllocError>
+    ensures { IfOk result (λ command. app_of command ≡ with_upkeep (app_of office.entry)) }
+{
+    let account = account_command(alloc)?;
+    let migrate = migrate_command(alloc)?;
+    let close = close_command(alloc)?;
+    let explain = explain_command(alloc)?;
+    let demo = demo_command(alloc);
+    let office = office
         .subcommand(account)?
         .subcommand(migrate)?
+        .subcommand(close)?
         .subcommand(explain)?
         .subcommand(demo)?;
     Ok(office)

@@ -1,7 +1,7 @@
 ghost use Rattle.std.specs.Option.{option_map};
 ghost use Rattle.std.specs.Prelude.{◌≡◌, IfOk, IfErr, map};
 ghost use Rattle.clap.specs.Words.{found_of, rows_of, subcommand_rows_of, first_of};
-ghost use Rattle.office_command_line.specs.Requests.{request_content, init_request, account_request, migrate_request, explain_asked, deliver_request, serve_request, report_request, report_with, texts_asked, from_said, request_by, request_met, is_set, kind_said, usage_line, wants_key, RefusesWords, RefusesMet, WordsAsk, number_if_any, number_upto};
+ghost use Rattle.office_command_line.specs.Requests.{request_content, init_request, account_request, migrate_request, close_request, explain_asked, deliver_request, serve_request, report_request, report_said, report_with, archives_with, texts_asked, from_said, request_by, request_met, is_set, kind_said, usage_line, wants_key, RefusesWords, RefusesMet, WordsAsk, number_if_any, number_upto};
 
 use crate::builders::office_command;
 use clap::error::ErrorKind;
@@ -98,6 +98,11 @@ pub enum Request<'a> {
         /// or on the office.
         key: Option<&'a str>,
     },
+    /// To report which archives hold the store's history.
+    Archives {
+        /// The store's path.
+        store: &'a str,
+    },
     /// To print the texts that are kept, in the order in which they came.
     Texts {
         /// The store's path.
@@ -120,6 +125,13 @@ pub enum Request<'a> {
         old: &'a str,
         /// The path of the store to make.
         new: &'a str,
+    },
+    /// To put a store's history away in an archive.
+    Close {
+        /// The store's path.
+        store: &'a str,
+        /// The path of the archive, a copy of the store.
+        archive: &'a str,
     },
     /// To tell what is wrong with the interchanges of a file.
     Explain {
@@ -186,6 +198,7 @@ fn request_by<'a>(name: &str, inner: &ArgMatches<'a>) -> Option<Request<'a>>
         "texts" => texts_in(inner),
         "account" => account_in(inner),
         "migrate" => migrate_in(inner),
+        "close" => close_in(inner),
         "explain" => explain_in(inner),
         "demo" => Some(Request::Demo),
         _ => None,
@@ -233,8 +246,8 @@ fn report_in<'a>(matches: &ArgMatches<'a>) -> Option<Request<'a>>
     ensures { option_map request_content result ≡ report_request (rows_of (found_of matches.now)) }
 {
     let store = text_of(matches, "DB")?;
-    let kind = kind_of(text_of(matches, "KIND")?)?;
-    report_with(store, kind, text_of(matches, "KEY"))
+    let word = text_of(matches, "KIND")?;
+    report_said(store, word, text_of(matches, "KEY"))
 }
 
 fn texts_in<'a>(matches: &ArgMatches<'a>) -> Option<Request<'a>>
@@ -262,12 +275,43 @@ fn migrate_in<'a>(matches: &ArgMatches<'a>) -> Option<Request<'a>>
     Some(Request::Migrate { old, new })
 }
 
+fn close_in<'a>(matches: &ArgMatches<'a>) -> Option<Request<'a>>
+    ensures { option_map request_content result ≡ close_request (rows_of (found_of matches.now)) }
+{
+    let store = text_of(matches, "DB")?;
+    let archive = text_of(matches, "ARCHIVE")?;
+    Some(Request::Close { store, archive })
+}
+
 fn explain_in<'a>(matches: &ArgMatches<'a>) -> Option<Request<'a>>
     ensures { option_map request_content result ≡ explain_asked (rows_of (found_of matches.now)) }
 {
     let file = text_of(matches, "FILE")?;
     let partners = text_of(matches, "partners");
     Some(Request::Explain { file, partners })
+}
+
+/// A report of the kind that a word says.
+fn report_said<'a>(store: &'a str, word: &str, key: Option<&'a str>) -> Option<Request<'a>>
+    ensures { option_map request_content result
+        ≡ report_said store.entry.now word.now (option_map (λ text. text.now) key.entry) }
+{
+    if word == "archives" {
+        return archives_with(store, key);
+    }
+    let kind = kind_of(word)?;
+    report_with(store, kind, key)
+}
+
+/// The report on the store's archives, which has no key.
+fn archives_with<'a>(store: &'a str, key: Option<&'a str>) -> Option<Request<'a>>
+    ensures { option_map request_content result
+        ≡ archives_with store.entry.now (option_map (λ text. text.now) key.entry) }
+{
+    match key {
+        None => Some(Request::Archives { store }),
+        Some(_) => None,
+    }
 }
 
 /// The report, if a key is given where one is wanted and nowhere else.

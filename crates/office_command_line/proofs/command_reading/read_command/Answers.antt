@@ -2,7 +2,7 @@ use Rattle.std.proofs.Common.{◌≡◌, ◌∙◌, List, [], Option, IfOk, IfEr
 use Rattle.std.proofs.lemmas.Result.{IfErr-weaker, IfOk-weaker}
 use Rattle.clap.specs.Simple.{is_simple}
 use Rattle.clap.specs.Words.{App, Row, Text, subcommand_of, subcommand_rows_of, kind_of, fault_of, IsAmong, is_simple_and_free}
-use Rattle.office_command_line.specs.Commands.{office_app, init_app, deliver_app, serve_app, report_app, texts_app, account_app, migrate_app, explain_app, demo_app}
+use Rattle.office_command_line.specs.Commands.{office_app, init_app, deliver_app, serve_app, report_app, texts_app, account_app, migrate_app, close_app, explain_app, demo_app}
 use Rattle.office_command_line.specs.Requests.{request_content, request_met, request_of_words, RefusesMet, RefusesWords, WordsAsk}
 use Rattle.office_command_line.specs.declared.command_reading.CommandFault.{CommandFault}
 use Rattle.office_command_line.specs.declared.command_reading.CommandFault.TheVariants.{Words, Values, Memory}
@@ -15,7 +15,7 @@ refuses words taken (Values line) none = (taken, none.0, none.1)
 refuses words taken Memory none = tt
 
 pub returns-in-Ok-try_get_matches_from-clause-ok : goal.returns-in-Ok-try_get_matches_from-clause-ok
-unfolding office_app init_app deliver_app serve_app report_app texts_app account_app migrate_app explain_app demo_app
+unfolding office_app init_app deliver_app serve_app report_app texts_app account_app migrate_app close_app explain_app demo_app
 returns-in-Ok-try_get_matches_from-clause-ok c =
     let words : List Text = map (λ w. w.now) c.args.words.now in
     let is_office = c.in-Ok.ensures in
@@ -28,7 +28,7 @@ returns-in-Ok-try_get_matches_from-clause-ok c =
     (λ request asks. (taken, asks)) (subst P found c.request_in.ensures.ok)
 
 pub returns-in-Ok-try_get_matches_from-clause-err : goal.returns-in-Ok-try_get_matches_from-clause-err
-unfolding office_app init_app deliver_app serve_app report_app texts_app account_app migrate_app explain_app demo_app
+unfolding office_app init_app deliver_app serve_app report_app texts_app account_app migrate_app close_app explain_app demo_app
 returns-in-Ok-try_get_matches_from-clause-err c =
     let words : List Text = map (λ w. w.now) c.args.words.now in
     let is_office = c.in-Ok.ensures in
@@ -41,7 +41,7 @@ returns-in-Ok-try_get_matches_from-clause-err c =
     (subst P found c.request_in.ensures.err)
 
 pub returns : goal.returns
-unfolding office_app init_app deliver_app serve_app report_app texts_app account_app migrate_app explain_app demo_app
+unfolding office_app init_app deliver_app serve_app report_app texts_app account_app migrate_app close_app explain_app demo_app
 returns c =
     let words : List Text = map (λ w. w.now) c.args.words.now in
     let is_office = c.in-Ok.ensures in

@@ -1,0 +1,237 @@
+use crate::causes::{
+    Words, stderr_is_terminal, tell_store, tell_store_cause, tell_with, tell_words,
+};
+use office_archive_files::{
+    CloseCommandFault, History, OpenFault, archives_over, close_over, history_of, register_path,
+};
+use office_closing::{CloseFault, File, FileFault, Refusal};
+use office_commands::{DONE, FAILED, print, tell_fault};
+use office_stream::Port;
+use office_tables::TableFault;
+use sqlite::Unknown;
+use std::io::Write;
+
+/// How a store is worked on, by what its register of archives says.
+#[derive(Clone, Copy)]
+pub(crate) enum Way {
+    /// By its own rows: nothing was put away of it.
+    Alone,
+    /// Beside its archives.
+    BesideArchives,
+    /// Not at all, which was told: with that status.
+    Refused(u8),
+}
+
+/// How interchanges and accounts are taken to the store at a path. An archive takes none.
+pub(crate) fn way_to_deliver<E: Write>(rt: &HostRuntime, store: &str, errors: &mut Port<E>) -> Way {
+    match history_of(rt, store) {
+        Ok(history) if history.is_closed => Way::Refused(tell_closed(rt, errors, store)),
+        Ok(history) => way_by(history),
+        Err(fault) => Way::Refused(tell_register(rt, errors, store, &fault)),
+    }
+}
+
+/// How the store or the archive at a path is looked at.
+pub(crate) fn way_to_look<E: Write>(rt: &HostRuntime, store: &str, errors: &mut Port<E>) -> Way {
+    match history_of(rt, store) {
+        Ok(history) => way_by(history),
+        Err(fault) => Way::Refused(tell_register(rt, errors, store, &fault)),
+    }
+}
+
+fn way_by(history: History) -> Way {
+    if history.archives == 0 {
+        Way::Alone
+    } else {
+        Way::BesideArchives
+    }
+}
+
+/// Whether a store can be made at a path: no register of another store's archives lies beside it. If one does, that was
+/// told.
+pub(crate) fn may_be_made<E: Write>(rt: &HostRuntime, store: &str, errors: &mut Port<E>) -> bool {
+    match history_of(rt, store) {
+        Ok(
+            History {
+                archives: 0,
+                is_closed: false,
+            },
+        ) => true,
+        _ => {
+            tell_with(errors, "store: Store\n", FAILED);
+            tell_words(rt, errors, store, Words::HAS_REGISTER);
+            false
+        }
+    }
+}
+
+/// Tells that a store is an archive, or has archives where that is not taken.
+fn tell_closed<E: Write>(rt: &HostRuntime, errors: &mut Port<E>, store: &str) -> u8 {
+    tell_closed_with(rt, errors, store, Words::IS_ARCHIVE)
+}
+
+/// Tells that the texts of a store of which history was put away are not printed.
+pub(crate) fn tell_texts_closed<E: Write>(
+    rt: &HostRuntime,
+    errors: &mut Port<E>,
+    store: &str,
+) -> u8 {
+    tell_closed_with(rt, errors, store, Words::HAS_ARCHIVES)
+}
+
+fn tell_closed_with<E: Write>(
+    rt: &HostRuntime,
+    errors: &mut Port<E>,
+    store: &str,
+    words: Words,
+) -> u8 {
+    let status = tell_with(errors, "store: Closed\n", FAILED);
+    tell_words(rt, errors, store, words);
+    status
+}
+
+/// Tells a fault of a store's register of archives.
+fn tell_register<E: Write>(
+    rt: &HostRuntime,
+    errors: &mut Port<E>,
+    store: &str,
+    fault: &TableFault,
+) -> u8 {
+    let status = tell_fault(errors, fault);
+    tell_register_cause(rt, errors, store, fault);
+    status
+}
+
+/// Tells a person why a store's register of archives can't be read or written.
+fn tell_register_cause<E: Write>(
+    rt: &HostRuntime,
+    errors: &mut Port<E>,
+    store: &str,
+    fault: &TableFault,
+) {
+    let Ok(path) = register_path(rt.alloc(), store) else {
+        return;
+    };
+    match fault {
+        TableFault::Damaged => tell_words(rt, errors, path.as_str(), Words::DAMAGED_REGISTER),
+        _ => tell_store_cause(rt, errors, path.as_str(), fault),
+    }
+}
+
+/// Tells a person why a store was not opened beside its archives.
+pub(crate) fn tell_open_cause<E: Write>(
+    rt: &HostRuntime,
+    errors: &mut Port<E>,
+    store: &str,
+    fault: &OpenFault,
+) {
+    match fault {
+        OpenFault::Closed => tell_words(rt, errors, store, Words::IS_ARCHIVE),
+        OpenFault::Store(fault) => tell_store_cause(rt, errors, store, fault),
+        OpenFault::Register(fault) => tell_register_cause(rt, errors, store, fault),
+    }
+}
+
+/// Tells why a store was not opened beside its archives, and to a person also the cause and what to do.
+pub(crate) fn tell_open<E: Write>(
+    rt: &HostRuntime,
+    errors: &mut Port<E>,
+    store: &str,
+    fault: &OpenFault,
+) -> u8 {
+    match fault {
+        OpenFault::Closed => tell_closed(rt, errors, store),
+        OpenFault::Store(fault) => tell_store(rt, errors, store, fault),
+        OpenFault::Register(fault) => tell_register(rt, errors, store, fault),
+    }
+}
+
+/// `report DB archives`: prints which archives hold the store's history, or `none`.
+pub(crate) fn archives<W: Write, E: Write>(
+    rt: &HostRuntime,
+    store: &str,
+    writer: &mut Port<W>,
+    errors: &mut Port<E>,
+) -> u8 {
+    match archives_over(rt, store, Unknown, writer) {
+        Ok(status) => status,
+        Err(fault) => tell_open(rt, errors, store, &fault),
+    }
+}
+
+/// `close DB ARCHIVE`: puts away of the store what the archive, a copy of it, keeps.
+pub(crate) fn close<W: Write, E: Write>(
+    rt: &HostRuntime,
+    store: &str,
+    archive: &str,
+    writer: &mut Port<W>,
+    errors: &mut Port<E>,
+) -> u8 {
+    let closed = close_over(rt, store, archive);
+    match &closed {
+        Ok(ended) => match &ended.1 {
+            Ok(()) => print(writer, "ready\n", DONE),
+            Err(fault) => tell_close(rt, errors, store, archive, fault),
+        },
+        Err(CloseCommandFault::Folder) => tell_no_copy(rt, errors, archive, Words::OTHER_FOLDER),
+        Err(CloseCommandFault::Close(fault)) => tell_close(rt, errors, store, archive, fault),
+    }
+}
+
+/// Tells that an archive does not take the store's history, and to a person also why.
+fn tell_no_copy<E: Write>(
+    rt: &HostRuntime,
+    errors: &mut Port<E>,
+    archive: &str,
+    words: Words,
+) -> u8 {
+    let status = tell_with(errors, "store: Archive\n", FAILED);
+    tell_words(rt, errors, archive, words);
+    status
+}
+
+/// Tells why a store's history was not put away.
+fn tell_close<E: Write>(
+    rt: &HostRuntime,
+    errors: &mut Port<E>,
+    store: &str,
+    archive: &str,
+    fault: &CloseFault,
+) -> u8 {
+    match fault {
+        CloseFault::Archive(Refusal::Closed) => tell_closed(rt, errors, store),
+        CloseFault::Archive(why) => tell_no_copy(rt, errors, archive, words_of_refusal(*why)),
+        CloseFault::File(of) | CloseFault::Comparing(of) => {
+            tell_file(rt, errors, store, archive, of)
+        }
+        CloseFault::Memory => tell_store(rt, errors, store, &TableFault::Memory),
+    }
+}
+
+/// Tells a fault of one of the four files of a closing.
+fn tell_file<E: Write>(
+    rt: &HostRuntime,
+    errors: &mut Port<E>,
+    store: &str,
+    archive: &str,
+    of: &FileFault,
+) -> u8 {
+    match of.file {
+        File::Store => tell_store(rt, errors, store, &of.fault),
+        File::Register => tell_register(rt, errors, store, &of.fault),
+        File::Archive => tell_store(rt, errors, archive, &of.fault),
+        File::ArchiveRegister => tell_register(rt, errors, archive, &of.fault),
+    }
+}
+
+/// Why an archive is refused, for a person.
+fn words_of_refusal(why: Refusal) -> Words {
+    match why {
+        Refusal::Closed => Words::IS_ARCHIVE,
+        Refusal::Office => Words::OTHER_OFFICE,
+        Refusal::Later => Words::LATER,
+        Refusal::Register => Words::OTHER_REGISTER,
+        Refusal::Interchange(_) => Words::OTHER_INTERCHANGE,
+        Refusal::Visit(_) => Words::OTHER_VISIT,
+    }
+}
