@@ -23,8 +23,8 @@ SEED = 'bench'
 
 
 def box(serial):
-    """A container's number, with its check digit."""
-    front = 'ABCU%06d' % serial
+    """A container's number, with its check digit. After a million the first comes again."""
+    front = 'ABCU%06d' % (serial % 1000000)
     return front + str(check_digit(front))
 
 

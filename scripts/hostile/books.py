@@ -2,7 +2,6 @@
 import copy
 import os
 import random
-import shutil
 import subprocess
 from contextlib import contextmanager
 
@@ -14,7 +13,7 @@ from model.office import Office, json_text
 from model.old_stores import write_store
 from model.reports import WHOLE, printed
 from model.requests import every_key, path_of
-from model.rows import rows_in, rows_of
+from model.rows import copy_files, rows_in, rows_of
 from model.setup import DEMO, read_setup
 from model.setups import Files, files_of
 from model.stream import status
@@ -154,7 +153,8 @@ class Book:
         """The rows, and each report: the yard by command, all else by HTTP."""
         self.found(None)
         for kind, _key in WHOLE:
-            expect(kind, (printed(self.office, kind)[0], '', 0), run(self.program, 'report', self.store, kind))
+            text, ended = printed(self.office, kind)
+            expect(kind, (text, '', ended), run(self.program, 'report', self.store, kind))
         keys = [(kind, key) for kind, key in every_key(self.office) if key.isascii()]
         with Served(self.program, self.store, len(keys) or 1) as served:
             for kind, key in keys:
@@ -162,10 +162,8 @@ class Book:
                 expect('GET %s %s' % (kind, key), response(self.office, request), served.exchange(request))
 
     def copied(self, folder):
-        """The file and its log, copied into another folder."""
-        for end in ('', '-wal'):
-            if os.path.exists(self.store + end):
-                shutil.copy2(self.store + end, os.path.join(folder, 'office.db' + end))
+        """The files of the store, copied into another folder."""
+        copy_files(self.store, os.path.join(folder, 'office.db'))
         other = copy.copy(self)
         other.folder, other.store = folder, os.path.join(folder, 'office.db')
         other.office, other.texts, other.answered = copy.deepcopy(self.office), list(self.texts), list(self.answered)

@@ -285,7 +285,7 @@ def try_reports(book, counted):
 def keys_of(office):
     """Each kind of report that tells something, under a key under which it does."""
     found = {kind: key for kind, key in every_key(office) if printed(office, kind, key)[1] == 0}
-    return [*WHOLE, *found.items()]
+    return [pair for pair in WHOLE if printed(office, *pair)[1] == 0] + list(found.items())
 
 
 def try_service(name, book, mark, counted):

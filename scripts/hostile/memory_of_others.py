@@ -83,7 +83,8 @@ def refuse_reports(refusing, office, _text, steps, counted):
     opened = allocations_of(refusing, ['report', refusing.store, 'visits', UNUSED]) - PRINTING
     for kind, key in keys_of(office):
         words = ['report', refusing.store, kind, *([key] if key else [])]
-        wanted = printed(office, kind, key)[0], '', 0
+        text, ended = printed(office, kind, key)
+        wanted = text, '', ended
         behind = range(opened + 1, allocations_of(refusing, words) + 1, steps[1])
         for refused in [*range(1, opened + 1, steps[0]), *behind]:
             given = refusing.run(words, refused)

@@ -22,12 +22,13 @@ CALL = re.compile(r'^\d+ +(\w+)\((\d+)<([^>]*)>(?:, (?:"((?:\\x..)*)", )?([\d, ]
 
 
 class File:
-    """A file: what is surely there, and what was written since."""
+    """A file: what is surely there, and what was written since. One that is not there yet is empty."""
 
     def __init__(self, path):
-        with open(path, 'rb') as file:
-            self.synced = file.read()
-        self.since = []
+        self.synced, self.since = b'', []
+        if os.path.exists(path):
+            with open(path, 'rb') as file:
+                self.synced = file.read()
 
     def sync(self):
         """All is there."""
@@ -70,15 +71,29 @@ def torn(content, at, data, chance):
     return written(content, at, bytes(mixed))
 
 
-def calls_of(book, texts):
-    """The calls of a process that takes these texts: kind, path, bytes, numbers."""
-    log = os.path.join(book.folder, 'calls')
+def noting(log):
+    """The words in front of the program's, so that strace notes what it writes."""
     trace = 'trace=pwrite64,fdatasync,fsync,ftruncate,write'
-    front = [STRACE, '-qq', '-f', '-y', '-xx', '-s', '5000000', '-o', log, '-e', trace]
-    lines = []
-    with Delivering(book.program, book.store, front=front) as worker:
+    return [STRACE, '-qq', '-f', '-y', '-xx', '-s', '5000000', '-o', log, '-e', trace]
+
+
+def written_by(log, words):
+    """The calls of a process with these words."""
+    expect('status', 0, run(*noting(log), *words)[2])
+    return calls_noted(log)
+
+
+def calls_of(book, texts):
+    """The calls of a process that takes these texts, and its answers."""
+    log, lines = os.path.join(book.folder, 'calls'), []
+    with Delivering(book.program, book.store, front=noting(log)) as worker:
         worker.answers(texts, lines.append)
         expect('status and fault', '', worker.ended()[1])
+    return calls_noted(log), lines
+
+
+def calls_noted(log):
+    """The calls that strace has noted: kind, path, bytes, numbers."""
     with open(log, encoding='ascii', errors='replace') as file:
         found = [CALL.match(line) for line in file.read().splitlines()]
     calls = []
@@ -86,7 +101,7 @@ def calls_of(book, texts):
         path = re.sub(r'\\x(..)', lambda code: chr(int(code[1], 16)), path)
         data = bytes.fromhex(data.replace('\\x', '')) if data else b''
         calls.append((kind, path, data[:int(result)], [int(number) for number in re.findall(r'\d+', numbers or '')]))
-    return calls, lines
+    return calls
 
 
 def replayed(calls, files, answered):

@@ -15,11 +15,13 @@ file has one subject, in the order in which they stand on one another:
     terminal.py    what an order does: yard, visits, lists
     deliveries.py  the words of the headline: first text, run, order
     events.py      the accounts so far, and which texts were admitted as they came
+    register.py    which archives hold what was put away of a store
     office.py      taking a text, the answers to a delivery and to an addition
     stream.py      the lines and the exit status that answer a stream
     keys.py        the keys of reports
     reports.py     what can be asked of the office besides deliveries
     rows.py        what the tables hold, and what a store's file holds
+    closing.py     which files are an archive of a store, and what goes from it
     meanings.py    what the names in a reply mean, read from docs/PROFILE.md
     picture.py     the picture of the yard
     pages.py       the pages of reports
@@ -37,6 +39,9 @@ and what holds the program to them:
     stores.py      the program over stores in files, beside the model
     old_stores.py  stores of any version, written by SQLite's own library
     migrated.py    old stores that the program brings to the newest version
+    closed_alone.py    closings by the model alone
+    closed.py      stores that the program closes, among random events, and archives that can't be asked
+    refused_closings.py  what a closing is refused for, and registers that are other ones
     worked_stores.py  the worked rows that want a store
     worked.py      the worked rows of docs/WORKED_ROWS.md, and the day of examples/day
     cases.py       streams and deliveries whose answers are written out, in cases.txt

@@ -5,7 +5,9 @@ import sys
 from collections import Counter
 from functools import partial
 
-from . import cases, counts, crowded, damaged, directory, meanings, migrated, replaced, samples, shown, stores, worked
+from . import (
+    cases, closed, closed_alone, counts, crowded, damaged, directory, meanings, migrated, refused_closings, replaced, samples,
+    shown, stores, worked)
 from .days import stream
 from .messages import MESSAGE_FAULTS
 from .office import Office
@@ -37,8 +39,8 @@ USAGE = """usage: scripts/beside [demo | model | STREAMS DELIVERIES SHARE [SEED]
 Compares crates/office/out/office with the model: first the worked rows, the day of examples/day and the cases of
 scripts/model/cases.txt, as `office demo` and over stores in files, and the pages that show them or others; then the changed
 stores of scripts/model/damaged.txt, a crowded yard and full lists replaced; then random set-ups, deliveries and reports over
-stores, and requests by HTTP; then random streams. With arguments the rows, and STREAMS streams of DELIVERIES interchanges
-each, SHARE of them (0 to 1) with altered bytes, with the seeds from SEED on (1 where none is given). Without arguments: %s.
+stores, and requests by HTTP; then stores that are closed from time to time; then random streams. With arguments the rows,
+and STREAMS streams of DELIVERIES interchanges each, SHARE of them (0 to 1) with altered bytes, with the seeds from SEED on (1 where none is given). Without arguments: %s.
 With `demo` no store is made. With `model` the program isn't needed: rows, cases and changed stores are held to the model
 alone, and what comes in the streams is counted.
 """ % ', then '.join('%d %d %s' % mix for mix in MIXES)
@@ -115,7 +117,7 @@ def by_model_alone():
     failed = worked.check(TOP, answered_by_model, lambda row, setup, text: None)
     failed += cases.check(None, with_stores=False)
     failed += samples.check(TOP) + shown.check(TOP, None) + directory.check(TOP) + meanings.check()
-    failed += damaged.judge_all() + migrated.check_real()
+    failed += damaged.judge_all() + migrated.check_real() + closed_alone.judge_all()
     crowded.count_all()
     for mix in MIXES:
         report(mix, *compare(mix, 1, answered_by_model))
@@ -150,6 +152,8 @@ def main():
     if len(sys.argv) == 1:
         stores.try_all(beside)
         migrated.try_all(beside)
+        refused_closings.try_all(beside)
+        closed.try_all(beside)
     failed += stores.told(beside)
     for mix in mixes:
         counted, differing = compare(mix, first_seed, answered_by_program)

@@ -1,14 +1,20 @@
 """What a command prints, over files: docs/OPERATIONS.md.
 
 Files are a dict by their names, of texts and, where one is a store, of offices. The first fault is told, in this order:
-the words, input files as the words name them, the set-up, the store; of a migration, the old store and then the new one.
+the words, input files as the words name them, the set-up, the store; of a migration, the old store and then the new one; of a
+closing, the store and then the archive. The register beside a store is a part of its office, and stands by itself where its
+store is gone.
 """
 import copy
+import os
 
+from .closing import close as closed
 from .deliveries import kept_texts
 from .moments import are_digits
 from .office import Office, json_text
-from .reports import REPORTS, has_key, printed
+from .register import EMPTY
+from .reports import REPORTS, Lost, has_key, printed
+from .rows import REGISTER
 from .rules import NEWEST
 from .setup import read_setup
 from .stream import answers, lines, status
@@ -17,7 +23,7 @@ from .words import text_of
 # how many words stand behind each command: at least, at most
 WORDS = {
     'init': (3, 3), 'deliver': (2, 2), 'serve': (3, 3), 'report': (2, 3), 'demo': (0, 0), 'account': (3, 3),
-    'migrate': (2, 2), 'texts': (1, 2)}
+    'migrate': (2, 2), 'texts': (1, 2), 'close': (2, 2)}
 CLAP = 'a text of clap'     # which the model doesn't know
 MOST_CONNECTIONS = 1000000
 
@@ -52,12 +58,25 @@ def office_in(files, name):
     return office
 
 
+def open_in(files, name):
+    """The same, which takes deliveries: an archive takes none."""
+    office = office_in(files, name)
+    if office.register.mark:
+        raise Fault('store: Closed', 3)
+    return office
+
+
+def is_free(files, name):
+    """Whether a store can be made there: neither is one, nor does the register of one lie beside."""
+    return not files.get(name) and files.get(name + REGISTER, EMPTY) == EMPTY
+
+
 def init(files, store, partners, blocks):
     """Makes a store. A file with something in it stays as it is."""
     setup, fault = read_setup(text_in(files, partners), text_in(files, blocks))
     if fault:
         raise Fault('setup: ' + fault, 1)
-    if files.get(store):
+    if not is_free(files, store):
         raise Fault('store: Store', 3)
     files[store] = Office(setup)
     return 'ready\n', 0
@@ -66,7 +85,7 @@ def init(files, store, partners, blocks):
 def deliver(files, store, name):
     """A line for each answer."""
     text = text_in(files, name)
-    given = answers(office_in(files, store), text)
+    given = answers(open_in(files, store), text)
     return text_of(lines(given)), status(given)
 
 
@@ -75,7 +94,7 @@ def serve(files, store, port, count):
     if not all(are_digits(text, 1, 9) and 1 <= int(text) <= most
                for text, most in ((port, 65535), (count, MOST_CONNECTIONS))):
         raise Fault('usage: office serve DB PORT COUNT', 2)
-    office_in(files, store)
+    open_in(files, store)
     return 'listening 127.0.0.1:%d\nserved %d\n' % (int(port), int(count)), 0
 
 
@@ -83,14 +102,20 @@ def report(files, store, kind, key=None):
     """A report on the whole terminal has no key, and any other has one."""
     if kind not in REPORTS or has_key(kind) != (key is not None):
         raise Fault('usage: office report DB KIND [KEY]', 2)
-    return printed(office_in(files, store), kind, key or '')
+    try:
+        return printed(office_in(files, store), kind, key or '')
+    except Lost as lost:
+        raise Fault('store: Store', 3) from lost
 
 
 def texts(files, store, passed='0'):
     """The texts that are kept, after so many of them."""
     if not are_digits(passed, 1, 9) or (passed[0] == '0' and passed != '0'):
         raise Fault('usage: office texts DB [FROM]', 2)
-    kept = kept_texts(office_in(files, store).deliveries)
+    office = office_in(files, store)
+    if office.register.archives:
+        raise Fault('store: Closed', 3)
+    kept = kept_texts(office.deliveries)
     if int(passed) > len(kept):
         return 'none\n', 1
     return text_of(kept[int(passed):]), 0
@@ -98,7 +123,7 @@ def texts(files, store, passed='0'):
 
 def account(files, store, code, kind):
     """The words are no keys: nothing in them is decoded."""
-    answer = office_in(files, store).add_account(code, kind)
+    answer = open_in(files, store).add_account(code, kind)
     return json_text(answer) + '\n', 1 if answer['answer'] == 'refused' else 0
 
 
@@ -107,10 +132,22 @@ def migrate(files, old, new):
     office = store_in(files, old)
     if office.version == NEWEST:
         raise Fault('store: Version', 3)
-    if files.get(new):
+    if not is_free(files, new):
         raise Fault('store: Store', 3)
     files[new] = copy.deepcopy(office)
     files[new].migrate()
+    return 'ready\n', 0
+
+
+def close(files, store, archive):
+    """What the archive keeps goes from the store. They are in one folder, and not the same file."""
+    own, copied = office_in(files, store), office_in(files, archive)
+    if own is copied:
+        raise Fault('store: Store', 3)
+    (folder, store_file), (other, archive_file) = os.path.split(store), os.path.split(archive)
+    fault = closed(own, copied, store_file, archive_file) if folder == other else 'Archive'
+    if fault:
+        raise Fault('store: ' + fault, 3)
     return 'ready\n', 0
 
 
@@ -124,7 +161,7 @@ def outcome(files, words):
     try:
         does = {
             'init': init, 'deliver': deliver, 'serve': serve, 'report': report, 'account': account, 'migrate': migrate,
-            'texts': texts}
+            'texts': texts, 'close': close}
         text, ended = does[command](files, *others)
         return text, '', ended
     except Fault as fault:

@@ -11,7 +11,7 @@ from .keys import PARTS, decoded, read_key
 from .moments import are_digits
 from .office import json_text
 from .pages import KINDS as PAGED, page, start, told, typed
-from .reports import report
+from .reports import Lost, report
 from .setup import is_utf8
 from .syntax import BREAKS, FAULTS, LONGEST_TEXT, is_printable, number_of, sender_of
 
@@ -72,7 +72,7 @@ RETRY_LATER = (429, 503)
 LATER = 5                   # seconds
 # the faults of a head: where one of them applies, a text names nobody
 HEAD_FAULTS = FAULTS[:8]
-STATUSES = {'taken': 200, 'repeat': 200, 'waiting': 202, 'clash': 409, 'refused': 400}
+STATUSES = {'taken': 200, 'repeat': 200, 'waiting': 202, 'clash': 409, 'refused': 400, 'not now': 503}
 ACCOUNT_FAULTS = {'Partner': 400, 'Kind': 409, 'Accounts': 409}
 
 
@@ -229,9 +229,14 @@ def pass_door(office, code, text, ahead):
 
 def page_of_texts(office, key):
     """The kept texts after so many, each with an LF after it: as many whole ones as have room, one at least if there is one.
-    How many is said by 1 to 9 digits that don't begin with 0, or by 0, and there are at least so many."""
+    How many is said by 1 to 9 digits that don't begin with 0, or by 0, and there are at least so many. Texts that were closed
+    stand in no order any more."""
+    if not re.fullmatch(r'0|[1-9][0-9]{0,8}', key):
+        raise Refusal(404, 'none')
+    if office.register.archives:
+        raise Refusal(503, 'not now')
     kept = kept_texts(office.deliveries)
-    if not re.fullmatch(r'0|[1-9][0-9]{0,8}', key) or int(key) > len(kept):
+    if int(key) > len(kept):
         raise Refusal(404, 'none')
     lines = [text + '\n' for text in kept[int(key):]]
     counts = [count for count in range(len(lines) + 1) if count <= 1 or len(''.join(lines[:count])) <= MOST_OF_TEXTS]
@@ -273,3 +278,5 @@ def response(office, request, ahead=None):
         return response_text(*answered(office, request, ahead))
     except Refusal as refusal:
         return response_text(refusal.status, 'application/json', json_text(refusal.answer), refusal.allowed)
+    except Lost:
+        return response_text(503, 'application/json', json_text(dict(answer='not now')))

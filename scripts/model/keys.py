@@ -1,10 +1,11 @@
 """Keys of reports, as the command line and HTTP have them: crates/office_queries/README.md."""
 from .moments import DIGITS, are_digits
+from .names import number_fault
 
 # how many parts the key of each report has
 PARTS = {
-    'yard': 0, 'yardcsv': 0, 'picture': 0, 'blocks': 0, 'calls': 0, 'partners': 0, 'health': 0, 'metrics': 0, 'visits': 1,
-    'container': 1, 'partner': 1, 'list': 3, 'work': 3, 'ticket': 2, 'reply': 2, 'contrl': 2}
+    'yard': 0, 'yardcsv': 0, 'picture': 0, 'blocks': 0, 'calls': 0, 'partners': 0, 'health': 0, 'metrics': 0, 'archives': 0,
+    'visits': 1, 'container': 1, 'partner': 1, 'list': 3, 'work': 3, 'ticket': 2, 'reply': 2, 'contrl': 2}
 
 
 def decoded(part):
@@ -28,5 +29,7 @@ def read_key(kind, key):
     if PARTS[kind] == 2:
         values[1] = number_in(values[1])
     if PARTS[kind] == 3 and values[2] not in ('load', 'discharge'):
+        return None
+    if kind in ('visits', 'container') and number_fault(values[0]):
         return None
     return None if None in values else values

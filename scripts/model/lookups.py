@@ -20,6 +20,21 @@ def standing(terminal):
         ((slot_text(place.slot), visits[number]) for number, place in terminal.yard.items()), key=lambda pair: pair[0])
 
 
+# ---- visits
+
+def own_visits(office):
+    """The visits that the store has, with their numbers, which are 1, 2 and so on as they were opened: all, but for those that
+    a closing took."""
+    numbered = enumerate(office.fold().terminal.visits, start=1)
+    return [(number, visit) for number, visit in numbered if number not in office.gone]
+
+
+def with_archives(office, lines):
+    """Lines on what the store has, and behind them how many archives were not asked; None, if there is nothing to tell."""
+    count = len(office.register.archives)
+    return text_of(lines + ['ARCHIVES %d' % count] * (count > 0)) or None
+
+
 # ---- a container
 
 def open_lines(terminal, box):
@@ -38,19 +53,24 @@ def stay_text(place, visit, passage):
 
 def container(office, box):
     """Where it stands and by which visit, and what is to be done with it; or how it left last."""
+    return with_archives(office, container_lines(office, box))
+
+
+def container_lines(office, box):
+    """The same of what the store has; none of a container that has no visit there."""
     terminal = office.fold().terminal
-    stays = [(place, visit) for place, visit in enumerate(terminal.visits, start=1) if visit.number == box]
+    stays = [(place, visit) for place, visit in own_visits(office) if visit.number == box]
     if not stays:
-        return None
+        return []
     place, visit = stays[-1]
     if box not in terminal.yard:
-        return text_of(['CONTAINER ' + box, 'OUT ' + stay_text(place, visit, visit.exit)])
+        return ['CONTAINER ' + box, 'OUT ' + stay_text(place, visit, visit.exit)]
     words = ['IN', slot_text(terminal.yard[box].slot), stay_text(place, visit, visit.entry)]
     words += ['BOOKING', visit.booking] if visit.booking else []
     words += ['GROSS %d' % visit.kilos] if visit.kilos else []
     above = blocker(terminal.yard, box)
     words += ['UNDER', above] if above else ['FREE']
-    return text_of(['CONTAINER ' + box, ' '.join(words)] + open_lines(terminal, box))
+    return ['CONTAINER ' + box, ' '.join(words)] + open_lines(terminal, box)
 
 
 # ---- a vessel
@@ -165,7 +185,7 @@ def gauge(name, what, value):
 
 def metrics(office):
     """How much there is of what, and the versions of program and store, which are labels of a value that is always 1."""
-    visits = office.fold().terminal.visits
+    visits = own_visits(office)
     waits = [len(waiting(office, partner)) for partner in office.setup.partners]
     info = '{version="%s",store_version="%s"}' % (PROGRAM_VERSION, office.version)
     return text_of(
@@ -176,6 +196,15 @@ def metrics(office):
         + gauge('office_interchanges_waiting', 'Interchanges that wait for a number that is missing.', sum(waits))
         + gauge('office_partners_waiting', 'Partners of whom an interchange waits.', sum(count > 0 for count in waits))
         + gauge('office_info', 'Versions of the program and of its store.', 1)[:2] + ['office_info%s 1' % info])
+
+
+# ---- the archives
+
+def archives(office):
+    """Each archive by its place: its file, the number of its newest visit, and whether it is there."""
+    return text_of([
+        'ARCHIVE %d %s VISITS %d %s' % (*archive, office.lost.get(archive.place, 'THERE'))
+        for archive in office.register.archives]) or None
 
 
 # ---- the blocks

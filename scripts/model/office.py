@@ -10,9 +10,10 @@ from .events import (
     NAMES, Added, Delivered, Migrated, account_answer, as_delivery, deliveries_of, delivery_of, migration_in, refusal,
     setup_after, setup_with)
 from .messages import lines_of, list_replaced, message_fault
+from .register import EMPTY, archive_of
 from .rules import NEWEST, RULES
 from .setup import DEMO, orders_of
-from .syntax import BREAKS, messages_of, moment_of_header, sender_of
+from .syntax import BREAKS, messages_of, moment_of_header, number_of, sender_of
 from .terminal import Terminal
 
 # the faults before Test: no CONTRL answers them
@@ -107,7 +108,8 @@ def fold_of(setup, deliveries, rules_of):
 class Office:
     """The set-up with which it was opened, and all that happened to it since: texts that were delivered, admitted or not,
     accounts that were added, and the migration of its store. Each answer is computed from these alone, anew. `version` is
-    that of its store.
+    that of its store. A closing is no event: `register` says what is closed, `gone` has the numbers of the visits that went
+    from the store, and `lost` what is said of an archive that can't be asked, by its place.
 
     For long streams that is too slow: 300 deliveries would take the first of them 300 times. There an office is made
     with `keeps_fold`, and keeps what was admitted and the fold of the order so far: the order after one delivery more begins
@@ -118,6 +120,7 @@ class Office:
     def __init__(self, opening=DEMO, keeps_fold=False, version=NEWEST):
         self.opening, self.events, self.version = opening, [], version
         self.kept, self.admitted = Fold(opening) if keeps_fold else None, []
+        self.register, self.gone, self.lost = EMPTY, frozenset(), {}
 
     @property
     def setup(self):
@@ -159,10 +162,12 @@ class Office:
 
     def answer(self, delivered):
         """The answer to a delivery, as a dict. CR and LF at both ends are no part of the text (own). One that is refused
-        keeps nothing."""
+        keeps nothing, and neither does one whose number only an archive could answer that can't be asked."""
         event, setup, before = Delivered(delivered.strip(BREAKS)), self.setup, self.deliveries
-        self.happens(event)
         fault = refusal(setup, event.text)
+        if not fault and self.is_lost(sender_of(event.text), number_of(event.text)):
+            return dict(answer='not now')
+        self.happens(event)
         if fault:
             return refused(setup, event.text, fault)
         delivery = as_delivery(event.text)
@@ -174,6 +179,15 @@ class Office:
         answer = account_answer(self.setup, code, kind)
         self.happens(Added(code, kind))
         return answer
+
+    def archive_of(self, partner, number):
+        """The place of the archive that keeps a number; None, if it is not closed."""
+        known = list(self.setup.partners)
+        return archive_of(self.register, known.index(partner) + 1, number) if partner in known else None
+
+    def is_lost(self, partner, number):
+        """Whether the archive that keeps a number can't be asked."""
+        return self.archive_of(partner, number) in self.lost
 
     def migrate(self):
         """Its store is brought to the newest version."""

@@ -1,10 +1,11 @@
 """Whether the rows of a store are those of an office: docs/TABLES.md, what Damaged means.
 
 Each check is a predicate of all tables, which are dicts of lists of rows. An old store is checked as if each weight in it
-were 0.
+were 0. Of a store that was closed the checks go by its register: what is closed may stand there or not.
 """
 from .moments import moment_of
 from .names import length_of, number_fault, slot_of
+from .register import EMPTY, last_closed, newest_closed
 from .rows import COLUMNS, OLD_VERSIONS, VERSION
 from .setup import (
     BLOCKS_HEADER, CODE_NAMES, KINDS, MOST_VISITS, PARTNERS_HEADER, are_bad_blocks, are_bad_codes, are_bad_partners,
@@ -48,15 +49,19 @@ def are_accounts(tables):
         1 <= next_number <= MOST_NUMBER + 1 for *_account, next_number in tables['partner'])
 
 
-def are_interchanges(tables):
-    """Below next each number, with a reply; above it any, without one."""
+def are_interchanges(tables, register):
+    """Below next each number that is not closed, with a reply; above it any, without one. All that is closed is below next."""
     nexts = {identity: next_number for identity, _code, _kind, next_number in tables['partner']}
-    replies = {(partner, number): reply for partner, number, _body, reply in tables['interchange']}
+    lasts = {segment.partner: last_closed(register, segment.partner) for segment in register.segments}
+    replies = {
+        (partner, number): reply for partner, number, _body, reply in tables['interchange']
+        if not 1 <= number <= lasts.get(partner, 0)}
     return all(
         partner in nexts and 1 <= number <= MOST_NUMBER and number != nexts[partner]
         and (number < nexts[partner]) == (reply != '') for (partner, number), reply in replies.items()) and all(
-        sum(partner == identity and number < next_number for partner, number in replies) == next_number - 1
-        for identity, next_number in nexts.items())
+        sum(partner == identity and number < next_number for partner, number in replies)
+        == next_number - 1 - lasts.get(identity, 0) for identity, next_number in nexts.items()) and all(
+        partner in nexts and last < nexts[partner] for partner, last in lasts.items())
 
 
 def is_passage(tables, by, partner, number, moment):
@@ -70,11 +75,16 @@ def is_kept_name(text):
     return len(text) <= 35 and all(' ' <= character <= '~' for character in text)
 
 
-def are_visits(tables):
-    """Numbered from 1 on, within the limit, of their forms, each exit whole or empty."""
+def are_visits(tables, register):
+    """Numbered from 1 on, with gaps up to the newest visit of the last archive; within the limit, of their forms, each exit whole
+    or empty."""
     limit = int(dict(tables['setting'])['visits'])
-    visits = sorted(tables['visit'])
-    if [visit[0] for visit in visits] != list(range(1, len(visits) + 1)) or len(visits) > min(limit, MOST_VISITS):
+    visits, closed = sorted(tables['visit']), newest_closed(register)
+    numbers = [visit[0] for visit in visits]
+    later = [number for number in numbers if number > closed]
+    if later != list(range(closed + 1, closed + 1 + len(later))) or any(number < 1 for number in numbers):
+        return False
+    if max(numbers, default=0) > min(limit, MOST_VISITS):
         return False
     return all(
         number_fault(box) is None and length_of(size) and laden in (0, 1) and is_kept_name(booking)
@@ -104,7 +114,7 @@ def are_places(tables):
     return is_sound([Block(*block) for block in tables['block']], yard)
 
 
-def fault_of_rows(tables, versions=(VERSION,)):
+def fault_of_rows(tables, versions=(VERSION,), register=EMPTY):
     """Store without a table or its columns; Version where it is another or none, which is before all tables but that of the
     settings; Damaged where the rows are those of no office; else None."""
     if not isinstance(tables.get('setting'), list):
@@ -113,7 +123,9 @@ def fault_of_rows(tables, versions=(VERSION,)):
         return 'Version'
     if not all(isinstance(tables.get(table), list) for table in COLUMNS):
         return 'Store'
-    checks = are_readable, is_setup, are_accounts, are_interchanges, are_visits, are_lines, are_places
+    checks = [
+        are_readable, is_setup, are_accounts, lambda tables: are_interchanges(tables, register),
+        lambda tables: are_visits(tables, register), are_lines, are_places]
     return None if all(check(tables) for check in checks) else 'Damaged'
 
 

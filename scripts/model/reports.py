@@ -6,7 +6,7 @@ answers are.
 from . import lookups
 from .deliveries import first_text, run
 from .keys import PARTS, read_key
-from .lookups import standing
+from .lookups import own_visits, standing, with_archives
 from .moments import day_number
 from .names import slot_text
 from .office import json_text
@@ -48,15 +48,10 @@ def visit_text(place, visit):
     return '%s OUT %s DAYS %d' % (text, passage_text(visit.exit), days)
 
 
-def numbered(terminal):
-    """All visits with their numbers, from 1 on."""
-    return list(enumerate(terminal.visits, start=1))
-
-
 def visits(office, box):
     """A container's visits."""
-    lines = [visit_text(place, visit) for place, visit in numbered(office.fold().terminal) if visit.number == box]
-    return text_of(['VISITS ' + box] + lines) if lines else None
+    lines = [visit_text(place, visit) for place, visit in own_visits(office) if visit.number == box]
+    return with_archives(office, ['VISITS ' + box] * (lines != []) + lines)
 
 
 # ---- vessels
@@ -111,8 +106,17 @@ def reply(office, partner, number):
 REPORTS = {
     'yard': yard, 'yardcsv': yardcsv, 'picture': picture, 'blocks': lookups.blocks, 'calls': lookups.calls,
     'partners': lookups.partners, 'partner': lookups.partner, 'health': lookups.health, 'metrics': lookups.metrics,
+    'archives': lookups.archives,
     'visits': visits, 'container': lookups.container, 'list': vessel_list, 'work': lookups.work, 'ticket': ticket,
     'reply': reply, 'contrl': lookups.contrl}
+
+
+# those on one interchange
+OF_NUMBERS = ('ticket', 'reply', 'contrl')
+
+
+class Lost(Exception):
+    """What is asked for is in an archive that can't be asked."""
 
 
 def has_key(kind):
@@ -128,6 +132,8 @@ def report(office, kind, key=''):
     if not has_key(kind):
         return REPORTS[kind](office)
     values = read_key(kind, key)
+    if values and kind in OF_NUMBERS and office.is_lost(*values):
+        raise Lost
     return None if values is None else REPORTS[kind](office, *values)
 
 

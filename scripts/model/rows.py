@@ -9,6 +9,7 @@ import tempfile
 from contextlib import closing, contextmanager
 
 from .deliveries import kept, run
+from .lookups import own_visits
 from .names import slot_text
 from .office import json_text
 from .rules import NEWEST, RULES
@@ -24,6 +25,11 @@ COLUMNS = {
     'setting': 'name value',
     'block': 'letter bays lanes tiers',
 }
+# those of the register beside a store
+REGISTER_COLUMNS = {'archive': 'place file visits', 'segment': 'partner archive last', 'closed_for': 'file'}
+REGISTER = '-archives'
+# what stands behind the path of a store in the names of its files
+ENDS = ('', '-wal', REGISTER, REGISTER + '-wal')
 VERSION = str(NEWEST)
 OLD_VERSIONS = {str(version) for version in RULES} - {VERSION}
 # before the newest version a visit had no weight
@@ -48,12 +54,13 @@ def partner_rows(office):
 
 
 def interchange_rows(office):
-    """The first text under each number that is used, with its reply where it was taken, in the order in which they came."""
+    """The first text under each number that is used and not closed, with its reply where it was taken, in the order in which
+    they came."""
     replies, known = office.fold().replies, identities(office.setup)
     return [
         (known[partner], number, text.encode('latin-1'),
          json_text(replies[partner, number]) if (partner, number) in replies else '')
-        for partner, number, text in kept(office.deliveries)]
+        for partner, number, text in kept(office.deliveries) if office.archive_of(partner, number) is None]
 
 
 def passage_columns(office, passage):
@@ -65,12 +72,12 @@ def passage_columns(office, passage):
 
 
 def visit_rows(office):
-    """All visits, numbered as they were opened."""
+    """All visits, numbered as they were opened, but for those that a closing took."""
     return [
         (place, visit.number, visit.size_type, int(visit.is_full), visit.booking, *passage_columns(office, visit.entry),
          slot_text(visit.entry_slot), *passage_columns(office, visit.exit),
          *([visit.kilos] if office.version == NEWEST else []))
-        for place, visit in enumerate(office.fold().terminal.visits, start=1)]
+        for place, visit in own_visits(office)]
 
 
 def place_rows(office):
@@ -107,7 +114,24 @@ def rows_of(office):
     return {name: sorted(of(office)) for name, of in tables.items()}
 
 
+def register_rows(office):
+    """What the tables of the register beside it should hold."""
+    register = office.register
+    return {
+        'archive': sorted(map(tuple, register.archives)), 'segment': sorted(map(tuple, register.segments)),
+        'closed_for': [(register.mark,)] if register.mark else []}
+
+
 # ---- what a store holds
+
+def copy_files(path, other):
+    """Copies the files of a store, its log and its register among them, in place of whatever has the names of the other's."""
+    for end in ENDS:
+        if os.path.exists(other + end):
+            os.remove(other + end)
+        if os.path.exists(path + end):
+            shutil.copyfile(path + end, other + end)
+
 
 def copied_to(path, folder):
     """A copy of a store, and of the log beside it, if there is one, in a folder; gives its path."""
@@ -134,6 +158,13 @@ def rows_in(path, columns=None):
             return tables_of(store, columns), faults_of(store)
         except sqlite3.DatabaseError as fault:
             return {}, [str(fault)]
+
+
+def registered_in(path):
+    """What the tables of the register beside a store hold, and what is wrong with it; no rows, where there is none."""
+    if not os.path.exists(path + REGISTER):
+        return {table: [] for table in REGISTER_COLUMNS}, []
+    return rows_in(path + REGISTER, REGISTER_COLUMNS)
 
 
 def standing_in(path):

@@ -8,19 +8,20 @@ import tempfile
 from collections import Counter
 from functools import partial
 
-from .commands import texts
+from .commands import outcome
 from .days import NEWCOMERS, Day, streamed
 from .deliveries import kept_texts
 from .http import response
 from .office import Office, json_text
-from .reports import WHOLE, has_key, printed, text_of
+from .reports import WHOLE, has_key, text_of
 from .requests import every_key, question, random_requests
-from .rows import rows_in, rows_of
+from .rows import REGISTER_COLUMNS, register_rows, registered_in, rows_in, rows_of
 from .setup import DEMO, read_setup
 from .setups import Files, at_limits, files_of
 from .stream import answers, lines, status
 
 SECONDS = 60                # that an answer over a socket may take
+LONGEST = 600               # seconds that a command may take
 
 # how many set-ups are tried, lists of deliveries over a store, requests by HTTP, and what is asked after each list
 SETUPS = 150
@@ -49,7 +50,11 @@ class Program:
 
     def run(self, *words, given=''):
         """What it prints, what it tells of faults, and its status, with what is given to its standard input."""
-        done = subprocess.run([self.path, *words], input=given.encode('latin-1'), capture_output=True, check=False)
+        whole = dict(input=given.encode('latin-1'), capture_output=True, check=False, timeout=LONGEST)
+        try:
+            done = subprocess.run([self.path, *words], **whole)
+        except subprocess.TimeoutExpired:
+            return '', 'it does not end', None
         return done.stdout.decode('utf-8'), done.stderr.decode('utf-8'), done.returncode
 
     def init(self, partners, blocks):
@@ -72,6 +77,10 @@ class Program:
     def migrate(self, old):
         """Brings an old store to the newest version, as this one."""
         return self.run('migrate', old, self.store)
+
+    def close(self, archive):
+        """Puts away what an archive keeps."""
+        return self.run('close', self.store, archive)
 
     def report(self, kind, key):
         """A report; those on the whole terminal have no key."""
@@ -161,10 +170,9 @@ class Beside:
         self.expect('account ' + answer['answer'], name, wanted, program.account(code, kind))
 
     def report(self, name, program, office, kind, key=''):
-        """A report, or that there is none."""
-        text, ended = printed(office, kind, key)
-        found = 'found' if ended == 0 else 'not found'
-        wanted, got = (text, '', ended), program.report(kind, key)
+        """A report, or that there is none, or that it can't be had."""
+        wanted = outcome({'store': office}, ['report', 'store', kind, *([key] if has_key(kind) else [])])
+        found, got = {0: 'found', 1: 'not found'}.get(wanted[2], 'not to be had'), program.report(kind, key)
         self.expect('report %s %s' % (kind, found), '%s, %s' % (name, key), wanted, got)
 
     def rows(self, name, program, office):
@@ -175,12 +183,20 @@ class Beside:
             model, stored = Counter(wanted.get(table, [])), Counter(got.get(table, []))
             self.expect('table ' + table, name, sorted(model - stored), sorted(stored - model))
 
+    def register(self, name, path, office):
+        """The rows of the register beside a store."""
+        wanted, (got, faults) = register_rows(office), registered_in(path)
+        self.expect('integrity and foreign keys', name, [], faults)
+        for table in REGISTER_COLUMNS:
+            self.expect('register, table ' + table, name, wanted[table], got.get(table))
+        self.expect('register, tables', name, set(REGISTER_COLUMNS), set(got))
+
     def texts(self, name, program, office, chance):
         """The texts that are kept, from the first and from another one on, after the last, and beyond it."""
         count = len(kept_texts(office.deliveries))
         for passed in sorted({0, chance.randint(0, count), count, count + 1}):
-            wanted = texts({'store': office}, 'store', str(passed))
-            self.expect('texts', '%s, after %d' % (name, passed), (wanted[0], '', wanted[1]), program.texts(passed))
+            wanted = outcome({'store': office}, ['texts', 'store', str(passed)])
+            self.expect('texts', '%s, after %d' % (name, passed), wanted, program.texts(passed))
 
     def rebuilt(self, name, program, office):
         """An office of the same set-up and accounts, to which the texts are delivered that this one keeps: it has the same

@@ -12,8 +12,10 @@ def answers(office, stream):
 
 
 def status(given):
-    """0 where each was taken, repeated or waits; 1 where one was refused, a clash or a cut. (A 3 is for a want of memory
-    or a port that fails, of which a model knows nothing.)"""
+    """0 where each was taken, repeated or waits; 1 where one was refused, a clash or a cut; 3 where one was not now. (Another 3
+    is for a want of memory or a port that fails, of which a model knows nothing.)"""
+    if any(answer['answer'] == 'not now' for answer in given):
+        return 3
     return 1 if any(answer['answer'] in ('refused', 'clash', 'cut') for answer in given) else 0
 
 

@@ -1,0 +1,80 @@
+"""How a store's history is put away: which files `close` takes for an archive of a store, and what goes from it
+(crates/office_closing/README.md).
+
+Both are offices of the model, the archive a copy of the store as it was some time before. What is compared are their rows.
+"""
+from .register import Archive, Segment, is_file_name, is_sound, last_closed, with_archive
+from .rows import interchange_rows, partner_rows, visit_rows
+
+
+# ---- what an archive closes
+
+def closed_by(archive):
+    """What is closed of each account: the numbers above those that were closed before, and below its next."""
+    lasts = [(identity, next_number - 1) for identity, _code, _kind, next_number in partner_rows(archive)]
+    return [(identity, last) for identity, last in lasts if last_closed(archive.register, identity) < last]
+
+
+def raised(archive, file):
+    """The register of a store with this archive, after those that the archive's own register has."""
+    place = len(archive.register.archives) + 1
+    visits = max((visit[0] for visit in visit_rows(archive)), default=0)
+    segments = [Segment(identity, place, last) for identity, last in closed_by(archive)]
+    return with_archive(archive.register._replace(mark=None), Archive(place, file, visits), segments)
+
+
+# ---- what has to be the same
+
+def is_over(visit):
+    """Whether a visit, a row, has an exit."""
+    return visit[10] != 0
+
+
+def visits_to_go(store, archive):
+    """The rows of the archive's visits that are over, but for the store's newest: by their numbers."""
+    newest = max((visit[0] for visit in visit_rows(store)), default=0)
+    return {visit[0]: visit for visit in visit_rows(archive) if is_over(visit) and visit[0] != newest}
+
+
+def are_alike(store, archive):
+    """Whether the store keeps what goes as the archive does: text and reply under each number that is to be closed, and each
+    visit that is to go, if the store has it."""
+    own = {row[:2]: row for row in interchange_rows(store)}
+    kept = {row[:2]: row for row in interchange_rows(archive)}
+    lasts = dict(closed_by(archive))
+    closed = [pair for pair in kept if pair[1] <= lasts.get(pair[0], 0)]
+    visits, going = {visit[0]: visit for visit in visit_rows(store)}, visits_to_go(store, archive)
+    return all(own.get(pair) == kept[pair] for pair in closed) and all(
+        visits[number] == going[number] for number in going if number in visits)
+
+
+def is_of_store(store, archive):
+    """Of the same terminal, its accounts the first of the store's, none of its next numbers above the store's, its newest visit
+    not newer."""
+    own, copied = partner_rows(store), partner_rows(archive)
+    newest = [max((visit[0] for visit in visit_rows(office)), default=0) for office in (store, archive)]
+    return (
+        store.setup.terminal == archive.setup.terminal
+        and [row[:3] for row in own[:len(copied)]] == [row[:3] for row in copied]
+        and all(row[3] <= other[3] for row, other in zip(copied, own)) and newest[1] <= newest[0])
+
+
+# ---- closing
+
+def close(store, archive, store_file, archive_file):
+    """Closes a store by an archive, which are the files of these names in one folder. The fault, or None. A closing that was
+    done is done again if the archive is the store's last."""
+    if store.register.mark:
+        return 'Closed'
+    after = raised(archive, archive_file)
+    is_done = archive.register.mark == store_file and store.register == after
+    is_new = archive.register.mark in (None, store_file) and store.register == archive.register._replace(mark=None)
+    if not is_of_store(store, archive) or not (is_done or is_new) or not is_sound(after) or not is_file_name(store_file):
+        return 'Archive'
+    if not is_done and not are_alike(store, archive):
+        return 'Archive'
+    going = visits_to_go(store, archive)
+    archive.register = archive.register._replace(mark=store_file)
+    store.register = after
+    store.gone = store.gone | set(going)
+    return None
