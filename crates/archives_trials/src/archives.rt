@@ -7,6 +7,7 @@ use office_archives::{ArchivedDesk, ManyArchives, Shelf};
 use office_checks::Closed;
 use office_closing::{Numbers, clear, clear_visits};
 use office_desk::Desk;
+use office_queries::{NotNow, Query, Report};
 use office_register::{Archive, Register, Segment, close_with, create_register, read_register};
 use office_replies::{AccountAnswer, AddAccount, Deliver};
 use office_setup::{Account, Accounts, Setup};
@@ -189,6 +190,34 @@ fn an_account_is_added_beside_archives(rt: HostRuntime) -> Result<(), Fail> {
     assert!(rt; is_added);
     for text in [TEXTS[3], TEXTS[0]] {
         assert!(rt; office.deliver(alloc, text).status() == 200);
+    }
+    Ok(())
+}
+
+/// Whether both are reports, and one text.
+fn are_alike(one: &Result<Option<String>, NotNow>, other: &Result<Option<String>, NotNow>) -> bool {
+    match (one, other) {
+        (Ok(Some(one)), Ok(Some(other))) => one.as_bytes() == other.as_bytes(),
+        _ => false,
+    }
+}
+
+#[test]
+fn an_archive_reports_as_the_store_that_it_was(rt: HostRuntime) -> Result<(), Fail> {
+    let alloc = rt.alloc();
+    let conn = stored(&rt, alloc)?;
+    assert!(rt; conn.is_autocommit());
+    let mut was = Desk::open(alloc, conn, Closed::nothing(alloc))?;
+    let archive = Some(stored(&rt, alloc)?);
+    let mut office = opened(&rt, alloc, Drawer { archive })?;
+    for query in [Query::Yard, Query::Partners, Query::Metrics] {
+        let expected = was.report(alloc, &query);
+        let found = office.archive_report(alloc, 1, &query);
+        assert!(rt; are_alike(&expected, &found));
+    }
+    for place in [0, 2] {
+        let found = office.archive_report(alloc, place, &Query::Yard);
+        assert!(rt; matches!(found, Ok(None)));
     }
     Ok(())
 }

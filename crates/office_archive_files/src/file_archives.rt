@@ -2,6 +2,7 @@ ghost use Rattle.std.specs.Prelude.{◌≡◌};
 
 use crate::shelf::FileShelf;
 use office_archives::{Archives, ManyArchives};
+use office_queries::Query;
 use office_tables::{Kept, TableFault};
 use sqlite::{FileFrom, FileStore, Unknown};
 use std::alloc::Global;
@@ -42,6 +43,19 @@ impl<'a> Archives for FileArchives<'a> {
         number: u32,
     ) -> Result<String, TableFault> {
         self.archives.ticket(alloc, code, partner, number)
+    }
+
+    fn report(
+        &mut self,
+        alloc: Global,
+        place: u16,
+        query: &Query,
+    ) -> Result<Option<String>, TableFault> {
+        self.archives.report(alloc, place, query)
+    }
+
+    fn place_of(&self, partner: u16, number: u32) -> Option<u16> {
+        self.archives.place_of(partner, number)
     }
 
     fn count(&self) -> usize {

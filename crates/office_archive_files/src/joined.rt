@@ -78,6 +78,15 @@ impl<S: Alter + Drop, A: Archives + Drop> Report for Joined<S, A> {
     fn texts(&mut self, alloc: Global, from: u32) -> Result<Option<Vec<u8>>, NotNow> {
         self.office.texts(alloc, from)
     }
+
+    fn archive_report(
+        &mut self,
+        alloc: Global,
+        place: u16,
+        query: &Query,
+    ) -> Result<Option<String>, NotNow> {
+        self.office.archive_report(alloc, place, query)
+    }
 }
 
 impl<S: Alter, A: Archives> Faults for Joined<S, A> {

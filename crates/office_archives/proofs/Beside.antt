@@ -93,6 +93,13 @@ module _ {S A : Type 0} (g : Ghosts S) (are : List Archive → A → Type 0) (ol
       closed_told content es stand.list s.archived s.own s.whole s.given s.parts s.hold code p n here low high asked found is
       (tells stand.list stand.these (closed_here content es stand.list s.archived s.own s.whole s.given s.parts s.hold code p n here low high))
 
+  -- a number that the desk knows for closed is closed in an archive
+  pub closed_there : (code : List ℕ) (n p : ℕ) → partner_called (setup_content old.setup) code ≡ Some p → 1 ≤ n → n ≤ last_closed old.closed p → (content : SetupContent) (es : List Event) (stand : StandTogether g are content es old a) → IsClosedIn stand.list p n
+  closed_there code n p called low reach content es stand =
+      let s = stand.stands in
+      let high : n ≤ s.archived.last_closed p = omega (arith, reach, s.knows.numbers p) in
+      closed_here content es stand.list s.archived s.own s.whole s.given s.parts s.hold code p n (called_here content es stand code p called) low high
+
 -- it is asked neither of a container nor of a number
 pub is_neither : (asked : Query) → ((container : BoxNumber) → asked ≡ query.Visits container → ⊥) → ((container : BoxNumber) → asked ≡ query.Container container → ⊥) → ((code : String Global) (number : ℕ) → asked ≡ query.Reply code number → ⊥)
     → ((code : String Global) (number : ℕ) → asked ≡ query.Contrl code number → ⊥) → ((code : String Global) (number : ℕ) → asked ≡ query.Ticket code number → ⊥) → IsOfNeither asked

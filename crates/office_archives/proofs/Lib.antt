@@ -10,3 +10,4 @@ pub mod Looking
 pub mod Told
 pub mod Closed
 pub mod Beside
+pub mod OfArchive

@@ -124,17 +124,6 @@ module _ {S : Type 0} (g : Ghosts S) (list : List Archive) (content : SetupConte
     are = subst (StoresRows stands.rows) (sym left) (stores stands.rows (state g old.conn).committed stands.holds.has);
   }
 
--- a desk looks at nothing
-pub looks_nowhere : {S : Type 0} (g : Ghosts S) (desk : Desk S g) → OnlyLooks g desk desk
-looks_nowhere g desk = record {
-  same = λ sound content es stands. stands;
-  holds = λ sound rows terminal holds. holds;
-  committed = λ sound. refl;
-  closed = refl;
-  crash = λ sound clean schema db left. left;
-  stays = λ sound. sound;
-}
-
 module _ {S A : Type 0} (g : Ghosts S) (is_sound : A → Type 0) (are : List Archive → A → Type 0) where
   -- the desk was looked at, and the archives are those that they were
   pub looks_on : (old new : Desk S g) (a b : A) → (IsSound g old → (db : Trees) → (state g old.conn).may_leave db → db ≡ (state g old.conn).committed.trees) → OnlyLooks g old new → (is_sound b → (list : List Archive) → are list a → are list b)

@@ -5,7 +5,6 @@ use Rattle.std.specs.Prelude.{not, String, string_bytes}
 use Rattle.std.specs.Option.{option_map, option_and_then}
 use Rattle.std.specs.declared.alloc.Global.{Global}
 use Rattle.std.proofs.lemmas.Option.{same_Some}
-use Rattle.sqlite.specs.Effect.{Database}
 use Rattle.partner_core.specs.Answers.{Repeat, Clash}
 use Rattle.partner_core.specs.Standings.{is_same_text}
 use Rattle.office_replies.specs.Contents.{content_of}
@@ -16,20 +15,16 @@ use Rattle.office_tables.specs.declared.interchanges.Kept.{Kept}
 use Rattle.office_history.specs.After.{AreKeptOnce, reply_if_any, reply_in}
 use Rattle.office_history.specs.Cascade.{text_in}
 use Rattle.office_delivery.proofs.ReadLemmas.{one_kept, text_kept}
-use Rattle.office_parts.specs.Archives.{Archive, archive_of, reaches, text_by}
+use Rattle.office_parts.specs.Archives.{Archive, archive_of, text_by}
 use Rattle.office_parts.proofs.Lookups.{archives_answered}
 use Rattle.office_desk.specs.Answers.{answer_by_model}
-use Rattle.office_archives.specs.Keeping.{IsClosedIn, IsKeptIn, AreOneIn}
+use Rattle.office_archives.specs.Keeping.{IsClosedIn, IsKeptIn}
 use Rattle.office_archives.specs.Answering.{AnswersClosed}
 
 reply_is : (reply : Option (String Global)) (text : List ℕ) → RepliesAs reply text → reply_if_any text ≡ option_map string_bytes reply
 reply_is None text is = ap reply_if_any is
 reply_is (Some reply) [] is = absurd (is.1 refl)
 reply_is (Some reply) (byte ∷ bytes) is = ap Some is.0
-
-one_found : {A : Type 0} (is : Bool) (x : A) → is_some (cond is (Some x) None) ≡ true → cond is (Some x) None ≡ Some x
-one_found true x e = refl
-one_found false x e = cc
 
 told_some : {A B : Type 0} (f : A → Option B) (o : Option A) (y : B) → option_and_then f o ≡ Some y → is_some o ≡ true
 told_some f None y e = cc
@@ -46,20 +41,6 @@ told_by archives archive p n kept reached once is = record {
   reply = ap (option_and_then (λ (a : Archive). reply_in a.rows p n)) reached
       ∙ ap (option_and_then (λ (i : Interchange). reply_if_any i.reply)) (one_kept p n archive.rows is.0 once is.1) ∙ reply_is kept.reply is.0.reply is.3;
 }
-
--- the one archive is each number's
-pub only_one : (archives : List Archive) (db : Database) (p n : ℕ) (archive : Archive) → (are : AreOneIn archives db) → archive_of archives p n ≡ Some archive → archive ≡ are.archive
-only_one archives db p n archive are reached = by (reaches p n are.archive) (sym (ap (λ all. archive_of all p n) are.is_all) ∙ reached)
-  where
-    by : (is : Bool) → cond is (Some are.archive) None ≡ Some archive → archive ≡ are.archive
-    by true e = sym (same_Some are.archive archive e)
-    by false e = cc
-
--- so of the one archive
-pub one_told : (archives : List Archive) (db : Database) (p n : ℕ) (kept : Kept) → (are : AreOneIn archives db) → IsClosedIn archives p n → IsKept p n are.archive.rows (Some kept) → IsKeptIn archives p n kept
-one_told archives db p n kept are closed is =
-    told_by archives are.archive p n kept
-    (ap (λ all. archive_of all p n) are.is_all ∙ one_found (reaches p n are.archive) are.archive (subst (λ all. IsClosedIn all p n) are.is_all closed)) are.kept_once is
 
 -- the same text is a repeat with the reply that is kept
 pub repeat_answers : (archives : List Archive) (p : ℕ) (code : List ℕ) (n : ℕ) (kept : Kept) (text : List ℕ) (reply : String Global) (response : Response) →

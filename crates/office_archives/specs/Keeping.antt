@@ -1,5 +1,5 @@
--- What the archives of a store keep under a number.
-use Rattle.std.specs.Prelude.{◌≡◌, ℕ, List, [], ◌∷◌, Some, is_some, string_bytes, true}
+-- What the archives of a store keep: under a number, and as the stores that they were.
+use Rattle.std.specs.Prelude.{◌≡◌, ℕ, ◌<◌, List, Option, Some, is_some, string_bytes, true}
 use Rattle.std.specs.Option.{option_map}
 use Rattle.sqlite.specs.Effect.{Database}
 use Rattle.terminal_core.specs.State.{TerminalState}
@@ -8,10 +8,13 @@ use Rattle.office_rows.specs.Stored.{HasRows}
 use Rattle.office_setup.specs.Setups.{SetupContent}
 use Rattle.office_checks.specs.Closed.{ClosedContent}
 use Rattle.office_loading.specs.Tables.{LoadsOwn}
-use Rattle.office_history.specs.After.{AreKeptOnce, reply_in}
+use Rattle.office_history.specs.After.{reply_in}
+use Rattle.office_queries.specs.declared.query.Query.{Query}
 use Rattle.office_reports.specs.Tickets.{ticket_text}
+use Rattle.office_desk.specs.Reports.{TellsOf}
 use Rattle.office_tables.specs.declared.interchanges.Kept.{Kept}
 use Rattle.office_parts.specs.Archives.{Archive, archive_of, text_by, reply_by}
+use Rattle.office_archives.specs.Shelves.{archive_at}
 
 -- the number is closed: one of the archives reaches it
 abbrev pub IsClosedIn : List Archive → ℕ → ℕ → Type 0
@@ -21,13 +24,6 @@ IsClosedIn archives partner number = is_some (archive_of archives partner number
 pub record IsKeptIn (archives : List Archive) (partner number : ℕ) (kept : Kept) : Type 0 where
   pub text : text_by archives partner number ≡ Some kept.text.items
   pub reply : reply_by archives partner number ≡ option_map string_bytes kept.reply
-
--- there is one archive, whose rows these are; an office keeps no interchange twice
-pub record AreOneIn (archives : List Archive) (db : Database) : Type 0 where
-  pub archive : Archive
-  pub is_all : archives ≡ archive ∷ []
-  pub has : HasRows archive.rows db
-  pub kept_once : AreKeptOnce archive.rows.interchanges
 
 -- The ticket of an interchange that was taken, of the partner with a code: by the terminal of a store that has these rows,
 -- whatever is closed of it.
@@ -46,3 +42,27 @@ abbrev pub IsTicketIn : List Archive → (code : List ℕ) → (partner number :
 IsTicketIn archives code partner number ticket =
     (archive : Archive) → archive_of archives partner number ≡ Some archive →
     IsTicketOf archive.rows code partner number ticket
+
+-- ---- an archive as the store that it was
+
+-- what a store that has these rows tells at a query, whatever is closed of it
+pub record IsReportOf (rows : Rows) (asked : Query) (found : Option (List ℕ)) : Type 0 where
+  pub db : Database
+  pub has : HasRows rows db
+  pub closed : ClosedContent
+  pub content : SetupContent
+  pub terminal : TerminalState
+  pub loads : LoadsOwn closed db content terminal
+  pub tells : TellsOf content terminal rows asked found
+
+-- it is what the archive at that place tells, as the store that it was
+abbrev pub IsReportIn : List Archive → (place : ℕ) → Query → Option (List ℕ) → Type 0
+IsReportIn archives place asked found =
+    (archive : Archive) → archive_at archives place ≡ Some archive → IsReportOf archive.rows asked found
+
+-- the number is closed, and an archive before that place keeps it
+pub record IsClosedBefore (archives : List Archive) (place partner number : ℕ) : Type 0 where
+  pub closed : IsClosedIn archives partner number
+  pub earlier : ℕ
+  pub before : earlier < place
+  pub keeps : archive_of archives partner number ≡ archive_at archives earlier

@@ -1,5 +1,5 @@
 -- What a store and its archives report together.
-use Rattle.std.specs.Prelude.{◌≡◌, ◌==◌, ℕ, ◌≤◌, List, [], ◌∷◌, ◌++◌, length, Option, None, Some, codes, decimal, string_bytes, if◌then◌else◌}
+use Rattle.std.specs.Prelude.{◌≡◌, ◌⊎◌, ◌==◌, ℕ, ◌≤◌, ◌-◌, List, [], ◌∷◌, ◌++◌, length, Option, None, Some, codes, decimal, string_bytes, if◌then◌else◌}
 use Rattle.std.specs.Option.{unwrap_or}
 use Rattle.office_replies.specs.Events.{Event}
 use Rattle.office_rows.specs.Rows.{Rows}
@@ -15,7 +15,7 @@ use Rattle.office_archive_reports.specs.Closed.{closed_contrl, closed_reply}
 use Rattle.office_archive_reports.specs.Copies.{AreCopies, GoByNumbers}
 use Rattle.office_archive_reports.specs.Counted.{TellsOwnMetrics}
 use Rattle.office_archive_reports.specs.Stayed.{GoOldestFirst, TellsWhatStays, container_if_there}
-use Rattle.office_archives.specs.Keeping.{IsTicketIn}
+use Rattle.office_archives.specs.Keeping.{IsClosedBefore, IsReportIn, IsTicketIn}
 
 -- ---- containers
 
@@ -85,3 +85,40 @@ TellsTogether content es archives archived whole (query.Ticket code number) foun
     1 ≤ number → GoByNumbers archived → AreCopies content es (λ partner. 0) archives →
     TellsAfter content es (query.Ticket code number) found
 TellsTogether content es archives archived whole asked found = TellsAfter content es asked found
+
+-- ---- what one archive reports
+
+-- of a container: what the archive's own rows tell, and in a last line how many archives there were when it was closed
+abbrev pub TellsOwnContainer : List Archive → (place : ℕ) → Query → Option (List ℕ) → Type 0
+TellsOwnContainer archives place asked found =
+    (own : Option (List ℕ)) × IsReportIn archives place asked own × (found ≡ with_archives (place - 1) own)
+
+-- of a number: what the archive's own rows tell, or of one that was closed before, its archive
+abbrev pub TellsOwnNumber : List Archive → (place : ℕ) → Query → (code : List ℕ) → (number : ℕ) → Option (List ℕ) →
+    Type 0
+TellsOwnNumber archives place asked code number found =
+    IsReportIn archives place asked found
+    ⊎ ((partner : ℕ) × IsClosedBefore archives place partner number × TellsClosed archives asked code partner number found)
+
+-- what the archive at a place tells at a query, as the store that it was, with the archives before it
+abbrev pub TellsAsStore : List Archive → (place : ℕ) → Query → Option (List ℕ) → Type 0
+TellsAsStore archives place (query.Visits container) found =
+    TellsOwnContainer archives place (query.Visits container) found
+TellsAsStore archives place (query.Container container) found =
+    TellsOwnContainer archives place (query.Container container) found
+TellsAsStore archives place (query.Reply code number) found =
+    TellsOwnNumber archives place (query.Reply code number) (string_bytes code) number found
+TellsAsStore archives place (query.Contrl code number) found =
+    TellsOwnNumber archives place (query.Contrl code number) (string_bytes code) number found
+TellsAsStore archives place (query.Ticket code number) found =
+    TellsOwnNumber archives place (query.Ticket code number) (string_bytes code) number found
+TellsAsStore archives place asked found = IsReportIn archives place asked found
+
+-- there is an archive at that place, the first at 1
+abbrev pub IsPlace : List Archive → (place : ℕ) → Type 0
+IsPlace archives place = (1 ≤ place) × (place ≤ length archives)
+
+-- it tells so, and where there is none nothing is told
+pub record TellsOfArchive (archives : List Archive) (place : ℕ) (asked : Query) (found : Option (List ℕ)) : Type 0 where
+  pub tells : IsPlace archives place → TellsAsStore archives place asked found
+  pub nothing : (IsPlace archives place → ⊥) → found ≡ None

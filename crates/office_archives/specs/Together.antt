@@ -11,7 +11,7 @@ use Rattle.office_replies.specs.declared.accounts.AccountAnswer.{AccountAnswer}
 use Rattle.office_replies.specs.declared.accounts.AccountAnswer.TheVariants as account
 use Rattle.office_replies.specs.declared.deliver.Response.{Response}
 use Rattle.office_replies.specs.declared.deliver.Response.TheVariants as response
-use Rattle.office_queries.specs.Looking.{Look, Tells, report, texts_after}
+use Rattle.office_queries.specs.Looking.{Look, Tells, of_archive, report, texts_after}
 use Rattle.office_queries.specs.declared.query.NotNow.{NotNow}
 use Rattle.office_queries.specs.declared.query.Query.{Query}
 use Rattle.office_checks.specs.Closed.{ClosedContent, closed_content}
@@ -28,7 +28,7 @@ use Rattle.office_desk.specs.declared.desk.Desk.{Desk}
 use Rattle.office_parts.specs.Archives.{Archive, Hold}
 use Rattle.office_parts.specs.Parts.{Archived, ArePartsAfter}
 use Rattle.office_archives.specs.Standing.{IsOwnWithRest, KnowsClosed, StandsBeside}
-use Rattle.office_archives.specs.Telling.{TellsTogether}
+use Rattle.office_archives.specs.Telling.{TellsOfArchive, TellsTogether}
 
 -- the archives are those of a store, and desk and archives stand after the events
 pub record StandTogether {S A : Type 0} (g : Ghosts S) (are : List Archive → A → Type 0) (content : SetupContent)
@@ -140,6 +140,13 @@ TellsBeside g are desk archives asked found =
     (content : SetupContent) (es : List Event) (stand : StandTogether g are content es desk archives)
     → TellsTogether content es stand.list stand.stands.archived stand.stands.whole asked found
 
+-- what is told of the archive at a place
+abbrev pub TellsOfOne : {S A : Type 0} (g : Ghosts S) (are : List Archive → A → Type 0) → Desk S g → A → (place : ℕ) →
+    Query → Option (List ℕ) → Type 0
+TellsOfOne g are desk archives place asked found =
+    (content : SetupContent) (es : List Event) (stand : StandTogether g are content es desk archives)
+    → TellsOfArchive stand.list place asked found
+
 -- what is told of whatever is looked at: a page of the kept texts by the store's own rows, if it has no archives
 abbrev pub ShowsBeside : {S A : Type 0} (g : Ghosts S) (are : List Archive → A → Type 0) → Desk S g → A → Look →
     Option (List ℕ) → Type 0
@@ -148,8 +155,9 @@ ShowsBeside g are desk archives (texts_after from) found =
     DeskHands g desk from found
     × ((content : SetupContent) (es : List Event) (stand : StandTogether g are content es desk archives)
     → stand.list ≡ [])
+ShowsBeside g are desk archives (of_archive place asked) found = TellsOfOne g are desk archives place asked found
 
--- A report, or a page of the kept texts, was asked for. What is told; desk and archives were only looked at; why it can't be
+-- A report, a page of the kept texts, or an archive's report was asked for. What is told; desk and archives were only looked at; why it can't be
 -- told now; and where it's told that the office can be asked, the store is open.
 pub record LooksTogether {S A : Type 0} (g : Ghosts S) (is_sound : A → Type 0) (are : List Archive → A → Type 0)
     (old : Desk S g) (before : A) (look : Look) (found : Result (Option (List ℕ)) NotNow) (new : Desk S g) (after : A)

@@ -8,12 +8,13 @@ ghost use Rattle.office_archives.specs.Together.{EnrolsTogether, LeadsTogether, 
 ghost use Rattle.office_checks.specs.Closed.{last_closed};
 ghost use Rattle.office_desk.specs.Desks.{IsSound};
 ghost use Rattle.office_desk.specs.Reports.{IsOpenFor};
-ghost use Rattle.office_queries.specs.Looking.{report, texts_after};
+ghost use Rattle.office_queries.specs.Looking.{of_archive, report, texts_after};
 ghost use Rattle.office_queries.specs.declared.query.Query.{Query};
 ghost use Rattle.sqlite.specs.Held.{state};
 ghost use Rattle.sqlite.specs.State.{HasCleanDisk};
 
 use crate::answering::answer_closed;
+use crate::archive_reports::tell_of_archive;
 use crate::archives::Archives;
 use crate::reports::{partner_called, tell_closed, with_archives};
 use edi_segments::interchange_text;
@@ -208,6 +209,25 @@ impl<S: Alter + Drop, A: Archives + Drop> ArchivedDesk<S, A> {
         self.desk.note(TableFault::Version);
         Err(NotNow)
     }
+
+    /// What the archive at a place tells at a query; NotNow, if it met a fault, which the desk keeps.
+    fn answer_archive(
+        &mut self,
+        alloc: Global,
+        place: u16,
+        query: &Query,
+    ) -> Result<Option<String>, NotNow>
+        ensures looks { LooksTogether S.Store A.is_sound A.are self.old.desk self.old.archives (of_archive place query.now)
+            (result_map_both (option_map string_bytes) (λ refusal. refusal) result) self.new.desk self.new.archives }
+    {
+        match tell_of_archive(alloc, &self.desk, &mut self.archives, place, query) {
+            Ok(found) => Ok(found),
+            Err(fault) => {
+                self.desk.note(fault);
+                Err(NotNow)
+            }
+        }
+    }
 }
 
 impl<S: Alter + Drop, A: Archives + Drop> Deliver for ArchivedDesk<S, A> {
@@ -244,5 +264,14 @@ impl<S: Alter + Drop, A: Archives + Drop> Report for ArchivedDesk<S, A> {
 
     fn texts(&mut self, alloc: Global, from: u32) -> Result<Option<Vec<u8>>, NotNow> {
         self.answer_texts(alloc, from)
+    }
+
+    fn archive_report(
+        &mut self,
+        alloc: Global,
+        place: u16,
+        query: &Query,
+    ) -> Result<Option<String>, NotNow> {
+        self.answer_archive(alloc, place, query)
     }
 }

@@ -1,7 +1,10 @@
+ghost use Rattle.std.specs.Option.{option_and_then, option_map};
 ghost use Rattle.std.specs.Prelude.{◌≡◌, IfOk, List, length, string_bytes};
-ghost use Rattle.office_archives.specs.Keeping.{IsClosedIn, IsKeptIn, IsTicketIn};
-ghost use Rattle.office_parts.specs.Archives.{Archive};
+ghost use Rattle.office_archives.specs.Keeping.{IsClosedIn, IsKeptIn, IsReportIn, IsTicketIn};
+ghost use Rattle.office_archives.specs.Shelves.{archive_at};
+ghost use Rattle.office_parts.specs.Archives.{Archive, archive_of};
 
+use office_queries::Query;
 use office_tables::{Kept, TableFault};
 use std::alloc::Global;
 
@@ -38,6 +41,26 @@ pub trait Archives {
         ensures ticket { is_sound self.new → IfOk result (λ ticket. (archives : List Archive) → are archives self.old →
             IsTicketIn archives code.now partner number (string_bytes ticket)) }
         ensures same { is_sound self.new → (archives : List Archive) → are archives self.old → are archives self.new };
+
+    /// What the archive at that place tells at a query, the first at 1, opened as the store that it was: of numbers those
+    /// that its own rows have. It changes no archive.
+    ///
+    /// Damaged if it has the rows of no office; Version if it is of another version; Store and Memory say nothing of what it
+    /// keeps.
+    fn report(
+        &mut self,
+        alloc: Global,
+        place: u16,
+        query: &Query,
+    ) -> Result<Option<String>, TableFault>
+        ensures report { is_sound self.new → IfOk result (λ found. (archives : List Archive) → are archives self.old →
+            IsReportIn archives place query.now (option_map string_bytes found)) }
+        ensures same { is_sound self.new → (archives : List Archive) → are archives self.old → are archives self.new };
+
+    /// The place of the archive that keeps a partner's number that is closed.
+    fn place_of(&self, partner: u16, number: u32) -> Option<u16>
+        ensures { (archives : List Archive) → are archives self.now → IsClosedIn archives partner number →
+            archive_of archives partner number ≡ option_and_then (archive_at archives) result };
 
     /// How many there are.
     fn count(&self) -> usize

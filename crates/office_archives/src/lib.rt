@@ -2,12 +2,12 @@
 #![tactic(auto)]
 
 mod answering;
+mod archive_reports;
 mod archived_desk;
 mod archives;
 mod earlier;
 pub mod laws;
 mod many_archives;
-mod one_archive;
 mod opened;
 mod reports;
 mod tickets;
@@ -16,5 +16,4 @@ pub use answering::answer_closed;
 pub use archived_desk::ArchivedDesk;
 pub use archives::Archives;
 pub use many_archives::{ManyArchives, Shelf};
-pub use one_archive::OneArchive;
 pub use opened::Opened;

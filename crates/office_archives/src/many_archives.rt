@@ -5,7 +5,8 @@ ghost use Rattle.office_parts.specs.Archives.{Archive};
 use crate::archives::Archives;
 use crate::earlier::closed_before;
 use crate::opened::Opened;
-use crate::tickets::ticket_by;
+use crate::tickets::{report_by, ticket_by};
+use office_queries::Query;
 use office_register::Register;
 use office_tables::{Kept, TableFault, kept};
 use sqlite::{Alter, Connection};
@@ -106,6 +107,25 @@ impl<S: Alter + Drop, F: Shelf<S>> Archives for ManyArchives<S, F> {
         let ticket = ticket_by(alloc, &mut archive.conn, &closed, code, partner, number)?;
         self.opened = Some(archive);
         Ok(ticket)
+    }
+
+    fn report(
+        &mut self,
+        alloc: Global,
+        place: u16,
+        query: &Query,
+    ) -> Result<Option<String>, TableFault> {
+        let closed = closed_before(alloc, &self.register, place)?;
+        let mut asked = self.take_out(place)?;
+        let is_idle = asked.conn.is_autocommit();
+        prove!(is_idle);
+        let found = report_by(alloc, &mut asked.conn, &closed, query)?;
+        self.opened = Some(asked);
+        Ok(found)
+    }
+
+    fn place_of(&self, partner: u16, number: u32) -> Option<u16> {
+        self.register.archive_of(partner, number)
     }
 
     fn count(&self) -> usize {

@@ -16,7 +16,7 @@ use Rattle.office_replies.specs.declared.accounts.AccountAnswer.{AccountAnswer}
 use Rattle.office_replies.specs.declared.accounts.AccountAnswer.TheVariants as account_answer
 use Rattle.office_replies.specs.declared.deliver.Response.{Response}
 use Rattle.office_replies.specs.declared.deliver.Response.TheVariants as response
-use Rattle.office_queries.specs.Looking.{Look, report, texts_after, Tells}
+use Rattle.office_queries.specs.Looking.{Look, of_archive, report, texts_after, Tells}
 use Rattle.office_queries.specs.declared.query.NotNow.{NotNow}
 use Rattle.office_setup.specs.Setups.{SetupContent}
 use Rattle.office_admission.specs.Accounts.{content_after, content_with}
@@ -91,6 +91,7 @@ module _ (one other : SetupContent) (says : SaysSame one other) where
   shown_alike es (report query) found told = after_alike one other says es query found told
   shown_alike es (texts_after from) found told =
       record { db = told.db; rows = told.rows; has = told.has; after = (answers_alike one other says es).rows told.rows told.after; pages = told.pages }
+  shown_alike es (of_archive place query) found told = told
 
   told_alike : (es : List Event) (at : Look) (found : Result (Option (List ℕ)) NotNow) → Tells (ShowsAfter one es at) found → Tells (ShowsAfter other es at) found
   told_alike es at (Ok found) told = shown_alike es at found told
@@ -132,6 +133,7 @@ shown_of : {D : Type 0} {g : Ghosts D} (content : SetupContent) (es : List Event
 shown_of content es desk stands (report query) found told = told.after content es stands
 shown_of content es desk stands (texts_after from) found told =
     record { db = (state over_files desk.conn).committed; rows = stands.rows; has = stands.has; after = stands.after; pages = told stands.rows stands.has }
+shown_of content es desk stands (of_archive place query) found told = told
 
 told_of : {D : Type 0} {g : Ghosts D} (content : SetupContent) (es : List Event) (desk : Desk (FileStore D g) over_files) → StandsFor over_files content es desk → (at : Look)
     (found : Result (Option (List ℕ)) NotNow) → Tells (DeskShows over_files desk at) found → Tells (ShowsAfter content es at) found

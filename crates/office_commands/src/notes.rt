@@ -217,6 +217,18 @@ impl<D: Report + Faults + Tallied, N: Notes> Report for Noted<'_, D, N> {
         self.notes.answered();
         found
     }
+
+    fn archive_report(
+        &mut self,
+        alloc: Global,
+        place: u16,
+        query: &Query,
+    ) -> Result<Option<String>, NotNow> {
+        self.notes.begun();
+        let found = self.desk.archive_report(alloc, place, query);
+        self.notes.answered();
+        found
+    }
 }
 
 impl<D: OfTerminal, N> OfTerminal for Noted<'_, D, N> {

@@ -265,6 +265,15 @@ impl<D: Report + Faults, F: Names> Report for Named<D, F> {
     fn texts(&mut self, alloc: Global, from: u32) -> Result<Option<Vec<u8>>, NotNow> {
         self.desk.texts(alloc, from)
     }
+
+    fn archive_report(
+        &mut self,
+        alloc: Global,
+        place: u16,
+        query: &Query,
+    ) -> Result<Option<String>, NotNow> {
+        self.desk.archive_report(alloc, place, query)
+    }
 }
 
 impl<D: HasTerminal, F> OfTerminal for Named<D, F> {

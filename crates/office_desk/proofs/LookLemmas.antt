@@ -20,6 +20,17 @@ use Rattle.office_desk.specs.Noting.{Notes}
 use Rattle.office_desk.specs.Offices.{DeskHolds}
 use Rattle.office_desk.specs.declared.desk.Desk.{Desk}
 
+-- a desk looks at nothing
+pub looks_nowhere : {S : Type 0} (g : Ghosts S) (desk : Desk S g) → OnlyLooks g desk desk
+looks_nowhere g desk = record {
+  same = λ sound content es stands. stands;
+  holds = λ sound rows terminal holds. holds;
+  committed = λ sound. refl;
+  closed = refl;
+  crash = λ sound clean schema db left. left;
+  stays = λ sound. sound;
+}
+
 -- what was handed on is what the call answered
 pub noted_told : {T : Type 0} (met : Result T TableFault) (old : Option TableFault) (given : T) (new : Option TableFault) → Notes met old (Ok given) new → (met ≡ Ok given) × (new ≡ old)
 noted_told (Ok told) old given new noted = (ap Ok (sym noted.0), noted.1)

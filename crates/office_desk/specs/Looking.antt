@@ -1,5 +1,5 @@
--- What a desk tells of whatever is looked at: a report, or a page of the kept texts.
-use Rattle.std.specs.Prelude.{ℕ, List, Option}
+-- What a desk tells of whatever is looked at: a report, a page of the kept texts, or an archive's report.
+use Rattle.std.specs.Prelude.{◌≡◌, ℕ, List, Option, None}
 use Rattle.sqlite.specs.Effect.{Database}
 use Rattle.sqlite.specs.Held.{state}
 use Rattle.sqlite.specs.State.{State}
@@ -10,7 +10,7 @@ use Rattle.office_rows.specs.Rows.{Rows}
 use Rattle.office_rows.specs.Stored.{HasRows}
 use Rattle.office_rows.specs.Tables.{interchange_table}
 use Rattle.office_history.specs.After.{AreAfter}
-use Rattle.office_queries.specs.Looking.{Look, report, texts_after}
+use Rattle.office_queries.specs.Looking.{Look, of_archive, report, texts_after}
 use Rattle.office_texts.specs.Pages.{TellsLines, most_page_bytes}
 use Rattle.office_desk.specs.Causes.{AsksUnfitReply}
 use Rattle.office_desk.specs.Reports.{DeskTells, IsOpenFor, TellsAfter}
@@ -37,22 +37,26 @@ pub record HandsAfter (content : SetupContent) (es : List Event) (from : ℕ) (f
 
 -- ---- whatever is looked at
 
--- what the desk tells of it
+-- what the desk tells of it; of its store nothing was put away, so no archive tells anything
 abbrev pub DeskShows : {S : Type 0} (g : Ghosts S) → Desk S g → Look → Option (List ℕ) → Type 0
 DeskShows g desk (report query) found = DeskTells g desk query found
 DeskShows g desk (texts_after from) found = DeskHands g desk from found
+DeskShows g desk (of_archive place query) found = found ≡ None
 
 -- what is told of it after those events
 abbrev pub ShowsAfter : SetupContent → List Event → Look → Option (List ℕ) → Type 0
 ShowsAfter content es (report query) found = TellsAfter content es query found
 ShowsAfter content es (texts_after from) found = HandsAfter content es from found
+ShowsAfter content es (of_archive place query) found = found ≡ None
 
 -- the reply that it tells of is no text; a page of texts is told whatever their bytes are
 abbrev pub ShowsUnfitReply : SetupContent → Rows → Look → Type 0
 ShowsUnfitReply content rows (report query) = AsksUnfitReply content rows query
 ShowsUnfitReply content rows (texts_after from) = ⊥
+ShowsUnfitReply content rows (of_archive place query) = ⊥
 
 -- the office can be asked only if its store is open
 abbrev pub IsOpenAt : Look → State → Type 0
 IsOpenAt (report query) s = IsOpenFor query s
 IsOpenAt (texts_after from) s = Unit {0}
+IsOpenAt (of_archive place query) s = Unit {0}

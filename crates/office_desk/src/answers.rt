@@ -131,7 +131,7 @@ pub(crate) fn note_memory(last_fault: &mut Option<TableFault>, answer: &Response
 
 /// What the rows tell at a query, and the terminal that stands beside them. It changes nothing.
 #[tactic(auto, using(office_delivery::proofs::ReadLemmas::nothing_read, office_delivery::proofs::ReadLemmas::one_read))]
-pub(crate) fn tell<S: Alter>(
+pub fn tell<S: Alter>(
     alloc: Global,
     conn: &mut Connection<S>,
     setup: &Setup,

@@ -365,4 +365,13 @@ impl<S: Alter + Drop> Report for Desk<S> {
     fn texts(&mut self, alloc: Global, from: u32) -> Result<Option<Vec<u8>>, NotNow> {
         self.answer_texts(alloc, from)
     }
+
+    fn archive_report(
+        &mut self,
+        _alloc: Global,
+        _place: u16,
+        _query: &Query,
+    ) -> Result<Option<String>, NotNow> {
+        Ok(None)
+    }
 }

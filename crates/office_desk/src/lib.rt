@@ -10,6 +10,7 @@ mod taking;
 mod texts;
 
 pub use accounts::AccountStanding;
+pub use answers::tell;
 pub use beside::{Beside, load_beside};
 pub use desk::Desk;
 pub use taking::Found;

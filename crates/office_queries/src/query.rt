@@ -1,7 +1,7 @@
 ghost use Rattle.std.specs.Option.{option_map};
 ghost use Rattle.std.specs.Prelude.{ℕ, List, Option, Result, string_bytes, ◌≡◌};
 ghost use Rattle.std.specs.Result.{result_map_both};
-ghost use Rattle.office_queries.specs.Looking.{Look, report, texts_after};
+ghost use Rattle.office_queries.specs.Looking.{Look, of_archive, report, texts_after};
 ghost use Rattle.office_queries.specs.Program.{program_version};
 ghost use Rattle.office_queries.specs.declared.query.NotNow.{NotNow};
 
@@ -126,6 +126,16 @@ pub trait Report: Deliver {
     fn texts(&mut self, alloc: Global, from: u32) -> Result<Option<Vec<u8>>, NotNow>
         ensures { looks self.old (texts_after from)
             (result_map_both (option_map (λ lines. lines.items)) (λ refusal. refusal) result) self.new };
+
+    /// The report as the archive at that place tells it, the first at 1. None if there is no such archive.
+    fn archive_report(
+        &mut self,
+        alloc: Global,
+        place: u16,
+        query: &Query,
+    ) -> Result<Option<String>, NotNow>
+        ensures { looks self.old (of_archive place query.now)
+            (result_map_both (option_map string_bytes) (λ refusal. refusal) result) self.new };
 }
 
 /// There was no memory, or the store failed. Nothing has changed, and the same may be asked again.

@@ -2,7 +2,8 @@ use Rattle.std.proofs.Common.{None, option_map, string_bytes, refl, subst}
 use Rattle.office_queries.specs.declared.query.Query.TheVariants as query
 use Rattle.office_desk.specs.Reports.{DeskTells}
 use Rattle.office_archives.proofs.Beside.{nobody_beside}
-use Rattle.office_archives.proofs.Looking.{looks_nowhere, looks_on}
+use Rattle.office_desk.proofs.LookLemmas.{looks_nowhere}
+use Rattle.office_archives.proofs.Looking.{looks_on}
 use Rattle.office_archives.proofs.archived_desk.ArchivedDesk.find_nobody.Goals as goal
 
 pub returns-in-None-clause-told : goal.returns-in-None-clause-told
