@@ -55,6 +55,7 @@ IsReport view kind what other = ⊥
 -- where there is nothing a text is refused, and a page tells why
 abbrev pub nothing_in : View → Notice → Request
 nothing_in view.Text notice = Refused NotFound
+nothing_in (view.Archive place) notice = Refused NotFound
 nothing_in other notice = Noticed notice
 
 -- a refusal in a view
@@ -190,7 +191,7 @@ OnlyLooks (OwnDelivery own) = ⊥
 OnlyLooks (Account key) = ⊥
 OnlyLooks other = Unit {0}
 
--- So it is with whatever is asked for as a page, by whatever method.
+-- So it is with whatever is asked for as a page or of an archive, by whatever method.
 abbrev pub PagesOnlyLook : Type 0
 PagesOnlyLook =
     (stream : List ℕ) (head : RequestHead) (rest : List ℕ) (request : Request)

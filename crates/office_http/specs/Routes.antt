@@ -78,13 +78,20 @@ page_at None = None
 page_at (Some (endpoint.Report kind)) = if is_paged kind then Some (endpoint.Report kind) else None
 page_at (Some other) = None
 
--- what is there to be seen in a view: a number that was typed finds the report of a container, and the start page shows
--- the metrics
+-- what of that is a report
+abbrev pub report_at : Option Endpoint → Option Endpoint
+report_at None = None
+report_at (Some (endpoint.Report kind)) = Some (endpoint.Report kind)
+report_at (Some other) = None
+
+-- What is there to be seen in a view: in an archive only reports. A number that was typed finds the report of a container,
+-- and the start page shows the metrics.
 abbrev pub seen_at : View → Option Endpoint → Option Endpoint
 seen_at view.Text at = at
 seen_at view.Page at = page_at at
 seen_at view.Find at = Some (endpoint.Report kind.Container)
 seen_at view.Start at = Some (endpoint.Report kind.Metrics)
+seen_at (view.Archive place) at = report_at at
 
 -- ---- methods
 

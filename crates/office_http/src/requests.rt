@@ -116,7 +116,7 @@ fn nothing_in(view: View, notice: Notice) -> Request
     ensures { result ≡ nothing_in view notice }
 {
     match view {
-        View::Text => Request::Refused(Refusal::NotFound),
+        View::Text | View::Archive(_) => Request::Refused(Refusal::NotFound),
         View::Page | View::Find | View::Start => Request::Noticed(notice),
     }
 }
@@ -235,7 +235,9 @@ fn read_report(alloc: Global, view: View, kind: ReportKind, target: &str) -> Req
 {
     match view {
         View::Find => read_typed(alloc, kind, typed_in(target)),
-        View::Text | View::Page | View::Start => read_key(alloc, view, kind, path_of(target)),
+        View::Text | View::Page | View::Start | View::Archive(_) => {
+            read_key(alloc, view, kind, path_of(target))
+        }
     }
 }
 

@@ -1,9 +1,10 @@
 ghost use Rattle.std.specs.Io.KnownBytes.{Appends};
-ghost use Rattle.std.specs.Prelude.{◌≤◌, ◌≡◌, ℕ, List, Option, Result, ◌⊎◌, ◌+◌, true, false, IfErr, OnOk, OnErr, IfSome, Some, Ok, Err};
+ghost use Rattle.std.specs.Prelude.{◌≤◌, ◌≡◌, ℕ, List, Option, Result, ◌⊎◌, ◌+◌, true, false, IfErr, OnOk, OnErr, IfSome, Some, Ok, Err, option_map, string_bytes};
+ghost use Rattle.std.specs.Result.{result_map_both};
 ghost use Rattle.office_http.specs.Deciding.{EndsWhenDecided};
 ghost use Rattle.office_http.specs.Doors.{door_by, door_of};
 ghost use Rattle.office_http.specs.Heads.{most_request_reads};
-ghost use Rattle.office_http.specs.Served.{Answers, asked_after, AtMost, both_bytes, calls_of, Does, DoesAfter, DoesDelivery, DoesOwn, found_bytes, MatchFault, Serves, texts_bytes};
+ghost use Rattle.office_http.specs.Served.{Answers, asked_after, AtMost, both_bytes, calls_of, Does, DoesAfter, DoesDelivery, DoesOwn, found_bytes, look_of, MatchFault, Serves, texts_bytes};
 ghost use Rattle.office_queries.specs.Looking.{report, texts_after};
 ghost use Rattle.office_queries.specs.declared.query.NotNow.{NotNow};
 ghost use Rattle.office_http.specs.declared.targets.View.TheVariants as view;
@@ -288,17 +289,33 @@ fn answer_report<W: Write, D: Report + OfTerminal>(
     query: &Query,
 ) -> io::Result<()>
     ensures does { (found : Result (Option (List ℕ)) NotNow) × (looked : D)
-        × D.looks desk.old (report query.now) found looked
+        × D.looks desk.old (look_of view query.now) found looked
         × DoesAfter D.looks (asked_after view query.now found) looked desk.new
         (λ second. Answers view (found_bytes (D.terminal_name desk.new) view kind query.now found second)
         (λ bytes. OnOk result (Appends (W.contents writer.old.inner) (W.contents writer.new.inner) bytes))) }
     ensures kept { OnOk result (writer.new.failed ≡ writer.old.failed) }
     ensures fails { OnErr result (writer.new.failed ≡ true) }
 {
-    match desk.report(alloc, query) {
+    match look(alloc, desk, view, query) {
         Ok(Some(text)) => answer_told(alloc, writer, desk, view, kind, query, text.as_str()),
         Ok(None) => write_nothing(alloc, writer, view),
         Err(NotNow) => write_refusal(writer, Refusal::NotNow),
+    }
+}
+
+/// Asks the store for a report, or the archive at a place.
+fn look<D: Report>(
+    alloc: Global,
+    desk: &mut D,
+    view: View,
+    query: &Query,
+) -> Result<Option<String>, NotNow>
+    ensures { D.looks desk.old (look_of view query.now)
+        (result_map_both (option_map string_bytes) (λ refusal. refusal) result) desk.new }
+{
+    match view {
+        View::Archive(place) => desk.archive_report(alloc, place, query),
+        View::Text | View::Page | View::Find | View::Start => desk.report(alloc, query),
     }
 }
 
@@ -330,7 +347,7 @@ fn asked_after(view: View, query: &Query) -> Option<Query>
 {
     match view {
         View::Page | View::Find => second_of(query),
-        View::Text | View::Start => None,
+        View::Text | View::Start | View::Archive(_) => None,
     }
 }
 
