@@ -8,3 +8,4 @@ pub mod Serving
 pub mod Archives
 pub mod Closing
 pub mod Reporting
+pub mod Listing

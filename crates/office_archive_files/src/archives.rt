@@ -1,7 +1,13 @@
+ghost use Rattle.std.specs.Prelude.{◌≡◌, ◌++◌, ◌∷◌, [], codes, map, IfOk, OnErr, OnOk, string_bytes};
+ghost use Rattle.office_archive_files.specs.Listing.{FollowIn, archive_line, word_of};
+ghost use Rattle.office_register.specs.Register.{archive_content};
+ghost use Rattle.office_reports.specs.Names.{line};
+
 use crate::opening::{OpenFault, open_shelf};
 use crate::shelf::{FileShelf, Found};
 use office_commands::{DONE, REFUSED, print};
 use office_register::{Archive, Register};
+use office_reports::texts::push_line;
 use office_stream::Port;
 use sqlite::Start;
 use std::alloc::{AllocError, Global};
@@ -14,7 +20,9 @@ pub fn archives_over<S: Start, W: Write>(
     store: &str,
     start: S,
     writer: &mut Port<W>,
-) -> Result<u8, OpenFault> {
+) -> Result<u8, OpenFault>
+    ensures err { OnErr result (writer.new ≡ writer.old) }
+{
     let (conn, register, shelf) = open_shelf(rt, store, start)?;
     let lines = archive_lines(rt.alloc(), &register, &shelf)?;
     drop(conn);
@@ -30,33 +38,63 @@ fn archive_lines(
     alloc: Global,
     register: &Register,
     shelf: &FileShelf<'_>,
-) -> Result<String, AllocError> {
+) -> Result<String, AllocError>
+    ensures { IfOk result (λ lines. FollowIn (map archive_content register.now.archives.items) [] (string_bytes lines)) }
+{
     let mut lines = String::new(alloc);
     for archive in &register.archives {
         let found = shelf.look_at(archive.place, archive.file.as_str())?;
-        push_line(alloc, &mut lines, archive, found)?;
+        push_archive(alloc, &mut lines, archive, found)?;
     }
     Ok(lines)
 }
 
-/// The line of an archive.
-fn push_line(
+/// Appends the line of an archive.
+fn push_archive(
     alloc: Global,
     lines: &mut String,
     archive: &Archive,
     found: Found,
-) -> Result<(), AllocError> {
-    let place = archive.place;
+) -> Result<(), AllocError>
+    ensures { OnOk result
+        (string_bytes lines.new ≡ string_bytes lines.old ++ archive_line (archive_content archive.now) found) }
+{
+    let place = archive.place.to_string(alloc)?;
+    let visits = archive.visits.to_string(alloc)?;
     let file = archive.file.as_str();
-    let visits = archive.visits;
-    let word = word_of(found);
-    let line = format!(in alloc; "ARCHIVE {place} {file} VISITS {visits} {word}\n")?;
-    lines.push_str(line.as_str())?;
-    Ok(())
+    push_words(
+        alloc,
+        lines,
+        place.as_str(),
+        file,
+        visits.as_str(),
+        word_of(found),
+    )
+}
+
+/// Appends the line of an archive, of which place and newest visit are written in digits.
+fn push_words<'a>(
+    alloc: Global,
+    lines: &mut String,
+    place: &'a str,
+    file: &'a str,
+    visits: &'a str,
+    word: &'a str,
+) -> Result<(), AllocError>
+    ensures { OnOk result (string_bytes lines.new ≡ string_bytes lines.old
+        ++ line (codes "ARCHIVE" ∷ place.now ∷ file.now ∷ codes "VISITS" ∷ visits.now ∷ word.now ∷ [])) }
+{
+    push_line(
+        alloc,
+        lines,
+        &["ARCHIVE", place, file, "VISITS", visits, word],
+    )
 }
 
 /// What is found, in a word.
-fn word_of(found: Found) -> &'static str {
+fn word_of(found: Found) -> &'static str
+    ensures { result.now ≡ word_of found }
+{
     match found {
         Found::Archive => "THERE",
         Found::Nothing => "MISSING",

@@ -1,15 +1,14 @@
-ghost use Rattle.std.specs.Prelude.{◌≡◌, IfOk, false};
+ghost use Rattle.std.specs.Prelude.{◌≡◌, IfOk, IfSome, false};
 ghost use Rattle.office_archive_files.specs.Closing.{ClosesOver};
 ghost use Rattle.sqlite.specs.Held.{state};
 
-use crate::register::{beside_path, has_no_tables, is_there, place_of, register_path};
+use crate::register::{beside_path, found_at, has_no_tables, is_there, place_of, register_path};
 use office_closing::{CloseFault, File, FileFault, Refusal, close};
 use office_commands::{open_found, open_there};
 use office_register::{create_register, read_register};
 use office_tables::TableFault;
 use sqlite::{Alter, Connection, FileFrom, FileStore, Unknown};
 use std::alloc::{AllocError, Global};
-use std::fs;
 use std::os::unix::fs::MetadataExt;
 use thiserror::Error;
 
@@ -59,9 +58,7 @@ pub fn close_over(
     ensures { IfOk result (λ ended. ClosesOver store.now archive.now ended.0.store ended.0.register ended.0.archive
         ended.0.archive_register ended.1) }
 {
-    if !is_beside(rt, store, archive)? {
-        return Err(CloseCommandFault::Folder);
-    }
+    check_folder(rt, store, archive)?;
     let mut own = open_office(rt, store, File::Store)?;
     let mut copy = open_office(rt, archive, File::Archive)?;
     let (mut names, names_none) = open_register(rt, store, true, File::Register)?;
@@ -84,11 +81,23 @@ pub fn close_over(
     Ok((files, closed))
 }
 
+/// Refuses an archive that lies in another folder than its store.
+fn check_folder(rt: &HostRuntime, store: &str, archive: &str) -> Result<(), CloseCommandFault> {
+    match is_beside(rt, store, archive) {
+        Ok(true) => Ok(()),
+        Ok(false) => Err(CloseCommandFault::Folder),
+        Err(fault) => {
+            let file = File::Archive;
+            Err(CloseCommandFault::Close(CloseFault::File(FileFault { file, fault })))
+        }
+    }
+}
+
 /// Whether the file at a path lies under its name in a store's folder.
-fn is_beside(rt: &HostRuntime, store: &str, file: &str) -> Result<bool, AllocError> {
+fn is_beside(rt: &HostRuntime, store: &str, file: &str) -> Result<bool, TableFault> {
     let path = beside_path(rt.alloc(), store, place_of(file).name)?;
-    match (fs::metadata(rt, path.as_str()), fs::metadata(rt, file)) {
-        (Ok(there), Ok(asked)) => Ok(there.ino() == asked.ino() && there.dev() == asked.dev()),
+    match (found_at(rt, path.as_str())?, found_at(rt, file)?) {
+        (Some(there), Some(asked)) => Ok(there.ino() == asked.ino() && there.dev() == asked.dev()),
         // That it isn't there is told when it is opened.
         _ => Ok(path.as_bytes() == file.as_bytes()),
     }
@@ -115,22 +124,28 @@ fn open_register(
     ensures { IfOk result (λ opened. opened.0.in_transaction ≡ false) }
 {
     let path = register_path(rt.alloc(), office)?;
-    if !may_make && !is_there(rt, path.as_str()) {
-        return Err(CloseFault::Archive(Refusal::Register));
-    }
-    match open_made(rt, path.as_str()) {
-        Ok(opened) => Ok(opened),
+    match open_made(rt, path.as_str(), may_make) {
+        Ok(Some(opened)) => Ok(opened),
+        Ok(None) => Err(CloseFault::Archive(Refusal::Register)),
         Err(fault) => Err(CloseFault::File(FileFault { file, fault })),
     }
 }
 
-/// A connection to the register at a path, which is made if it isn't there, and whether it names no archive.
-fn open_made(rt: &HostRuntime, path: &str) -> Result<(Files, bool), TableFault>
-    ensures { IfOk result (λ opened. opened.0.in_transaction ≡ false) }
+/// A connection to the register at a path, and whether it names no archive. One that isn't there is made, if it may; else
+/// there is none.
+fn open_made(
+    rt: &HostRuntime,
+    path: &str,
+    may_make: bool,
+) -> Result<Option<(Files, bool)>, TableFault>
+    ensures { IfOk result (λ found. IfSome found (λ opened. opened.0.in_transaction ≡ false)) }
 {
+    if !may_make && !is_there(rt, path)? {
+        return Ok(None);
+    }
     let mut conn = open_found(rt, path, Unknown)?;
     let names_none = make_tables(rt.alloc(), &mut conn)?;
-    Ok((conn, names_none))
+    Ok(Some((conn, names_none)))
 }
 
 /// Makes the tables of a register if they aren't there, and answers whether it names no archive.

@@ -125,7 +125,9 @@ pub(crate) fn open_shelf<'a, S: Start>(
     rt: &'a HostRuntime,
     store: &str,
     start: S,
-) -> Result<(Connection<FileStore<FileFrom<S>>>, Register, FileShelf<'a>), OpenFault> {
+) -> Result<(Connection<FileStore<FileFrom<S>>>, Register, FileShelf<'a>), OpenFault>
+    ensures sound { IfOk result (λ opened. IsTrue (is_sound (register_content opened.1))) }
+{
     let conn = open_store(rt, store, start)?;
     let register = read_names(rt, store)?;
     let closed = register.closed(rt.alloc())?;

@@ -1,15 +1,17 @@
 ghost use Rattle.std.specs.Prelude.{◌≡◌, ◌++◌, codes, IfOk, IfSome, IsTrue, option_map, string_bytes};
+ghost use Rattle.office_archive_files.specs.Listing.{IsHistory, history_in};
 ghost use Rattle.office_archive_files.specs.Paths.{HasNoSlash, IsBeside, path_of};
 ghost use Rattle.office_register.specs.Register.{register_content};
 ghost use Rattle.office_register.specs.Sound.{is_sound};
 
-use office_commands::open_found;
+use office_commands::{NO_STORE, open_found};
 use office_register::{Register, read_register};
 use office_tables::TableFault;
 use sqlite::{Error, Unknown};
 use sqlite_resolve::CompileError;
 use std::alloc::{AllocError, Global};
-use std::fs;
+use std::fs::{self, Metadata};
+use std::io::ErrorKind;
 
 /// Where a file lies: its folder, if the path says one, and its name.
 #[derive(Clone, Copy)]
@@ -58,13 +60,13 @@ pub fn register_path(alloc: Global, store: &str) -> Result<String, AllocError>
 /// The register of the store at a path; none if its file isn't there, is empty or has no tables: of that store nothing was put
 /// away.
 ///
-/// Damaged if it is no sound register; Store and Memory say nothing of it. No clause ties the register to the path: that
+/// Damaged if it is no sound register; Store, also if its file can't be looked at, and Memory say nothing of it. No clause ties the register to the path: that
 /// this body reads the file there, and touches it by nothing else, is to be read.
 pub fn read_history(rt: &HostRuntime, store: &str) -> Result<Option<Register>, TableFault>
     ensures sound { IfOk result (λ found. IfSome found (λ register. IsTrue (is_sound (register_content register)))) }
 {
     let path = register_path(rt.alloc(), store)?;
-    if !is_there(rt, path.as_str()) {
+    if !is_there(rt, path.as_str())? {
         return Ok(None);
     }
     let mut conn = open_found(rt, path.as_str(), Unknown)?;
@@ -85,10 +87,24 @@ pub(crate) fn has_no_tables(fault: &TableFault) -> bool {
 }
 
 /// Whether a file that isn't empty is at a path.
-pub(crate) fn is_there(rt: &HostRuntime, path: &str) -> bool {
+///
+/// Store if that can't be told, or what is there is no file.
+pub(crate) fn is_there(rt: &HostRuntime, path: &str) -> Result<bool, TableFault> {
+    match found_at(rt, path)? {
+        Some(found) if found.is_file() => Ok(found.len() > 0),
+        Some(_) => Err(TableFault::Store(NO_STORE)),
+        None => Ok(false),
+    }
+}
+
+/// What is at a path, if something is.
+///
+/// Store if that can't be told.
+pub(crate) fn found_at(rt: &HostRuntime, path: &str) -> Result<Option<Metadata>, TableFault> {
     match fs::metadata(rt, path) {
-        Ok(found) => found.is_file() && found.len() > 0,
-        Err(_) => false,
+        Ok(found) => Ok(Some(found)),
+        Err(error) if error.kind() == ErrorKind::NotFound => Ok(None),
+        Err(_) => Err(TableFault::Store(NO_STORE)),
     }
 }
 
@@ -102,15 +118,25 @@ pub struct History {
 }
 
 /// What was put away of the store at a path, as its register says.
-pub fn history_of(rt: &HostRuntime, store: &str) -> Result<History, TableFault> {
-    match read_history(rt, store)? {
-        Some(register) => Ok(History {
+pub fn history_of(rt: &HostRuntime, store: &str) -> Result<History, TableFault>
+    ensures { IfOk result IsHistory }
+{
+    let found = read_history(rt, store)?;
+    Ok(history_in(found.as_ref()))
+}
+
+/// What was put away of a store with that register, or with none.
+fn history_in(register: Option<&Register>) -> History
+    ensures { result ≡ history_in (option_map (λ names. register_content names.now) register.entry) }
+{
+    match register {
+        Some(register) => History {
             archives: register.archives.len(),
             is_closed: register.closed_for.is_some(),
-        }),
-        None => Ok(History {
+        },
+        None => History {
             archives: 0,
             is_closed: false,
-        }),
+        },
     }
 }

@@ -11,7 +11,7 @@ ghost use Rattle.sqlite.specs.Files.{over_files};
 ghost use Rattle.sqlite.specs.WalFiles.{image_at};
 
 use crate::is_archive::{archive_at, is_register_of, is_same_office, reaches};
-use crate::register::{beside_path, place_of, read_history};
+use crate::register::{beside_path, found_at, place_of, read_history};
 use office_archives::Shelf;
 use office_checks::Closed;
 use office_commands::open_there;
@@ -21,7 +21,6 @@ use office_setup::Setup;
 use office_tables::TableFault;
 use sqlite::{Connection, Error, ErrorCode, FileFrom, FileStore, Start, Unknown};
 use std::alloc::{AllocError, Global};
-use std::fs;
 
 /// An archive that is missing, can't be read, or is not the store's own archive of its place. No statement of the office
 /// has this error: it is about names of tables.
@@ -72,7 +71,7 @@ impl<'a> FileShelf<'a> {
     /// What is found of the archive at a place, of which the store's register names the file.
     pub fn look_at(&self, place: u16, file: &str) -> Result<Found, AllocError> {
         let path = beside_path(self.rt.alloc(), self.store.as_str(), file)?;
-        if fs::metadata(self.rt, path.as_str()).is_err() {
+        if let Ok(None) = found_at(self.rt, path.as_str()) {
             return Ok(Found::Nothing);
         }
         match self.opened(place) {
