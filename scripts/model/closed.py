@@ -17,7 +17,7 @@ from .days import NEWCOMERS, SENDERS, Day, streamed
 from .deliveries import first_text
 from .events import Added, refusal
 from .reports import WHOLE
-from .requests import every_key, get, path_of, question, random_requests
+from .requests import every_key, get, of_archive, path_of, question, random_requests
 from .rows import ENDS, REGISTER, copy_files, identities, interchange_rows, rows_in, rows_of
 from .setup import DEMO, read_setup
 from .setups import Files, files_of
@@ -36,6 +36,7 @@ AGAIN = 5                   # closed numbers that are sent again, and as many wi
 QUESTIONS = 4               # after a turn
 ASKED = 20                  # reports by a command behind the turns; all of them by HTTP
 ANOTHER_DAY = 0.25          # of the archives that are spoiled: the rows of another day
+OF_ARCHIVES = 24            # reports that an archive is asked for by HTTP
 COMPARED = 24               # reports that are compared with those of the store that is never closed
 NAMES = ['office-%04d.db', 'archive %d', '%d', 'Hafen-Altona-\u00e4%d.db', 'office.db.%d', '-%d.db']
 
@@ -92,6 +93,7 @@ class Closable:
             self.beside.expect('an archive stays', self.name, (rows, []), rows_in(path))
             self.beside.register(self.name + ', the archive', path, archive)
         self.archives.append((path, archive))
+        self.office.archives[len(self.archives)] = archive
 
     # ---- what happens between
 
@@ -124,6 +126,7 @@ class Closable:
         keys = every_key(self.office)
         self.asks(WHOLE + self.chance.sample(keys, min(ASKED, len(keys))))
         paths = [path_of(kind, key.replace('%', '%25').replace(' ', '%20')) for kind, key in keys if key.isascii()]
+        paths += [of_archive(self.chance, self.office, path) for path in self.chance.sample(paths, min(OF_ARCHIVES, len(paths)))]
         self.beside.serve(self.name, self.program, self.office, [get(self.chance, path) for path in paths])
 
     def turn(self, is_served):

@@ -29,7 +29,7 @@ MOST_CONNECTIONS = 1000000
 
 
 class Fault(Exception):
-    """What is told on the stream of errors, and the status."""
+    """What standard error gets, and the status."""
 
     def __init__(self, text, ended):
         super().__init__()

@@ -11,7 +11,7 @@ from .keys import PARTS, decoded, read_key
 from .moments import are_digits
 from .office import json_text
 from .pages import KINDS as PAGED, page, start, told, typed
-from .reports import Lost, report
+from .reports import OF_NUMBERS, Lost, report
 from .setup import is_utf8
 from .syntax import BREAKS, FAULTS, LONGEST_TEXT, is_printable, number_of, sender_of
 
@@ -64,6 +64,10 @@ MOST_OF_TEXTS = 1048576
 
 # what stands before the path of a report whose page is asked for
 PAGES = '/pages'
+# and before that of a report of an archive: its place, 1 to 9999
+ARCHIVE = re.compile(r'/archives/([1-9][0-9]{0,3})(/.*)', re.DOTALL)
+# what is no report
+NO_REPORTS = ('delivery', 'own delivery', 'account', 'texts')
 
 PHRASES = {
     200: 'OK', 202: 'Accepted', 400: 'Bad Request', 403: 'Forbidden', 404: 'Not Found', 405: 'Method Not Allowed',
@@ -168,6 +172,28 @@ def page_of(office, kind, key):
     return 200, page(kind, values[0] if len(values) == 1 else values, text, visits)
 
 
+# ---- archives
+
+def of_archive(office, head, place, path):
+    """Kind and text of a report that the archive of a place tells, as the store that it was. A number that was closed before is
+    told by its own archive, so the other needn't be there."""
+    method, kind, key = route_at(path) or (None, None, None)
+    if kind is None or kind in NO_REPORTS:
+        raise Refusal(404, 'none')
+    check_method(head, method)
+    archive = office.archives.get(place)
+    values = read_key(kind, key) if PARTS[kind] else []
+    if archive is None or values is None:
+        return kind, None
+    if place in office.lost and not (kind in OF_NUMBERS and archive.archive_of(*values)):
+        raise Lost
+    archive.lost = office.lost
+    try:
+        return kind, report(archive, kind, key)
+    finally:
+        archive.lost = {}
+
+
 # ---- the body
 
 def values_of(head, name):
@@ -255,6 +281,10 @@ def answered(office, request, ahead):
     if is_page(address_of(head)):
         status, text = paged(office, head)
         return status, HTML, text
+    archive = ARCHIVE.fullmatch(address_of(head))
+    if archive:
+        kind, text = of_archive(office, head, int(archive.group(1)), archive.group(2))
+        return found(kind, text)
     kind, key = route_of(head)
     if kind == 'delivery':
         return delivered(office, body_of(head, request))
@@ -266,7 +296,11 @@ def answered(office, request, ahead):
         body_of(head, request)
         answer = office.add_account(*added_by(key))
         return ACCOUNT_FAULTS.get(answer.get('fault'), 200), 'application/json', json_text(answer)
-    text = page_of_texts(office, key) if kind == 'texts' else report(office, kind, key)
+    return found(kind, page_of_texts(office, key) if kind == 'texts' else report(office, kind, key))
+
+
+def found(kind, text):
+    """Status, content type and body of a report, if there is something to tell."""
     if text is None:
         raise Refusal(404, 'none')
     return 200, CONTENT_TYPES.get(kind, 'text/plain'), text

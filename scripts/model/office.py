@@ -109,7 +109,8 @@ class Office:
     """The set-up with which it was opened, and all that happened to it since: texts that were delivered, admitted or not,
     accounts that were added, and the migration of its store. Each answer is computed from these alone, anew. `version` is
     that of its store. A closing is no event: `register` says what is closed, `gone` has the numbers of the visits that went
-    from the store, and `lost` what is said of an archive that can't be asked, by its place.
+    from the store, `archives` are the offices that its archives are, and `lost` is what is said of one that can't be asked, both
+    by place.
 
     For long streams that is too slow: 300 deliveries would take the first of them 300 times. There an office is made
     with `keeps_fold`, and keeps what was admitted and the fold of the order so far: the order after one delivery more begins
@@ -120,7 +121,7 @@ class Office:
     def __init__(self, opening=DEMO, keeps_fold=False, version=NEWEST):
         self.opening, self.events, self.version = opening, [], version
         self.kept, self.admitted = Fold(opening) if keeps_fold else None, []
-        self.register, self.gone, self.lost = EMPTY, frozenset(), {}
+        self.register, self.gone, self.archives, self.lost = EMPTY, frozenset(), {}, {}
 
     @property
     def setup(self):

@@ -46,10 +46,10 @@ def with_values(text, values):
 
 
 def edited(text, edits):
-    """A text with what is said behind it: empty, from whom, to whom, with a segment in place of the one with its tag."""
+    """A text with what is said after it: empty, from whom, to whom, with a segment in place of the one with its tag."""
     if re.match(r' E\b', edits):
         text = text.replace("+++5'", "+++4'")
-    words = r'(from|to|without its|with|and) (?:with )?`?([^`, ]+)`?( behind its EQD| at the end of its UNB)?'
+    words = r'(from|to|without its|with|and) (?:with )?`?([^`, ]+)`?( after its EQD| at the end of its UNB)?'
     for word, value, where in re.findall(words, edits):
         what, by = edit(word, value, where)
         text = re.sub(what, lambda found: found.expand(by), text, count=1)
@@ -64,7 +64,7 @@ def edit(word, value, where):
         return r'(UNB\+[^+]*\+[^+]*\+)[^+]*', r'\g<1>' + value
     if word == 'without its':
         return value + r"\+[^']*'", ''
-    if where == ' behind its EQD':
+    if where == ' after its EQD':
         return r"(EQD\+[^']*')", r'\g<1>' + value
     if where == ' at the end of its UNB':
         return r"(UNB\+[^']*)\+\d+'", r'\g<1>' + value

@@ -5,6 +5,7 @@ said here.
 """
 import copy
 import os
+import re
 import sqlite3
 import tempfile
 from contextlib import closing
@@ -179,28 +180,28 @@ def try_copies(room, day):
     room.close('office.db', 'folder/copy.db')
 
 
+# closings in another order, and archives of another store, one after the other: copies, closings, and deliveries between them
+MARKS = '''
+    copy office first; copy office unclosed; copy office second
+    close office first; close office first; close office second; close unclosed first; close first second; close first office
+    deliver
+    close office first; copy office third; close unclosed third; close office third; close office first; close third first
+    copy office fourth; close office fourth; close office fourth
+'''
+
+
 def try_marks(room, day):
     """Closings in another order, and archives of another store."""
     room.make('office.db', day, DELIVERIES)
-    room.copy('office.db', 'first.db')
-    room.copy('office.db', 'unclosed.db')
-    room.copy('office.db', 'second.db')
-    room.close('office.db', 'first.db')
-    room.close('office.db', 'first.db')
-    room.close('office.db', 'second.db')
-    room.close('unclosed.db', 'first.db')
-    room.close('first.db', 'second.db')
-    room.close('first.db', 'office.db')
-    room.deliver('office.db', [day.delivery() for _delivery in range(MORE)])
-    room.close('office.db', 'first.db')
-    room.copy('office.db', 'third.db')
-    room.close('unclosed.db', 'third.db')
-    room.close('office.db', 'third.db')
-    room.close('office.db', 'first.db')
-    room.close('third.db', 'first.db')
-    room.copy('office.db', 'fourth.db')
-    room.close('office.db', 'fourth.db')
-    room.close('office.db', 'fourth.db')
+    for step in re.split(r'[;\n]+', MARKS.strip()):
+        what, *stores = step.split()
+        paths = ['%s.db' % store for store in stores]
+        if what == 'deliver':
+            room.deliver('office.db', [day.delivery() for _delivery in range(MORE)])
+        elif what == 'copy':
+            room.copy(*paths)
+        else:
+            room.close(*paths)
 
 
 # ---- what lies beside a store

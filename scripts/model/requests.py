@@ -17,7 +17,7 @@ WHOLE = ['yard', 'yard', 'yardcsv', 'blocks', 'calls', 'calls', 'partners', 'par
 KINDS = [
     (12, 'delivery'), (6, 'own delivery'), (2, 'altered delivery'), (8, 'report'), (2, 'odd report'), (1, 'method'), (1, 'route'),
     (2, 'length'), (1, 'cut'), (6, 'altered head'), (2, 'large'), (2, 'account'), (1, 'odd account'), (6, 'page'),
-    (1, 'odd page'), (2, 'find'), (2, 'texts'), (1, 'odd texts')]
+    (1, 'odd page'), (2, 'find'), (2, 'texts'), (1, 'odd texts'), (2, 'archive'), (1, 'odd archive')]
 METHODS = ['GET', 'POST', 'PUT', 'HEAD', 'get', 'OPTIONS', 'DELETE', 'X', 'PATCH', 'CONNECT', "!#$%&'*+-.^_`|~"]
 PATHS = [
     '/', '*', '/x', '/yard/', '//yard', '/Yard', 'yard', 'http://127.0.0.1/yard', '/yardcsv', '/yard.CSV', '/visits',
@@ -47,6 +47,15 @@ ODD_TEXTS = [
     '/texts', '/texts/', '/texts/00', '/texts/01', '/texts/+1', '/texts/-1', '/texts/1x', '/texts/x', '/texts/0x1', '/texts/%30',
     '/texts/1%20', '/texts/0/', '/texts/0/0', '/texts//0', '/texts/999999999', '/texts/1000000000', '/texts/0000000000',
     '/texts/99999999999999999999', '/Texts/0', '/text/0', '/pages/texts', '/pages/texts/0', '/texts/\xb2', '/texts/1.0']
+# what stands in place of a report of an archive
+ODD_ARCHIVES = [
+    '/archives', '/archives/', '/archives/1', '/archives/1/', '/archives/0/yard', '/archives/01/yard', '/archives/+1/yard',
+    '/archives/1x/yard', '/archives//yard', '/archives/10000/yard', '/archives/9999/yard', '/archives/%31/yard',
+    '/archives/1//yard', '/archives/1/Yard', '/archives/1/x', '/archives/1/yard/', '/archives/1/texts/0',
+    '/archives/1/interchanges', '/archives/1/partners/HAULZ/gate', '/archives/1/partners/HAULA/interchanges',
+    '/archives/1/archives/1/yard', '/archives/1/pages/yard', '/pages/archives/1/yard', '/Archives/1/yard', '/archive/1/yard',
+    '/archives/1/visits/ABCU0000018', '/archives/1/visits/%zz', '/archives/99999999999999999999/yard', '/archives/1?/yard',
+    '/archives/1/yard?x', '/archives/1/find?container=ABCU0000017', '/archives/1/pages/find?container=ABCU0000017']
 QUERIES = [(8, ''), (1, '?'), (1, '?a=b/c?d'), (1, '?%zz')]
 LENGTHS = [
     [], ['Content-Length: %d', 'Content-Length: %d'], ['Content-Length: +%d'], ['Content-Length: '],
@@ -188,6 +197,11 @@ def report_path(random, office):
     return path_of(*known(random, office))
 
 
+def of_archive(random, office, path):
+    """The path of the same report, as an archive tells it: mostly one that is there."""
+    return '/archives/%d%s' % (random.randrange(len(office.register.archives) + 1) + 1, path)
+
+
 def typed(random, office):
     """A container's number as a person types it, or something else."""
     boxes = sorted({visit.number for visit in office.fold().terminal.visits})
@@ -284,6 +298,10 @@ def random_request(random, day, office):
         return get(random, path, random.choice(['GET', 'GET', random.choice(METHODS)]))
     if kind == 'find':
         return find(random, office)
+    if kind == 'archive':
+        return get(random, of_archive(random, office, report_path(random, office)))
+    if kind == 'odd archive':
+        return get(random, random.choice(ODD_ARCHIVES), random.choice(['GET', 'GET', 'GET', *METHODS]))
     if kind == 'texts':
         return get(random, '/texts/%d' % random.choice([0, 0, 1, random.randrange(len(office.deliveries) + 3)]))
     if kind == 'odd texts':

@@ -19,7 +19,7 @@ from .yard import Block, Place, blocker, first_slot, misfit, shift_misfit
 
 OTHER_SETUPS = {
     'No room': DEMO._replace(plan=[Block('A', bays=1, rows=1, tiers=2)]),
-    'Room for an empty container alone': DEMO._replace(plan=[Block('A', bays=1, rows=1, tiers=2)]),
+    'Room for an empty container only': DEMO._replace(plan=[Block('A', bays=1, rows=1, tiers=2)]),
     'The first slot that fits a full container': DEMO._replace(plan=[Block('A', bays=2, rows=1, tiers=2)]),
     'No more visits': DEMO._replace(most_visits=1),
     'No more visits, opened again': DEMO._replace(most_visits=1),

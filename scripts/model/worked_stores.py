@@ -228,7 +228,7 @@ LENGTHS = {
     ' without a length': [], ' in chunks': ['Transfer-Encoding: chunked'],
     ' with two lengths': ['Content-Length: %d', 'Content-Length: %d'],
     ' of length 1048577': ['Content-Length: 1048577']}
-BODIES = {' without its last byte': lambda text: text[:-1], ' and more behind it': lambda text: text + 'AAAA'}
+BODIES = {' without its last byte': lambda text: text[:-1], ' and more after it': lambda text: text + 'AAAA'}
 MANY_FIELDS = {' with a field of 8,192 bytes': ['X: ' + 'x' * 8189], ' with 65 fields': ['X: 1'] * 65}
 
 
