@@ -38,7 +38,7 @@ impl Words {
     /// The texts of a store with archives are in several files.
     pub(crate) const HAS_ARCHIVES: Words = Words {
         follow_path: true,
-        text: " has archives, and its texts are told only of a store that has none",
+        text: " has archives: only a store without archives gives its texts",
     };
 
     /// A register lies where a store is to be made.

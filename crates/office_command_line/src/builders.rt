@@ -44,7 +44,7 @@ pub(crate) fn deliver_command<'a>(alloc: Global) -> Result<Command<'a>, AllocErr
         "The file of interchanges, - for standard input",
     );
     let deliver = Command::new(alloc, "deliver")
-        .about("Deliver the interchanges of a file, and print an answer a line")
+        .about("Deliver a file's interchanges and print one answer per line")
         .after_help("Example: office deliver office.db gate-in.edi")
         .arg(store)?
         .arg(file)?;
@@ -72,7 +72,7 @@ pub(crate) fn serve_command<'a>(alloc: Global) -> Result<Command<'a>, AllocError
         alloc,
         "ahead",
         "N",
-        "Refuse a partner's number above its next one and N, by the path of that partner",
+        "On a partner's own path, refuse numbers more than N above its next one",
     );
     let serve = Command::new(alloc, "serve")
         .about("Serve connections over HTTP, one after the other")
@@ -115,10 +115,10 @@ pub(crate) fn texts_command<'a>(alloc: Global) -> Result<Command<'a>, AllocError
     let from = word_if_any(
         alloc,
         "FROM",
-        "How many texts to pass over, from 0 to 999999999; 0 if it is left out",
+        "How many texts to skip, from 0 to 999999999; by default 0",
     );
     let texts = Command::new(alloc, "texts")
-        .about("Print the texts that are kept, in the order in which they came")
+        .about("Print the kept texts in the order of arrival")
         .after_help("Example: office texts office.db 8000")
         .arg(store)?
         .arg(from)?;
@@ -151,11 +151,7 @@ pub(crate) fn migrate_command<'a>(alloc: Global) -> Result<Command<'a>, AllocErr
     ensures app { IfOk result (λ command. app_of command ≡ migrate_app) }
     ensures local { IfOk result (λ command. (out-Command command).has_globals ≡ false) }
 {
-    let old = word(
-        alloc,
-        "OLD",
-        "The store of an older version, which stays as it is",
-    );
+    let old = word(alloc, "OLD", "The older store, which is not changed");
     let new = word(alloc, "NEW", "The store to create");
     let migrate = Command::new(alloc, "migrate")
         .about("Copy an older store into a new one")
@@ -174,10 +170,10 @@ pub(crate) fn close_command<'a>(alloc: Global) -> Result<Command<'a>, AllocError
     let archive = word(
         alloc,
         "ARCHIVE",
-        "A copy of the store in the same folder, which keeps what goes from it",
+        "A copy of the store, in the same folder; it keeps what is deleted",
     );
     let close = Command::new(alloc, "close")
-        .about("Put a store's history away: what a copy of it keeps goes from it")
+        .about("Put history away: delete from a store what a copy of it keeps")
         .after_help("Example: office close office.db office-0001.db")
         .arg(store)?
         .arg(archive)?;
@@ -201,7 +197,7 @@ pub(crate) fn explain_command<'a>(alloc: Global) -> Result<Command<'a>, AllocErr
         "The file of the terminal and its partners; without it each sender has an account",
     );
     let explain = Command::new(alloc, "explain")
-        .about("Tell what is wrong with the interchanges of a file, and where, and deliver nothing")
+        .about("Show what is wrong with a file's interchanges, and where; deliver nothing")
         .after_help("Example: office explain gate-in.edi --partners partners.csv")
         .arg(file)?
         .arg(partners)?;
