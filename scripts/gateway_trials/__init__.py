@@ -7,6 +7,7 @@
     certificates.py  none, revoked ones, other authorities, a list that is over its date
     people.py        each role and each path; who may add accounts
     load.py          many clients at once, in any order; the office stopped, started anew and killed meanwhile
+    connections.py   ten thousand connections, one after the other
     copies.py        copies while it serves, and the drill that restores one
     health.py        a store that failed, an office that hangs, one that is away
     units.py         the units by systemd-analyze, the rotation of logs

@@ -8,6 +8,7 @@
     calls_of_others.py  the same for `report`, `serve` and `init`, and for calls of whatever kind
     commands.py         the same as calls.py for `account` and `migrate`; and their allocations refused
     closings.py         the same for `close`, and behind losses of power
+    printing.py         the same for `texts` and `explain`
     power.py            what a loss of power may leave, made up from the calls (with strace)
     full.py             no room: a file system that is full, a limit on the size of files
     places.py           read-only files and folders, copies, SQLite's own library, readers that go away

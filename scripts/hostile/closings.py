@@ -23,7 +23,7 @@ from model.stream import status
 from .books import Book, Different, expect, prefilled
 from .calls import STRACE
 from .calls_of_others import KILLED, MEMORY, STORE, UNWRITTEN, calls_of, each_call
-from .commands import UNMADE, each_room
+from .commands import UNMADE, each_room, refuse_each
 from .power import File, replayed, written_by
 from .working import run
 
@@ -249,6 +249,32 @@ def try_large(program, seed, counted):
             counted['large, killed: %s' % stage(before, after, state(store, path), 'large')] += 1
             expect('close again', READY, run(program, 'close', store, path))
             expect('all behind it', (after, kept), (state(store, path), rows_in(path)))
+
+
+# ---- allocations
+
+SEED = 1                    # of the stores whose closings have their allocations refused
+CLOSED = ['the first time', 'again']
+
+
+class Unmemorable(Closing):
+    """A closing that may tell no more than that memory ran out."""
+
+    wants = {MEMORY, UNWRITTEN}
+
+
+def refuse_closing(which, refusing, _office, _text, steps, counted):
+    """Allocations of a closing of a store that was never closed, or of one that was: each of a first step."""
+    with tempfile.TemporaryDirectory(prefix='memory-') as folder:
+        prepared = Prepared(refusing.program, folder, SEED, which == CLOSED[1])
+
+        def make():
+            for name in os.listdir(refusing.folder):
+                if name.startswith(NAMES):
+                    os.remove(os.path.join(refusing.folder, name))
+            return Unmemorable(prepared, refusing.folder)
+        refusing.run(make().words[1:])
+        refuse_each(refusing, make, Closing.found, range(1, refusing.allocations() + 1, steps[0]), counted)
 
 
 # ---- all

@@ -1,4 +1,4 @@
-"""Each allocation of `init`, `report`, `serve`, `account` and `migrate` refused in turn: scripts/memory.
+"""Each allocation of `init`, `report`, `serve`, `account`, `migrate` and `close` refused in turn: scripts/memory.
 
 With one allocation refused, a command does what it does with all of them, or it tells by name that memory ran out. An
 `init` that told so left no store, or a whole one; a `report` or a request that is answered so changes nothing.
@@ -10,13 +10,16 @@ from functools import partial
 
 from model.http import response, response_text
 from model.office import Office
+from model.pages import KINDS as PAGED
 from model.reports import REPORTS, WHOLE, printed
-from model.requests import every_key
+from model.requests import every_key, path_of
 from model.rows import rows_in, rows_of
 from model.setup import DEMO
 from model.stores import exchanged
+from model.syntax import sender_of
 
 from .books import Different, expect
+from .closings import CLOSED, refuse_closing
 from .commands import CODE, KIND, SHARES, refuse_addition, refuse_migration
 from .sampled import free_port
 from .served import account, get, post
@@ -118,31 +121,58 @@ def refuse_requests(refusing, before, text, steps, counted):
     start = os.path.join(refusing.folder, 'start.db')
     refusing.copy_to(start)
     requests = [post(text), get('/yard'), post(text), account(CODE, KIND), account(CODE, KIND)]
-    opened = serve(refusing, before, requests[:1], 0, counted, 'nothing refused')
+    opened = serve(refusing, before, requests[:1], 0, counted, 'serve')
     refusing.copy_from(start)
-    every = serve(refusing, before, requests, 0, counted, 'nothing refused')
+    every = serve(refusing, before, requests, 0, counted, 'serve')
     first = opened - (every - opened)
     for refused in [*range(1, first, steps[0]), *range(max(first, 1), every + 1, steps[1])]:
         refusing.copy_from(start)
-        serve(refusing, before, requests, refused, counted, 'serve, allocation %d' % refused)
+        serve(refusing, before, requests, refused, counted, 'serve')
     refusing.copy_from(start)
 
 
-def serve(refusing, before, requests, refused, counted, what):
+def routes_of(office, text):
+    """Requests by each route that shows pages or texts, and a delivery by the path of its sender, each by its name."""
+    found = {'/': get('/'), '/calls': get('/calls'), '/texts/..': get('/texts/0')}
+    for kind, key in keys_of(office):
+        if kind in PAGED:
+            path = '/pages' + path_of(kind, key)
+            found['/'.join([*path.split('/')[:3], *['..'] * bool(key)])] = get(path)
+        if kind == 'container':
+            found['/pages/find'] = get('/pages/find?container=' + key)
+    found['/partners/../interchanges'] = post(text).replace(' /', ' /partners/%s/' % sender_of(text), 1)
+    return found
+
+
+def refuse_routes(refusing, before, text, steps, counted):
+    """Each allocation of a server, once it listens, that is sent one of these requests twice."""
+    start = os.path.join(refusing.folder, 'start.db')
+    refusing.copy_to(start)
+    opened = serve(refusing, before, [get('/none')], 0, counted, 'serve') - PRINTING
+    for name, request in routes_of(before, text).items():
+        every = serve(refusing, before, [request, request], 0, counted, 'serve ' + name)
+        for refused in range(opened + 1, every + 1, steps[1]):
+            refusing.copy_from(start)
+            serve(refusing, before, [request, request], refused, counted, 'serve ' + name)
+        refusing.copy_from(start)
+
+
+def serve(refusing, before, requests, refused, counted, name):
     """A server that is sent these requests: how many allocations it made."""
     office, server = deepcopy(before), Server(refusing, len(requests), refused)
+    what = '%s, allocation %d' % (name, refused)
     if not server.line:
         if server.end() not in WANTS:
             raise Different(what + ', not opened')
-        counted['serve: told that memory ran out'] += 1
+        counted[name + ': told that memory ran out'] += 1
         return refusing.allocations()
     for request in requests:
         given = exchanged(server.port, request)
         if given == NOT_NOW:
-            counted['serve: not now'] += 1
+            counted[name + ': not now'] += 1
         else:
             expect(what, response(office, request), given)
-            counted['serve: answered'] += 1
+            counted[name + ': answered'] += 1
     expect(what + ', end', ('served %d\n' % len(requests), '', 0), server.end())
     expect(what + ', rows', (rows_of(office), []), rows_in(refusing.store))
     return refusing.allocations()
@@ -152,4 +182,5 @@ def serve(refusing, before, requests, refused, counted, what):
 OTHERS = {
     **{'migrate, version %d, share %d' % (version, share): partial(refuse_migration, version, share)
        for version in (1, 2) for share in range(SHARES)},
-    'init': refuse_init, 'serve': refuse_requests, 'reports': refuse_reports, 'account': refuse_addition}
+    'init': refuse_init, 'serve': refuse_requests, 'routes': refuse_routes, 'reports': refuse_reports,
+    'account': refuse_addition, **{'close, %s' % what: partial(refuse_closing, what) for what in CLOSED}}

@@ -1,17 +1,17 @@
 """All parts, with what was counted: scripts/kill9."""
 import sys
 
-from . import calls, calls_of_others, closings, commands, flips, full, kills, pairs, places, power
+from . import calls, calls_of_others, closings, commands, flips, full, kills, pairs, places, power, printing
 from .trials import status_of
 
 KILLS = 1000
 PARTS = {
     'calls': calls.try_calls, 'others': calls_of_others.try_all, 'commands': commands.try_all, 'closings': closings.try_all,
-    'power': power.try_losses,
+    'printing': printing.try_all, 'power': power.try_losses,
     'full': full.try_all, 'places': places.try_all, 'pairs': pairs.try_all, 'flips': flips.try_all}
 
 USAGE = """usage: scripts/kill9 [KILLS [SEED]]
-       scripts/kill9 calls|others|commands|closings|power|full|places|pairs|flips [SEED]
+       scripts/kill9 calls|others|commands|closings|printing|power|full|places|pairs|flips [SEED]
 
 SIGKILL while deliveries are under way, KILLS times (%d), and then each of the other parts; or one of these alone. The
 program is crates/office/out/office, or the one that OFFICE names in the environment.

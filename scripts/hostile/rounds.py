@@ -6,6 +6,7 @@ import random
 import tempfile
 from collections import Counter
 from functools import partial
+from urllib.parse import quote
 
 from model.beside import EVERY_KIND, kinds_of
 from model.counts import counting
@@ -13,10 +14,11 @@ from model.cuts import cut
 from model.days import Day
 from model.http import response
 from model.reports import printed, text_of
-from model.requests import get, known, of_length, post, question, random_request, report_path, request
+from model.requests import (
+    FORMS, get, known, of_length, own_delivery, post, post_as, question, random_request, report_path, request, typed)
 from model.setup import DEMO, is_utf8, read_setup
 from model.setups import Files, files_of
-from model.stores import Beside
+from model.stores import BOUNDS, Beside
 from model.stream import answers, lines, status
 from model.syntax import LONGEST_TEXT, segments_of
 
@@ -25,13 +27,15 @@ from .sampled import Sampled
 
 # how many of each a round has
 STREAMED = 160              # mutated interchanges in each of its streams
-REQUESTED = 260             # mutated requests
+REQUESTED = 320             # mutated requests
 SETUPS = 2                  # mutated set-ups
 KEYS = 2                    # mutated keys by the command
+SHORT = 2                   # bytes: what has fewer is not altered any further
 THOROUGH_EVERY = 4          # of so many rounds one has its rows compared, and its streams cut as one
 LARGE_EVERY = 240           # and one, which is thorough too, has interchanges of a MiB, or nearly
 
-REQUEST_KINDS = [(9, 'body'), (6, 'head'), (2, 'key'), (2, 'length'), (1, 'plain')]
+REQUEST_KINDS = [
+    (8, 'body'), (4, 'own body'), (6, 'head'), (2, 'key'), (2, 'length'), (2, 'page'), (2, 'form'), (1, 'plain')]
 
 
 class Round:
@@ -175,8 +179,9 @@ class Round:
         if self.seed % LARGE_EVERY == 0:
             found.append((post(self.random, self.large()), True))
         self.random.shuffle(found)
-        responses = [(text, response(self.office, text)) for text, _is_mutated in found]
-        self.program.serve(responses, partial(self.beside.served, self.name))
+        ahead = self.random.choice(BOUNDS)
+        responses = [(text, response(self.office, text, ahead)) for text, _is_mutated in found]
+        self.program.serve(responses, partial(self.beside.served, self.name), ahead)
         self.beside.counted.update(kind for _text, wanted in responses for kind in kinds_told(wanted))
 
     def bodies(self):
@@ -192,20 +197,47 @@ class Round:
         if kind == 'plain':
             return random_request(chance, self.day, self.office), False
         self.inputs['requests, mutated ' + kind] += 1
-        if kind == 'body':
+        if kind in ('body', 'own body'):
             text, is_mutated = next(bodies)
-            self.inputs['requests, mutated body'] -= not is_mutated
-            return post(chance, text), is_mutated
+            self.inputs['requests, mutated ' + kind] -= not is_mutated
+            return post(chance, text) if kind == 'body' else self.own(text), is_mutated
         if kind == 'key':
-            front, slash, key = report_path(chance, self.office)[1:].partition('/')
+            path = chance.choice([report_path(chance, self.office)] * 9 + ['/texts/%d' % chance.randrange(60)])
+            front, slash, key = path[1:].partition('/')
             other = known(chance, self.office)[1]
             return get(chance, '/' + front + slash + mutated(chance, key or front, other, KEY)), True
         if kind == 'length':
             return self.of_any_length(), True
-        whole = chance.choice([post(chance, self.day.again()), get(chance, report_path(chance, self.office))])
+        if kind == 'page':
+            return get(chance, self.mutated_target(self.page(), self.page())), True
+        if kind == 'form':
+            return get(chance, '/pages/find' + self.mutated_target(self.form(), self.form())), True
+        whole = chance.choice([
+            post(chance, self.day.again()), get(chance, report_path(chance, self.office)), self.own(self.day.again()),
+            get(chance, self.page()), get(chance, '/pages/find' + self.form())])
         other = random_request(chance, self.day, self.office)
         head, end, body = whole.partition('\r\n\r\n')
         return mutated(chance, head + end, other, HEAD) + body, True
+
+    def own(self, text):
+        """A delivery by the path of a partner: of the sender mostly, or of another; of what is too short to be altered, of any."""
+        if len(text) < SHORT:
+            return post_as(self.random, self.random.choice(sorted(self.office.setup.partners)), text)
+        return own_delivery(self.random, self.day, self.office, text)
+
+    def page(self):
+        """The path of a page on which something may be found."""
+        return self.random.choice(['/', *['/pages' + report_path(self.random, self.office)] * 9])
+
+    def form(self):
+        """What stands behind the path of the form, with a number that was typed."""
+        form = weighted(self.random, FORMS)
+        return form % typed(self.random, self.office) if '%s' in form else form
+
+    def mutated_target(self, text, other):
+        """A target so mutated, of which half have odd bytes escaped, so that more of them are read."""
+        found = mutated(self.random, text, other, KEY)
+        return found if self.random.random() < 0.5 else quote(found, safe='/%?&=+', encoding='latin-1')
 
     def of_any_length(self):
         """A delivery whose length is another than it says, or is said in another way."""

@@ -83,11 +83,13 @@ class Sampled(Program):
         except BrokenPipeError:
             pass
 
-    def serve(self, requests, expect):
+    def serve(self, requests, expect, ahead=None):
         """Sends each request on a connection of its own, and hands on the response that it should have beside the one that
-        it has; its memory is sampled before the last."""
+        it has; its memory is sampled before the last. By the path of a partner numbers may be above its next one by so many,
+        or by any."""
         port = free_port()
         words = [self.path, 'serve', self.store, str(port), str(len(requests))]
+        words += [] if ahead is None else ['--ahead', str(ahead)]
         with subprocess.Popen(words, stdout=subprocess.PIPE, encoding='utf-8') as process:
             try:
                 expect('listening', 'listening 127.0.0.1:%d\n' % port, process.stdout.readline())
