@@ -142,7 +142,7 @@ def goes_on(beside, name, program, office, day, is_reordered=False):
     beside.rows(name, program, office)
     requests = random_requests(chance, day, office, REQUESTS)
     if is_reordered:
-        requests = [request for request in requests if '/texts' not in request.split('\n', 1)[0]]
+        requests = [request for request in requests if '/texts' not in request.lstrip('\r\n').split('\n', 1)[0]]
     beside.serve(name, program, office, requests)
     beside.rows(name, program, office)
     if not is_reordered:
