@@ -19,7 +19,7 @@ share_whole value position small within =
     let share = share_small value position small within in
     mod-eq_of_lt (omega arith)
 
--- the sum from a position on is that character's share and the sum behind it
+-- the sum from a position on is that character's share and the sum after it
 pub weighted_sum-drop : (text : List ℕ) (position : ℕ) → position < length text →
     weighted_sum position (drop position text) ≡ value_of (get_or text position 0) * 2 ^ position + weighted_sum (position + 1) (drop (position + 1) text)
 weighted_sum-drop text position within = at_drop_more (weighted_sum position) text position 0 within

@@ -13,7 +13,7 @@ are_six_digits text = length text == 6 && list_all is_ascii_digit text
 abbrev pub digit : List ℕ → ℕ → ℕ
 digit digits position = slice_index digits position - digit_zero
 
--- what six digits behind a letter name
+-- what six digits after a letter name
 abbrev pub slot_at : ℕ → List ℕ → Slot
 slot_at letter digits = record {
   block = letter;
@@ -22,7 +22,7 @@ slot_at letter digits = record {
   tier = digit digits 5;
 }
 
--- the slot with this name, by its form alone
+-- the slot with this name, only by its form
 unfoldable pub slot_of : List ℕ → Option Slot
 slot_of [] = None
 slot_of (letter ∷ digits) =

@@ -36,7 +36,7 @@ impl PartialEq for Slot {
 impl Slot {
     ghost use Rattle.box6346.specs.SlotName.{slot_of, slot_text};
 
-    /// Reads a slot's name by its form alone: whether a yard has the slot is the yard's to say.
+    /// Reads a slot's name only by its form: whether a yard has the slot is the yard's to say.
     #[tactic(auto, unfolding(crate::specs::SlotName::slot_of))]
     pub fn parse(text: &[u8]) -> Option<Slot>
         ensures { result ≡ slot_of text.now }

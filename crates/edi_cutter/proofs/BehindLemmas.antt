@@ -1,4 +1,4 @@
--- Bytes that come behind nine of an interchange: no advice can begin any more.
+-- Bytes that come after nine of an interchange: no advice can begin any more.
 use Rattle.std.proofs.Common.{◌≡◌, ℕ, zero, suc, ◌+◌, ◌-◌, ◌<◌, ◌≤◌, Bool, true, false, cond, ◌&&◌, nat_lt, min, List, [], ◌∷◌, ◌++◌, length, take, Some, None, refl, sym, ap, subst, ◌∙◌, inl, inr, append_assoc, arith}
 use Rattle.std.proofs.lemmas.Bool.{cases_Bool, true≢false, ltb-true, ltb-false, lt-leb, lt-ltb, le-ltb}
 use Rattle.std.proofs.lemmas.List.{append-nil, take-append-le, take-take, length-append, length-take, length-take-le}
@@ -81,7 +81,7 @@ going (Tagged closes) none open_ = refl
 going (Inside released closes) none open_ = refl
 going Refused none open_ = none
 
--- ---- what is held, and what was read of a piece behind it
+-- ---- what is held, and what was read of a piece after it
 
 pub record Scanned (text : List ℕ) (reading : Reading) (piece : List ℕ) (room used : ℕ) (position : Position) : Type 0 where
   pub holds : Holds text reading

@@ -1,4 +1,4 @@
--- The bytes of an interchange that may be an advice, and a piece behind them.
+-- The bytes of an interchange that may be an advice, and a piece after them.
 use Rattle.std.proofs.Common.{◌≡◌, ℕ, zero, suc, ◌+◌, ◌-◌, ◌<◌, ◌≤◌, true, false, List, [], ◌∷◌, ◌++◌, length, take, drop, get_or, Some, None, refl, sym, ap, subst, ◌∙◌, append_assoc, arith}
 use Rattle.std.proofs.Math.ListN.{set}
 use Rattle.std.proofs.lemmas.Bool.{true≢false}
@@ -12,7 +12,7 @@ use Rattle.edi_cutter.specs.declared.position.Reading.{Reading}
 use Rattle.edi_cutter.specs.declared.cutter.CutFault.{CutFault}
 use Rattle.edi_cutter.proofs.HoldLemmas.{before_more, no_breaks}
 
--- the bytes of the piece so far stand behind the text, and were read
+-- the bytes of the piece so far stand after the text, and were read
 pub record Filled (text piece front : List ℕ) (i : ℕ) (reading : Reading) : Type 0 where
   pub long : length front ≡ 9
   pub filled : take (length text + i) front ≡ text ++ take i piece
@@ -93,12 +93,12 @@ read_all text piece i reading past holds = record {
   all = λ open_. refl;
 }
 
--- ---- the rest of the piece, behind nine bytes
+-- ---- the rest of the piece, after nine bytes
 
 pub nine : (text piece front : List ℕ) (i : ℕ) (reading : Reading) → Filled text piece front i reading → 9 ≤ length text + i → front ≡ text ++ take i piece
 nine text piece front i reading f past = sym (take_all (length text + i) front (omega (arith, f.long, past))) ∙ f.filled
 
--- what stands behind
+-- what stands after
 pub record Rest (piece rest : List ℕ) (i : ℕ) : Type 0 where
   pub within : i < length piece
   pub rest_is : rest ≡ take (length piece - i) (drop i piece)

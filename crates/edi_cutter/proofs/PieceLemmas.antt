@@ -1,4 +1,4 @@
--- What was read of a piece, behind the line breaks at its front.
+-- What was read of a piece, after the line breaks at its front.
 use Rattle.std.proofs.Common.{◌≡◌, ℕ, zero, suc, ◌+◌, ◌-◌, ◌<◌, ◌≤◌, Bool, true, false, cond, nat_lt, List, [], ◌∷◌, ◌++◌, length, take, drop, Option, Some, None, IfSome, refl, sym, ap, subst, ◌∙◌, inl, inr, arith}
 use Rattle.std.proofs.lemmas.Bool.{cases_Bool, false≢true, ltb-true, ltb-false, eqb-true}
 use Rattle.std.proofs.lemmas.List.{take_all, length-drop, append-nil}
@@ -17,7 +17,7 @@ use Rattle.edi_cutter.proofs.StreamLemmas.{none_left}
 
 -- ---- line breaks at the front
 
--- the piece behind its line breaks
+-- the piece after its line breaks
 pub record Begins (q piece rest : List ℕ) (b : ℕ) : Type 0 where
   pub within : b ≤ length piece
   pub len : length rest ≡ length piece - b

@@ -98,7 +98,7 @@ reads_quiet s position bytes q going within keeps = record {
   before = λ m h. ap stops (keeps m (omega (arith, h))) ∙ going;
 }
 
--- a tag and the separator behind it
+-- a tag and the separator after it
 tag_of_four : (s : Service) (a b c d : ℕ) (rest : List ℕ) → is_tag_byte a ≡ true → is_tag_byte b ≡ true → is_tag_byte c ≡ true → d == s.element ≡ true
     → Reads s (Between false) (a ∷ b ∷ c ∷ d ∷ rest) 4 (Inside false (a == 85 && b == 78 && c == 90))
 unfolding positions.position_after

@@ -24,7 +24,7 @@ none_left (b ∷ bytes) =
 without_none : (bytes : List ℕ) → breaks_len bytes ≡ 0 → without_breaks bytes ≡ bytes
 without_none bytes none = ap (λ (n : ℕ). drop n bytes) none
 
--- behind the first byte that is no line break
+-- after the first byte that is no line break
 without_more : (front behind : List ℕ) → (without_breaks front ≡ [] → ⊥) → without_breaks (front ++ behind) ≡ without_breaks front ++ behind
 without_more [] behind some = absurd (some refl)
 without_more (b ∷ front) behind some =

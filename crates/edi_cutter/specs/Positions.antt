@@ -11,7 +11,7 @@ use Rattle.edi_segments.specs.declared.token.Token.TheVariants.{Data, Release, C
 use Rattle.edi_cutter.specs.declared.position.Position.{Position}
 use Rattle.edi_cutter.specs.declared.position.Position.TheVariants.{Between, First, Second, Tagged, Inside, Refused}
 
--- the position behind a byte among elements
+-- the position after a byte among elements
 abbrev pub inside_by : Token → Bool → Position
 inside_by Data closes = Inside false closes
 inside_by Release closes = Inside true closes
@@ -20,7 +20,7 @@ inside_by Element closes = Inside false closes
 inside_by Terminator closes = Between closes
 inside_by Invalid closes = Refused
 
--- the position behind one byte more
+-- the position after one byte more
 abbrev pub position_by : Service → Position → ℕ → Position
 position_by s (Between closed) b =
     if is_break b then Between false
@@ -33,7 +33,7 @@ position_by s (Tagged closes) b =
 position_by s (Inside released closes) b = inside_by (token_of s released b) closes
 position_by s Refused b = Refused
 
--- the position behind bytes
+-- the position after bytes
 unfoldable pub position_after : Service → Position → List ℕ → Position
 position_after s position [] = position
 position_after s position (b ∷ bytes) = position_after s (position_by s position b) bytes
@@ -56,7 +56,7 @@ stops (Tagged closes) = false
 stops (Inside released closes) = false
 stops Refused = true
 
--- Behind that position so many of the bytes lead to that other, and no fewer to one that stops.
+-- After that position so many of the bytes lead to that other, and no fewer to one that stops.
 pub record Reads (s : Service) (position : Position) (bytes : List ℕ) (n : ℕ) (position' : Position) : Type 0 where
   pub within : n ≤ length bytes
   pub leads : position' ≡ position_after s position (take n bytes)
@@ -78,7 +78,7 @@ StayInside s bytes = (closes : Bool) (m : ℕ) → m ≤ length bytes →
 
 -- ---- the same, apart from any reading
 
--- segments behind line breaks
+-- segments after line breaks
 abbrev pub SegmentsBehindBreaks : Service → List Content → List ℕ → Type 0
 SegmentsBehindBreaks s segments text =
     (breaks rest : List ℕ) × IsTrue (list_all is_break breaks) × SegmentsText s segments rest × (text ≡ breaks ++ rest)
@@ -93,7 +93,7 @@ Closes s bytes =
     (before : List Content) × (trailer : Content) × (front last : List ℕ) × SegmentsBehindBreaks s before front
     × SegmentText s trailer last × (trailer.tag ≡ codes "UNZ") × (bytes ≡ front ++ last)
 
--- No position is behind bytes exactly if no continuation is a text of segments.
+-- No position is after bytes exactly if no continuation is a text of segments.
 abbrev pub RefusedWhereNothingGoesOn : Type 0
 RefusedWhereNothingGoesOn =
     (s : Service) (bytes : List ℕ)

@@ -8,7 +8,7 @@ use Rattle.edi_cutter.specs.Cuts.{Cutting, pending_bytes, interchange, IsInterch
 abbrev pub HasNone : List ℕ → Type 0
 HasNone bytes = (n : ℕ) → IsInterchange (take n bytes) → ⊥
 
--- A stream begins with these interchanges, each behind any number of CR and LF. What is left over behind them, without
+-- A stream begins with these interchanges, each after any number of CR and LF. What is left over after them, without
 -- the CR and LF at its front, ends so.
 abbrev pub CutsFrom : (List ℕ → Type 0) → List ℕ → List (List ℕ) → Type 0
 CutsFrom Ends stream [] = Ends (without_breaks stream)
@@ -48,7 +48,7 @@ CutsTheStream =
     (c new : Cutting) (pieces interchanges : List (List ℕ)) → pending_bytes c ≡ [] → FeedsAll c pieces interchanges new
     → AreCuts (stream_of pieces) interchanges (pending_bytes new)
 
--- A stream has one list of interchanges and one rest. So these depend on the stream alone, however it is cut into
+-- A stream has one list of interchanges and one rest. So these depend only on the stream, however it is cut into
 -- pieces.
 abbrev pub CutsAreOne : Type 0
 CutsAreOne =

@@ -72,7 +72,7 @@ length_answer header between =
     let behind : length (between ++ unt (length between + 2) ∷ unz header ∷ []) ≡ length between + 2 = length-append between (unt (length between + 2) ∷ unz header ∷ []) in
     omega (arith, behind)
 
--- an answer with these segments behind UCI
+-- an answer with these segments after UCI
 answer_without_fault : (segments : List Content) (verdict : Verdict) (more : List Content) → header_fault_of segments ≡ None
     → AreInner more → list_any is_of_functional_group more ≡ false → AllByRecursion IsWritableSegment more
     → length (segments_text (answer_segments (header_of segments) (uci (header_of segments) verdict ∷ more))) ≤ most_bytes

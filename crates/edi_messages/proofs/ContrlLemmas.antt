@@ -32,7 +32,7 @@ opened w header verdict = with_segments w (unb header ∷ unh ∷ uci header ver
 abbrev pub closed : Writing → Content → ℕ → Writing
 closed w header count = with_segments w (unt count ∷ unz header ∷ [])
 
--- the whole, with more segments behind its UCI
+-- the whole, with more segments after its UCI
 answer_written : (start : Writing) (header : Content) (verdict : Verdict) (more : List Content) (count : ℕ) → start ≡ nothing_written → length more + 3 ≡ count
     → (closed (with_segments (opened start header verdict) more) header count).text ≡ segments_text (answer_segments header (uci header verdict ∷ more))
 answer_written start header verdict more count starts is =

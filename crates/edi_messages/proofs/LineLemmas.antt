@@ -27,7 +27,7 @@ use Rattle.edi_messages.specs.LineFaults.{is_size, has_bad_moment, line_fault_in
 use Rattle.edi_messages.specs.declared.line.LineFault.{LineFault}
 use Rattle.edi_messages.specs.declared.line.LineFault.TheVariants.{Form, CheckDigit, Size, Moment, SlotText}
 
--- ---- a step of a line: its own fault, or the faults behind it
+-- ---- a step of a line: its own fault, or the faults after it
 
 number_step : {T : Type 0} (a b : Bool) (n : BoxNumber) (rest : BoxNumber → Result T LineFault) (behind : Option LineFault) → ((n : BoxNumber) → result_err (rest n) ≡ behind) →
     result_err (then_read (result_map_both (λ (n : BoxNumber). n) line_fault_of (if a then (if b then Ok n else Err number_fault.TheVariants.CheckDigit) else Err number_fault.TheVariants.Form)) rest)

@@ -138,7 +138,7 @@ most_containers = 999
 abbrev pub has_too_many : Message → Bool
 has_too_many message = nat_lt most_containers (count_by is_container message.segments)
 
--- whether the fault applies to the message; want of memory is no fault of it
+-- whether the fault applies to the message; lack of memory is no fault of it
 abbrev pub applies : Codes → Message → MessageFault → Bool
 applies codes message OtherType = is_of_other_type message
 applies codes message NoBgm = is_none (beginning message)

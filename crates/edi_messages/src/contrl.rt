@@ -19,7 +19,7 @@ use std::alloc::{AllocError, Global};
 /// The error code (0085) for an interchange whose recipient is another than who got it.
 pub const WRONG_RECIPIENT: u8 = 7;
 
-/// The error code (0085) for a message that is rejected. `None` for want of memory, which no CONTRL tells.
+/// The error code (0085) for a message that is rejected. `None` for lack of memory, which no CONTRL tells.
 pub fn message_error(fault: MessageFault) -> Option<u8>
     ensures { result ≡ message_error fault }
 {

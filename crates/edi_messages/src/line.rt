@@ -69,7 +69,7 @@ pub(crate) struct Group<'a> {
     pub booking: Option<Segment<'a>>,
     /// The first that states a gross weight in kilograms.
     pub weight: Option<Segment<'a>>,
-    /// What stands behind them.
+    /// What stands after them.
     pub behind: MessageSegments<'a>,
     ghost timed: { option_map content moment
         ≡ find states_moment (part_left details) } by { Prim.hlevel props },

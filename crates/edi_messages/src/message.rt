@@ -102,7 +102,7 @@ pub enum MessageFault {
     /// It has no EQD of a container (8053 `CN`).
     #[error("no EQD of a container")]
     NoEquipment,
-    /// Its control total (CNT, 6066 behind `16`) isn't the number of its EQD segments, in 1 to 6 digits.
+    /// Its control total (CNT, 6066 after `16`) isn't the number of its EQD segments, in 1 to 6 digits.
     #[error("the control total (CNT) is not the number of EQD segments")]
     EquipmentCount,
     /// It has more than 999 containers.
@@ -113,7 +113,7 @@ pub enum MessageFault {
     Memory,
 }
 
-/// A message that is rejected, by a fault that a CONTRL tells: any but want of memory.
+/// A message that is rejected, by a fault that a CONTRL tells: any but lack of memory.
 #[derive(Clone, Copy, Debug)]
 pub struct Rejection {
     /// Why.
@@ -126,7 +126,7 @@ pub struct Rejection {
 impl Rejection {
     ghost use Rattle.edi_messages.specs.declared.message.MessageFault.{MessageFault};
 
-    /// The rejection for that fault. `None` for want of memory.
+    /// The rejection for that fault. `None` for lack of memory.
     pub fn of(fault: MessageFault) -> Option<Rejection>
         ensures some { IfSome result (λ rejection. rejection.fault ≡ fault) }
         ensures none { IfNone result (fault ≡ MessageFault.Memory) }

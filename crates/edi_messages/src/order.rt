@@ -23,7 +23,7 @@ pub enum Order {
         number: BoxNumber,
         moment: Moment,
     },
-    /// It goes to this slot (3225 behind `ZZZ`).
+    /// It goes to this slot (3225 after `ZZZ`).
     Move {
         number: BoxNumber,
         slot: Slot,
@@ -33,7 +33,7 @@ pub enum Order {
         call: Call,
         number: BoxNumber,
     },
-    /// It is a line of the call's load list, for a port of discharge (3225 behind `11`), 1 to 35 bytes from
+    /// It is a line of the call's load list, for a port of discharge (3225 after `11`), 1 to 35 bytes from
     /// 0x20 to 0x7E, or empty.
     ListLoad {
         call: Call,
@@ -81,13 +81,13 @@ pub struct Entry {
     pub size_type: SizeType,
     /// Whether it is full (8169).
     pub is_laden: bool,
-    /// The booking (1154 behind `BN`), 1 to 35 bytes from 0x20 to 0x7E, or empty.
+    /// The booking (1154 after `BN`), 1 to 35 bytes from 0x20 to 0x7E, or empty.
     pub booking: String,
     /// When it came: the moment (2380) of its group, or else that of the interchange.
     pub moment: Moment,
     /// The slot that is asked for, if one is named.
     pub slot: Option<Slot>,
-    /// Its gross weight in kilograms (6314 behind `G` and `KGM`), up to 999,999, or 0 if none is stated.
+    /// Its gross weight in kilograms (6314 after `G` and `KGM`), up to 999,999, or 0 if none is stated.
     pub kilos: u32,
 }
 

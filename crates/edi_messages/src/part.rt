@@ -77,7 +77,7 @@ pub(crate) fn call_of<'a>(purpose: PurposeSpan<'a>) -> Option<CallSpan<'a>>
     }
 }
 
-/// The segments behind an equipment, before the next equipment or control total.
+/// The segments after an equipment, before the next equipment or control total.
 #[derive(Clone, Copy)]
 pub(crate) struct Part<'a> {
     rest: MessageSegments<'a>,

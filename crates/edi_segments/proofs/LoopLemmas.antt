@@ -51,7 +51,7 @@ end_passed s bytes i Release within is h = absurd cc
 end_passed s bytes i Terminator within is h = absurd cc
 end_passed s bytes i Invalid within is h = absurd cc
 
--- bytes behind those that were passed over before
+-- bytes after those that were passed over before
 pub end_joined : (s : Service) (bytes rest : List ℕ) (at more : ℕ) → rest ≡ drop at bytes → end_of s false bytes ≡ option_map (λ n. at + n) (end_of s false (drop at bytes)) → end_of s false rest ≡ option_map (λ n. more + n) (end_of s false (drop more rest)) → end_of s false bytes ≡ option_map (λ n. at + more + n) (end_of s false (drop (at + more) bytes))
 end_joined s bytes rest at more is before behind =
     before ∙ ap (option_map (λ n. at + n)) (ap (end_of s false) (sym is) ∙ behind ∙ ap (λ (t : List ℕ). option_map (λ n. more + n) (end_of s false (drop more t))) is ∙ ap (λ (t : List ℕ). option_map (λ n. more + n) (end_of s false t)) (drop-drop more at bytes))

@@ -232,7 +232,7 @@ separator_cut s separator bytes i within last other =
     let released = releases (token_of s false (get_or bytes i 0)) in
     separator_further s separator false bytes i within other ∙ ap (option_map (λ n. i + 1 + n)) (separator_nowhere s separator released bytes (i + 1) last)
 
--- bytes behind those that were passed over before
+-- bytes after those that were passed over before
 pub separator_joined : (s : Service) (separator : ℕ) (bytes rest : List ℕ) (at more : ℕ) → rest ≡ drop at bytes → separator_of s separator false bytes ≡ option_map (λ n. at + n) (separator_of s separator false (drop at bytes)) → separator_of s separator false rest ≡ option_map (λ n. more + n) (separator_of s separator false (drop more rest)) → separator_of s separator false bytes ≡ option_map (λ n. at + more + n) (separator_of s separator false (drop (at + more) bytes))
 separator_joined s separator bytes rest at more is before behind =
     before

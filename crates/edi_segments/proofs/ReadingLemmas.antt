@@ -16,7 +16,7 @@ abbrev IsPending : Service → Bool → List ℕ → Type 0
 IsPending s false front = front ≡ []
 IsPending s true front = (r : ℕ) × (s.release ≡ Some r) × (front ≡ r ∷ [])
 
--- the text of an element, and of further ones, each behind the separator
+-- the text of an element, and of further ones, each after the separator
 abbrev pub Reads : Service → List (List (List ℕ)) → List ℕ → Type 0
 Reads s [] text = ⊥
 Reads s (values ∷ elements) text =

@@ -14,7 +14,7 @@ use Rattle.edi_segments.specs.declared.token.Token.TheVariants.{Data, Release, C
 use Rattle.edi_segments.proofs.TokenLemmas.{MeansUnreleased, token_means, released_means, element_token, terminator_token}
 use Rattle.edi_segments.proofs.ReadingLemmas.{Reads, sound, complete}
 
--- the segment at the front, and the bytes behind its terminator
+-- the segment at the front, and the bytes after its terminator
 abbrev pub segment_at : Service → List ℕ → Option (Content × List ℕ)
 segment_at s bytes = option_map (λ n. (content_of s (take n bytes), drop (n + 1) bytes)) (body_len s bytes)
 
@@ -80,7 +80,7 @@ pub mapped_some : {A B : Type 0} (f : A → B) (o : Option A) (y : B) → option
 mapped_some f None y e = absurd cc
 mapped_some f (Some x) y e = (x, refl, cc)
 
--- the elements behind a tag, with the first one's separator
+-- the elements after a tag, with the first one's separator
 elements_read : (s : Service) (body : List ℕ) (behind : List ℕ) → are_elements s false body ≡ true → begins_elements s (body ++ s.terminator ∷ behind) ≡ true → ElementsText s (drop 1 (elements_of s false body)) body
 unfolding elements_of are_elements
 elements_read s [] behind inside begins = refl

@@ -18,7 +18,7 @@ characters s = record { component = s.component; element = s.element; release = 
 abbrev pub may_be_used : ServiceCharacters → Bool
 may_be_used c = are_service_characters c.component c.element c.release c.terminator
 
--- The characters that six bytes behind `UNA` name: component separator, element separator, decimal mark, release
+-- The characters that six bytes after `UNA` name: component separator, element separator, decimal mark, release
 -- character, a reserved byte, terminator. A space in the release place says that none is used.
 abbrev pub advised_characters : List ℕ → ServiceCharacters
 advised_characters text = record {
@@ -70,6 +70,6 @@ advice_len text = if begins_with_advice text then 9 else 0
 abbrev pub without_breaks : List ℕ → List ℕ
 without_breaks bytes = drop (breaks_len bytes) bytes
 
--- what stands behind the advice and the line breaks after it, if there is one
+-- what stands after the advice and the line breaks after it, if there is one
 abbrev pub behind_advice : List ℕ → List ℕ
 behind_advice text = if begins_with_advice text then without_breaks (drop 9 text) else text

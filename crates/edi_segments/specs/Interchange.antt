@@ -27,7 +27,7 @@ AdviceText s text =
     (decimal reserved : ℕ)
     × (text ≡ codes "UNA" ++ s.component ∷ s.element ∷ decimal ∷ release_byte s.release ∷ reserved ∷ s.terminator ∷ [])
 
--- segments behind an advice, with any number of CR and LF behind it
+-- segments after an advice, with any number of CR and LF after it
 abbrev pub AdvisedText : List Content → List ℕ → Type 0
 AdvisedText segments text =
     (s : Service) × (advice breaks rest : List ℕ) × AdviceText s advice × IsTrue (list_all is_break breaks)
@@ -45,7 +45,7 @@ InterchangeText segments text =
 abbrev pub segments_in : List ℕ → List Content
 segments_in text = segments_of (service_at text) (behind_advice text)
 
--- what stands behind the advice is a list of segments
+-- what stands after the advice is a list of segments
 abbrev pub is_segment_text : List ℕ → Bool
 is_segment_text text = are_segments (service_at text) (behind_advice text)
 

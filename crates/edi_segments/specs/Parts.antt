@@ -29,7 +29,7 @@ separator_of s separator released (b ∷ bytes) =
     if separates separator released b then Some 0
     else option_map suc (separator_of s separator (releases (token_of s released b)) bytes)
 
--- what stands before and behind the first separator
+-- what stands before and after the first separator
 abbrev pub split_of : Service → ℕ → List ℕ → Option (List ℕ × List ℕ)
 split_of s separator bytes =
     option_map (λ n. (take n bytes, drop (n + 1) bytes)) (separator_of s separator false bytes)

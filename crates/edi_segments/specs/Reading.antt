@@ -87,7 +87,7 @@ abbrev pub breaks_len : List ℕ → ℕ
 breaks_len [] = 0
 breaks_len (b ∷ bytes) = if is_break b then suc (breaks_len bytes) else 0
 
--- the segment at the front, and what stands behind it and the line breaks after it
+-- the segment at the front, and what stands after it and the line breaks after it
 abbrev pub next_at : Service → List ℕ → Option (Content × List ℕ)
 next_at s bytes =
     option_map (λ n. (content_of s (take n bytes), drop (breaks_len (drop (n + 1) bytes)) (drop (n + 1) bytes)))

@@ -1,4 +1,4 @@
--- Segments written under the default service characters: releases before service characters alone, no empty components
+-- Segments written under the default service characters: releases only before service characters, no empty components
 -- or elements at an end, no line breaks.
 use Rattle.std.specs.Prelude.{◌≡◌, ℕ, Bool, true, false, ◌==◌, List, [], ◌∷◌, ◌++◌, length, take, codes, IsTrue, if◌then◌else◌}
 use Rattle.edi_segments.specs.Bytes.{colon, plus_sign, question_mark, apostrophe}
@@ -8,7 +8,7 @@ use Rattle.edi_segments.specs.Tokens.{is_service}
 use Rattle.edi_segments.specs.Advice.{default_service}
 use Rattle.edi_segments.specs.Text.{Content, IsTag}
 
--- the byte, behind the release character if it would serve otherwise
+-- the byte, after the release character if it would serve otherwise
 abbrev pub spelled_byte : ℕ → List ℕ
 spelled_byte b = if is_service default_service b then question_mark ∷ b ∷ [] else b ∷ []
 
@@ -29,7 +29,7 @@ abbrev pub composite : List (List ℕ) → List ℕ
 composite [] = []
 composite (value ∷ values) = spelling value ++ (if list_all is_empty_value values then [] else colon ∷ composite values)
 
--- the texts of elements, each behind a separator, without the empty ones at their end
+-- the texts of elements, each after a separator, without the empty ones at their end
 abbrev pub elements_text : List (List (List ℕ)) → List ℕ
 elements_text [] = []
 elements_text (element ∷ elements) =

@@ -55,7 +55,7 @@ ElementText s (value ∷ next ∷ values) text =
     (first rest : List ℕ) × Spells s value first × ElementText s (next ∷ values) rest
     × (text ≡ first ++ s.component ∷ rest)
 
--- elements, each behind the element separator
+-- elements, each after the element separator
 abbrev pub ElementsText : Service → List (List (List ℕ)) → List ℕ → Type 0
 ElementsText s [] text = text ≡ []
 ElementsText s (element ∷ elements) text =
@@ -71,7 +71,7 @@ SegmentText s segment text =
     IsTag segment.tag × (elements : List ℕ) × ElementsText s segment.elements elements
     × (text ≡ segment.tag ++ elements ++ s.terminator ∷ [])
 
--- segments, with any number of CR and LF behind each
+-- segments, with any number of CR and LF after each
 abbrev pub SegmentsText : Service → List Content → List ℕ → Type 0
 SegmentsText s [] text = text ≡ []
 SegmentsText s (segment ∷ segments) text =

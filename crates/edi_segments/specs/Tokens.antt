@@ -12,7 +12,7 @@ is_service s b = b == s.component || b == s.element || b == s.terminator || is_r
 abbrev pub is_plain : Service → ℕ → Bool
 is_plain s b = is_data_byte b && not (is_service s b)
 
--- a byte that may stand behind the release character
+-- a byte that may stand after the release character
 abbrev pub may_be_released : Service → ℕ → Bool
 may_be_released s b = is_data_byte b || is_service s b
 
@@ -26,7 +26,7 @@ token_of s false b =
     else if is_data_byte b then Data
     else Invalid
 
--- the byte behind this one is released
+-- the byte after this one is released
 abbrev pub releases : Token → Bool
 releases Release = true
 releases Data = false

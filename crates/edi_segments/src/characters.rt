@@ -87,7 +87,7 @@ impl Service {
         }
     }
 
-    /// The byte releases the one behind it, unless it is released itself.
+    /// The byte releases the one after it, unless it is released itself.
     #[tactic(auto, unfolding(crate::specs::Tokens::token_of))]
     pub fn releases(&self, released: bool, byte: u8) -> bool
         ensures { result ≡ releases (token_of self.now released byte) }

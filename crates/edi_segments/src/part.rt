@@ -23,7 +23,7 @@ pub(crate) fn part<'a>(service: Service, separator: u8, bytes: &'a [u8], index: 
     }
 }
 
-/// What stands before and behind the first separator that is not released.
+/// What stands before and after the first separator that is not released.
 pub(crate) fn split_once<'a>(
     service: Service,
     separator: u8,
@@ -35,7 +35,7 @@ pub(crate) fn split_once<'a>(
     split_from(service, separator, bytes, len_before(separator, bytes))
 }
 
-/// The same, of the rest of a text, which goes on far behind the separator.
+/// The same, of the rest of a text, which goes on far after the separator.
 pub(crate) fn split_once_in_rest<'a>(
     service: Service,
     separator: u8,
@@ -52,7 +52,7 @@ pub(crate) fn split_once_in_rest<'a>(
     )
 }
 
-/// What stands before and behind the first separator that is not released. `at` bytes stand before the first one,
+/// What stands before and after the first separator that is not released. `at` bytes stand before the first one,
 /// released or not: all, if there is none.
 fn split_from<'a>(
     service: Service,
@@ -87,7 +87,7 @@ fn separator_at(service: Service, separator: u8, bytes: &[u8], at: usize) -> Opt
     Some(at)
 }
 
-/// How many bytes stand before the first separator, released or not, in the rest of a text, which goes on far behind
+/// How many bytes stand before the first separator, released or not, in the rest of a text, which goes on far after
 /// it: all if there is none.
 fn len_before_in_rest(separator: u8, bytes: &[u8]) -> usize
     ensures { result ≡ position_or_len (λ b. b == separator) bytes.now }

@@ -11,7 +11,7 @@ use crate::part::split_once_in_rest;
 use crate::segment::Segment;
 use crate::token::{Token, TokenTable};
 
-/// What stands behind a service string advice of that length and the line breaks after it: the whole text, if there
+/// What stands after a service string advice of that length and the line breaks after it: the whole text, if there
 /// is none.
 pub(crate) fn behind_advice<'a>(text: &'a [u8], start: usize) -> &'a [u8]
     requires within { start ≤ length text.now }
@@ -41,7 +41,7 @@ pub(crate) fn are_segments(service: Service, bytes: &[u8]) -> bool
     true
 }
 
-/// The segment at the front, and what stands behind its terminator and the line breaks after it.
+/// The segment at the front, and what stands after its terminator and the line breaks after it.
 #[inline(always)]
 pub(crate) fn next_segment<'a>(
     table: &TokenTable,

@@ -91,7 +91,7 @@ impl<'t, 'a> CheckedSegments<'t, 'a> {
             ≡ content segment ∷ checked_left self.new) }
         ensures same { IfNone result (self.new ≡ self.old) }
 
-        // Nothing but segments is left if nothing but segments is left behind the first.
+        // Nothing but segments is left if nothing but segments is left after the first.
         ensures all { IfSome result (λ segment. are_all self.old ≡ are_all self.new) }
     {
         let (segment, rest) = next_segment(self.table, self.rest)?;

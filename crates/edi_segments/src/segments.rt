@@ -23,7 +23,7 @@ pub struct Segments<'a> {
 impl<'a> Segments<'a> {
     ghost use Rattle.edi_segments.specs.Segment.{segments_left};
 
-    /// The segments of an interchange's text, behind its service string advice if it has one. Answers
+    /// The segments of an interchange's text, after its service string advice if it has one. Answers
     /// `SyntaxFault::Service` if the advice is bad, and else `SyntaxFault::Segment` if what follows is not a list
     /// of segments, each with its terminator.
     pub fn read(text: &'a [u8]) -> Result<Segments<'a>, SyntaxFault>

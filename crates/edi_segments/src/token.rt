@@ -26,7 +26,7 @@ pub enum Token {
 impl Token {
     ghost use Rattle.edi_segments.specs.Tokens.{releases, stays_unreleased};
 
-    /// The byte behind this one is released.
+    /// The byte after this one is released.
     pub fn releases(self) -> bool
         ensures { result ≡ releases self }
     {
@@ -81,7 +81,7 @@ impl TokenTable {
         self.tokens[byte as usize]
     }
 
-    /// What the byte is behind the release character.
+    /// What the byte is after the release character.
     pub(crate) fn released_token(&self, byte: u8) -> Token
         ensures { result ≡ token_of self.now.service true byte }
     {

@@ -10,7 +10,7 @@ use crate::component::Component;
 use std::alloc::{AllocError, Global};
 use std::marker::Model;
 
-/// Writes segments under the default service characters: releases before service characters alone, no empty components
+/// Writes segments under the default service characters: releases only before service characters, no empty components
 /// or elements at an end, no line breaks. If memory is refused, what is written is as it was.
 #[derive(Drop)]
 pub struct SegmentWriter {
@@ -205,7 +205,7 @@ fn write_bytes(value: &[u8], out: &mut Vec<u8>) -> Result<(), AllocError>
     Ok(())
 }
 
-/// Writes the byte, behind the release character if it would serve otherwise.
+/// Writes the byte, after the release character if it would serve otherwise.
 pub(crate) fn write_byte(byte: u8, out: &mut Vec<u8>) -> Result<(), AllocError>
     ensures ok { OnOk result (out.new.items ≡ out.old.items ++ spelled_byte byte) }
     ensures err { OnErr result (out.new.items ≡ out.old.items) }
@@ -243,7 +243,7 @@ pub(crate) fn write_composite<V: Spell>(values: &[V], out: &mut Vec<u8>) -> Resu
     Ok(())
 }
 
-/// Writes a value, and a separator behind it if it is not the last.
+/// Writes a value, and a separator after it if it is not the last.
 fn write_part<V: Spell>(value: &V, is_last: bool, out: &mut Vec<u8>) -> Result<(), AllocError>
     ensures ok { OnOk result (out.new.items ≡ out.old.items ++ (spelling (V.bytes_of value.now)
         ++ (if is_last then [] else 58 ∷ []))) }

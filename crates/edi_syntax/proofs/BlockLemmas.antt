@@ -28,7 +28,7 @@ inner_tags segment h =
 
 -- ---- a message that has begun
 
--- what stands of a message that has begun, and behind it
+-- what stands of a message that has begun, and after it
 record Ends (segments : List Content) : Type 0 where
   behind : List Content
   inner : list_all is_inner (before_trailer segments) ≡ true

@@ -20,7 +20,7 @@ use Rattle.edi_syntax.specs.Faults.{applies, applies_to, text_faults, header_fau
 
 -- ---- faults of the bytes
 
--- the faults behind those of the bytes, where no fault of the bytes applies
+-- the faults after those of the bytes, where no fault of the bytes applies
 pub past_bytes : (text : List ℕ) (others : List SyntaxFault) → length text ≤ 1048576 → read_fault text ≡ None → find (applies text) (text_faults ++ others) ≡ find (applies text) others
 past_bytes text others short readable =
     let good : has_bad_advice text ≡ false = no_first (has_bad_advice text) _ readable in

@@ -11,7 +11,7 @@ abbrev pub header_of : List Content → Content
 header_of [] = no_segment
 header_of (segment ∷ segments) = segment
 
--- those behind the first
+-- those after the first
 abbrev pub behind_header : List Content → List Content
 behind_header [] = []
 behind_header (segment ∷ segments) = segments

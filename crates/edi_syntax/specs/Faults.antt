@@ -17,7 +17,7 @@ use Rattle.edi_syntax.specs.Envelope.{header_of, behind_header, messages_of, has
 -- ---- each fault
 
 -- Whether the fault applies to the segments of a text. Those of the messages say something of any list of segments,
--- also of one with which `MessageFrame` is at fault and comes first. The first three are faults of the bytes alone.
+-- also of one with which `MessageFrame` is at fault and comes first. The first three are faults of the bytes only.
 abbrev pub applies_to : List Content → SyntaxFault → Bool
 applies_to segments TooLong = false
 applies_to segments Service = false

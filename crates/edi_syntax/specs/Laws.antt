@@ -15,14 +15,14 @@ pub record IsMessage (message : Message) : Type 0 where
 abbrev pub message_segments : Message → List Content
 message_segments message = message.header ∷ message.segments ++ message.trailer ∷ []
 
--- Messages one after the other, and a UNZ behind them.
+-- Messages one after the other, and a UNZ after them.
 pub record AreMessages (segments : List Content) (messages : List Message) : Type 0 where
   pub trailer : Content
   pub ends : IsTrue (has_tag (codes "UNZ") trailer)
   pub all : AllByRecursion IsMessage messages
   pub are : segments ≡ flat_map message_segments messages ++ trailer ∷ []
 
--- The test of fault 10 tells just whether what stands behind the header is messages and a UNZ, and these are its
+-- The test of fault 10 tells just whether what stands after the header is messages and a UNZ, and these are its
 -- messages.
 abbrev pub MessagesStand : Type 0
 MessagesStand =

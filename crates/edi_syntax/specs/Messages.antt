@@ -79,7 +79,7 @@ is_referenced message =
     is_reference (message_reference message) && bytes_eq (component_of message.trailer 2 1) (message_reference message)
     && is_printable_identity message.header
 
--- Nothing but messages, and a UNZ behind them. The flag tells that a message has begun and not ended yet.
+-- Nothing but messages, and a UNZ after them. The flag tells that a message has begun and not ended yet.
 abbrev pub are_messages : Bool → List Content → Bool
 are_messages begun [] = false
 are_messages false (segment ∷ segments) =

@@ -9,7 +9,7 @@ use Rattle.edi_syntax.specs.Envelope.{last_of, is_of_functional_group}
 use Rattle.edi_syntax.specs.TallyValues.{tally_in}
 use Rattle.edi_syntax.specs.declared.faults.Survey.{Survey}
 
--- of a header and nothing but segments behind it
+-- of a header and nothing but segments after it
 pub record IsSurvey (header : Content) (rest : CheckedSegments) (survey : Survey) : Type 0 where
   pub all : are_all rest ≡ true
   pub last : content survey.trailer ≡ last_of header (checked_left rest)

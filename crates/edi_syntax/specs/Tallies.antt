@@ -11,7 +11,7 @@ use Rattle.edi_syntax.specs.declared.faults.Tally.{Tally}
 use Rattle.edi_syntax.specs.declared.faults.Tallied.{Tallied}
 use Rattle.edi_syntax.specs.declared.frames.MessageEnd.{MessageEnd}
 
--- the end of the message that these segments are behind the header of
+-- the end of the message that these segments are after the header of
 pub record EndsMessage (behind : CheckedSegments) (end : MessageEnd) : Type 0 where
   pub between : end.between ≡ length (before_trailer (checked_left behind))
   pub trailer : content end.trailer ≡ trailer_in (checked_left behind)
@@ -25,7 +25,7 @@ pub record EndsMessage (behind : CheckedSegments) (end : MessageEnd) : Type 0 wh
       ≡ (end.has_functional_group || list_any is_of_functional_group (checked_left end.rest))
   pub all : are_all behind ≡ are_all end.rest
 
--- what the messages come to, of which nothing but a UNZ stands behind
+-- what the messages come to, of which nothing but a UNZ stands after
 pub record IsTally (segments : List Content) (tally : Tally) : Type 0 where
   pub framed : are_messages false segments ≡ true
   pub counted : tally.are_counted ≡ list_all is_counted (messages_in segments)

@@ -5,7 +5,7 @@ use Rattle.edi_segments.specs.Text.{Content}
 use Rattle.edi_syntax.specs.Messages.{messages_in, are_messages, is_counted, is_referenced}
 use Rattle.edi_syntax.specs.declared.faults.Tally.{Tally}
 
--- whether the messages are counted and referenced, and how many they are, if there are messages alone and a UNZ
+-- whether the messages are counted and referenced, and how many they are, if there are only messages and a UNZ
 abbrev pub tally_in : List Content → Option Tally
 tally_in segments =
     if are_messages false segments then Some (record {

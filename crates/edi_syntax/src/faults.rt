@@ -115,11 +115,11 @@ pub(crate) struct Survey<'a> {
     pub(crate) trailer: Segment<'a>,
     /// A segment is of a functional group.
     pub(crate) has_functional_group: bool,
-    /// What the messages come to, if there are messages alone and a UNZ behind them.
+    /// What the messages come to, if there are only messages and a UNZ after them.
     pub(crate) tally: Option<Tally>,
 }
 
-/// What the header and the segments behind it come to. `None` if not all of them are segments.
+/// What the header and the segments after it come to. `None` if not all of them are segments.
 pub(crate) fn look_through<'a>(
     header: Segment<'a>,
     rest: CheckedSegments<'_, 'a>,
@@ -179,7 +179,7 @@ pub struct Tally {
     pub(crate) messages: u64,
 }
 
-/// What the messages come to. `None` if there is anything but messages, and a UNZ behind them.
+/// What the messages come to. `None` if there is anything but messages, and a UNZ after them.
 pub(crate) fn tally_of<'t, 'a>(
     header: Segment<'a>,
     segments: CheckedSegments<'t, 'a>,
@@ -259,7 +259,7 @@ fn is_printable_identity(header: Segment<'_>) -> bool
         && header.component(2, 5).is_printable()
 }
 
-/// What was found up to the trailer of an interchange, of which no segment stands behind.
+/// What was found up to the trailer of an interchange, of which no segment stands after.
 #[derive(Clone, Copy)]
 pub(crate) struct Tallied<'t, 'a> {
     /// What its messages come to.
@@ -268,6 +268,6 @@ pub(crate) struct Tallied<'t, 'a> {
     pub(crate) trailer: Segment<'a>,
     /// A segment is of a functional group.
     pub(crate) has_functional_group: bool,
-    /// What stands behind the trailer: nothing, or what is no segment.
+    /// What stands after the trailer: nothing, or what is no segment.
     pub(crate) rest: CheckedSegments<'t, 'a>,
 }

@@ -107,13 +107,13 @@ pub struct MessageEnd<'t, 'a> {
     pub(crate) trailer: Segment<'a>,
     /// How many segments stand between header and trailer.
     pub(crate) between: u64,
-    /// A segment behind the header, up to the trailer, is of a functional group.
+    /// A segment after the header, up to the trailer, is of a functional group.
     pub(crate) has_functional_group: bool,
-    /// What stands behind the trailer.
+    /// What stands after the trailer.
     pub(crate) rest: CheckedSegments<'t, 'a>,
 }
 
-/// The end of the message that the segments are behind the header of. `None` if something stands before it that may
+/// The end of the message that the segments are after the header of. `None` if something stands before it that may
 /// not stand in a message.
 pub(crate) fn message_end<'t, 'a>(behind: CheckedSegments<'t, 'a>) -> Option<MessageEnd<'t, 'a>>
     requires { length (checked_left behind) ≤ most_bytes }

@@ -144,7 +144,7 @@ impl<'a> Head<'a> {
         preparation(&self.header).unwrap()
     }
 
-    /// The segments behind the header.
+    /// The segments after the header.
     pub(crate) fn behind(&self) -> Segments<'a>
         ensures behind { segments_left result ≡ behind_header (head_segments self.now) }
         ensures few { length (segments_left result) ≤ most_bytes }

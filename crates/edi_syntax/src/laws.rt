@@ -1,6 +1,6 @@
 ghost use Rattle.edi_syntax.specs.Laws.{MessagesStand, ReadsTheGrammar};
 
-/// If there is no `SyntaxFault::MessageFrame`, what stands behind the header is messages from UNH to UNT, and a UNZ.
+/// If there is no `SyntaxFault::MessageFrame`, what stands after the header is messages from UNH to UNT, and a UNZ.
 pub fn messages_stand()
     ensures { MessagesStand }
 {}

@@ -220,7 +220,7 @@ impl<'a> Causes<'a> {
         Causes { path, told: None }
     }
 
-    /// The cause that has to be told behind an answer that was `not now` for that: one that was not told last. None behind any
+    /// The cause that has to be told after an answer that was `not now` for that: one that was not told last. None after any
     /// other answer, after which the next cause is told again.
     pub(crate) fn behind(
         &mut self,

@@ -196,7 +196,7 @@ impl fmt::Display for Answers {
     }
 }
 
-/// What became of a delivery that was taken, in a few words behind it.
+/// What became of a delivery that was taken, in a few words after it.
 #[derive(Clone, Copy)]
 pub(crate) struct Became(pub(crate) Tally);
 

@@ -101,7 +101,7 @@ added_last content code kind id own named e =
       content_is = λ i. record content { partners = added_accounts content.partners code kind id own named e i };
     }
 
--- either the accounts stay, or one more is behind them
+-- either the accounts stay, or one more follows them
 pub data Grows (accounts grown : List AccountPair) (code kind : List ℕ) : Type 0 where
   stayed : grown ≡ accounts → Grows accounts grown code kind
   grew : (id : ℕ) (own : PartnerKind) → IsNew accounts code kind id own → grown ≡ accounts ++ (code, own) ∷ [] → Grows accounts grown code kind

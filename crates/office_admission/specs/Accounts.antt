@@ -31,7 +31,7 @@ by_own_kind id Quay (Some Quay) = known_as id
 by_own_kind id Yard (Some Yard) = known_as id
 by_own_kind id kind own = refused_for Kind
 
--- a code that is new gets the number behind the last, where there is room
+-- a code that is new gets the number after the last, where there is room
 abbrev pub by_number : List AccountPair → PartnerKind → Option ℕ → AccountContent
 by_number accounts kind (Some id) =
     by_own_kind id kind (with_number (map (λ (account : AccountPair). account.1) accounts) id)

@@ -34,7 +34,7 @@ rejection header fault error =
     answer_with (kinds.Refused fault) (fault_status fault)
     (refused_text (encode_utf8_all (rejection_text header error)) (fault_name fault)) worst.Refused
 
--- a CONTRL goes to a sender with an account alone
+-- a CONTRL goes only to a sender with an account
 abbrev pub refusal_to : Content → Fault → Option ℕ → Option ℕ → AnswerContent
 refusal_to header fault (Some partner) (Some error) = rejection header fault error
 refusal_to header fault (Some partner) None = plain_refusal fault

@@ -1,4 +1,4 @@
--- Deliveries to a desk and its archives, one behind the other.
+-- Deliveries to a desk and its archives, one after the other.
 use Rattle.std.proofs.Common.{◌≡◌, ℕ, List, [], ◌∷◌, refl, sym, ap, subst, ◌∙◌}
 use Rattle.sqlite.specs.Held.{state}
 use Rattle.sqlite.specs.Recovery.{Image}

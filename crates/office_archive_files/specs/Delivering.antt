@@ -36,7 +36,7 @@ module _ {S A : Type 0} (g : Ghosts S) (is_sound : A → Type 0) (are : List Arc
   abbrev pub StandAlike : SetupContent → List Event → Desk S g × A → Type 0
   StandAlike content es office = Alike content (λ opening. StandTogether g are opening es office.0 office.1)
 
-  -- Behind those deliveries a crash leaves of the store what, with the archives, is left of the rows after those that were
+  -- After those deliveries a crash leaves of the store what, with the archives, is left of the rows after those that were
   -- answered; where the last was answered NotNow, it is there whole or not at all. The archives are those that were there
   -- before the last one.
   abbrev pub LeavesAll : ClosedContent → SetupContent → List Event → (old : Desk S g × A) (texts : List (List ℕ))

@@ -42,7 +42,7 @@ module _ {S A : Type 0} (g : Ghosts S) (is_sound : A → Type 0) (are : List Arc
   abbrev pub Looks : Desk S g × A → Look → Result (Option (List ℕ)) NotNow → Desk S g × A → Type 0
   Looks old at found new = LooksTogether g is_sound are old.0 old.1 at found new.0 new.1
 
-  -- what a call does to a desk and its archives, or nothing if it was answered `not now` for want of a name of the file
+  -- what a call does to a desk and its archives, or nothing if it was answered `not now` for lack of a name of the file
   abbrev pub AllServed : Desk S g × A → List Step → Desk S g × A → Type 0
   AllServed = StepsLead (LeadsNamed (Leads g is_sound are)) (EnrolsNamed Enrols) Looks
 

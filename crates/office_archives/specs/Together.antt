@@ -52,7 +52,7 @@ pub record IsBesideAfter (archives : List Archive) (closed : ClosedContent) (con
   pub is_own : IsOwnWithRest archived own rows
   pub are : StoresRows rows db
 
--- a crash leaves these alone
+-- a crash leaves only these
 abbrev pub LeavesBeside : List Archive → ClosedContent → SetupContent → List Event → State → Type 0
 LeavesBeside archives closed content es s = (db : Trees) → s.may_leave db → IsBesideAfter archives closed content es db
 

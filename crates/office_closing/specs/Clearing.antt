@@ -26,7 +26,7 @@ pub record IsWithoutSomeVisits (stays : ℕ → Bool) (rows left : Rows) : Type 
 
 -- ---- what is committed
 
--- the rows are these, committed, and a crash leaves these alone
+-- the rows are these, committed, and a crash leaves only these
 pub record IsCleared (change : Rows → Rows) (old new : State) : Type 0 where
   pub rows : (rows : Rows) → HasRows rows old.committed → HasRows (change rows) new.committed
   pub settled : new.now ≡ new.committed

@@ -30,7 +30,7 @@ abbrev pub IsComparedIf : Plan → Held → Type 0
 IsComparedIf plan held =
     is_unraised plan.stage ≡ true → IsComparedAs plan.numbers.items held.own held.copy None
 
--- outside a transaction, while the connection is open: what was committed is in memory, and a crash leaves it alone
+-- outside a transaction, while the connection is open: what was committed is in memory, and a crash leaves only that
 pub record IsResting (state : State) : Type 0 where
   pub settled : IsTrue state.is_open → state.now ≡ state.committed
   pub alone : IsTrue state.is_open → (db : Trees) → state.may_leave db → db ≡ state.committed.trees

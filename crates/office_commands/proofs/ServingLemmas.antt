@@ -124,7 +124,7 @@ terminal_after content (event ∷ es) = terminal_after (content_with content eve
 abbrev LeftBy : SetupContent → List Event → (Event → Type 0) → Trees → Type 0
 LeftBy content es Pends db = IsAfter content es db ⊎ ((event : Event) × Pends event × IsAfter content (es ++ event ∷ []) db)
 
--- what is pending behind a step: what was before, if the step is no event, or the step
+-- what is pending after a step: what was before, if the step is no event, or the step
 abbrev PendsBehind : (Event → Type 0) → Step → Event → Type 0
 PendsBehind Pends step event = (Pends event × ((es : List Event) → with_step es step ≡ es)) ⊎ (postponed_event step ≡ Some event)
 
@@ -140,7 +140,7 @@ told_of : {D : Type 0} {g : Ghosts D} (content : SetupContent) (es : List Event)
 told_of content es desk stands at (Ok found) told = shown_of content es desk stands at found told
 told_of content es desk stands at (Err refusal) told = tt
 
--- what is pending behind steps
+-- what is pending after steps
 abbrev PendsAfter : (Event → Type 0) → List Step → Event → Type 0
 PendsAfter Pends steps event = (Pends event × HasNoEvent steps) ⊎ MayBeThere steps event
 
@@ -219,7 +219,7 @@ module _ {D : Type 0} {g : Ghosts D} where
     left_step (look at found) call sound stands =
         left_less (look at found) (λ events. refl) (call.looks.crash (call.looks.stays sound) sound.0 stands.has.schema db left)
 
-  -- ---- steps, one behind the other
+  -- ---- steps, one after the other
 
   abbrev AllLed : Desk (FileStore D g) over_files → List Step → Desk (FileStore D g) over_files → Type 0
   AllLed = StepsLead (LeadsNamed (Leads over_files)) (EnrolsNamed (Enrols over_files)) (Looks over_files)

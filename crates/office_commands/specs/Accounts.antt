@@ -28,7 +28,7 @@ abbrev pub AnswersAsked : (Done : AccountAnswer → Type 0) → (written written
 AnswersAsked Done written written' (Ok worst) = AnsweredAccount Done worst written written'
 AnswersAsked Done written written' (Err fault) = AccountCutShort Done written written'
 
--- for an opening set-up that says the same, a crash leaves what it may leave behind that answer
+-- for an opening set-up that says the same, a crash leaves what it may leave after that answer
 abbrev pub LeavesAnswer : SetupContent → List Event → (code kind : List ℕ) → AccountAnswer → State → Type 0
 LeavesAnswer content es code kind answer s = Alike content (λ opening. LeavesAdded opening es code kind answer s)
 

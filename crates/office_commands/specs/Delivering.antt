@@ -28,7 +28,7 @@ BeginsAt image content es = IsGiven content × HoldsAfter image content es
 abbrev pub StandsAlike : {D : Type 0} {g : Ghosts D} → SetupContent → List Event → Desk (FileStore D g) over_files → Type 0
 StandsAlike content es desk = Alike content (λ opening. StandsFor over_files opening es desk)
 
--- behind those deliveries a crash leaves the rows after those that were answered, for an opening set-up that says the
+-- after those deliveries a crash leaves the rows after those that were answered, for an opening set-up that says the
 -- same
 abbrev pub LeavesAlike : SetupContent → List Event → (texts : List (List ℕ)) → List Response → State → Type 0
 LeavesAlike content es texts responses s = Alike content (λ opening. LeavesAll opening es texts responses s)

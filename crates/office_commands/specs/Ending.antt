@@ -25,7 +25,7 @@ store_text Damaged = codes "store: Damaged\n"
 store_text Version = codes "store: Version\n"
 store_text Memory = codes "store: Memory\n"
 
--- what is told of a stream's fault. A failed write is told by the status alone.
+-- what is told of a stream's fault. A failed write is told only by the status.
 abbrev pub stream_text : StreamFault → List ℕ
 stream_text Read = codes "cannot read\n"
 stream_text Turns = codes "turns\n"

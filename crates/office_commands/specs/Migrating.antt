@@ -29,7 +29,7 @@ use Rattle.office_commands.specs.Reporting.{office_database}
 
 -- ---- between two stores of any kind
 
--- a connection behind a look at the office that it shows: it was only read, and no change was under way
+-- a connection after a look at the office that it shows: it was only read, and no change was under way
 pub record IsLookedAt {S : Type 0} (g : Ghosts S) (found conn : Held S) : Type 0 where
   pub reads : Reads {T = Unit {0}} (state g found) (state g conn) (Ok tt)
   pub settled : HasCleanDisk (state g conn) → (state g found).now ≡ (state g found).committed
@@ -76,7 +76,7 @@ pub record HoldsOlder (image : Image) (version : Version) (content : SetupConten
   pub held : ∥ HoldsDatabase image db ∥₁
   pub after : IsOlderAfter version content es (record { schema = bare_schema; trees = db })
 
--- a connection to those files, behind a look at the office that they hold
+-- a connection to those files, after a look at the office that they hold
 pub record IsJudged {D : Type 0} {g : DiskGhosts D} (image : Image) (conn : Held (FileStore D g)) : Type 0 where
   pub found : Held (FileStore D g)
   pub shows : HasCleanDisk (file_state found) → ShowsHeld image found
@@ -90,12 +90,12 @@ pub record TakesOver (rows : Rows) (older : Trees) (db : Database) : Type 0 wher
   pub has : HasRows (migrated_rows rows) db
   pub in_order : StandAlike (older interchange_table.tree) (db.trees interchange_table.tree)
 
--- these are committed, and a crash leaves them alone
+-- these are committed, and a crash leaves only them
 pub record CommitsOver (rows : Rows) (older : Trees) (s : State) : Type 0 where
   pub committed : TakesOver rows older s.committed
   pub alone : (db : Trees) → s.may_leave db → TakesOver rows older (office_database db)
 
--- the rows after those events are committed, and a crash leaves them alone
+-- the rows after those events are committed, and a crash leaves only them
 abbrev pub GoesOnFrom : SetupContent → List Event → State → Type 0
 GoesOnFrom content es s = HoldsAfter content es s.committed × Leaves content es s
 

@@ -55,18 +55,18 @@ postponed_event other = None
 abbrev pub HasNoEvent : List Step → Type 0
 HasNoEvent steps = (es : List Event) → events_after es steps ≡ es
 
--- it was asked for and answered `not now`, and no event came behind it
+-- it was asked for and answered `not now`, and no event came after it
 abbrev pub MayBeThere : List Step → Event → Type 0
 MayBeThere [] event = ⊥
 MayBeThere (step ∷ steps) event = ((postponed_event step ≡ Some event) × HasNoEvent steps) ⊎ MayBeThere steps event
 
--- a store holds the rows after the events that were answered, and perhaps one that was put off behind them, whole
+-- a store holds the rows after the events that were answered, and perhaps one that was put off after them, whole
 abbrev pub HoldsServed : SetupContent → List Event → List Step → Trees → Type 0
 HoldsServed content es steps db =
     IsAfter content (events_after es steps) db
     ⊎ ((event : Event) × MayBeThere steps event × IsAfter content (events_after es steps ++ event ∷ []) db)
 
--- a crash leaves that alone, for an opening set-up that says the same
+-- a crash leaves only that, for an opening set-up that says the same
 abbrev pub LeavesServed : SetupContent → List Event → List Step → State → Type 0
 LeavesServed content es steps s =
     Alike content (λ opening. (db : Trees) → s.may_leave db → HoldsServed opening es steps db)

@@ -47,7 +47,7 @@ pub fn deliver_to<D: Deliver, N: Notes, R: Read, W: Write, E: Write>(
         (W.contents writer.old.inner) (W.contents writer.new.inner)))
         (Tells errors.new.failed (E.contents errors.old.inner) (E.contents errors.new.inner)) result }
 
-    // No read is made behind one that found the end, and no more than turns.
+    // No read is made after one that found the end, and no more than turns.
     ensures in_time { reader.old.ended ≡ false → reader.new.read_behind_end ≡ reader.old.read_behind_end }
     ensures reads { reader.new.reads ≤ reader.old.reads + most_turns }
 {
@@ -122,7 +122,7 @@ pub fn deliver_over<S: Start, N: Notes, R: Read, W: Write, E: Write>(
 /// Adds an account to the store in the file at a path, prints the answer as a line, and answers the exit status and the
 /// desk as it was left: 0 if there is such an account, now or before, 1 if it is refused, and 3 if that could not be
 /// answered now, or printing failed. A fault is that of `open_store`, and then nothing was printed. No clause says what
-/// the store holds behind a fault, since no desk is left: that nothing was asked of it is to be read in this body.
+/// the store holds after a fault, since no desk is left: that nothing was asked of it is to be read in this body.
 pub fn account_over<S: Start, W: Write>(
     rt: &HostRuntime,
     path: &str,

@@ -65,7 +65,7 @@ pub fn tell_outcome<E: Write>(errors: &mut Port<E>, outcome: Result<Worst, Strea
     }
 }
 
-/// Tells a text. If that fails, the exit status alone is left to tell.
+/// Tells a text. If that fails, only the exit status is left to tell.
 pub fn tell<E: Write>(errors: &mut Port<E>, text: &str)
     ensures { Tells errors.new.failed (E.contents errors.old.inner) (E.contents errors.new.inner) text.now }
 {
@@ -95,7 +95,7 @@ pub(crate) fn store_text(fault: &TableFault) -> &'static str
     }
 }
 
-/// What is told of a stream's fault. A failed write is told by its status alone.
+/// What is told of a stream's fault. A failed write is told only by its status.
 pub(crate) fn stream_text(fault: StreamFault) -> &'static str
     ensures { result.now ≡ stream_text fault }
 {

@@ -73,7 +73,7 @@ was_clean r clean = omega (arith, r.reads.survives.clean)
 pub was_open : {T : Type 0} {old new : State} {result : Result T TableFault} → OnlyReads old new result → HasCleanDisk new → IsTrue new.is_open → IsTrue old.is_open
 was_open r clean = (r.reads.keeps clean).was_open
 
--- one behind the other
+-- one after the other
 pub only_then : {X Y : Type 0} {a b c : State} {x : X} {result : Result Y TableFault} → OnlyReads a b (Ok x) → OnlyReads b c result → OnlyReads a c result
 only_then {a} {b} {c} {result} p q = record {
   same = λ clean.

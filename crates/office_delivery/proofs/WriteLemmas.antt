@@ -138,7 +138,7 @@ changes_then_reply partner number reply [] rows = refl
 changes_then_reply partner number reply (c ∷ changes) rows =
     ap (with_changes changes) (change_then_reply partner number reply c rows) ∙ changes_then_reply partner number reply changes (with_change c rows)
 
--- kept with its reply, and then what it changed, and then the number behind it
+-- kept with its reply, and then what it changed, and then the number after it
 pub writes_first : {X Y Z : Type 0} (partner : ℕ) (text : List ℕ) (taken : TakenContent) (a b c d : State) (x : X) (y : Y) (result : Result Z TableFault)
     → Writes (with_kept_reply partner taken.number text taken.reply) a b (Ok x) → WritesIfOpen (with_changes taken.changes) b c (Ok y)
     → Writes (with_next partner (taken.number + 1)) c d result → Writes (λ rows. with_interchange partner taken (with_waiting partner taken.number text rows)) a d result
@@ -150,7 +150,7 @@ writes_first partner text taken a b c d x y result kept changed next =
     (λ rows. with_interchange partner taken (with_waiting partner number text rows)) a d result
     (λ rows. ap (with_next partner (number + 1)) (changes_then_reply partner number taken.reply taken.changes (with_waiting partner number text rows))) whole
 
--- a run whose first text is taken at once, and then those behind it
+-- a run whose first text is taken at once, and then those after it
 pub writes_run : {X Y : Type 0} (partner number : ℕ) (text : List ℕ) (taken behind : List TakenContent) (first : TakenContent) (a b c : State) (x : X) (result : Result Y TableFault)
     → first.number ≡ number → taken ≡ first ∷ behind → Writes (λ rows. with_interchange partner first (with_waiting partner first.number text rows)) a b (Ok x)
     → WritesIfOpen (with_interchanges partner behind) b c result → Writes (with_run partner number text taken) a c result

@@ -9,7 +9,7 @@ use Rattle.office_tables.specs.Faults.{IsOfStore}
 use Rattle.office_tables.specs.Order.{HasRowsInOrder}
 use Rattle.office_tables.specs.declared.table_fault.TableFault.{TableFault}
 
--- the change is committed: the rows are these, in order if they were before, and a crash leaves these alone
+-- the change is committed: the rows are these, in order if they were before, and a crash leaves only these
 pub record Commits (change : Rows → Rows) (old new : State) : Type 0 where
   pub rows : (rows : Rows) → HasRows rows old.committed → HasRows (change rows) new.committed
   pub in_order : (rows : Rows) → HasRowsInOrder rows old.committed → HasRowsInOrder (change rows) new.committed

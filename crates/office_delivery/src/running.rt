@@ -27,7 +27,7 @@ use terminal_core::{Change, Terminal};
 /// Takes a partner's next interchange, and then each text that becomes next by it, as far as the tables keep one, and counts
 /// what became of them. It writes nothing. If it fails, terminal and tally may hold part of the run, and are to be given up.
 ///
-/// Damaged if a number behind has a reply that is no text; Store and Memory say nothing of the rows.
+/// Damaged if a number after has a reply that is no text; Store and Memory say nothing of the rows.
 pub fn take_run<S: Alter>(
     alloc: Global,
     conn: &mut Connection<S>,
@@ -64,7 +64,7 @@ pub fn take_run<S: Alter>(
     Ok(taken)
 }
 
-/// The text that is kept for a partner under the number behind one. There is none behind the last that there is.
+/// The text that is kept for a partner under the number after one. There is none after the last that there is.
 fn text_behind<S: Alter>(
     conn: &mut Connection<S>,
     partner: u16,

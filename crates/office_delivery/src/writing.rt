@@ -17,7 +17,7 @@ use sqlite::{Alter, Connection, Transaction};
 use terminal_core::Change;
 
 /// Keeps an interchange and marks a run of its partner's as taken, each with its changes. Where the run begins with it, it
-/// is kept with its reply; those behind it waited.
+/// is kept with its reply; those after it waited.
 pub(crate) fn write_all<S: Alter>(
     tx: &mut Transaction<'_, S>,
     partner: u16,
@@ -104,7 +104,7 @@ fn apply_all<S: Alter>(tx: &mut Transaction<'_, S>, changes: &[Change]) -> Resul
     Ok(())
 }
 
-/// Keeps the text of the partner's next interchange, and marks it and those behind it as taken: wholly or not at all.
+/// Keeps the text of the partner's next interchange, and marks it and those after it as taken: wholly or not at all.
 pub fn write_run<S: Alter>(
     conn: &mut Connection<S>,
     partner: u16,

@@ -1,4 +1,4 @@
--- What a desk answers to an account that is to be added, and what it holds behind it.
+-- What a desk answers to an account that is to be added, and what it holds after it.
 use Rattle.std.proofs.Common.{◌≡◌, ℕ, ◌+◌, ◌-◌, ◌<◌, Bool, true, false, cond, map, List, [], ◌∷◌, ◌++◌, length, Option, None, Some, get_or, option_map, inl, inr, refl, sym, ap, ap₂, subst, ◌∙◌, arith}
 use Rattle.std.proofs.lemmas.List.{length-append, map-append}
 use Rattle.std.proofs.lemmas.List.FromFn.{map-range_with_len_more}
@@ -71,7 +71,7 @@ codes_in accounts = map-map _ _ accounts
 kinds_in : (accounts : List Account) → map (λ (pair : AccountPair). pair.1) (account_contents accounts) ≡ partner_kinds accounts
 kinds_in accounts = map-map _ _ accounts
 
--- the number of a code is behind its place
+-- the number of a code follows its place
 pub found_by_code : (accounts : List Account) (code : List ℕ) (found : Option ℕ) → found ≡ partner_from 0 code (partner_codes accounts) →
     partner_from 1 code (map (λ (pair : AccountPair). pair.0) (account_contents accounts)) ≡ option_map (λ index. index + 1) found
 found_by_code accounts code found is =

@@ -1,4 +1,4 @@
--- Deliveries, one behind the other.
+-- Deliveries, one after the other.
 use Rattle.std.proofs.Common.{ℕ, List, [], ◌∷◌, sym, subst}
 use Rattle.sqlite.specs.Held.{state}
 use Rattle.sqlite_trees.specs.declared.store.Store.{Ghosts}

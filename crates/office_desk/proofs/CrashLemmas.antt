@@ -86,7 +86,7 @@ module _ (content : SetupContent) (es : List Event) (sent : List ℕ) where
 pub committed_leaves : (content : SetupContent) (es : List Event) (s : State) (rows : Rows) → ((db : Trees) → s.may_leave db → db ≡ s.committed.trees) → HasRows rows s.committed → AreAfter content es rows → Leaves content es s
 committed_leaves content es s rows alone has after db left = record { rows = rows; are = subst (StoresRows rows) (sym (alone db left)) (stores rows s.committed has); after = after }
 
--- while it is open, a crash leaves what was committed alone, so the rows that are held
+-- while it is open, a crash leaves only what was committed, so the rows that are held
 pub held_leaves : (content : SetupContent) (es : List Event) (now : SetupContent) (s : State) (there : Option Beside) → IsTrue s.is_open → ((db : Trees) → s.may_leave db → db ≡ s.committed.trees) →
     Holds content es now s.committed there → Leaves content es s
 held_leaves content es now s there is_open alone holds = committed_leaves content es s holds.rows alone holds.has holds.after

@@ -62,7 +62,7 @@ pub is_now : (given : Response) (code : List ℕ) (number : ℕ) (kind : AnswerM
 is_now response.NotNow code number kind e = absurd (never_now code number kind e)
 is_now given code number kind e = tt
 
--- behind an answer that is one now the desk has the fault that it had
+-- after an answer that is one now the desk has the fault that it had
 pub notes_none : (given : Response) (last : Option TableFault) → IsNow given → NotesFault given last last
 notes_none response.NotNow last is = absurd is
 notes_none given last is = refl
@@ -73,7 +73,7 @@ notes_memory response.NotNow old new is = (Memory, is)
 notes_memory given old new is = is
 
 module _ {S : Type 0} (g : Ghosts S) (content : SetupContent) (es : List Event) where
-  -- the answer, and what is held behind it
+  -- the answer, and what is held after it
   abbrev Next : List ℕ → Response → SetupContent → Database → Option Beside → Type 0
   Next sent given now db there = AnswersNext content es sent given × Holds content (with_answered es sent given) now db there
 

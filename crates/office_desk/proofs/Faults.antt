@@ -70,7 +70,7 @@ version_shown closed db content terminal loads =
     subst (Contains (map (columns_of table.setting_table) (db.trees table.setting_table.tree))) (sym whole)
     (Contains-permutation _ _ r.0 (IsPermutation-sym _ _ it.same) (contains_had it.by_key r.0 r.1))
 
--- what shows an office is opened, but for want of store or memory
+-- what shows an office is opened, but for lack of store or memory
 pub opens_alone : (closed : ClosedContent) (db : Database) (content : SetupContent) (terminal : TerminalState) (fault : TableFault) → LoadsOwn closed db content terminal → FailsToOpen closed db fault → IsOfStore fault
 opens_alone closed db content terminal fault loads (inl fails) = shows_one fault fails
   where
@@ -101,7 +101,7 @@ waits_as_text : (reply : List ℕ) → reply_if_any reply ≡ None → IsUtf8 re
 waits_as_text [] e = ([], (refl, refl))
 waits_as_text (byte ∷ bytes) e = absurd cc
 
--- behind a partner's next number no reply is kept
+-- after a partner's next number no reply is kept
 pub behind_fits : (closed : ClosedContent) (content : SetupContent) (rows : Rows) → (its : KeepsAccounts closed content rows) → (p k : ℕ) → its.runs p < k → ¬ (HasUnfitBehind p k rows)
 behind_fits closed content rows its p k high unfit =
     let i : Interchange = unfit.2.0 in

@@ -149,7 +149,7 @@ next_by_kept closed setup old d code response was there now end next holds is_ne
       };
     }
 
--- the rows have numbers of interchanges alone
+-- the rows have only numbers of interchanges
 pub numbered_in : (closed : ClosedContent) (content : SetupContent) (old : Office) (db : Database) (there : Option Beside) (partner : ℕ) (rows : Rows) → HoldsOffice closed content old.rows old.terminal db there → rows.interchanges ≡ old.rows.interchanges → IsNumbered partner rows
 numbered_in closed content old db there partner rows holds same = record {
   kept_once = subst AreKeptOnce (sym same) (office_once closed content old.rows old.terminal db there holds);

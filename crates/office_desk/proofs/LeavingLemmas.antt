@@ -91,7 +91,7 @@ module _ (content : SetupContent) (d : Delivery) (old : Office) (next : ℕ) (is
 
 -- ---- one that is next
 
--- taking changes the terminal alone
+-- taking changes only the terminal
 alone : (content : SetupContent) (p : ℕ) (texts : ℕ → Option (List ℕ)) (number : ℕ) (t : TerminalState) (taken : List TakenContent) (new : MachineState) → AreTakenFrom p texts number (machine_with content t) taken new → new ≡ machine_with content new.terminal
 alone content p texts number t [] new from = from.1 ∙ ap (λ (m : MachineState). machine_with content m.terminal) (sym from.1)
 alone content p texts number t (first ∷ later) new from =
@@ -145,6 +145,6 @@ pub answered_over : (content : SetupContent) (place : ℕ × ℕ) (text : List �
 answered_over content place text old response.NotNow s leaves = λ db left. inr (leaves db left)
 answered_over content place text old given s leaves = leaves
 
--- while it is open, a crash leaves what was committed alone
+-- while it is open, a crash leaves only what was committed
 pub held_rows_leave : (rows : Rows) (s : State) → ((db : Trees) → s.may_leave db → db ≡ s.committed.trees) → HasRows rows s.committed → LeavesRows rows s
 held_rows_leave rows s settled has db left = subst (StoresRows rows) (sym (settled db left)) (stores rows s.committed has)

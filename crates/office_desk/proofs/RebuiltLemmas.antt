@@ -103,7 +103,7 @@ module _ {S : Type 0} (g : Ghosts S) where
       let stored = stored_is_journal content es order.rows _ order.after order.has.in_place in
       record { placed = stored.0; bodies = stored.1 }
 
-  -- the events behind deliveries that were each answered
+  -- the events after deliveries that were each answered
   now_delivered : (es : List Event) (text : List ℕ) (response : Response) → IsNow response → with_answered es text response ≡ es ++ delivered text ∷ []
   now_delivered es text response.NotNow is = absurd is
   now_delivered es text response is = refl

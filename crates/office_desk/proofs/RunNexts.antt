@@ -1,4 +1,4 @@
--- The partners' next numbers behind a run: its own partner's follows it.
+-- The partners' next numbers after a run: its own partner's follows it.
 use Rattle.std.proofs.Common.{◌≡◌, ℕ, ◌+◌, ◌-◌, ◌≤◌, List, [], ◌∷◌, length, map, Bool, true, false, cond, Option, refl, sym, ap, ap₂, subst, ◌∙◌, arith}
 use Rattle.std.specs.Prelude.{◌==◌, Contains, IsSorted, slice_set}
 use Rattle.std.specs.List.{range_with_len}
@@ -50,7 +50,7 @@ module _ (p : ℕ) (texts : ℕ → Option (List ℕ)) where
       ∙ raised_all p (number + 1 + length (t ∷ later)) (number + 1) rows.partners
       ∙ ap (λ n. map (raised p n) rows.partners) end
 
--- the accounts behind a run
+-- the accounts after a run
 pub accounts_raised : (p number : ℕ) (texts : ℕ → Option (List ℕ)) (text : List ℕ) (old new : MachineState) (first : TakenContent) (later : List TakenContent) (rows : Rows) → AreTakenFrom p texts number old (first ∷ later) new →
     (with_run p number text (first ∷ later) rows).partners ≡ map (raised p (number + length (first ∷ later))) rows.partners
 accounts_raised p number texts text old new first later rows taken = run_raised p texts number old new first later (with_waiting p number text rows) taken

@@ -82,7 +82,7 @@ or_other : (one other : Option (List ℕ)) → is_some other ≡ true → is_som
 or_other (Some x) other is = refl
 or_other None other is = is
 
--- a number of the run has a reply, one before it its own, and one behind it none
+-- a number of the run has a reply, one before it its own, and one after it none
 module _ {S : Type 0} (taken : Taking S) (p : ℕ) (texts : ℕ → Option (List ℕ)) (count last : ℕ) (replies replies' : ℕ → Option (List ℕ)) (s s' : S) (takes : TakesTexts taken p texts count last replies replies' s s') where
   many : count + (last - count) ≡ last
   many = let grows : count ≤ last = takes.grows in omega arith

@@ -80,7 +80,7 @@ LeavesAdded content es code kind NotNow s =
     (db : Trees) → s.may_leave db → IsAfter content es db ⊎ IsAfter content (es ++ added code kind ∷ []) db
 LeavesAdded content es code kind answer s = Leaves content es s
 
--- of whatever rows were committed: with an account that is added a crash leaves those with it alone; NotNow leaves these
+-- of whatever rows were committed: with an account that is added a crash leaves only those with it; NotNow leaves these
 -- or the old ones; any other answer leaves the old ones
 abbrev pub LeavesAddedOver : List AccountPair → Rows → List ℕ → List ℕ → AccountAnswer → State → Type 0
 LeavesAddedOver accounts rows code kind (Added id body) s =

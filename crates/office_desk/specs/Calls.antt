@@ -1,4 +1,4 @@
--- What one call does to a desk: all that is said of it, in one piece, so that whoever knows a desk by its traits alone can
+-- What one call does to a desk: all that is said of it, in one piece, so that whoever knows a desk only by its traits can
 -- hand it on.
 use Rattle.std.specs.Prelude.{◌≡◌, ℕ, List, Ok, Option, Result, OnOk}
 use Rattle.sqlite.specs.Held.{state}
@@ -91,7 +91,7 @@ pub record OnlyLooks {S : Type 0} (g : Ghosts S) (old new : Desk S g) : Type 0 w
   pub stays : IsSound g new → IsSound g old
 
 -- A report, or a page of the kept texts, was asked for. What was found is what the rows tell; the desk only looked; why it
--- can't be told now: over an office's rows by the store or the memory alone, or by what is asked for; and where it's told
+-- can't be told now: over an office's rows only by the store or the memory, or by what is asked for; and where it's told
 -- that the office can be asked, the store is open.
 pub record Looks {S : Type 0} (g : Ghosts S) (old : Desk S g) (look : Look) (found : Result (Option (List ℕ)) NotNow)
     (new : Desk S g) : Type 0 where
@@ -102,7 +102,7 @@ pub record Looks {S : Type 0} (g : Ghosts S) (old : Desk S g) (look : Look) (fou
       NotesCause (ShowsUnfitReply (setup_content old.setup) rows look) found new.last_fault
   pub is_open : HasCleanDisk (state g new.conn) → OnOk found (IsOpenAt look (state g new.conn))
 
--- ---- what follows of deliveries, one behind the other
+-- ---- what follows of deliveries, one after the other
 
 -- each is answered at its place, by a desk that stands after some events
 abbrev pub DeliveriesAreAnswered : {S : Type 0} → Ghosts S → Type 0

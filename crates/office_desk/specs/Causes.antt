@@ -27,7 +27,7 @@ AsksUnfitReply content rows others = ⊥
 
 -- ---- over any rows: what the code relies on, and no caller has to read
 
--- the next number under this id can't be read, or one that waits behind a number
+-- the next number under this id can't be read, or one that waits after a number
 abbrev pub LacksNumbers : Rows → ℕ → Type 0
 LacksNumbers rows id = LacksNext id rows ⊎ ((next : ℕ) × HasHighWaiting id next rows)
 

@@ -17,7 +17,7 @@ pub record IsAfter (content : SetupContent) (es : List Event) (db : Trees) : Typ
   pub are : StoresRows rows db
   pub after : AreAfter content es rows
 
--- a crash leaves the rows after those events alone
+-- a crash leaves only the rows after those events
 abbrev pub Leaves : SetupContent → List Event → State → Type 0
 Leaves content es s = (db : Trees) → s.may_leave db → IsAfter content es db
 
@@ -35,7 +35,7 @@ abbrev pub LeavesBehind : SetupContent → List Event → List ℕ → Response 
 LeavesBehind content es sent response.NotNow s = LeavesEither content es sent s
 LeavesBehind content es sent given s = Leaves content (es ++ delivered sent ∷ []) s
 
--- behind those deliveries a crash leaves the rows after those that were answered; where the last was answered NotNow, it
+-- after those deliveries a crash leaves the rows after those that were answered; where the last was answered NotNow, it
 -- is there whole or not at all
 abbrev pub LeavesAll : SetupContent → List Event → List (List ℕ) → List Response → State → Type 0
 LeavesAll content es [] [] s = Leaves content es s

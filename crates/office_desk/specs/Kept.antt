@@ -107,7 +107,7 @@ AnswersAt g (Ok place) text old given desk =
     AnswersByKept (closed_content desk.closed) (setup_content desk.setup) (delivery place.0 place.1 text)
     (code_of (parties_of desk.setup) place.0) old given (state g desk.conn).committed desk.beside
 
--- why that is answered NotNow, as the desk notes it: a refusal for want of memory; what is admitted by its store too,
+-- why that is answered NotNow, as the desk notes it: a refusal for lack of memory; what is admitted by its store too,
 -- or because the rows can't answer it
 abbrev pub IsNotedFor : ClosedContent → Result (ℕ × ℕ) Fault → Rows → Option TableFault → Type 0
 IsNotedFor closed (Err refused) rows noted = noted ≡ Some Memory

@@ -14,7 +14,7 @@ use Rattle.office_tables.specs.Answers.{IsNextOf}
 use Rattle.office_tables.specs.declared.table_fault.TableFault.{TableFault}
 use Rattle.office_desk.specs.Kept.{Office, TakesIn, standing_in}
 
--- a crash leaves these rows alone
+-- a crash leaves only these rows
 abbrev pub LeavesRows : Rows → State → Type 0
 LeavesRows rows s = (db : Trees) → s.may_leave db → StoresRows rows db
 
@@ -27,7 +27,7 @@ pub record IsTakenInto (content : SetupContent) (d : Delivery) (old : Office) (d
   pub takes : TakesIn (standing_in old d next) content d next told old new
   pub are : StoresRows new.rows db
 
--- a crash leaves these alone
+-- a crash leaves only these
 abbrev pub LeavesIt : SetupContent → Delivery → Office → State → Type 0
 LeavesIt content d old s = (db : Trees) → s.may_leave db → IsTakenInto content d old db
 

@@ -20,7 +20,7 @@ Notes met old given new = ⊥
 abbrev pub HasFault : Option TableFault → Type 0
 HasFault last = (fault : TableFault) × (last ≡ Some fault)
 
--- the desk has a fault behind an answer NotNow, and behind any other the one that it had
+-- the desk has a fault after an answer NotNow, and after any other the one that it had
 abbrev pub NotesFault : Response → (old new : Option TableFault) → Type 0
 NotesFault response.NotNow old new = HasFault new
 NotesFault given old new = new ≡ old
@@ -30,12 +30,12 @@ abbrev pub NotesMemory : Response → (old new : Option TableFault) → Type 0
 NotesMemory response.NotNow old new = new ≡ Some Memory
 NotesMemory given old new = new ≡ old
 
--- the same behind the answer to an account that is to be added: the fault is one of the store, or of memory
+-- the same after the answer to an account that is to be added: the fault is one of the store, or of memory
 abbrev pub NotesStore : AccountAnswer → (old new : Option TableFault) → Type 0
 NotesStore account.NotNow old new = (fault : TableFault) × (new ≡ Some fault) × IsOfStore fault
 NotesStore given old new = new ≡ old
 
--- the same behind a report: it has a fault behind one that can't be told now
+-- the same after a report: it has a fault after one that can't be told now
 abbrev pub NotesLook : Result (Option (List ℕ)) Unreported → (old new : Option TableFault) → Type 0
 NotesLook (Ok found) old new = new ≡ old
 NotesLook (Err refusal) old new = HasFault new

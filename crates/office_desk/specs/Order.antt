@@ -43,7 +43,7 @@ stored trees = record { schema = office_schema; trees = trees }
 abbrev pub IsStoredInOrder : SetupContent → List Event → Trees → Type 0
 IsStoredInOrder content es db = IsInOrder content es (stored db)
 
--- a crash leaves such rows alone
+-- a crash leaves only such rows
 abbrev pub LeavesInOrder : SetupContent → List Event → State → Type 0
 LeavesInOrder content es s = (db : Trees) → s.may_leave db → IsStoredInOrder content es db
 
@@ -90,14 +90,14 @@ pub record AddsInOrder {S : Type 0} (g : Ghosts S) (old : Desk S g) (code kind :
 
 -- ---- taking in
 
--- the text was taken, and those that became next by it: a database holds the rows behind them, in order
+-- the text was taken, and those that became next by it: a database holds the rows after them, in order
 pub record IsRunInOrder (rows : Rows) (d : Delivery) (old : MachineState) (db : Database) : Type 0 where
   pub taken : List TakenContent
   pub new : MachineState
   pub are_taken : AreTakenFrom d.partner (texts_with rows d.partner d.number d.text) d.number old taken new
   pub has : HasRowsInOrder (with_run d.partner d.number d.text taken rows) db
 
--- From rows in order: the rows behind the run are committed in order. Where it failed a crash leaves what it left before,
+-- From rows in order: the rows after the run are committed in order. Where it failed a crash leaves what it left before,
 -- or these.
 pub record RunsInOrder (d : Delivery) (setup : Setup) (there : Beside) (old : State)
     (result : Result (Response × Beside) TableFault) (new : State) : Type 0 where
@@ -112,12 +112,12 @@ abbrev pub with_taken : List Event → (sent : List ℕ) → Result Response Tab
 with_taken es sent (Ok response) = es ++ delivered sent ∷ []
 with_taken es sent (Err fault) = es
 
--- a crash leaves the rows behind what is answered, in order; behind a call that failed, these or those before
+-- a crash leaves the rows after what is answered, in order; after a call that failed, these or those before
 abbrev pub LeavesTakenInOrder : SetupContent → List Event → (sent : List ℕ) → Result Response TableFault → State → Type 0
 LeavesTakenInOrder content es sent (Ok response) s = LeavesInOrder content (es ++ delivered sent ∷ []) s
 LeavesTakenInOrder content es sent (Err fault) s = LeavesEitherInOrder content es (delivered sent) s
 
--- A delivery comes behind those events, whose rows are held in order. So are those after it; or those before, if the call
+-- A delivery comes after those events, whose rows are held in order. So are those after it; or those before, if the call
 -- failed. A crash leaves none out of order.
 pub record TakesInOrder (now : SetupContent) (d : Delivery) (old : State) (before : Option Beside)
     (result : Result Response TableFault) (new : State) : Type 0 where

@@ -40,7 +40,7 @@ pub record IsNew (closed : ClosedContent) (d : Delivery) (there : Beside) (s : S
   pub settled : s.now ≡ s.committed
   pub free : KeepsBeside closed d.partner d.number s.committed there None
 
--- no change is under way, these are the rows, and they have numbers of interchanges alone
+-- no change is under way, these are the rows, and they have only numbers of interchanges
 pub record HasNumbered (rows : Rows) (partner : ℕ) (s : State) : Type 0 where
   pub settled : s.now ≡ s.committed
   pub has : HasRows rows s.now
@@ -49,7 +49,7 @@ pub record HasNumbered (rows : Rows) (partner : ℕ) (s : State) : Type 0 where
 -- ---- the next one
 
 -- It is taken with those that become next by it, and their rows are committed; or nothing is. A crash leaves what it left
--- before, or the rows behind this run. It fails by the store or the memory alone, or by a reply behind it that is no text.
+-- before, or the rows after this run. It fails only by the store or the memory, or by a reply after it that is no text.
 pub record TakesRun (d : Delivery) (code : List ℕ) (setup : Setup) (there : Beside) (old : State)
     (result : Result (Response × Beside) TableFault) (new : State) : Type 0 where
   pub ok : IfOk result (λ taken. (rows : Rows) → HasNumbered rows d.partner old →
@@ -62,14 +62,14 @@ pub record TakesRun (d : Delivery) (code : List ℕ) (setup : Setup) (there : Be
 
 -- ---- any one
 
--- if it comes behind those events it is answered at its place; or the call failed, and what was held is held
+-- if it comes after those events it is answered at its place; or the call failed, and what was held is held
 abbrev pub AnswersOrHolds : SetupContent → List Event → Delivery → List ℕ → Result Response TableFault →
     (now : SetupContent) → Database → (there : Option Beside) → Type 0
 AnswersOrHolds content es d code (Ok response) now db there =
     (sent : List ℕ) → Comes content es sent d → Answers content es sent d code response now db there
 AnswersOrHolds content es d code (Err fault) now db there = Holds content es now db there
 
--- a crash leaves the rows behind what is answered; behind a call that failed, these or those before
+-- a crash leaves the rows after what is answered; after a call that failed, these or those before
 abbrev pub LeavesTaken : SetupContent → List Event → (sent : List ℕ) → Result Response TableFault → State → Type 0
 LeavesTaken content es sent (Ok response) s = Leaves content (es ++ delivered sent ∷ []) s
 LeavesTaken content es sent (Err fault) s = LeavesEither content es sent s

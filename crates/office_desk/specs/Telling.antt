@@ -24,7 +24,7 @@ use Rattle.office_desk.specs.declared.beside.Beside.{Beside}
 use Rattle.office_desk.specs.declared.taking.Delivery.{Delivery as Delivered}
 
 -- the text is taken, and those that become next by it, and the partner's number is raised by the length of this run;
--- the response has the reply of the first, and the rows are committed, so that a crash leaves these alone
+-- the response has the reply of the first, and the rows are committed, so that a crash leaves only these
 pub record TakesNext (rows : Rows) (d : Delivery) (code : List ℕ) (setup : Setup) (old : Beside)
     (response : Response) (new : Beside) (end : State) : Type 0 where
   pub first : TakenContent
@@ -37,7 +37,7 @@ pub record TakesNext (rows : Rows) (d : Delivery) (code : List ℕ) (setup : Set
   pub is_open : IsTrue end.is_open
   pub alone : (db : Trees) → end.may_leave db → db ≡ end.committed.trees
 
--- the text was taken, and those that became next by it: a store holds the rows behind them
+-- the text was taken, and those that became next by it: a store holds the rows after them
 pub record IsRunDone (rows : Rows) (d : Delivery) (old : MachineState) (db : Trees) : Type 0 where
   pub taken : List TakenContent
   pub new : MachineState
@@ -60,7 +60,7 @@ pub record Comes (content : SetupContent) (es : List Event) (sent : List ℕ) (d
   pub text_is : d.text ≡ interchange_of sent
   pub is_for : IsFor content es sent d.partner d.number
 
--- the response to the partner with a code is what is to be told of it, and these are held behind it
+-- the response to the partner with a code is what is to be told of it, and these are held after it
 pub record Answers (content : SetupContent) (es : List Event) (sent : List ℕ) (d : Delivery) (code : List ℕ)
     (response : Response) (now : SetupContent) (db : Database) (there : Option Beside) : Type 0 where
   pub answers : content_of response ≡ answer_by_model code d.number (answer_model_of content es d.partner d.number sent)

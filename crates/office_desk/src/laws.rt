@@ -14,12 +14,12 @@ pub fn same_set_ups_answer_alike()
 {}
 
 /// Each of any number of deliveries to a desk that is sound in the end is answered at its place, from whatever events the
-/// desk stood at, and behind them it stands at those that were answered.
+/// desk stood at, and after them it stands at those that were answered.
 pub fn deliveries_are_answered<S: Alter>()
     ensures { DeliveriesAreAnswered S.Store }
 {}
 
-/// What was answered outlasts a crash, behind any number of deliveries to a desk that is sound in the end: a crash leaves
+/// What was answered outlasts a crash, after any number of deliveries to a desk that is sound in the end: a crash leaves
 /// the rows after those that were answered, and of a last one that was answered NotNow all or nothing.
 pub fn deliveries_outlast_crashes<S: Alter>()
     ensures { DeliveriesOutlastCrashes S.Store }

@@ -127,7 +127,7 @@ fn misframed(placed: &[PlacedSegment<'_>]) -> Wrong {
     at_trailer(placed, frame_words(true))
 }
 
-/// What is wanted inside a message, or behind one, before what may not stand there.
+/// What is wanted inside a message, or after one, before what may not stand there.
 fn frame_words(is_inside: bool) -> &'static str {
     if is_inside {
         "UNT before it, the end of the message"

@@ -77,7 +77,7 @@ impl Block<'_> {
     }
 }
 
-/// Explains the first interchange of a file that begins at a byte, from 0, or behind it. `None`: nothing stands there but CR
+/// Explains the first interchange of a file that begins at a byte, from 0, or after it. `None`: nothing stands there but CR
 /// and LF. An error is that memory was refused.
 pub fn explain_from<'a>(
     alloc: Global,
@@ -265,7 +265,7 @@ fn write_reading<W: fmt::Write>(
     Ok(())
 }
 
-/// Writes a finding of a text that stands behind so many bytes of its file.
+/// Writes a finding of a text that stands after so many bytes of its file.
 fn write_finding<W: fmt::Write>(
     finding: &Finding,
     text: &[u8],

@@ -8,7 +8,7 @@ use edi_segments::token::Token;
 pub(crate) enum Wanted {
     /// A capital or a digit of a tag.
     Tag,
-    /// An element separator or the terminator, behind a tag.
+    /// An element separator or the terminator, after a tag.
     Separator,
     /// Data, a separator or the terminator.
     Data,
@@ -23,7 +23,7 @@ pub(crate) struct Front<'a> {
     pub(crate) whole: usize,
     /// What begins with the last of them.
     pub(crate) last: &'a [u8],
-    /// What stands behind them, but for CR and LF.
+    /// What stands after them, but for CR and LF.
     pub(crate) rest: &'a [u8],
     /// What begins with the byte of the rest that fits no segment.
     pub(crate) misfit: &'a [u8],
@@ -66,7 +66,7 @@ pub(crate) fn front_of(text: &[u8]) -> Front<'_> {
 /// What the first segment of a text comes to.
 #[derive(Clone, Copy)]
 enum Fit<'a> {
-    /// It is whole, and this stands behind it.
+    /// It is whole, and this stands after it.
     Whole(&'a [u8]),
     /// It breaks off where this begins, and this is wanted there.
     Broken(&'a [u8], Wanted),

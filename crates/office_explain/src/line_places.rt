@@ -83,7 +83,7 @@ fn corrected(group: &[PlacedSegment<'_>]) -> Option<[u8; 11]> {
     Some([c0, c1, c2, c3, c4, c5, c6, c7, c8, c9, b'0' + digit])
 }
 
-/// From which index up to which the segments stand that speak of the first container at an index or behind it: its
+/// From which index up to which the segments stand that speak of the first container at an index or after it: its
 /// equipment, and what follows up to the next equipment or control total.
 pub(crate) fn group_from(segments: &[PlacedSegment<'_>], index: usize) -> (usize, usize)
     ensures order { result.0 ≤ result.1 }
@@ -93,7 +93,7 @@ pub(crate) fn group_from(segments: &[PlacedSegment<'_>], index: usize) -> (usize
     (begin, group_end(segments, begin))
 }
 
-/// The index of the first container at an index or behind it; how many segments there are, if there is none.
+/// The index of the first container at an index or after it; how many segments there are, if there is none.
 fn container_from(segments: &[PlacedSegment<'_>], from: usize) -> usize
     ensures { result ≤ length segments.now }
 {

@@ -52,7 +52,7 @@ pub(crate) fn placed_segments<'a>(
     Ok(placed)
 }
 
-/// The service characters of a text, and what stands behind its service string advice, if it has one.
+/// The service characters of a text, and what stands after its service string advice, if it has one.
 pub(crate) fn advised(text: &[u8]) -> (Service, &[u8]) {
     match Service::read(text) {
         Ok((service, 0)) => (service, text),
@@ -61,7 +61,7 @@ pub(crate) fn advised(text: &[u8]) -> (Service, &[u8]) {
     }
 }
 
-/// What stands behind the CR and LF at the front.
+/// What stands after the CR and LF at the front.
 pub(crate) fn behind_breaks(text: &[u8]) -> &[u8]
     ensures { length result.now ≤ length text.now }
 {
@@ -73,7 +73,7 @@ pub(crate) fn behind_breaks(text: &[u8]) -> &[u8]
     &text[text.len()..]
 }
 
-/// What stands behind the first terminator that is not released.
+/// What stands after the first terminator that is not released.
 fn behind_segment(service: Service, text: &[u8]) -> &[u8] {
     let mut released = false;
     for (i, byte) in text.iter().enumerate() {
@@ -124,7 +124,7 @@ pub(crate) fn first_qualified<'a>(
     None
 }
 
-/// The first message that begins at an index or behind it, from its UNH up to its UNT.
+/// The first message that begins at an index or after it, from its UNH up to its UNT.
 pub(crate) fn message_from<'p, 'a>(
     segments: &'p [PlacedSegment<'a>],
     index: usize,
@@ -141,7 +141,7 @@ pub(crate) fn message_from<'p, 'a>(
         .0
 }
 
-/// The index behind a message, whose segments are numbered from 1 in their text.
+/// The index after a message, whose segments are numbered from 1 in their text.
 pub(crate) fn index_behind(message: &[PlacedSegment<'_>], before: usize) -> usize {
     match message.last() {
         Some(last) => last.number,
@@ -149,7 +149,7 @@ pub(crate) fn index_behind(message: &[PlacedSegment<'_>], before: usize) -> usiz
     }
 }
 
-/// The index of the first segment with a tag, at an index or behind it; how many segments there are, if none has it.
+/// The index of the first segment with a tag, at an index or after it; how many segments there are, if none has it.
 fn index_from(segments: &[PlacedSegment<'_>], from: usize, tag: &[u8]) -> usize
     ensures { result ≤ length segments.now }
 {

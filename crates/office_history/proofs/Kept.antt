@@ -10,7 +10,7 @@ use Rattle.office_history.specs.After.{accounts_from}
 
 -- ---- in the order of partners and numbers
 
--- the first is above that number of the partner, or of a partner behind it
+-- the first is above that number of the partner, or of a partner after it
 abbrev pub Starts : ℕ → ℕ → List NumberKept → Type 0
 Starts p above [] = Unit {0}
 Starts p above (n ∷ ns) = (p < n.partner) ⊎ ((n.partner ≡ p) × (above < n.number))
@@ -36,7 +36,7 @@ pub record IsWithinRuns (count : ℕ) (runs : ℕ → ℕ) (n : NumberKept) : Ty
   pub taken : n.number ≤ runs n.partner → n.is_taken ≡ true
   pub waits : runs n.partner < n.number → (runs n.partner + 1 < n.number) × (n.is_taken ≡ false)
 
--- what follows in order is behind
+-- what follows in order comes after
 has_after : (q m : ℕ) (ns : List NumberKept) (p k : ℕ) → Starts q m ns → Rise ns → Has p k ns → (q < p) ⊎ ((p ≡ q) × (m < k))
 has_after q m [] p k starts rise has = absurd has
 has_after q m (n ∷ ns) p k starts rise (inl here) = elim starts [
@@ -55,7 +55,7 @@ module _ (count : ℕ) (runs : ℕ → ℕ) where
   abbrev next : ℕ → ℕ
   next p = runs p + 1
 
-  -- each number within the runs of partners behind that one is there
+  -- each number within the runs of partners after that one is there
   abbrev pub IsComplete : ℕ → List NumberKept → Type 0
   IsComplete p ns = (q k : ℕ) → p < q → 1 ≤ k → k ≤ runs q → Has q k ns
 
@@ -65,7 +65,7 @@ module _ (count : ℕ) (runs : ℕ → ℕ) where
     | inr later ↦ later
   ]
 
-  -- those that wait for a partner, and those of the partners behind it
+  -- those that wait for a partner, and those of the partners after it
   record Parts (p above : ℕ) (ns : List NumberKept) : Type 0 where
     waiting : List NumberKept
     others : List NumberKept
@@ -95,7 +95,7 @@ module _ (count : ℕ) (runs : ℕ → ℕ) where
         there = rest.there;
       }
 
-  -- those that were taken of a partner, from a number on, those that wait, and those of the partners behind it
+  -- those that were taken of a partner, from a number on, those that wait, and those of the partners after it
   record Own (p above many : ℕ) (ns : List NumberKept) : Type 0 where
     waiting : List NumberKept
     others : List NumberKept

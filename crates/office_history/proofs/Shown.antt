@@ -15,7 +15,7 @@ use Rattle.office_rows.proofs.Listed.{unmapped}
 
 -- ---- lists
 
--- what one element alone passes is found in whatever order
+-- what only one element passes is found in whatever order
 pub found_same : {A : Type 0} (p : A → Bool) (xs ys : List A) → count_by p xs ≤ 1 → IsPermutation xs ys → find p ys ≡ find p xs
 found_same {A} p xs ys once same =
     elim (find p ys) as (λ o. find p ys ≡ o → o ≡ find p xs) [

@@ -29,7 +29,7 @@ abbrev pub with_interchanges : ℕ → List TakenContent → Rows → Rows
 with_interchanges partner taken rows =
     fold (λ (done : Rows) (t : TakenContent). with_interchange partner t done) rows taken
 
--- a text is kept under its number, and then it and those behind it are taken
+-- a text is kept under its number, and then it and those after it are taken
 abbrev pub with_run : ℕ → ℕ → List ℕ → List TakenContent → Rows → Rows
 with_run partner number text taken rows = with_interchanges partner taken (with_waiting partner number text rows)
 

@@ -20,7 +20,7 @@ pub fn deliveries_leave_sound()
     ensures { DeliveriesLeaveSound }
 {}
 
-/// A text is kept for an account alone, under a number from 1 to 999,999,999.
+/// A text is kept only for an account, under a number from 1 to 999,999,999.
 pub fn numbers_are_within()
     ensures { NumbersAreWithin }
 {}

@@ -1,4 +1,4 @@
--- What was done with a desk, one thing behind the other.
+-- What was done with a desk, one thing after the other.
 use Rattle.std.specs.Prelude.{◌≡◌, ℕ, List, [], ◌∷◌, Option, Result}
 use Rattle.office_replies.specs.declared.accounts.AccountAnswer.{AccountAnswer}
 use Rattle.office_replies.specs.declared.deliver.Response.{Response}
@@ -15,7 +15,7 @@ pub data Step : Type 0 where
   account : List ℕ → List ℕ → AccountAnswer → Step
   look : Look → Result (Option (List ℕ)) NotNow → Step
 
--- the events behind it
+-- the events after it
 abbrev pub with_step : List Event → Step → List Event
 with_step es (delivery text response) = with_answered es text response
 with_step es (account code kind answer) = with_added es code kind answer
@@ -34,7 +34,7 @@ module _ {D : Type 0} (leads : D → List ℕ → Response → D → Type 0)
   StepLeads old (account code kind answer) new = enrols old code kind answer new
   StepLeads old (look at found) new = looks old at found new
 
-  -- so do these, one behind the other
+  -- so do these, one after the other
   abbrev pub StepsLead : D → List Step → D → Type 0
   StepsLead old [] new = new ≡ old
   StepsLead old (step ∷ steps) new = (next : D) × StepLeads old step next × StepsLead next steps new

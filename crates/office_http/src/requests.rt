@@ -66,7 +66,7 @@ pub(crate) fn read_request<R: Read>(alloc: Global, reader: &mut Port<R>) -> Resu
     }
 }
 
-/// Reads what stands behind a head, if it is wanted.
+/// Reads what stands after a head, if it is wanted.
 fn read_asked<R: Read>(
     alloc: Global,
     reader: &mut Port<R>,

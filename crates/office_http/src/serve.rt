@@ -46,7 +46,7 @@ pub trait OfTerminal {
 pub struct Seen<'a> {
     /// The method, or whatever stands in its place. Empty if nothing came.
     pub method: &'a [u8],
-    /// The target, as it came. What stands behind the first 256 bytes of a request is cut off.
+    /// The target, as it came. What stands after the first 256 bytes of a request is cut off.
     pub target: &'a [u8],
     /// The status of the response, 0 if none was written.
     pub status: u16,
@@ -145,7 +145,7 @@ fn door_by(ahead: u32, number: u32, next: Option<u64>) -> Door
 }
 
 /// Reads one request, does what it asks for, and writes its response. By the path of a partner a number may be above its
-/// next one by `ahead`; by any, if there is no bound. What a reader gives behind a request has no effect.
+/// next one by `ahead`; by any, if there is no bound. What a reader gives after a request has no effect.
 pub fn serve_one<R: Read, W: Write, D: Report + AddAccount + OfTerminal>(
     alloc: Global,
     reader: &mut Port<R>,
@@ -174,7 +174,7 @@ pub fn serve_one<R: Read, W: Write, D: Report + AddAccount + OfTerminal>(
     ensures decided { IfSome (R.remaining reader.old.inner) (λ stream.
         EndsWhenDecided stream reader.old.reads reader.new.reads) }
 
-    // No read is made behind the end.
+    // No read is made after the end.
     ensures in_time { reader.old.ended ≡ false → reader.new.read_behind_end ≡ reader.old.read_behind_end }
 
     // At Ok neither port has failed.

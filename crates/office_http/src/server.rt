@@ -38,7 +38,7 @@ impl Deadline {
     }
 }
 
-/// How often at most what a peer still sends behind its request is read.
+/// How often at most what a peer still sends after its request is read.
 const PARTING_READS: u32 = 1024;
 
 /// Accepts so many connections, one after the other, and answers one request of each. A connection that fails is passed
@@ -89,7 +89,7 @@ fn serve_stream<C: Clock, D: Report + AddAccount + OfTerminal, H: Watch>(
     }
 }
 
-/// Reads what the peer still sends behind its request, up to 4 MiB and until a second brings nothing or the response's
+/// Reads what the peer still sends after its request, up to 4 MiB and until a second brings nothing or the response's
 /// time is over, since closing a connection with unread input could take the response away from the peer.
 fn drain<C: Clock>(mut stream: TimedReader<'_, C>) {
     let mut buffer = [0; ROOM];
@@ -118,7 +118,7 @@ pub(crate) struct TimedReader<'a, C: Clock> {
     deadline: Deadline,
     /// How many seconds the next read may take.
     turn: u64,
-    /// How many seconds a read behind that may take.
+    /// How many seconds a read after that may take.
     later: u64,
 }
 
@@ -134,7 +134,7 @@ impl<'a, C: Clock> TimedReader<'a, C> {
         })
     }
 
-    /// What still comes behind a request whose response is written: nobody waits long for a peer that doesn't close.
+    /// What still comes after a request whose response is written: nobody waits long for a peer that doesn't close.
     pub(crate) fn parting(
         stream: &'a TcpStream,
         clock: &'a C,
@@ -162,7 +162,7 @@ impl<C: Clock> Read for TimedReader<'_, C> {
     }
 }
 
-/// How many seconds a response may take till it is taken, and till the peer has closed behind it.
+/// How many seconds a response may take till it is taken, and till the peer has closed after it.
 const RESPONSE: u64 = 10;
 
 /// What a connection takes, in time.

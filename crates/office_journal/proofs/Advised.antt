@@ -9,7 +9,7 @@ use Rattle.edi_cutter.specs.Positions.{position_after}
 use Rattle.edi_cutter.specs.Cuts.{is_in_advice, breaks_advice, past_advice, is_closed, IsOpen}
 use Rattle.edi_cutter.proofs.CutLemmas.{in_advice}
 
--- the front has the text's service characters, and what stands behind its advice is a front of what does in the text
+-- the front has the text's service characters, and what stands after its advice is a front of what does in the text
 pub record IsRead (front more : List ℕ) : Type 0 where
   pub service : service_at front ≡ service_at (front ++ more)
   pub past : past_advice (front ++ more) ≡ past_advice front ++ more
@@ -22,7 +22,7 @@ read_plain front more none none' = record {
   unbroken = rw none refl;
 }
 
--- ---- behind a whole advice
+-- ---- after a whole advice
 
 good_parts : (begins reaches usable : Bool) → begins ≡ true → begins && not (reaches && usable) ≡ false → (reaches ≡ true) × (usable ≡ true)
 good_parts true true true is good = (refl, refl)

@@ -81,7 +81,7 @@ module _ (text : List ℕ) (none : fault_of text ≡ None) (stripped : interchan
   spelled : SegmentsText s segments (behind_advice text)
   spelled = segments_sound s (behind_advice text) is.segments
 
-  -- behind the advice stand line breaks and then the segments
+  -- after the advice stand line breaks and then the segments
   past : (breaks : List ℕ) × (list_all is_break breaks ≡ true) × (past_advice text ≡ breaks ++ behind_advice text)
   past = on (begins_with_advice text)
     where
@@ -127,7 +127,7 @@ module _ (text : List ℕ) (none : fault_of text ≡ None) (stripped : interchan
 
   -- ---- no earlier end
 
-  -- behind a trailer no segment stands
+  -- after a trailer no segment stands
   nothing_behind : (before : List Content) (trailer : Content) (breaks rest last more : List ℕ) → list_all is_break breaks ≡ true → SegmentsText s before rest → SegmentText s trailer last → trailer.tag ≡ codes "UNZ"
       → past_advice text ≡ breaks ++ (rest ++ (last ++ more)) → without_breaks more ≡ []
   nothing_behind before trailer breaks rest last more all befores last_spelled tag parts =
@@ -206,7 +206,7 @@ front_unbroken (b ∷ text) behind is none = on (is_break b) none
     on true e = cc
     on false e = refl
 
--- the lines, and the lines behind an LF
+-- the lines, and the lines after an LF
 record AreCutTwice (texts : List (List ℕ)) : Type 0 where
   at_once : AreCuts (lines_of texts) texts []
   behind_feed : AreCuts (line_feed ∷ lines_of texts) texts []

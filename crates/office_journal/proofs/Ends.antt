@@ -128,7 +128,7 @@ next_is : (s : Service) (segment : Content) (first rest : List ℕ) → SegmentT
 unfolding unbroken_behind
 next_is s segment first rest spelled = next_by_segment s (first ++ rest) ∙ ap (option_map unbroken_behind) (segment_complete s segment first rest spelled)
 
--- the segments of bytes are these, and then those of what stands behind them
+-- the segments of bytes are these, and then those of what stands after them
 pub record Goes (s : Service) (bytes : List ℕ) (segments : List Content) (rest : List ℕ) : Type 0 where
   pub segments_are : segments_of s bytes ≡ segments ++ segments_of s rest
   pub are_all : are_segments s bytes ≡ are_segments s rest
@@ -229,7 +229,7 @@ trailer_last segments before trailer later envelope messages parts tag = on befo
 
 -- ---- the last segment
 
--- the last of these segments, and what stands before and behind it
+-- the last of these segments, and what stands before and after it
 pub record EndsBy (s : Service) (last_is : Content) (text : List ℕ) : Type 0 where
   pub before : List Content
   pub front : List ℕ

@@ -25,7 +25,7 @@ use Rattle.sqlite_resolve.specs.Compile.{first, read, planned, meaning, returnin
 use Rattle.sqlite.specs.Listing.{understood, listing_schema}
 use Rattle.office_tables.proofs.TextLemmas.{plan_by}
 
--- a SELECT from one table alone, with no WITH and no LIMIT
+-- a SELECT from only one table, with no WITH and no LIMIT
 pub record IsOfOne (name : Name) (s : Select) : Type 0 where
   pub with : (out-Select s).with ≡ []
   pub others : (out-Select s).others ≡ []

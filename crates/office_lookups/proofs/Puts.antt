@@ -24,7 +24,7 @@ less Equal p = absurd p
 less Greater p = absurd p
 
 module _ {K X : Type 0} (R : K → K → Ordering) where
-  -- a key that ties with none of the entries goes behind those that it is behind of
+  -- a key that ties with none of the entries goes after those that it comes after
   pub put_there : (k : K) (v : X) (es : List (K × X)) → find R k es ≡ None
       → put R k v es ≡ insert es (prefix_len (λ e. is_gt (R k e.0)) es) (k, v)
   put_there k v [] none = refl

@@ -25,7 +25,7 @@ lesser a y = elim (cases_Bool (nat_le a y)) [
   | inr high ↦ inr (let lt = leb-false a y high in omega (arith, lt))
 ]
 
--- of a list with one more in front of two, what is in the list with the lesser alone
+-- of a list with one more in front of two, what is only in the list with the lesser
 with_both : (a y m : ℕ) (ys : List ℕ) (x : ℕ) → (m ≡ a) ⊎ (m ≡ y) → Contains (m ∷ ys) x → Contains (a ∷ y ∷ ys) x
 with_both a y m ys x (inl first) (zero, within, at) = (0, omega arith, sym first ∙ at)
 with_both a y m ys x (inr second) (zero, within, at) = (1, omega arith, sym second ∙ at)

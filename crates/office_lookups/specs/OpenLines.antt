@@ -39,6 +39,6 @@ open_lines_text lines container = flat_map open_line (open_lines lines container
 
 -- ---- what the code goes by, and no caller has to read
 
--- the first key stands behind the other
+-- the first key stands after the other
 abbrev pub is_behind : LineKey → LineKey → Bool
 is_behind key other = is_gt (slice_cmp (slice_cmp nat_cmp) key other)

@@ -169,7 +169,7 @@ fn push_gone(
 }
 
 /// Appends a line `LOAD VESSEL VOYAGE` or `DISCHARGE VESSEL VOYAGE` for each open line that names the container, with the
-/// port behind it if there is one: by vessel, voyage and side, load before discharge.
+/// port after it if there is one: by vessel, voyage and side, load before discharge.
 pub(crate) fn push_open_lines(
     alloc: Global,
     text: &mut String,
@@ -244,7 +244,7 @@ fn open_lines<'a>(
     Ok(lines)
 }
 
-/// Where a line goes among others that stand by their keys: behind those that it is behind of.
+/// Where a line goes among others that stand by their keys: after those that it comes after.
 fn place_of(lines: &[&Listing], row: &Listing) -> usize
     ensures within { result ≤ length lines.now }
     ensures place { result ≡ prefix_len (λ line. is_behind (key_of row.now) (key_of line.now)) lines.now }
@@ -258,7 +258,7 @@ fn is_open_for(row: &Listing, container: BoxNumber) -> bool
     row.container == container && row.state == LineState::Pending
 }
 
-/// Whether a line stands behind another, by vessel, voyage and side.
+/// Whether a line stands after another, by vessel, voyage and side.
 fn is_behind(row: &Listing, other: &Listing) -> bool
     ensures { result ≡ is_behind (key_of row.now) (key_of other.now) }
 {

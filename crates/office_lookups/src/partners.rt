@@ -25,7 +25,7 @@ pub struct Partner {
 }
 
 /// What is expected of partners: `PARTNERS`; for each a line `CODE KIND NEXT n`, with ` WAITING k FROM a TO b MISSING n`
-/// behind it if some of its interchanges wait: how many, the least and the greatest of their numbers, and the first
+/// after it if some of its interchanges wait: how many, the least and the greatest of their numbers, and the first
 /// number that is missing; `n PARTNERS k WAITING`. Each line ends with LF.
 pub fn partners_report(alloc: Global, partners: &[Partner]) -> Result<String, AllocError>
     ensures { IfOk result (λ text. string_bytes text ≡ partners_text (map partner_content partners.now)) }
@@ -176,7 +176,7 @@ fn kind_name<'a>(kind: PartnerKind) -> &'a str
     }
 }
 
-/// The CONTRL of a reply, with LF behind it. `None` if the text is that of no reply.
+/// The CONTRL of a reply, with LF after it. `None` if the text is that of no reply.
 pub fn contrl_in(alloc: Global, reply: &str) -> Result<Option<String>, AllocError>
     ensures { IfOk result (λ found. option_map string_bytes found ≡ contrl_in reply.now) }
 {

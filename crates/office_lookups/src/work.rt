@@ -17,7 +17,7 @@ use std::alloc::{AllocError, Global};
 use std::collections::BTreeMap;
 use terminal_core::{LineState, Side, Terminal};
 
-/// What is left to do of a call's list, its open lines alone. `LOAD WORK VESSEL VOYAGE`, by block, row and bay, from the
+/// What is left to do of a call's list, only its open lines. `LOAD WORK VESSEL VOYAGE`, by block, row and bay, from the
 /// top tier down, `SLOT BOX SIZE`, the port if there is one, and `FREE`, or `UNDER BOX` with the container that stands on
 /// it; by container `BOX`, the port if there is one, and `NOT IN` for those that are not in the yard;
 /// `a FREE b UNDER c NOT IN`. `DISCHARGE WORK VESSEL VOYAGE`, by container `BOX`, the port if there is one, and `IN SLOT`

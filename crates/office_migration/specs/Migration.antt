@@ -18,7 +18,7 @@ use Rattle.office_tables.specs.Order.{HasRowsInOrder}
 use Rattle.office_loading.specs.Older.{LoadsOlder}
 use Rattle.office_migration.specs.Copies.{AreStanding, copied_rows}
 
--- what was committed is all there is, and a crash leaves it alone
+-- what was committed is all there is, and a crash leaves only that
 pub record IsSettled (s : State) : Type 0 where
   pub settled : s.now ≡ s.committed
   pub is_open : IsTrue s.is_open

@@ -1,4 +1,4 @@
--- What stands behind a front.
+-- What stands after a front.
 use Rattle.std.proofs.Common.{◌≡◌, ℕ, nat_eq, List, length, drop, refl, ap, ◌∙◌, inl, inr, Option, None, Some}
 use Rattle.std.specs.Borrow.{Bor}
 use Rattle.std.specs.List.{starts_with}

@@ -78,7 +78,7 @@ by_name query.Metrics ws place by = refl
 placed_as_named : (asked : Query) (ws : List (List ℕ)) (place : ℕ) → leads_by_place asked ≡ false → word_view asked ws place ≡ gap place ++ named_view (word_at ws place)
 placed_as_named asked ws place by = ap (λ where_to. gap place ++ linked where_to (word_at ws place)) (by_name asked ws place by)
 
--- the words behind the first
+-- the words after the first
 rest_named : (asked : Query) → leads_by_place asked ≡ false → (ws rest : List (List ℕ)) (k : ℕ) → ((i : ℕ) → get_or ws (suc k + i) [] ≡ get_or rest i []) →
     flat_map (word_view asked ws) (range_with_len (suc k) (length rest)) ≡ flat_map (λ w. codes " " ++ named_view w) rest
 rest_named asked by ws [] k same = refl

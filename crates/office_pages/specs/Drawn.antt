@@ -14,7 +14,7 @@ draws_container line = starts_with nat_eq line (codes "<g transform='translate("
 abbrev pub tag_ends : List ℕ → List (List ℕ)
 tag_ends line = slice_split (λ b. b == 62) line
 
--- the first word behind the second `>`
+-- the first word after the second `>`
 abbrev pub titled : List ℕ → List ℕ
 titled line = word_at (words (word_at (tag_ends line) 2)) 0
 

@@ -176,7 +176,7 @@ second_view asked told = []
 
 -- ---- pages
 
--- what shows the text of a report, and that of a second one; a browser drops the first LF behind <pre>
+-- what shows the text of a report, and that of a second one; a browser drops the first LF after <pre>
 abbrev pub text_page : Query → List ℕ → Option (List ℕ) → List ℕ
 text_page asked text second =
     page_head (asks_again asked) (title asked) ++ beside asked ++ codes "<pre>\n" ++ body_bytes asked text

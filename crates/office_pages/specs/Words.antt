@@ -12,14 +12,14 @@ lines text = slice_split (λ b. b == 10) text
 abbrev pub words : List ℕ → List (List ℕ)
 words line = slice_split (λ b. b == 32) line
 
--- the word at a place, counted from 0; nothing behind the last
+-- the word at a place, counted from 0; nothing after the last
 abbrev pub word_at : List (List ℕ) → ℕ → List ℕ
 word_at words place = slice_index_or words place []
 
 abbrev pub is_at : List (List ℕ) → ℕ → List ℕ → Bool
 is_at words place word = bytes_eq (word_at words place) word
 
--- what stands behind a front, if it is there
+-- what stands after a front, if it is there
 abbrev pub without_front : List ℕ → List ℕ → Option (List ℕ)
 without_front front text = if starts_with nat_eq text front then Some (drop (length front) text) else None
 

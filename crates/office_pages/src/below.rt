@@ -113,7 +113,7 @@ fn first_line(text: &str) -> &str
     }
 }
 
-/// The number behind `NEXT`, in what follows the partner's code.
+/// The number after `NEXT`, in what follows the partner's code.
 fn next_behind(alloc: Global, rest: &str) -> Result<Option<u64>, AllocError>
     ensures { IfOk result (λ next. next ≡ next_behind (Some rest.now)) }
 {

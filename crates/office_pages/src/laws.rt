@@ -8,7 +8,7 @@ pub fn reports_are_shown()
     ensures { ReportsAreShown }
 {}
 
-/// Behind it a browser is between tags, as before it.
+/// After it a browser is between tags, as before it.
 pub fn reports_stay_in_place()
     ensures { ReportsStayInPlace }
 {}

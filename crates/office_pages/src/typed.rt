@@ -9,7 +9,7 @@ use box6346::{BoxNumber, NumberFault, check_digit};
 use percent_encoding::percent_decode;
 use std::alloc::{AllocError, Global};
 
-/// The container number that a person typed, from the value as it stands in the address behind `?container=`: `%` and
+/// The container number that a person typed, from the value as it stands in the address after `?container=`: `%` and
 /// two hexadecimal digits stand for a byte, and another `%` for itself. Small letters stand for capitals; spaces, also
 /// as `+`, and hyphens are left out. Else the notice that tells what is wrong: another form, or another check digit,
 /// and then the number with the right one.

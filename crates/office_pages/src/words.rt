@@ -10,7 +10,7 @@ pub(crate) fn words_of<'a>(alloc: Global, line: &'a str) -> Result<Vec<&'a str>,
     line.split(' ').collect(alloc)
 }
 
-/// The word at a place, counted from 0; an empty one behind the last.
+/// The word at a place, counted from 0; an empty one after the last.
 pub(crate) fn word_at<'a>(words: &[&'a str], place: usize) -> &'a str
     ensures { result.now ≡ word_at (texts_of words.now) place }
 {

@@ -19,7 +19,7 @@ pub record IsBeyond (closed : ℕ → ℕ) (count : ℕ) (runs : ℕ → ℕ) (n
   pub taken : n.number ≤ runs n.partner → n.is_taken ≡ true
   pub waits : runs n.partner < n.number → (runs n.partner + 1 < n.number) × (n.is_taken ≡ false)
 
--- each number beyond what is closed, within the runs of partners behind that one, is there
+-- each number beyond what is closed, within the runs of partners after that one, is there
 abbrev pub IsComplete : (closed runs : ℕ → ℕ) → ℕ → List NumberKept → Type 0
 IsComplete closed runs p ns = (q k : ℕ) → p < q → closed q < k → k ≤ runs q → Has q k ns
 
@@ -27,7 +27,7 @@ abbrev From : ℕ → List NumberKept → Type 0
 From p [] = Unit {0}
 From p (n ∷ ns) = p ≤ n.partner
 
--- what follows in order is behind
+-- what follows in order comes after
 has_after : (q m : ℕ) (ns : List NumberKept) (p k : ℕ) → Starts q m ns → Rise ns → Has p k ns → (q < p) ⊎ ((p ≡ q) × (m < k))
 has_after q m [] p k starts rise has = absurd has
 has_after q m (n ∷ ns) p k starts rise (inl here) = elim starts [
@@ -52,7 +52,7 @@ module _ (closed : ℕ → ℕ) (count : ℕ) (runs : ℕ → ℕ) (below : (p :
     | inr later ↦ later
   ]
 
-  -- those that wait for a partner, and those of the partners behind it
+  -- those that wait for a partner, and those of the partners after it
   record Parts (p above : ℕ) (ns : List NumberKept) : Type 0 where
     waiting : List NumberKept
     others : List NumberKept
@@ -85,7 +85,7 @@ module _ (closed : ℕ → ℕ) (count : ℕ) (runs : ℕ → ℕ) (below : (p :
   abbrev taken_by : ℕ → ℕ → NumberKept
   taken_by p number = record { partner = p; number = number; is_taken = true }
 
-  -- those that were taken of a partner, from a number on, those that wait, and those of the partners behind it
+  -- those that were taken of a partner, from a number on, those that wait, and those of the partners after it
   record Own (p above many : ℕ) (ns : List NumberKept) : Type 0 where
     waiting : List NumberKept
     others : List NumberKept

@@ -38,7 +38,7 @@ quiet_byte Tag c quiet = let t = tested c quiet in rw (t.greater, t.apostrophe, 
 quiet_byte SingleQuoted c quiet = let t = tested c quiet in rw t.apostrophe refl
 quiet_byte DoubleQuoted c quiet = let t = tested c quiet in rw t.quote refl
 
--- behind a quiet text the place is the same
+-- after a quiet text the place is the same
 pub quiet_stays : (place : Place) (text : List ℕ) → list_all is_quiet text ≡ true → place_after_all place text ≡ place
 quiet_stays place [] all = refl
 quiet_stays place (c ∷ text) all =

@@ -43,7 +43,7 @@ head =
     ++ codes "figure{break-inside:avoid}figure svg{max-width:100%;height:auto}h2{break-after:avoid}}\n"
     ++ codes "</style>\n"
 
--- what comes behind the title: the shapes of containers, and how empty and free ones are filled
+-- what comes after the title: the shapes of containers, and how empty and free ones are filled
 unfoldable pub shapes : List ℕ
 shapes =
     codes "</head>\n"

@@ -17,7 +17,7 @@ place_after Tag c = if c == 62 then Between else if c == 39 then SingleQuoted el
 place_after SingleQuoted c = if c == 39 then Tag else SingleQuoted
 place_after DoubleQuoted c = if c == 34 then Tag else DoubleQuoted
 
--- where the byte behind a text stands
+-- where the byte after a text stands
 abbrev pub place_after_all : Place → List ℕ → Place
 place_after_all place [] = place
 place_after_all place (c ∷ text) = place_after_all (place_after place c) text

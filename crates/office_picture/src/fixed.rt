@@ -82,7 +82,7 @@ pub(crate) fn head() -> &'static str
     HEAD
 }
 
-/// What comes behind the title: the shapes of containers, and how empty and free ones are filled.
+/// What comes after the title: the shapes of containers, and how empty and free ones are filled.
 #[tactic(auto, unfolding(crate::specs::Fixed::shapes))]
 pub(crate) fn shapes() -> &'static str
     ensures { result.now ≡ shapes }

@@ -2,7 +2,7 @@
 use Rattle.std.proofs.Common.{◌≡◌, ℕ, List, [], ◌∷◌, ◌++◌, Option, None, Some, option_map, append_assoc, append-nil, refl, sym, ap, ◌∙◌}
 use Rattle.office_queries.specs.Escapes.{decoded_part, with_first_byte}
 
--- bytes, and what is decoded behind them
+-- bytes, and what is decoded after them
 abbrev pub behind : List ℕ → Option (List ℕ) → Option (List ℕ)
 behind front left = option_map (λ more. front ++ more) left
 

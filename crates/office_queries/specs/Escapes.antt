@@ -9,7 +9,7 @@ byte_of high low =
     if nat_lt (digit_value high) 16 && nat_lt (digit_value low) 16 then Some (digit_value high * 16 + digit_value low)
     else None
 
--- a byte, and the bytes behind it
+-- a byte, and the bytes after it
 abbrev pub with_first_byte : Option (List ℕ) → ℕ → Option (List ℕ)
 with_first_byte behind byte = option_map (λ bytes. byte ∷ bytes) behind
 

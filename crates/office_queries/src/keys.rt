@@ -342,7 +342,7 @@ pub(crate) fn decode(alloc: Global, part: &str) -> Result<Option<Vec<u8>>, Alloc
     Ok(Some(bytes))
 }
 
-/// The byte that the front of a text stands for, and what is behind it.
+/// The byte that the front of a text stands for, and what is after it.
 fn split_byte(text: &[u8]) -> Option<(u8, &[u8])>
     ensures { MatchOption result (text.now ≢ [] → decoded_part text.now ≡ None)
         (λ found. (decoded_part text.now ≡ with_first_byte (decoded_part found.1.now) found.0)

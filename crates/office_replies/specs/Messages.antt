@@ -12,7 +12,7 @@ use Rattle.office_replies.specs.Names.{message_fault_name}
 use Rattle.office_replies.specs.Members.{text_member}
 use Rattle.office_replies.specs.Lines.{lines_from}
 
--- what became of a message's lines, behind how many lines were dropped, if it replaced a list; or why it gave no orders,
+-- what became of a message's lines, after how many lines were dropped, if it replaced a list; or why it gave no orders,
 -- with the code of the error (0085)
 pub data VerdictContent : Type 0 where
   accepted : Option ℕ → List LineReport → VerdictContent

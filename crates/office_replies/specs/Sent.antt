@@ -6,7 +6,7 @@ use Rattle.serde_json.specs.Events.{SendsMembers}
 use Rattle.office_replies.specs.declared.message_report.LineMembers.{LineMembers}
 use Rattle.office_replies.specs.Members.{text_member, optional_member}
 
--- whatever members end an object well from here end it well, behind those that were sent, from the start
+-- whatever members end an object well from here end it well, after those that were sent, from the start
 abbrev pub SendsFirst : (Members → Members) → Log → Log → Type 0
 SendsFirst first old new = (rest : Members) (end : Log) → SendsMembers rest new end → SendsMembers (first rest) old end
 

@@ -43,7 +43,7 @@ booking_words (b ∷ bs) = codes "BOOKING" ∷ (b ∷ bs) ∷ []
 abbrev pub gross_words : ℕ → List (List ℕ)
 gross_words kilos = if kilos == 0 then [] else codes "GROSS" ∷ decimal kilos ∷ []
 
--- a line of what it begins with, the booking and the gross weight of a visit, and what stands behind
+-- a line of what it begins with, the booking and the gross weight of a visit, and what stands after
 abbrev pub stay_line : VisitContent → List ℕ → List ℕ → List ℕ
 stay_line visit arrival behind =
     line (arrival ∷ booking_words visit.booking ++ gross_words visit.kilos ++ behind ∷ [])

@@ -23,7 +23,7 @@ pub struct ListedLine {
 }
 
 /// A call's list, by the containers' numbers: `LOAD LIST VESSEL VOYAGE` or `DISCHARGE LIST VESSEL VOYAGE`, a line
-/// `BOX OPEN` or `BOX DONE` for each with the port behind it if there is one, and `a OPEN b DONE`. Each line ends
+/// `BOX OPEN` or `BOX DONE` for each with the port after it if there is one, and `a OPEN b DONE`. Each line ends
 /// with LF. `None` if the list has no line.
 pub fn list_report(
     alloc: Global,

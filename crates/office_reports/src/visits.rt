@@ -77,7 +77,7 @@ fn push_visit(
     push_stay(alloc, text, visit, arrival.as_str(), departure.as_str())
 }
 
-/// Appends a line of what it begins with, `BOOKING B` and `GROSS W` if the visit has them, and what stands behind.
+/// Appends a line of what it begins with, `BOOKING B` and `GROSS W` if the visit has them, and what stands after.
 pub fn push_stay(
     alloc: Global,
     text: &mut String,

@@ -115,7 +115,7 @@ pub fn yard_csv(alloc: Global, terminal: &Terminal) -> Result<String, AllocError
 {
     let yard = standings(alloc, terminal)?;
 
-    // A writer over memory fails for want of memory alone.
+    // A writer over memory fails only when out of memory.
     let Ok(bytes) = exported(alloc, &yard) else {
         return Err(AllocError);
     };

@@ -86,7 +86,7 @@ found_after old new key index updates code =
     ∙ sym (cond-false _ index (index_in old code) other))
     (cases_Bool (bytes_eq code key.items))
 
--- the partners from an account on are it and those behind it
+-- the partners from an account on are it and those after it
 pub one_earlier : (accounts : List Account) (at : ℕ) (here : Account) → at < length accounts → here ≡ get_or accounts at here → (code : List ℕ) →
     cond (bytes_eq code (string_bytes here.code)) (Some at) (partner_from (at + 1) code (partner_codes (drop (at + 1) accounts)))
     ≡ partner_from at code (partner_codes (drop at accounts))

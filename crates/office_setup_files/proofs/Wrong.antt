@@ -55,14 +55,14 @@ brought Shown f texts right wrong order next within shown before =
       before = λ z. before (subst Shown (take-map f right texts) (subst (λ (n : ℕ). Shown (take n (map f texts))) (sym same) z));
     }
 
--- a record stands behind those that are text
+-- a record stands after those that are text
 pub no_text : (rows texts : List Record) → AreTexts rows texts → length texts < length rows → IsFirstNoText rows (length texts + 1)
 no_text rows texts are less = by_rest are.rest are.parts are.ends where
   by_rest : (rest : List Record) → rows ≡ texts ++ rest → BeginsNoText rest → IsFirstNoText rows (length texts + 1)
   by_rest [] parts ends = let long = ap length parts ∙ length-append texts [] in absurd (omega (arith, less, long))
   by_rest (row ∷ rest) parts ends = record { front = texts; row = row; rest = rest; parts = parts; text = are.text; no_text = ends; place = refl }
 
--- none behind them is one where all are text
+-- none after them is one where all are text
 pub right_in : (file : SetupFile) (fault : SetupFault) (rows texts : List Record) → AreTexts rows texts → ¬ Shows file fault texts → IsRight file fault rows
 right_in file fault rows texts are not_shown all shown = by_rest are.rest are.parts are.ends where
   by_rest : (rest : List Record) → rows ≡ texts ++ rest → BeginsNoText rest → ⊥
@@ -72,7 +72,7 @@ right_in file fault rows texts are not_shown all shown = by_rest are.rest are.pa
     text_at [] all = all 0 row (omega arith)
     text_at (y ∷ front) all = text_at front (All-tail AllText y (front ++ row ∷ rest) all)
 
--- the record behind those that are text, where that is the fault
+-- the record after those that are text, where that is the fault
 pub behind_text : (file : SetupFile) (fault : SetupFault) (rows texts : List Record) → AreTexts rows texts → ¬ Shows file fault texts → (t r : ℕ) → t ≡ length texts → r ≡ length rows
     → (found : Option ℕ) → IfSome found (λ n. (fault ≡ Csv) × (t < r) × (n ≡ t + 1)) → MatchOption found (IsRight file fault rows) (IsWrong file fault rows)
 behind_text file fault rows texts are not_shown t r long all None some = right_in file fault rows texts are not_shown

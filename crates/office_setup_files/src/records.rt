@@ -13,7 +13,7 @@ use csv::{ByteRecord, Error, ReaderBuilder, StringRecord};
 use office_queries::number_of;
 use std::alloc::{AllocError, Global};
 
-/// Every record of a file, its header among them. Over bytes in memory reading fails for want of memory alone.
+/// Every record of a file, its header among them. Over bytes in memory reading fails only when out of memory.
 pub(crate) fn read_rows(alloc: Global, file: &[u8]) -> Result<Vec<ByteRecord>, Error>
     ensures { IfOk result (λ rows. AreRows file.now (map fields_of rows.items)) }
 {
@@ -158,7 +158,7 @@ fn is_block_row(row: &StringRecord) -> bool
     row.len() == 4
 }
 
-/// Whether a front of a file shows a fault, and not for want of a record.
+/// Whether a front of a file shows a fault, and not for lack of a record.
 pub(crate) fn shows(
     alloc: Global,
     file: SetupFile,

@@ -62,7 +62,7 @@ fn wrong_in(
     }
 }
 
-/// The record behind those that are text, if that is the fault and there is one.
+/// The record after those that are text, if that is the fault and there is one.
 fn behind(fault: SetupFault, texts: usize, count: usize) -> Option<usize>
     ensures { IfSome result (λ number. (fault ≡ Csv) × (texts < count) × (number ≡ texts + 1)) }
 {

@@ -25,7 +25,7 @@ stripped_twice (x ∷ xs) b = elim (cases_Bool (is_break x)) [
   | inr e ↦ ap (λ y. without_breaks (y ++ b)) (no_break_front x xs e)
 ]
 
--- behind a byte that is none of them all bytes stay
+-- after a byte that is none of them all bytes stay
 pub stripped_some : (a b : List ℕ) → (without_breaks a ≡ [] → ⊥) → without_breaks (a ++ b) ≡ without_breaks a ++ b
 stripped_some [] b some = absurd (some refl)
 stripped_some (x ∷ xs) b some = elim (cases_Bool (is_break x)) [
@@ -58,7 +58,7 @@ no_front (x ∷ a) b e = absurd cc
 pub stripped_more : (text front behind : List ℕ) → (text ≡ [] → ⊥) → without_breaks front ≡ text → without_breaks (front ++ behind) ≡ text ++ behind
 stripped_more text front behind some is = stripped_some front behind (λ none. some (sym is ∙ none)) ∙ ap (λ y. y ++ behind) is
 
--- more interchanges behind those
+-- more interchanges after those
 pub cuts_more : (P Q : List ℕ → Type 0) (more : List (List ℕ)) → ((stream : List ℕ) → P (without_breaks stream) → CutsFrom Q stream more) →
     (stream : List ℕ) (texts : List (List ℕ)) → CutsFrom P stream texts → CutsFrom Q stream (texts ++ more)
 cuts_more P Q more on stream [] cuts = on stream cuts
@@ -73,7 +73,7 @@ cuts_same : (P : List ℕ → Type 0) (stream stream' : List ℕ) (texts : List 
 cuts_same P stream stream' [] same cuts = subst P (sym same) cuts
 cuts_same P stream stream' (text ∷ texts) same (behind, is, cut, others) = (behind, is, same ∙ cut, others)
 
--- more bytes behind those
+-- more bytes after those
 pub cuts_join : (P : List ℕ → Type 0) (q piece stream : List ℕ) (texts more : List (List ℕ)) → CutsFrom (LeavesOver q) stream texts →
     CutsFrom P (q ++ piece) more → CutsFrom P (stream ++ piece) (texts ++ more)
 cuts_join P q piece stream [] more left then =

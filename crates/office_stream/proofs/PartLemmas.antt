@@ -14,7 +14,7 @@ concat_more : (pieces : List (List ℕ)) (piece : List ℕ) → concat (pieces +
 concat_more [] piece = append-nil piece
 concat_more (first ∷ pieces) piece = ap (λ (l : List ℕ). first ++ l) (concat_more pieces piece) ∙ sym (append_assoc first (concat pieces) piece)
 
--- so many parts, and those behind them
+-- so many parts, and those after them
 joined_at : (parts : List (Bor (List ℕ))) (i : ℕ) → joined_parts parts ≡ joined_parts (take i parts) ++ joined_parts (drop i parts)
 joined_at parts i = ap joined_parts (sym (take-append-drop i parts)) ∙ flat_map-append (λ (part : Bor (List ℕ)). part.now) (take i parts) (drop i parts)
 
@@ -147,7 +147,7 @@ module _ {W : Type 0} (takes : W → List ℕ → Result ℕ Error → W → Typ
     ends_front first bytes now held new so (front, (behind, is), appends) =
         (concat so.pieces ++ front, (behind, so.all ∙ ap (λ (l : List ℕ). concat so.pieces ++ l) is ∙ sym (append_assoc (concat so.pieces) front behind)), Appends-trans _ _ _ _ _ so.appends appends)
 
-    -- What is held could not be written, and more stands behind it.
+    -- What is held could not be written, and more stands after it.
     pub stops_front : (first : W) (bytes more total : List ℕ) (now : W) (held : List ℕ) (new : W) → total ≡ bytes ++ more →
         Gathers first bytes now held → AppendsFront (contents now) (contents new) held → AppendsFront (contents first) (contents new) total
     stops_front first bytes more total now held new is so fails =
@@ -163,7 +163,7 @@ module _ {W : Type 0} (takes : W → List ℕ → Result ℕ Error → W → Typ
       ended = (held, more, is ∙ ap (λ (l : List ℕ). l ++ more) so.all ∙ append_assoc (concat so.pieces) held more, out);
     }
 
-    -- It was written, and the part behind it could not be.
+    -- It was written, and the part after it could not be.
     pub gathers_passed : (first : W) (bytes : List ℕ) (now : W) (held part : List ℕ) (mid : W) →
         Gathers first bytes now held → IsOut now held mid → Appends (contents now) (contents mid) held → 4096 < length held + length part →
         Gathers first (bytes ++ part) mid part

@@ -20,7 +20,7 @@ use Rattle.office_stream.proofs.Writing.{in_two}
 use Rattle.office_stream.proofs.Answering.{leads_more, worse_of-Fine, worse_of-assoc, worst_of_more}
 use Rattle.office_stream.proofs.Cutting.{cuts_more, cuts_weaker, some_bytes, some_faulty, stripped_more}
 
--- these bytes are left, behind these that are pending
+-- these bytes are left, after these that are pending
 abbrev pub IsLeft : List ℕ → List ℕ → List ℕ → Type 0
 IsLeft pending rest left = left ≡ without_breaks (pending ++ rest)
 

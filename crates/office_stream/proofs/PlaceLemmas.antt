@@ -78,7 +78,7 @@ rest_begins bytes rest breaks stripped within is = omega arith
 not_nil : (q : List ℕ) → q ≢ [] → is_nil q ≡ false
 not_nil q some = elim (cases_Bool (is_nil q)) [ inl e ↦ absurd (some (nil_is q e)) | inr e ↦ e ]
 
--- the bytes before what is left over behind what is pending and the piece
+-- the bytes before what is left over after what is pending and the piece
 pub met : (place : Place) (bytes q rest : List ℕ) (at_rest : Bool) → Follows place bytes q → at_rest ≡ is_nil q →
     (with_piece place rest at_rest).begun ≡ capped_count (length (bytes ++ rest) - length (without_breaks (q ++ rest)))
 met place bytes [] rest at_rest follows is =

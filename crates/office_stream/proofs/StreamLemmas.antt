@@ -62,7 +62,7 @@ module _ {D : Type 0} (Call : D → List ℕ → Response → D → Type 0) (fir
   abbrev pub Calls : D → List (List ℕ) → List Response → Type 0
   Calls new texts responses = LeadsOn Call first texts responses new
 
-  -- a piece behind what was read before
+  -- a piece after what was read before
   pieces_join : (P : List ℕ → Type 0) (bytes q piece : List ℕ) (old new : D) (worst worst' : Worst) (a b c : Option (List ℕ)) →
       PieceAnswered Call first (LeavesOver q) bytes old Fine worst a b → PieceAnswered Call old P (q ++ piece) new worst worst' b c →
       PieceAnswered Call first P (bytes ++ piece) new Fine worst' a c

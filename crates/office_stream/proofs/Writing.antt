@@ -1,4 +1,4 @@
--- What a failed write leaves of a text, and what a write behind others makes.
+-- What a failed write leaves of a text, and what a write after others makes.
 use Rattle.std.proofs.Common.{◌≡◌, ℕ, List, [], ◌++◌, take, drop, Option, Result, Ok, Err, OnOk, OnErr, append_assoc, append-nil, sym, ap, ◌∙◌}
 use Rattle.std.specs.Io.KnownBytes.{Appends, Keeps}
 use Rattle.std.proofs.KnownBytes.{Appends-trans, Appends-kept}

@@ -23,7 +23,7 @@ fault_name Memory = codes "Memory"
 abbrev pub cut_body : List ℕ → List ℕ
 cut_body name = codes "{\"answer\":\"cut\",\"fault\":\"" ++ name ++ codes "\"}"
 
--- what is written behind the last answer
+-- what is written after the last answer
 abbrev pub end_text : StreamEnd → List ℕ
 end_text Whole = []
 end_text Open = line (cut_body (codes "End"))
@@ -33,7 +33,7 @@ end_text (Cut fault) = line (cut_body (fault_name fault))
 abbrev pub response_lines : List Response → List ℕ
 response_lines responses = flat_map (λ response. line (body_of response)) responses
 
--- a cut counts as a refusal, and one for want of memory as NotNow
+-- a cut counts as a refusal, and one for lack of memory as NotNow
 abbrev pub fault_worst : CutFault → Worst
 fault_worst TooLong = Refused
 fault_worst Service = Refused

@@ -14,7 +14,7 @@ use Rattle.office_stream.specs.declared.stream.StreamEnd.TheVariants.{Whole, Ope
 abbrev pub capped_count : ℕ → ℕ
 capped_count n = min n (2 ^ 64 - 1)
 
--- Before a piece: if nothing is pending, an interchange begins behind the CR and LF at its front.
+-- Before a piece: if nothing is pending, an interchange begins after the CR and LF at its front.
 abbrev pub with_piece : Place → List ℕ → (at_rest : Bool) → Place
 with_piece place piece at_rest =
     if at_rest then record place { begun = capped_count (place.passed + breaks_len piece) } else place
@@ -44,7 +44,7 @@ cut_by place (Cut fault) = Some (cut_for place (Some fault))
 abbrev pub IsOver : List ℕ → StreamEnd → List ℕ → Type 0
 IsOver rest end over = (over ≡ rest) × EndsAs end over
 
--- The cut of a stream that ends so behind so many interchanges, with so many bytes before what is left over: the
+-- The cut of a stream that ends so after so many interchanges, with so many bytes before what is left over: the
 -- interchange that comes next, and its first byte.
 abbrev pub cut_behind : StreamEnd → (interchanges bytes : ℕ) → Option StreamCut
 cut_behind Whole interchanges bytes = None
@@ -65,7 +65,7 @@ pub record CutsAt (left left' : Option (List ℕ)) (cut : Option StreamCut) : Ty
 
 -- ---- how it is followed
 
--- These bytes were passed: interchanges, and behind them less than one, which is pending. The place has counted them.
+-- These bytes were passed: interchanges, and after them less than one, which is pending. The place has counted them.
 pub record Follows (place : Place) (bytes pending : List ℕ) : Type 0 where
   pub texts : List (List ℕ)
   pub cuts : CutsFrom (LeavesOver pending) bytes texts

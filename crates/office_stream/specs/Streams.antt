@@ -38,7 +38,7 @@ EndsAs (Cut Memory) rest = HasNoFault rest
 abbrev pub Cuts : List ℕ → List (List ℕ) → StreamEnd → Type 0
 Cuts stream texts end = CutsFrom (EndsAs end) stream texts
 
--- A stream has one list of interchanges and one end, unless memory is wanting. So both depend on the stream alone,
+-- A stream has one list of interchanges and one end, unless memory runs out. So both depend only on the stream,
 -- however it comes in pieces.
 abbrev pub CutsAreOne : Type 0
 CutsAreOne =
@@ -90,7 +90,7 @@ pub record Began (Done : List (List ℕ) → List Response → Type 0) (ports : 
 -- ---- a write that failed
 
 -- A stream begins with these interchanges, and each of them was answered. A front of the last one's line was written,
--- behind the lines of those before.
+-- after the lines of those before.
 pub record LineCutShort (Done : List (List ℕ) → List Response → Type 0) (stream : List ℕ)
     (written written' : Option (List ℕ)) : Type 0 where
   pub texts : List (List ℕ)
@@ -103,7 +103,7 @@ pub record LineCutShort (Done : List (List ℕ) → List Response → Type 0) (s
   pub front : IsFront part (line (body_of response))
   pub writes : Appends written written' (response_lines responses ++ part)
 
--- A stream is cut to its end, and each interchange answered by its line. A front of the cut line was written behind
+-- A stream is cut to its end, and each interchange answered by its line. A front of the cut line was written after
 -- them.
 pub record EndCutShort (Done : List (List ℕ) → List Response → Type 0) (stream : List ℕ) (ports : PortBytes)
     : Type 0 where
@@ -118,7 +118,7 @@ pub record EndCutShort (Done : List (List ℕ) → List Response → Type 0) (st
   pub writes : Appends ports.written_before ports.written_after (response_lines responses ++ part)
 
 -- A write failed. The line of an interchange of what was read was cut short, or the cut line, and nothing was done
--- behind it.
+-- after it.
 pub record Delivered (Done : List (List ℕ) → List Response → Type 0) (ports : PortBytes) : Type 0 where
   pub bytes : List ℕ
   pub reads : Consumes ports.left_before ports.left_after bytes

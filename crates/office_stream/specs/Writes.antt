@@ -21,7 +21,7 @@ abbrev pub FailsWith : Error → Result ℕ Error → Type 0
 FailsWith error (Ok count) = (count ≡ 0) × (error_kind error ≡ WriteZero)
 FailsWith error (Err own) = (own ≡ error) × (error_kind error ≢ Interrupted)
 
--- the bytes of parts, one behind the other
+-- the bytes of parts, one after the other
 abbrev pub joined_parts : List (Bor (List ℕ)) → List ℕ
 joined_parts parts = flat_map (λ part. part.now) parts
 
@@ -52,7 +52,7 @@ module _ {W : Type 0} (takes : W → List ℕ → Result ℕ Error → W → Typ
   WritesEach old [] new = new ≡ old
   WritesEach old (piece ∷ pieces) new = (next : W) × WritesOut old piece (Ok tt) next × WritesEach next pieces new
 
-  -- They are all of the bytes; or a piece behind them was not written out.
+  -- They are all of the bytes; or a piece after them was not written out.
   abbrev pub EndsPieces : W → List ℕ → List (List ℕ) → Result (Unit {0}) Error → W → Type 0
   EndsPieces old bytes pieces (Ok value) new = (bytes ≡ concat pieces) × (new ≡ old)
   EndsPieces old bytes pieces (Err error) new =

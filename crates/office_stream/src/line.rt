@@ -40,7 +40,7 @@ pub(crate) fn write_response<W: Write>(writer: &mut Port<W>, response: &Response
     write_line(writer, response.body())
 }
 
-/// Writes what stands behind the last answer. After an error a front of it is written.
+/// Writes what stands after the last answer. After an error a front of it is written.
 pub(crate) fn write_end<W: Write>(writer: &mut Port<W>, end: StreamEnd) -> Result<()>
     ensures ok { OnOk result
         (Appends (W.contents writer.old.inner) (W.contents writer.new.inner) (end_text end)) }
@@ -92,7 +92,7 @@ pub(crate) fn end_worst(end: StreamEnd) -> Worst
 }
 
 impl<W: Sink> Port<W> {
-    /// Writes parts, one behind the other. Up to 4,096 bytes go out in one write. After an error a front of them is
+    /// Writes parts, one after the other. Up to 4,096 bytes go out in one write. After an error a front of them is
     /// written.
     pub fn write_parts(&mut self, parts: &[&[u8]]) -> Result<()>
         ensures bytes { OnOk result
@@ -151,7 +151,7 @@ impl Place {
         begun: 0,
     };
 
-    /// A piece comes. If nothing is pending, an interchange begins behind the CR and LF at its front.
+    /// A piece comes. If nothing is pending, an interchange begins after the CR and LF at its front.
     pub(crate) fn meet(&mut self, piece: &[u8], at_rest: bool)
         ensures { self.new ≡ with_piece self.old piece.now at_rest }
     {

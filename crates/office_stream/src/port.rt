@@ -156,7 +156,7 @@ impl Write for Gathered {
 }
 
 /// A reader or a writer, whether a read or a write of it has failed, how many reads were made, whether the last of them
-/// found the end, whether one was made behind that, and whether all that was written was flushed.
+/// found the end, whether one was made after that, and whether all that was written was flushed.
 #[derive(Drop)]
 pub struct Port<T> {
     inner: T,
@@ -231,7 +231,7 @@ impl<T> Port<T> {
         self.ended
     }
 
-    /// Whether a read was made behind one that had found the end.
+    /// Whether a read was made after one that had found the end.
     pub fn read_behind_end(&self) -> bool
         ensures { result ≡ self.now.read_behind_end }
     {

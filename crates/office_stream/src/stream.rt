@@ -23,7 +23,7 @@ use thiserror::Error;
 /// How a stream ended.
 #[derive(Clone, Copy, PartialEq, Eq, Debug)]
 pub(crate) enum StreamEnd {
-    /// With nothing but CR and LF behind its interchanges.
+    /// With nothing but CR and LF after its interchanges.
     Whole,
     /// Within an interchange.
     Open,
@@ -59,7 +59,7 @@ pub fn run_stream<R: Read, W: Write, D: Deliver>(
 ) -> Result<Worst, StreamFault>
     // What was read is cut into interchanges, each was delivered and is answered by its line, in order. After a failed
     // read, or too many reads, all interchanges of what was read are answered by their lines. After a failed write the
-    // lines end where it failed, and nothing was delivered behind it.
+    // lines end where it failed, and nothing was delivered after it.
     ensures streams { Streams (λ texts responses. LeadsOn D.leads desk.old texts responses desk.new)
         (port_bytes (R.remaining reader.old.inner) (R.remaining reader.new.inner)
         (W.contents writer.old.inner) (W.contents writer.new.inner)) result }
@@ -67,7 +67,7 @@ pub fn run_stream<R: Read, W: Write, D: Deliver>(
     // Where it is cut, if it is.
     ensures cut { OnOk result (CutsAt (R.remaining reader.old.inner) (R.remaining reader.new.inner) cut.new) }
 
-    // No read is made behind one that found the end.
+    // No read is made after one that found the end.
     ensures in_time { reader.old.ended ≡ false → reader.new.read_behind_end ≡ reader.old.read_behind_end }
 
     // No more reads are made than turns.
@@ -124,7 +124,7 @@ pub fn run_stream<R: Read, W: Write, D: Deliver>(
     Err(StreamFault::Turns)
 }
 
-/// Sends what stands behind the last answer, and tells where the stream is cut, if it is.
+/// Sends what stands after the last answer, and tells where the stream is cut, if it is.
 fn finish<W: Write>(
     writer: &mut Port<W>,
     end: StreamEnd,
@@ -149,7 +149,7 @@ fn finish<W: Write>(
     }
 }
 
-/// Writes what stands behind the last answer, and flushes it. After an error a front of it is written.
+/// Writes what stands after the last answer, and flushes it. After an error a front of it is written.
 fn send_end<W: Write>(writer: &mut Port<W>, end: StreamEnd) -> io::Result<()>
     ensures ok { OnOk result
         (Appends (W.contents writer.old.inner) (W.contents writer.new.inner) (end_text end)) }

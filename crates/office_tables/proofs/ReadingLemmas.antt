@@ -56,7 +56,7 @@ pub reads_stopped : {X Y : Type 0} {old new : State} {inner : Result X TableFaul
 reads_stopped (Ok y) err reads = absurd cc
 reads_stopped (Err fault) err reads = record { unchanged = λ clean. tt; keeps = reads.keeps; mode = reads.mode; survives = reads.survives }
 
--- ---- one read behind the other
+-- ---- one read after the other
 
 pub clean_first : {X : Type 0} {b c : State} {result : Result X TableFault} → Reads b c result → HasCleanDisk c → HasCleanDisk b
 clean_first q clean = omega (arith, q.survives.clean)

@@ -11,7 +11,7 @@ use Rattle.office_rows.specs.Tables.{no_schema}
 use Rattle.office_rows.specs.Stored.{HasRows, StoresRows}
 use Rattle.office_rows.specs.Opening.{opening_rows}
 
--- an empty database has the rows of the set-up, committed, and a crash leaves these alone
+-- an empty database has the rows of the set-up, committed, and a crash leaves only these
 pub record Opens (setup : SetupContent) (old new : State) : Type 0 where
   pub rows : old.committed.schema ≡ no_schema → HasRows (opening_rows setup) new.committed
   pub settled : new.now ≡ new.committed

@@ -51,7 +51,7 @@ with_refused lines reason.OnEmpty = record lines { on_empty = one_more lines.on_
 with_refused lines reason.NoRoom = record lines { no_room = one_more lines.no_room }
 with_refused lines reason.VisitLimit = record lines { visit_limit = one_more lines.visit_limit }
 
--- a message that is rejected for that fault; want of memory rejects none
+-- a message that is rejected for that fault; lack of memory rejects none
 abbrev pub with_rejected : RejectedMessages → MessageFault → RejectedMessages
 with_rejected messages message.OtherType = record messages { other_type = one_more messages.other_type }
 with_rejected messages message.NoBgm = record messages { no_bgm = one_more messages.no_bgm }

@@ -81,7 +81,7 @@ pub fn deliveries_keep_sound()
     ensures { DeliveriesKeepSound }
 {}
 
-/// Whatever texts are delivered, what the machine is set up with stays, by any rules that change the terminal alone.
+/// Whatever texts are delivered, what the machine is set up with stays, by any rules that change only the terminal.
 pub fn deliveries_change_terminal_alone()
     ensures { DeliveriesChangeTerminalAlone }
 {}

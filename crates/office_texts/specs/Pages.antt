@@ -41,7 +41,7 @@ TellsTexts from most stored None = has_reached from stored ≡ false
 TellsTexts from most stored (Some page) =
     (has_reached from stored ≡ true) × TellsPage from most stored page.lines.items page.count
 
--- the same of what is handed on: the lines alone
+-- the same of what is handed on: only the lines
 abbrev pub TellsLines : ℕ → ℕ → List Row → Option (List ℕ) → Type 0
 TellsLines from most stored None = has_reached from stored ≡ false
 TellsLines from most stored (Some lines) =

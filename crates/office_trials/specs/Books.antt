@@ -6,7 +6,7 @@ use Rattle.office_replies.specs.declared.deliver.Response.{Response}
 use Rattle.office_replies.specs.declared.deliver.Response.TheVariants.{Refused, NotNow}
 use Rattle.office_stream.specs.Fronts.{AppendsFront}
 
--- a text that is refused was written behind what the book held; of one that is answered NotNow a front was
+-- a text that is refused was written after what the book held; of one that is answered NotNow a front was
 abbrev pub Enters : Option (List ℕ) → List ℕ → Response → Option (List ℕ) → Type 0
 Enters held text NotNow holds = AppendsFront held holds text
 Enters held text response holds = (response ≡ Refused UnknownSender) × Appends held holds text

@@ -124,7 +124,7 @@ pub fn rules_by_place<M: Machine>()
     ensures { (number_of : List ℕ → ℕ) (old new : Taking M) → RulesByPlace number_of old new }
 {}
 
-/// Whoever takes by the new rules alone, from what is kept behind the change on, keeps what the fold
+/// Whoever takes only by the new rules, from what is kept after the change on, keeps what the fold
 /// by place wants.
 pub fn goes_on_by_new<M: Machine>()
     ensures { (number_of : List ℕ → ℕ) (old new : Taking M) → GoesOnByNew number_of old new }

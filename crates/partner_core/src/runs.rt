@@ -85,7 +85,7 @@ pub struct Runs<M> {
 }
 
 impl<M: Machine> Runs<M> {
-    /// Nothing delivered, for partners numbered from 1. A refusal for want of memory gives up the
+    /// Nothing delivered, for partners numbered from 1. A refusal for lack of memory gives up the
     /// machine.
     pub fn new(alloc: Global, machine: M, partners: u16) -> Result<Self, AllocError>
         ensures stands { IfOk result (λ runs. StandsAt M.taken machine [] runs) }
@@ -100,7 +100,7 @@ impl<M: Machine> Runs<M> {
 
     /// One partner more, with the number after the others', which is the answer. The value stands at
     /// whatever list it stood at, where nothing was delivered under that number, so the partner's
-    /// next number is 1. A refusal for want of memory changes nothing.
+    /// next number is 1. A refusal for lack of memory changes nothing.
     pub fn add(&mut self, alloc: Global) -> Result<PartnerId, AllocError>
         requires few { partner_count self.old < MOST_PARTNERS }
         ensures id { IfOk result (λ id. id ≡ partner_count self.old + 1) }
@@ -119,7 +119,7 @@ impl<M: Machine> Runs<M> {
     /// Answers a delivery, and takes it and each kept text that becomes next by it.
     ///
     /// At whatever list of deliveries the value stands, the answer is that of the definitions, and
-    /// it stands at the list with this one then. A refusal for want of memory leaves it at the list,
+    /// it stands at the list with this one then. A refusal for lack of memory leaves it at the list,
     /// also in the midst of a cascade. A clash, and a text that waits already, are never refused so.
     pub fn deliver(
         &mut self,

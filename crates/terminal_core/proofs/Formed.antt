@@ -33,7 +33,7 @@ use Rattle.std.specs.Prelude.{filter, length}
 abbrev at_place : BoxNumber → Place → Bool
 at_place container place = bytes_eq place.container container
 
--- what passes alone is found
+-- only what passes is found
 found_one : {A : Type 0} (p : A → Bool) (xs : List A) (x : A) → count_by p xs ≤ 1 → Contains xs x → p x ≡ true → find p xs ≡ Some x
 found_one p xs x few inside is =
     let some = some_of (find p xs) (is_found p xs inside.0 x (found_at xs x inside) is) in

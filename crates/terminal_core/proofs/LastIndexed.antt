@@ -28,7 +28,7 @@ read_last : {A : Type 0} (xs : List A) (x : A) → slice_get (xs ++ x ∷ []) (l
 read_last [] x = refl
 read_last (y ∷ xs) x = read_last xs x
 
--- what an index shows, it shows with one more behind
+-- what an index shows, it shows with one more after
 still_shown : (visits : List VisitContent) (visit : VisitContent) (o : Option ℕ) (f : Option VisitContent) → option_map (slice_get visits) o ≡ option_map Some f → option_map (slice_get (visits ++ visit ∷ [])) o ≡ option_map Some f
 still_shown visits visit None f e = e
 still_shown visits visit (Some k) None e = absurd (none-some (slice_get visits k) (sym e))

@@ -27,7 +27,7 @@ one_more_place : (numbers : List ℕ) (places : List Place) (i : ℕ) (place : P
 one_more_place numbers places i place k low at =
     list_any_more (names_number numbers k) places i place low ∙ ap (λ (p : Place). list_any (names_number numbers k) (take i places) || names_number numbers k p) (sym at)
 
--- a place whose number stands at j marks that one alone
+-- a place whose number stands at j marks only that one
 pub marked_more : (numbers : List ℕ) (marks : List Bool) (places : List Place) (i j : ℕ) (place : Place) → AreRising numbers → length marks ≡ length numbers → i < length places → place ≡ get_or places i place
     → j < length numbers → get_or numbers j 0 ≡ place.visit
     → ((k : ℕ) → k < length numbers → get_or marks k false ≡ list_any (names_number numbers k) (take i places))

@@ -74,7 +74,7 @@ pub one_row_more : (visits : List Visit) (i : ℕ) (visit : Visit) → i < lengt
 one_row_more visits i visit low is =
     ap (map visit_content) (take_more visits i visit low ∙ ap (λ v. take i visits ++ v ∷ []) (sym is)) ∙ map-append visit_content (take i visits) (visit ∷ [])
 
--- ---- the numbers alone
+-- ---- only the numbers
 
 pub number_read : (visits : List Visit) (k : ℕ) (visit : Visit) → slice_get visits k ≡ Some visit → get_or (numbers_of visits) k 0 ≡ visit.number
 number_read [] k visit at = cc

@@ -33,7 +33,7 @@ module _ (container : BoxNumber) (visits : List VisitContent) (entries : List (B
 pub read_at : (rows : List Visit) (k : ℕ) (visit : Visit) → true ≡ nat_lt k (length rows) → visit ≡ slice_index_or rows k visit → slice_get rows k ≡ Some visit
 read_at rows k visit low is = slice_get-get_or rows k visit (ltb-true k (length rows) (sym low)) ∙ ap Some (sym is)
 
--- none is read behind the last
+-- none is read after the last
 pub not_read : (rows : List Visit) (k j : ℕ) (visit : VisitContent) → slice_get (map visit_content rows) k ≡ Some visit → k ≡ j → false ≡ nat_lt j (length rows) → ⊥
 not_read rows k j visit at same high =
     let row = row_at rows k visit at in

@@ -105,7 +105,7 @@ DropKeepsForms = (state : TerminalState) (call : CallContent) (side : Side) → 
 
 -- ---- what the code goes by, and no caller has to read
 
--- each number is below those behind it
+-- each number is below those after it
 abbrev pub Rise : List BoxNumber → Type 0
 Rise containers = IsTrue (finite_map.is_sorted (slice_cmp nat_cmp) (map (λ (b : BoxNumber). (b, true)) containers))
 

@@ -121,7 +121,7 @@ RefusesPut visits old place Memory = Unit {0}
 abbrev pub numbers_of : List Visit → List ℕ
 numbers_of visits = map (λ (visit : Visit). visit.number) visits
 
--- each number is below those behind it
+-- each number is below those after it
 abbrev pub AreRising : List ℕ → Type 0
 AreRising numbers = (i j : ℕ) → i < j → j < length numbers → slice_index numbers i < slice_index numbers j
 

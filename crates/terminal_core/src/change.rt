@@ -183,7 +183,7 @@ pub(crate) fn settle(yard: &mut Yard, entry: &Entry) -> Result<Result<Slot, Reas
     }
 }
 
-/// A fault that is not want of memory, as a reason.
+/// A fault that is not lack of memory, as a reason.
 fn refusal(fault: YardFault) -> Result<Reason, AllocError>
     ensures ok { IfOk result (IsReasonFor fault) }
     ensures err { OnErr result (fault ≡ YardFault.Memory) }

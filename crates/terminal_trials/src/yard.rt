@@ -44,7 +44,7 @@ pub(crate) const LARGEST: Block = Block {
     tiers: 6,
 };
 
-/// Whether that is the slot of the largest block that comes behind so many others, by tier, bay and row.
+/// Whether that is the slot of the largest block that comes after so many others, by tier, bay and row.
 fn is_next(got: Result<Slot, YardFault>, serial: u32) -> bool {
     match got {
         Ok(slot) => {
@@ -70,7 +70,7 @@ fn a_block_is_filled_to_the_last_slot(rt: HostRuntime) -> Result<(), Fail> {
     Ok(())
 }
 
-/// The slot of the largest block that comes behind so many others of its tier.
+/// The slot of the largest block that comes after so many others of its tier.
 pub(crate) fn slot_in(tier: u8, serial: u32) -> Slot {
     Slot {
         block: b'K',

@@ -6,7 +6,7 @@ use edi_syntax::open_envelope;
 use std::alloc::{AllocError, Global};
 use std::test::Fail;
 
-/// A gate-in of a container with these two segments behind it.
+/// A gate-in of a container with these two segments after it.
 fn gate_in_with(alloc: Global, first: &[u8], second: &[u8]) -> Result<Vec<u8>, AllocError> {
     let mut text = Vec::from_slice(
         alloc,

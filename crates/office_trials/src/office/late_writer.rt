@@ -1,6 +1,6 @@
 use std::io::{Error, ErrorKind, Result, Write};
 
-/// Is too late with its first write, takes each behind it, and counts them.
+/// Is too late with its first write, takes each after it, and counts them.
 #[derive(Drop)]
 pub struct LateWriter {
     /// How many writes were made.

@@ -6,7 +6,7 @@ pub struct Pieces<'a> {
     pub text: &'a [u8],
     /// How many bytes the next read gives.
     pub next: usize,
-    /// How many each read behind it gives.
+    /// How many each read after it gives.
     pub size: usize,
 }
 

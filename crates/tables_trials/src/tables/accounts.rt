@@ -1,4 +1,4 @@
-//! An account that is added over the tables, and a desk that is opened behind it.
+//! An account that is added over the tables, and a desk that is opened after it.
 
 use super::made;
 use office_checks::Closed;
@@ -36,7 +36,7 @@ const ASKED: [&[(&[u8], &[u8], &str)]; 2] = [
     &[(b"HAULC", b"gate", KNOWN), (b"HAULA", b"line", KIND)],
 ];
 
-/// What is delivered behind that, and the status of its answer.
+/// What is delivered after that, and the status of its answer.
 const SENT: [&[(&[u8], u16)]; 2] = [
     &[(SECOND, 202), (FIRST, 200), (SECOND, 200)],
     &[(FIRST, 200), (SECOND, 200)],
@@ -79,7 +79,7 @@ fn an_account_is_added_and_opened_again(rt: HostRuntime) -> Result<(), Fail> {
     Ok(())
 }
 
-/// What came before its account is refused, and stays so: sent again behind it, it is new.
+/// What came before its account is refused, and stays so: sent again after it, it is new.
 #[test]
 fn a_text_before_its_account_is_refused(rt: HostRuntime) -> Result<(), Fail> {
     let conn = made(&rt, rt.alloc())?;
@@ -91,7 +91,7 @@ fn a_text_before_its_account_is_refused(rt: HostRuntime) -> Result<(), Fail> {
     Ok(())
 }
 
-/// What is told of the partners, whose setup has two, behind that.
+/// What is told of the partners, whose setup has two, after that.
 const PARTNERS: &str =
     "PARTNERS\nHAULA GATE NEXT 1\nLINEA LINE NEXT 1\nHAULC GATE NEXT 1 WAITING 1 FROM 2 TO 2 MISSING 1\n3 PARTNERS 1 WAITING\n";
 
@@ -107,7 +107,7 @@ fn what_waits_for_a_new_partner_is_told(rt: HostRuntime) -> Result<(), Fail> {
     Ok(())
 }
 
-/// Behind the ids of the accounts that are added one after the other, which begin behind those of the set-up.
+/// After the ids of the accounts that are added one after the other, which begin after those of the set-up.
 const END: u16 = 60;
 
 /// The id under which an account was added, or was known.
@@ -128,7 +128,7 @@ fn assert_each(rt: &impl Abort, alloc: Global, desk: &mut Desk<MemStore>, is_new
     }
 }
 
-/// Many, each behind the others, and all of them once more, before and after the store is opened again.
+/// Many, each after the others, and all of them once more, before and after the store is opened again.
 #[test]
 fn many_accounts_are_added_one_by_one(rt: HostRuntime) -> Result<(), Fail> {
     let conn = made(&rt, rt.alloc())?;

@@ -54,7 +54,7 @@ fn a_store_is_opened_again_where_it_was(rt: HostRuntime) -> Result<(), Fail> {
     Ok(())
 }
 
-/// A text that comes to a desk by this call alone: a stream is cut before, and a body refused.
+/// A text that comes to a desk only by this call: a stream is cut before, and a body refused.
 #[test]
 fn more_than_a_mebibyte_is_too_long(rt: HostRuntime) -> Result<(), Fail> {
     let conn = made(&rt, rt.alloc())?;

@@ -36,7 +36,7 @@ impl Terminal {
         ensures planned { IfOk result (IsPlanned self.new.yard.plan) }
         ensures whole { IsWhole self.new }
     {
-        // The terminal is opened: its parts are known to fit together, before the order and behind it.
+        // The terminal is opened: its parts are known to fit together, before the order and after it.
         let _ = &self.limit;
         changes.reserve(3)?;
         let result = self.carry_out(alloc, source, order, changes);

@@ -1,4 +1,4 @@
--- Each byte leads to the end of the interchange, to a fault, or on; behind the ninth the rest is read at once.
+-- Each byte leads to the end of the interchange, to a fault, or on; after the ninth the rest is read at once.
 use Rattle.std.proofs.Common.{◌+◌, ◌∙◌, ◌++◌, List, ℕ, take, refl, sym, ap, subst, arith}
 use Rattle.edi_cutter.specs.Cuts.{is_whole}
 use Rattle.edi_cutter.specs.Steps.{Holds}
@@ -8,7 +8,7 @@ use Rattle.edi_cutter.proofs.cutter.read_front.Goals as goal
 pub loop-i-init : goal.loop-i-init
 loop-i-init c = filled_none c.args.text.now c.args.piece.now _ _ c.front_of-front.ensures.long c.front_of-front.ensures.filled c.requires.short c.requires.holds c.requires.going
 
--- ---- behind nine bytes
+-- ---- after nine bytes
 
 pub read_behind-requires-clause-holds : goal.read_behind-requires-clause-holds
 read_behind-requires-clause-holds c =

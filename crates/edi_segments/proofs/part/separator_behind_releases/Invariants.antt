@@ -1,4 +1,4 @@
--- the separator stands as far behind the bytes that were passed over as it stands in what is left
+-- the separator stands as far after the bytes that were passed over as it stands in what is left
 use Rattle.std.proofs.Common.{◌≡◌, ◌+◌, ◌-◌, ◌≤◌, length, drop, false}
 use Rattle.std.specs.Option.{option_map}
 use Rattle.edi_segments.specs.Parts.{separator_of}

@@ -1,4 +1,4 @@
--- What stands before and behind the separator.
+-- What stands before and after the separator.
 use Rattle.std.proofs.Common.{◌+◌, take, drop, ap}
 use Rattle.std.specs.Option.{option_map}
 use Rattle.std.proofs.lemmas.List.{take_rest}

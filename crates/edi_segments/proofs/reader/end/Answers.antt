@@ -1,4 +1,4 @@
--- The terminator behind bytes that are passed over.
+-- The terminator after bytes that are passed over.
 use Rattle.std.proofs.Common.{◌+◌, Some, false, sym, ap, ◌∙◌, arith}
 use Rattle.std.specs.Option.{option_map}
 use Rattle.edi_segments.proofs.LoopLemmas.{end_more}

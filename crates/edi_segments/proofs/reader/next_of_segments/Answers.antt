@@ -19,7 +19,7 @@ first c =
     let s = c.args.service in
     first_is s c.args.bytes.now c.in_ok-before.before.now c.in_ok-before.behind.now c.requires c.if-bytes-lt3.false (c.in_ok-before.ensures ∙ ap (split_of s s.terminator) (take_rest c.args.bytes.now 3))
 
--- what stands behind the line breaks
+-- what stands after the line breaks
 behind_is : (c : goal.After-result-1) → take (length c.in_ok-before.behind.now - c.len_of_breaks.result) (drop c.len_of_breaks.result c.in_ok-before.behind.now) ≡ drop (breaks_len c.in_ok-before.behind.now) c.in_ok-before.behind.now
 behind_is c =
     take_rest c.in_ok-before.behind.now c.len_of_breaks.result ∙ ap (λ (n : ℕ). drop n c.in_ok-before.behind.now) c.len_of_breaks.ensures.found

@@ -1,4 +1,4 @@
--- The trailer of the interchange, behind whole messages.
+-- The trailer of the interchange, after whole messages.
 use Rattle.std.proofs.Common.{◌||◌, ◌&&◌, Bool, List, length, sym, ap, ◌∙◌, refl, arith}
 use Rattle.std.specs.List.{list_all, list_any}
 use Rattle.std.proofs.lemmas.Bool.{eqb-true}

@@ -11,7 +11,7 @@ use Rattle.office_desk.proofs.CrashLemmas.{committed_leaves}
 use Rattle.office_commands.proofs.OpenedLemmas.{never_missing}
 use Rattle.office_commands.proofs.opening.make_store.Goals as goal
 
--- The tables are made in an empty store, so their rows are those after no delivery, and they alone are committed. None of
+-- The tables are made in an empty store, so their rows are those after no delivery, and only they are committed. None of
 -- them was there before.
 pub returns : goal.returns
 returns g c = record {

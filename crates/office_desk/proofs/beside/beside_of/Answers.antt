@@ -43,7 +43,7 @@ returns-in_ok-there-in-None-clause-beside g c clean =
       };
     }
 
--- An office is loaded, but for want of store or memory.
+-- An office is loaded, but for lack of store or memory.
 pub returns-in_err-there-in-None-clause-fault : goal.returns-in_err-there-in-None-clause-fault
 returns-in_err-there-in-None-clause-fault g c clean =
     let p = err_from_is_err_and c.from_residual.result c.from_residual.ensures.1 in

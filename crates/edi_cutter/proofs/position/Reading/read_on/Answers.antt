@@ -1,4 +1,4 @@
--- One byte more leads from the position behind the bytes before to the next.
+-- One byte more leads from the position after the bytes before to the next.
 use Rattle.std.proofs.Common.{◌∙◌, sym, arith}
 use Rattle.edi_cutter.proofs.CutLemmas.{on_refused, on_further}
 use Rattle.edi_cutter.proofs.position.Reading.read_on.Goals as goal

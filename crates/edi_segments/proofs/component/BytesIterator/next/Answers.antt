@@ -1,4 +1,4 @@
--- The next byte of the value, behind a release character or not.
+-- The next byte of the value, after a release character or not.
 use Rattle.std.proofs.Common.{◌≡◌, ℕ, List, [], ◌∷◌, length, false, true, ap, ◌∙◌, arith}
 use Rattle.std.proofs.lemmas.List.{nil_from_length}
 use Rattle.edi_segments.specs.Tokens.{token_of, releases}

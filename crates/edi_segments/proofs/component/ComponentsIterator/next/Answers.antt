@@ -1,4 +1,4 @@
--- The first value that is left, and those behind it.
+-- The first value that is left, and those after it.
 use Rattle.std.proofs.Common.{◌≡◌, ℕ, List, [], ◌∷◌, false, length, map, Option, sym, ap, ◌∙◌, arith}
 use Rattle.std.specs.Option.{option_map_or}
 use Rattle.edi_segments.specs.Parts.{value_of, parts_of, split_of}

@@ -1,4 +1,4 @@
--- The first segment that is left, and what stands behind it.
+-- The first segment that is left, and what stands after it.
 use Rattle.std.proofs.Common.{◌≡◌, ℕ, List, [], ◌∷◌, length, false, sym, ap, ◌∙◌, arith, Option}
 use Rattle.std.specs.Option.{option_map_or}
 use Rattle.edi_segments.specs.Text.{Content}

@@ -1,4 +1,4 @@
--- What is left behind the advice, under the service characters of the text.
+-- What is left after the advice, under the service characters of the text.
 use Rattle.std.proofs.Common.{◌≡◌, List, true, arith, sym, ap, subst, ◌∙◌}
 use Rattle.edi_segments.specs.Text.{Content}
 use Rattle.edi_segments.specs.Advice.{service_at}

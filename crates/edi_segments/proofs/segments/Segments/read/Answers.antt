@@ -14,7 +14,7 @@ pub returns-in_err-service-clause-only : goal.returns-in_err-service-clause-only
 returns-in_err-service-clause-only c segments spelled =
     absurd (true≢false (sym c.in_err-service.ensures.err.1 ∙ (interchange_complete segments c.args.text.now spelled).0))
 
--- the bytes behind the advice, under the service characters of the text
+-- the bytes after the advice, under the service characters of the text
 is_read : (c : goal.After-result-1) → segments_of c.in_ok-service.service c.behind_advice-rest.result.now ≡ segments_in c.args.text.now
 is_read c =
     ap (λ (s : Service). segments_of s c.behind_advice-rest.result.now) c.in_ok-service.ensures.ok.1 ∙ ap (segments_of (service_at c.args.text.now)) c.behind_advice-rest.ensures.behind

@@ -89,7 +89,7 @@ returns g c = record {
   refused = tt;
 }
 
--- It was refused as its tables were, and the connection was given up behind them.
+-- It was refused as its tables were, and the connection was given up after them.
 pub returns-in_err-setup-clause-refused : goal.returns-in_err-setup-clause-refused
 returns-in_err-setup-clause-refused g c =
     let p = err_from_is_err_and c.from_residual.result c.from_residual.ensures.1 in

@@ -115,7 +115,7 @@ returns-in_err-write_all g c =
       unflushed = c.in_err-write_all.ensures.unflushed;
     }
 
--- it was written, and the part behind it could not be
+-- it was written, and the part after it could not be
 pub returns-in_err-write_all-2 : goal.returns-in_err-write_all-2
 returns-in_err-write_all-2 g c =
     let takes = g.W.Sink.takes in
