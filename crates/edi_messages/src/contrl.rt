@@ -32,7 +32,7 @@ pub fn message_error(fault: MessageFault) -> Option<u8>
     }
 }
 
-/// The error code (0085) for an interchange that is rejected. `None` for a fault that is told of the text
+/// The error code (0085) for an interchange that is rejected. `None` for a fault that is reported of the text
 /// before its messages are looked at: no CONTRL answers these.
 pub fn interchange_error(fault: SyntaxFault) -> Option<u8>
     ensures { result ≡ interchange_error fault }

@@ -215,13 +215,13 @@ pub(crate) struct Causes<'a> {
 }
 
 impl<'a> Causes<'a> {
-    /// Nothing was told of the store at that path.
+    /// Nothing was reported of the store at that path.
     pub(crate) fn new(path: &'a str) -> Causes<'a> {
         Causes { path, told: None }
     }
 
-    /// The cause that has to be told after an answer that was `not now` for that: one that was not told last. None after any
-    /// other answer, after which the next cause is told again.
+    /// The cause that has to be reported after an answer that was `not now` for that: one that was not reported last. None after any
+    /// other answer, after which the next cause is reported again.
     pub(crate) fn behind(
         &mut self,
         rt: &HostRuntime,
@@ -325,7 +325,7 @@ fn tell_cause<E: Write>(alloc: Global, errors: &mut Port<E>, cause: Cause<'_>) {
     }
 }
 
-/// Whether a person looks at the stream of errors: only then it is told more than faults.
+/// Whether a person looks at standard error: only then it is told more than faults.
 pub(crate) fn stderr_is_terminal(rt: &HostRuntime) -> bool {
     rt.stderr().is_terminal()
 }

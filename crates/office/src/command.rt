@@ -68,7 +68,7 @@ pub(crate) fn run<R: Read, W: Write, E: Write>(
 }
 
 /// Help and version that were asked for are results; else the command line is at fault. To a person also the kinds of
-/// reports are told, if a report was asked for.
+/// reports are printed, if a report was asked for.
 fn refuse<W: Write, E: Write>(
     rt: &HostRuntime,
     words: &[&str],
@@ -329,7 +329,7 @@ pub(crate) fn texts<W: Write, E: Write>(
     }
 }
 
-/// `migrate OLD NEW`: makes a store of this version with what an older one keeps. What is wrong with OLD is told before
+/// `migrate OLD NEW`: makes a store of this version with what an older one keeps. What is wrong with OLD is reported before
 /// NEW is touched.
 pub(crate) fn migrate<W: Write, E: Write>(
     rt: &HostRuntime,
@@ -352,7 +352,7 @@ pub(crate) fn migrate<W: Write, E: Write>(
 }
 
 /// `serve DB PORT COUNT [--log] [--ahead N]`: serves so many connections at a port of this machine, one after the other. It
-/// writes a line for each to the stream of errors if that is a terminal, or if a log is wanted.
+/// writes a line for each to the standard error if that is a terminal, or if a log is wanted.
 pub(crate) fn serve<W: Write, E: Write>(
     rt: &HostRuntime,
     store: &str,

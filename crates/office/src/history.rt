@@ -18,7 +18,7 @@ pub(crate) enum Way {
     Alone,
     /// Beside its archives.
     BesideArchives,
-    /// Not at all, which was told: with that status.
+    /// Not at all, which was reported: with that status.
     Refused(u8),
 }
 

@@ -10,7 +10,7 @@ use std::cell::Cell;
 use std::time::{Duration, Instant, SystemTime, UNIX_EPOCH};
 use std::{fmt, str};
 
-/// A line for each request, on the stream of errors: what was done for it is noted first, and told when its connection is
+/// A line for each request, on the standard error: what was done for it is noted first, and told when its connection is
 /// done with.
 #[derive(Drop)]
 pub(crate) struct RequestLog<'a> {

@@ -18,7 +18,7 @@ module _ {S A : Type 0} (g : Ghosts S) (is_sound : A → Type 0) (are : List Arc
     pub looks : OnlyLooksTogether g is_sound are opened.0 opened.1 office.0 office.1
 
   -- A report was asked for under a key. From whatever events the files held what is left of the rows, if these archives are
-  -- those that hold the rest, what was found is what is told after them; nothing changed.
+  -- those that hold the rest, what was found is what is reported after them; nothing changed.
   pub record IsReportedBeside (image : Image) (office : Desk S g × A) (kind : ReportKind) (key : List ℕ)
       (found : Option (List ℕ)) : Type 0 where
     pub at : AreOnlyLookedAt image office

@@ -1,4 +1,4 @@
--- What is told of a store that was not opened.
+-- What is reported of a store that was not opened.
 use Rattle.std.specs.Prelude.{ℕ, List, codes}
 use Rattle.office_commands.specs.Ending.{store_text}
 use Rattle.office_archive_files.specs.declared.opening.OpenFault.{OpenFault}

@@ -98,7 +98,7 @@ fn is_beside(rt: &HostRuntime, store: &str, file: &str) -> Result<bool, TableFau
     let path = beside_path(rt.alloc(), store, place_of(file).name)?;
     match (found_at(rt, path.as_str())?, found_at(rt, file)?) {
         (Some(there), Some(asked)) => Ok(there.ino() == asked.ino() && there.dev() == asked.dev()),
-        // That it isn't there is told when it is opened.
+        // That it isn't there is reported when it is opened.
         _ => Ok(path.as_bytes() == file.as_bytes()),
     }
 }

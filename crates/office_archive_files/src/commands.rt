@@ -48,7 +48,7 @@ pub fn tell_open_fault<E: Write>(errors: &mut Port<E>, fault: &OpenFault) -> u8
 }
 
 /// Delivers the interchanges of a reader to the store at a path, joined with its archives, and writes the answer to each as
-/// a line, as `deliver_over` does. The office is given back as it was left, or why it did not open, which was told.
+/// a line, as `deliver_over` does. The office is given back as it was left, or why it did not open, which was reported.
 pub fn deliver_beside<'a, S: Start, N: Notes, R: Read, W: Write, E: Write>(
     rt: &'a HostRuntime,
     store: &str,

@@ -88,7 +88,7 @@ pub(crate) fn has_no_tables(fault: &TableFault) -> bool {
 
 /// Whether a file that isn't empty is at a path.
 ///
-/// Store if that can't be told, or what is there is no file.
+/// Store if that can't be found out, or what is there is no file.
 pub(crate) fn is_there(rt: &HostRuntime, path: &str) -> Result<bool, TableFault> {
     match found_at(rt, path)? {
         Some(found) if found.is_file() => Ok(found.len() > 0),
@@ -99,7 +99,7 @@ pub(crate) fn is_there(rt: &HostRuntime, path: &str) -> Result<bool, TableFault>
 
 /// What is at a path, if something is.
 ///
-/// Store if that can't be told.
+/// Store if that can't be found out.
 pub(crate) fn found_at(rt: &HostRuntime, path: &str) -> Result<Option<Metadata>, TableFault> {
     match fs::metadata(rt, path) {
         Ok(found) => Ok(Some(found)),

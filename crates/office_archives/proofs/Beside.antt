@@ -34,7 +34,7 @@ none_zero content es archives archived whole (query.Contrl partner k) code n fou
 none_zero content es archives archived whole (query.Ticket partner k) code n found is none = λ low by_numbers copies. absurd (omega (arith, low, none, is.1))
 none_zero content es archives archived whole other code n found is none = absurd is
 
--- nobody has the code under which no next number is told
+-- nobody has the code under which no next number is reported
 no_next : (rows : Rows) (id : Option ℕ) → TellsNext rows id None → id ≡ None
 no_next rows None told = refl
 no_next rows (Some id) told = let never = told.2 in absurd cc

@@ -92,7 +92,7 @@ beyond archives archived p n closed hold low none = elim (cases_order (archived.
 
 -- ---- what a delivery makes of the parts
 
--- what is told is what is to be told, and the office that is left is of parts after the delivery
+-- what is reported is what is to be reported, and the office that is left is of parts after the delivery
 record Follows (content : SetupContent) (es : List Event) (archived : Archived) (sent : List ℕ) (p n : ℕ) (told : AnswerModel) (new : Office) : Type 0 where
   is_told : told ≡ answer_model_of content es p n sent
   own : Rows

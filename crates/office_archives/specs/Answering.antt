@@ -11,7 +11,7 @@ use Rattle.office_desk.specs.Answers.{answer_by_model}
 use Rattle.office_parts.specs.Archives.{Archive, Hold}
 use Rattle.office_parts.specs.Parts.{Archived, ArePartsAfter}
 
--- the response to the partner with a code is what is to be told of it at its place, and a store and its archives are parts
+-- the response to the partner with a code is what is to be reported of it at its place, and a store and its archives are parts
 -- of the rows after it as they are
 pub record IsAnsweredAt (content : SetupContent) (es : List Event) (archived : Archived) (own whole : Rows)
     (sent : List ℕ) (partner : ℕ) (code : List ℕ) (number : ℕ) (response : Response) : Type 0 where

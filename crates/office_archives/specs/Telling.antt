@@ -60,7 +60,7 @@ TellsClosed archives other code partner number found = found ≡ closed_reply ar
 
 -- ---- all reports
 
--- What is told at a query after those events, where the archives hold what was put away of the whole's rows. Of a container's
+-- What is reported at a query after those events, where the archives hold what was put away of the whole's rows. Of a container's
 -- visits those that stay, and where it is if it stands in the yard or its last visit stays; both with how many archives
 -- there are. The metrics, of visits those that stay. All else as the whole tells it; of a ticket if visits went by numbers,
 -- and the archives are copies of the store of earlier days.
@@ -118,7 +118,7 @@ TellsAsStore archives place asked found = IsReportIn archives place asked found
 abbrev pub IsPlace : List Archive → (place : ℕ) → Type 0
 IsPlace archives place = (1 ≤ place) × (place ≤ length archives)
 
--- it tells so, and where there is none nothing is told
+-- it tells so, and where there is none nothing is reported
 pub record TellsOfArchive (archives : List Archive) (place : ℕ) (asked : Query) (found : Option (List ℕ)) : Type 0 where
   pub tells : IsPlace archives place → TellsAsStore archives place asked found
   pub nothing : (IsPlace archives place → ⊥) → found ≡ None

@@ -133,21 +133,21 @@ pub record OnlyLooksTogether {S A : Type 0} (g : Ghosts S) (is_sound : A → Typ
   pub closed : new.closed ≡ old.closed
   pub stays : IsSound g new → IsSound g old
 
--- what is told at a query, from whatever events after which desk and archives stand
+-- what is reported at a query, from whatever events after which desk and archives stand
 abbrev pub TellsBeside : {S A : Type 0} (g : Ghosts S) (are : List Archive → A → Type 0) → Desk S g → A → Query →
     Option (List ℕ) → Type 0
 TellsBeside g are desk archives asked found =
     (content : SetupContent) (es : List Event) (stand : StandTogether g are content es desk archives)
     → TellsTogether content es stand.list stand.stands.archived stand.stands.whole asked found
 
--- what is told of the archive at a place
+-- what is reported of the archive at a place
 abbrev pub TellsOfOne : {S A : Type 0} (g : Ghosts S) (are : List Archive → A → Type 0) → Desk S g → A → (place : ℕ) →
     Query → Option (List ℕ) → Type 0
 TellsOfOne g are desk archives place asked found =
     (content : SetupContent) (es : List Event) (stand : StandTogether g are content es desk archives)
     → TellsOfArchive stand.list place asked found
 
--- what is told of whatever is looked at: a page of the kept texts by the store's own rows, if it has no archives
+-- what is reported of whatever is looked at: a page of the kept texts by the store's own rows, if it has no archives
 abbrev pub ShowsBeside : {S A : Type 0} (g : Ghosts S) (are : List Archive → A → Type 0) → Desk S g → A → Look →
     Option (List ℕ) → Type 0
 ShowsBeside g are desk archives (report asked) found = TellsBeside g are desk archives asked found
@@ -157,7 +157,7 @@ ShowsBeside g are desk archives (texts_after from) found =
     → stand.list ≡ [])
 ShowsBeside g are desk archives (of_archive place asked) found = TellsOfOne g are desk archives place asked found
 
--- A report, a page of the kept texts, or an archive's report was asked for. What is told; desk and archives were only looked at; why it can't be
+-- A report, a page of the kept texts, or an archive's report was asked for. What is reported; desk and archives were only looked at; why it can't be
 -- told now; and where it's told that the office can be asked, the store is open.
 pub record LooksTogether {S A : Type 0} (g : Ghosts S) (is_sound : A → Type 0) (are : List Archive → A → Type 0)
     (old : Desk S g) (before : A) (look : Look) (found : Result (Option (List ℕ)) NotNow) (new : Desk S g) (after : A)

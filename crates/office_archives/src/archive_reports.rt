@@ -71,7 +71,7 @@ fn tell_container<A: Archives>(
     Ok(with_archives(alloc, told, before)?)
 }
 
-/// What is told of a number: by the archive before that place which closed it, or by the archive at that place.
+/// What is reported of a number: by the archive before that place which closed it, or by the archive at that place.
 fn tell_number<S: Alter + Drop, A: Archives>(
     alloc: Global,
     desk: &Desk<S>,

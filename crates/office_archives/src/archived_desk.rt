@@ -134,7 +134,7 @@ impl<S: Alter + Drop, A: Archives + Drop> ArchivedDesk<S, A> {
         Ok(with_archives(alloc, told, self.archives.count())?)
     }
 
-    /// What is told of a number: by its archive, if it is closed.
+    /// What is reported of a number: by its archive, if it is closed.
     fn find_number(
         &mut self,
         alloc: Global,
@@ -183,7 +183,7 @@ impl<S: Alter + Drop, A: Archives + Drop> ArchivedDesk<S, A> {
         }
     }
 
-    /// What is told at a query; NotNow, if it met a fault, which the desk keeps.
+    /// What is reported at a query; NotNow, if it met a fault, which the desk keeps.
     fn answer_query(&mut self, alloc: Global, query: &Query) -> Result<Option<String>, NotNow>
         ensures looks { LooksTogether S.Store A.is_sound A.are self.old.desk self.old.archives (report query.now)
             (result_map_both (option_map string_bytes) (λ refusal. refusal) result) self.new.desk self.new.archives }

@@ -216,7 +216,7 @@ abbrev pub usage_of : Option (Text × List Row) → Text
 usage_of None = usage_line []
 usage_of (Some met) = usage_line met.0
 
--- the subcommand that was met asks for nothing, and its usage is told
+-- the subcommand that was met asks for nothing, and its usage is reported
 abbrev pub RefusesMet : Option (Text × List Row) → CommandFault → Type 0
 RefusesMet met (Words error) = ⊥
 RefusesMet met (Values line) = (request_met met ≡ None) × (line.now ≡ usage_of met)
@@ -250,7 +250,7 @@ is_asked (Words error) = is_result (kind_of error)
 is_asked (Values line) = false
 is_asked Memory = false
 
--- what is told of it: the usage line, or that memory was refused; of words in which `clap` finds a fault, what `clap` says
+-- what is reported of it: the usage line, or that memory was refused; of words in which `clap` finds a fault, what `clap` says
 abbrev pub fault_text : CommandFault → Option (List ℕ)
 fault_text (Words error) = None
 fault_text (Values line) = Some line.now

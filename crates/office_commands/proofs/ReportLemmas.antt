@@ -33,7 +33,7 @@ use Rattle.office_commands.proofs.NowAlike.{now_alike}
 use Rattle.office_commands.specs.Opening.{OpensOver}
 use Rattle.office_commands.specs.Reporting.{TellsKey, TellsOver, in_lines, report_text, report_status}
 
--- what is told at each query is told at that of a key
+-- what is reported at each query is reported at that of a key
 pub key_also : (tells tells' : Query → Option (List ℕ) → Type 0) (kind : ReportKind) (key : List ℕ) (found : Option (List ℕ))
     → ((query : Query) → tells query found → tells' query found) → TellsKey tells kind key found → TellsKey tells' kind key found
 key_also tells tells' kind key found also told = elim told [

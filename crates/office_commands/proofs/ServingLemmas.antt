@@ -288,7 +288,7 @@ module _ {D : Type 0} {g : Ghosts D} where
 
 -- ---- what is printed and told
 
--- nothing is told where nothing is written
+-- nothing is reported where nothing is written
 pub tells_none : {W : Type 0} (contents : W → Option (List ℕ)) (old new : Port W) → new ≡ old → TellsText new.failed (contents old.inner) (contents new.inner) []
 tells_none {W} contents old new same fine = subst (λ (port : Port W). Appends (contents old.inner) (contents port.inner) []) (sym same) (Appends-nil (contents old.inner))
 

@@ -1,4 +1,4 @@
--- How the demonstration ends: its exit status, and what is told.
+-- How the demonstration ends: its exit status, and what is reported.
 use Rattle.std.specs.Prelude.{◌≡◌, ◌⊎◌, ℕ, List, []}
 use Rattle.office_replies.specs.declared.deliver.Worst.{Worst}
 use Rattle.office_commands.specs.declared.demo.DemoFault.{DemoFault}
@@ -7,7 +7,7 @@ use Rattle.office_stream.specs.Streams.{PortBytes}
 use Rattle.office_commands.specs.Ending.{status_of, store_text, stream_text}
 use Rattle.office_commands.specs.Demo.{DemoRuns, DemoLeft, PortFailures, IsOfPorts}
 
--- what is told of a fault
+-- what is reported of a fault
 abbrev pub fault_text : DemoFault → List ℕ
 fault_text (Store fault) = store_text fault
 fault_text (Stream fault) = stream_text fault

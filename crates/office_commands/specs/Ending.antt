@@ -1,4 +1,4 @@
--- How a command ends: its exit status, and what is told.
+-- How a command ends: its exit status, and what is reported.
 use Rattle.std.specs.Prelude.{◌≡◌, ◌≤◌, ◌⊎◌, ℕ, ◌+◌, ◌-◌, ◌^◌, min, List, [], Bool, true, false, Option, Result, Ok, Err, codes}
 use Rattle.std.specs.Io.KnownBytes.{Appends}
 use Rattle.office_replies.specs.declared.deliver.Worst.{Worst}
@@ -18,20 +18,20 @@ status_of Fine = 0
 status_of Refused = 1
 status_of NotNow = 3
 
--- what is told of a store's fault
+-- what is reported of a store's fault
 abbrev pub store_text : TableFault → List ℕ
 store_text (Store error) = codes "store: Store\n"
 store_text Damaged = codes "store: Damaged\n"
 store_text Version = codes "store: Version\n"
 store_text Memory = codes "store: Memory\n"
 
--- what is told of a stream's fault. A failed write is told only by the status.
+-- what is reported of a stream's fault. A failed write is reported only by the status.
 abbrev pub stream_text : StreamFault → List ℕ
 stream_text Read = codes "cannot read\n"
 stream_text Turns = codes "turns\n"
 stream_text Write = []
 
--- The text is what was told, if telling it has not failed.
+-- The text is what was reported, if telling it has not failed.
 abbrev pub Tells : (failed : Bool) (told told' : Option (List ℕ)) → List ℕ → Type 0
 Tells failed told told' text = failed ≡ false → Appends told told' text
 

@@ -45,7 +45,7 @@ pub record Reports (is_found : Option (List ℕ) → Type 0) (prints : List ℕ 
 
 -- ---- what is found
 
--- what is told at the query that a key asks for; nothing, if it asks for none
+-- what is reported at the query that a key asks for; nothing, if it asks for none
 abbrev pub TellsKey : (tells : Query → Option (List ℕ) → Type 0) → ReportKind → List ℕ → Option (List ℕ) → Type 0
 TellsKey tells kind key found =
     ((query_of kind key ≡ None) × (found ≡ None))

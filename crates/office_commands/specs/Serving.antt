@@ -32,7 +32,7 @@ use Rattle.office_commands.specs.Delivering.{BeginsAt, OpensOn, StandsAlike}
 
 -- ---- the answers
 
--- after those events it is answered as the office answers it, or `not now`; what is told is what the rows after them tell
+-- after those events it is answered as the office answers it, or `not now`; what is reported is what the rows after them tell
 abbrev pub IsServed : SetupContent → List Event → Step → Type 0
 IsServed content es (delivery text given) = AnswersNext content es text given ⊎ (given ≡ response.NotNow)
 IsServed content es (account code kind given) = AnswersAccount content es code kind given ⊎ (given ≡ account_answer.NotNow)
@@ -127,7 +127,7 @@ listening_line port = codes "listening 127.0.0.1:" ++ (decimal port ++ codes "\n
 abbrev pub served_line : ℕ → List ℕ
 served_line count = codes "served " ++ (decimal count ++ codes "\n")
 
--- why it does not listen is told: the port can't be had, or memory was refused
+-- why it does not listen is reported: the port can't be had, or memory was refused
 abbrev pub TellsDeaf : (tells : List ℕ → Type 0) → Type 0
 TellsDeaf tells = tells (codes "cannot listen\n") ⊎ tells (codes "store: Memory\n")
 

@@ -36,7 +36,7 @@ pub enum DemoFault {
 impl DemoFault {
     ghost use Rattle.office_commands.specs.Command.{fault_text};
 
-    /// What is told of it. A failed write is told only by its status.
+    /// What is reported of it. A failed write is reported only by its status.
     pub fn text(&self) -> &'static str
         ensures { result.now ≡ fault_text self.now }
     {

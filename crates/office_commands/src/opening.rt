@@ -187,7 +187,7 @@ impl Names for StoreFile {
     }
 }
 
-/// How many names a file has; none if that can't be told, since its file system is gone then.
+/// How many names a file has; none if that can't be found out, since its file system is gone then.
 fn names_of(file: &File) -> u64 {
     match file.metadata() {
         Ok(found) => found.nlink(),

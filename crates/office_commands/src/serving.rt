@@ -31,7 +31,7 @@ pub struct Service {
 
 /// Serves the store in the file at a path over HTTP: one request of each connection, until so many were accepted. It
 /// prints a line as soon as it listens, and one in the end, and answers the exit status and the desk as it was left: 0, or
-/// 3 if it can't listen, which is told, or printing failed. A fault is that of the store: then it did not listen, and told
+/// 3 if it can't listen, which is reported, or printing failed. A fault is that of the store: then it did not listen, and told
 /// nothing. No clause says what the store holds after a fault, since no desk is left: that nothing was asked of it is to
 /// be read in this body.
 pub fn serve_over<S: Start, N: Notes, W: Write, E: Write>(
@@ -115,7 +115,7 @@ fn serve_at<D: Report + AddAccount + OfTerminal, N: Notes, W: Write, E: Write>(
 }
 
 /// Listens at a port of this machine, and prints that it does. The text is what is to be printed in the end. None if it
-/// can't listen, which is told, or printing failed.
+/// can't listen, which is reported, or printing failed.
 fn listen<W: Write, E: Write>(
     rt: &HostRuntime,
     service: Service,

@@ -83,7 +83,7 @@ pub(crate) fn status_of(worst: Worst) -> u8
     }
 }
 
-/// What is told of a store's fault.
+/// What is reported of a store's fault.
 pub(crate) fn store_text(fault: &TableFault) -> &'static str
     ensures { result.now ≡ store_text fault.now }
 {
@@ -95,7 +95,7 @@ pub(crate) fn store_text(fault: &TableFault) -> &'static str
     }
 }
 
-/// What is told of a stream's fault. A failed write is told only by its status.
+/// What is reported of a stream's fault. A failed write is reported only by its status.
 pub(crate) fn stream_text(fault: StreamFault) -> &'static str
     ensures { result.now ≡ stream_text fault }
 {
@@ -108,7 +108,7 @@ pub(crate) fn stream_text(fault: StreamFault) -> &'static str
 
 /// `demo`: delivers the interchanges of a reader over tables in memory, and answers the exit status: 0 if each was
 /// taken, repeated or waits, 1 if one was refused, and 3 if the desk did not open, reading or writing failed, or
-/// one could not be answered now. `errors` takes what is told of a fault.
+/// one could not be answered now. `errors` takes what is reported of a fault.
 pub fn demonstrate<R: Read, W: Write, E: Write>(
     alloc: Global,
     reader: &mut Port<R>,

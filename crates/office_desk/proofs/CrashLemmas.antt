@@ -77,7 +77,7 @@ module _ (content : SetupContent) (es : List Event) (sent : List ℕ) where
         after = (next_adds content es rows sent partner number done.taken done.new given after comes.is_for free (same ∙ is) here).rows_are;
       }
 
-  -- what is told of what a crash leaves, by the answer
+  -- what is reported of what a crash leaves, by the answer
   pub answered_behind : (given : Response) (s : State) → Leaves content (es ++ delivered sent ∷ []) s → LeavesBehind content es sent given s
   answered_behind response.NotNow s leaves = λ db left. inr (leaves db left)
   answered_behind given s leaves = leaves

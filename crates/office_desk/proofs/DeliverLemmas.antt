@@ -57,7 +57,7 @@ never_now : (code : List ℕ) (number : ℕ) (kind : AnswerModel) → content_of
 never_now code number told.Clash e = not_refused (ap (λ answer. answer.how_bad) e)
 never_now code number kind e = not_fine (ap (λ answer. answer.how_bad) e)
 
--- what is told is told now
+-- what is reported is reported now
 pub is_now : (given : Response) (code : List ℕ) (number : ℕ) (kind : AnswerModel) → content_of given ≡ answer_by_model code number kind → IsNow given
 is_now response.NotNow code number kind e = absurd (never_now code number kind e)
 is_now given code number kind e = tt

@@ -91,7 +91,7 @@ pub record OnlyLooks {S : Type 0} (g : Ghosts S) (old new : Desk S g) : Type 0 w
   pub stays : IsSound g new → IsSound g old
 
 -- A report, or a page of the kept texts, was asked for. What was found is what the rows tell; the desk only looked; why it
--- can't be told now: over an office's rows only by the store or the memory, or by what is asked for; and where it's told
+-- can't be reported now: over an office's rows only by the store or the memory, or by what is asked for; and where it's told
 -- that the office can be asked, the store is open.
 pub record Looks {S : Type 0} (g : Ghosts S) (old : Desk S g) (look : Look) (found : Result (Option (List ℕ)) NotNow)
     (new : Desk S g) : Type 0 where

@@ -1,4 +1,4 @@
--- Why a report can't be told.
+-- Why a report can't be reported.
 use Rattle.std.specs.Prelude.{◌⊎◌, ℕ, ◌≤◌, length, Option, None, Some, string_bytes}
 use Rattle.office_loading.specs.Waiting.{HasHighWaiting}
 use Rattle.office_queries.specs.declared.query.Query.{Query}

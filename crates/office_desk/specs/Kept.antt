@@ -40,7 +40,7 @@ pub record Office : Type 0 where
 
 -- ---- what a delivery makes of an office
 
--- it is taken, and the texts that become next by it; it is told with its own reply
+-- it is taken, and the texts that become next by it; it is reported with its own reply
 pub record IsRunTaken (content : SetupContent) (d : Delivery) (told : AnswerModel) (old new : Office) : Type 0 where
   pub first : TakenContent
   pub later : List TakenContent
@@ -64,7 +64,7 @@ TakesIn Next content d next told old new = (d.number ≡ next) × IsRunTaken con
 
 -- ---- what is answered
 
--- the response to the partner with that code is what is to be told of the delivery, and the office that it makes is
+-- the response to the partner with that code is what is to be reported of the delivery, and the office that it makes is
 -- held
 pub record AnswersByKept (closed : ClosedContent) (content : SetupContent) (d : Delivery) (code : List ℕ) (old : Office)
     (response : Response) (db : Database) (there : Option Beside) : Type 0 where

@@ -43,13 +43,13 @@ DeskShows g desk (report query) found = DeskTells g desk query found
 DeskShows g desk (texts_after from) found = DeskHands g desk from found
 DeskShows g desk (of_archive place query) found = found ≡ None
 
--- what is told of it after those events
+-- what is reported of it after those events
 abbrev pub ShowsAfter : SetupContent → List Event → Look → Option (List ℕ) → Type 0
 ShowsAfter content es (report query) found = TellsAfter content es query found
 ShowsAfter content es (texts_after from) found = HandsAfter content es from found
 ShowsAfter content es (of_archive place query) found = found ≡ None
 
--- the reply that it tells of is no text; a page of texts is told whatever their bytes are
+-- the reply that it tells of is no text; a page of texts is reported whatever their bytes are
 abbrev pub ShowsUnfitReply : SetupContent → Rows → Look → Type 0
 ShowsUnfitReply content rows (report query) = AsksUnfitReply content rows query
 ShowsUnfitReply content rows (texts_after from) = ⊥

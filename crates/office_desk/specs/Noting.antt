@@ -35,7 +35,7 @@ abbrev pub NotesStore : AccountAnswer → (old new : Option TableFault) → Type
 NotesStore account.NotNow old new = (fault : TableFault) × (new ≡ Some fault) × IsOfStore fault
 NotesStore given old new = new ≡ old
 
--- the same after a report: it has a fault after one that can't be told now
+-- the same after a report: it has a fault after one that can't be reported now
 abbrev pub NotesLook : Result (Option (List ℕ)) Unreported → (old new : Option TableFault) → Type 0
 NotesLook (Ok found) old new = new ≡ old
 NotesLook (Err refusal) old new = HasFault new

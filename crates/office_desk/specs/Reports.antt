@@ -44,12 +44,12 @@ partner_called content code = partner_from 1 code (parties_in content).partners
 
 -- ---- replies
 
--- what was taken is told as a repeat, what waits as waiting for that number
+-- what was taken is reported as a repeat, what waits as waiting for that number
 abbrev pub reply_text : (next : ℕ) → List ℕ → ℕ → (reply : Option (List ℕ)) → List ℕ
 reply_text next code number None = waiting_text next number code
 reply_text next code number (Some reply) = answer_text (codes "repeat") number code reply
 
--- by the text that is kept and its reply; nothing is told of what is not kept
+-- by the text that is kept and its reply; nothing is reported of what is not kept
 abbrev pub TellsReply : Rows → List ℕ → ℕ → ℕ → (text reply : Option (List ℕ)) → (found : Option (List ℕ)) → Type 0
 TellsReply rows code partner number None reply found = found ≡ None
 TellsReply rows code partner number (Some text) reply found =

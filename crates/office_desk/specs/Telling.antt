@@ -60,7 +60,7 @@ pub record Comes (content : SetupContent) (es : List Event) (sent : List ℕ) (d
   pub text_is : d.text ≡ interchange_of sent
   pub is_for : IsFor content es sent d.partner d.number
 
--- the response to the partner with a code is what is to be told of it, and these are held after it
+-- the response to the partner with a code is what is to be reported of it, and these are held after it
 pub record Answers (content : SetupContent) (es : List Event) (sent : List ℕ) (d : Delivery) (code : List ℕ)
     (response : Response) (now : SetupContent) (db : Database) (there : Option Beside) : Type 0 where
   pub answers : content_of response ≡ answer_by_model code d.number (answer_model_of content es d.partner d.number sent)

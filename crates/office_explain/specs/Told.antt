@@ -1,4 +1,4 @@
--- What is told of an interchange.
+-- What is reported of an interchange.
 use Rattle.std.specs.Prelude.{◌≡◌, ℕ, List, length, Bool, true, false, ◌==◌, None, Some}
 use Rattle.std.specs.Option.{option_map}
 use Rattle.office_replies.specs.declared.deliver.Fault.{Fault}

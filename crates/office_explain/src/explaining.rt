@@ -22,7 +22,7 @@ use edi_syntax::Envelope;
 use std::alloc::{AllocError, Global};
 use std::fmt;
 
-/// What is told of an interchange.
+/// What is reported of an interchange.
 #[derive(Drop)]
 pub enum Told {
     /// It can't be told apart from what follows, and nothing after it is read.
@@ -33,7 +33,7 @@ pub enum Told {
     Read(Reading),
 }
 
-/// What is told of an interchange that is read.
+/// What is reported of an interchange that is read.
 #[derive(Drop)]
 pub struct Reading {
     /// The number that its control reference writes.
@@ -48,7 +48,7 @@ pub struct Reading {
     pub findings: Vec<Finding>,
 }
 
-/// What is told of an interchange of a file, as `Display` writes it in whole lines.
+/// What is reported of an interchange of a file, as `Display` writes it in whole lines.
 #[derive(Drop)]
 pub struct Block<'a> {
     /// Its number in the file, from 1.
@@ -139,7 +139,7 @@ fn first_len(alloc: Global, text: &[u8]) -> Result<Result<usize, Option<CutFault
     }
 }
 
-/// What is told of an interchange of that text.
+/// What is reported of an interchange of that text.
 fn told_of(alloc: Global, partners: &Partners, text: &[u8]) -> Result<Told, AllocError>
     ensures { IfOk result (Explains partners.now.are_known (parties_of partners.now.setup) text.now) }
 {
@@ -150,7 +150,7 @@ fn told_of(alloc: Global, partners: &Partners, text: &[u8]) -> Result<Told, Allo
     }
 }
 
-/// What is told of an interchange that is read.
+/// What is reported of an interchange that is read.
 fn reading_of(
     alloc: Global,
     partners: &Partners,
@@ -243,7 +243,7 @@ impl fmt::Display for Block<'_> {
     }
 }
 
-/// Writes what is told of an interchange that is read.
+/// Writes what is reported of an interchange that is read.
 fn write_reading<W: fmt::Write>(
     reading: &Reading,
     text: &[u8],

@@ -167,7 +167,7 @@ MigrationGoesOn =
 
 -- ---- answers
 
--- what is told of the text under that number, after those events
+-- what is reported of the text under that number, after those events
 abbrev pub answer_model_of : SetupContent → List Event → ℕ → ℕ → List ℕ → AnswerModel
 answer_model_of content es partner number sent =
     answer_of (taking_in newest content es) (opening_of (content_after content es)) (deliveries_of content es)

@@ -50,7 +50,7 @@ gauges state visit_limit partners =
     (count_by is_waited_for partners)
     ∷ []
 
--- ---- how it is told
+-- ---- how it is reported
 
 -- the lines before a value: what it is, and that it may rise and fall
 abbrev pub gauge_head : (name help : List ℕ) → List ℕ

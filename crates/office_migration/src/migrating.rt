@@ -51,7 +51,7 @@ pub fn migrate<S: Alter, T: Alter>(
     ensures refused { HasCleanDisk (state S.Store old.new) → (state S.Store old.old).now.schema ≡ bare_schema →
         IfErr result (FailsToLoadOlder (state S.Store old.old).now) }
 
-    // What is wrong with the old store is told before the new one is touched.
+    // What is wrong with the old store is reported before the new one is touched.
     ensures untouched { IfErr result (λ fault. (IsOfStore fault → ⊥) → new.new ≡ new.old) }
     ensures err { HasCleanDisk (state T.Store new.new) → IsTrue (state T.Store new.new).is_open
         → OnErr result (((state T.Store new.new).now ≡ (state T.Store new.old).committed)

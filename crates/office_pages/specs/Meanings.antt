@@ -59,12 +59,12 @@ stands_in part (c ∷ text) = starts_with nat_eq (c ∷ text) part || stands_in 
 abbrev pub mark : List ℕ → List ℕ → List ℕ
 mark member name = codes "\"" ++ member ++ codes "\":\"" ++ name ++ codes "\""
 
--- ---- how they are told
+-- ---- how they are reported
 
 abbrev pub meaning_entry : Meant → List ℕ
 meaning_entry what = codes "<dt>" ++ field_text what.name ++ codes "</dt>\n<dd>" ++ field_text what.sentence ++ codes "</dd>\n"
 
--- a name is told if the reply gives it in that member
+-- a name is reported if the reply gives it in that member
 abbrev pub meaning_view : List ℕ → List ℕ → Meant → List ℕ
 meaning_view member text what = if stands_in (mark member what.name) text then meaning_entry what else []
 

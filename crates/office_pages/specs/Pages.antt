@@ -211,7 +211,7 @@ abbrev pub start_bytes : (terminal : List ℕ) → List ℕ → List ℕ
 start_bytes terminal text =
     page_head false (start_title terminal) ++ codes "<ul>\n" ++ flat_map count_view (lines text) ++ codes "</ul>\n" ++ foot
 
--- what is told in place of a report
+-- what is reported in place of a report
 abbrev pub notice_view : Notice → List ℕ
 notice_view notice.NotHere = codes "There is nothing under this address."
 notice_view notice.Form = codes "A container has a number of four letters and seven digits, as ABCU 000001 7."

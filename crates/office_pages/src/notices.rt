@@ -33,7 +33,7 @@ pub fn notice_page(alloc: Global, notice: &Notice) -> Result<String, AllocError>
     Ok(page)
 }
 
-/// Appends what is told.
+/// Appends what is reported.
 fn push_notice(alloc: Global, page: &mut String, notice: &Notice) -> Result<(), AllocError>
     ensures { OnOk result (string_bytes page.new ≡ string_bytes page.old ++ notice_view notice.now) }
 {

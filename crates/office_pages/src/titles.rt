@@ -46,7 +46,7 @@ pub(crate) fn start_title(alloc: Global, terminal: &str) -> Result<Vec<u8>, Allo
     name_title(alloc, "Office of ", terminal.as_bytes())
 }
 
-/// The title of what is told in place of a report.
+/// The title of what is reported in place of a report.
 pub(crate) fn notice_title(notice: &Notice) -> &'static str
     ensures { result.now ≡ notice_title notice.now }
 {

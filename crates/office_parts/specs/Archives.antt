@@ -34,7 +34,7 @@ pub record IsInArchive (archives : List Archive) (visit : VisitContent) : Type 0
   pub is_one : Contains archives archive
   pub has : Contains archive.rows.visits visit
 
--- These archives hold this: each number that is closed is told by its archive, no other has one, and each visit that
+-- These archives hold this: each number that is closed is reported by its archive, no other has one, and each visit that
 -- was put away is in one of them.
 pub record Hold (archives : List Archive) (archived : Archived) : Type 0 where
   pub texts : (partner number : ℕ) → 1 ≤ number → number ≤ archived.last_closed partner →

@@ -9,7 +9,7 @@ pub data Look : Type 0 where
   texts_after : ℕ → Look
   of_archive : ℕ → Query → Look
 
--- what was found is what is to be told; nothing is said of what can't be told now
+-- what was found is what is to be reported; nothing is said of what can't be reported now
 abbrev pub Tells : (Option (List ℕ) → Type 0) → Result (Option (List ℕ)) NotNow → Type 0
 Tells is_told (Ok found) = is_told found
 Tells is_told (Err refusal) = Unit {0}

@@ -61,7 +61,7 @@ impl AccountAnswer {
     }
 }
 
-/// Why an account was not added. The first that holds is told.
+/// Why an account was not added. The first that holds is reported.
 #[derive(Clone, Copy, PartialEq, Eq, Debug, Error)]
 pub enum AccountFault {
     /// Fault 1: the code has no form of a partner's code, or there is no such kind.

@@ -23,7 +23,7 @@ pub fn refusal_is_json()
     ensures body { (fault : Fault) → body_of (response.Refused fault) ≡ compact_text (refusal_data fault) }
 {}
 
-/// A refused account is told by an object too, of the same form.
+/// A refused account is reported by an object too, of the same form.
 pub fn account_refusal_is_json()
     ensures { (fault : AccountFault) → account_body (account.Refused fault) ≡ compact_text (account_refusal_data fault) }
 {}

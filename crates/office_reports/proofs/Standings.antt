@@ -47,7 +47,7 @@ common_cell Forty Forty s t e k j = (in_bay (s.bay - 1) s, inl refl, inl (ap (λ
 common_cell Twenty Forty s t e k j = let odd : s.bay % 2 ≡ 1 = k in let even : s.bay % 2 ≡ 0 = ap (λ (x : Slot). x.bay % 2) e ∙ j in absurd (omega arith)
 common_cell Forty Twenty s t e k j = let even : s.bay % 2 ≡ 0 = k in let odd : s.bay % 2 ≡ 1 = ap (λ (x : Slot). x.bay % 2) e ∙ j in absurd (omega arith)
 
--- the placement of a slot that is told
+-- the placement of a slot that is reported
 placed : (o : Option Placement) (slot : Slot) → option_map (λ s. s.slot) o ≡ Some slot → (s : Placement) × (o ≡ Some s) × (s.slot ≡ slot)
 placed None slot e = absurd (none-some slot e)
 placed (Some s) slot e = (s, refl, same_Some s.slot slot e)

@@ -61,7 +61,7 @@ IsWrongOf fault partner_rows block_rows (OfPartners number) = IsWrong Partners f
 IsWrongOf fault partner_rows block_rows (OfBlocks number) =
     IsRight Partners fault partner_rows × IsWrong Blocks fault block_rows number
 
--- what is told of two files
+-- what is reported of two files
 pub record Tells (partners blocks : Text) (Told : List Record → List Record → Type 0) : Type 0 where
   pub partner_rows : List Record
   pub block_rows : List Record

@@ -16,7 +16,7 @@ abbrev pub GoesOn : Result ℕ Error → Type 0
 GoesOn (Ok count) = 0 < count
 GoesOn (Err error) = error_kind error ≡ Interrupted
 
--- none follows it, and this error is told: its own, or that it took nothing
+-- none follows it, and this error is reported: its own, or that it took nothing
 abbrev pub FailsWith : Error → Result ℕ Error → Type 0
 FailsWith error (Ok count) = (count ≡ 0) × (error_kind error ≡ WriteZero)
 FailsWith error (Err own) = (own ≡ error) × (error_kind error ≢ Interrupted)

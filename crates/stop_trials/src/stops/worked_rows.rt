@@ -1,4 +1,4 @@
-//! Worked rows: what is sent, the rows of the tables after none of it, after one request, and so on, and what is told in
+//! Worked rows: what is sent, the rows of the tables after none of it, after one request, and so on, and what is reported in
 //! the end. They are written down here as docs/TABLES.md and docs/PROFILE.md have them, and not taken from a desk.
 
 /// What is sent to the office.

@@ -91,7 +91,7 @@ fn a_text_before_its_account_is_refused(rt: HostRuntime) -> Result<(), Fail> {
     Ok(())
 }
 
-/// What is told of the partners, whose setup has two, after that.
+/// What is reported of the partners, whose setup has two, after that.
 const PARTNERS: &str =
     "PARTNERS\nHAULA GATE NEXT 1\nLINEA LINE NEXT 1\nHAULC GATE NEXT 1 WAITING 1 FROM 2 TO 2 MISSING 1\n3 PARTNERS 1 WAITING\n";
 

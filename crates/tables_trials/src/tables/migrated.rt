@@ -97,7 +97,7 @@ fn keep<'x, S: Alter>(
     Ok(())
 }
 
-/// What a store of that version is told for, brought over to a new one.
+/// What a store of that version is asked, brought over to a new one.
 fn told(rt: &impl Abort, alloc: Global, version: &str) -> Result<Result<(), TableFault>, Fail> {
     let mut old = old_store(alloc, version)?;
     let mut new = Connection::open_in_memory(alloc)?;

@@ -7,7 +7,7 @@ use Rattle.office_setup.specs.Setups.{setup_content}
 use Rattle.office_delivery.proofs.ReadLemmas.{one_read, only_then, was_clean}
 use Rattle.office_archives.proofs.tickets.report_by.Goals as goal
 
--- It is told by what was loaded.
+-- It is reported by what was loaded.
 pub returns-clause-report : goal.returns-clause-report
 returns-clause-report g c = λ clean.
     let old = state g.S.Store c.args.conn.now in

@@ -38,13 +38,13 @@ module _ (own copy : OfficeContent) (names : FileNames) (is_same has_archive : B
   none_found no_mark mark.Own is = cc (no_mark, is)
   none_found no_mark mark.Other is = absurd (is.0 no_mark)
 
-  -- a stage that the closing has come to is told
+  -- a stage that the closing has come to is reported
   told : (come : Stage) → HasCome own copy names come → IsToldBy is_same has_archive found come
   told stage.New come = (same.1 (come.0 ∙ own_is), none_found come.1 found marked)
   told stage.Marked come = (same.1 (come.0 ∙ own_is), own_found come.1 found marked)
   told stage.Raised come = (has.1 (ap unmarked is_raised ∙ come.0 ∙ own_is), own_found come.1 found marked)
 
-  -- and a stage that is told has come
+  -- and a stage that is reported has come
   has_come : (come : Stage) → IsToldBy is_same has_archive found come → HasCome own copy names come
   has_come stage.New is = (same.0 is.0 ∙ sym own_is, subst (IsMarkedAs copy.register.closed_for names.store) is.1 marked)
   has_come stage.Marked is = (same.0 is.0 ∙ sym own_is, subst (IsMarkedAs copy.register.closed_for names.store) is.1 marked)

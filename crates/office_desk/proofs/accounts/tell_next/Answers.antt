@@ -25,7 +25,7 @@ returns-in-None-clause-told g c clean rows has =
     let code = c.args.code.now in
     subst (λ (o : Option ℕ). TellsNext rows o None) (sym (called c.args.setup.now code code None (sym c.in-None.is ∙ c.partner_called.ensures) refl)) refl
 
--- ---- why it can't be told
+-- ---- why it can't be reported
 
 pub returns-in_err-number-in-Some-clause-fault : goal.returns-in_err-number-in-Some-clause-fault
 returns-in_err-number-in-Some-clause-fault g c clean =

@@ -20,7 +20,7 @@ returns-in_ok-partner_report-in-Some-clause-told g c clean rows has =
 pub returns-in-None-clause-told : goal.returns-in-None-clause-told
 returns-in-None-clause-told g c clean rows has = told_of_none rows c.args.setup.now.partners.items c.args.code.now (sym c.in-None.is ∙ c.index_called.ensures.index)
 
--- ---- why it can't be told
+-- ---- why it can't be reported
 
 pub returns-in_err-partner-in-Some-clause-fault : goal.returns-in_err-partner-in-Some-clause-fault
 returns-in_err-partner-in-Some-clause-fault g c clean =

@@ -70,7 +70,7 @@ returns-in-None-partner_called-2-clause-told g c clean rows has once =
     let there : partner_called content own ≡ None = called a.setup.now c.deref-in-Contrl.result.now own None (sym c.in-None-partner_called-2.is ∙ c.partner_called-in-Contrl.ensures) c.deref-in-Contrl.ensures in
     subst (λ q. TellsOf content a.terminal.now rows q None) (sym c.in-Contrl.is) (sym (ap (contrl_for_partner rows c.in-Contrl.number) there))
 
--- ---- why it can't be told
+-- ---- why it can't be reported
 
 pub returns-in-Some-clause-fault : goal.returns-in-Some-clause-fault
 returns-in-Some-clause-fault g c clean =

@@ -34,7 +34,7 @@ returns-in_err-tell_kept-in-Some-clause-reads g c = reads_on _ (c.in_ok-kept.ens
 pub returns-in_err-next-in-Some-clause-reads : goal.returns-in_err-next-in-Some-clause-reads
 returns-in_err-next-in-Some-clause-reads g c = c.in_ok-kept.ensures.reads then reads_stopped _ c.from_residual-in_err-next-in-Some.ensures.0 c.next_of.ensures.reads
 
--- ---- why it can't be told
+-- ---- why it can't be reported
 
 pub returns-in_err-kept-clause-fault : goal.returns-in_err-kept-clause-fault
 returns-in_err-kept-clause-fault g c clean =

@@ -22,7 +22,7 @@ returns-clause-told g c clean rows has =
           ∙ (λ i. metrics_text (c.program_version.ensures i) tables_version c.args.terminal.now c.args.setup.now.visit_limit (map partner_content (c.deref.ensures.value i)))),
     )
 
--- ---- why it can't be told
+-- ---- why it can't be reported
 
 pub returns-in_err-partners-clause-fault : goal.returns-in_err-partners-clause-fault
 returns-in_err-partners-clause-fault g c clean =

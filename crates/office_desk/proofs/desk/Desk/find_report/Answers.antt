@@ -107,7 +107,7 @@ returns-in_err-there-clause-looks g c =
       stays = λ sound. (was_clean reads sound.0, was_open reads sound.0 sound.1);
     }
 
--- ---- why it can't be told
+-- ---- why it can't be reported
 
 pub returns-clause-fault : goal.returns-clause-fault
 returns-clause-fault g c = λ sound.
