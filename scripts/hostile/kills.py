@@ -1,19 +1,27 @@
 """SIGKILL at a random moment while deliveries are under way, many times a store.
 
 After each kill the rows have to be those after all whose answers were read, or after one more, the one in flight. Then the
-program opens the store, and is killed again. At the end all texts are sent once more, from the first on. Accounts are added
+program opens the store, shows the yard and some pages, and is killed again. Now and then the store is closed by a copy of some
+kills before; that process is killed as well. At the end all texts are sent once more, from the first on. Accounts are added
 between the deliveries, by `serve` and by `account`, and one store in four was brought over from an old version.
 """
+import copy
 import os
+import subprocess
 import tempfile
 import threading
 from itertools import takewhile
-from time import monotonic
+from time import monotonic, sleep
 
+from model.closing import close
 from model.days import NEWCOMERS
 from model.events import Added
+from model.http import response
+from model.requests import report_path
+from model.rows import copy_files, register_rows, rows_in, rows_of
 
 from .books import Book, Different, expect
+from .closings import READY, register_in, stage
 from .working import Delivering, Served, run
 
 KILLS = 80                  # a store: some 400 deliveries, so that the log is moved into the file at least once
@@ -23,6 +31,9 @@ AHEAD = 12                  # texts that are sent ahead of the answers
 KINDS = ('deliver, one by one', 'deliver, ahead', 'serve')
 MIGRATED_EVERY = 4          # stores of which one is brought over from an old version
 OLD_TEXTS = 12              # that were delivered to it before
+CLOSED_EVERY = 10           # kills of a store, from its copy to the closing by that copy a quarter of these
+PAGES_EVERY = 4             # kills after which pages are looked at
+PAGES = 3                   # of them, at once
 
 
 class Pace:
@@ -115,6 +126,57 @@ def killed_once(book, pace, counted):
     counted['found ' + found] += 1
 
 
+def pages(book, counted):
+    """Pages over HTTP, by paths of reports that find something or nothing."""
+    with Served(book.program, book.store, PAGES) as served:
+        for _page in range(PAGES):
+            path = book.chance.choice(['/', '/pages' + report_path(book.chance, book.office)])
+            request = 'GET %s HTTP/1.1\r\n\r\n' % path
+            expect('GET %s' % path, response(book.office, request), served.exchange(request))
+            counted['pages looked at'] += 1
+
+
+class Copied:
+    """A copy of a store's files and the office of then, by which the store is closed later."""
+
+    def __init__(self, book):
+        self.book, self.name = book, 'office-%04d.db' % (len(book.office.register.archives) + 1)
+        self.path, self.archive = os.path.join(book.folder, self.name), copy.deepcopy(book.office)
+        copy_files(book.store, self.path)
+
+    def standing(self):
+        """The rows of the store, its register and the archive's; the archive has the rows that it had."""
+        (own, faults), (kept, others) = rows_in(self.book.store), rows_in(self.path)
+        expect('integrity and foreign keys', ([], []), (faults, others))
+        expect('the rows of the archive', rows_of(self.archive), kept)
+        return own, register_in(self.book.store), register_in(self.path)
+
+    def modelled(self):
+        """The same by the model."""
+        return rows_of(self.book.office), register_rows(self.book.office), register_rows(self.archive)
+
+    def closes(self):
+        """The model closes."""
+        expect('the model', None, close(self.book.office, self.archive, 'office.db', self.name))
+
+
+def killed_closing(book, copied, pace, counted):
+    """`close`, killed; the store takes a text as far as it is closed, and the same closing goes on to its end."""
+    words, before = [book.program, 'close', book.store, copied.path], copied.modelled()
+    with subprocess.Popen(words, stdout=subprocess.DEVNULL, stderr=subprocess.DEVNULL) as process:
+        sleep(book.chance.uniform(0, 5) * pace.opening)
+        process.kill()
+    copied.closes()
+    counted['closings killed, found: ' + stage(before, copied.modelled(), copied.standing(), 'a closing')] += 1
+    added(book, counted)
+    line, _told, _status = run(book.program, 'deliver', book.store, book.file('one.edi', book.upcoming(1)[0]))
+    book.take([line[:-1]])
+    expect('close again', READY, run(*words))
+    copied.closes()
+    expect('all after it', copied.modelled(), copied.standing())
+    counted['closings'] += 1
+
+
 def written(book):
     """When the file was written last: that is where the log is moved into it."""
     return os.stat(book.store).st_mtime_ns
@@ -131,10 +193,16 @@ def killed_often(program, seed, kills, pace, counted):
                 book.migrated(1 + seed // MIGRATED_EVERY % 2, OLD_TEXTS)
                 counted['stores brought over'] += 1
             book.adds = True
-            for _kill in range(kills):
+            for kill in range(kills):
                 before = written(book)
                 killed_once(book, pace, counted)
                 counted['the log moved into the file'] += written(book) != before
+                if kill % PAGES_EVERY == 0:
+                    pages(book, counted)
+                if kill % CLOSED_EVERY == CLOSED_EVERY // 2:
+                    copied = Copied(book)
+                if kill % CLOSED_EVERY == CLOSED_EVERY // 2 + CLOSED_EVERY // 4:
+                    killed_closing(book, copied, pace, counted)
             counted['deliveries sent again at the end'] += book.again()
         except Different as fault:
             raise Different('seed %s, kill %d: %s' % (seed, counted['kills'], fault)) from fault
