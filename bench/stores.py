@@ -105,7 +105,7 @@ class Stores:
         return both
 
     def agree(self, name, yard, texts):
-        """Whether both give the same answers to a stream, the same yard behind it, and the same rows."""
+        """Whether both give the same answers to a stream, the same yard after it, and the same rows."""
         both = self.streams(name, yard)
         answers = [each.feed(texts).answers for each in both]
         for each in both:

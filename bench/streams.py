@@ -133,7 +133,7 @@ def filling(count):
 
 
 def come_and_gone(count):
-    """Gate-ins of so many containers, as many in a message as there may be; behind each message all of them leave, the last
+    """Gate-ins of so many containers, as many in a message as there may be; after each message all of them leave, the last
     one first, so that none is buried."""
     numbers, texts = Numbers(), []
     for first in range(0, count, FULL):

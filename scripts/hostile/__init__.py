@@ -7,7 +7,7 @@
                         it is there)
     calls_of_others.py  the same for `report`, `serve` and `init`, and for calls of whatever kind
     commands.py         the same as calls.py for `account` and `migrate`; and their allocations refused
-    closings.py         the same for `close`, and behind losses of power
+    closings.py         the same for `close`, and after losses of power
     printing.py         the same for `texts` and `explain`
     power.py            what a loss of power may leave, made up from the calls (with strace)
     full.py             no room: a file system that is full, a limit on the size of files
@@ -21,7 +21,7 @@
     clients_*.py        curl and sockets: each route and form; many at once; slow ones, and ones that go away
     clients.py          all of these: scripts/clients
     mutations.py        texts with bytes, segments, values and lines changed
-    rounds.py           a round of mutated inputs from its seed: set-up files, streams, keys, requests, and the rows behind them
+    rounds.py           a round of mutated inputs from its seed: set-up files, streams, keys, requests, and the rows after them
     sampled.py          the program with the peak of its memory
     bounded.py          those peaks on inputs of which nothing more is kept
     fuzz.py             round after round: scripts/fuzz

@@ -23,7 +23,7 @@ def fed(path, command, front):
 
 
 def served(path, request, count):
-    """The peak of a server behind so many of a request."""
+    """The peak of a server after so many of a request."""
     with Served(path) as server:
         for _request in range(count):
             exchanged(server.port, request)

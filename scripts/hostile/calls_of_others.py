@@ -3,7 +3,7 @@ scripts/kill9 others.
 
 Calls of whatever kind are tried, from the first that names a file of the store on; of those that are many some. A report is
 told whole and right, or a fault by its name, and changes nothing. A server takes a delivery, a question and an account: what
-it answers is what the model does, or `not now`, and it goes on; behind it the store holds what was answered, and what was
+it answers is what the model does, or `not now`, and it goes on; after it the store holds what was answered, and what was
 not, whole or not at all. A store that is made is whole, or there is none.
 """
 import os
@@ -117,7 +117,7 @@ class Report:
         self.wanted = printed(book.office, kind, key)[0], '', 0
 
     def tried(self, front, _kind, fault):
-        """What it told. Behind it the rows are as they were, and the report is told."""
+        """What it told. After it the rows are as they were, and the report is told."""
         given = run(*front, *self.words)
         if fault == KILLED and not self.wanted[0].startswith(given[0]):
             raise Different('it printed %r' % given[0])
@@ -172,7 +172,7 @@ class Serving(Served):
         super().stop()
 
     def over(self):
-        """What it printed behind its first line, what it told, and its status."""
+        """What it printed after its first line, what it told, and its status."""
         try:
             self.process.wait(SECONDS)
         except subprocess.TimeoutExpired as late:

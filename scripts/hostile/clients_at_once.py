@@ -72,7 +72,7 @@ def two_hundred(checks, path):
 
 def accounts_at_once(checks, path):
     """Accounts that are added while interchanges come, each by two clients: one of them is told `added` and the other one
-    `known`, with one id. The ids are those behind the set-up's; and each of these senders is then admitted."""
+    `known`, with one id. The ids are those after the set-up's; and each of these senders is then admitted."""
     with Served(path, LARGE_YARD) as server:
         codes = ['HAUL-%d' % place for place in range(ADDED)]
         requests = [account(code, 'gate') for code in codes for _client in range(2)]
@@ -94,7 +94,7 @@ def accounts_at_once(checks, path):
 
 
 def more_than_said(checks, path):
-    """What is sent behind a body, or behind a head that is refused, doesn't take the answer away."""
+    """What is sent after a body, or after a head that is refused, doesn't take the answer away."""
     with Served(path) as server:
         for place in range(TOO_MUCH):
             behind = random.Random(place).choice([1, 5000, 100000, 1000000, 3000000])

@@ -59,7 +59,7 @@ def routes(checks, path):
 
 def accounts(checks, path):
     """Accounts by curl: with no body, with one that nobody looks at, with no length, and by parts that need their escapes.
-    What a sender sent before stays refused, and what it sends behind is taken."""
+    What a sender sent before stays refused, and what it sends after that is taken."""
     with Served(path) as server:
         text = gate_in(1, 'HAULC')
         server.same(checks, 'before its account', post(text))
@@ -96,7 +96,7 @@ def own_paths(checks, path):
 
 
 def forms(checks, path):
-    """Requests as sockets may write them: ends of lines, versions, absolute forms, what stands behind."""
+    """Requests as sockets may write them: ends of lines, versions, absolute forms, what stands after them."""
     with Served(path) as server:
         for name, request in (
                 ('LF line ends', post(gate_in(1)).replace('\r\n', '\n')),
@@ -108,7 +108,7 @@ def forms(checks, path):
                 ('TLS', '\x16\x03\x01\x02\x00\x01\x00\x01\xfc\x03\x03'),
                 ('%2F in a part', get('/visits/A%2FB'))):
             server.same(checks, name, request)
-        # a second request behind the first has no effect
+        # a second request after the first has no effect
         server.same(checks, 'a pipelined request', post(gate_in(3)) + post(gate_in(4)))
         server.same(checks, 'the second of them was not delivered', get('/replies/HAULA/4'))
         server.same(checks, 'a pipelined look', get('/yard') + get('/yard'))
@@ -144,7 +144,7 @@ def of_a_mebibyte(checks, path):
 
 def expecting(checks, path):
     """`Expect: 100-continue`: the office sends no 100. Curl waits for one as long as it is told to, and then sends the body;
-    behind that wait the answer comes without a stall."""
+    after that wait the answer comes without a stall."""
     with Served(path) as server:
         head = ['-H', 'Expect: 100-continue', '--data-binary', server.file(padded(LONGEST_TEXT - 1))]
         came, seconds = server.curl('/interchanges', '--expect100-timeout', str(CURL_WAITS), *head)
@@ -167,7 +167,7 @@ def bound(checks, path):
 
 
 def served_so_many(checks, path):
-    """A server ends behind so many connections, also those that ask for nothing."""
+    """A server ends after so many connections, also those that ask for nothing."""
     with Served(path, count=3) as server:
         server.connect().close()
         server.same(checks, 'the second of three', get('/yard'))

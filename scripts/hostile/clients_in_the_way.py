@@ -1,5 +1,5 @@
 """Clients that hold the office up: ones that send nothing or slowly, that don't read or slowly, that stay or reset. Each is
-given up within limits, and others are served behind it."""
+given up within limits, and others are served after it."""
 import threading
 import time
 
@@ -7,11 +7,11 @@ from .served import Served, gate_in, get, post, received, reset
 
 FIRST_BYTE_LIMIT = 2        # seconds for the first byte of a request
 REQUEST_LIMIT = 10          # seconds until a request is whole
-RESPONSE_LIMIT = 10         # seconds until a response is taken, and until the peer has closed behind it
-DRAIN_LIMIT = 1             # seconds for a read of what is dropped behind a response
+RESPONSE_LIMIT = 10         # seconds until a response is taken, and until the peer has closed after it
+DRAIN_LIMIT = 1             # seconds for a read of what is dropped after a response
 SLACK = 6                   # seconds besides, on a busy machine; from the first byte's limit not as far as a request's
 SLOWEST = REQUEST_LIMIT + RESPONSE_LIMIT + SLACK     # seconds that a slow client goes on
-SILENT = 3                  # clients that send nothing, one behind the other
+SILENT = 3                  # clients that send nothing, one after the other
 TRIES = 20                  # of a client that is in time, on a machine that holds it up itself
 
 MESSAGES = 145              # of 999 lines each: a mebibyte, whose reply is some seven
@@ -117,7 +117,7 @@ def going_on(checks, path):
 
 
 def trickle(connection, front, seconds, pause=1):
-    """Sends a front, and then a byte behind each pause, until the peer is gone or the time is over."""
+    """Sends a front, and then a byte after each pause, until the peer is gone or the time is over."""
     connection.sendall(front.encode('latin-1'))
     for _time in range(int(seconds / pause)):
         try:

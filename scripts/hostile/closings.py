@@ -1,7 +1,7 @@
 """`close`, killed at each call of the system, each call refused, with files that may not grow, killed at random moments of a
-large closing, and behind losses of power: scripts/kill9 closings.
+large closing, and after losses of power: scripts/kill9 closings.
 
-Behind each of these the store has its rows, or its register has the archive and some of what goes is gone. The program opens
+After each of these the store has its rows, or its register has the archive and some of what goes is gone. The program opens
 it, answers a closed number and takes another, and the same closing again goes on to the end. The archive keeps its rows.
 """
 import copy

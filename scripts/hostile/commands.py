@@ -46,7 +46,7 @@ class Addition:
         self.words = [program, 'account', store, CODE, KIND]
 
     def found(self, given):
-        """Whether the account stands behind a process that printed, told and ended so; what it printed is in effect."""
+        """Whether the account stands after a process that printed, told and ended so; what it printed is in effect."""
         after = deepcopy(self.before)
         line = json_text(after.add_account(CODE, KIND)) + '\n'
         got, faults = rows_in(self.store)
@@ -80,7 +80,7 @@ class Migration:
         self.words = [program, 'migrate', self.old, self.new]
 
     def found(self, given):
-        """Whether the new store is there behind a process that printed, told and ended so."""
+        """Whether the new store is there after a process that printed, told and ended so."""
         expect('the old store', self.kept.bytes, contents(self.old))
         got, faults = rows_in(self.new)
         expect('integrity and foreign keys', [], [] if faults == UNMADE and not got else faults)
@@ -208,7 +208,7 @@ def anew(refusing, kept):
 
 
 def refuse_migration(version, share, refusing, _office, _text, steps, counted):
-    """A share of the allocations of a migration, before the new store is opened and behind it: as many are before as a process
+    """A share of the allocations of a migration, before the new store is opened and after it: as many are before as a process
     makes whose new store can't be opened."""
     make = partial(anew, refusing, old_store(refusing.folder, version, version))
     new = make().words[-1]

@@ -100,7 +100,7 @@ def added(book, counted):
 
 
 def killed_once(book, pace, counted):
-    """A process at work, killed; the rows behind it; the program opens the store again."""
+    """A process at work, killed; the rows after it; the program opens the store again."""
     kind = book.chance.choice(KINDS)
     if kind != 'serve':
         added(book, counted)

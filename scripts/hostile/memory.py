@@ -26,7 +26,7 @@ from .rounds import room
 HERE = os.path.dirname(os.path.abspath(__file__))
 TOP = os.path.dirname(os.path.dirname(HERE))
 NOT_NOW = '{"answer":"not now"}'
-LAST_TAKEN = '12-haulier-a-gate-out.edi'       # of the day; behind it are repeats and a clash
+LAST_TAKEN = '12-haulier-a-gate-out.edi'       # of the day; after it are repeats and a clash
 
 # what a process may tell that had no memory before it delivered anything
 FAILURES = {('', 'store: Memory\n', 3), ('', 'cannot read\n', 3), ('', '', 3)}
@@ -86,7 +86,7 @@ def line_of(office, text):
 
 
 def check_answers(name, before, text, given):
-    """Holds what a process printed, told and ended with, to what it may: the office behind it."""
+    """Holds what a process printed, told and ended with, to what it may: the office after it."""
     if given in FAILURES:
         return deepcopy(before), 'no store'
     printed, told, _status = given
@@ -114,7 +114,7 @@ def opening(refusing):
 
 def refuse_each(refusing, name, before, text, steps, counted):
     """Allocations of a process that delivers the text twice, refused in their turn: of those of opening the store each
-    of a first step, and of those behind it each of a second."""
+    of a first step, and of those after it each of a second."""
     start = os.path.join(refusing.folder, 'start.db')
     refusing.copy_to(start)
     twice, once = refusing.file('twice.edi', text + '\n' + text), refusing.file('once.edi', text)

@@ -80,7 +80,7 @@ def keys_of(office):
 
 
 def refuse_reports(refusing, office, _text, steps, counted):
-    """Allocations of a report of each kind: of those by which it opens the store each of a first step, of those behind them
+    """Allocations of a report of each kind: of those by which it opens the store each of a first step, of those after them
     each of a second."""
     before = rows_in(refusing.store)
     opened = allocations_of(refusing, ['report', refusing.store, 'visits', UNUSED]) - PRINTING
@@ -111,7 +111,7 @@ class Server:
         self.line = self.process.stdout.readline()
 
     def end(self):
-        """What it printed behind its first line, what it told, and its status."""
+        """What it printed after its first line, what it told, and its status."""
         printed_behind, told = self.process.communicate(timeout=60)
         return printed_behind, told, self.process.returncode
 

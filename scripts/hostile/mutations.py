@@ -145,7 +145,7 @@ def lines_spliced(random, text, other):
 
 
 def field_changed(random, text, other):
-    """One field behind a comma is another: a value at a limit, or a field of another text."""
+    """One field after a comma is another: a value at a limit, or a field of another text."""
     fields = list(re.finditer(r'(?<=,)[^,\r\n]*', text))
     if not fields:
         return byte_placed(random, text, other)
@@ -172,7 +172,7 @@ def mutated(random, text, other, table):
 
 
 def mutated_file(random, text, other):
-    """A file so mutated, most often behind its first line."""
+    """A file so mutated, most often after its first line."""
     if random.random() < 0.1:
         return mutated(random, text, other, FILE)
     header, rest = re.match(r'([^\r\n]*[\r\n]*)(.*)', text, re.DOTALL).groups()

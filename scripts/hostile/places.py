@@ -165,7 +165,7 @@ def try_copies(program, seed, counted):
 
 
 def try_leaving(program, seed, counted):
-    """A reader of answers that goes away: the delivery behind is in effect, and the process ends with 3."""
+    """A reader of answers that goes away: the delivery after it is in effect, and the process ends with 3."""
     with tempfile.TemporaryDirectory(prefix='kill9-') as folder:
         book = prefilled(program, folder, seed, BEFORE)
         for _place in range(LEAVING):

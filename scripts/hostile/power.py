@@ -1,7 +1,7 @@
 """What a loss of power may leave, made up from the calls of a process, with strace. No power is cut.
 
 strace notes what a process writes and when it has a file synced. From that files are made as a loss of power may leave
-them: what was written before the last sync of a file is there, and of each write behind it some bytes or none, in any
+them: what was written before the last sync of a file is there, and of each write after it some bytes or none, in any
 order. The program opens them, and the rows have to be those after all answers that were written, or after one more.
 """
 import copy

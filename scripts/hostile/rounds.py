@@ -1,5 +1,5 @@
 """A round of mutated inputs, from its seed alone: set-up files, streams, keys and requests over a new store, each held
-against the model, and in some rounds the rows of the store behind them."""
+against the model, and in some rounds the rows of the store after them."""
 import json
 import os
 import random
@@ -92,7 +92,7 @@ class Round:
     # ---- streams
 
     def variants(self, count):
-        """So many mutated interchanges, each with whether it was mutated. Behind some mutations of an interchange it comes
+        """So many mutated interchanges, each with whether it was mutated. After some mutations of an interchange it comes
         itself, so that its partner's run goes on."""
         texts, found = [self.day.delivery()], 0
         while found < count:
@@ -230,7 +230,7 @@ class Round:
         return self.random.choice(['/', *['/pages' + report_path(self.random, self.office)] * 9])
 
     def form(self):
-        """What stands behind the path of the form, with a number that was typed."""
+        """What stands after the path of the form, with a number that was typed."""
         form = weighted(self.random, FORMS)
         return form % typed(self.random, self.office) if '%s' in form else form
 

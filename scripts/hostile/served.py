@@ -99,7 +99,7 @@ class Served:
         self.process.stdout.close()
 
     def ask(self, request):
-        """The response to a request over a socket, which is ended behind it."""
+        """The response to a request over a socket, which is ended after it."""
         return exchanged(self.port, request)
 
     def owed(self, request):

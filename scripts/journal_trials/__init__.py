@@ -1,7 +1,7 @@
 """Offices that are made of another one's texts, in the order in which these came, beside the plain slow model of scripts/model.
 
     offices.py   an office that is rebuilt or that follows, held to the first: rows, texts in their order, all reports
-    rebuild.py   random lists rebuilt, also behind what comes later
+    rebuild.py   random lists rebuilt, also after what comes later
     follow.py    turns of examples/standby, with kills of either office, and what stops a follower
     serving.py   the same by office-first, while the first serves
     drill.py     a copy put back: which containers stand elsewhere

@@ -25,7 +25,7 @@ from .follow import Standby, followed
 from .offices import Made, are_same, copied_to, hands_out, page_size, rebuilt, rows_in_order, send, texts_of
 
 EVERY = 5                   # lists for a store of each version
-BEFORE, BEHIND = 40, 12     # deliveries before a store is opened, and behind it at least
+BEFORE, BEHIND = 40, 12     # deliveries before a store is opened, and after it at least
 TURNS = 3
 
 
@@ -81,7 +81,7 @@ def brought_over(old, book, counted):
 
 
 def goes_on(old, book, name, counted):
-    """A migrated store: what comes later stands behind the old texts, and a standby that begins as a copy of it follows."""
+    """A migrated store: what comes later stands after the old texts, and a standby that begins as a copy of it follows."""
     brought_over(old, book, counted)
     before = rows_in_order(book.store)
     send(book, BEHIND)

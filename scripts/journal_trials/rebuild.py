@@ -1,4 +1,4 @@
-"""Random lists of deliveries, rebuilt of the texts that are kept of them: the same office, also behind what comes later."""
+"""Random lists of deliveries, rebuilt of the texts that are kept of them: the same office, also after what comes later."""
 import tempfile
 
 from hostile.books import naming

@@ -3,7 +3,7 @@ that stand there.
 
 A stream goes through `office demo`, where it has that set-up, and through `office deliver` over a store. Texts that are
 delivered by themselves are bodies of requests to `office serve`; where a stream of them is cut into just these, it is
-answered by the same lines; reports are asked for behind the last of them. Accounts that are added between them are requests
+answered by the same lines; reports are asked for after the last of them. Accounts that are added between them are requests
 too, and, over another store, calls of `office account` between calls of `office deliver`. Requests go to `office serve` in
 two pieces and, to a store of its own, byte by byte. Cases with a `page` are also what samples.py makes docs/SAMPLES.md of.
 """
@@ -45,7 +45,7 @@ WORDS = 'set-up stream deliver answer status cut request response look told acco
 # texts are those that are delivered by themselves, with a line each; steps are these and the accounts that are added between
 # them, each as an event with its line; requests are pairs of a request and its response; where there are none of all these,
 # the stream is a text. The status is the stream's, which may be cut anywhere. Looks are pairs of a path and the body that
-# answers it behind the texts; `ahead` is the bound of the server, if it has one; `said` are the pairs of word and value that
+# answers it after the texts; `ahead` is the bound of the server, if it has one; `said` are the pairs of word and value that
 # stand there
 Case = namedtuple('Case', 'name setup stream texts lines steps status is_cut requests looks ahead said')
 

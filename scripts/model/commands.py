@@ -20,7 +20,7 @@ from .setup import read_setup
 from .stream import answers, lines, status
 from .words import text_of
 
-# how many words stand behind each command: at least, at most
+# how many words stand after each command: at least, at most
 WORDS = {
     'init': (3, 3), 'deliver': (2, 2), 'serve': (3, 3), 'report': (2, 3), 'demo': (0, 0), 'account': (3, 3),
     'migrate': (2, 2), 'texts': (1, 2), 'close': (2, 2)}

@@ -1,7 +1,7 @@
 """A crowded yard: two blocks, and orders for sixty-four containers drawn at random, most of them for slots of the plan, a
 third of the containers empty. The program answers each as the model does, which goes through all containers at each.
 
-Behind the first half of the orders another hand empties some of the containers that others stand on, in the store and in
+After the first half of the orders another hand empties some of the containers that others stand on, in the store and in
 the model. So full ones stand on empty ones, as they do in a yard of times when that was allowed.
 """
 import random
@@ -138,7 +138,7 @@ def kinds_of(office, given):
 
 
 def try_all(beside):
-    """Each stream over a store of its own, with its rows and the yard behind each half."""
+    """Each stream over a store of its own, with its rows and the yard after each half."""
     for seed in range(1, STREAMS + 1):
         name, crowd, office = 'crowded yard %d' % seed, Crowd(seed), new_office()
         with tempfile.TemporaryDirectory(prefix='beside-') as folder:

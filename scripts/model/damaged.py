@@ -1,5 +1,5 @@
 """The stores of damaged.txt: what the model says of their rows, and what the program tells as it opens each. A store
-that is refused has the same rows behind it. The same of old stores, which the program is to bring to the newest version: one
+that is refused has the same rows after it. The same of old stores, which the program is to bring to the newest version: one
 that is refused leaves no table behind, and each stays as it is.
 """
 import os
@@ -27,7 +27,7 @@ GATE_IN = (
 
 
 def lines_said():
-    """The lines of the file: a word, and what stands behind it."""
+    """The lines of the file: a word, and what stands after it."""
     with open(FILE, encoding='utf-8') as file:
         said = [line.rstrip('\n').partition(' ')[::2] for line in file if line.strip() and not line.startswith('#')]
     if not all(word in FAULTS or word in ('row', 'old') for word, _rest in said):

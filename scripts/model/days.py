@@ -17,14 +17,14 @@ SPOILED = 0.06              # an interchange of SPOILS
 MESSAGE_SPOILED = 0.06      # a message of MESSAGE_SPOILS
 MANY = 0.0004               # a message of 999 containers, or of one too many
 OTHER_SERVICE = 0.04        # other service characters, told by UNA
-BREAKS_WITHIN = 0.08        # a line break behind each segment
-WEIGHED = 0.35              # a MEA behind an EQD, whatever is ordered
+BREAKS_WITHIN = 0.08        # a line break after each segment
+WEIGHED = 0.35              # a MEA after an EQD, whatever is ordered
 WEIGHED_AGAIN = 0.25        # of these: another one
 WEIGHED_AT_FRONT = 0.05     # a MEA before the first EQD
 ASKED_AGAIN = 0.25          # of the slots that are named: the one that was named for that container before
 ON_TOP = 0.35               # of the others: the one above a slot that was named before, of whatever container
 NEWCOMER = 0.08             # of all deliveries, where a sender has no account yet: one of such a sender
-SENT_BEFORE = 0.5           # of what a sender sends behind its addition: what it sent under that number before
+SENT_BEFORE = 0.5           # of what a sender sends after its addition: what it sent under that number before
 
 # how many different containers a stream has, and of how many messages an interchange, of how many containers a message
 CONTAINERS = [(1, 5), (2, 14), (1, 30)]
@@ -163,7 +163,7 @@ class Day:
         return self.asked[number]
 
     def group(self, order, equipment):
-        """An EQD and what stands behind it, in any order."""
+        """An EQD and what stands after it, in any order."""
         number, behind = self.number(), []
         if order == 'Move' or self.happens(0.3):
             behind.append('LOC+ZZZ+' + self.slot_for(number))
@@ -218,7 +218,7 @@ class Day:
         return "%s'%sUNZ+%d+%s'" % (header, ''.join(messages), count, written)
 
     def written_otherwise(self, text):
-        """With a line break behind each segment, or under other service characters. (Where a release stands in a text,
+        """With a line break after each segment, or under other service characters. (Where a release stands in a text,
         it is left as it is.)"""
         if '?' in text:
             return text
@@ -296,7 +296,7 @@ class Day:
 
 def streamed(day, deliveries, share):
     """What is sent next, that many deliveries one after the other, the share of them with altered bytes, with line breaks
-    between, and seldom with something behind them that is no interchange."""
+    between, and seldom with something after them that is no interchange."""
     texts = []
     for _delivery in range(deliveries):
         text = day.delivery()

@@ -78,7 +78,7 @@ def too_long(text):
 
 
 def bad_service(text):
-    """UNA and what stands behind it."""
+    """UNA and what stands after it."""
     return 1, 0, min(9, len(text)), (
         'UNA and six bytes, of which the separators, the release character (or a space for none) and the terminator differ, '
         'and none is a letter, a digit, CR, LF or from 0x80')
@@ -93,7 +93,7 @@ def no_segment(text):
 
 
 def wanted(text, begin, at):
-    """What stands in the place of a byte: within a tag, behind it, or within elements."""
+    """What stands in the place of a byte: within a tag, after it, or within elements."""
     if at < begin + 3:
         return 'a tag: no space may stand between segments' if text[at] == ' ' else 'a tag of three capitals or digits'
     if at == begin + 3:
@@ -104,7 +104,7 @@ def wanted(text, begin, at):
 
 
 def ended(text):
-    """The segment that the end cuts off, or the last one where it stands behind a terminator."""
+    """The segment that the end cuts off, or the last one where it stands after a terminator."""
     spans = spans_of(text) if service_of(text) else []
     begin, _at = misfit_in(text) if service_of(text) else (0, None)
     if begin < len(text):

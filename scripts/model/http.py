@@ -202,7 +202,7 @@ def values_of(head, name):
 
 
 def body_of(head, request):
-    """As many bytes behind the head as it says. What stands behind them has no effect."""
+    """As many bytes after the head as it says. What stands after them has no effect."""
     lengths = values_of(head, 'content-length')
     if values_of(head, 'transfer-encoding') or not lengths:
         raise Refusal(411, 'length')

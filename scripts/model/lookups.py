@@ -30,7 +30,7 @@ def own_visits(office):
 
 
 def with_archives(office, lines):
-    """Lines on what the store has, and behind them how many archives were not asked; None, if there is nothing to tell."""
+    """Lines on what the store has, and after them how many archives were not asked; None, if there is nothing to tell."""
     count = len(office.register.archives)
     return text_of(lines + ['ARCHIVES %d' % count] * (count > 0)) or None
 

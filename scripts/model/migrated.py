@@ -33,8 +33,8 @@ OLD_VERSIONS = (1, 2)
 # bytes of a log before its first page: its own head, and the page's
 LOG_HEAD, PAGE_HEAD = 32, 24
 
-# lists that are played by old rules, deliveries before the migration and behind it, texts of old times that come again, and
-# requests behind them
+# lists that are played by old rules, deliveries before the migration and after it, texts of old times that come again, and
+# requests after them
 LISTS = 16
 BEFORE, BEHIND = 24, 12
 AGAIN = 8
@@ -46,7 +46,7 @@ GAP = 1000
 
 
 def pages_logged(log):
-    """A log that holds a whole page, which stands behind its own head and that of the log; else nothing."""
+    """A log that holds a whole page, which stands after its own head and that of the log; else nothing."""
     return log if len(log) >= LOG_HEAD + PAGE_HEAD + int.from_bytes(log[8:12], 'big') else b''
 
 
@@ -64,7 +64,7 @@ def contents(path):
 # ---- the program's own stores of version 1
 
 def unpacked(path, folder):
-    """The files of a real store; gives the office that the model makes of them, and the day that goes on behind them."""
+    """The files of a real store; gives the office that the model makes of them, and the day that goes on after them."""
     with tarfile.open(path) as archive:
         archive.extractall(folder)
 
@@ -128,7 +128,7 @@ def goes_over(beside, name, program, old, office):
 
 def goes_on(beside, name, program, office, day, is_reordered=False):
     """All reports; texts of old times again, those that were refused and those that wait among them; more deliveries,
-    requests, and the rows behind them. The texts as they came, unless the old store had another order: then no request
+    requests, and the rows after them. The texts as they came, unless the old store had another order: then no request
     asks for them."""
     chance = random.Random('migrated %s' % name)
     if not is_reordered:

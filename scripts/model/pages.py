@@ -264,7 +264,7 @@ def told(what, right=None):
 
 
 def typed(value):
-    """What a person typed, from the bytes behind `container=`: ('number', BOX), ('form', None), or
+    """What a person typed, from the bytes after `container=`: ('number', BOX), ('form', None), or
     ('check digit', the number with the right one)."""
     decoded = unquote_to_bytes(value)
     text = ''.join(chr(c) for c in decoded if c not in b' +-')

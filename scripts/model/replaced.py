@@ -39,7 +39,7 @@ STREAMS = {
 
 
 def try_all(beside):
-    """Each stream over a store of its own, with its rows and the list behind it."""
+    """Each stream over a store of its own, with its rows and the list after it."""
     for name, texts in STREAMS.items():
         name, office = 'a full list replaced ' + name, Office(SETUP, keeps_fold=True)
         with tempfile.TemporaryDirectory(prefix='beside-') as folder:

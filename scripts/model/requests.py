@@ -32,7 +32,7 @@ PAGES = [
     '/pages/x', '/pagesyard', '/pages/pages/yard', '/pages//yard', '/Pages/yard', '/pages/Yard', '/%70ages/yard',
     '/pages/f%69nd', '/pages/%79ard', '//pages/yard', '/pages/visits', '/pages/visits/', '/pages/containers/A/B',
     '/page/yard', '/pages/work/9123456/V12', '/pages/contrls/HAULA', '/pages/calls/', '//']
-# what stands in an address behind `/pages/find`, with a number that was typed
+# what stands in an address after `/pages/find`, with a number that was typed
 FORMS = [
     (24, '?container=%s'), (1, '?container=%s&x=1'), (1, '?container=%s&container=ABCU0000022'), (1, '?container=%s?'),
     (1, '?Container=%s'), (1, '?x=1&container=%s'), (1, '?container%s'), (1, '??container=%s'), (1, '?containers=%s'),

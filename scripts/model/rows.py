@@ -28,7 +28,7 @@ COLUMNS = {
 # those of the register beside a store
 REGISTER_COLUMNS = {'archive': 'place file visits', 'segment': 'partner archive last', 'closed_for': 'file'}
 REGISTER = '-archives'
-# what stands behind the path of a store in the names of its files
+# what stands after the path of a store in the names of its files
 ENDS = ('', '-wal', REGISTER, REGISTER + '-wal')
 VERSION = str(NEWEST)
 OLD_VERSIONS = {str(version) for version in RULES} - {VERSION}
@@ -168,7 +168,7 @@ def registered_in(path):
 
 
 def standing_in(path):
-    """The interchanges of a store as they stand, each behind its rowid."""
+    """The interchanges of a store as they stand, each after its rowid."""
     with copied(path) as store:
         return store.execute('SELECT rowid, * FROM interchange ORDER BY rowid').fetchall()
 

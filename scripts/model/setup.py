@@ -40,7 +40,7 @@ DEMO = Setup(
 
 
 def with_accounts(count):
-    """The demonstration's set-up with so many accounts, those behind its own being P6, P7 and so on, of hauliers."""
+    """The demonstration's set-up with so many accounts, those after its own being P6, P7 and so on, of hauliers."""
     more = {'P%d' % place: 'gate' for place in range(len(DEMO.partners) + 1, count + 1)}
     return DEMO._replace(partners=dict(DEMO.partners, **more))
 

@@ -1,4 +1,4 @@
-"""What docs/PROFILE.md and docs/SURPRISES.md show: interchanges, the answers below them, and the reports behind them, by the
+"""What docs/PROFILE.md and docs/SURPRISES.md show: interchanges, the answers below them, and the reports after them, by the
 model and by the program. What stands below one heading begins with nothing delivered.
 """
 import os
@@ -51,7 +51,7 @@ def shown_parts(path, text):
 
 
 def differing(name, steps, deliver, tell):
-    """What is said where a delivery is answered by another line than stands behind it, or a report tells something else."""
+    """What is said where a delivery is answered by another line than stands after it, or a report tells something else."""
     given, said = [], []
     for step in steps:
         if isinstance(step, Sent):

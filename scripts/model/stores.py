@@ -253,7 +253,7 @@ def try_setups(beside):
 
 def try_list(beside, seed, requests):
     """Deliveries in one to three calls over a store of a random set-up, with additions between them, with all reports and
-    rows behind them, and then requests by HTTP, with the rows again."""
+    rows after them, and then requests by HTTP, with the rows again."""
     name, chance = 'list %d' % seed, random.Random('list %d' % seed)
     files = Files(seed).both()
     if read_setup(*files)[1] or seed % 8 == 0:

@@ -40,7 +40,7 @@ class Ended(Exception):
 # ---- service characters
 
 def service_of(text):
-    """The service characters of a text: the defaults, or those that UNA names in the six bytes behind it (ISO 9735,
+    """The service characters of a text: the defaults, or those that UNA names in the six bytes after it (ISO 9735,
     service string advice). Third byte and fifth, decimal mark and reserved, are not looked at (own). None where
     the six bytes are cut short or may not be service characters."""
     if not text.startswith('UNA'):
@@ -67,14 +67,14 @@ def may_be_data(character):
 # ---- segments
 
 def past_breaks(text, place):
-    """The place behind the CR and LF that stand at a place, if any."""
+    """The place after the CR and LF that stand at a place, if any."""
     while place < len(text) and text[place] in BREAKS:
         place += 1
     return place
 
 
 def place_of_segments(text):
-    """Where segments begin: behind UNA, its six bytes and any CR and LF, or at the front."""
+    """Where segments begin: after UNA, its six bytes and any CR and LF, or at the front."""
     return past_breaks(text, 9) if text.startswith('UNA') else 0
 
 
@@ -89,7 +89,7 @@ def read_tag(text, place):
 
 
 def read_character(text, place, service):
-    """What stands at a place, and the place behind it: ('data', the character) for one that is ordinary or released,
+    """What stands at a place, and the place after it: ('data', the character) for one that is ordinary or released,
     else the name of the service character. The release may stand before any byte that may stand in data, and before
     a service character (own)."""
     if place >= len(text):
@@ -111,7 +111,7 @@ def read_character(text, place, service):
 
 
 def read_segment(text, place, service):
-    """The segment at a place, and the place behind its terminator: a tag, then elements, each behind an element
+    """The segment at a place, and the place after its terminator: a tag, then elements, each after an element
     separator, then the terminator. Component separators part the components of an element (ISO 9735, segments)."""
     tag = read_tag(text, place)
     place += 3
@@ -132,7 +132,7 @@ def read_segment(text, place, service):
 @lru_cache(maxsize=20000)
 def segments_of(text):
     """All segments of a text whose service characters are in order, or None where it is no list of segments. CR and
-    LF may stand behind a terminator. (What was read is remembered: it depends on the text alone.)"""
+    LF may stand after a terminator. (What was read is remembered: it depends on the text alone.)"""
     service, segments = service_of(text), []
     place = place_of_segments(text)
     try:

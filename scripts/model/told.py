@@ -103,7 +103,7 @@ def from_whom(text, answer):
 
 
 def words_of(office, event):
-    """What stands behind a request's line, of the event that it brings."""
+    """What stands after a request's line, of the event that it brings."""
     if not isinstance(event, Delivered):
         answer = office.add_account(*event)
         fault = ' ' + answer['fault'] if 'fault' in answer else ''

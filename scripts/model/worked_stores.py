@@ -46,10 +46,10 @@ class Store(tempfile.TemporaryDirectory):
         return self
 
 
-# ---- what stands behind deliveries
+# ---- what stands after deliveries
 
 def told_in(page, row):
-    """What a row asks for behind its deliveries: a word, its key, whether it is a report or a table, and the lines."""
+    """What a row asks for after its deliveries: a word, its key, whether it is a report or a table, and the lines."""
     blocks = re.findall(
         r'^`(\w+)(?: ([^`]*))?` (reports|holds)\n\n((?:    .*\n|\n(?=    ))+)', page.rows[row], re.M)
     return [(word, key, what, re.sub(r'^    ', '', block, flags=re.M)) for word, key, what, block in blocks]
@@ -186,7 +186,7 @@ def old_commands(rows):
 
 
 def old_stores(rows):
-    """What was delivered to a store of an old version, and behind its migration."""
+    """What was delivered to a store of an old version, and after its migration."""
     for row in OLD_ROWS:
         table = [(int(version), rows.page.interchange(short), cell) for version, short, cell in rows.page.table(row)]
         office, before = Office(version=table[0][0]), [line for line in table if line[0] != NEWEST]
@@ -279,7 +279,7 @@ def requests(rows):
 
 
 def requests_of_row(rows, row, every, ahead=None):
-    """Requests one after the other, behind some to which nothing is held but the model; and what they leave in a store."""
+    """Requests one after the other, after some to which nothing is held but the model; and what they leave in a store."""
     office = Office(rows.setup(row))
     every = every + [request_of(rows.page, cells[0]) for cells in rows.page.table(row)]
     given = [response(office, request, ahead) for request in every]
