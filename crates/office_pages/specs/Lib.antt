@@ -4,7 +4,6 @@ pub mod Fixed
 pub mod Laws
 pub mod Links
 pub mod Meanings
-pub mod Meant
 pub mod Pages
 pub mod Titles
 pub mod Typed

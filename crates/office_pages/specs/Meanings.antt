@@ -2,6 +2,7 @@
 use Rattle.std.specs.Prelude.{ℕ, Bool, ◌||◌, List, [], ◌∷◌, ◌++◌, codes, nat_eq, if◌then◌else◌}
 use Rattle.std.specs.List.{flat_map, starts_with}
 use Rattle.office_picture.specs.Fields.{field_text}
+use Rattle.office_pages.specs.declared.meanings.Meaning.{Meaning}
 
 -- ---- the names, and the sentences of docs/PROFILE.md without their marks
 
@@ -11,6 +12,10 @@ pub record Meant : Type 0 where
 
 abbrev pub means : List ℕ → List ℕ → Meant
 means name sentence = record { name = name; sentence = sentence }
+
+-- a name and its meaning as the code has them
+abbrev pub meant : Meaning → Meant
+meant what = record { name = what.0.now; sentence = what.1.now }
 
 -- the faults of a message
 unfoldable pub message_faults : List Meant

@@ -3,12 +3,10 @@ ghost use Rattle.std.specs.List.{join_by, list_all};
 ghost use Rattle.std.specs.Prelude.{◌≡◌, ◌++◌, OnOk, codes, string_bytes};
 ghost use Rattle.office_picture.specs.Fields.{field_text};
 ghost use Rattle.office_picture.specs.Markup.{is_plain};
-ghost use Rattle.office_pages.specs.Pages.{body_bytes, gap, line_view, link, linked, named_view, word_view};
+ghost use Rattle.office_pages.specs.Pages.{body_bytes, gap, line_view, link, named_view, word_view};
 ghost use Rattle.office_pages.specs.Words.{texts_of, words};
 
-use crate::addresses::push_part;
-use crate::links::{leads_by_place, link_at};
-use crate::words::{word_at, words_of};
+use crate::links::{leads_by_place, link_at, push_part, word_at, words_of};
 use box6346::BoxNumber;
 use office_picture::field_text;
 use office_queries::Query;

@@ -1,22 +1,15 @@
 //! Pages of HTML that show the texts of reports.
 #![tactic(auto)]
 
-mod addresses;
-mod below;
-mod beside;
 mod body;
-mod drawn;
-mod fixed;
 pub mod laws;
+mod layout;
 mod links;
 mod meanings;
 mod notices;
 mod pages;
-mod titles;
-mod typed;
-mod words;
+mod related;
 
-pub use below::second_of;
-pub use notices::{Notice, notice_page};
+pub use notices::{Notice, notice_page, typed_number};
 pub use pages::{has_page, page, start_page};
-pub use typed::typed_number;
+pub use related::second_of;

@@ -1,13 +1,13 @@
-//! Which words of a report lead where.
+//! The words of a report, which of them lead where, and where pages are.
 ghost use Rattle.std.specs.Option.{option_map};
-ghost use Rattle.std.specs.Prelude.{◌≡◌, ◌≤◌, IfOk, string_bytes};
+ghost use Rattle.std.specs.Prelude.{◌≡◌, ◌≤◌, ◌++◌, IfOk, OnOk, string_bytes};
+ghost use Rattle.office_pages.specs.Addresses.{address_of_one, address_of_two, list_address, part, side_path, work_address};
 ghost use Rattle.office_pages.specs.Links.{block_link, call_link, container_link, is_number, is_way_at, leads_by_place, link_at, number_link, open_line_link, partner_link, passage_link, place_link, side_named, ticket_link, work_link};
-ghost use Rattle.office_pages.specs.Words.{texts_of};
+ghost use Rattle.office_pages.specs.Words.{is_at, texts_of, word_at, words};
 
-use crate::addresses::{address_of_one, address_of_two, work_address};
-use crate::words::{is_at, word_at};
 use box6346::BoxNumber;
 use office_queries::{Query, number_of};
+use percent_encoding::{NON_ALPHANUMERIC, percent_encode};
 use std::alloc::{AllocError, Global};
 use terminal_core::Side;
 
@@ -205,4 +205,99 @@ fn block_link(alloc: Global, words: &[&str], place: usize) -> Result<Option<Stri
     } else {
         Ok(None)
     }
+}
+
+/// Appends a part of a path: letters and digits stand for themselves, another byte is written as `%` and two digits.
+pub(crate) fn push_part(text: &mut String, bytes: &[u8]) -> Result<(), AllocError>
+    ensures { OnOk result (string_bytes text.new ≡ string_bytes text.old ++ part bytes.now) }
+{
+    percent_encode(bytes, NON_ALPHANUMERIC).append_to(text)
+}
+
+/// A page with a key of one part.
+pub(crate) fn address_of_one(alloc: Global, route: &str, name: &[u8]) -> Result<String, AllocError>
+    ensures { IfOk result (λ address. string_bytes address ≡ address_of_one route.now name.now) }
+{
+    let mut address = String::new(alloc);
+    address.push_str(route)?;
+    push_part(&mut address, name)?;
+    Ok(address)
+}
+
+/// A page with a key of two parts.
+pub(crate) fn address_of_two(
+    alloc: Global,
+    route: &str,
+    name: &[u8],
+    other: &[u8],
+) -> Result<String, AllocError>
+    ensures { IfOk result (λ address. string_bytes address ≡ address_of_two route.now name.now other.now) }
+{
+    let mut address = String::new(alloc);
+    address.push_str(route)?;
+    push_part(&mut address, name)?;
+    address.push_str("/")?;
+    push_part(&mut address, other)?;
+    Ok(address)
+}
+
+/// The list of a call on one side.
+pub(crate) fn list_address(
+    alloc: Global,
+    vessel: &[u8],
+    voyage: &[u8],
+    side: Side,
+) -> Result<String, AllocError>
+    ensures { IfOk result (λ address. string_bytes address ≡ list_address vessel.now voyage.now side) }
+{
+    let mut address = address_of_two(alloc, "/pages/lists/", vessel, voyage)?;
+    address.push_str(side_path(side))?;
+    Ok(address)
+}
+
+/// What is left to do of it.
+pub(crate) fn work_address(
+    alloc: Global,
+    vessel: &[u8],
+    voyage: &[u8],
+    side: Side,
+) -> Result<String, AllocError>
+    ensures { IfOk result (λ address. string_bytes address ≡ work_address vessel.now voyage.now side) }
+{
+    let mut address = address_of_two(alloc, "/pages/work/", vessel, voyage)?;
+    address.push_str(side_path(side))?;
+    Ok(address)
+}
+
+fn side_path(side: Side) -> &'static str
+    ensures { result.now ≡ side_path side }
+{
+    match side {
+        Side::Load => "/load",
+        Side::Discharge => "/discharge",
+    }
+}
+
+/// The words of a line, which stand between spaces.
+pub(crate) fn words_of<'a>(alloc: Global, line: &'a str) -> Result<Vec<&'a str>, AllocError>
+    ensures { IfOk result (λ found. texts_of found.items ≡ words line.now) }
+{
+    line.split(' ').collect(alloc)
+}
+
+/// The word at a place, counted from 0; an empty one after the last.
+pub(crate) fn word_at<'a>(words: &[&'a str], place: usize) -> &'a str
+    ensures { result.now ≡ word_at (texts_of words.now) place }
+{
+    match words.get(place) {
+        Some(word) => *word,
+        None => "",
+    }
+}
+
+/// Whether that word stands there.
+pub(crate) fn is_at(words: &[&str], place: usize, word: &str) -> bool
+    ensures { result ≡ is_at (texts_of words.now) place word.now }
+{
+    word_at(words, place) == word
 }

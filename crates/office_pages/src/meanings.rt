@@ -1,10 +1,8 @@
 //! What the names in a reply mean.
 ghost use Rattle.std.specs.List.{flat_map};
 ghost use Rattle.std.specs.Prelude.{◌≡◌, ◌++◌, IfOk, OnOk, map, string_bytes};
-ghost use Rattle.office_pages.specs.Meanings.{mark, meaning_entry, meaning_view, meanings_view, message_faults, reasons, stands_in};
-ghost use Rattle.office_pages.specs.Meant.{meant};
+ghost use Rattle.office_pages.specs.Meanings.{framed, mark, meaning_entry, meaning_view, meanings_view, meant, message_faults, reasons, stands_in};
 
-use crate::below::push_framed;
 use crate::body::push_text;
 use std::alloc::{AllocError, Global};
 
@@ -174,4 +172,21 @@ fn push_entry(alloc: Global, entries: &mut String, meaning: &Meaning) -> Result<
     entries.push_str("</dt>\n<dd>")?;
     push_text(alloc, entries, meaning.1)?;
     entries.push_str("</dd>\n")
+}
+
+/// Appends entries between their tags; nothing without an entry.
+pub(crate) fn push_framed(
+    page: &mut String,
+    front: &str,
+    entries: &str,
+    back: &str,
+) -> Result<(), AllocError>
+    ensures { OnOk result (string_bytes page.new ≡ string_bytes page.old ++ framed front.now entries.now back.now) }
+{
+    if entries.is_empty() {
+        return Ok(());
+    }
+    page.push_str(front)?;
+    page.push_str(entries)?;
+    page.push_str(back)
 }

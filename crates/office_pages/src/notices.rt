@@ -1,12 +1,16 @@
-ghost use Rattle.std.specs.Prelude.{◌≡◌, ◌++◌, IfOk, OnOk, string_bytes};
+//! What a person types for a container's number, and what a page tells in place of a report.
+ghost use Rattle.std.specs.Prelude.{◌≡◌, ◌++◌, IfOk, IsTrue, OnOk, string_bytes};
+ghost use Rattle.box6346.specs.ContainerNumber.{number_of};
+ghost use Rattle.box6346.specs.NumberText.{has_form};
 ghost use Rattle.office_pages.specs.Pages.{notice_bytes, notice_view};
+ghost use Rattle.office_pages.specs.Titles.{notice_title};
+ghost use Rattle.office_pages.specs.Typed.{corrected, is_left_out, number_in, typed, typed_text, with_check_digit};
 
-use crate::addresses::address_of_one;
 use crate::body::push_number_link;
-use crate::fixed::foot;
-use crate::pages::push_head;
-use crate::titles::notice_title;
-use box6346::BoxNumber;
+use crate::layout::{foot, push_head};
+use crate::links::address_of_one;
+use box6346::{BoxNumber, NumberFault, check_digit};
+use percent_encoding::percent_decode;
 use std::alloc::{AllocError, Global};
 
 /// What a page tells in place of a report.
@@ -48,5 +52,78 @@ fn push_notice(alloc: Global, page: &mut String, notice: &Notice) -> Result<(), 
             push_number_link(alloc, page, address.as_str(), &number.text())?;
             page.push_str(".")
         }
+    }
+}
+
+/// The title of what is reported in place of a report.
+fn notice_title(notice: &Notice) -> &'static str
+    ensures { result.now ≡ notice_title notice.now }
+{
+    match notice {
+        Notice::NotHere => "Not here",
+        Notice::Form => "No container number",
+        Notice::CheckDigit(_) => "Another check digit",
+    }
+}
+
+/// The container number that a person typed, from the value as it stands in the address after `?container=`: `%` and
+/// two hexadecimal digits stand for a byte, and another `%` for itself. Small letters stand for capitals; spaces, also
+/// as `+`, and hyphens are left out. Else the notice that tells what is wrong: another form, or another check digit,
+/// and then the number with the right one.
+pub fn typed_number(alloc: Global, value: &[u8]) -> Result<Result<BoxNumber, Notice>, AllocError>
+    ensures { IfOk result (λ found. found ≡ typed value.now) }
+{
+    let text = typed_text(alloc, value)?;
+    Ok(number_in(text.as_slice()))
+}
+
+/// The characters that count, as capitals.
+fn typed_text(alloc: Global, value: &[u8]) -> Result<Vec<u8>, AllocError>
+    ensures { IfOk result (λ text. text.items ≡ typed_text value.now) }
+{
+    let mut decoded = Vec::new(alloc);
+    percent_decode(value).append_to(&mut decoded)?;
+    decoded
+        .iter()
+        .copied()
+        .filter(|c| !is_left_out(*c))
+        .map(|c| c.to_ascii_uppercase())
+        .collect(alloc)
+}
+
+/// A space, also as a form writes it, and a hyphen.
+fn is_left_out(character: u8) -> bool
+    ensures { result ≡ is_left_out character }
+{
+    character == b' ' || character == b'+' || character == b'-'
+}
+
+fn number_in(text: &[u8]) -> Result<BoxNumber, Notice>
+    ensures { result ≡ number_in text.now (number_of text.now) }
+{
+    match BoxNumber::parse(text) {
+        Ok(number) => Ok(number),
+        Err(NumberFault::Form) => Err(Notice::Form),
+        Err(NumberFault::CheckDigit) => corrected(text),
+    }
+}
+
+/// The number with the right check digit, of a text that has the form of one.
+fn corrected(text: &[u8]) -> Result<BoxNumber, Notice>
+    requires { IsTrue (has_form text.now) }
+    ensures { result ≡ corrected (number_of (with_check_digit text.now)) }
+{
+    let Some(front) = text.first_chunk::<10>() else {
+        return Err(Notice::Form);
+    };
+    let Some(digit) = check_digit(front) else {
+        return Err(Notice::Form);
+    };
+    let mut number = [0; 11];
+    number.copy_from_slice(text);
+    number[10] = b'0' + digit;
+    match BoxNumber::parse(&number) {
+        Ok(number) => Err(Notice::CheckDigit(number)),
+        Err(_) => Err(Notice::Form),
     }
 }

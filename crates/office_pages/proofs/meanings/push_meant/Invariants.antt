@@ -1,6 +1,5 @@
 use Rattle.std.proofs.Common.{◌≡◌, ◌++◌, drop, flat_map, map, string_bytes}
-use Rattle.office_pages.specs.Meanings.{meaning_view}
-use Rattle.office_pages.specs.Meant.{meant}
+use Rattle.office_pages.specs.Meanings.{meaning_view, meant}
 use Rattle.office_pages.proofs.meanings.push_meant.Given as goal
 
 abbrev pub invariant-loop-meaning : goal.invariant-loop-meaning

@@ -1,7 +1,14 @@
-use Rattle.std.proofs.Common.{option_map, ◌∙◌}
+use Rattle.std.proofs.Common.{◌≡◌, ◌≢◌, ℕ, List, Option, option_map, refl, ◌∙◌}
 use Rattle.std.proofs.lemmas.Result.{IfOk-weaker}
-use Rattle.office_pages.proofs.TextPages.{text_shown}
+use Rattle.office_queries.specs.declared.query.Query.{Query}
+use Rattle.office_queries.specs.declared.query.Query.TheVariants as query
+use Rattle.office_pages.specs.Pages.{page_bytes, text_page}
 use Rattle.office_pages.proofs.pages.page.Goals as goal
+
+-- the page of a report that is no picture shows its text
+text_shown : (asked : Query) (text : List ℕ) (second : Option (List ℕ)) → asked ≢ query.Picture → text_page asked text second ≡ page_bytes asked text second
+text_shown query.Picture text second other = absurd (other refl)
+text_shown asked text second other = refl
 
 pub returns-in_default : goal.returns-in_default
 returns-in_default c =
