@@ -16,9 +16,9 @@ use Rattle.office_delivery.proofs.ReadLemmas.{none_kept, one_kept, no_text, text
 use Rattle.office_closing.specs.declared.faults.File.{File}
 use Rattle.office_closing.specs.declared.faults.File.TheVariants as file
 use Rattle.office_closing.specs.declared.faults.FileFault.{FileFault}
-use Rattle.office_closing.specs.declared.numbers.Numbers.{Numbers}
+use Rattle.office_closing.specs.declared.comparing.Numbers.{Numbers}
 use Rattle.office_closing.specs.Comparing.{kept_text, kept_reply, IsSameKept, IsToldAlike, IsComparedAs, HasUnfitAmong, IsOfEither, IsOfFile}
-use Rattle.office_closing.specs.Numbers.{is_of, is_among}
+use Rattle.office_closing.specs.Deleting.{is_of, is_among}
 
 -- ---- one number
 

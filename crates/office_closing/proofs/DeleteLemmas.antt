@@ -25,8 +25,7 @@ use Rattle.office_rows.proofs.TableLemmas.{only_interchanges, only_visits}
 use Rattle.office_rows.proofs.WriteLemmas.{rows_of, deletes, equal_numbers}
 use Rattle.office_rows.proofs.Writing.{equals}
 use Rattle.office_tables.specs.declared.table_fault.TableFault.{TableFault}
-use Rattle.office_closing.specs.Deleting.{Becomes, Deletes}
-use Rattle.office_closing.specs.Effects.{without_interchange, without_visits}
+use Rattle.office_closing.specs.Deleting.{Becomes, Deletes, without_interchange, without_visits}
 
 abbrev pub delete_interchange : List ℕ
 delete_interchange = codes "DELETE FROM interchange WHERE partner = ?1 AND number = ?2"

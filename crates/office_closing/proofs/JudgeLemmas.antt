@@ -8,11 +8,11 @@ use Rattle.office_register.specs.declared.register.Segment.{Segment}
 use Rattle.office_register.specs.Changes.{closed_with, unmarked}
 use Rattle.office_register.specs.Register.{ArchiveContent, RegisterContent, last_closed}
 use Rattle.office_register.specs.Sound.{IsSound, is_sound}
-use Rattle.office_closing.specs.declared.numbers.Numbers.{Numbers}
+use Rattle.office_closing.specs.declared.comparing.Numbers.{Numbers}
 use Rattle.office_closing.specs.declared.planning.Plan.{Plan}
 use Rattle.office_closing.specs.declared.planning.Stage.{Stage}
 use Rattle.office_closing.specs.declared.planning.Stage.TheVariants as stage
-use Rattle.office_closing.specs.Numbers.{is_among}
+use Rattle.office_closing.specs.Deleting.{is_among}
 use Rattle.office_closing.specs.Closes.{AreHeld, Closing, Held, IsBelowNext, IsClosing, closed_after, closed_before, closing_content, raised_register}
 use Rattle.office_closing.specs.Comparing.{IsComparedAs}
 use Rattle.office_closing.specs.Copies.{FileNames, HasCome, IsOpened, OfficeContent, archive_in, numbers_of, raised_by, segments_of}

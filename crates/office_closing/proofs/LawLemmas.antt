@@ -1,11 +1,10 @@
 -- The laws of a closing.
 use Rattle.std.proofs.Common.{◌≡◌, inl, inr, ℕ, suc, ◌+◌, ◌<◌, ◌≤◌, ◌==◌, ◌||◌, List, [], ◌∷◌, Bool, true, false, cond, not, filter, get_or, length, refl, sym, ap, ap₂, subst, ◌∙◌, arith}
-use Rattle.std.specs.Prelude.{Contains, None, is_some, nat_le, All}
+use Rattle.std.specs.Prelude.{Contains, None, is_some, nat_le, All, slice_get}
 use Rattle.std.specs.List.{AllByRecursion, list_any}
 use Rattle.std.proofs.lemmas.Bool.{cases_Bool, eqb-true, le-leb, leb-true}
 use Rattle.std.proofs.lemmas.List.{get_or_default}
 use Rattle.std.proofs.lemmas.List.Elements.{filter_passes, recursion_from_All}
-use Rattle.std.specs.Prelude.{slice_get}
 use Rattle.std.proofs.lemmas.Bool.Decides.{nat_tests}
 use Rattle.std.proofs.lemmas.Option.{same_Some}
 use Rattle.terminal_core.specs.Rows.{VisitContent}
@@ -21,12 +20,11 @@ use Rattle.office_parts.specs.OwnTerminal.{own_visits, IsOverOrStays, MayStay}
 use Rattle.office_parts.specs.Parts.{Archived, ArePartsAfter}
 use Rattle.office_parts.proofs.LeftOver.{may_go}
 use Rattle.office_parts.proofs.Opening.{own_beyond}
-use Rattle.office_closing.specs.declared.numbers.Numbers.{Numbers}
+use Rattle.office_closing.specs.declared.comparing.Numbers.{Numbers}
 use Rattle.office_closing.specs.Clearing.{IsWithoutSome}
 use Rattle.office_closing.specs.Comparing.{IsComparedAs}
-use Rattle.office_closing.specs.Effects.{all_but, without_visits}
+use Rattle.office_closing.specs.Deleting.{all_but, without_visits, is_among, goes}
 use Rattle.office_closing.specs.Laws.{Raises, ComparedIsHeld, ClearingLeavesTheRest, ClearedIsCarried}
-use Rattle.office_closing.specs.Numbers.{is_among, goes}
 use Rattle.office_closing.specs.Visits.{AreToGo, GoesBelow}
 
 -- ---- visits

@@ -6,8 +6,7 @@ use Rattle.office_tables.specs.declared.table_fault.TableFault.{TableFault}
 use Rattle.office_parts.specs.LeftOver.{rows_without}
 use Rattle.office_closing.specs.Clearing.{Clears, IsWithoutSome, IsWithoutSomeVisits}
 use Rattle.office_closing.specs.Closes.{Closing, IsLeft, cleared}
-use Rattle.office_closing.specs.Effects.{all_but, with_visits_that, without_visits}
-use Rattle.office_closing.specs.Numbers.{goes}
+use Rattle.office_closing.specs.Deleting.{all_but, with_visits_that, without_visits, goes}
 use Rattle.office_closing.proofs.ClearLemmas.{clears_failed, clears_then, clears_weaker}
 use Rattle.office_closing.proofs.NumberLemmas.{and_both, deleted_none, deleted_twice, or_parts, whole_is_some, with_all, with_both}
 

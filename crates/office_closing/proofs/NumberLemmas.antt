@@ -10,10 +10,9 @@ use Rattle.office_rows.specs.Effects.{is_pair}
 use Rattle.office_rows.specs.Rows.{Interchange, Rows}
 use Rattle.office_parts.specs.LeftOver.{rows_without}
 use Rattle.office_parts.specs.OwnTerminal.{own_visits, is_own}
-use Rattle.office_closing.specs.declared.numbers.Numbers.{Numbers}
+use Rattle.office_closing.specs.declared.comparing.Numbers.{Numbers}
 use Rattle.office_closing.specs.Clearing.{IsWithoutSome, IsWithoutSomeVisits}
-use Rattle.office_closing.specs.Effects.{with_visits_that, all_but, without_visits}
-use Rattle.office_closing.specs.Numbers.{is_of, is_among, goes}
+use Rattle.office_closing.specs.Deleting.{with_visits_that, all_but, without_visits, is_of, is_among, goes}
 
 filter_twice : {A : Type 0} (p q : A → Bool) (xs : List A) → filter q (filter p xs) ≡ filter (λ x. p x && q x) xs
 filter_twice p q [] = refl

@@ -9,10 +9,10 @@ use Rattle.office_history.proofs.Shown.{head_in, tail_in}
 use Rattle.office_register.specs.declared.register.Segment.{Segment}
 use Rattle.office_register.specs.Register as register
 use Rattle.office_register.specs.Register.{last_closed}
-use Rattle.office_closing.specs.declared.numbers.Numbers.{Numbers}
+use Rattle.office_closing.specs.declared.comparing.Numbers.{Numbers}
 use Rattle.office_closing.specs.Copies.{AreAtMost, closes_some, numbers_from, segment_of, segments_of}
 use Rattle.office_closing.specs.Laws.{Raises}
-use Rattle.office_closing.specs.Numbers.{is_of, is_among}
+use Rattle.office_closing.specs.Deleting.{is_of, is_among}
 
 -- ---- the greater of two
 

@@ -8,7 +8,7 @@ use Rattle.office_tables.specs.Faults.{IsOfStore}
 use Rattle.office_tables.specs.declared.table_fault.TableFault.{TableFault}
 use Rattle.office_parts.specs.LeftOver.{rows_without}
 use Rattle.office_delivery.specs.Writing.{EndsIdle}
-use Rattle.office_closing.specs.Effects.{with_visits_that}
+use Rattle.office_closing.specs.Deleting.{with_visits_that}
 
 -- ---- what may be left
 

@@ -22,13 +22,12 @@ use Rattle.office_register.specs.Stored.{HasRegister, StoresRegister}
 use Rattle.office_register.specs.Transactions.{IsSettled}
 use Rattle.office_closing.specs.declared.faults.CloseFault.{CloseFault}
 use Rattle.office_closing.specs.declared.faults.CloseFault.TheVariants as fault
-use Rattle.office_closing.specs.declared.numbers.Numbers.{Numbers}
+use Rattle.office_closing.specs.declared.comparing.Numbers.{Numbers}
 use Rattle.office_closing.specs.declared.planning.Plan.{Plan}
 use Rattle.office_closing.specs.Copies.{FileNames}
-use Rattle.office_closing.specs.Effects.{all_but, with_visits_that, without_visits}
+use Rattle.office_closing.specs.Deleting.{all_but, with_visits_that, without_visits, goes}
 use Rattle.office_closing.specs.Files.{Files, AreClean, AreIdle, AreRead, IsRead}
 use Rattle.office_closing.specs.Laws.{Raises}
-use Rattle.office_closing.specs.Numbers.{goes}
 use Rattle.office_closing.specs.Refusing.{Tells}
 
 -- ---- what the files hold before

@@ -8,12 +8,12 @@ use Rattle.office_tables.specs.Answers.{HasUnfitReply}
 use Rattle.office_tables.specs.Faults.{IsOfStoreOr}
 use Rattle.office_tables.specs.declared.interchanges.Kept.{Kept}
 use Rattle.office_tables.specs.declared.table_fault.TableFault.{TableFault}
-use Rattle.office_closing.specs.Numbers.{is_among}
+use Rattle.office_closing.specs.Deleting.{is_among}
 use Rattle.office_closing.specs.declared.comparing.Difference.{Difference}
 use Rattle.office_closing.specs.declared.faults.File.{File}
 use Rattle.office_closing.specs.declared.faults.File.TheVariants as file
 use Rattle.office_closing.specs.declared.faults.FileFault.{FileFault}
-use Rattle.office_closing.specs.declared.numbers.Numbers.{Numbers}
+use Rattle.office_closing.specs.declared.comparing.Numbers.{Numbers}
 
 -- ---- what is kept
 

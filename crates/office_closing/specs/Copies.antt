@@ -16,8 +16,8 @@ use Rattle.office_register.specs.Sound.{is_sound, is_file_name, IsSound}
 use Rattle.office_register.specs.Stored.{HasRegister}
 use Rattle.office_closing.specs.declared.faults.Refusal.{Refusal}
 use Rattle.office_closing.specs.declared.faults.Refusal.TheVariants as refusal
-use Rattle.office_closing.specs.declared.numbers.Numbers.{Numbers}
-use Rattle.office_closing.specs.declared.opening.Opened.{Opened}
+use Rattle.office_closing.specs.declared.comparing.Numbers.{Numbers}
+use Rattle.office_closing.specs.declared.planning.Opened.{Opened}
 use Rattle.office_closing.specs.declared.planning.Stage.{Stage}
 use Rattle.office_closing.specs.declared.planning.Stage.TheVariants as stage
 use Rattle.office_closing.specs.declared.visits.VisitFault.TheVariants.{Differs}

@@ -1,10 +1,49 @@
--- What a call that deletes rows does to the transaction that it is in.
-use Rattle.std.specs.Prelude.{◌≡◌, Result, OnOk, IfErr, IsTrue}
+-- Which rows a closing deletes, and what a call that deletes rows does to the transaction that it is in.
+use Rattle.std.specs.Prelude.{◌≡◌, ℕ, ◌==◌, ◌&&◌, nat_le, nat_lt, not, Bool, List, Result, OnOk, IfErr, IsTrue}
+use Rattle.std.specs.List.{list_any}
 use Rattle.sqlite.specs.State.{State, HasCleanDisk, KeepsCommit, Survives}
-use Rattle.office_rows.specs.Rows.{Rows}
+use Rattle.office_rows.specs.Effects.{is_pair}
+use Rattle.office_rows.specs.Rows.{Interchange, Rows}
 use Rattle.office_rows.specs.Stored.{HasRows}
 use Rattle.office_tables.specs.Faults.{IsOfStore}
 use Rattle.office_tables.specs.declared.table_fault.TableFault.{TableFault}
+use Rattle.office_parts.specs.LeftOver.{rows_without}
+use Rattle.office_parts.specs.OwnTerminal.{own_visits}
+use Rattle.office_closing.specs.declared.comparing.Numbers.{Numbers}
+
+-- ---- which interchanges go: those under some numbers of each partner
+
+-- the partner's number is one of these: above the last one that was closed before, and up to the last that is closed now
+abbrev pub is_of : ℕ → ℕ → Numbers → Bool
+is_of partner number numbers =
+    (partner == numbers.partner) && (nat_lt numbers.from number && nat_le number numbers.to)
+
+abbrev pub is_among : List Numbers → ℕ → ℕ → Bool
+is_among closing partner number = list_any (is_of partner number) closing
+
+-- the interchange has such a number
+abbrev pub goes : List Numbers → Interchange → Bool
+goes closing i = is_among closing i.partner i.number
+
+-- ---- what the calls that delete make of the rows
+
+-- the rows without a partner's interchange under this number
+abbrev pub without_interchange : ℕ → ℕ → Rows → Rows
+without_interchange partner number rows = rows_without (is_pair partner number) rows
+
+-- the rows with those visits whose numbers stay
+abbrev pub with_visits_that : (stays : ℕ → Bool) → Rows → Rows
+with_visits_that stays rows = record rows { visits = own_visits stays rows.visits }
+
+-- each number stays but these
+abbrev pub all_but : List ℕ → ℕ → Bool
+all_but numbers number = not (list_any (λ n. n == number) numbers)
+
+-- the rows without the visits of these numbers
+abbrev pub without_visits : List ℕ → Rows → Rows
+without_visits numbers rows = with_visits_that (all_but numbers) rows
+
+-- ---- in a transaction
 
 -- the rows become these, in the transaction that goes on
 pub record Becomes (change : Rows → Rows) (old new : State) : Type 0 where

@@ -9,11 +9,10 @@ use Rattle.office_parts.specs.Closing.{carried}
 use Rattle.office_parts.specs.LeftOver.{rows_beyond, rows_without}
 use Rattle.office_parts.specs.OwnTerminal.{MayStay}
 use Rattle.office_parts.specs.Parts.{Archived, ArePartsAfter}
-use Rattle.office_closing.specs.declared.numbers.Numbers.{Numbers}
+use Rattle.office_closing.specs.declared.comparing.Numbers.{Numbers}
 use Rattle.office_closing.specs.Clearing.{IsWithoutSome}
 use Rattle.office_closing.specs.Comparing.{IsComparedAs}
-use Rattle.office_closing.specs.Effects.{all_but, without_visits}
-use Rattle.office_closing.specs.Numbers.{is_among, goes}
+use Rattle.office_closing.specs.Deleting.{all_but, without_visits, is_among, goes}
 use Rattle.office_closing.specs.Visits.{AreToGo}
 
 -- these are the numbers by which the last ones that are closed rise

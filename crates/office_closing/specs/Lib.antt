@@ -1,8 +1,6 @@
-pub mod Numbers
+pub mod Deleting
 pub mod Comparing
 pub mod Visits
-pub mod Effects
-pub mod Deleting
 pub mod Clearing
 pub mod Files
 pub mod Copies

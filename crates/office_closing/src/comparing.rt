@@ -10,9 +10,19 @@ ghost use Rattle.sqlite.specs.Held.{state};
 ghost use Rattle.sqlite.specs.State.{HasCleanDisk};
 
 use crate::faults::{File, FileFault};
-use crate::numbers::Numbers;
 use office_tables::{Kept, TableFault, kept};
 use sqlite::{Alter, Connection};
+
+/// Numbers of a partner that a closing closes: each above `from` and up to `to`.
+#[derive(Clone, Copy, Debug)]
+pub struct Numbers {
+    /// The partner's id.
+    pub partner: u16,
+    /// The last number that was closed before.
+    pub from: u32,
+    /// The last number that is closed now.
+    pub to: u32,
+}
 
 /// A number under which an archive does not keep what the store keeps.
 #[derive(Clone, Copy, Debug)]

@@ -1,5 +1,5 @@
-ghost use Rattle.std.specs.Prelude.{◌≡◌, ◌↔◌, ◌≤◌, ◌++◌, ◌∷◌, [], true, IfOk, IfErr, IsTrue, MatchOption, OnOk, length, string_bytes};
 ghost use Rattle.std.specs.Option.{option_map};
+ghost use Rattle.std.specs.Prelude.{◌≡◌, ◌↔◌, ◌≤◌, ◌++◌, ◌∷◌, [], true, IfOk, IfErr, IsTrue, MatchOption, OnOk, length, string_bytes};
 ghost use Rattle.office_checks.specs.Closed.{last_closed};
 ghost use Rattle.office_closing.specs.Copies.{AreAtMost, AreFirst, FileNames, HasCome, IsNoLater, IsOfStore, IsReason, IsSameOffice, MayBeRaised, archive_in, numbers_from, numbers_of, office_content, segments_of};
 ghost use Rattle.office_closing.specs.Planning.{IsMarkedAs, IsPlan, IsRefused, IsToldBy};
@@ -11,14 +11,27 @@ ghost use Rattle.office_register.specs.Sound as sound;
 ghost use Rattle.office_setup.specs.Accounts.{account_contents};
 ghost use Rattle.office_setup.specs.Limits.{most_partners};
 
+use crate::comparing::Numbers;
 use crate::faults::{CloseFault, Refusal};
-use crate::numbers::Numbers;
-use crate::opening::Opened;
 use crate::visits::{VisitFault, newest_number, visits_to_go};
 use office_checks::Closed;
 use office_register::{Archive, Register, Segment, is_file_name, is_sound};
-use office_setup::{Account, MOST_PARTNERS};
+use office_setup::{Account, MOST_PARTNERS, Setup};
 use std::alloc::{AllocError, Global};
+use terminal_core::Terminal;
+
+/// What a store or an archive has.
+#[derive(Drop)]
+pub(crate) struct Opened {
+    /// Which archives hold its history.
+    pub register: Register,
+    /// The terminal's code and the accounts.
+    pub setup: Setup,
+    /// The visits, and all else that stands.
+    pub terminal: Terminal,
+    /// The number of each account's next interchange, in the order of the ids: 1, 2 and so on.
+    pub nexts: Vec<u32>,
+}
 
 /// How far a closing has come.
 #[derive(Clone, Copy, Debug, PartialEq, Eq)]

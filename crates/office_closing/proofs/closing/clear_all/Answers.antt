@@ -4,8 +4,7 @@ use Rattle.sqlite.specs.Held.{state}
 use Rattle.office_parts.specs.LeftOver.{rows_without}
 use Rattle.office_closing.specs.Clearing.{Clears, IsWithoutSome, IsWithoutSomeVisits}
 use Rattle.office_closing.specs.Closes.{closing_content}
-use Rattle.office_closing.specs.Effects.{all_but, without_visits}
-use Rattle.office_closing.specs.Numbers.{goes}
+use Rattle.office_closing.specs.Deleting.{all_but, without_visits, goes}
 use Rattle.office_closing.proofs.LeftLemmas.{cleared_both, cleared_some}
 use Rattle.office_closing.proofs.closing.clear_all.Goals as goal
 

@@ -4,7 +4,7 @@ use Rattle.std.proofs.lemmas.Result.{err_from_is_err_and}
 use Rattle.sqlite.specs.Held.{state}
 use Rattle.office_rows.specs.Stored.{HasRows}
 use Rattle.office_delivery.specs.Reading.{IsSame}
-use Rattle.office_closing.specs.Numbers.{is_among}
+use Rattle.office_closing.specs.Deleting.{is_among}
 use Rattle.office_closing.proofs.CompareLemmas.{among_all, compared_more, either_more, unfit_of_all}
 use Rattle.office_closing.proofs.ReadLemmas.{clean_before, if_open_after, if_open_after_failed, if_open_passed, none_read}
 use Rattle.office_closing.proofs.comparing.compare.Goals as goal

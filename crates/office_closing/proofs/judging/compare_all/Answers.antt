@@ -4,7 +4,7 @@ use Rattle.sqlite.specs.Held.{state}
 use Rattle.office_history.specs.After.{AreKeptOnce}
 use Rattle.office_rows.specs.Rows.{Rows}
 use Rattle.office_rows.specs.Stored.{HasRows}
-use Rattle.office_closing.specs.declared.numbers.Numbers.{Numbers}
+use Rattle.office_closing.specs.declared.comparing.Numbers.{Numbers}
 use Rattle.office_closing.specs.declared.planning.Plan.{Plan}
 use Rattle.office_closing.specs.Closes.{Held}
 use Rattle.office_closing.specs.Comparing.{IsComparedAs}

@@ -1,6 +1,6 @@
 use Rattle.std.proofs.Common.{List}
 use Rattle.office_rows.specs.Rows.{Rows}
-use Rattle.office_closing.specs.declared.numbers.Numbers.{Numbers}
+use Rattle.office_closing.specs.declared.comparing.Numbers.{Numbers}
 use Rattle.office_closing.specs.Comparing.{HasUnfitAmong}
 use Rattle.office_closing.specs.Refusing.{HasUnfit}
 use Rattle.office_closing.proofs.CompareLemmas.{either_more}

@@ -1,0 +1,34 @@
+use Rattle.std.proofs.Common.{◌≡◌, sym, subst, arith}
+use Rattle.std.proofs.lemmas.Result.{err_from_is_err_and}
+use Rattle.sqlite.specs.Held.{state}
+use Rattle.sqlite.specs.State.{HasCleanDisk}
+use Rattle.office_loading.specs.Tables.{LoadsOwn}
+use Rattle.office_rows.specs.Stored.{HasRows}
+use Rattle.office_setup.specs.Setups.{setup_content}
+use Rattle.office_closing.proofs.ReadLemmas.{failed, passed, then_failed}
+use Rattle.office_closing.proofs.judging.open_office.Goals as goal
+
+pub returns-in_err-nexts-clause-rows_read : goal.returns-in_err-nexts-clause-rows_read
+returns-in_err-nexts-clause-rows_read g c =
+    let p = err_from_is_err_and c.from_residual-in_err-nexts.result c.from_residual-in_err-nexts.ensures.1 in
+    rw (p.1, p.2) (then_failed _ c.in_ok-setup.ensures.read c.in_err-nexts.ensures.read)
+
+pub returns-in_err-nexts-clause-register_read : goal.returns-in_err-nexts-clause-register_read
+returns-in_err-nexts-clause-register_read g c =
+    let p = err_from_is_err_and c.from_residual-in_err-nexts.result c.from_residual-in_err-nexts.ensures.1 in
+    rw (p.1, p.2) (failed _ c.in_ok-told.ensures.read)
+
+pub returns-clause-register_read : goal.returns-clause-register_read
+returns-clause-register_read g c = passed _ c.in_ok-told.ensures.read
+
+pub returns-clause-opened : goal.returns-clause-opened
+returns-clause-opened g c clean register_clean =
+    let office_clean : HasCleanDisk (state g.S.Store c.office_of.new.conn) = omega (arith, c.in_ok-nexts.ensures.read.survives.clean, clean) in
+    record {
+      sound = c.in_ok-told.ensures.sound;
+      registered = c.in_ok-told.ensures.registered register_clean;
+      loaded = λ schema.
+          subst (λ k. LoadsOwn k (state g.S.Store c.args.conn.now).now (setup_content c.in_ok-setup.setup) c.in_ok-setup.terminal) c.in_ok-closed.ensures
+          (c.in_ok-setup.ensures.loaded office_clean schema);
+      nexts = λ rows has. c.in_ok-nexts.ensures.answer clean rows (subst (HasRows rows) (sym (c.in_ok-setup.ensures.read.unchanged office_clean).0.now_is) has);
+    }
