@@ -3,9 +3,8 @@ ghost use Rattle.office_archives.specs.Shelves.{AreShelved, IsOpenAt, IsSoundIfA
 ghost use Rattle.office_parts.specs.Archives.{Archive};
 
 use crate::archives::Archives;
-use crate::earlier::closed_before;
+use crate::former_store::{closed_before, report_by, ticket_by};
 use crate::opened::Opened;
-use crate::tickets::{report_by, ticket_by};
 use office_queries::Query;
 use office_register::Register;
 use office_tables::{Kept, TableFault, kept};

@@ -5,7 +5,7 @@ use Rattle.office_setup.specs.Setups.{SetupContent}
 use Rattle.office_archives.specs.Keeping.{IsClosedBefore}
 use Rattle.office_archives.specs.Together.{StandTogether}
 use Rattle.office_archives.proofs.OfArchive.{number_as}
-use Rattle.office_archives.proofs.archive_reports.tell_number.Goals as goal
+use Rattle.office_archives.proofs.archived_desk.tell_number.Goals as goal
 
 -- an archive before it keeps the number
 pub returns-in-Some-clause-told : goal.returns-in-Some-clause-told

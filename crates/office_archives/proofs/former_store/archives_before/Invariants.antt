@@ -1,6 +1,6 @@
 use Rattle.std.proofs.Common.{◌≡◌, ◌++◌, nat_lt, filter, map, drop}
 use Rattle.office_register.specs.Register.{ArchiveContent, archive_content}
-use Rattle.office_archives.proofs.earlier.archives_before.Given as goal
+use Rattle.office_archives.proofs.former_store.archives_before.Given as goal
 
 abbrev pub invariant-loop-archive : goal.invariant-loop-archive
 invariant-loop-archive l =

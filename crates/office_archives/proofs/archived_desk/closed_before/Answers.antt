@@ -6,7 +6,7 @@ use Rattle.office_setup.specs.Setups.{setup_content}
 use Rattle.office_desk.specs.Reports.{partner_called}
 use Rattle.office_archives.specs.Shelves.{archive_at}
 use Rattle.office_archives.proofs.Beside.{closed_there}
-use Rattle.office_archives.proofs.archive_reports.closed_before.Goals as goal
+use Rattle.office_archives.proofs.archived_desk.closed_before.Goals as goal
 
 -- The desk knows the number for closed, and the archives its place.
 pub returns-in-Some-place_of : goal.returns-in-Some-place_of

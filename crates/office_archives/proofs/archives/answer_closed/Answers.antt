@@ -6,7 +6,7 @@ use Rattle.office_desk.specs.Answers.{answer_by_model}
 use Rattle.office_tables.specs.declared.interchanges.Kept.{Kept}
 use Rattle.office_desk.proofs.DeliverLemmas.{is_now}
 use Rattle.office_archives.proofs.Telling.{clash_answers, repeat_answers, same_text, other_text}
-use Rattle.office_archives.proofs.answering.answer_closed.Goals as goal
+use Rattle.office_archives.proofs.archives.answer_closed.Goals as goal
 
 pub returns-then-ne-clause-answers : goal.returns-then-ne-clause-answers
 returns-then-ne-clause-answers g c = λ sound list are.

@@ -6,7 +6,7 @@ use Rattle.office_checks.specs.Closed.{closed_content}
 use Rattle.office_loading.specs.Tables.{LoadsOwn}
 use Rattle.office_tables.proofs.ReadingLemmas.{clean_first, reads_on, reads_stopped, ◌then◌}
 use Rattle.office_archives.proofs.Shelved.{taken_in}
-use Rattle.office_archives.proofs.tickets.ticket_by.Goals as goal
+use Rattle.office_archives.proofs.former_store.ticket_by.Goals as goal
 
 pub returns-clause-ticket : goal.returns-clause-ticket
 returns-clause-ticket g c clean rows has once =

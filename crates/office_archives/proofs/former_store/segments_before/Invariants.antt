@@ -1,6 +1,6 @@
 use Rattle.std.proofs.Common.{◌≡◌, ◌++◌, nat_lt, filter, drop}
 use Rattle.office_register.specs.declared.register.Segment.{Segment}
-use Rattle.office_archives.proofs.earlier.segments_before.Given as goal
+use Rattle.office_archives.proofs.former_store.segments_before.Given as goal
 
 abbrev pub invariant-loop-segment : goal.invariant-loop-segment
 invariant-loop-segment l =

@@ -5,7 +5,7 @@ use Rattle.office_rows.proofs.StepLemmas.{if_ok}
 use Rattle.office_checks.specs.Closed.{closed_content}
 use Rattle.office_setup.specs.Setups.{setup_content}
 use Rattle.office_delivery.proofs.ReadLemmas.{one_read, only_then, was_clean}
-use Rattle.office_archives.proofs.tickets.report_by.Goals as goal
+use Rattle.office_archives.proofs.former_store.report_by.Goals as goal
 
 -- It is reported by what was loaded.
 pub returns-clause-report : goal.returns-clause-report

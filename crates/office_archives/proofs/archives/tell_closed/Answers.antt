@@ -1,6 +1,6 @@
 use Rattle.std.proofs.Common.{Some, string_bytes, refl, sym, subst}
 use Rattle.office_archives.specs.Telling.{TellsClosed}
-use Rattle.office_archives.proofs.reports.tell_closed.Goals as goal
+use Rattle.office_archives.proofs.archives.tell_closed.Goals as goal
 
 pub returns-in_ok-ticket-in-Ticket-clause-told : goal.returns-in_ok-ticket-in-Ticket-clause-told
 returns-in_ok-ticket-in-Ticket-clause-told g c sound list are closed =
