@@ -1,20 +1,18 @@
-ghost use Rattle.std.specs.Prelude.{◌≡◌, ◌≤◌, length, IfOk, IfSome, unwrap_or};
+//! What is reported of an interchange of a file, and how it is written.
+ghost use Rattle.std.specs.Prelude.{◌≡◌, ◌≤◌, IfOk, IfSome, length, unwrap_or};
 ghost use Rattle.edi_syntax.specs.Envelope.{messages_of};
 ghost use Rattle.edi_syntax.specs.Envelopes.{envelope_segments};
+ghost use Rattle.office_setup.specs.Parties.{parties_of};
 ghost use Rattle.office_explain.specs.Kinds.{kind_wanted};
 ghost use Rattle.office_explain.specs.Told.{Explains};
-ghost use Rattle.office_setup.specs.Parties.{parties_of};
 
-use crate::envelope_places::refusal;
-use crate::expected::kind_name;
-use crate::finding::{Finding, write_subject};
-use crate::line_places::{group_from, refused_line};
-use crate::message_places::rejection;
+use crate::finding::{Finding, ShortText, Shown, kind_name, write_subject};
+use crate::interchange_places::{cut_finding, refusal};
+use crate::message_places::{group_from, refused_line, rejection};
 use crate::partners::{Opened, Partners, kind_wanted};
-use crate::segments::{PlacedSegment, behind_breaks, index_behind, message_from, placed_segments};
-use crate::shown::{ShortText, Shown};
-use crate::span::bytes_of;
-use crate::text_places::cut_finding;
+use crate::segments::{
+    PlacedSegment, behind_breaks, bytes_of, index_behind, message_from, placed_segments,
+};
 use edi_cutter::{CutFault, Cutter};
 use edi_messages::{Codes, Line, Message, MessageFault, PartnerKind, read_message};
 use edi_segments::interchange_text;

@@ -46,7 +46,7 @@ pub struct Opened<'a> {
 }
 
 impl Partners {
-    ghost use Rattle.office_explain.specs.Named.{fault_named};
+    ghost use Rattle.office_explain.specs.Told.{fault_named};
 
     /// The terminal, its partners and its codes, as a set-up file says.
     pub fn read(alloc: Global, file: &[u8]) -> Result<Partners, SetupFault>
