@@ -1,28 +1,33 @@
 -- Requests that are served of a store and its archives.
-use Rattle.std.proofs.Common.{◌≡◌, ◌⊎◌, inl, inr, ℕ, List, [], ◌∷◌, Option, Result, sym, ap, subst, ◌∙◌}
+use Rattle.std.proofs.Common.{◌≡◌, ◌⊎◌, inl, inr, ℕ, List, [], ◌∷◌, ◌++◌, Option, Some, Result, refl, sym, ap, subst, ◌∙◌}
+use Rattle.sqlite.specs.Held.{state}
 use Rattle.sqlite.specs.Recovery.{Image}
+use Rattle.sqlite.specs.Tree.{Trees}
 use Rattle.sqlite_trees.specs.declared.store.Store.{Ghosts}
 use Rattle.office_replies.specs.Adding.{with_added}
 use Rattle.office_replies.specs.Delivering.{with_answered}
-use Rattle.office_replies.specs.Events.{Event}
+use Rattle.office_replies.specs.Events.{Event, added, delivered}
 use Rattle.office_replies.specs.declared.accounts.AccountAnswer.{AccountAnswer}
 use Rattle.office_replies.specs.declared.accounts.AccountAnswer.TheVariants as account_answer
 use Rattle.office_replies.specs.declared.deliver.Response.{Response}
 use Rattle.office_replies.specs.declared.deliver.Response.TheVariants as response
 use Rattle.office_queries.specs.Looking.{Look}
 use Rattle.office_queries.specs.declared.query.NotNow.{NotNow}
+use Rattle.office_checks.specs.Closed.{ClosedContent, closed_content}
 use Rattle.office_stream.specs.declared.port.Port.{Port}
+use Rattle.office_setup.specs.Given.{IsGiven}
 use Rattle.office_setup.specs.Setups.{SetupContent}
 use Rattle.office_history.specs.After.{SaysSame}
 use Rattle.office_http.specs.Served.{calls_of}
 use Rattle.office_http.specs.Steps.{Step, account, delivery, events_after, look, with_step, StepLeads, StepsLead}
 use Rattle.office_desk.specs.Desks.{IsSound}
 use Rattle.office_desk.specs.declared.desk.Desk.{Desk}
-use Rattle.office_commands.specs.Serving.{AreServedBy, EndsServing, EnrolsNamed, LeadsNamed}
+use Rattle.office_commands.specs.Serving.{AreServedBy, EndsServing, EnrolsNamed, HasNoEvent, LeadsNamed, MayBeThere, postponed_event}
 use Rattle.office_parts.specs.Archives.{Archive}
+use Rattle.office_archives.specs.Together.{IsBesideAfter}
 use Rattle.office_archive_files.specs.Delivering.{Leads, StandAlike}
-use Rattle.office_archive_files.specs.Opening.{OpensOn}
-use Rattle.office_archive_files.specs.Serving.{AllServed, AreServed, AreSoundAlong, Enrols, IsServed, IsServedBeside, Looks}
+use Rattle.office_archive_files.specs.Opening.{HoldsBeside, OpensOn}
+use Rattle.office_archive_files.specs.Serving.{AllServed, AreServed, AreShown, AreSoundAlong, Enrols, HoldsPending, IsServed, IsServedBeside, Looks}
 use Rattle.office_archive_files.proofs.Alike.{account_alike, answer_alike}
 
 says_then : (one other third : SetupContent) → SaysSame one other → SaysSame other third → SaysSame one third
@@ -33,6 +38,25 @@ says_then one other third a b = record {
   blocks = a.blocks ∙ b.blocks;
   limit = a.limit ∙ b.limit;
 }
+
+-- ---- what is pending
+
+-- after a step: what was before, if the step is no event, or the step
+abbrev PendsBehind : (Event → Type 0) → Step → Event → Type 0
+PendsBehind Pends step event = (Pends event × ((es : List Event) → with_step es step ≡ es)) ⊎ (postponed_event step ≡ Some event)
+
+-- after steps
+abbrev PendsAfter : (Event → Type 0) → List Step → Event → Type 0
+PendsAfter Pends steps event = (Pends event × HasNoEvent steps) ⊎ MayBeThere steps event
+
+one_before : (Pends : Event → Type 0) (step : Step) (steps : List Step) (event : Event) → PendsAfter (PendsBehind Pends step) steps event → PendsAfter Pends (step ∷ steps) event
+one_before Pends step steps event (inl (inl pends, none)) = inl (pends.0, λ es. none (with_step es step) ∙ pends.1 es)
+one_before Pends step steps event (inl (inr off, none)) = inr (inl (off, none))
+one_before Pends step steps event (inr there) = inr (inr there)
+
+none_pends : (steps : List Step) (event : Event) → PendsAfter (λ _. ⊥) steps event → MayBeThere steps event
+none_pends steps event (inl never) = absurd never.0
+none_pends steps event (inr there) = there
 
 module _ {S A : Type 0} (g : Ghosts S) (is_sound : A → Type 0) (are : List Archive → A → Type 0) where
   abbrev Office : Type 0
@@ -78,6 +102,98 @@ module _ {S A : Type 0} (g : Ghosts S) (is_sound : A → Type 0) (are : List Arc
       let more = stand_steps content (with_step es step) next steps new rest sound whole.1 one.1 in
       ((one.0, more.0), more.1)
 
+  shown_steps : (content : SetupContent) (es : List Event) (old : Office) (steps : List Step) (new : Office) (led : AllServed g is_sound are old steps new) → IsSound g new.0 → AreSoundAlong g is_sound are old steps new led
+      → Stands content es old → AreShown g is_sound are content es old steps new led
+  shown_steps content es old [] new same sound whole stands = tt
+  shown_steps content es old (delivery text given ∷ steps) new (next, led, rest) sound whole stands =
+      shown_steps content (with_step es (delivery text given)) next steps new rest sound whole.1
+      (stand_step content es old (delivery text given) next led (sound_first next steps new rest sound) whole.0 stands).1
+  shown_steps content es old (account code kind given ∷ steps) new (next, led, rest) sound whole stands =
+      shown_steps content (with_step es (account code kind given)) next steps new rest sound whole.1
+      (stand_step content es old (account code kind given) next led (sound_first next steps new rest sound) whole.0 stands).1
+  shown_steps content es old (look at found ∷ steps) new (next, led, rest) sound whole stands =
+      let there = sound_first next steps new rest sound in
+      (stands, led.told there whole.0, shown_steps content es next steps new rest sound whole.1 (stand_step content es old (look at found) next led there whole.0 stands).1)
+
+  -- ---- what a crash leaves
+
+  left_more : (closed : ClosedContent) (content : SetupContent) (es : List Event) (db : Trees) (P Q : Event → Type 0) → ((event : Event) → P event → Q event)
+      → HoldsPending g is_sound are closed content es P db → HoldsPending g is_sound are closed content es Q db
+  left_more closed content es db P Q on it = record {
+    opening = it.opening;
+    says = it.says;
+    holds = (it.holds.0, it.holds.1, it.holds.2, elim it.holds.3 [ inl after ↦ inl after | inr more ↦ inr (more.0, on more.0 more.1, more.2) ]);
+  }
+
+  closed_step : (old : Office) (step : Step) (new : Office) → Led old step new → new.0.closed ≡ old.0.closed
+  closed_step old (delivery text given) new led = elim led [ inl call ↦ call.closed | inr off ↦ ap (λ (office : Office). office.0.closed) off.1 ]
+  closed_step old (account code kind given) new led = elim led [ inl call ↦ call.closed | inr off ↦ ap (λ (office : Office). office.0.closed) off.1 ]
+  closed_step old (look at found) new call = call.looks.closed
+
+  module _ (closed : ClosedContent) (content : SetupContent) (es : List Event) (old new : Office) (Pends : Event → Type 0) (is : closed ≡ closed_content old.0.closed)
+      (was : (db : Trees) → (state g old.0.conn).may_leave db → HoldsPending g is_sound are closed content es Pends db) (db : Trees) (left : (state g new.0.conn).may_leave db) where
+    abbrev Left : List Event → (Event → Type 0) → Type 0
+    Left events Pending = HoldsPending g is_sound are closed content events Pending db
+
+    -- a call that did not come to the office leaves what was there
+    left_less : (step : Step) → ((events : List Event) → with_step events step ≡ events) → new ≡ old → Left (with_step es step) (PendsBehind Pends step)
+    left_less step none same =
+        subst (λ (events : List Event). Left events (PendsBehind Pends step)) (sym (none es))
+        (left_more closed content es db Pends (PendsBehind Pends step) (λ event pends. inl (pends, none)) (was db (subst (λ (office : Office). (state g office.0.conn).may_leave db) same left)))
+
+    kept : (stands : Stands content es old) (events : List Event) → IsBesideAfter stands.holds.list (closed_content old.0.closed) stands.opening events db → IsBesideAfter stands.holds.list closed stands.opening events db
+    kept stands events = subst (λ (k : ClosedContent). IsBesideAfter stands.holds.list k stands.opening events db) (sym is)
+
+    left_now : (stands : Stands content es old) (events : List Event) (Pending : Event → Type 0) → IsBesideAfter stands.holds.list (closed_content old.0.closed) stands.opening events db → Left events Pending
+    left_now stands events Pending after =
+        record { opening = stands.opening; says = stands.says; holds = (stands.holds.list, old.1, stands.holds.these, inl (kept stands events after)) }
+
+    -- what was put off is there whole or not at all
+    left_off : (stands : Stands content es old) (event : Event) (Pending : Event → Type 0) → Pending event
+        → IsBesideAfter stands.holds.list (closed_content old.0.closed) stands.opening es db ⊎ IsBesideAfter stands.holds.list (closed_content old.0.closed) stands.opening (es ++ event ∷ []) db → Left es Pending
+    left_off stands event Pending pends either = elim either [
+      | inl after ↦ left_now stands es Pending after
+      | inr more ↦ record { opening = stands.opening; says = stands.says; holds = (stands.holds.list, old.1, stands.holds.these, inr (event, pends, kept stands (es ++ event ∷ []) more)) }
+    ]
+
+    left_delivery : (text : List ℕ) (given : Response) → Led old (delivery text given) new → IsSound g new.0 → is_sound new.1 → Stands content es old → Left (with_answered es text given) (PendsBehind Pends (delivery text given))
+    left_delivery text given (inr off) sound whole stands = left_less (delivery text given) (λ events. ap (with_answered events text) off.0) off.1
+    left_delivery text response.NotNow (inl call) sound whole stands =
+        left_off stands (delivered text) (PendsBehind Pends (delivery text response.NotNow)) (inr refl) (call.crash (call.stays sound) sound.0 whole stands.opening es stands.holds db left)
+    left_delivery text (response.Taken body) (inl call) sound whole stands = left_now stands (es ++ delivered text ∷ []) _ (call.crash (call.stays sound) sound.0 whole stands.opening es stands.holds db left)
+    left_delivery text (response.Repeat body) (inl call) sound whole stands = left_now stands (es ++ delivered text ∷ []) _ (call.crash (call.stays sound) sound.0 whole stands.opening es stands.holds db left)
+    left_delivery text (response.Waiting body) (inl call) sound whole stands = left_now stands (es ++ delivered text ∷ []) _ (call.crash (call.stays sound) sound.0 whole stands.opening es stands.holds db left)
+    left_delivery text (response.Clash body) (inl call) sound whole stands = left_now stands (es ++ delivered text ∷ []) _ (call.crash (call.stays sound) sound.0 whole stands.opening es stands.holds db left)
+    left_delivery text (response.Refused fault) (inl call) sound whole stands = left_now stands (es ++ delivered text ∷ []) _ (call.crash (call.stays sound) sound.0 whole stands.opening es stands.holds db left)
+    left_delivery text (response.RefusedWithContrl fault body) (inl call) sound whole stands =
+        left_now stands (es ++ delivered text ∷ []) _ (call.crash (call.stays sound) sound.0 whole stands.opening es stands.holds db left)
+
+    left_account : (code kind : List ℕ) (given : AccountAnswer) → Led old (account code kind given) new → IsSound g new.0 → Stands content es old → Left (with_added es code kind given) (PendsBehind Pends (account code kind given))
+    left_account code kind given (inr off) sound stands = left_less (account code kind given) (λ events. ap (with_added events code kind) off.0) off.1
+    left_account code kind account_answer.NotNow (inl call) sound stands =
+        left_off stands (added code kind) (PendsBehind Pends (account code kind account_answer.NotNow)) (inr refl) (call.crash (call.stays sound) sound.0 stands.opening es stands.holds db left)
+    left_account code kind (account_answer.Added id body) (inl call) sound stands = left_now stands (es ++ added code kind ∷ []) _ (call.crash (call.stays sound) sound.0 stands.opening es stands.holds db left)
+    left_account code kind (account_answer.Known id body) (inl call) sound stands = left_now stands es _ (call.crash (call.stays sound) sound.0 stands.opening es stands.holds db left)
+    left_account code kind (account_answer.Refused fault) (inl call) sound stands = left_now stands es _ (call.crash (call.stays sound) sound.0 stands.opening es stands.holds db left)
+
+    left_step : (step : Step) → Led old step new → IsSound g new.0 → is_sound new.1 → Stands content es old → Left (with_step es step) (PendsBehind Pends step)
+    left_step (delivery text given) led sound whole stands = left_delivery text given led sound whole stands
+    left_step (account code kind given) led sound whole stands = left_account code kind given led sound stands
+    left_step (look at found) call sound whole stands = left_now stands es _ (call.looks.crash (call.looks.stays sound) sound.0 stands.opening es stands.holds db left)
+
+  left_steps : (closed : ClosedContent) (content : SetupContent) (es : List Event) (old : Office) (steps : List Step) (new : Office) (led : AllServed g is_sound are old steps new) → IsSound g new.0
+      → AreSoundAlong g is_sound are old steps new led → closed ≡ closed_content old.0.closed → Stands content es old
+      → (Pends : Event → Type 0) → ((db : Trees) → (state g old.0.conn).may_leave db → HoldsPending g is_sound are closed content es Pends db)
+      → (db : Trees) → (state g new.0.conn).may_leave db → HoldsPending g is_sound are closed content (events_after es steps) (PendsAfter Pends steps) db
+  left_steps closed content es old [] new same sound whole is stands Pends was db left =
+      left_more closed content es db Pends (PendsAfter Pends []) (λ event pends. inl (pends, λ events. refl)) (was db (subst (λ (office : Office). (state g office.0.conn).may_leave db) same left))
+  left_steps closed content es old (step ∷ steps) new (next, led, rest) sound whole is stands Pends was db left =
+      let there = sound_first next steps new rest sound in
+      let one = stand_step content es old step next led there whole.0 stands in
+      left_more closed content (events_after es (step ∷ steps)) db (PendsAfter (PendsBehind Pends step) steps) (PendsAfter Pends (step ∷ steps)) (one_before Pends step steps)
+      (left_steps closed content (with_step es step) next steps new rest sound whole.1 (is ∙ ap closed_content (sym (closed_step old step next led))) one.1 (PendsBehind Pends step)
+      (λ found leaves. left_step closed content es old next Pends is was found leaves step led there whole.0 stands) db left)
+
   -- requests that were served of a store that was opened on files, and of its archives
   pub served_beside : (image : Image) (count : ℕ) (opened office : Office) → OpensOn g image opened.0 → AreServedBy (Leads g is_sound are) (Enrols g is_sound are) (Looks g is_sound are) count opened office
       → IsServedBeside g is_sound are image count office
@@ -86,10 +202,22 @@ module _ {S A : Type 0} (g : Ghosts S) (is_sound : A → Type 0) (are : List Arc
     opens = opens;
     served = served;
     answered = λ sound whole list content es given holds these.
-        let at = (opens (sound_first opened served.steps office served.led sound) list content es given holds).opens in
-        stand_steps content es opened served.steps office served.led sound whole
-        (record { opening = at.opening; says = at.opening_says; holds = record { list = list; these = these; stands = at.stands } });
+        stand_steps content es opened served.steps office served.led sound whole (stands_first sound list content es given holds these);
+    shown = λ sound whole list content es given holds these.
+        shown_steps content es opened served.steps office served.led sound whole (stands_first sound list content es given holds these);
+    leaves = λ sound whole list content es given holds these db left.
+        let it = opens (sound_first opened served.steps office served.led sound) list content es given holds in
+        let at = it.opens in
+        left_more (closed_content opened.0.closed) content (events_after es served.steps) db (PendsAfter (λ _. ⊥) served.steps) (MayBeThere served.steps) (none_pends served.steps)
+        (left_steps (closed_content opened.0.closed) content es opened served.steps office served.led sound whole refl (stands_first sound list content es given holds these) (λ _. ⊥)
+        (λ found leaves. record { opening = at.opening; says = at.opening_says; holds = (list, opened.1, these, inl (it.leaves found leaves)) }) db left);
   }
+    where
+      stands_first : IsSound g office.0 → (list : List Archive) (content : SetupContent) (es : List Event) → IsGiven content → HoldsBeside image list (closed_content opened.0.closed) content es → are list opened.1
+          → Stands content es opened
+      stands_first sound list content es given holds these =
+          let at = (opens (sound_first opened served.steps office served.led sound) list content es given holds).opens in
+          record { opening = at.opening; says = at.opening_says; holds = record { list = list; these = these; stands = at.stands } }
 
 -- ---- what stands around an office
 

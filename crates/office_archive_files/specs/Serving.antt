@@ -1,14 +1,16 @@
 -- What requests that are served leave of a store and its archives, if they stood together after some events.
-use Rattle.std.specs.Prelude.{◌≡◌, ◌⊎◌, ℕ, List, [], ◌∷◌, Option, Result}
+use Rattle.std.specs.Prelude.{◌≡◌, ◌⊎◌, ℕ, List, [], ◌∷◌, ◌++◌, Option, Result}
+use Rattle.sqlite.specs.Held.{state}
 use Rattle.sqlite.specs.Recovery.{Image}
+use Rattle.sqlite.specs.Tree.{Trees}
 use Rattle.sqlite_trees.specs.declared.store.Store.{Ghosts}
 use Rattle.office_replies.specs.Events.{Event}
 use Rattle.office_replies.specs.declared.accounts.AccountAnswer.{AccountAnswer}
 use Rattle.office_replies.specs.declared.accounts.AccountAnswer.TheVariants as account_answer
 use Rattle.office_replies.specs.declared.deliver.Response.TheVariants as response
-use Rattle.office_queries.specs.Looking.{Look}
+use Rattle.office_queries.specs.Looking.{Look, Tells}
 use Rattle.office_queries.specs.declared.query.NotNow.{NotNow}
-use Rattle.office_checks.specs.Closed.{closed_content}
+use Rattle.office_checks.specs.Closed.{ClosedContent, closed_content}
 use Rattle.office_setup.specs.Given.{IsGiven}
 use Rattle.office_setup.specs.Setups.{SetupContent}
 use Rattle.office_http.specs.Steps.{Step, StepsLead, account, delivery, events_after, look, with_step}
@@ -16,14 +18,15 @@ use Rattle.office_desk.specs.Accounts.{AnswersAccount}
 use Rattle.office_desk.specs.Answers.{AnswersNext}
 use Rattle.office_desk.specs.Desks.{IsSound}
 use Rattle.office_desk.specs.declared.desk.Desk.{Desk}
-use Rattle.office_commands.specs.Serving.{AreServedBy, EnrolsNamed, LeadsNamed}
+use Rattle.office_commands.specs.Alike.{Alike}
+use Rattle.office_commands.specs.Serving.{AreServedBy, EnrolsNamed, LeadsNamed, MayBeThere}
 use Rattle.office_parts.specs.Archives.{Archive}
-use Rattle.office_archives.specs.Together.{EnrolsTogether, LooksTogether}
+use Rattle.office_archives.specs.Together.{EnrolsTogether, IsBesideAfter, LooksTogether, ShowsBeside}
 use Rattle.office_archive_files.specs.Delivering.{Leads, StandAlike}
 use Rattle.office_archive_files.specs.Opening.{HoldsBeside, OpensOn}
 
--- after those events a delivery and an account are answered as the office answers them, or `not now`; of a report nothing is
--- said
+-- after those events a delivery and an account are answered as the office answers them, or `not now`; what is looked at has no
+-- answer of its own
 abbrev pub IsServed : SetupContent → List Event → Step → Type 0
 IsServed content es (delivery text given) = AnswersNext content es text given ⊎ (given ≡ response.NotNow)
 IsServed content es (account code kind given) = AnswersAccount content es code kind given ⊎ (given ≡ account_answer.NotNow)
@@ -51,9 +54,31 @@ module _ {S A : Type 0} (g : Ghosts S) (is_sound : A → Type 0) (are : List Arc
   AreSoundAlong old [] new led = Unit {0}
   AreSoundAlong old (step ∷ steps) new led = is_sound led.0.1 × AreSoundAlong led.0 steps new led.2
 
+  -- Whenever something was looked at, store and archives stood after the events so far, and what was found is what they show
+  -- then.
+  abbrev pub AreShown : SetupContent → List Event → (old : Desk S g × A) (steps : List Step) (new : Desk S g × A) →
+      AllServed old steps new → Type 0
+  AreShown content es old [] new led = Unit {0}
+  AreShown content es old (delivery text given ∷ steps) new led =
+      AreShown content (with_step es (delivery text given)) led.0 steps new led.2
+  AreShown content es old (account code kind given ∷ steps) new led =
+      AreShown content (with_step es (account code kind given)) led.0 steps new led.2
+  AreShown content es old (look at found ∷ steps) new led =
+      StandAlike g is_sound are content es old × Tells (ShowsBeside g are old.0 old.1 at) found
+      × AreShown content es led.0 steps new led.2
+
+  -- For an opening set-up that says the same, a store holds what is left, with archives that stood beside it, of the rows after
+  -- these events, or with one more that is pending, whole.
+  abbrev pub HoldsPending : ClosedContent → SetupContent → List Event → (Event → Type 0) → Trees → Type 0
+  HoldsPending closed content es Pends db =
+      Alike content (λ opening. (list : List Archive) × (beside : A) × are list beside
+      × (IsBesideAfter list closed opening es db
+      ⊎ ((event : Event) × Pends event × IsBesideAfter list closed opening (es ++ event ∷ []) db)))
+
   -- So many calls at most were made of a store that was opened on those files and of its archives. If its disk told the
   -- truth in the end, and that of the archives each time, then from whatever events the files held what is left of the rows,
-  -- if these archives are those that hold the rest, each was answered at its place, and store and archives stand after them.
+  -- if these archives are those that hold the rest, each was answered at its place, what was looked at was shown at its place,
+  -- store and archives stand after them, and a crash leaves what was answered, and perhaps one event that was put off after it.
   pub record IsServedBeside (image : Image) (count : ℕ) (office : Desk S g × A) : Type 0 where
     pub opened : Desk S g × A
     pub opens : OpensOn g image opened.0
@@ -62,3 +87,12 @@ module _ {S A : Type 0} (g : Ghosts S) (is_sound : A → Type 0) (are : List Arc
         (content : SetupContent) (es : List Event) → IsGiven content →
         HoldsBeside image list (closed_content opened.0.closed) content es → are list opened.1 →
         AreServed content es served.steps × StandAlike g is_sound are content (events_after es served.steps) office
+    pub shown : IsSound g office.0 → AreSoundAlong opened served.steps office served.led → (list : List Archive)
+        (content : SetupContent) (es : List Event) → IsGiven content →
+        HoldsBeside image list (closed_content opened.0.closed) content es → are list opened.1 →
+        AreShown content es opened served.steps office served.led
+    pub leaves : IsSound g office.0 → AreSoundAlong opened served.steps office served.led → (list : List Archive)
+        (content : SetupContent) (es : List Event) → IsGiven content →
+        HoldsBeside image list (closed_content opened.0.closed) content es → are list opened.1 →
+        (db : Trees) → (state g office.0.conn).may_leave db →
+        HoldsPending (closed_content opened.0.closed) content (events_after es served.steps) (MayBeThere served.steps) db

@@ -125,7 +125,7 @@ abbrev LeftBy : SetupContent → List Event → (Event → Type 0) → Trees →
 LeftBy content es Pends db = IsAfter content es db ⊎ ((event : Event) × Pends event × IsAfter content (es ++ event ∷ []) db)
 
 -- what is pending after a step: what was before, if the step is no event, or the step
-abbrev PendsBehind : (Event → Type 0) → Step → Event → Type 0
+abbrev pub PendsBehind : (Event → Type 0) → Step → Event → Type 0
 PendsBehind Pends step event = (Pends event × ((es : List Event) → with_step es step ≡ es)) ⊎ (postponed_event step ≡ Some event)
 
 shown_of : {D : Type 0} {g : Ghosts D} (content : SetupContent) (es : List Event) (desk : Desk (FileStore D g) over_files) → StandsFor over_files content es desk → (at : Look) (found : Option (List ℕ))
@@ -141,15 +141,15 @@ told_of content es desk stands at (Ok found) told = shown_of content es desk sta
 told_of content es desk stands at (Err refusal) told = tt
 
 -- what is pending after steps
-abbrev PendsAfter : (Event → Type 0) → List Step → Event → Type 0
+abbrev pub PendsAfter : (Event → Type 0) → List Step → Event → Type 0
 PendsAfter Pends steps event = (Pends event × HasNoEvent steps) ⊎ MayBeThere steps event
 
-one_before : (Pends : Event → Type 0) (step : Step) (steps : List Step) (event : Event) → PendsAfter (PendsBehind Pends step) steps event → PendsAfter Pends (step ∷ steps) event
+pub one_before : (Pends : Event → Type 0) (step : Step) (steps : List Step) (event : Event) → PendsAfter (PendsBehind Pends step) steps event → PendsAfter Pends (step ∷ steps) event
 one_before Pends step steps event (inl (inl pends, none)) = inl (pends.0, λ es. none (with_step es step) ∙ pends.1 es)
 one_before Pends step steps event (inl (inr off, none)) = inr (inl (off, none))
 one_before Pends step steps event (inr there) = inr (inr there)
 
-none_pends : (steps : List Step) (event : Event) → PendsAfter (λ _. ⊥) steps event → MayBeThere steps event
+pub none_pends : (steps : List Step) (event : Event) → PendsAfter (λ _. ⊥) steps event → MayBeThere steps event
 none_pends steps event (inl never) = absurd never.0
 none_pends steps event (inr there) = there
 
