@@ -47,8 +47,8 @@ fn way_by(history: History) -> Way {
     }
 }
 
-/// Whether a store can be made at a path: no register of another store's archives lies beside it. If one does, that was
-/// told.
+/// Whether a store can be made at a path: no register of another store's archives lies beside it. If one does, or that
+/// can't be found out, that was reported.
 pub(crate) fn may_be_made<E: Write>(rt: &HostRuntime, store: &str, errors: &mut Port<E>) -> bool {
     match history_of(rt, store) {
         Ok(
@@ -57,6 +57,10 @@ pub(crate) fn may_be_made<E: Write>(rt: &HostRuntime, store: &str, errors: &mut 
                 is_closed: false,
             },
         ) => true,
+        Err(TableFault::Memory) => {
+            tell_fault(errors, &TableFault::Memory);
+            false
+        }
         _ => {
             tell_with(errors, "store: Store\n", FAILED);
             tell_words(rt, errors, store, Words::HAS_REGISTER);

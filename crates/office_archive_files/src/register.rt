@@ -99,11 +99,12 @@ pub(crate) fn is_there(rt: &HostRuntime, path: &str) -> Result<bool, TableFault>
 
 /// What is at a path, if something is.
 ///
-/// Store if that can't be found out.
+/// Store if that can't be found out, Memory if it takes more memory than there is.
 pub(crate) fn found_at(rt: &HostRuntime, path: &str) -> Result<Option<Metadata>, TableFault> {
     match fs::metadata(rt, path) {
         Ok(found) => Ok(Some(found)),
         Err(error) if error.kind() == ErrorKind::NotFound => Ok(None),
+        Err(error) if error.kind() == ErrorKind::OutOfMemory => Err(TableFault::Memory),
         Err(_) => Err(TableFault::Store(NO_STORE)),
     }
 }
