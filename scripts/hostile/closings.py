@@ -77,18 +77,10 @@ def stage(before, after, got, what):
     return 'closed' if got[0] == after[0] else 'registered' if got[0] == before[0] else 'some rows gone'
 
 
-class Closing:
-    """`close` of a store by a copy of some deliveries earlier, in a folder of its own."""
+class Beside:
+    """A store and the archive at a path: their rows, and the model's offices of both."""
 
-    name, ready, wants = 'close', READY[0], {STORE, MEMORY, UNWRITTEN}
-
-    def __init__(self, prepared, folder):
-        self.book, self.archive = prepared.book.copied(folder), copy.deepcopy(prepared.archive)
-        for name in os.listdir(prepared.book.folder):
-            if name.startswith(NAMES):
-                copy_one(os.path.join(prepared.book.folder, name), os.path.join(folder, name))
-        self.path = os.path.join(folder, prepared.name)
-        self.words = [self.book.program, 'close', self.book.store, self.path]
+    book = archive = path = None
 
     def standing(self):
         """The rows of both files, as they stand."""
@@ -104,6 +96,20 @@ class Closing:
     def closes(self):
         """The model closes."""
         expect('the model', None, close(self.book.office, self.archive, 'office.db', os.path.basename(self.path)))
+
+
+class Closing(Beside):
+    """`close` of a store by a copy of some deliveries earlier, in a folder of its own."""
+
+    name, ready, wants = 'close', READY[0], {STORE, MEMORY, UNWRITTEN}
+
+    def __init__(self, prepared, folder):
+        self.book, self.archive = prepared.book.copied(folder), copy.deepcopy(prepared.archive)
+        for name in os.listdir(prepared.book.folder):
+            if name.startswith(NAMES):
+                copy_one(os.path.join(prepared.book.folder, name), os.path.join(folder, name))
+        self.path = os.path.join(folder, prepared.name)
+        self.words = [self.book.program, 'close', self.book.store, self.path]
 
     def found(self, given):
         """How far a process came that printed, told and ended so; then the store is used, and closed."""

@@ -13,15 +13,14 @@ import threading
 from itertools import takewhile
 from time import monotonic, sleep
 
-from model.closing import close
 from model.days import NEWCOMERS
 from model.events import Added
 from model.http import response
 from model.requests import report_path
-from model.rows import copy_files, register_rows, rows_in, rows_of
+from model.rows import copy_files
 
 from .books import Book, Different, expect
-from .closings import READY, register_in, stage
+from .closings import READY, Beside, stage
 from .working import Delivering, Served, run
 
 KILLS = 80                  # a store: some 400 deliveries, so that the log is moved into the file at least once
@@ -136,28 +135,13 @@ def pages(book, counted):
             counted['pages looked at'] += 1
 
 
-class Copied:
+class Copied(Beside):
     """A copy of a store's files and the office of then, by which the store is closed later."""
 
     def __init__(self, book):
-        self.book, self.name = book, 'office-%04d.db' % (len(book.office.register.archives) + 1)
-        self.path, self.archive = os.path.join(book.folder, self.name), copy.deepcopy(book.office)
+        self.book, self.archive = book, copy.deepcopy(book.office)
+        self.path = os.path.join(book.folder, 'office-%04d.db' % (len(book.office.register.archives) + 1))
         copy_files(book.store, self.path)
-
-    def standing(self):
-        """The rows of the store, its register and the archive's; the archive has the rows that it had."""
-        (own, faults), (kept, others) = rows_in(self.book.store), rows_in(self.path)
-        expect('integrity and foreign keys', ([], []), (faults, others))
-        expect('the rows of the archive', rows_of(self.archive), kept)
-        return own, register_in(self.book.store), register_in(self.path)
-
-    def modelled(self):
-        """The same by the model."""
-        return rows_of(self.book.office), register_rows(self.book.office), register_rows(self.archive)
-
-    def closes(self):
-        """The model closes."""
-        expect('the model', None, close(self.book.office, self.archive, 'office.db', self.name))
 
 
 def killed_closing(book, copied, pace, counted):
