@@ -7,4 +7,4 @@ mod writing;
 
 pub use page::{MOST_PAGE_BYTES, TextsPage};
 pub use reading::texts_from;
-pub use writing::{Written, write_texts};
+pub use writing::{Written, flush, write_row, write_texts};

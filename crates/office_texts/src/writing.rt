@@ -60,7 +60,7 @@ pub fn write_texts<S: Alter, W: Write>(
 }
 
 /// Flushes what was written: All, or Failed.
-fn flush<W: Write>(writer: &mut Port<W>) -> Written
+pub fn flush<W: Write>(writer: &mut Port<W>) -> Written
     ensures { Flushes (W.contents writer.old.inner) (W.contents writer.new.inner)
         writer.old.failed writer.new.failed writer.new.flushed result }
 {
@@ -136,8 +136,13 @@ fn written_if(is_so: bool) -> Written
     if is_so { Written::All } else { Written::Fewer }
 }
 
-/// Writes the text of a row and an LF after it, and says whether the writer took them. Damaged if the row has no text.
-fn write_row<W: Write>(alloc: Global, row: &Row, writer: &mut Port<W>) -> Result<bool, TableFault>
+/// Writes the text that a row shows first and an LF after it, and says whether the writer took them. Damaged if it shows no
+/// text.
+pub fn write_row<W: Write>(
+    alloc: Global,
+    row: &Row,
+    writer: &mut Port<W>,
+) -> Result<bool, TableFault>
     ensures writes { IfOk result
         (WritesRow row.now (W.contents writer.old.inner) (W.contents writer.new.inner)
         writer.old.failed writer.new.failed) }
