@@ -1,0 +1,61 @@
+-- The laws of a journal over several files.
+use Rattle.std.specs.Prelude.{◌≡◌, ℕ, ◌≤◌, List, [], ◌∷◌, ◌++◌, filter, true, false, Err}
+use Rattle.edi_segments.specs.Interchange.{interchange_of}
+use Rattle.partner_core.specs.Deliveries.{is_used}
+use Rattle.office_admission.specs.Admission.{admission}
+use Rattle.office_admission.specs.Accounts.{content_after}
+use Rattle.office_admission.specs.Deliveries.{deliveries_of}
+use Rattle.office_history.specs.Cascade.{TakenContent, with_run}
+use Rattle.office_history.specs.Laws.{IsFor}
+use Rattle.office_replies.specs.Events.{Event, delivered, added}
+use Rattle.office_replies.specs.declared.deliver.Fault.{Fault}
+use Rattle.office_rows.specs.Effects.{with_waiting}
+use Rattle.office_rows.specs.Rows.{Interchange, Rows}
+use Rattle.office_setup.specs.Setups.{SetupContent, parties_in}
+use Rattle.office_journal.specs.Journal.{kept_texts}
+use Rattle.office_parts.specs.Archives.{Archive}
+use Rattle.office_parts.specs.Closing.{is_beyond}
+use Rattle.office_archive_journal.specs.Copies.{HasInOrder, AreCopiesInOrder}
+use Rattle.office_archive_journal.specs.Journal.{journal_of}
+
+-- The journal over the files is the journal of the events, byte for byte, as if nothing had been put away.
+abbrev pub JournalIsOfAllFiles : Type 0
+JournalIsOfAllFiles =
+    (content : SetupContent) (es : List Event) (archives : List Archive) (own : List Interchange) →
+    AreCopiesInOrder content es archives own
+    → journal_of archives own ≡ kept_texts content es
+
+-- ---- what keeps a file in order
+
+-- what is closed besides, and whatever of it is deleted, leaves the rest in order
+abbrev pub ClosingStaysInOrder : Type 0
+ClosingStaysInOrder =
+    (content : SetupContent) (es : List Event) (before then_ : ℕ → ℕ) (interchanges left : List Interchange) →
+    ((partner : ℕ) → before partner ≤ then_ partner) → HasInOrder content es before interchanges
+    → filter (is_beyond then_) left ≡ filter (is_beyond then_) interchanges
+    → HasInOrder content es then_ left
+
+-- What an event does to a file in order. A text that is refused, or whose number is used, and an account leave it so. A text
+-- under a free number is added as the last, whether it waits or is taken with others; then the file is in order after it.
+pub record EventsStayInOrder : Type 0 where
+  pub refused : (content : SetupContent) (es : List Event) (closed : ℕ → ℕ) (interchanges : List Interchange)
+      (sent : List ℕ) (fault : Fault) → HasInOrder content es closed interchanges
+      → admission (parties_in (content_after content es)) (interchange_of sent) ≡ Err fault
+      → HasInOrder content (es ++ delivered sent ∷ []) closed interchanges
+  pub used : (content : SetupContent) (es : List Event) (closed : ℕ → ℕ) (interchanges : List Interchange)
+      (sent : List ℕ) (partner number : ℕ) → HasInOrder content es closed interchanges
+      → IsFor content es sent partner number → is_used (deliveries_of content es) partner number ≡ true
+      → HasInOrder content (es ++ delivered sent ∷ []) closed interchanges
+  pub early : (content : SetupContent) (es : List Event) (closed : ℕ → ℕ) (rows : Rows) (sent : List ℕ)
+      (partner number : ℕ) → HasInOrder content es closed rows.interchanges
+      → IsFor content es sent partner number → is_used (deliveries_of content es) partner number ≡ false
+      → HasInOrder content (es ++ delivered sent ∷ []) closed
+      (with_waiting partner number (interchange_of sent) rows).interchanges
+  pub next : (content : SetupContent) (es : List Event) (closed : ℕ → ℕ) (rows : Rows) (sent : List ℕ)
+      (partner number : ℕ) (taken : List TakenContent) → HasInOrder content es closed rows.interchanges
+      → IsFor content es sent partner number → is_used (deliveries_of content es) partner number ≡ false
+      → HasInOrder content (es ++ delivered sent ∷ []) closed
+      (with_run partner number (interchange_of sent) taken rows).interchanges
+  pub account : (content : SetupContent) (es : List Event) (closed : ℕ → ℕ) (interchanges : List Interchange)
+      (code kind : List ℕ) → HasInOrder content es closed interchanges
+      → HasInOrder content (es ++ added code kind ∷ []) closed interchanges

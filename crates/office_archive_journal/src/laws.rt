@@ -1,0 +1,20 @@
+//! The laws of a journal over several files. Each function has an empty body, and its contract is the law: a call brings it
+//! into the caller's proof.
+
+ghost use Rattle.office_archive_journal.specs.Laws.{JournalIsOfAllFiles, ClosingStaysInOrder, EventsStayInOrder};
+
+/// What the archives of a store and the store itself keep, each text once, is the journal of all that came, as if nothing had
+/// been put away.
+pub fn journal_is_of_all_files()
+    ensures { JournalIsOfAllFiles }
+{}
+
+/// A closing leaves a store's texts in the order of arrival.
+pub fn closing_stays_in_order()
+    ensures { ClosingStaysInOrder }
+{}
+
+/// So does each event.
+pub fn events_stay_in_order()
+    ensures { EventsStayInOrder }
+{}
