@@ -1,0 +1,2 @@
+pub mod PartQuery
+pub mod PartLemmas
