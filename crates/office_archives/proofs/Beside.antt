@@ -15,9 +15,10 @@ use Rattle.office_queries.specs.declared.query.NotNow.{NotNow}
 use Rattle.office_queries.specs.declared.query.Query.{Query}
 use Rattle.office_queries.specs.declared.query.Query.TheVariants as query
 use Rattle.office_history.specs.After.{content_after, machine_after}
+use Rattle.office_desk.specs.Offices.{DeskHolds}
 use Rattle.office_desk.specs.Reports.{DeskTells, TellsNext, TellsOf, partner_called}
 use Rattle.office_desk.specs.declared.desk.Desk.{Desk}
-use Rattle.office_parts.specs.Archives.{Archive}
+use Rattle.office_parts.specs.Archives.{Archive, archive_of}
 use Rattle.office_parts.specs.OwnTerminal.{own_terminal}
 use Rattle.office_parts.specs.Parts.{Archived}
 use Rattle.office_archives.specs.Keeping.{IsClosedIn}
@@ -39,6 +40,12 @@ no_next : (rows : Rows) (id : Option ℕ) → TellsNext rows id None → id ≡ 
 no_next rows None told = refl
 no_next rows (Some id) told = let never = told.2 in absurd cc
 
+pub nobody_has : {S : Type 0} (g : Ghosts S) (desk : Desk S g) (code : List ℕ) (name : String Global) → string_bytes name ≡ code → DeskTells g desk (query.Next name) None → (rows : Rows) (terminal : TerminalState) → DeskHolds g desk rows terminal
+    → partner_called (setup_content desk.setup) code ≡ None
+nobody_has g desk code name named tells rows terminal holds =
+    let known = setup_content desk.setup in
+    ap (partner_called known) (sym named) ∙ no_next rows (partner_called known (string_bytes name)) (tells.office rows terminal holds)
+
 module _ {S A : Type 0} (g : Ghosts S) (are : List Archive → A → Type 0) (old : Desk S g) (a : A) where
   -- what the desk tells, of the rows that it has
   told_here : (content : SetupContent) (es : List Event) (stand : StandTogether g are content es old a) (asked : Query) (found : Option (List ℕ)) → DeskTells g old asked found
@@ -48,8 +55,15 @@ module _ {S A : Type 0} (g : Ghosts S) (are : List Archive → A → Type 0) (ol
       let mine = own_terminal stands.archived.stays (machine_after content es).terminal in
       subst (λ k. TellsOf k mine stands.rows asked found) (sym stands.now_is) (told.office stands.rows mine stands.holds)
 
-  called_here : (content : SetupContent) (es : List Event) (stand : StandTogether g are content es old a) (code : List ℕ) (p : ℕ) → partner_called (setup_content old.setup) code ≡ Some p → partner_called (content_after content es) code ≡ Some p
+  pub called_here : (content : SetupContent) (es : List Event) (stand : StandTogether g are content es old a) (code : List ℕ) (p : ℕ) → partner_called (setup_content old.setup) code ≡ Some p → partner_called (content_after content es) code ≡ Some p
   called_here content es stand code p called = ap (λ k. partner_called k code) stand.stands.now_is ∙ called
+
+  -- the desk knows who has a code
+  pub nobody_here : (content : SetupContent) (es : List Event) (stand : StandTogether g are content es old a) (code : List ℕ) → ((rows : Rows) (terminal : TerminalState) → DeskHolds g old rows terminal → partner_called (setup_content old.setup) code ≡ None)
+      → partner_called (content_after content es) code ≡ None
+  nobody_here content es stand code nobody =
+      let s = stand.stands in
+      ap (λ k. partner_called k code) s.now_is ∙ nobody s.rows (own_terminal s.archived.stays (machine_after content es).terminal) s.holds
 
   pub neither_beside : (asked : Query) (found : Option (List ℕ)) → IsOfNeither asked → DeskTells g old asked found → TellsBeside g are old a asked found
   neither_beside asked found is told content es stand =
@@ -74,12 +88,12 @@ module _ {S A : Type 0} (g : Ghosts S) (are : List Archive → A → Type 0) (ol
           let far = leb-false n (last_closed old.closed p) beyond in
           number_told content es stand.list s.archived s.own s.whole s.rows s.parts s.is_own code p n (called_here content es stand code p called) asked found is (omega (arith, far, s.knows.numbers p)) (told_here content es stand asked found tells)
 
-  pub nobody_beside : (asked : Query) (code : List ℕ) (n : ℕ) (name : String Global) (found : Option (List ℕ)) → IsOfNumber asked code n → string_bytes name ≡ code → found ≡ None → DeskTells g old (query.Next name) None → TellsBeside g are old a asked found
-  nobody_beside asked code n name found is named none tells content es stand =
+  pub nobody_beside : (asked : Query) (code : List ℕ) (n : ℕ) (found : Option (List ℕ)) → IsOfNumber asked code n → found ≡ None → ((rows : Rows) (terminal : TerminalState) → DeskHolds g old rows terminal → partner_called (setup_content old.setup) code ≡ None)
+      → TellsBeside g are old a asked found
+  nobody_beside asked code n found is none nobody content es stand =
       let s = stand.stands in
-      let nobody = no_next s.rows (partner_called (content_after content es) (string_bytes name)) (told_here content es stand (query.Next name) None tells) in
       subst (TellsTogether content es stand.list s.archived s.whole asked) (sym none)
-      (nobody_told content es stand.list s.archived s.own s.whole s.rows s.parts s.is_own code n asked is (ap (partner_called (content_after content es)) (sym named) ∙ nobody))
+      (nobody_told content es stand.list s.archived s.own s.whole s.rows s.parts s.is_own code n asked is (nobody_here content es stand code nobody))
 
   pub closed_beside : (asked : Query) (code : List ℕ) (n p : ℕ) (found : Option (List ℕ)) → IsOfNumber asked code n → partner_called (setup_content old.setup) code ≡ Some p → (nat_le 1 n && nat_le n (last_closed old.closed p)) ≡ true
       → ((list : List Archive) → are list a → IsClosedIn list p n → TellsClosed list asked code p n found) → TellsBeside g are old a asked found
@@ -99,6 +113,12 @@ module _ {S A : Type 0} (g : Ghosts S) (are : List Archive → A → Type 0) (ol
       let s = stand.stands in
       let high : n ≤ s.archived.last_closed p = omega (arith, reach, s.knows.numbers p) in
       closed_here content es stand.list s.archived s.own s.whole s.given s.parts s.hold code p n (called_here content es stand code p called) low high
+
+  -- a number that the desk doesn't know for closed is closed in none
+  pub open_there : (n p : ℕ) → last_closed old.closed p < n → (content : SetupContent) (es : List Event) (stand : StandTogether g are content es old a) → archive_of stand.list p n ≡ None
+  open_there n p beyond content es stand =
+      let s = stand.stands in
+      s.hold.none_beyond p n (omega (arith, beyond, s.knows.numbers p))
 
 -- it is asked neither of a container nor of a number
 pub is_neither : (asked : Query) → ((container : BoxNumber) → asked ≡ query.Visits container → ⊥) → ((container : BoxNumber) → asked ≡ query.Container container → ⊥) → ((code : String Global) (number : ℕ) → asked ≡ query.Reply code number → ⊥)

@@ -1,44 +1,53 @@
 -- What one archive of a store tells, as the store that it was.
-use Rattle.std.proofs.Common.{◌≡◌, ◌-◌, ℕ, List, Option, sym, subst}
+use Rattle.std.proofs.Common.{◌≡◌, ◌-◌, ℕ, List, Option, sym, ap, subst, ◌∙◌}
 use Rattle.std.specs.Prelude.{string_bytes}
 use Rattle.sqlite_trees.specs.declared.store.Store.{Ghosts}
 use Rattle.office_replies.specs.Events.{Event}
 use Rattle.office_setup.specs.Setups.{SetupContent}
 use Rattle.office_queries.specs.declared.query.Query.{Query}
 use Rattle.office_queries.specs.declared.query.Query.TheVariants as query
+use Rattle.office_history.specs.After.{content_after}
+use Rattle.office_desk.specs.Reports.{partner_called}
 use Rattle.office_desk.specs.declared.desk.Desk.{Desk}
 use Rattle.office_parts.specs.Archives.{Archive}
 use Rattle.office_archives.specs.Keeping.{IsReportIn}
 use Rattle.office_archives.specs.Telling.{IsOfContainer, IsOfNeither, IsOfNumber, IsPlace, TellsAsStore, TellsOwnNumber, with_archives}
 use Rattle.office_archives.specs.Together.{StandTogether, TellsOfOne}
 
-pub container_as : (list : List Archive) (place : ℕ) (asked : Query) (own found : Option (List ℕ)) → IsOfContainer asked → IsReportIn list place asked own → found ≡ with_archives (place - 1) own → TellsAsStore list place asked found
-container_as list place (query.Visits container) own found is told same = (own, told, same)
-container_as list place (query.Container container) own found is told same = (own, told, same)
-container_as list place other own found is told same = absurd is
+pub container_as : (content : SetupContent) (list : List Archive) (place : ℕ) (asked : Query) (own found : Option (List ℕ)) → IsOfContainer asked → IsReportIn list place asked own → found ≡ with_archives (place - 1) own → TellsAsStore content list place asked found
+container_as content list place (query.Visits container) own found is told same = (own, told, same)
+container_as content list place (query.Container container) own found is told same = (own, told, same)
+container_as content list place other own found is told same = absurd is
 
--- the code and the number are those of the query
-pub number_as : (list : List Archive) (place : ℕ) (asked : Query) (code : List ℕ) (n : ℕ) (found : Option (List ℕ)) → IsOfNumber asked code n → TellsOwnNumber list place asked code n found → TellsAsStore list place asked found
-number_as list place (query.Reply partner k) code n found is told =
-    subst (λ m. TellsOwnNumber list place (query.Reply partner k) (string_bytes partner) m found) (sym is.1) (subst (λ c. TellsOwnNumber list place (query.Reply partner k) c n found) (sym is.0) told)
-number_as list place (query.Contrl partner k) code n found is told =
-    subst (λ m. TellsOwnNumber list place (query.Contrl partner k) (string_bytes partner) m found) (sym is.1) (subst (λ c. TellsOwnNumber list place (query.Contrl partner k) c n found) (sym is.0) told)
-number_as list place (query.Ticket partner k) code n found is told =
-    subst (λ m. TellsOwnNumber list place (query.Ticket partner k) (string_bytes partner) m found) (sym is.1) (subst (λ c. TellsOwnNumber list place (query.Ticket partner k) c n found) (sym is.0) told)
-number_as list place other code n found is told = absurd is
+-- the code and the number are those of the query, and this is who has the code
+pub number_as : (content : SetupContent) (list : List Archive) (place : ℕ) (asked : Query) (code : List ℕ) (n : ℕ) (called : Option ℕ) (found : Option (List ℕ)) → IsOfNumber asked code n → partner_called content code ≡ called → TellsOwnNumber list place asked code n called found
+    → TellsAsStore content list place asked found
+number_as content list place (query.Reply partner k) code n called found is who told =
+    let own = query.Reply partner k in
+    subst (λ p. TellsOwnNumber list place own (string_bytes partner) k p found) (sym (ap (partner_called content) is.0 ∙ who))
+    (subst (λ m. TellsOwnNumber list place own (string_bytes partner) m called found) (sym is.1) (subst (λ c. TellsOwnNumber list place own c n called found) (sym is.0) told))
+number_as content list place (query.Contrl partner k) code n called found is who told =
+    let own = query.Contrl partner k in
+    subst (λ p. TellsOwnNumber list place own (string_bytes partner) k p found) (sym (ap (partner_called content) is.0 ∙ who))
+    (subst (λ m. TellsOwnNumber list place own (string_bytes partner) m called found) (sym is.1) (subst (λ c. TellsOwnNumber list place own c n called found) (sym is.0) told))
+number_as content list place (query.Ticket partner k) code n called found is who told =
+    let own = query.Ticket partner k in
+    subst (λ p. TellsOwnNumber list place own (string_bytes partner) k p found) (sym (ap (partner_called content) is.0 ∙ who))
+    (subst (λ m. TellsOwnNumber list place own (string_bytes partner) m called found) (sym is.1) (subst (λ c. TellsOwnNumber list place own c n called found) (sym is.0) told))
+number_as content list place other code n called found is who told = absurd is
 
-pub neither_as : (list : List Archive) (place : ℕ) (asked : Query) (found : Option (List ℕ)) → IsOfNeither asked → IsReportIn list place asked found → TellsAsStore list place asked found
-neither_as list place (query.Visits container) found is told = absurd is
-neither_as list place (query.Container container) found is told = absurd is
-neither_as list place (query.Reply code n) found is told = absurd is
-neither_as list place (query.Contrl code n) found is told = absurd is
-neither_as list place (query.Ticket code n) found is told = absurd is
-neither_as list place other found is told = told
+pub neither_as : (content : SetupContent) (list : List Archive) (place : ℕ) (asked : Query) (found : Option (List ℕ)) → IsOfNeither asked → IsReportIn list place asked found → TellsAsStore content list place asked found
+neither_as content list place (query.Visits container) found is told = absurd is
+neither_as content list place (query.Container container) found is told = absurd is
+neither_as content list place (query.Reply code n) found is told = absurd is
+neither_as content list place (query.Contrl code n) found is told = absurd is
+neither_as content list place (query.Ticket code n) found is told = absurd is
+neither_as content list place other found is told = told
 
 module _ {S A : Type 0} (g : Ghosts S) (are : List Archive → A → Type 0) (desk : Desk S g) (a : A) where
   -- there is one at that place, and it tells so
   pub told_there : (place : ℕ) (asked : Query) (found : Option (List ℕ)) → ((list : List Archive) → are list a → IsPlace list place)
-      → ((content : SetupContent) (es : List Event) (stand : StandTogether g are content es desk a) → TellsAsStore stand.list place asked found) → TellsOfOne g are desk a place asked found
+      → ((content : SetupContent) (es : List Event) (stand : StandTogether g are content es desk a) → TellsAsStore (content_after content es) stand.list place asked found) → TellsOfOne g are desk a place asked found
   told_there place asked found there tells content es stand = record {
     tells = λ is. tells content es stand;
     nothing = λ none. absurd (none (there stand.list stand.these));

@@ -1,5 +1,5 @@
 -- What the archives of a store keep: under a number, and as the stores that they were.
-use Rattle.std.specs.Prelude.{◌≡◌, ℕ, ◌<◌, List, Option, Some, is_some, string_bytes, true}
+use Rattle.std.specs.Prelude.{◌≡◌, ◌⊎◌, ℕ, ◌<◌, ◌≤◌, List, Option, None, Some, is_some, string_bytes, true}
 use Rattle.std.specs.Option.{option_map}
 use Rattle.sqlite.specs.Effect.{Database}
 use Rattle.terminal_core.specs.State.{TerminalState}
@@ -66,3 +66,14 @@ pub record IsClosedBefore (archives : List Archive) (place partner number : ℕ)
   pub earlier : ℕ
   pub before : earlier < place
   pub keeps : archive_of archives partner number ≡ archive_at archives earlier
+
+-- the archive at that place keeps the number, or one at a later place does
+pub record IsKeptFrom (archives : List Archive) (place partner number : ℕ) : Type 0 where
+  pub later : ℕ
+  pub from : place ≤ later
+  pub keeps : archive_of archives partner number ≡ archive_at archives later
+
+-- the number was not closed before the archive at that place was: none keeps it, or one from that place on does
+abbrev pub IsNotClosedBefore : List Archive → (place partner number : ℕ) → Type 0
+IsNotClosedBefore archives place partner number =
+    (archive_of archives partner number ≡ None) ⊎ IsKeptFrom archives place partner number

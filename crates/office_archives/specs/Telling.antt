@@ -8,14 +8,14 @@ use Rattle.office_queries.specs.declared.query.Query.{Query}
 use Rattle.office_queries.specs.declared.query.Query.TheVariants as query
 use Rattle.office_reports.specs.Names.{line}
 use Rattle.office_history.specs.After.{content_after, machine_after}
-use Rattle.office_desk.specs.Reports.{TellsAfter}
+use Rattle.office_desk.specs.Reports.{TellsAfter, partner_called}
 use Rattle.office_parts.specs.Archives.{Archive}
 use Rattle.office_parts.specs.Parts.{Archived}
 use Rattle.office_archive_reports.specs.Closed.{closed_contrl, closed_reply}
 use Rattle.office_archive_reports.specs.Copies.{AreCopies, GoByNumbers}
 use Rattle.office_archive_reports.specs.Counted.{TellsOwnMetrics}
 use Rattle.office_archive_reports.specs.Stayed.{GoOldestFirst, TellsWhatStays, container_if_there}
-use Rattle.office_archives.specs.Keeping.{IsClosedBefore, IsReportIn, IsTicketIn}
+use Rattle.office_archives.specs.Keeping.{IsClosedBefore, IsNotClosedBefore, IsReportIn, IsTicketIn}
 
 -- ---- containers
 
@@ -93,32 +93,39 @@ abbrev pub TellsOwnContainer : List Archive → (place : ℕ) → Query → Opti
 TellsOwnContainer archives place asked found =
     (own : Option (List ℕ)) × IsReportIn archives place asked own × (found ≡ with_archives (place - 1) own)
 
--- of a number: what the archive's own rows tell, or of one that was closed before, its archive
-abbrev pub TellsOwnNumber : List Archive → (place : ℕ) → Query → (code : List ℕ) → (number : ℕ) → Option (List ℕ) →
-    Type 0
-TellsOwnNumber archives place asked code number found =
-    IsReportIn archives place asked found
-    ⊎ ((partner : ℕ) × IsClosedBefore archives place partner number × TellsClosed archives asked code partner number found)
+-- Of a number, of the partner that has the code: what the archive's own rows tell, if it was not closed before; else what its
+-- archive tells. Numbers are from 1. If nobody has the code, what the archive's own rows tell.
+abbrev pub TellsOwnNumber : List Archive → (place : ℕ) → Query → (code : List ℕ) → (number : ℕ) → Option ℕ →
+    Option (List ℕ) → Type 0
+TellsOwnNumber archives place asked code number None found = IsReportIn archives place asked found
+TellsOwnNumber archives place asked code number (Some partner) found =
+    (IsReportIn archives place asked found × (1 ≤ number → IsNotClosedBefore archives place partner number))
+    ⊎ (IsClosedBefore archives place partner number × TellsClosed archives asked code partner number found)
 
--- what the archive at a place tells at a query, as the store that it was, with the archives before it
-abbrev pub TellsAsStore : List Archive → (place : ℕ) → Query → Option (List ℕ) → Type 0
-TellsAsStore archives place (query.Visits container) found =
+-- what the archive at a place tells at a query, as the store that it was, with the archives before it; of a number by the
+-- accounts of this set-up
+abbrev pub TellsAsStore : SetupContent → List Archive → (place : ℕ) → Query → Option (List ℕ) → Type 0
+TellsAsStore content archives place (query.Visits container) found =
     TellsOwnContainer archives place (query.Visits container) found
-TellsAsStore archives place (query.Container container) found =
+TellsAsStore content archives place (query.Container container) found =
     TellsOwnContainer archives place (query.Container container) found
-TellsAsStore archives place (query.Reply code number) found =
-    TellsOwnNumber archives place (query.Reply code number) (string_bytes code) number found
-TellsAsStore archives place (query.Contrl code number) found =
-    TellsOwnNumber archives place (query.Contrl code number) (string_bytes code) number found
-TellsAsStore archives place (query.Ticket code number) found =
-    TellsOwnNumber archives place (query.Ticket code number) (string_bytes code) number found
-TellsAsStore archives place asked found = IsReportIn archives place asked found
+TellsAsStore content archives place (query.Reply code number) found =
+    TellsOwnNumber archives place (query.Reply code number) (string_bytes code) number
+    (partner_called content (string_bytes code)) found
+TellsAsStore content archives place (query.Contrl code number) found =
+    TellsOwnNumber archives place (query.Contrl code number) (string_bytes code) number
+    (partner_called content (string_bytes code)) found
+TellsAsStore content archives place (query.Ticket code number) found =
+    TellsOwnNumber archives place (query.Ticket code number) (string_bytes code) number
+    (partner_called content (string_bytes code)) found
+TellsAsStore content archives place asked found = IsReportIn archives place asked found
 
 -- there is an archive at that place, the first at 1
 abbrev pub IsPlace : List Archive → (place : ℕ) → Type 0
 IsPlace archives place = (1 ≤ place) × (place ≤ length archives)
 
 -- it tells so, and where there is none nothing is reported
-pub record TellsOfArchive (archives : List Archive) (place : ℕ) (asked : Query) (found : Option (List ℕ)) : Type 0 where
-  pub tells : IsPlace archives place → TellsAsStore archives place asked found
+pub record TellsOfArchive (content : SetupContent) (archives : List Archive) (place : ℕ) (asked : Query)
+    (found : Option (List ℕ)) : Type 0 where
+  pub tells : IsPlace archives place → TellsAsStore content archives place asked found
   pub nothing : (IsPlace archives place → ⊥) → found ≡ None

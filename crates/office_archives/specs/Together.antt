@@ -18,7 +18,7 @@ use Rattle.office_checks.specs.Closed.{ClosedContent, closed_content}
 use Rattle.office_rows.specs.Rows.{Rows}
 use Rattle.office_rows.specs.Stored.{StoresRows}
 use Rattle.office_setup.specs.Setups.{SetupContent}
-use Rattle.office_history.specs.After.{SaysSame}
+use Rattle.office_history.specs.After.{SaysSame, content_after}
 use Rattle.office_desk.specs.Accounts.{AnswersAccount}
 use Rattle.office_desk.specs.Answers.{AnswersNext}
 use Rattle.office_desk.specs.Desks.{IsSound}
@@ -140,12 +140,12 @@ TellsBeside g are desk archives asked found =
     (content : SetupContent) (es : List Event) (stand : StandTogether g are content es desk archives)
     → TellsTogether content es stand.list stand.stands.archived stand.stands.whole asked found
 
--- what is reported of the archive at a place
+-- what is reported of the archive at a place, by the accounts after the events
 abbrev pub TellsOfOne : {S A : Type 0} (g : Ghosts S) (are : List Archive → A → Type 0) → Desk S g → A → (place : ℕ) →
     Query → Option (List ℕ) → Type 0
 TellsOfOne g are desk archives place asked found =
     (content : SetupContent) (es : List Event) (stand : StandTogether g are content es desk archives)
-    → TellsOfArchive stand.list place asked found
+    → TellsOfArchive (content_after content es) stand.list place asked found
 
 -- what is reported of whatever is looked at: a page of the kept texts by the store's own rows, if it has no archives
 abbrev pub ShowsBeside : {S A : Type 0} (g : Ghosts S) (are : List Archive → A → Type 0) → Desk S g → A → Look →

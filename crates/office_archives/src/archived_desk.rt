@@ -1,21 +1,26 @@
 ghost use Rattle.std.specs.Option.{option_map};
-ghost use Rattle.std.specs.Prelude.{◌≡◌, ◌&&◌, ◌↔◌, ℕ, nat_le, IfOk, List, OnOk, string_bytes, true, IfSome};
+ghost use Rattle.std.specs.Prelude.{◌≡◌, ◌≤◌, ◌&&◌, ◌↔◌, ℕ, nat_le, IfOk, List, None, OnOk, Some, false, string_bytes, true};
 ghost use Rattle.std.specs.Result.{result_map_both};
 ghost use Rattle.edi_segments.specs.Interchange.{interchange_of};
 ghost use Rattle.office_admission.specs.Outcomes.{IsAdmitted};
-ghost use Rattle.office_archives.specs.Keeping.{IsClosedBefore};
+ghost use Rattle.office_archives.specs.Keeping.{IsClosedBefore, IsNotClosedBefore};
 ghost use Rattle.office_archives.specs.Telling.{IsOfContainer, IsOfNumber, IsPlace, TellsAsStore};
 ghost use Rattle.office_archives.specs.Together.{EnrolsTogether, LeadsTogether, LooksTogether, OnlyLooksTogether, StandTogether, TellsBeside, TellsOfOne};
 ghost use Rattle.office_checks.specs.Closed.{last_closed};
+ghost use Rattle.office_desk.specs.Calls.{OnlyLooks};
 ghost use Rattle.office_desk.specs.Desks.{IsSound};
-ghost use Rattle.office_desk.specs.Reports.{IsOpenFor};
+ghost use Rattle.office_desk.specs.Offices.{DeskHolds};
+ghost use Rattle.office_desk.specs.Reports.{IsOpenFor, partner_called};
+ghost use Rattle.office_history.specs.After.{content_after};
 ghost use Rattle.office_parts.specs.Archives.{Archive};
 ghost use Rattle.office_queries.specs.Looking.{of_archive, report, texts_after};
 ghost use Rattle.office_queries.specs.declared.query.Query.{Query};
 ghost use Rattle.office_replies.specs.Events.{Event};
-ghost use Rattle.office_setup.specs.Setups.{SetupContent};
+ghost use Rattle.office_rows.specs.Rows.{Rows};
+ghost use Rattle.office_setup.specs.Setups.{SetupContent, setup_content};
 ghost use Rattle.sqlite.specs.Held.{state};
 ghost use Rattle.sqlite.specs.State.{HasCleanDisk};
+ghost use Rattle.terminal_core.specs.State.{TerminalState};
 
 use crate::archives::{Archives, answer_closed, partner_called, tell_closed, with_archives};
 use edi_segments::interchange_text;
@@ -25,7 +30,7 @@ use office_queries::{NotNow, Query, Report};
 use office_replies::{AccountAnswer, AddAccount, Deliver, Response};
 use office_tables::TableFault;
 use sqlite::Alter;
-use std::alloc::{AllocError, Global};
+use std::alloc::Global;
 
 /// The desk of a store of which history was put away, and the store's archives: a delivery under a number that is closed
 /// is answered by what these keep, any other by the desk.
@@ -177,11 +182,8 @@ impl<S: Alter + Drop, A: Archives + Drop> ArchivedDesk<S, A> {
             self.new.archives }
         ensures last_fault { self.new.desk.last_fault ≡ self.old.desk.last_fault }
     {
-        let next = Query::Next(String::from_str(alloc, code)?);
-        match self.desk.find_report(alloc, &next)? {
-            None => Ok(None),
-            Some(_) => Err(TableFault::Damaged),
-        }
+        check_nobody(alloc, &mut self.desk, code)?;
+        Ok(None)
     }
 
     /// What is reported at a query; NotNow, if it met a fault, which the desk keeps.
@@ -221,7 +223,7 @@ impl<S: Alter + Drop, A: Archives + Drop> ArchivedDesk<S, A> {
         ensures looks { LooksTogether S.Store A.is_sound A.are self.old.desk self.old.archives (of_archive place query.now)
             (result_map_both (option_map string_bytes) (λ refusal. refusal) result) self.new.desk self.new.archives }
     {
-        match tell_of_archive(alloc, &self.desk, &mut self.archives, place, query) {
+        match tell_of_archive(alloc, &mut self.desk, &mut self.archives, place, query) {
             Ok(found) => Ok(found),
             Err(fault) => {
                 self.desk.note(fault);
@@ -279,17 +281,21 @@ impl<S: Alter + Drop, A: Archives + Drop> Report for ArchivedDesk<S, A> {
 
 /// What the archive at a place tells at a query, as the store that it was: of a container also how many archives there were
 /// then, of a number that was closed before what that number's archive keeps. None if there is no such archive, or it tells
-/// nothing. No archive changes.
+/// nothing. No archive changes, and the desk only looks.
+///
+/// Damaged if nobody is found by the code that a number is asked of, and the store knows the code.
 pub(crate) fn tell_of_archive<S: Alter + Drop, A: Archives>(
     alloc: Global,
-    desk: &Desk<S>,
+    desk: &mut Desk<S>,
     archives: &mut A,
     place: u16,
     query: &Query,
 ) -> Result<Option<String>, TableFault>
-    ensures told { A.is_sound archives.new → IfOk result (λ found.
-        TellsOfOne S.Store A.are desk.now archives.old place query.now (option_map string_bytes found)) }
+    ensures told { IsSound S.Store desk.new → A.is_sound archives.new → IfOk result (λ found.
+        TellsOfOne S.Store A.are desk.old archives.old place query.now (option_map string_bytes found)) }
     ensures same { A.is_sound archives.new → (list : List Archive) → A.are list archives.old → A.are list archives.new }
+    ensures looks { OnlyLooks S.Store desk.old desk.new }
+    ensures last_fault { desk.new.last_fault ≡ desk.old.last_fault }
 {
     if !has_place(archives, place) {
         return Ok(None);
@@ -324,8 +330,8 @@ fn tell_container<A: Archives>(
     query: &Query,
 ) -> Result<Option<String>, TableFault>
     requires { IsOfContainer query.now }
-    ensures told { A.is_sound archives.new → IfOk result (λ found. (list : List Archive) → A.are list archives.old →
-        TellsAsStore list place query.now (option_map string_bytes found)) }
+    ensures told { A.is_sound archives.new → IfOk result (λ found. (content : SetupContent) (list : List Archive) →
+        A.are list archives.old → TellsAsStore content list place query.now (option_map string_bytes found)) }
     ensures same { A.is_sound archives.new → (list : List Archive) → A.are list archives.old → A.are list archives.new }
 {
     let told = archives.report(alloc, place, query)?;
@@ -336,7 +342,7 @@ fn tell_container<A: Archives>(
 /// What is reported of a number: by the archive before that place which closed it, or by the archive at that place.
 fn tell_number<S: Alter + Drop, A: Archives>(
     alloc: Global,
-    desk: &Desk<S>,
+    desk: &mut Desk<S>,
     archives: &mut A,
     place: u16,
     query: &Query,
@@ -344,38 +350,64 @@ fn tell_number<S: Alter + Drop, A: Archives>(
     number: u32,
 ) -> Result<Option<String>, TableFault>
     requires { IsOfNumber query.now code.now number }
-    ensures told { A.is_sound archives.new → IfOk result (λ found. (content : SetupContent) (es : List Event)
-        (stand : StandTogether S.Store A.are content es desk.now archives.old) →
-        TellsAsStore stand.list place query.now (option_map string_bytes found)) }
+    ensures told { IsSound S.Store desk.new → A.is_sound archives.new → IfOk result (λ found.
+        (content : SetupContent) (es : List Event)
+        (stand : StandTogether S.Store A.are content es desk.old archives.old) →
+        TellsAsStore (content_after content es) stand.list place query.now (option_map string_bytes found)) }
     ensures same { A.is_sound archives.new → (list : List Archive) → A.are list archives.old → A.are list archives.new }
+    ensures looks { OnlyLooks S.Store desk.old desk.new }
+    ensures last_fault { desk.new.last_fault ≡ desk.old.last_fault }
 {
-    match closed_before(alloc, desk, archives, place, code, number)? {
-        Some(partner) => tell_closed(alloc, archives, query, code, partner, number),
-        None => archives.report(alloc, place, query),
+    let Some(partner) = partner_called(alloc, desk, code)? else {
+        check_nobody(alloc, desk, code)?;
+        return archives.report(alloc, place, query);
+    };
+    if closed_before(desk, archives, place, partner, number) {
+        tell_closed(alloc, archives, query, code, partner, number)
+    } else {
+        archives.report(alloc, place, query)
     }
 }
 
-/// The partner with a code, if its number is closed and an archive before that place keeps it.
-fn closed_before<S: Alter + Drop, A: Archives>(
-    alloc: Global,
+/// Whether an archive before that place keeps the number of a partner with a code. Numbers are from 1.
+fn closed_before<S: Alter, A: Archives>(
     desk: &Desk<S>,
     archives: &A,
     place: u16,
-    code: &str,
+    partner: u16,
     number: u32,
-) -> Result<Option<u16>, AllocError>
-    ensures { IfOk result (λ found. IfSome found (λ partner. (content : SetupContent) (es : List Event)
-        (stand : StandTogether S.Store A.are content es desk.now archives.now) →
-        IsClosedBefore stand.list place partner number)) }
+) -> bool
+    ensures before { result ≡ true → (code : List ℕ) → partner_called (setup_content desk.now.setup) code ≡ Some partner →
+        (content : SetupContent) (es : List Event) (stand : StandTogether S.Store A.are content es desk.now archives.now) →
+        IsClosedBefore stand.list place partner number }
+    ensures not_before { result ≡ false → 1 ≤ number →
+        (code : List ℕ) → partner_called (setup_content desk.now.setup) code ≡ Some partner →
+        (content : SetupContent) (es : List Event) (stand : StandTogether S.Store A.are content es desk.now archives.now) →
+        IsNotClosedBefore stand.list place partner number }
 {
-    let Some(partner) = partner_called(alloc, desk, code)? else {
-        return Ok(None);
-    };
     if number == 0 || !desk.is_closed(partner, number) {
-        return Ok(None);
+        return false;
     }
     match archives.place_of(partner, number) {
-        Some(earlier) if earlier < place => Ok(Some(partner)),
-        _ => Ok(None),
+        Some(keeper) => keeper < place,
+        None => false,
+    }
+}
+
+/// Checks that no account has a code, by its next number. Damaged if one has.
+fn check_nobody<S: Alter + Drop>(
+    alloc: Global,
+    desk: &mut Desk<S>,
+    code: &str,
+) -> Result<(), TableFault>
+    ensures nobody { IsSound S.Store desk.new → OnOk result ((rows : Rows) (terminal : TerminalState) →
+        DeskHolds S.Store desk.old rows terminal → partner_called (setup_content desk.old.setup) code.now ≡ None) }
+    ensures looks { OnlyLooks S.Store desk.old desk.new }
+    ensures last_fault { desk.new.last_fault ≡ desk.old.last_fault }
+{
+    let next = Query::Next(String::from_str(alloc, code)?);
+    match desk.find_report(alloc, &next)? {
+        None => Ok(()),
+        Some(_) => Err(TableFault::Damaged),
     }
 }

@@ -1,25 +1,45 @@
-use Rattle.std.proofs.Common.{List, IfSome, inl, inr, option_map, string_bytes, subst}
+use Rattle.std.proofs.Common.{◌≡◌, None, Some, IfSome, inl, inr, option_map, string_bytes, subst}
 use Rattle.office_rows.proofs.StepLemmas.{if_ok}
-use Rattle.office_replies.specs.Events.{Event}
-use Rattle.office_setup.specs.Setups.{SetupContent}
-use Rattle.office_archives.specs.Keeping.{IsClosedBefore}
-use Rattle.office_archives.specs.Together.{StandTogether}
+use Rattle.office_setup.specs.Setups.{setup_content}
+use Rattle.office_history.specs.After.{content_after}
+use Rattle.office_desk.specs.Reports.{partner_called}
+use Rattle.office_archives.proofs.Beside.{called_here, nobody_here}
 use Rattle.office_archives.proofs.OfArchive.{number_as}
 use Rattle.office_archives.proofs.archived_desk.tell_number.Goals as goal
 
--- an archive before it keeps the number
-pub returns-in-Some-clause-told : goal.returns-in-Some-clause-told
-returns-in-Some-clause-told g c = λ whole.
+pub returns-in_default-clause-told : goal.returns-in_default-clause-told
+returns-in_default-clause-told g c = λ sound whole.
     let desk = c.args.desk.now in
     let archives = c.args.archives.now in
-    let before = subst (λ o. IfSome o (λ p. (content : SetupContent) (es : List Event) (stand : StandTogether g.S.Store g.A.Archives.are content es desk archives) → IsClosedBefore stand.list c.args.place p c.args.number)) c.in-Some.is c.in_ok-partner.ensures in
+    let code = c.args.code.now in
+    if_ok c.report.result (λ found told content es stand.
+    number_as (content_after content es) stand.list c.args.place c.args.query.now code c.args.number None (option_map string_bytes found) c.requires
+    (nobody_here g.S.Store g.A.Archives.are desk archives content es stand code (c.in_ok-check_nobody.ensures.nobody sound))
+    (told stand.list stand.these))
+    (c.report.ensures.report whole)
+
+-- an archive before it keeps the number
+pub returns-then-closed_before-clause-told : goal.returns-then-closed_before-clause-told
+returns-then-closed_before-clause-told g c = λ sound whole.
+    let desk = c.args.desk.now in
+    let archives = c.args.archives.now in
+    let code = c.args.code.now in
+    let called : partner_called (setup_content desk.setup) code ≡ Some c.in-Some.partner = subst (λ o. IfSome o (λ p. partner_called (setup_content desk.setup) code ≡ Some p)) c.in-Some.is c.in_ok-partner.ensures.known in
     if_ok c.tell_closed.result (λ found told content es stand.
-    let is = before content es stand in
-    number_as stand.list c.args.place c.args.query.now c.args.code.now c.args.number (option_map string_bytes found) c.requires (inr (c.in-Some.partner, is, told stand.list stand.these is.closed)))
+    let is = c.closed_before.ensures.before c.if-closed_before.true code called content es stand in
+    number_as (content_after content es) stand.list c.args.place c.args.query.now code c.args.number (Some c.in-Some.partner) (option_map string_bytes found) c.requires
+    (called_here g.S.Store g.A.Archives.are desk archives content es stand code c.in-Some.partner called)
+    (inr (is, told stand.list stand.these is.closed)))
     (c.tell_closed.ensures.told whole)
 
-pub returns-in-None-clause-told : goal.returns-in-None-clause-told
-returns-in-None-clause-told g c = λ whole.
-    if_ok c.report.result (λ found told content es stand.
-    number_as stand.list c.args.place c.args.query.now c.args.code.now c.args.number (option_map string_bytes found) c.requires (inl (told stand.list stand.these)))
-    (c.report.ensures.report whole)
+pub returns-else-closed_before-clause-told : goal.returns-else-closed_before-clause-told
+returns-else-closed_before-clause-told g c = λ sound whole.
+    let desk = c.args.desk.now in
+    let archives = c.args.archives.now in
+    let code = c.args.code.now in
+    let called : partner_called (setup_content desk.setup) code ≡ Some c.in-Some.partner = subst (λ o. IfSome o (λ p. partner_called (setup_content desk.setup) code ≡ Some p)) c.in-Some.is c.in_ok-partner.ensures.known in
+    if_ok c.report-else-closed_before.result (λ found told content es stand.
+    number_as (content_after content es) stand.list c.args.place c.args.query.now code c.args.number (Some c.in-Some.partner) (option_map string_bytes found) c.requires
+    (called_here g.S.Store g.A.Archives.are desk archives content es stand code c.in-Some.partner called)
+    (inl (told stand.list stand.these, λ low. c.closed_before.ensures.not_before c.if-closed_before.false low code called content es stand)))
+    (c.report-else-closed_before.ensures.report whole)
