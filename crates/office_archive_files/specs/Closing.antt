@@ -27,6 +27,6 @@ pub record ClosesOver {D T : Type 0} {g : Ghosts D} (store archive : List ℕ)
   pub found_register : Held (FileStore D g)
   pub found_copy : Held (FileStore D g)
   pub found_copied : Held (FileStore D g)
-  pub idle : AreIdle (files over_files found_own found_register found_copy found_copied)
-  pub closes : Closes names (files over_files found_own found_register found_copy found_copied)
-      (files over_files own register copy copied) result
+  pub idle : AreIdle (files over_files over_files over_files over_files found_own found_register found_copy found_copied)
+  pub closes : Closes names (files over_files over_files over_files over_files found_own found_register found_copy found_copied)
+      (files over_files over_files over_files over_files own register copy copied) result

@@ -1,5 +1,7 @@
 ghost use Rattle.std.specs.Prelude.{◌≡◌, IfOk, IfSome, false};
 ghost use Rattle.office_archive_files.specs.Closing.{ClosesOver};
+ghost use Rattle.office_closing.specs.Closes.{Closes};
+ghost use Rattle.office_closing.specs.Files.{AreIdle, files};
 ghost use Rattle.sqlite.specs.Held.{state};
 
 use crate::register::{beside_path, found_at, has_no_tables, is_there, place_of, register_path};
@@ -63,7 +65,7 @@ pub fn close_over(
     let mut copy = open_office(rt, archive, File::Archive)?;
     let (mut names, names_none) = open_register(rt, store, true, File::Register)?;
     let (mut copied, _) = open_register(rt, archive, names_none, File::ArchiveRegister)?;
-    let closed = close(
+    let closed = close_alike(
         rt.alloc(),
         &mut own,
         &mut names,
@@ -79,6 +81,33 @@ pub fn close_over(
         archive_register: copied,
     };
     Ok((files, closed))
+}
+
+/// Puts away what an archive keeps, over four files of one kind.
+fn close_alike<S: Alter>(
+    alloc: Global,
+    store: &mut Connection<S>,
+    register: &mut Connection<S>,
+    archive: &mut Connection<S>,
+    archive_register: &mut Connection<S>,
+    store_file: &str,
+    archive_file: &str,
+) -> Result<(), CloseFault>
+    requires idle { AreIdle (files S.Store S.Store S.Store S.Store store.old register.old archive.old
+        archive_register.old) }
+    ensures closes { Closes (record { store = store_file.now; archive = archive_file.now })
+        (files S.Store S.Store S.Store S.Store store.old register.old archive.old archive_register.old)
+        (files S.Store S.Store S.Store S.Store store.new register.new archive.new archive_register.new) result }
+{
+    close(
+        alloc,
+        store,
+        register,
+        archive,
+        archive_register,
+        store_file,
+        archive_file,
+    )
 }
 
 /// Refuses an archive that lies in another folder than its store.

@@ -12,12 +12,15 @@ pub record Files : Type 1 where
   pub archive : State
   pub archive_register : State
 
-abbrev pub files : {S : Type 0} → Ghosts S → Held S → Held S → Held S → Held S → Files
-files g store register archive archive_register = record {
-  store = state g store;
-  register = state g register;
-  archive = state g archive;
-  archive_register = state g archive_register;
+-- The connections may be of four types: what is said of a file goes by its type, so that two files under one type would be
+-- said to hold the same.
+abbrev pub files : {S R A M : Type 0} → Ghosts S → Ghosts R → Ghosts A → Ghosts M →
+    Held S → Held R → Held A → Held M → Files
+files s r a m store register archive archive_register = record {
+  store = state s store;
+  register = state r register;
+  archive = state a archive;
+  archive_register = state m archive_register;
 }
 
 -- the disks have returned what was written

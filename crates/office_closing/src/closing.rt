@@ -27,19 +27,19 @@ use std::alloc::Global;
 /// the store. The archive is marked for the store first, then the store's register has the archive, and then rows go.
 ///
 /// If it was stopped, it goes on when it is called again with the same files. It changes nothing if the archive is refused.
-pub fn close<S: Alter>(
+pub fn close<S: Alter, R: Alter, A: Alter, M: Alter>(
     alloc: Global,
     store: &mut Connection<S>,
-    register: &mut Connection<S>,
-    archive: &mut Connection<S>,
-    archive_register: &mut Connection<S>,
+    register: &mut Connection<R>,
+    archive: &mut Connection<A>,
+    archive_register: &mut Connection<M>,
     store_file: &str,
     archive_file: &str,
 ) -> Result<(), CloseFault>
-    requires idle { AreIdle (files S.Store store.old register.old archive.old archive_register.old) }
+    requires idle { AreIdle (files S.Store R.Store A.Store M.Store store.old register.old archive.old archive_register.old) }
     ensures closes { Closes (record { store = store_file.now; archive = archive_file.now })
-        (files S.Store store.old register.old archive.old archive_register.old)
-        (files S.Store store.new register.new archive.new archive_register.new) result }
+        (files S.Store R.Store A.Store M.Store store.old register.old archive.old archive_register.old)
+        (files S.Store R.Store A.Store M.Store store.new register.new archive.new archive_register.new) result }
 {
     check_idle(store, register, archive, archive_register);
     let plan = judge(
@@ -67,14 +67,14 @@ fn not_written(file: File, fault: TableFault) -> CloseFault
 }
 
 /// That no transaction is open on any of the files.
-fn check_idle<S: Alter>(
+fn check_idle<S: Alter, R: Alter, A: Alter, M: Alter>(
     store: &Connection<S>,
-    register: &Connection<S>,
-    archive: &Connection<S>,
-    archive_register: &Connection<S>,
+    register: &Connection<R>,
+    archive: &Connection<A>,
+    archive_register: &Connection<M>,
 )
-    requires { AreIdle (files S.Store store.now register.now archive.now archive_register.now) }
-    ensures { AreResting (files S.Store store.now register.now archive.now archive_register.now) }
+    requires { AreIdle (files S.Store R.Store A.Store M.Store store.now register.now archive.now archive_register.now) }
+    ensures { AreResting (files S.Store R.Store A.Store M.Store store.now register.now archive.now archive_register.now) }
 {
     let store_is = store.is_autocommit();
     let register_is = register.is_autocommit();

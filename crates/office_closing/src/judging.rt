@@ -31,26 +31,26 @@ use std::alloc::Global;
 use terminal_core::Terminal;
 
 /// What a closing is to do, if the archive is a copy of the store and keeps what goes. It changes none of the files.
-pub(crate) fn judge<S: Alter>(
+pub(crate) fn judge<S: Alter, R: Alter, A: Alter, M: Alter>(
     alloc: Global,
     store: &mut Connection<S>,
-    register: &mut Connection<S>,
-    archive: &mut Connection<S>,
-    archive_register: &mut Connection<S>,
+    register: &mut Connection<R>,
+    archive: &mut Connection<A>,
+    archive_register: &mut Connection<M>,
     store_file: &str,
     archive_file: &str,
 ) -> Result<Plan, CloseFault>
-    ensures read { AreRead (files S.Store store.old register.old archive.old archive_register.old)
-        (files S.Store store.new register.new archive.new archive_register.new) result }
-    ensures judged { AreClean (files S.Store store.new register.new archive.new archive_register.new) →
+    ensures read { AreRead (files S.Store R.Store A.Store M.Store store.old register.old archive.old archive_register.old)
+        (files S.Store R.Store A.Store M.Store store.new register.new archive.new archive_register.new) result }
+    ensures judged { AreClean (files S.Store R.Store A.Store M.Store store.new register.new archive.new archive_register.new) →
         IfOk result (λ plan. (held : Held) →
-        AreHeld held (files S.Store store.old register.old archive.old archive_register.old) →
+        AreHeld held (files S.Store R.Store A.Store M.Store store.old register.old archive.old archive_register.old) →
         IsJudged held (record { store = store_file.now; archive = archive_file.now }) plan) }
-    ensures tells { AreClean (files S.Store store.new register.new archive.new archive_register.new) →
+    ensures tells { AreClean (files S.Store R.Store A.Store M.Store store.new register.new archive.new archive_register.new) →
         IfErr result (λ fault. (held : Held) →
-        AreHeld held (files S.Store store.old register.old archive.old archive_register.old) →
+        AreHeld held (files S.Store R.Store A.Store M.Store store.old register.old archive.old archive_register.old) →
         Tells held.own held.copy (record { store = store_file.now; archive = archive_file.now })
-        (files S.Store store.old register.old archive.old archive_register.old) fault) }
+        (files S.Store R.Store A.Store M.Store store.old register.old archive.old archive_register.old) fault) }
 {
     let own = open_office(alloc, store, register, File::Store, File::Register)?;
     let copy = open_office(
@@ -66,20 +66,20 @@ pub(crate) fn judge<S: Alter>(
 }
 
 /// The store, or an archive, as its register says what is closed. It changes neither file.
-pub(crate) fn open_office<S: Alter>(
+pub(crate) fn open_office<S: Alter, R: Alter>(
     alloc: Global,
     conn: &mut Connection<S>,
-    register: &mut Connection<S>,
+    register: &mut Connection<R>,
     conn_is: File,
     register_is: File,
 ) -> Result<Opened, CloseFault>
-    ensures opened { HasCleanDisk (state S.Store conn.new) → HasCleanDisk (state S.Store register.new) →
-        IfOk result (λ opened. IsOpened (state S.Store conn.old).now (state S.Store register.old).now
+    ensures opened { HasCleanDisk (state S.Store conn.new) → HasCleanDisk (state R.Store register.new) →
+        IfOk result (λ opened. IsOpened (state S.Store conn.old).now (state R.Store register.old).now
         (office_content opened)) }
     ensures sound { IfOk result (λ opened. IsTrue (is_sound (register_content opened.register))) }
     ensures fault { IfErr result IsOfFile }
     ensures rows_read { IsRead (state S.Store conn.old) (state S.Store conn.new) result }
-    ensures register_read { IsRead (state S.Store register.old) (state S.Store register.new) result }
+    ensures register_read { IsRead (state R.Store register.old) (state R.Store register.new) result }
 {
     let told = register_of(alloc, register, register_is)?;
     let closed = told.closed(alloc)?;
@@ -147,21 +147,21 @@ fn nexts_of<S: Alter>(
 }
 
 /// That the archive keeps, under each number that this call closes, what the store keeps.
-fn compare_all<S: Alter>(
+fn compare_all<S: Alter, A: Alter>(
     store: &mut Connection<S>,
-    archive: &mut Connection<S>,
+    archive: &mut Connection<A>,
     plan: &Plan,
 ) -> Result<(), CloseFault>
-    ensures compared { HasCleanDisk (state S.Store store.new) → HasCleanDisk (state S.Store archive.new) →
+    ensures compared { HasCleanDisk (state S.Store store.new) → HasCleanDisk (state A.Store archive.new) →
         OnOk result ((held : Held) → HasRows held.own (state S.Store store.old).now →
-        HasRows held.copy (state S.Store archive.old).now → AreKeptOnce held.own.interchanges →
+        HasRows held.copy (state A.Store archive.old).now → AreKeptOnce held.own.interchanges →
         AreKeptOnce held.copy.interchanges → IsComparedIf plan.now held) }
-    ensures fault { HasCleanDisk (state S.Store store.new) → HasCleanDisk (state S.Store archive.new) →
+    ensures fault { HasCleanDisk (state S.Store store.new) → HasCleanDisk (state A.Store archive.new) →
         IfErr result (λ fault. (own copy : Rows) → HasRows own (state S.Store store.old).now →
-        HasRows copy (state S.Store archive.old).now → AreKeptOnce own.interchanges → AreKeptOnce copy.interchanges →
+        HasRows copy (state A.Store archive.old).now → AreKeptOnce own.interchanges → AreKeptOnce copy.interchanges →
         IsOfComparing own copy fault) }
     ensures store_read { IsReadIfOpen (state S.Store store.old) (state S.Store store.new) result }
-    ensures archive_read { IsReadIfOpen (state S.Store archive.old) (state S.Store archive.new) result }
+    ensures archive_read { IsReadIfOpen (state A.Store archive.old) (state A.Store archive.new) result }
 {
     let is_due = is_unraised(plan.stage);
     if is_due {
@@ -172,21 +172,21 @@ fn compare_all<S: Alter>(
 }
 
 /// That the archive keeps under these numbers what the store keeps.
-fn compare_numbers<S: Alter>(
+fn compare_numbers<S: Alter, A: Alter>(
     store: &mut Connection<S>,
-    archive: &mut Connection<S>,
+    archive: &mut Connection<A>,
     numbers: &[Numbers],
 ) -> Result<(), CloseFault>
-    ensures compared { HasCleanDisk (state S.Store store.new) → HasCleanDisk (state S.Store archive.new) →
+    ensures compared { HasCleanDisk (state S.Store store.new) → HasCleanDisk (state A.Store archive.new) →
         OnOk result ((own copy : Rows) → HasRows own (state S.Store store.old).now →
-        HasRows copy (state S.Store archive.old).now → AreKeptOnce own.interchanges → AreKeptOnce copy.interchanges →
+        HasRows copy (state A.Store archive.old).now → AreKeptOnce own.interchanges → AreKeptOnce copy.interchanges →
         IsComparedAs numbers.now own copy None) }
-    ensures fault { HasCleanDisk (state S.Store store.new) → HasCleanDisk (state S.Store archive.new) →
+    ensures fault { HasCleanDisk (state S.Store store.new) → HasCleanDisk (state A.Store archive.new) →
         IfErr result (λ fault. (own copy : Rows) → HasRows own (state S.Store store.old).now →
-        HasRows copy (state S.Store archive.old).now → AreKeptOnce own.interchanges → AreKeptOnce copy.interchanges →
+        HasRows copy (state A.Store archive.old).now → AreKeptOnce own.interchanges → AreKeptOnce copy.interchanges →
         IsOfComparing own copy fault) }
     ensures store_read { IsReadIfOpen (state S.Store store.old) (state S.Store store.new) result }
-    ensures archive_read { IsReadIfOpen (state S.Store archive.old) (state S.Store archive.new) result }
+    ensures archive_read { IsReadIfOpen (state A.Store archive.old) (state A.Store archive.new) result }
 {
     match compare(store, archive, numbers) {
         Ok(None) => Ok(()),

@@ -11,5 +11,5 @@ returns c = record {
   found_copy = c.in_ok-copy.copy;
   found_copied = c.in_ok-copied.copied;
   idle = record { store = c.in_ok-own.ensures; register = c.in_ok-names.ensures; archive = c.in_ok-copy.ensures; archive_register = c.in_ok-copied.ensures };
-  closes = c.close-closed.ensures.closes;
+  closes = c.close_alike-closed.ensures.closes;
 }

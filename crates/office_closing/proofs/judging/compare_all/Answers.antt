@@ -22,13 +22,13 @@ of_held plan numbers store archive (Err fault) same compared = tt
 
 pub returns-then-is_due-clause-compared : goal.returns-then-is_due-clause-compared
 returns-then-is_due-clause-compared g c here there =
-    of_held c.args.plan.now _ (state g.S.Store c.args.store.now).now (state g.S.Store c.args.archive.now).now c.compare_numbers.result c.deref.ensures.value (c.compare_numbers.ensures.compared here there)
+    of_held c.args.plan.now _ (state g.S.Store c.args.store.now).now (state g.A.Store c.args.archive.now).now c.compare_numbers.result c.deref.ensures.value (c.compare_numbers.ensures.compared here there)
 
 pub returns-else-is_due-clause-store_read : goal.returns-else-is_due-clause-store_read
 returns-else-is_due-clause-store_read g c = none_read (state g.S.Store c.args.store.now) _
 
 pub returns-else-is_due-clause-archive_read : goal.returns-else-is_due-clause-archive_read
-returns-else-is_due-clause-archive_read g c = none_read (state g.S.Store c.args.archive.now) _
+returns-else-is_due-clause-archive_read g c = none_read (state g.A.Store c.args.archive.now) _
 
 pub returns-else-is_due-clause-compared : goal.returns-else-is_due-clause-compared
 returns-else-is_due-clause-compared g c here there held own_has copy_has own_once copy_once due =

@@ -16,8 +16,8 @@ returns-in_err-own-clause-read g c =
     rw (p.1, p.2) (record {
       store = failed _ c.in_err-own.ensures.rows_read;
       register = failed _ c.in_err-own.ensures.register_read;
-      archive = untouched_err (state g.S.Store c.args.archive.now) _;
-      archive_register = untouched_err (state g.S.Store c.args.archive_register.now) _;
+      archive = untouched_err (state g.A.Store c.args.archive.now) _;
+      archive_register = untouched_err (state g.M.Store c.args.archive_register.now) _;
     })
 
 pub returns-in_err-copy-clause-read : goal.returns-in_err-copy-clause-read
@@ -61,12 +61,12 @@ returns-clause-read g c = record {
 pub returns-clause-judged : goal.returns-clause-judged
 returns-clause-judged g c clean held has =
     let names : FileNames = record { store = c.args.store_file.now; archive = c.args.archive_file.now } in
-    let old = files g.S.Store c.args.store.now c.args.register.now c.args.archive.now c.args.archive_register.now in
+    let old = files g.S.Store g.R.Store g.A.Store g.M.Store c.args.store.now c.args.register.now c.args.archive.now c.args.archive_register.now in
     let own = c.in_ok-own.ensures in
     let copy = c.in_ok-copy.ensures in
     let call = c.in_ok-compare_all.ensures in
     let store_clean : HasCleanDisk (state g.S.Store c.open_office.new.conn) = omega (arith, call.store_read.survives.clean, clean.store) in
-    let archive_clean : HasCleanDisk (state g.S.Store c.open_office-2.new.conn) = omega (arith, call.archive_read.survives.clean, clean.archive) in
+    let archive_clean : HasCleanDisk (state g.A.Store c.open_office-2.new.conn) = omega (arith, call.archive_read.survives.clean, clean.archive) in
     let own_has = subst (HasRows held.own) (sym (own.rows_read.unchanged store_clean).0.now_is) has.own in
     let copy_has = subst (HasRows held.copy) (sym (copy.rows_read.unchanged archive_clean).0.now_is) has.copy in
     plan_judged held old has names (office_content c.in_ok-own.own) (office_content c.in_ok-copy.copy) (own.opened store_clean clean.register) (copy.opened archive_clean clean.archive_register)
@@ -79,21 +79,21 @@ pub returns-in_err-own-clause-tells : goal.returns-in_err-own-clause-tells
 returns-in_err-own-clause-tells g c clean =
     let p = err_from_is_err_and c.from_residual.result c.from_residual.ensures.1 in
     let names : FileNames = record { store = c.args.store_file.now; archive = c.args.archive_file.now } in
-    let old = files g.S.Store c.args.store.now c.args.register.now c.args.archive.now c.args.archive_register.now in
+    let old = files g.S.Store g.R.Store g.A.Store g.M.Store c.args.store.now c.args.register.now c.args.archive.now c.args.archive_register.now in
     rw (p.1, p.2) (λ held has. file_tells held.own held.copy names old _ c.in_err-own.ensures.fault)
 
 pub returns-in_err-copy-clause-tells : goal.returns-in_err-copy-clause-tells
 returns-in_err-copy-clause-tells g c clean =
     let p = err_from_is_err_and c.from_residual-in_err-copy.result c.from_residual-in_err-copy.ensures.1 in
     let names : FileNames = record { store = c.args.store_file.now; archive = c.args.archive_file.now } in
-    let old = files g.S.Store c.args.store.now c.args.register.now c.args.archive.now c.args.archive_register.now in
+    let old = files g.S.Store g.R.Store g.A.Store g.M.Store c.args.store.now c.args.register.now c.args.archive.now c.args.archive_register.now in
     rw (p.1, p.2) (λ held has. file_tells held.own held.copy names old _ c.in_err-copy.ensures.fault)
 
 pub returns-in_err-plan-clause-tells : goal.returns-in_err-plan-clause-tells
 returns-in_err-plan-clause-tells g c clean =
     let p = err_from_is_err_and c.from_residual-in_err-plan.result c.from_residual-in_err-plan.ensures.1 in
     let names : FileNames = record { store = c.args.store_file.now; archive = c.args.archive_file.now } in
-    let old = files g.S.Store c.args.store.now c.args.register.now c.args.archive.now c.args.archive_register.now in
+    let old = files g.S.Store g.R.Store g.A.Store g.M.Store c.args.store.now c.args.register.now c.args.archive.now c.args.archive_register.now in
     rw (p.1, p.2) (λ held has.
     plan_tells held.own held.copy names old (office_content c.in_ok-own.own) (office_content c.in_ok-copy.copy) (c.in_ok-own.ensures.opened clean.store clean.register)
     (c.in_ok-copy.ensures.opened clean.archive clean.archive_register) _ c.in_err-plan.ensures.err)
@@ -102,12 +102,12 @@ pub returns-in_err-compare_all-clause-tells : goal.returns-in_err-compare_all-cl
 returns-in_err-compare_all-clause-tells g c clean =
     let p = err_from_is_err_and c.from_residual-in_err-compare_all.result c.from_residual-in_err-compare_all.ensures.1 in
     let names : FileNames = record { store = c.args.store_file.now; archive = c.args.archive_file.now } in
-    let old = files g.S.Store c.args.store.now c.args.register.now c.args.archive.now c.args.archive_register.now in
+    let old = files g.S.Store g.R.Store g.A.Store g.M.Store c.args.store.now c.args.register.now c.args.archive.now c.args.archive_register.now in
     let own = c.in_ok-own.ensures in
     let copy = c.in_ok-copy.ensures in
     let call = c.in_err-compare_all.ensures in
     let store_clean : HasCleanDisk (state g.S.Store c.open_office.new.conn) = omega (arith, call.store_read.survives.clean, clean.store) in
-    let archive_clean : HasCleanDisk (state g.S.Store c.open_office-2.new.conn) = omega (arith, call.archive_read.survives.clean, clean.archive) in
+    let archive_clean : HasCleanDisk (state g.A.Store c.open_office-2.new.conn) = omega (arith, call.archive_read.survives.clean, clean.archive) in
     rw (p.1, p.2) (λ held has.
     let own_has = subst (HasRows held.own) (sym (own.rows_read.unchanged store_clean).0.now_is) has.own in
     let copy_has = subst (HasRows held.copy) (sym (copy.rows_read.unchanged archive_clean).0.now_is) has.copy in
