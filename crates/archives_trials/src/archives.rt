@@ -115,6 +115,8 @@ struct Drawer {
 }
 
 impl Shelf<MemStore> for Drawer {
+    ghost is_known = { λ place. ⊥ };
+
     ghost holds = { λ list drawer. ⊥ };
 
     fn open(&mut self, place: u16) -> Result<Connection<MemStore>, TableFault> {

@@ -35,10 +35,10 @@ impl Words {
         text: " is an archive: work on the store that went on, and ask this one only for reports",
     };
 
-    /// The texts of a store with archives are in several files.
+    /// The texts of a store with archives are in several files, which only the command reads.
     pub(crate) const HAS_ARCHIVES: Words = Words {
         follow_path: true,
-        text: " has archives: only a store without archives gives its texts",
+        text: " has archives: its texts are printed by office texts, and not told over HTTP",
     };
 
     /// A register lies where a store is to be made.
@@ -238,7 +238,7 @@ impl<'a> Causes<'a> {
     fn cause(&self, rt: &HostRuntime, why: &WhyNotNow<'_>) -> Cause<'a> {
         let words = match why.fault {
             _ if why.is_nameless => Words::NAMELESS,
-            // An open store says so only where its texts are asked for and it has archives.
+            // An open store says so only where its texts are asked for over HTTP and it has archives.
             Some(TableFault::Version) => Words::HAS_ARCHIVES,
             Some(fault) => words_of(rt, self.path, fault),
             None => Words::MEMORY,

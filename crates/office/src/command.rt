@@ -4,13 +4,14 @@ use crate::causes::{
 };
 use crate::explain::explain;
 use crate::history::{
-    Way, archives, close, may_be_made, tell_open, tell_open_cause, tell_texts_closed,
-    way_to_deliver, way_to_look,
+    Way, archives, close, may_be_made, tell_open, tell_open_cause, way_to_deliver, way_to_look,
 };
 use crate::init::init;
 use crate::request_log::RequestLog;
 use crate::watch::DeliveryWatch;
-use office_archive_files::{account_beside, deliver_beside, report_beside, serve_beside};
+use office_archive_files::{
+    account_beside, deliver_beside, report_beside, serve_beside, texts_beside,
+};
 use office_command_line::{CommandFault, REPORT_KINDS, Request, read_command};
 use office_commands::{
     COMMAND_LINE, DONE, FAILED, Faults, MigrationFault, Service, account_over, deliver_over,
@@ -306,8 +307,8 @@ fn tell_reported<E: Write, D: Drop>(
     }
 }
 
-/// `texts DB [FROM]`: prints the texts that are kept after the first FROM, in the order in which they came, or `none` if
-/// there are fewer.
+/// `texts DB [FROM]`: prints the texts that are kept after the first FROM, in the order in which they came, those of its
+/// archives first, or `none` if there are fewer.
 pub(crate) fn texts<W: Write, E: Write>(
     rt: &HostRuntime,
     store: &str,
@@ -316,16 +317,40 @@ pub(crate) fn texts<W: Write, E: Write>(
     errors: &mut Port<E>,
 ) -> u8 {
     match way_to_look(rt, store, errors) {
-        Way::Alone => {}
-        Way::BesideArchives => return tell_texts_closed(rt, errors, store),
-        Way::Refused(status) => return status,
+        Way::Alone => texts_alone(rt, store, from, writer, errors),
+        Way::BesideArchives => texts_with_archives(rt, store, from, writer, errors),
+        Way::Refused(status) => status,
     }
+}
+
+/// Prints the texts of a store of which nothing was put away.
+fn texts_alone<W: Write, E: Write>(
+    rt: &HostRuntime,
+    store: &str,
+    from: u32,
+    writer: &mut Port<W>,
+    errors: &mut Port<E>,
+) -> u8 {
     match texts_over(rt, store, Unknown, from, writer) {
         Ok((_conn, printed)) => match printed {
             Ok(status) => status,
             Err(fault) => tell_store(rt, errors, store, &fault),
         },
         Err(fault) => tell_store(rt, errors, store, &fault),
+    }
+}
+
+/// Prints the texts of a store or an archive beside its own archives.
+fn texts_with_archives<W: Write, E: Write>(
+    rt: &HostRuntime,
+    store: &str,
+    from: u32,
+    writer: &mut Port<W>,
+    errors: &mut Port<E>,
+) -> u8 {
+    match texts_beside(rt, store, Unknown, from, writer) {
+        Ok(ended) => tell_reported(rt, errors, store, ended),
+        Err(fault) => tell_open(rt, errors, store, &fault),
     }
 }
 

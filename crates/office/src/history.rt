@@ -69,28 +69,10 @@ pub(crate) fn may_be_made<E: Write>(rt: &HostRuntime, store: &str, errors: &mut 
     }
 }
 
-/// Tells that a store is an archive, or has archives where that is not taken.
+/// Tells that a store is an archive, where another one goes on.
 fn tell_closed<E: Write>(rt: &HostRuntime, errors: &mut Port<E>, store: &str) -> u8 {
-    tell_closed_with(rt, errors, store, Words::IS_ARCHIVE)
-}
-
-/// Tells that the texts of a store of which history was put away are not printed.
-pub(crate) fn tell_texts_closed<E: Write>(
-    rt: &HostRuntime,
-    errors: &mut Port<E>,
-    store: &str,
-) -> u8 {
-    tell_closed_with(rt, errors, store, Words::HAS_ARCHIVES)
-}
-
-fn tell_closed_with<E: Write>(
-    rt: &HostRuntime,
-    errors: &mut Port<E>,
-    store: &str,
-    words: Words,
-) -> u8 {
     let status = tell_with(errors, "store: Closed\n", FAILED);
-    tell_words(rt, errors, store, words);
+    tell_words(rt, errors, store, Words::IS_ARCHIVE);
     status
 }
 

@@ -9,3 +9,4 @@ pub mod Archives
 pub mod Closing
 pub mod Reporting
 pub mod Listing
+pub mod Texts

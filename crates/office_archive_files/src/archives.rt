@@ -23,9 +23,9 @@ pub fn archives_over<S: Start, W: Write>(
 ) -> Result<u8, OpenFault>
     ensures err { OnErr result (writer.new ≡ writer.old) }
 {
-    let (conn, register, shelf) = open_shelf(rt, store, start)?;
+    let (desk, register, shelf) = open_shelf(rt, store, start)?;
     let lines = archive_lines(rt.alloc(), &register, &shelf)?;
-    drop(conn);
+    drop(desk.into_connection());
     if register.archives.is_empty() {
         Ok(print(writer, "none\n", REFUSED))
     } else {

@@ -11,6 +11,7 @@ mod joined;
 mod opening;
 mod register;
 mod shelf;
+mod texts;
 
 pub use archives::archives_over;
 pub use closing::{CloseCommandFault, ClosingFiles, close_over};
@@ -22,3 +23,4 @@ pub use register::{
     FilePlace, History, beside_path, history_of, place_of, read_history, register_path,
 };
 pub use shelf::{FileShelf, Found, NO_ARCHIVE};
+pub use texts::texts_beside;

@@ -120,12 +120,12 @@ pub(crate) fn read_names(rt: &HostRuntime, store: &str) -> Result<Register, Open
     }
 }
 
-/// The connection to the store or the archive at a path, its register, and the shelf of its archives.
+/// The desk over the store or the archive at a path, its register, and the shelf of its archives.
 pub(crate) fn open_shelf<'a, S: Start>(
     rt: &'a HostRuntime,
     store: &str,
     start: S,
-) -> Result<(Connection<FileStore<FileFrom<S>>>, Register, FileShelf<'a>), OpenFault>
+) -> Result<(Desk<FileStore<FileFrom<S>>>, Register, FileShelf<'a>), OpenFault>
     ensures sound { IfOk result (λ opened. IsTrue (is_sound (register_content opened.1))) }
 {
     let conn = open_store(rt, store, start)?;
@@ -134,7 +134,7 @@ pub(crate) fn open_shelf<'a, S: Start>(
     let (desk, setup) = open_desk(rt.alloc(), conn, closed)?;
     let path = String::from_str(rt.alloc(), store)?;
     let shelf = FileShelf::new(rt, path, setup);
-    Ok((desk.into_connection(), register, shelf))
+    Ok((desk, register, shelf))
 }
 
 /// The store over a connection, joined with the archives of a register.

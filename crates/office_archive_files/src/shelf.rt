@@ -159,8 +159,11 @@ fn segments_of(alloc: Global, segments: &[Segment], place: u16) -> Result<Vec<Se
 }
 
 impl Shelf<FileStore<FileFrom<Unknown>>> for FileShelf<'_> {
+    ghost use Rattle.std.specs.Prelude.{⊤};
     ghost use Rattle.office_archive_files.specs.Shelves.{HoldArchives};
     ghost use Rattle.sqlite.specs.WalFiles.{image_at};
+
+    ghost is_known = { λ place. ⊤ };
 
     ghost holds = { λ list shelf. HoldArchives (image_at ⟦<Unknown as Start>⟧) list };
 

@@ -11,3 +11,4 @@ pub mod Told
 pub mod Closed
 pub mod Beside
 pub mod OfArchive
+pub mod Journal

@@ -1,6 +1,5 @@
 -- Archives on a shelf, of which one was asked.
-use Rattle.std.proofs.Common.{◌≡◌, ℕ, List, [], ◌∷◌, length, Bool, true, false, not, Option, None, Some, is_some, option_map, string_bytes, String, refl, sym, ap, subst, ◌∙◌}
-use Rattle.std.specs.Prelude.{IsTrue}
+use Rattle.std.proofs.Common.{◌≡◌, ℕ, List, length, true, Option, None, Some, is_some, option_map, string_bytes, String, refl, sym, ap, subst, ◌∙◌}
 use Rattle.std.specs.Option.{option_and_then}
 use Rattle.std.specs.declared.alloc.Global.{Global}
 use Rattle.sqlite.specs.Held.{Held, state}
@@ -20,9 +19,9 @@ use Rattle.office_archives.specs.Shelves.{AreShelved, IsOpenAt, IsOpenIfAny, arc
 use Rattle.office_archives.specs.declared.opened.Opened.{Opened}
 
 -- what is named and shelved stays so, with another open
-pub shelved_still : {S F : Type 0} (g : Ghosts S) (holds : List Archive → F → Type 0) (list : List Archive) (shelf after : F) (names still : Register) (opened another : Option (Opened S g)) → AreShelved g holds list shelf names opened → still ≡ names → holds list after → IsOpenIfAny g list another
-    → AreShelved g holds list after still another
-shelved_still g holds list shelf after names still opened another are same on_shelf open_ = record {
+pub shelved_still : {S F : Type 0} (g : Ghosts S) (is_known : ℕ → Type 0) (holds : List Archive → F → Type 0) (list : List Archive) (shelf after : F) (names still : Register) (opened another : Option (Opened S g)) → AreShelved g is_known holds list shelf names opened → still ≡ names → holds list after
+    → IsOpenIfAny g is_known list another → AreShelved g is_known holds list after still another
+shelved_still g is_known holds list shelf after names still opened another are same on_shelf open_ = record {
   on_shelf = on_shelf;
   counted = are.counted ∙ ap (λ (r : Register). length (register_content r).archives) (sym same);
   named = subst (λ r. (partner number : ℕ) → archive_of list partner number ≡ option_and_then (archive_at list) (register.archive_of (register_content r).segments partner number)) (sym same) are.named;
@@ -30,9 +29,9 @@ shelved_still g holds list shelf after names still opened another are same on_sh
 }
 
 -- the place of a number's archive is where it stands
-pub archive_there : {S F : Type 0} (g : Ghosts S) (holds : List Archive → F → Type 0) (list : List Archive) (shelf : F) (names : Register) (opened : Option (Opened S g)) (p n place : ℕ) (archive : Archive) → AreShelved g holds list shelf names opened
+pub archive_there : {S F : Type 0} (g : Ghosts S) (is_known : ℕ → Type 0) (holds : List Archive → F → Type 0) (list : List Archive) (shelf : F) (names : Register) (opened : Option (Opened S g)) (p n place : ℕ) (archive : Archive) → AreShelved g is_known holds list shelf names opened
     → register.archive_of (register_content names).segments p n ≡ Some place → archive_of list p n ≡ Some archive → archive_at list place ≡ Some archive
-archive_there g holds list shelf names opened p n place archive are at reached = sym (are.named p n ∙ ap (option_and_then (archive_at list)) at) ∙ reached
+archive_there g is_known holds list shelf names opened p n place archive are at reached = sym (are.named p n ∙ ap (option_and_then (archive_at list)) at) ∙ reached
 
 -- what was read of an archive stays that archive
 pub open_still : {S : Type 0} (g : Ghosts S) (list : List Archive) (place : ℕ) (before after : Held S) → (HasCleanDisk (state g after) → HasCleanDisk (state g before)) → (HasCleanDisk (state g after) → (state g after).committed ≡ (state g before).committed) → IsOpenAt g list place before

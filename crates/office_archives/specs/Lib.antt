@@ -6,3 +6,4 @@ pub mod Telling
 pub mod Together
 pub mod Opening
 pub mod Shelves
+pub mod Texts

@@ -29,14 +29,15 @@ IsOpenAt g list place conn =
     HasCleanDisk (state g conn) → (archive : Archive) → archive_at list place ≡ Some archive
     → HasArchive archive (state g conn).committed
 
--- if one is open, its disk has returned what was written, and the connection is open
-abbrev pub IsSoundIfAny : {S : Type 0} (g : Ghosts S) → Option (Opened S g) → Type 0
-IsSoundIfAny g None = Unit {0}
-IsSoundIfAny g (Some opened) = HasCleanDisk (state g opened.conn) × IsTrue (state g opened.conn).is_open
+-- if one is open, its disk has returned what was written, the connection is open, and it is one of those that are known
+abbrev pub IsSoundIfAny : {S : Type 0} (g : Ghosts S) (is_known : ℕ → Type 0) → Option (Opened S g) → Type 0
+IsSoundIfAny g is_known None = Unit {0}
+IsSoundIfAny g is_known (Some opened) =
+    HasCleanDisk (state g opened.conn) × IsTrue (state g opened.conn).is_open × is_known opened.place
 
-abbrev pub IsOpenIfAny : {S : Type 0} (g : Ghosts S) → List Archive → Option (Opened S g) → Type 0
-IsOpenIfAny g list None = Unit {0}
-IsOpenIfAny g list (Some opened) = IsOpenAt g list opened.place opened.conn
+abbrev pub IsOpenIfAny : {S : Type 0} (g : Ghosts S) (is_known : ℕ → Type 0) → List Archive → Option (Opened S g) → Type 0
+IsOpenIfAny g is_known list None = Unit {0}
+IsOpenIfAny g is_known list (Some opened) = is_known opened.place → IsOpenAt g list opened.place opened.conn
 
 -- ---- what the register names
 
@@ -50,11 +51,11 @@ register_before place names =
     }
 
 -- These are on the shelf. The register names as many, and for each number the one that reaches it first; what is open is
--- one of them.
-pub record AreShelved {S F : Type 0} (g : Ghosts S) (holds : List Archive → F → Type 0) (list : List Archive) (shelf : F)
-    (names : Register) (opened : Option (Opened S g)) : Type 0 where
+-- one of them, if it is known.
+pub record AreShelved {S F : Type 0} (g : Ghosts S) (is_known : ℕ → Type 0) (holds : List Archive → F → Type 0)
+    (list : List Archive) (shelf : F) (names : Register) (opened : Option (Opened S g)) : Type 0 where
   pub on_shelf : holds list shelf
   pub counted : length list ≡ length (register_content names).archives
   pub named : (partner number : ℕ) → archive_of list partner number
       ≡ option_and_then (archive_at list) (register.archive_of (register_content names).segments partner number)
-  pub one_open : IsOpenIfAny g list opened
+  pub one_open : IsOpenIfAny g is_known list opened

@@ -3,7 +3,9 @@
 ghost use Rattle.office_archives.specs.Opening.{OpenedStandBeside};
 ghost use Rattle.office_archives.specs.Reporting.{WhatStandsIsToldAlike};
 ghost use Rattle.office_archives.specs.Standing.{DeliveriesBeyondAreAnswered};
+ghost use Rattle.office_archives.specs.Texts.{OpensOn, WrittenIsJournal};
 
+use crate::many_archives::Shelf;
 use sqlite::Alter;
 
 /// A text that is delivered under no number that is closed to a desk over a store's own rows is answered at its place in
@@ -22,4 +24,10 @@ pub fn what_stands_is_told_alike()
 /// store and archives stand.
 pub fn opened_stand_beside<S: Alter>()
     ensures { OpenedStandBeside S.Store }
+{}
+
+/// What was written of a store and its archives, file by file, is their journal, if each disk told the truth: the texts of all,
+/// each once, without the first that were to be passed over.
+pub fn written_is_journal<S: Alter, T: Alter, F: Shelf<T>>()
+    ensures { (shelf : _) → WrittenIsJournal T.Store S.Store (OpensOn T.Store F.is_known F.holds shelf) }
 {}

@@ -7,8 +7,10 @@ mod former_store;
 pub mod laws;
 mod many_archives;
 mod opened;
+mod texts;
 
 pub use archived_desk::ArchivedDesk;
 pub use archives::{Archives, answer_closed};
 pub use many_archives::{ManyArchives, Shelf};
 pub use opened::Opened;
+pub use texts::write_journal;

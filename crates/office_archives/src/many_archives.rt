@@ -1,4 +1,4 @@
-ghost use Rattle.std.specs.Prelude.{◌≡◌, false, IfOk, List, None};
+ghost use Rattle.std.specs.Prelude.{◌≡◌, ℕ, false, IfOk, List, None};
 ghost use Rattle.office_archives.specs.Shelves.{AreShelved, IsOpenAt, IsSoundIfAny};
 ghost use Rattle.office_parts.specs.Archives.{Archive};
 
@@ -13,13 +13,16 @@ use std::alloc::Global;
 
 /// Where the archives of a store are kept: each is opened by its place in the order in which they were closed.
 pub trait Shelf<S: Alter> {
+    /// What is said of archives is said of the one at this place.
+    ghost is_known: { ℕ → Type 0 };
+
     /// It holds these.
     ghost holds: { List Archive → Self → Type 0 };
 
     /// A connection to the archive at that place, the first at 1. Nothing on the shelf changes.
     fn open(&mut self, place: u16) -> Result<Connection<S>, TableFault>
         ensures idle { IfOk result (λ conn. conn.in_transaction ≡ false) }
-        ensures opened { IfOk result (λ conn. (list : List Archive) → holds list self.old →
+        ensures opened { IfOk result (λ conn. is_known place → (list : List Archive) → holds list self.old →
             IsOpenAt S.Store list place conn) }
         ensures same { (list : List Archive) → holds list self.old → holds list self.new };
 }
@@ -51,8 +54,8 @@ impl<S: Alter + Drop, F: Shelf<S>> ManyArchives<S, F> {
     /// The archive at a place: the one that is open, or else it is opened. No other stays open.
     fn take_out(&mut self, place: u16) -> Result<Opened<S>, TableFault>
         ensures place { IfOk result (λ opened. opened.place ≡ place) }
-        ensures opened { IfOk result (λ opened. (list : List Archive) →
-            AreShelved S.Store F.holds list self.old.shelf self.old.register self.old.opened →
+        ensures opened { IfOk result (λ opened. F.is_known place → (list : List Archive) →
+            AreShelved S.Store F.is_known F.holds list self.old.shelf self.old.register self.old.opened →
             IsOpenAt S.Store list place opened.conn) }
         ensures none { self.new.opened ≡ None }
         ensures register { self.new.register ≡ self.old.register }
@@ -69,10 +72,10 @@ impl<S: Alter + Drop, F: Shelf<S>> ManyArchives<S, F> {
 }
 
 impl<S: Alter + Drop, F: Shelf<S>> Archives for ManyArchives<S, F> {
-    ghost is_sound = { λ archives. IsSoundIfAny S.Store archives.opened };
+    ghost is_sound = { λ archives. IsSoundIfAny S.Store F.is_known archives.opened };
 
     ghost are = { λ list archives.
-        AreShelved S.Store F.holds list archives.shelf archives.register archives.opened };
+        AreShelved S.Store F.is_known F.holds list archives.shelf archives.register archives.opened };
 
     fn kept(&mut self, partner: u16, number: u32) -> Result<Kept, TableFault> {
         let Some(place) = self.register.archive_of(partner, number) else {
