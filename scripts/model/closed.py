@@ -1,7 +1,7 @@
 """Stores that the program closes, among random deliveries, beside the model: scripts/beside.
 
-The model's answers are those of a store that is never closed, and so is a second store of the program's, to which the same is
-delivered. An archive is a copy of the store of now, or of some deliveries earlier.
+The model's answers, and the texts that it keeps, are those of a store that is never closed, and so is a second store of the
+program's, to which the same is delivered. An archive is a copy of the store of now, or of some deliveries earlier.
 """
 import copy
 import os
@@ -13,17 +13,19 @@ import tempfile
 from contextlib import closing, contextmanager
 
 from .closing import close
+from .commands import texts_before_lost
 from .days import NEWCOMERS, SENDERS, Day, streamed
-from .deliveries import first_text
+from .deliveries import first_text, kept_texts
 from .events import Added, refusal
 from .reports import WHOLE
 from .requests import every_key, get, of_archive, path_of, question, random_requests
-from .rows import ENDS, REGISTER, copy_files, identities, interchange_rows, rows_in, rows_of
+from .rows import ENDS, REGISTER, copy_files, identities, interchange_rows, rows_in, rows_of, standing_in
 from .setup import DEMO, read_setup
 from .setups import Files, files_of
 from .stores import Program
 from .stream import answers, lines
 from .syntax import number_of, sender_of
+from .words import text_of
 
 LISTS = 12
 TURNS = (3, 4, 5)           # of each list
@@ -94,6 +96,7 @@ class Closable:
             self.beside.register(self.name + ', the archive', path, archive)
         self.archives.append((path, archive))
         self.office.archives[len(self.archives)] = archive
+        self.asks_texts()
 
     # ---- what happens between
 
@@ -129,8 +132,18 @@ class Closable:
         paths += [of_archive(self.chance, self.office, path) for path in self.chance.sample(paths, min(OF_ARCHIVES, len(paths)))]
         self.beside.serve(self.name, self.program, self.office, [get(self.chance, path) for path in paths])
 
+    def asks_texts(self):
+        """The texts of the store and of each archive that can be asked, with those before it."""
+        for path, office in [(self.program.store, self.office), *self.archives]:
+            place, other = len(office.register.archives) + 1, Program(self.beside.path, self.folder)
+            if path == self.program.store or place not in self.office.lost:
+                other.store, office.lost = path, self.office.lost
+                self.beside.texts(self.name + ', ' + os.path.basename(path), other, office, self.chance)
+        for _path, office in self.archives:
+            office.lost = {}
+
     def turn(self, is_served):
-        """Deliveries, an account, questions, closed numbers again."""
+        """Deliveries, an account, questions, closed numbers again, texts."""
         if is_served:
             self.serves(REQUESTS)
         else:
@@ -139,6 +152,7 @@ class Closable:
             self.beside.account(self.name, self.program, self.office, *self.day.addition())
         self.asks([question(self.chance, self.office) for _question in range(QUESTIONS)] + [('archives', '')])
         self.delivers('\n'.join(self.again()))
+        self.beside.texts(self.name, self.program, self.office, self.chance)
 
     # ---- an archive
 
@@ -152,7 +166,6 @@ class Closable:
         beside.expect('an archive refuses', self.name, ARCHIVED, other.close(self.program.store))
         for kind, key in WHOLE + [question(self.chance, office) for _question in range(QUESTIONS)]:
             beside.report(self.name + ', an archive', other, office, kind, key)
-        beside.texts(self.name + ', an archive', other, office, self.chance)
         beside.rows(self.name + ', an archive', other, office)
         beside.register(self.name + ', an archive', path, office)
 
@@ -254,13 +267,14 @@ def numbers_of(closable, place):
 
 
 def asked_without(closable):
-    """What is asked while an archive can't be: closed numbers and others are delivered, all kinds of reports, requests."""
+    """What is asked while an archive can't be: closed numbers and others are delivered, all kinds of reports, texts."""
     closable.delivers('\n'.join(closable.again() + [closable.day.delivery() for _delivery in range(3)]))
     lost = [each for place in closable.office.lost for each in numbers_of(closable, place)]
     chosen = closable.chance.sample(lost, min(3, len(lost)))
     keys = [(kind, '%s/%d' % each[:2]) for each in chosen for kind in ('reply', 'contrl', 'ticket')]
     closable.asks(WHOLE + keys + [question(closable.chance, closable.office) for _question in range(QUESTIONS)])
     closable.delivers('\n'.join(each.text for each in chosen))
+    closable.asks_texts()
 
 
 def try_losses(closable):
@@ -327,9 +341,29 @@ def is_allowed(line, wanted, row, stood):
     return line in (wanted, '{"answer":"not now"}') or row not in (None, stood)
 
 
+def are_allowed(office, place, stood, got):
+    """Whether texts may be printed so where the archive of a place is spoiled: all; or the first and then that it can't be asked.
+    Where SQLite reads other bytes there, that holds of the texts before that archive."""
+    printed, told, ended = got
+    office.lost = {} if stood else {place: 'OTHER'}
+    kept = text_of(kept_texts(office.deliveries)) if stood else texts_before_lost(office)[-1]
+    office.lost = {}
+    whole = (told, ended) == ('', 0) and (printed == kept if stood else printed.startswith(kept))
+    return whole or (told, ended) == ('store: Store\n', 3) and (
+        kept.startswith(printed) or not stood and printed.startswith(kept))
+
+
+def stand_as_ever(path, archive):
+    """Whether SQLite's own library reads the interchanges of an archive as they stood in it."""
+    try:
+        return [row[1:] for row in standing_in(path)] == interchange_rows(archive)
+    except sqlite3.DatabaseError:
+        return False
+
+
 def try_spoiled(closable):
-    """An archive of which some bytes are other ones: each of its numbers, and then what is not closed, which is answered as
-    ever."""
+    """An archive of which some bytes are other ones: each of its numbers, all texts, and then what is not closed, which is
+    answered as ever."""
     office, place = closable.office, closable.chance.randrange(len(closable.archives)) + 1
     path, archive = closable.archives[place - 1]
     pairs = sorted({each[:2] for each in numbers_of(closable, place)})
@@ -345,6 +379,10 @@ def try_spoiled(closable):
         closable.beside.expect('spoiled, the answers', closable.name, [True] * len(texts), allowed)
         closable.beside.expect('spoiled, told', closable.name, ('', True), (told, ended in (0, 1, 3)))
         closable.beside.counted['spoiled: not now'] += got.count('{"answer":"not now"}')
+        given = closable.program.texts(0)
+        allowed = are_allowed(office, place, stand_as_ever(path, archive), given)
+        closable.beside.expect('spoiled, the texts', closable.name, True, allowed or given)
+        closable.beside.counted['spoiled: texts, ' + (given[1].strip() or 'all')] += 1
         later = [closable.day.delivery() for _delivery in range(3)]
         closable.delivers('\n'.join(text for text in later if is_beyond(office, text)))
     closable.delivers('\n'.join(closable.again()))
@@ -372,7 +410,8 @@ def try_list(beside, seed):
         if not closable.archives:
             closable.closes()
         closable.asks_all()
-        beside.texts(name, closable.program, closable.office, closable.chance)
+        closable.asks_texts()
+        beside.rebuilt(name, closable.program, closable.office)
         told_again(beside, name + ', never closed', closable, never)
         compare(beside, name, closable, never)
         for path, office in closable.archives:

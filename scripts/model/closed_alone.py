@@ -1,16 +1,18 @@
 """Closings by the model alone: what its rules give has to hold together, as the program's crates prove of theirs.
 
 A store that was closed passes the checks of its rows by its register, and without it is Damaged; its rows and those of its
-archives are all rows; each closed number is told by its archive, asked as the store that it was, as by the whole.
+archives are all rows; each closed number is told by its archive, asked as the store that it was, as by the whole; and the texts
+of the archives and of the store, each once, are those that the whole keeps, in the order in which they came.
 """
 import copy
 import random
 
-from .closing import close, is_over
+from .closing import close, is_over, never_closed
 from .days import NEWCOMERS, Day
+from .deliveries import kept_texts
 from .office import Office
 from .opened import fault_of_rows
-from .register import is_sound
+from .register import is_sound, last_closed
 from .reports import OF_NUMBERS, report
 from .rows import interchange_rows, rows_of, visit_rows
 
@@ -36,9 +38,7 @@ def closed_by_turns(seed):
                 raise ValueError('a copy is refused')
         else:
             earlier = copied
-    whole = copy.deepcopy(office)
-    whole.register, whole.gone = Office().register, frozenset()
-    return office, archives, whole
+    return office, archives, never_closed(office)
 
 
 def are_parts(office, archives, whole):
@@ -62,6 +62,25 @@ def told_alike(office, archives, whole):
     return len(keys), len(wrong)
 
 
+def texts_in(files):
+    """The texts of archives one after the other, and of the file after them, if there is one: of each, as it stands, those beyond
+    what was closed before it. Those that waited as it was copied stand in the next file too, as its first, and count there no
+    more."""
+    found, carried = [], 0
+    for file, following in zip(files, files[1:] + [None]):
+        rows = interchange_rows(file)
+        found += [row[2].decode('latin-1') for row in rows[carried:]]
+        carried = following and sum(number > last_closed(following.register, partner) for partner, number, *_rest in rows)
+    return found
+
+
+def are_in_order(office, archives):
+    """Whether those are the texts that the office keeps, and of each archive, with those before it, those of its day."""
+    files = [*archives, office]
+    return all(
+        texts_in(files[:place]) == kept_texts(file.deliveries) for place, file in enumerate(files, start=1))
+
+
 def judge_all():
     """Gives how many lists are wrong."""
     wrong, told = [], 0
@@ -71,7 +90,7 @@ def judge_all():
         told += count[0]
         lost = fault_of_rows(rows) == ('Damaged' if office.register.segments else None)
         if not (is_sound(office.register) and fault_of_rows(rows, register=office.register) is None and lost and not count[1]
-                and are_parts(office, archives, whole)):
+                and are_parts(office, archives, whole) and are_in_order(office, archives)):
             wrong.append(seed)
     print(''.join('wrong: closings, list %d\n' % seed for seed in wrong), end='')
     print('%d stores that the model closed, %d closed numbers told, %d wrong' % (LISTS, told, len(wrong)))

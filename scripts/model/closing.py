@@ -3,7 +3,9 @@
 
 Both are offices of the model, the archive a copy of the store as it was some time before. What is compared are their rows.
 """
-from .register import Archive, Segment, is_file_name, is_sound, last_closed, with_archive
+import copy
+
+from .register import EMPTY, Archive, Segment, is_file_name, is_sound, last_closed, with_archive
 from .rows import interchange_rows, partner_rows, visit_rows
 
 
@@ -78,3 +80,10 @@ def close(store, archive, store_file, archive_file):
     store.register = after
     store.gone = store.gone | set(going)
     return None
+
+
+def never_closed(office):
+    """The same office, of which nothing was put away."""
+    whole = copy.deepcopy(office)
+    whole.register, whole.gone, whole.archives, whole.lost = EMPTY, frozenset(), {}, {}
+    return whole

@@ -109,16 +109,25 @@ def report(files, store, kind, key=None):
 
 
 def texts(files, store, passed='0'):
-    """The texts that are kept, after so many of them."""
+    """The texts that are kept, after so many of them, as if none had been put away. There are none where one of the archives
+    can't be asked."""
     if not are_digits(passed, 1, 9) or (passed[0] == '0' and passed != '0'):
         raise Fault('usage: office texts DB [FROM]', 2)
     office = office_in(files, store)
-    if office.register.archives:
-        raise Fault('store: Closed', 3)
+    if office.first_lost:
+        raise Fault('store: Store', 3)
     kept = kept_texts(office.deliveries)
     if int(passed) > len(kept):
         return 'none\n', 1
     return text_of(kept[int(passed):]), 0
+
+
+def texts_before_lost(office, passed=0):
+    """What may be printed before the first archive that can't be asked: of the texts that the archives before it keep, any number
+    of the first."""
+    before = office.archives[office.first_lost - 1].deliveries if office.first_lost > 1 else []
+    kept = kept_texts(before)[passed:]
+    return [text_of(kept[:count]) for count in range(len(kept) + 1)]
 
 
 def account(files, store, code, kind):

@@ -255,8 +255,8 @@ def pass_door(office, code, text, ahead):
 
 def page_of_texts(office, key):
     """The kept texts after so many, each with an LF after it: as many whole ones as have room, one at least if there is one.
-    How many is said by 1 to 9 digits that don't begin with 0, or by 0, and there are at least so many. Texts that were closed
-    stand in no order any more."""
+    How many is said by 1 to 9 digits that don't begin with 0, or by 0, and there are at least so many. A store with archives
+    gives none by HTTP."""
     if not re.fullmatch(r'0|[1-9][0-9]{0,8}', key):
         raise Refusal(404, 'none')
     if office.register.archives:

@@ -190,6 +190,11 @@ class Office:
         """Whether the archive that keeps a number can't be asked."""
         return self.archive_of(partner, number) in self.lost
 
+    @property
+    def first_lost(self):
+        """The place of the first of its archives that can't be asked; None, if all can."""
+        return min((archive.place for archive in self.register.archives if archive.place in self.lost), default=None)
+
     def migrate(self):
         """Its store is brought to the newest version."""
         self.happens(Migrated(self.version))

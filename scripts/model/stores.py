@@ -8,7 +8,8 @@ import tempfile
 from collections import Counter
 from functools import partial
 
-from .commands import outcome
+from .closing import never_closed
+from .commands import outcome, texts_before_lost
 from .days import NEWCOMERS, Day, streamed
 from .deliveries import kept_texts
 from .http import response
@@ -192,22 +193,26 @@ class Beside:
         self.expect('register, tables', name, set(REGISTER_COLUMNS), set(got))
 
     def texts(self, name, program, office, chance):
-        """The texts that are kept, from the first and from another one on, after the last, and beyond it."""
-        count = len(kept_texts(office.deliveries))
+        """The texts that are kept, from the first and from another one on, after the last, and beyond it. Before an archive that
+        can't be asked some may be printed."""
+        count, lost = len(kept_texts(office.deliveries)), office.first_lost
+        kind = 'texts, an archive is lost' if lost else 'texts, with archives' if office.register.archives else 'texts'
         for passed in sorted({0, chance.randint(0, count), count, count + 1}):
-            wanted = outcome({'store': office}, ['texts', 'store', str(passed)])
-            self.expect('texts', '%s, after %d' % (name, passed), wanted, program.texts(passed))
+            wanted, got = outcome({'store': office}, ['texts', 'store', str(passed)]), program.texts(passed)
+            if lost and got[0] in texts_before_lost(office, passed):
+                got = wanted[0], *got[1:]
+            self.expect(kind, '%s, after %d' % (name, passed), wanted, got)
 
     def rebuilt(self, name, program, office):
-        """An office of the same set-up and accounts, to which the texts are delivered that this one keeps: it has the same
-        rows, and the same texts in the same order."""
+        """An office of the same set-up and accounts, to which the texts are delivered that this one keeps: it has the rows of one
+        that was never closed, and the same texts in the same order."""
         kept = program.texts(0)
         with tempfile.TemporaryDirectory(prefix='beside-') as folder:
             other = Program(self.path, folder)
             other.init(*files_of(office.setup))
             answers_of = Counter(json.loads(line)['answer'] for line in other.deliver(kept[0])[0].splitlines())
             self.expect('rebuilt', name + ', answers', set(), set(answers_of) - {'taken', 'waiting'})
-            self.expect('rebuilt', name + ', rows', rows_in(program.store), rows_in(other.store))
+            self.expect('rebuilt', name + ', rows', (rows_of(never_closed(office)), []), rows_in(other.store))
             self.expect('rebuilt', name + ', texts', kept, other.texts(0))
 
     def serve(self, name, program, office, requests, ahead=None):
