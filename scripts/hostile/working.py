@@ -19,6 +19,13 @@ def run(program, *words, **how):
     return done.stdout.decode('utf-8'), done.stderr.decode('utf-8'), done.returncode
 
 
+def printed_texts(program, store, passed=0):
+    """The texts that it prints of a store, byte for byte, what it tells of faults, and its status."""
+    done = subprocess.run(
+        [program, 'texts', store, str(passed)], stdin=subprocess.DEVNULL, capture_output=True, check=False)
+    return done.stdout.decode('latin-1'), done.stderr.decode('utf-8'), done.returncode
+
+
 def post(text):
     """A request that delivers a text."""
     return 'POST /interchanges HTTP/1.1\r\nContent-Length: %d\r\n\r\n%s' % (len(text), text)

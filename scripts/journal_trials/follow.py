@@ -157,12 +157,14 @@ def first_goes_on(book, pace, counted):
     counted['kills of the first while it delivers'] += 1
 
 
-def followed(standby, counted, turns=TURNS):
-    """Turns with kills, between which the first goes on; then one without, after which both are the same."""
+def followed(standby, counted, turns=TURNS, between=lambda: None):
+    """Turns with kills, between which the first goes on, and something else may happen to it; then one without, after which both
+    are the same."""
     pace = Pace()
     standby.brought()
     for _turn in range(turns):
         first_goes_on(standby.first, pace, counted)
+        between()
         killed_turn(standby, counted)
     standby.whole_turn()
     are_same(standby.first, standby)

@@ -5,7 +5,8 @@ import subprocess
 from itertools import groupby
 
 from hostile.books import Book, expect
-from hostile.working import run
+from hostile.working import printed_texts, run
+from model.closing import never_closed
 from model.commands import texts as texts_told
 from model.days import NEWCOMERS
 from model.deliveries import kept_texts
@@ -72,18 +73,18 @@ def page_size(path):
 
 def texts_of(office, passed=0):
     """The texts that the program prints, byte for byte, and its status."""
-    done = subprocess.run([office.program, 'texts', office.store, str(passed)], capture_output=True, check=False)
-    return done.stdout.decode('latin-1'), done.stderr.decode('utf-8'), done.returncode
+    return printed_texts(office.program, office.store, passed)
 
 
 def hands_out(office):
     """Whether the program hands out the model's texts, from the first on, from each of three places, and beyond the last. Gives
-    how many they are."""
+    how many they are. Where nothing was put away, they stand under rowids without a gap."""
     count = len(kept_texts(office.office.deliveries))
     for passed in sorted({0, office.chance.randint(0, count), max(0, count - 1), count, count + 1}):
         text, ended = texts_told({'store': office.office}, 'store', str(passed))
         expect('texts after %d' % passed, (text, '', ended), texts_of(office, passed))
-    expect('the rowids', list(range(1, count + 1)), [row[0] for row in rows_in_order(office.store)])
+    if not office.office.register.archives:
+        expect('the rowids', list(range(1, count + 1)), [row[0] for row in rows_in_order(office.store)])
     return count
 
 
@@ -159,13 +160,15 @@ def rebuilt(book, folder):
 
 def are_same(book, made):
     """Both have the same rows in the same order and hand out the same texts; and each report, each reply among them, of both is
-    that of one model."""
-    expect('the rows by the model', rows_of(book.office), rows_of(made.office))
-    expect('the rows', rows_in(book.store), rows_in(made.store))
-    expect('interchanges as they stand', rows_in_order(book.store), rows_in_order(made.store))
+    that of one model. Where history was put away, the rows are those of what was never closed."""
+    whole, own = never_closed(book.office), made.office
+    expect('the rows by the model', rows_of(whole), rows_of(never_closed(own)))
+    if not book.office.register.archives:
+        expect('the rows', rows_in(book.store), rows_in(made.store))
+        expect('interchanges as they stand', rows_in_order(book.store), rows_in_order(made.store))
     expect('texts', texts_of(book), texts_of(made))
     book.everything()
-    own, made.office = made.office, book.office
+    made.office = own if own.register.archives else whole
     made.everything()
     made.office = own
 

@@ -3,12 +3,12 @@ import sys
 
 from hostile.trials import status_of
 
-from . import drill, follow, odd, old, rebuild, serving
+from . import closed, drill, follow, odd, old, rebuild, serving
 
 LISTS = 60
 PARTS = {
-    'rebuild': rebuild.try_all, 'follow': follow.try_all, 'serving': serving.try_all, 'drill': drill.try_all, 'old': old.try_all,
-    'odd': odd.try_all}
+    'rebuild': rebuild.try_all, 'follow': follow.try_all, 'serving': serving.try_all, 'closed': closed.try_all,
+    'drill': drill.try_all, 'old': old.try_all, 'odd': odd.try_all}
 
 USAGE = """usage: scripts/journal [LISTS [SEED]]
        scripts/journal %s [LISTS [SEED]]
