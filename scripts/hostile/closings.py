@@ -2,7 +2,8 @@
 large closing, and after losses of power: scripts/kill9 closings.
 
 After each of these the store has its rows, or its register has the archive and some of what goes is gone. The program opens
-it, answers a closed number and takes another, and the same closing again goes on to the end. The archive keeps its rows.
+it, answers a closed number, takes another and prints all texts, and the same closing again goes on to the end. The archive keeps
+its rows.
 """
 import copy
 import os
@@ -11,6 +12,7 @@ import tempfile
 from time import monotonic, sleep
 
 from model.closing import close
+from model.commands import outcome
 from model.days import Day
 from model.office import json_text
 from model.register import EMPTY
@@ -25,7 +27,7 @@ from .calls import STRACE
 from .calls_of_others import KILLED, MEMORY, STORE, UNWRITTEN, calls_of, each_call
 from .commands import UNMADE, each_room, refuse_each
 from .power import File, replayed, written_by
-from .working import run
+from .working import printed_texts, run
 
 DELIVERED, MORE = 26, 12    # before the first copy; between two
 READY = 'ready\n', '', 0
@@ -97,6 +99,11 @@ class Beside:
         """The model closes."""
         expect('the model', None, close(self.book.office, self.archive, 'office.db', os.path.basename(self.path)))
 
+    def prints_texts(self):
+        """The texts that the program prints of the store are those of one that was never closed."""
+        owed = outcome({'store': self.book.office}, ['texts', 'store'])
+        expect('texts', owed, printed_texts(self.book.program, self.book.store))
+
 
 class Closing(Beside):
     """`close` of a store by a copy of some deliveries earlier, in a folder of its own."""
@@ -125,15 +132,17 @@ class Closing(Beside):
         return found
 
     def goes_on(self):
-        """The store takes a text, and answers one of a closed number; the closing again ends it."""
+        """The store takes a text, answers one of a closed number and prints all; the closing again ends it."""
         book, archived = self.book, [each for each in self.book.office.deliveries
                                      if self.book.office.archive_of(each.partner, each.number)]
         texts = [book.upcoming(1)[0], book.chance.choice(archived).text]
         given = [book.office.answer(text) for text in texts]
         wanted = ''.join(json_text(each) + '\n' for each in given), '', status(given)
         expect('deliveries', wanted, run(book.program, 'deliver', book.store, book.file('again.edi', '\n'.join(texts))))
+        self.prints_texts()
         expect('close again', READY, run(*self.words))
         expect('all behind it', self.modelled(), self.standing())
+        self.prints_texts()
         for kind in ('yard', 'archives', 'metrics'):
             expect(kind, (printed(book.office, kind)[0], '', 0), run(book.program, 'report', book.store, kind))
 
@@ -245,7 +254,7 @@ def try_large(program, seed, counted):
         before, began = state(store, path), monotonic()
         expect('close', READY, run(program, 'close', store, path))
         span, after, kept = monotonic() - began, state(store, path), rows_in(path)
-        chance = Day(seed).random
+        chance, texts = Day(seed).random, printed_texts(program, start)
         for _kill in range(KILLS):
             renewed()
             with subprocess.Popen([program, 'close', store, path], stdout=subprocess.PIPE, stderr=subprocess.PIPE) as process:
@@ -253,8 +262,10 @@ def try_large(program, seed, counted):
                 process.kill()
                 process.communicate()
             counted['large, killed: %s' % stage(before, after, state(store, path), 'large')] += 1
+            expect('texts', texts, printed_texts(program, store))
             expect('close again', READY, run(program, 'close', store, path))
             expect('all behind it', (after, kept), (state(store, path), rows_in(path)))
+            expect('texts, behind it', texts, printed_texts(program, store))
 
 
 # ---- allocations

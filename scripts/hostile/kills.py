@@ -155,9 +155,11 @@ def killed_closing(book, copied, pace, counted):
     added(book, counted)
     line, _told, _status = run(book.program, 'deliver', book.store, book.file('one.edi', book.upcoming(1)[0]))
     book.take([line[:-1]])
+    copied.prints_texts()
     expect('close again', READY, run(*words))
     copied.closes()
     expect('all after it', copied.modelled(), copied.standing())
+    copied.prints_texts()
     counted['closings'] += 1
 
 

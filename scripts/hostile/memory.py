@@ -43,12 +43,12 @@ class Refusing:
         source = os.path.join(HERE, 'refuse.c')
         subprocess.run(['cc', '-shared', '-fPIC', '-O1', '-o', self.library, source, '-ldl'], check=True)
 
-    def run(self, words, refused=0):
+    def run(self, words, refused=0, coded='utf-8'):
         """Printed, told and status, with that allocation refused."""
         added = dict(LD_PRELOAD=self.library, REFUSE_AT=str(refused), REFUSE_TOLD=self.told)
         done = subprocess.run(
             [self.program, *words], stdin=subprocess.DEVNULL, capture_output=True, env=dict(os.environ, **added), check=False)
-        return done.stdout.decode(), done.stderr.decode(), done.returncode
+        return done.stdout.decode(coded), done.stderr.decode(), done.returncode
 
     def allocations(self):
         """How many the last process made."""

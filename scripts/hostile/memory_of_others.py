@@ -1,13 +1,15 @@
-"""Each allocation of `init`, `report`, `serve`, `account`, `migrate` and `close` refused in turn: scripts/memory.
+"""Each allocation of `init`, `report`, `texts`, `serve`, `account`, `migrate` and `close` refused in turn: scripts/memory.
 
 With one allocation refused, a command does what it does with all of them, or it tells by name that memory ran out. An
 `init` that told so left no store, or a whole one; a `report` or a request that is answered so changes nothing.
 """
 import os
 import subprocess
+import tempfile
 from copy import deepcopy
 from functools import partial
 
+from model.commands import outcome
 from model.http import response, response_text
 from model.office import Office
 from model.pages import KINDS as PAGED
@@ -19,7 +21,7 @@ from model.stores import exchanged
 from model.syntax import sender_of
 
 from .books import Different, expect
-from .closings import CLOSED, refuse_closing
+from .closings import CLOSED, SEED, Prepared, refuse_closing
 from .commands import CODE, KIND, SHARES, refuse_addition, refuse_migration
 from .sampled import free_port
 from .served import account, get, post
@@ -95,6 +97,27 @@ def refuse_reports(refusing, office, _text, steps, counted):
                 expect('report %s, allocation %d' % (kind, refused), wanted, given)
             counted['report %s: %s' % (kind, 'told that memory ran out' if given in WANTS else 'the report')] += 1
     expect('rows behind the reports', before, rows_in(refusing.store))
+
+
+# ---- texts
+
+def refuse_texts(refusing, _office, _text, steps, counted):
+    """Allocations of `texts` of a store with an archive: of those by which it opens the store each of a first step, of those after
+    them each of a second. What it printed before memory ran out is a front of what it owes."""
+    with tempfile.TemporaryDirectory(prefix='memory-') as folder:
+        book = Prepared(refusing.program, folder, SEED, True).book
+        wanted, before = outcome({'store': book.office}, ['texts', 'store']), rows_in(book.store)
+        opened = allocations_of(refusing, ['report', book.store, 'visits', UNUSED]) - PRINTING
+        words = ['texts', book.store]
+        expect('texts', wanted, refusing.run(words, coded='latin-1'))
+        every = refusing.allocations()
+        for refused in [*range(1, opened + 1, steps[0]), *range(opened + 1, every + 1, steps[1])]:
+            given = refusing.run(words, refused, 'latin-1')
+            is_told = ('', *given[1:]) in WANTS and wanted[0].startswith(given[0])
+            if not is_told:
+                expect('texts, allocation %d' % refused, wanted, given)
+            counted['texts: %s' % ('told that memory ran out' if is_told else 'all')] += 1
+        expect('rows behind the texts', before, rows_in(book.store))
 
 
 # ---- serve
@@ -183,4 +206,5 @@ OTHERS = {
     **{'migrate, version %d, share %d' % (version, share): partial(refuse_migration, version, share)
        for version in (1, 2) for share in range(SHARES)},
     'init': refuse_init, 'serve': refuse_requests, 'routes': refuse_routes, 'reports': refuse_reports,
+    'texts': refuse_texts,
     'account': refuse_addition, **{'close, %s' % what: partial(refuse_closing, what) for what in CLOSED}}

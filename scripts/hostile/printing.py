@@ -3,6 +3,7 @@
 What such a process printed is a front of what it owes. One whose call was refused prints all, or tells by name why it doesn't,
 and is silent only where its own write was refused. No file changes, and the same words print all after it.
 """
+import os
 import sqlite3
 import subprocess
 import tempfile
@@ -15,7 +16,7 @@ from model.days import Day
 from model.explained import NOBODY
 from model.explained import printed as explained
 from model.migrated import contents
-from model.rows import REGISTER, copied_to
+from model.rows import REGISTER, copied_to, copy_files
 from model.words import text_of
 
 from .books import Different, expect, prefilled
@@ -69,10 +70,13 @@ class Printing:
 
 
 def texts(book, passed, folder):
-    """`texts` of a copy of a store, after so many."""
-    copied = book.copied(folder)
+    """`texts` of a copy of a store and of its archives, after so many."""
+    copied, files = book.copied(folder), []
+    for archive in book.office.register.archives:
+        files.append(os.path.join(folder, archive.file))
+        copy_files(os.path.join(book.folder, archive.file), files[-1])
     owed = outcome({'store': copied.office}, ['texts', 'store', str(passed)])
-    return Printing([book.program, 'texts', copied.store, str(passed)], [copied.store], owed, {STORE, MEMORY})
+    return Printing([book.program, 'texts', copied.store, str(passed)], [copied.store, *files], owed, {STORE, MEMORY})
 
 
 def explanation(book, text, word, setup, folder):
@@ -116,7 +120,7 @@ def try_one(make, mark, chance, counted):
 
 
 def try_all(program, seed, counted):
-    """Texts of a store, of a large one, and of one that was closed, which gives none; and a file, explained in two ways."""
+    """Texts of a store, of a large one, and of one that was closed; and a file, explained in two ways."""
     if not STRACE:
         counted['not run: strace is not there'] = 1
         return
@@ -130,4 +134,5 @@ def try_all(program, seed, counted):
     try_large(program, seed, counted)
     with tempfile.TemporaryDirectory(prefix='kill9-') as folder:
         book = Prepared(program, folder, seed, True).book
-        try_one(partial(texts, book, 0), None, book.chance, counted)
+        for passed in PASSED:
+            try_one(partial(texts, book, passed), None, book.chance, counted)
