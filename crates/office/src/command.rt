@@ -10,7 +10,8 @@ use crate::init::init;
 use crate::request_log::RequestLog;
 use crate::watch::DeliveryWatch;
 use office_archive_files::{
-    account_beside, deliver_beside, report_beside, serve_beside, texts_beside,
+    InFiles, InUnknownFiles, account_beside, deliver_beside, report_beside, serve_beside,
+    texts_beside,
 };
 use office_command_line::{CommandFault, REPORT_KINDS, Request, read_command};
 use office_commands::{
@@ -174,7 +175,10 @@ fn deliver_with_archives<R: Read, W: Write, E: Write>(
     writer: &mut Port<W>,
     errors: &mut Port<E>,
 ) -> u8 {
-    let (status, ended) = deliver_beside(rt, store, Unknown, watch, reader, writer, errors);
+    let beside = InUnknownFiles::new(rt);
+    let (status, ended) = deliver_beside(
+        rt, store, Unknown, &beside, watch, reader, writer, errors,
+    );
     let fault = ended.err();
     if let Some(fault) = &fault {
         tell_open_cause(rt, errors, store, fault);
@@ -225,7 +229,8 @@ fn account_with_archives<W: Write, E: Write>(
     writer: &mut Port<W>,
     errors: &mut Port<E>,
 ) -> u8 {
-    match account_beside(rt, store, Unknown, code, kind, writer) {
+    let beside = InUnknownFiles::new(rt);
+    match account_beside(rt, store, Unknown, &beside, code, kind, writer) {
         Ok(ended) => tell_asked(rt, errors, store, ended),
         Err(fault) => tell_open(rt, errors, store, &fault),
     }
@@ -287,7 +292,8 @@ fn report_with_archives<W: Write, E: Write>(
     writer: &mut Port<W>,
     errors: &mut Port<E>,
 ) -> u8 {
-    match report_beside(rt, store, Unknown, kind, key, writer) {
+    let beside = InUnknownFiles::new(rt);
+    match report_beside(rt, store, Unknown, &beside, kind, key, writer) {
         Ok(ended) => tell_reported(rt, errors, store, ended),
         Err(fault) => tell_open(rt, errors, store, &fault),
     }
@@ -348,7 +354,8 @@ fn texts_with_archives<W: Write, E: Write>(
     writer: &mut Port<W>,
     errors: &mut Port<E>,
 ) -> u8 {
-    match texts_beside(rt, store, Unknown, from, writer) {
+    let beside = InFiles::new(rt, Unknown);
+    match texts_beside(rt, store, Unknown, &beside, from, writer) {
         Ok(ended) => tell_reported(rt, errors, store, ended),
         Err(fault) => tell_open(rt, errors, store, &fault),
     }
@@ -406,7 +413,8 @@ fn serve_with_archives<W: Write, E: Write>(
     writer: &mut Port<W>,
     errors: &mut Port<E>,
 ) -> u8 {
-    match serve_beside(rt, store, Unknown, service, log, writer, errors) {
+    let beside = InUnknownFiles::new(rt);
+    match serve_beside(rt, store, Unknown, &beside, service, log, writer, errors) {
         Ok(ended) => status_of(ended),
         Err(fault) => tell_open(rt, errors, store, &fault),
     }

@@ -2,7 +2,8 @@ use crate::causes::{
     Words, stderr_is_terminal, tell_store, tell_store_cause, tell_with, tell_words,
 };
 use office_archive_files::{
-    CloseCommandFault, History, OpenFault, archives_over, close_over, history_of, register_path,
+    CloseCommandFault, History, InFiles, OfFour, OpenFault, UnknownFile, archives_over,
+    close_alike, history_of, register_path,
 };
 use office_closing::{CloseFault, File, FileFault, Refusal};
 use office_commands::{DONE, FAILED, print, tell_fault};
@@ -139,7 +140,8 @@ pub(crate) fn archives<W: Write, E: Write>(
     writer: &mut Port<W>,
     errors: &mut Port<E>,
 ) -> u8 {
-    match archives_over(rt, store, Unknown, writer) {
+    let beside = InFiles::new(rt, Unknown);
+    match archives_over(rt, store, Unknown, &beside, writer) {
         Ok(status) => status,
         Err(fault) => tell_open(rt, errors, store, &fault),
     }
@@ -153,7 +155,13 @@ pub(crate) fn close<W: Write, E: Write>(
     writer: &mut Port<W>,
     errors: &mut Port<E>,
 ) -> u8 {
-    let closed = close_over(rt, store, archive);
+    let unknown = OfFour {
+        store: UnknownFile,
+        register: UnknownFile,
+        archive: UnknownFile,
+        archive_register: UnknownFile,
+    };
+    let closed = close_alike(rt, store, archive, unknown);
     match &closed {
         Ok(ended) => match &ended.1 {
             Ok(()) => print(writer, "ready\n", DONE),

@@ -2,7 +2,7 @@
 use Rattle.std.proofs.Common.{◌≡◌, ℕ, List, [], ◌∷◌, true, Option, Result, Ok, Err, IfOk, IfErr, OnOk, OnErr, refl, sym, ap, subst, ◌∙◌}
 use Rattle.edi_messages.specs.Codes.{table_texts}
 use Rattle.edi_segments.specs.Interchange.{interchange_of}
-use Rattle.office_replies.specs.Delivering.{AreAnswered, AnswersEach, LeadsOn, with_answered, events_behind}
+use Rattle.office_replies.specs.Delivering.{LeadsOn}
 use Rattle.office_replies.specs.Events.{Event}
 use Rattle.office_replies.specs.declared.deliver.Response.{Response}
 use Rattle.office_replies.specs.declared.deliver.Response.TheVariants.{Taken, Repeat, Waiting, Clash, Refused, RefusedWithContrl, NotNow}
@@ -31,24 +31,6 @@ now_alike one other says es =
     let same : SaysSame (with_codes one.codes (content_after other es)) (content_after other es) =
     record { terminal = refl; codes = says.codes ∙ ap table_texts (sym (codes_after es other)); partners = refl; blocks = refl; limit = refl } in
     subst (λ (k : SetupContent). SaysSame k (content_after other es)) (sym now) same
-
--- ---- what stands and answers so, stands and answers also thus
-
-module _ {D : Type 0} (stands stands' : List Event → D → Type 0) (answers answers' : List Event → List ℕ → Response → Type 0)
-    (stand : (es : List Event) (office : D) → stands es office → stands' es office)
-    (answer : (es : List Event) (text : List ℕ) (given : Response) → answers es text given → answers' es text given) where
-  each_also : (es : List Event) (texts : List (List ℕ)) (responses : List Response) → AnswersEach answers es texts responses → AnswersEach answers' es texts responses
-  each_also es [] [] each = tt
-  each_also es [] (response ∷ responses) each = absurd each
-  each_also es (text ∷ texts) [] each = absurd each
-  each_also es (text ∷ texts) (response ∷ responses) each =
-      (answer es text response each.0, each_also (with_answered es text response) texts responses each.1)
-
-  pub answered_also : (es : List Event) (office : D) (texts : List (List ℕ)) (responses : List Response) → AreAnswered stands answers es office texts responses → AreAnswered stands' answers' es office texts responses
-  answered_also es office texts responses answered = record {
-    each = each_also es texts responses answered.each;
-    stands_now = stand (events_behind es texts responses) office answered.stands_now;
-  }
 
 -- ---- set-ups that say the same
 

@@ -4,3 +4,4 @@ pub mod DeliverLemmas
 pub mod OpenLemmas
 pub mod ShelfLemmas
 pub mod ServeLemmas
+pub mod NamingLemmas

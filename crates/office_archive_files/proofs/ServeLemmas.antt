@@ -27,7 +27,7 @@ use Rattle.office_parts.specs.Archives.{Archive}
 use Rattle.office_archives.specs.Together.{IsBesideAfter}
 use Rattle.office_archive_files.specs.Delivering.{Leads, StandAlike}
 use Rattle.office_archive_files.specs.Opening.{HoldsBeside, OpensOn}
-use Rattle.office_archive_files.specs.Serving.{AllServed, AreServed, AreShown, AreSoundAlong, Enrols, HoldsPending, IsServed, IsServedBeside, Looks}
+use Rattle.office_archive_files.specs.Serving.{AllServed, AreServed, Enrols, HoldsPending, IsServed, IsServedBeside, Looks}
 use Rattle.office_archive_files.proofs.Alike.{account_alike, answer_alike}
 
 says_then : (one other third : SetupContent) → SaysSame one other → SaysSame other third → SaysSame one third
@@ -77,43 +77,31 @@ module _ {S A : Type 0} (g : Ghosts S) (is_sound : A → Type 0) (are : List Arc
   sound_first old [] new same sound = subst (λ (office : Office). IsSound g office.0) same sound
   sound_first old (step ∷ steps) new (next, led, rest) sound = sound_step old step next led (sound_first next steps new rest sound)
 
-  stand_step : (content : SetupContent) (es : List Event) (old : Office) (step : Step) (new : Office) → Led old step new → IsSound g new.0 → is_sound new.1 → Stands content es old
-      → IsServed content es step × Stands content (with_step es step) new
-  stand_step content es old (delivery text given) new led sound whole at = elim led [
-    | inl call ↦ (let done = call.delivers sound whole at.opening es at.holds in
-        (inl (answer_alike at.opening content at.says es text given done.0), record { opening = at.opening; says = at.says; holds = done.1 }))
+  stand_step : (content : SetupContent) (es : List Event) (old : Office) (step : Step) (new : Office) → Led old step new → IsSound g new.0 → Stands content es old
+      → IsServed g is_sound are content es old step new × Stands content (with_step es step) new
+  stand_step content es old (delivery text given) new led sound at = elim led [
+    | inl call ↦ (
+      inl (λ whole. answer_alike at.opening content at.says es text given (call.answers sound whole at.opening es at.holds)),
+      record { opening = at.opening; says = at.says; holds = call.stand sound at.opening es at.holds },
+    )
     | inr off ↦ (inr off.0, subst (λ (r : Response). Stands content (with_answered es text r) new) (sym off.0) (subst (Stands content es) (sym off.1) at))
   ]
-  stand_step content es old (account code kind given) new led sound whole at = elim led [
-    | inl call ↦ (let done = call.adds sound whole at.opening es at.holds in
+  stand_step content es old (account code kind given) new led sound at = elim led [
+    | inl call ↦ (let done = call.adds sound at.opening es at.holds in
         (inl (account_alike at.opening content at.says es code kind given done.0), record { opening = at.opening; says = at.says; holds = done.1 }))
     | inr off ↦ (inr off.0, subst (λ (r : AccountAnswer). Stands content (with_added es code kind r) new) (sym off.0) (subst (Stands content es) (sym off.1) at))
   ]
-  stand_step content es old (look at found) new call sound whole stands =
-      let then = call.looks.same sound whole stands.opening es stands.holds in
-      (tt, record { opening = then.opening; says = says_then then.opening stands.opening content then.says stands.says; holds = then.stand })
+  stand_step content es old (look at found) new call sound stands =
+      let then = call.looks.same sound stands.opening es stands.holds in
+      ((stands, λ whole. call.told sound whole), record { opening = then.opening; says = says_then then.opening stands.opening content then.says stands.says; holds = then.stand })
 
-  stand_steps : (content : SetupContent) (es : List Event) (old : Office) (steps : List Step) (new : Office) (led : AllServed g is_sound are old steps new) → IsSound g new.0 → AreSoundAlong g is_sound are old steps new led
-      → Stands content es old → AreServed content es steps × Stands content (events_after es steps) new
-  stand_steps content es old [] new same sound whole stands = (tt, subst (Stands content es) (sym same) stands)
-  stand_steps content es old (step ∷ steps) new (next, led, rest) sound whole stands =
-      let there = sound_first next steps new rest sound in
-      let one = stand_step content es old step next led there whole.0 stands in
-      let more = stand_steps content (with_step es step) next steps new rest sound whole.1 one.1 in
+  stand_steps : (content : SetupContent) (es : List Event) (old : Office) (steps : List Step) (new : Office) (led : AllServed g is_sound are old steps new) → IsSound g new.0 → Stands content es old
+      → AreServed g is_sound are content es old steps new led × Stands content (events_after es steps) new
+  stand_steps content es old [] new same sound stands = (tt, subst (Stands content es) (sym same) stands)
+  stand_steps content es old (step ∷ steps) new (next, led, rest) sound stands =
+      let one = stand_step content es old step next led (sound_first next steps new rest sound) stands in
+      let more = stand_steps content (with_step es step) next steps new rest sound one.1 in
       ((one.0, more.0), more.1)
-
-  shown_steps : (content : SetupContent) (es : List Event) (old : Office) (steps : List Step) (new : Office) (led : AllServed g is_sound are old steps new) → IsSound g new.0 → AreSoundAlong g is_sound are old steps new led
-      → Stands content es old → AreShown g is_sound are content es old steps new led
-  shown_steps content es old [] new same sound whole stands = tt
-  shown_steps content es old (delivery text given ∷ steps) new (next, led, rest) sound whole stands =
-      shown_steps content (with_step es (delivery text given)) next steps new rest sound whole.1
-      (stand_step content es old (delivery text given) next led (sound_first next steps new rest sound) whole.0 stands).1
-  shown_steps content es old (account code kind given ∷ steps) new (next, led, rest) sound whole stands =
-      shown_steps content (with_step es (account code kind given)) next steps new rest sound whole.1
-      (stand_step content es old (account code kind given) next led (sound_first next steps new rest sound) whole.0 stands).1
-  shown_steps content es old (look at found ∷ steps) new (next, led, rest) sound whole stands =
-      let there = sound_first next steps new rest sound in
-      (stands, led.told there whole.0, shown_steps content es next steps new rest sound whole.1 (stand_step content es old (look at found) next led there whole.0 stands).1)
 
   -- ---- what a crash leaves
 
@@ -156,17 +144,17 @@ module _ {S A : Type 0} (g : Ghosts S) (is_sound : A → Type 0) (are : List Arc
       | inr more ↦ record { opening = stands.opening; says = stands.says; holds = (stands.holds.list, old.1, stands.holds.these, inr (event, pends, kept stands (es ++ event ∷ []) more)) }
     ]
 
-    left_delivery : (text : List ℕ) (given : Response) → Led old (delivery text given) new → IsSound g new.0 → is_sound new.1 → Stands content es old → Left (with_answered es text given) (PendsBehind Pends (delivery text given))
-    left_delivery text given (inr off) sound whole stands = left_less (delivery text given) (λ events. ap (with_answered events text) off.0) off.1
-    left_delivery text response.NotNow (inl call) sound whole stands =
-        left_off stands (delivered text) (PendsBehind Pends (delivery text response.NotNow)) (inr refl) (call.crash (call.stays sound) sound.0 whole stands.opening es stands.holds db left)
-    left_delivery text (response.Taken body) (inl call) sound whole stands = left_now stands (es ++ delivered text ∷ []) _ (call.crash (call.stays sound) sound.0 whole stands.opening es stands.holds db left)
-    left_delivery text (response.Repeat body) (inl call) sound whole stands = left_now stands (es ++ delivered text ∷ []) _ (call.crash (call.stays sound) sound.0 whole stands.opening es stands.holds db left)
-    left_delivery text (response.Waiting body) (inl call) sound whole stands = left_now stands (es ++ delivered text ∷ []) _ (call.crash (call.stays sound) sound.0 whole stands.opening es stands.holds db left)
-    left_delivery text (response.Clash body) (inl call) sound whole stands = left_now stands (es ++ delivered text ∷ []) _ (call.crash (call.stays sound) sound.0 whole stands.opening es stands.holds db left)
-    left_delivery text (response.Refused fault) (inl call) sound whole stands = left_now stands (es ++ delivered text ∷ []) _ (call.crash (call.stays sound) sound.0 whole stands.opening es stands.holds db left)
-    left_delivery text (response.RefusedWithContrl fault body) (inl call) sound whole stands =
-        left_now stands (es ++ delivered text ∷ []) _ (call.crash (call.stays sound) sound.0 whole stands.opening es stands.holds db left)
+    left_delivery : (text : List ℕ) (given : Response) → Led old (delivery text given) new → IsSound g new.0 → Stands content es old → Left (with_answered es text given) (PendsBehind Pends (delivery text given))
+    left_delivery text given (inr off) sound stands = left_less (delivery text given) (λ events. ap (with_answered events text) off.0) off.1
+    left_delivery text response.NotNow (inl call) sound stands =
+        left_off stands (delivered text) (PendsBehind Pends (delivery text response.NotNow)) (inr refl) (call.crash (call.stays sound) sound.0 stands.opening es stands.holds db left)
+    left_delivery text (response.Taken body) (inl call) sound stands = left_now stands (es ++ delivered text ∷ []) _ (call.crash (call.stays sound) sound.0 stands.opening es stands.holds db left)
+    left_delivery text (response.Repeat body) (inl call) sound stands = left_now stands (es ++ delivered text ∷ []) _ (call.crash (call.stays sound) sound.0 stands.opening es stands.holds db left)
+    left_delivery text (response.Waiting body) (inl call) sound stands = left_now stands (es ++ delivered text ∷ []) _ (call.crash (call.stays sound) sound.0 stands.opening es stands.holds db left)
+    left_delivery text (response.Clash body) (inl call) sound stands = left_now stands (es ++ delivered text ∷ []) _ (call.crash (call.stays sound) sound.0 stands.opening es stands.holds db left)
+    left_delivery text (response.Refused fault) (inl call) sound stands = left_now stands (es ++ delivered text ∷ []) _ (call.crash (call.stays sound) sound.0 stands.opening es stands.holds db left)
+    left_delivery text (response.RefusedWithContrl fault body) (inl call) sound stands =
+        left_now stands (es ++ delivered text ∷ []) _ (call.crash (call.stays sound) sound.0 stands.opening es stands.holds db left)
 
     left_account : (code kind : List ℕ) (given : AccountAnswer) → Led old (account code kind given) new → IsSound g new.0 → Stands content es old → Left (with_added es code kind given) (PendsBehind Pends (account code kind given))
     left_account code kind given (inr off) sound stands = left_less (account code kind given) (λ events. ap (with_added events code kind) off.0) off.1
@@ -176,40 +164,36 @@ module _ {S A : Type 0} (g : Ghosts S) (is_sound : A → Type 0) (are : List Arc
     left_account code kind (account_answer.Known id body) (inl call) sound stands = left_now stands es _ (call.crash (call.stays sound) sound.0 stands.opening es stands.holds db left)
     left_account code kind (account_answer.Refused fault) (inl call) sound stands = left_now stands es _ (call.crash (call.stays sound) sound.0 stands.opening es stands.holds db left)
 
-    left_step : (step : Step) → Led old step new → IsSound g new.0 → is_sound new.1 → Stands content es old → Left (with_step es step) (PendsBehind Pends step)
-    left_step (delivery text given) led sound whole stands = left_delivery text given led sound whole stands
-    left_step (account code kind given) led sound whole stands = left_account code kind given led sound stands
-    left_step (look at found) call sound whole stands = left_now stands es _ (call.looks.crash (call.looks.stays sound) sound.0 stands.opening es stands.holds db left)
+    left_step : (step : Step) → Led old step new → IsSound g new.0 → Stands content es old → Left (with_step es step) (PendsBehind Pends step)
+    left_step (delivery text given) led sound stands = left_delivery text given led sound stands
+    left_step (account code kind given) led sound stands = left_account code kind given led sound stands
+    left_step (look at found) call sound stands = left_now stands es _ (call.looks.crash (call.looks.stays sound) sound.0 stands.opening es stands.holds db left)
 
   left_steps : (closed : ClosedContent) (content : SetupContent) (es : List Event) (old : Office) (steps : List Step) (new : Office) (led : AllServed g is_sound are old steps new) → IsSound g new.0
-      → AreSoundAlong g is_sound are old steps new led → closed ≡ closed_content old.0.closed → Stands content es old
+      → closed ≡ closed_content old.0.closed → Stands content es old
       → (Pends : Event → Type 0) → ((db : Trees) → (state g old.0.conn).may_leave db → HoldsPending g is_sound are closed content es Pends db)
       → (db : Trees) → (state g new.0.conn).may_leave db → HoldsPending g is_sound are closed content (events_after es steps) (PendsAfter Pends steps) db
-  left_steps closed content es old [] new same sound whole is stands Pends was db left =
+  left_steps closed content es old [] new same sound is stands Pends was db left =
       left_more closed content es db Pends (PendsAfter Pends []) (λ event pends. inl (pends, λ events. refl)) (was db (subst (λ (office : Office). (state g office.0.conn).may_leave db) same left))
-  left_steps closed content es old (step ∷ steps) new (next, led, rest) sound whole is stands Pends was db left =
+  left_steps closed content es old (step ∷ steps) new (next, led, rest) sound is stands Pends was db left =
       let there = sound_first next steps new rest sound in
-      let one = stand_step content es old step next led there whole.0 stands in
+      let one = stand_step content es old step next led there stands in
       left_more closed content (events_after es (step ∷ steps)) db (PendsAfter (PendsBehind Pends step) steps) (PendsAfter Pends (step ∷ steps)) (one_before Pends step steps)
-      (left_steps closed content (with_step es step) next steps new rest sound whole.1 (is ∙ ap closed_content (sym (closed_step old step next led))) one.1 (PendsBehind Pends step)
-      (λ found leaves. left_step closed content es old next Pends is was found leaves step led there whole.0 stands) db left)
+      (left_steps closed content (with_step es step) next steps new rest sound (is ∙ ap closed_content (sym (closed_step old step next led))) one.1 (PendsBehind Pends step)
+      (λ found leaves. left_step closed content es old next Pends is was found leaves step led there stands) db left)
 
   -- requests that were served of a store that was opened on files, and of its archives
   pub served_beside : (image : Image) (count : ℕ) (opened office : Office) → OpensOn g image opened.0 → AreServedBy (Leads g is_sound are) (Enrols g is_sound are) (Looks g is_sound are) count opened office
-      → IsServedBeside g is_sound are image count office
+      → IsServedBeside g is_sound are image count opened office
   served_beside image count opened office opens served = record {
-    opened = opened;
     opens = opens;
     served = served;
-    answered = λ sound whole list content es given holds these.
-        stand_steps content es opened served.steps office served.led sound whole (stands_first sound list content es given holds these);
-    shown = λ sound whole list content es given holds these.
-        shown_steps content es opened served.steps office served.led sound whole (stands_first sound list content es given holds these);
-    leaves = λ sound whole list content es given holds these db left.
+    answered = λ sound list content es given holds these. stand_steps content es opened served.steps office served.led sound (stands_first sound list content es given holds these);
+    leaves = λ sound list content es given holds these db left.
         let it = opens (sound_first opened served.steps office served.led sound) list content es given holds in
         let at = it.opens in
         left_more (closed_content opened.0.closed) content (events_after es served.steps) db (PendsAfter (λ _. ⊥) served.steps) (MayBeThere served.steps) (none_pends served.steps)
-        (left_steps (closed_content opened.0.closed) content es opened served.steps office served.led sound whole refl (stands_first sound list content es given holds these) (λ _. ⊥)
+        (left_steps (closed_content opened.0.closed) content es opened served.steps office served.led sound refl (stands_first sound list content es given holds these) (λ _. ⊥)
         (λ found leaves. record { opening = at.opening; says = at.opening_says; holds = (list, opened.1, these, inl (it.leaves found leaves)) }) db left);
   }
     where

@@ -11,12 +11,12 @@ use Rattle.office_rows.specs.Tables.{office_schema}
 use Rattle.office_commands.specs.Opening.{ShowsHeld}
 use Rattle.office_parts.specs.Archives.{Archive}
 use Rattle.office_archives.specs.Shelves.{IsOpenAt}
-use Rattle.office_archive_files.specs.Shelves.{HoldArchives}
+use Rattle.office_archive_files.specs.Shelves.{HoldArchiveAt}
 
 -- it was opened on the files, and then only read
 pub opened_at : {D : Type 0} {g : Ghosts D} (image : Image) (list : List Archive) (place : ℕ) (found conn : Held (FileStore D g)) → (HasCleanDisk (file_state found) → ShowsHeld image found)
-    → (HasCleanDisk (file_state conn) → HasCleanDisk (file_state found)) → (HasCleanDisk (file_state conn) → (file_state conn).committed ≡ (file_state found).committed) → HoldArchives image list → IsOpenAt over_files list place conn
-opened_at image list place found conn shows clean_before same hold clean archive at =
-    let holds = hold place archive at in
+    → (HasCleanDisk (file_state conn) → HasCleanDisk (file_state found)) → (HasCleanDisk (file_state conn) → (file_state conn).committed ≡ (file_state found).committed) → HoldArchiveAt image place list → IsOpenAt over_files list place conn
+opened_at image list place found conn shows clean_before same hold clean now_open archive at =
+    let holds = hold archive at in
     let shown = shows (clean_before clean) holds.db office_schema holds.held holds.are.lists in
     record { has = subst (HasRows archive.rows) (sym (same clean ∙ shown)) holds.are; kept_once = holds.kept_once }

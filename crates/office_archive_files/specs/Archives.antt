@@ -59,10 +59,9 @@ pub record IsNamedAt (place : ℕ) (closed : ClosedContent) (segments : List Seg
   pub segments_are : segments ≡ segments_at place names.segments
   pub visits_are : archive.visits ≡ visits
 
--- What a connection shows is the archive of that place of a store of this set-up, as far as its disk has returned what was
--- written: registers name it so, its tables are those of an office beyond what its own register closes, of the store's
--- terminal, with the first of the store's accounts, and it keeps the numbers that it closed.
-pub record PassesAt {S : Type 0} (g : Ghosts S) (store : SetupContent) (place : ℕ) (conn : Held S) : Type 0 where
+-- What was read is the archive of that place of a store of this set-up: registers name it so, it is of the store's terminal,
+-- with the first of the store's accounts, and it keeps the numbers that it closed.
+pub record IsReadAt (store : SetupContent) (place : ℕ) : Type 0 where
   pub closed : ClosedContent
   pub segments : List Segment
   pub visits : ℕ
@@ -70,8 +69,13 @@ pub record PassesAt {S : Type 0} (g : Ghosts S) (store : SetupContent) (place : 
   pub terminal : TerminalState
   pub nexts : List ℕ
   pub named : IsNamedAt place closed segments visits
-  pub loads : HasCleanDisk (state g conn) → (state g conn).now.schema ≡ office_schema →
-      LoadsOwn closed (state g conn).now content terminal
-  pub are_nexts : HasCleanDisk (state g conn) → (rows : Rows) → HasRows rows (state g conn).now → AreNexts rows nexts
   pub office : IsOfOffice content store
   pub reaches : Reaches segments visits nexts terminal
+
+-- A connection shows it, as far as its disk has returned what was written: its tables are those of an office beyond what its own
+-- register closes.
+pub record PassesAt {S : Type 0} (g : Ghosts S) (store : SetupContent) (place : ℕ) (conn : Held S) : Type 0 where
+  pub read : IsReadAt store place
+  pub loads : HasCleanDisk (state g conn) → (state g conn).now.schema ≡ office_schema →
+      LoadsOwn read.closed (state g conn).now read.content read.terminal
+  pub are_nexts : HasCleanDisk (state g conn) → (rows : Rows) → HasRows rows (state g conn).now → AreNexts rows read.nexts

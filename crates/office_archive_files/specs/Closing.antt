@@ -1,9 +1,16 @@
 -- What the command that puts history away does to the four files that it opens.
-use Rattle.std.specs.Prelude.{◌≡◌, ℕ, List, Option, Result}
-use Rattle.sqlite_disk.specs.declared.Disk.{Ghosts}
-use Rattle.sqlite.specs.Files.{over_files}
-use Rattle.sqlite.specs.Held.{Held}
-use Rattle.sqlite.specs.declared.FileStore.{FileStore}
+use Rattle.std.specs.Prelude.{◌≡◌, ◌⊎◌, ℕ, List, Option, Result, IsTrue}
+use Rattle.sqlite_catalog.specs.Listing.{Lists}
+use Rattle.sqlite_trees.specs.Objects.{catalog_tree}
+use Rattle.sqlite_trees.specs.declared.store.Store.{Ghosts}
+use Rattle.sqlite.specs.Files.{HoldsDatabase}
+use Rattle.sqlite.specs.Held.{Held, state}
+use Rattle.sqlite.specs.Recovery.{Image}
+use Rattle.sqlite.specs.Schema.{Schema}
+use Rattle.sqlite.specs.State.{HasCleanDisk}
+use Rattle.sqlite.specs.Tree.{Trees}
+use Rattle.office_register.specs.Changes.{empty_register}
+use Rattle.office_register.specs.Transactions.{Makes}
 use Rattle.office_closing.specs.Closes.{Closes}
 use Rattle.office_closing.specs.Copies.{FileNames}
 use Rattle.office_closing.specs.Files.{AreIdle, files}
@@ -16,17 +23,49 @@ pub record IsNameOf (path name : List ℕ) : Type 0 where
   pub whole : path_of folder name ≡ path
   pub is_name : HasNoSlash name
 
--- The connections to a store, its register, an archive and its register: four were opened, with no transaction on any, and
--- closing them under the names of the two paths left these, with that answer.
-pub record ClosesOver {D T : Type 0} {g : Ghosts D} (store archive : List ℕ)
-    (own register copy copied : Held (FileStore D g)) (result : Result T CloseFault) : Type 0 where
+-- what the four files held
+pub record Images : Type 0 where
+  pub store : Image
+  pub register : Image
+  pub archive : Image
+  pub archive_register : Image
+
+module _ {S : Type 0} (g : Ghosts S) where
+  -- as far as its disk has returned what was written, a connection shows the database that its file held
+  abbrev pub Shows : Image → Held S → Type 0
+  Shows image conn =
+      HasCleanDisk (state g conn) → (db : Trees) (schema : Schema) → ∥ HoldsDatabase image db ∥₁ →
+      Lists (db catalog_tree) schema → (state g conn).committed ≡ record { schema = schema; trees = db }
+
+  -- the tables of an empty register were made in what was committed of a connection
+  pub record MakesRegister (found conn : Held S) : Type 0 where
+    pub before : Held S
+    pub same : IsTrue (state g before).is_open → (state g before).committed ≡ (state g found).committed
+    pub makes : Makes empty_register (state g before) (state g conn)
+
+  -- a connection shows what its file held, or the tables of an empty register were made in that
+  pub record ShowsRegister (image : Image) (conn : Held S) : Type 0 where
+    pub found : Held S
+    pub shows : Shows image found
+    pub clean : HasCleanDisk (state g conn) → HasCleanDisk (state g found)
+    pub made : HasCleanDisk (state g conn) → ((state g conn).committed ≡ (state g found).committed) ⊎ MakesRegister found conn
+
+-- The connections to a store, its register, an archive and its register: the four were opened on files that held this, with no
+-- transaction on any, and closing them under the names of the two paths left these, with that answer.
+pub record ClosesOver {S R A M T : Type 0} (s : Ghosts S) (r : Ghosts R) (a : Ghosts A) (m : Ghosts M) (images : Images)
+    (store archive : List ℕ) (own : Held S) (register : Held R) (copy : Held A) (copied : Held M)
+    (result : Result T CloseFault) : Type 0 where
   pub names : FileNames
   pub store_name : IsNameOf store names.store
   pub archive_name : IsNameOf archive names.archive
-  pub found_own : Held (FileStore D g)
-  pub found_register : Held (FileStore D g)
-  pub found_copy : Held (FileStore D g)
-  pub found_copied : Held (FileStore D g)
-  pub idle : AreIdle (files over_files over_files over_files over_files found_own found_register found_copy found_copied)
-  pub closes : Closes names (files over_files over_files over_files over_files found_own found_register found_copy found_copied)
-      (files over_files over_files over_files over_files own register copy copied) result
+  pub found_own : Held S
+  pub found_register : Held R
+  pub found_copy : Held A
+  pub found_copied : Held M
+  pub own_shows : Shows s images.store found_own
+  pub register_shows : ShowsRegister r images.register found_register
+  pub copy_shows : Shows a images.archive found_copy
+  pub copied_shows : ShowsRegister m images.archive_register found_copied
+  pub idle : AreIdle (files s r a m found_own found_register found_copy found_copied)
+  pub closes : Closes names (files s r a m found_own found_register found_copy found_copied)
+      (files s r a m own register copy copied) result

@@ -4,11 +4,10 @@ use Rattle.sqlite.specs.Held.{state}
 use Rattle.sqlite.specs.Recovery.{Image}
 use Rattle.sqlite.specs.State.{State}
 use Rattle.sqlite_trees.specs.declared.store.Store.{Ghosts}
-use Rattle.office_replies.specs.Delivering.{AreAnswered, LeadsOn, with_answered}
+use Rattle.office_replies.specs.Delivering.{LeadsOn, events_behind, with_answered}
 use Rattle.office_replies.specs.Events.{Event}
 use Rattle.office_replies.specs.declared.deliver.Response.{Response}
 use Rattle.office_checks.specs.Closed.{ClosedContent, closed_content}
-use Rattle.office_setup.specs.Given.{IsGiven}
 use Rattle.office_setup.specs.Setups.{SetupContent}
 use Rattle.office_desk.specs.Answers.{AnswersNext}
 use Rattle.office_desk.specs.Desks.{IsSound}
@@ -16,16 +15,7 @@ use Rattle.office_desk.specs.declared.desk.Desk.{Desk}
 use Rattle.office_commands.specs.Alike.{Alike}
 use Rattle.office_parts.specs.Archives.{Archive}
 use Rattle.office_archives.specs.Together.{LeadsTogether, LeavesBeside, LeavesDelivered, StandTogether}
-use Rattle.office_archive_files.specs.Opening.{HoldsBeside, OpensOn}
-
--- after each of those deliveries this held
-abbrev pub HoldAlong : {D : Type 0} (holds : D → Type 0) (leads : D → List ℕ → Response → D → Type 0) (old : D)
-    (texts : List (List ℕ)) (responses : List Response) (new : D) → LeadsOn leads old texts responses new → Type 0
-HoldAlong holds leads old [] [] new led = Unit {0}
-HoldAlong holds leads old [] (response ∷ responses) new led = Unit {0}
-HoldAlong holds leads old (text ∷ texts) [] new led = Unit {0}
-HoldAlong holds leads old (text ∷ texts) (response ∷ responses) new led =
-    holds led.0 × HoldAlong holds leads led.0 texts responses new led.2
+use Rattle.office_archive_files.specs.Opening.{IfHeld, OpensOn}
 
 module _ {S A : Type 0} (g : Ghosts S) (is_sound : A → Type 0) (are : List Archive → A → Type 0) where
   -- what a delivery does to a desk and its archives
@@ -35,6 +25,16 @@ module _ {S A : Type 0} (g : Ghosts S) (is_sound : A → Type 0) (are : List Arc
   -- for an opening set-up that says the same, desk and archives stand together after those events
   abbrev pub StandAlike : SetupContent → List Event → Desk S g × A → Type 0
   StandAlike content es office = Alike content (λ opening. StandTogether g are opening es office.0 office.1)
+
+  -- each was answered at its place, if the archives had told the truth after it
+  abbrev pub AreAnsweredIfSound : SetupContent → List Event → (old : Desk S g × A) (texts : List (List ℕ))
+      (responses : List Response) (new : Desk S g × A) → LeadsOn Leads old texts responses new → Type 0
+  AreAnsweredIfSound content es old [] [] new led = Unit {0}
+  AreAnsweredIfSound content es old [] (response ∷ responses) new led = ⊥
+  AreAnsweredIfSound content es old (text ∷ texts) [] new led = ⊥
+  AreAnsweredIfSound content es old (text ∷ texts) (response ∷ responses) new led =
+      (is_sound led.0.1 → AnswersNext content es text response)
+      × AreAnsweredIfSound content (with_answered es text response) led.0 texts responses new led.2
 
   -- After those deliveries a crash leaves of the store what, with the archives, is left of the rows after those that were
   -- answered; where the last was answered NotNow, it is there whole or not at all. The archives are those that were there
@@ -52,20 +52,16 @@ module _ {S A : Type 0} (g : Ghosts S) (is_sound : A → Type 0) (are : List Arc
       LeavesAll closed content (with_answered es text response) led.0 (more ∷ texts) responses new led.2 s
 
   -- These texts were delivered, with these responses, to a store that was opened on those files and to its archives. If its
-  -- disk told the truth in the end, and that of the archives each time, then from whatever events the files held what is
-  -- left of the rows, if these archives are those that hold the rest, each was answered at its place, and what was answered
-  -- outlasts a crash.
-  pub record AreDeliveredBeside (image : Image) (office : Desk S g × A) (texts : List (List ℕ))
+  -- disk told the truth in the end, then from whatever events the files held what is left of the rows, if these archives
+  -- are those that hold the rest, store and archives stand after them, each was answered at its place, if the archives had
+  -- told the truth, and what was answered outlasts a crash.
+  pub record AreDeliveredBeside (image : Image) (opened office : Desk S g × A) (texts : List (List ℕ))
       (responses : List Response) : Type 0 where
-    pub opened : Desk S g × A
     pub opens : OpensOn g image opened.0
     pub led : LeadsOn Leads opened texts responses office
-    pub answered : IsSound g office.0 → HoldAlong (λ between. is_sound between.1) Leads opened texts responses office led →
-        (list : List Archive) (content : SetupContent) (es : List Event) → IsGiven content →
-        HoldsBeside image list (closed_content opened.0.closed) content es → are list opened.1 →
-        AreAnswered (StandAlike content) (AnswersNext content) es office texts responses
-    pub leaves : IsSound g office.0 → HoldAlong (λ between. is_sound between.1) Leads opened texts responses office led →
-        (list : List Archive) (content : SetupContent) (es : List Event) → IsGiven content →
-        HoldsBeside image list (closed_content opened.0.closed) content es → are list opened.1 →
+    pub answered : IsSound g office.0 → IfHeld are image opened (λ list content es.
+        AreAnsweredIfSound content es opened texts responses office led
+        × StandAlike content (events_behind es texts responses) office)
+    pub leaves : IsSound g office.0 → IfHeld are image opened (λ list content es.
         Alike content (λ opening. LeavesAll (closed_content opened.0.closed) opening es opened texts responses office led
-        (state g office.0.conn))
+        (state g office.0.conn)))

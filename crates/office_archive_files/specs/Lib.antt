@@ -10,3 +10,4 @@ pub mod Closing
 pub mod Reporting
 pub mod Listing
 pub mod Texts
+pub mod Naming

@@ -1,8 +1,10 @@
 -- The lines that list a store's archives.
-use Rattle.std.specs.Prelude.{◌≡◌, ℕ, false, List, [], ◌∷◌, ◌++◌, length, codes, decimal, Option, None, Some, IfSome, is_some, IsTrue}
+use Rattle.std.specs.Prelude.{◌≡◌, ℕ, ◌==◌, false, cond, List, [], ◌∷◌, ◌++◌, length, codes, decimal, Option, None, Some, IfSome, is_some, IsTrue}
 use Rattle.office_reports.specs.Names.{line}
 use Rattle.office_register.specs.Register.{ArchiveContent, RegisterContent}
 use Rattle.office_register.specs.Sound.{is_sound}
+use Rattle.office_setup.specs.Setups.{SetupContent}
+use Rattle.office_archive_files.specs.Archives.{IsReadAt}
 use Rattle.office_archive_files.specs.declared.register.History.{History}
 use Rattle.office_archive_files.specs.declared.shelf.Found.{Found}
 use Rattle.office_archive_files.specs.declared.shelf.Found.TheVariants as found
@@ -18,11 +20,33 @@ abbrev pub archive_line : ArchiveContent → Found → List ℕ
 archive_line archive found =
     line (codes "ARCHIVE" ∷ decimal archive.place ∷ archive.file ∷ codes "VISITS" ∷ decimal archive.visits ∷ word_of found ∷ [])
 
--- a line for each of these archives follows a text
-abbrev pub FollowIn : List ArchiveContent → (before text : List ℕ) → Type 0
-FollowIn [] before text = text ≡ before
-FollowIn (archive ∷ archives) before text =
-    (found : Found) × FollowIn archives (before ++ archive_line archive found) text
+-- as the archive of that place only what was read as such is found
+abbrev pub IsFoundAt : (store : SetupContent) (place : ℕ) → Found → Type 0
+IsFoundAt store place found.Archive = IsReadAt store place
+IsFoundAt store place found.Nothing = Unit {0}
+IsFoundAt store place found.Other = Unit {0}
+
+-- a line for each of these archives of a store follows a text
+abbrev pub FollowIn : (store : SetupContent) → List ArchiveContent → (before text : List ℕ) → Type 0
+FollowIn store [] before text = text ≡ before
+FollowIn store (archive ∷ archives) before text =
+    (found : Found) × IsFoundAt store archive.place found × FollowIn store archives (before ++ archive_line archive found) text
+
+-- with 1 if there is none
+abbrev pub listing_text : (count : ℕ) → (lines : List ℕ) → List ℕ
+listing_text count lines = cond (count == 0) (codes "none\n") lines
+
+abbrev pub listing_status : (count : ℕ) → ℕ
+listing_status count = cond (count == 0) 1 0
+
+-- the lines of the archives that a sound register names are printed
+pub record IsListed (prints : (text : List ℕ) (wanted : ℕ) → Type 0) : Type 0 where
+  pub store : SetupContent
+  pub names : RegisterContent
+  pub sound : IsTrue (is_sound names)
+  pub lines : List ℕ
+  pub follow : FollowIn store names.archives [] lines
+  pub printed : prints (listing_text (length names.archives) lines) (listing_status (length names.archives))
 
 -- what was put away of a store with that register, or with none
 abbrev pub history_in : Option RegisterContent → History

@@ -1,5 +1,5 @@
 -- A store that is opened on its files, beside its archives.
-use Rattle.std.specs.Prelude.{◌≡◌, ℕ, List}
+use Rattle.std.specs.Prelude.{◌≡◌, List}
 use Rattle.sqlite.specs.Files.{HoldsDatabase}
 use Rattle.sqlite.specs.Held.{Held, state}
 use Rattle.sqlite.specs.Recovery.{Image}
@@ -24,6 +24,14 @@ pub record HoldsBeside (image : Image) (list : List Archive) (closed : ClosedCon
   pub db : Trees
   pub held : ∥ HoldsDatabase image db ∥₁
   pub beside : IsBesideAfter list closed content es db
+
+-- This holds after whatever events, if the files held what is left of the rows, and the archives of the office as it was opened
+-- are those that hold the rest.
+abbrev pub IfHeld : {S A : Type 0} {g : Ghosts S} (are : List Archive → A → Type 0) → Image → (opened : Desk S g × A) →
+    (List Archive → SetupContent → List Event → Type 0) → Type 0
+IfHeld are image opened holds =
+    (list : List Archive) (content : SetupContent) (es : List Event) → IsGiven content →
+    HoldsBeside image list (closed_content opened.0.closed) content es → are list opened.1 → holds list content es
 
 -- A desk was opened over that connection: if it is sound, the disk was clean, the desk is over the office that the tables show,
 -- and a crash leaves what is committed.

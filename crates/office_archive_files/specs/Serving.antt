@@ -11,7 +11,6 @@ use Rattle.office_replies.specs.declared.deliver.Response.TheVariants as respons
 use Rattle.office_queries.specs.Looking.{Look, Tells}
 use Rattle.office_queries.specs.declared.query.NotNow.{NotNow}
 use Rattle.office_checks.specs.Closed.{ClosedContent, closed_content}
-use Rattle.office_setup.specs.Given.{IsGiven}
 use Rattle.office_setup.specs.Setups.{SetupContent}
 use Rattle.office_http.specs.Steps.{Step, StepsLead, account, delivery, events_after, look, with_step}
 use Rattle.office_desk.specs.Accounts.{AnswersAccount}
@@ -23,24 +22,12 @@ use Rattle.office_commands.specs.Serving.{AreServedBy, EnrolsNamed, LeadsNamed, 
 use Rattle.office_parts.specs.Archives.{Archive}
 use Rattle.office_archives.specs.Together.{EnrolsTogether, IsBesideAfter, LooksTogether, ShowsBeside}
 use Rattle.office_archive_files.specs.Delivering.{Leads, StandAlike}
-use Rattle.office_archive_files.specs.Opening.{HoldsBeside, OpensOn}
-
--- after those events a delivery and an account are answered as the office answers them, or `not now`; what is looked at has no
--- answer of its own
-abbrev pub IsServed : SetupContent → List Event → Step → Type 0
-IsServed content es (delivery text given) = AnswersNext content es text given ⊎ (given ≡ response.NotNow)
-IsServed content es (account code kind given) = AnswersAccount content es code kind given ⊎ (given ≡ account_answer.NotNow)
-IsServed content es (look at found) = Unit {0}
-
--- each is answered so at its place
-abbrev pub AreServed : SetupContent → List Event → List Step → Type 0
-AreServed content es [] = Unit {0}
-AreServed content es (step ∷ steps) = IsServed content es step × AreServed content (with_step es step) steps
+use Rattle.office_archive_files.specs.Opening.{IfHeld, OpensOn}
 
 module _ {S A : Type 0} (g : Ghosts S) (is_sound : A → Type 0) (are : List Archive → A → Type 0) where
   -- what asking for an account does to a desk and its archives, and what looking does
   abbrev pub Enrols : Desk S g × A → List ℕ → List ℕ → AccountAnswer → Desk S g × A → Type 0
-  Enrols old code kind answer new = EnrolsTogether g is_sound are old.0 old.1 code kind answer new.0 new.1
+  Enrols old code kind answer new = EnrolsTogether g are old.0 old.1 code kind answer new.0 new.1
 
   abbrev pub Looks : Desk S g × A → Look → Result (Option (List ℕ)) NotNow → Desk S g × A → Type 0
   Looks old at found new = LooksTogether g is_sound are old.0 old.1 at found new.0 new.1
@@ -49,23 +36,23 @@ module _ {S A : Type 0} (g : Ghosts S) (is_sound : A → Type 0) (are : List Arc
   abbrev pub AllServed : Desk S g × A → List Step → Desk S g × A → Type 0
   AllServed = StepsLead (LeadsNamed (Leads g is_sound are)) (EnrolsNamed Enrols) Looks
 
-  -- after each call the archives had told the truth
-  abbrev pub AreSoundAlong : (old : Desk S g × A) (steps : List Step) (new : Desk S g × A) → AllServed old steps new → Type 0
-  AreSoundAlong old [] new led = Unit {0}
-  AreSoundAlong old (step ∷ steps) new led = is_sound led.0.1 × AreSoundAlong led.0 steps new led.2
+  -- After those events a delivery and an account are answered as the office answers them, or `not now`; what is looked at is
+  -- what store and archives show, which stand after them. Of a delivery and a look so, if the archives had told the truth
+  -- after it.
+  abbrev pub IsServed : SetupContent → List Event → (old : Desk S g × A) → Step → (new : Desk S g × A) → Type 0
+  IsServed content es old (delivery text given) new =
+      (is_sound new.1 → AnswersNext content es text given) ⊎ (given ≡ response.NotNow)
+  IsServed content es old (account code kind given) new =
+      AnswersAccount content es code kind given ⊎ (given ≡ account_answer.NotNow)
+  IsServed content es old (look at found) new =
+      StandAlike g is_sound are content es old × (is_sound new.1 → Tells (ShowsBeside g are old.0 old.1 at) found)
 
-  -- Whenever something was looked at, store and archives stood after the events so far, and what was found is what they show
-  -- then.
-  abbrev pub AreShown : SetupContent → List Event → (old : Desk S g × A) (steps : List Step) (new : Desk S g × A) →
+  -- each so at its place
+  abbrev pub AreServed : SetupContent → List Event → (old : Desk S g × A) (steps : List Step) (new : Desk S g × A) →
       AllServed old steps new → Type 0
-  AreShown content es old [] new led = Unit {0}
-  AreShown content es old (delivery text given ∷ steps) new led =
-      AreShown content (with_step es (delivery text given)) led.0 steps new led.2
-  AreShown content es old (account code kind given ∷ steps) new led =
-      AreShown content (with_step es (account code kind given)) led.0 steps new led.2
-  AreShown content es old (look at found ∷ steps) new led =
-      StandAlike g is_sound are content es old × Tells (ShowsBeside g are old.0 old.1 at) found
-      × AreShown content es led.0 steps new led.2
+  AreServed content es old [] new led = Unit {0}
+  AreServed content es old (step ∷ steps) new led =
+      IsServed content es old step led.0 × AreServed content (with_step es step) led.0 steps new led.2
 
   -- For an opening set-up that says the same, a store holds what is left, with archives that stood beside it, of the rows after
   -- these events, or with one more that is pending, whole.
@@ -76,23 +63,15 @@ module _ {S A : Type 0} (g : Ghosts S) (is_sound : A → Type 0) (are : List Arc
       ⊎ ((event : Event) × Pends event × IsBesideAfter list closed opening (es ++ event ∷ []) db)))
 
   -- So many calls at most were made of a store that was opened on those files and of its archives. If its disk told the
-  -- truth in the end, and that of the archives each time, then from whatever events the files held what is left of the rows,
-  -- if these archives are those that hold the rest, each was answered at its place, what was looked at was shown at its place,
-  -- store and archives stand after them, and a crash leaves what was answered, and perhaps one event that was put off after it.
-  pub record IsServedBeside (image : Image) (count : ℕ) (office : Desk S g × A) : Type 0 where
-    pub opened : Desk S g × A
+  -- truth in the end, then from whatever events the files held what is left of the rows, if these archives are those that
+  -- hold the rest, each was answered or shown at its place, if the archives had told the truth, store and archives stand
+  -- after them, and a crash leaves what was answered, and perhaps one event that was put off after it.
+  pub record IsServedBeside (image : Image) (count : ℕ) (opened office : Desk S g × A) : Type 0 where
     pub opens : OpensOn g image opened.0
     pub served : AreServedBy (Leads g is_sound are) Enrols Looks count opened office
-    pub answered : IsSound g office.0 → AreSoundAlong opened served.steps office served.led → (list : List Archive)
-        (content : SetupContent) (es : List Event) → IsGiven content →
-        HoldsBeside image list (closed_content opened.0.closed) content es → are list opened.1 →
-        AreServed content es served.steps × StandAlike g is_sound are content (events_after es served.steps) office
-    pub shown : IsSound g office.0 → AreSoundAlong opened served.steps office served.led → (list : List Archive)
-        (content : SetupContent) (es : List Event) → IsGiven content →
-        HoldsBeside image list (closed_content opened.0.closed) content es → are list opened.1 →
-        AreShown content es opened served.steps office served.led
-    pub leaves : IsSound g office.0 → AreSoundAlong opened served.steps office served.led → (list : List Archive)
-        (content : SetupContent) (es : List Event) → IsGiven content →
-        HoldsBeside image list (closed_content opened.0.closed) content es → are list opened.1 →
+    pub answered : IsSound g office.0 → IfHeld are image opened (λ list content es.
+        AreServed content es opened served.steps office served.led
+        × StandAlike g is_sound are content (events_after es served.steps) office)
+    pub leaves : IsSound g office.0 → IfHeld are image opened (λ list content es.
         (db : Trees) → (state g office.0.conn).may_leave db →
-        HoldsPending (closed_content opened.0.closed) content (events_after es served.steps) (MayBeThere served.steps) db
+        HoldsPending (closed_content opened.0.closed) content (events_after es served.steps) (MayBeThere served.steps) db)

@@ -1,12 +1,17 @@
 -- The archives of a store in files.
-use Rattle.std.specs.Prelude.{◌≡◌, ℕ, List, Some}
+use Rattle.std.specs.Prelude.{◌≡◌, ℕ, List, Some, IsTrue}
 use Rattle.sqlite.specs.Files.{HoldsDatabase}
 use Rattle.sqlite.specs.Recovery.{Image}
 use Rattle.sqlite.specs.Tree.{Trees}
+use Rattle.sqlite_trees.specs.declared.store.Store.{Ghosts}
+use Rattle.office_checks.specs.Closed.{closed_content}
 use Rattle.office_rows.specs.Stored.{StoresRows}
 use Rattle.office_history.specs.After.{AreKeptOnce}
+use Rattle.office_desk.specs.declared.desk.Desk.{Desk}
 use Rattle.office_parts.specs.Archives.{Archive}
-use Rattle.office_archives.specs.Shelves.{archive_at}
+use Rattle.office_register.specs.Register.{RegisterContent, closed_by}
+use Rattle.office_register.specs.Sound.{is_sound}
+use Rattle.office_archives.specs.Shelves.{NamesAll, archive_at}
 
 -- the files hold the rows of this archive, of which no interchange is kept twice
 pub record HoldsArchive (image : Image) (archive : Archive) : Type 0 where
@@ -15,6 +20,22 @@ pub record HoldsArchive (image : Image) (archive : Archive) : Type 0 where
   pub are : StoresRows archive.rows db
   pub kept_once : AreKeptOnce archive.rows.interchanges
 
--- the files of each archive hold this, so they hold each of these archives
-abbrev pub HoldArchives : Image → List Archive → Type 0
-HoldArchives image list = (place : ℕ) (archive : Archive) → archive_at list place ≡ Some archive → HoldsArchive image archive
+-- the files hold the archive at that place, if there is one
+abbrev pub HoldArchiveAt : Image → (place : ℕ) → List Archive → Type 0
+HoldArchiveAt image place list = (archive : Archive) → archive_at list place ≡ Some archive → HoldsArchive image archive
+
+-- The archives of an office as it was opened are those that a sound register names, which says what is closed of it: whichever
+-- these are, if their files hold what they are supposed to.
+pub record AreReached {S A : Type 0} {g : Ghosts S} (hold : List Archive → Type 0) (are : List Archive → A → Type 0)
+    (opened : Desk S g × A) : Type 0 where
+  pub names : RegisterContent
+  pub sound : IsTrue (is_sound names)
+  pub closed : closed_content opened.0.closed ≡ closed_by names
+  pub these : (list : List Archive) → hold list → NamesAll names list → are list opened.1
+
+-- this came of an office as it was opened, with such archives
+pub record FromReached {S A : Type 0} {g : Ghosts S} (hold : List Archive → Type 0) (are : List Archive → A → Type 0)
+    (Came : Desk S g × A → Type 0) : Type 0 where
+  pub opened : Desk S g × A
+  pub reached : AreReached hold are opened
+  pub came : Came opened

@@ -1,10 +1,13 @@
 ghost use Rattle.std.specs.Prelude.{◌≡◌, ◌++◌, ◌∷◌, [], codes, map, IfOk, OnErr, OnOk, string_bytes};
-ghost use Rattle.office_archive_files.specs.Listing.{FollowIn, archive_line, word_of};
+ghost use Rattle.office_archive_files.specs.Listing.{FollowIn, IsListed, archive_line, listing_status, listing_text, word_of};
+ghost use Rattle.office_commands.specs.Ending.{Prints};
 ghost use Rattle.office_register.specs.Register.{archive_content};
 ghost use Rattle.office_reports.specs.Names.{line};
+ghost use Rattle.office_setup.specs.Setups.{setup_content};
 
+use crate::beside::InFiles;
 use crate::opening::{OpenFault, open_shelf};
-use crate::shelf::{FileShelf, Found};
+use crate::shelf::{ArchiveStart, FileShelf, Found};
 use office_commands::{DONE, REFUSED, print};
 use office_register::{Archive, Register};
 use office_reports::texts::push_line;
@@ -15,31 +18,44 @@ use std::io::Write;
 
 /// Prints which archives the store or the archive at a path has, a line for each, and answers the exit status: 0, 1 if
 /// there is none, which prints `none`, and 3 if printing failed. Each is opened and looked at; none changes.
-pub fn archives_over<S: Start, W: Write>(
+pub fn archives_over<S: Start, B: ArchiveStart, W: Write>(
     rt: &HostRuntime,
     store: &str,
     start: S,
+    beside: &InFiles<'_, B>,
     writer: &mut Port<W>,
 ) -> Result<u8, OpenFault>
+    ensures lists { IfOk result (λ status. IsListed (λ text wanted. Prints writer.old.failed writer.new.failed
+        writer.new.flushed (W.contents writer.old.inner) (W.contents writer.new.inner) text wanted status)) }
     ensures err { OnErr result (writer.new ≡ writer.old) }
 {
-    let (desk, register, shelf) = open_shelf(rt, store, start)?;
+    let (desk, register, shelf) = open_shelf(rt, store, start, beside)?;
     let lines = archive_lines(rt.alloc(), &register, &shelf)?;
     drop(desk.into_connection());
-    if register.archives.is_empty() {
-        Ok(print(writer, "none\n", REFUSED))
+    let count = register.archives.len();
+    Ok(print_listing(writer, count, lines.as_str()))
+}
+
+/// Prints the lines of so many archives, or `none`, and answers the exit status.
+fn print_listing<W: Write>(writer: &mut Port<W>, count: usize, lines: &str) -> u8
+    ensures { Prints writer.old.failed writer.new.failed writer.new.flushed (W.contents writer.old.inner)
+        (W.contents writer.new.inner) (listing_text count lines.now) (listing_status count) result }
+{
+    if count == 0 {
+        print(writer, "none\n", REFUSED)
     } else {
-        Ok(print(writer, lines.as_str(), DONE))
+        print(writer, lines, DONE)
     }
 }
 
 /// A line for each archive.
-fn archive_lines(
+fn archive_lines<B: ArchiveStart>(
     alloc: Global,
     register: &Register,
-    shelf: &FileShelf<'_>,
+    shelf: &FileShelf<'_, B>,
 ) -> Result<String, AllocError>
-    ensures { IfOk result (λ lines. FollowIn (map archive_content register.now.archives.items) [] (string_bytes lines)) }
+    ensures { IfOk result (λ lines. FollowIn (setup_content shelf.now.setup)
+        (map archive_content register.now.archives.items) [] (string_bytes lines)) }
 {
     let mut lines = String::new(alloc);
     for archive in &register.archives {

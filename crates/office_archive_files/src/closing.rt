@@ -1,15 +1,15 @@
-ghost use Rattle.std.specs.Prelude.{◌≡◌, IfOk, IfSome, false};
-ghost use Rattle.office_archive_files.specs.Closing.{ClosesOver};
-ghost use Rattle.office_closing.specs.Closes.{Closes};
-ghost use Rattle.office_closing.specs.Files.{AreIdle, files};
+ghost use Rattle.std.specs.Prelude.{◌≡◌, ◌⊎◌, false, IfOk, IfSome, OnOk};
+ghost use Rattle.office_archive_files.specs.Closing.{ClosesOver, MakesRegister, Shows, ShowsRegister};
 ghost use Rattle.sqlite.specs.Held.{state};
+ghost use Rattle.sqlite.specs.Recovery.{Image};
+ghost use Rattle.sqlite.specs.State.{HasCleanDisk};
 
 use crate::register::{beside_path, found_at, has_no_tables, is_there, place_of, register_path};
 use office_closing::{CloseFault, File, FileFault, Refusal, close};
 use office_commands::{open_found, open_there};
 use office_register::{create_register, read_register};
 use office_tables::TableFault;
-use sqlite::{Alter, Connection, FileFrom, FileStore, Unknown};
+use sqlite::{Alter, Connection, FileFrom, FileStore, Start, Unknown};
 use std::alloc::{AllocError, Global};
 use std::os::unix::fs::MetadataExt;
 use thiserror::Error;
@@ -37,35 +37,130 @@ impl From<CloseFault> for CloseCommandFault {
     }
 }
 
-/// A connection to files, of which nothing is said before they are opened.
-type Files = Connection<FileStore<FileFrom<Unknown>>>;
+/// A file of a closing: what it is supposed to hold, and how it is opened.
+pub trait ClosingFile<S: Alter> {
+    /// What it holds as it is opened.
+    ghost image: { Image };
+
+    /// A connection to the file at a path. An empty one, or none, is a fault.
+    fn open_there(self, rt: &HostRuntime, path: &str) -> Result<Connection<S>, TableFault>
+        ensures idle { IfOk result (λ conn. conn.in_transaction ≡ false) }
+        ensures shows { IfOk result (λ conn. Shows S.Store image conn) };
+
+    /// A connection to the file at a path. One that isn't there is made.
+    fn open_found(self, rt: &HostRuntime, path: &str) -> Result<Connection<S>, TableFault>
+        ensures idle { IfOk result (λ conn. conn.in_transaction ≡ false) }
+        ensures shows { IfOk result (λ conn. Shows S.Store image conn) };
+}
+
+impl<B: Start> ClosingFile<FileStore<FileFrom<B>>> for B {
+    ghost use Rattle.sqlite.specs.WalFiles.{image_at};
+
+    ghost image = { image_at B.Start };
+
+    fn open_there(
+        self,
+        rt: &HostRuntime,
+        path: &str,
+    ) -> Result<Connection<FileStore<FileFrom<B>>>, TableFault> {
+        open_there(rt, path, self)
+    }
+
+    fn open_found(
+        self,
+        rt: &HostRuntime,
+        path: &str,
+    ) -> Result<Connection<FileStore<FileFrom<B>>>, TableFault> {
+        open_found(rt, path, self)
+    }
+}
+
+/// A file of a closing of which nothing is supposed: what the program names.
+#[derive(Drop)]
+pub struct UnknownFile;
+
+impl ClosingFile<FileStore<FileFrom<Unknown>>> for UnknownFile {
+    ghost use Rattle.sqlite.specs.WalFiles.{image_at};
+
+    ghost image = { image_at ⟦<Unknown as Start>⟧ };
+
+    fn open_there(
+        self,
+        rt: &HostRuntime,
+        path: &str,
+    ) -> Result<Connection<FileStore<FileFrom<Unknown>>>, TableFault> {
+        open_there(rt, path, Unknown)
+    }
+
+    fn open_found(
+        self,
+        rt: &HostRuntime,
+        path: &str,
+    ) -> Result<Connection<FileStore<FileFrom<Unknown>>>, TableFault> {
+        open_found(rt, path, Unknown)
+    }
+}
+
+/// Something of each of the four files of a closing.
+#[derive(Drop)]
+pub struct OfFour<S, R, A, M> {
+    /// Of the store.
+    pub store: S,
+    /// Of the store's register.
+    pub register: R,
+    /// Of the archive.
+    pub archive: A,
+    /// Of the archive's register.
+    pub archive_register: M,
+}
 
 /// The connections to the four files of a closing.
-#[derive(Drop)]
-pub struct ClosingFiles {
-    store: Files,
-    register: Files,
-    archive: Files,
-    archive_register: Files,
-}
+pub type ClosingFiles<S, R, A, M> = OfFour<
+    Connection<S>,
+    Connection<R>,
+    Connection<A>,
+    Connection<M>,
+>;
 
 /// Puts away what the archive at a path, a copy of the store's files in the store's folder, keeps as the store at a path
 /// does. The store is opened first. A register that isn't there is made: the store's, and the archive's if the store's names no
 /// archive. The files are given back as they were left, if all were opened.
-pub fn close_over(
+pub fn close_over<
+    S: Alter + Drop,
+    R: Alter + Drop,
+    A: Alter + Drop,
+    M: Alter + Drop,
+    OfStore: ClosingFile<S> + Drop,
+    OfRegister: ClosingFile<R> + Drop,
+    OfArchive: ClosingFile<A> + Drop,
+    OfArchiveRegister: ClosingFile<M> + Drop,
+>(
     rt: &HostRuntime,
     store: &str,
     archive: &str,
-) -> Result<(ClosingFiles, Result<(), CloseFault>), CloseCommandFault>
-    ensures { IfOk result (λ ended. ClosesOver store.now archive.now ended.0.store ended.0.register ended.0.archive
-        ended.0.archive_register ended.1) }
+    of: OfFour<OfStore, OfRegister, OfArchive, OfArchiveRegister>,
+) -> Result<(ClosingFiles<S, R, A, M>, Result<(), CloseFault>), CloseCommandFault>
+    ensures { IfOk result (λ ended. ClosesOver S.Store R.Store A.Store M.Store
+        (record {
+          store = OfStore.image;
+          register = OfRegister.image;
+          archive = OfArchive.image;
+          archive_register = OfArchiveRegister.image;
+        }) store.now archive.now
+        ended.0.store ended.0.register ended.0.archive ended.0.archive_register ended.1) }
 {
     check_folder(rt, store, archive)?;
-    let mut own = open_office(rt, store, File::Store)?;
-    let mut copy = open_office(rt, archive, File::Archive)?;
-    let (mut names, names_none) = open_register(rt, store, true, File::Register)?;
-    let (mut copied, _) = open_register(rt, archive, names_none, File::ArchiveRegister)?;
-    let closed = close_alike(
+    let OfFour {
+        store: of_store,
+        register: of_register,
+        archive: of_archive,
+        archive_register: of_copied,
+    } = of;
+    let mut own = open_office(rt, store, of_store, File::Store)?;
+    let mut copy = open_office(rt, archive, of_archive, File::Archive)?;
+    let (mut names, names_none) = open_register(rt, store, of_register, true, File::Register)?;
+    let (mut copied, _) = open_register(rt, archive, of_copied, names_none, File::ArchiveRegister)?;
+    let closed = close(
         rt.alloc(),
         &mut own,
         &mut names,
@@ -74,7 +169,7 @@ pub fn close_over(
         place_of(store).name,
         place_of(archive).name,
     );
-    let files = ClosingFiles {
+    let files = OfFour {
         store: own,
         register: names,
         archive: copy,
@@ -83,31 +178,18 @@ pub fn close_over(
     Ok((files, closed))
 }
 
-/// Puts away what an archive keeps, over four files of one kind.
-fn close_alike<S: Alter>(
-    alloc: Global,
-    store: &mut Connection<S>,
-    register: &mut Connection<S>,
-    archive: &mut Connection<S>,
-    archive_register: &mut Connection<S>,
-    store_file: &str,
-    archive_file: &str,
-) -> Result<(), CloseFault>
-    requires idle { AreIdle (files S.Store S.Store S.Store S.Store store.old register.old archive.old
-        archive_register.old) }
-    ensures closes { Closes (record { store = store_file.now; archive = archive_file.now })
-        (files S.Store S.Store S.Store S.Store store.old register.old archive.old archive_register.old)
-        (files S.Store S.Store S.Store S.Store store.new register.new archive.new archive_register.new) result }
+/// Closes as `close_over` does, four files of one kind: a program that names one kind of files says it once.
+pub fn close_alike<S: Alter + Drop, F: ClosingFile<S> + Drop>(
+    rt: &HostRuntime,
+    store: &str,
+    archive: &str,
+    of: OfFour<F, F, F, F>,
+) -> Result<(ClosingFiles<S, S, S, S>, Result<(), CloseFault>), CloseCommandFault>
+    ensures { IfOk result (λ ended. ClosesOver S.Store S.Store S.Store S.Store
+        (record { store = F.image; register = F.image; archive = F.image; archive_register = F.image })
+        store.now archive.now ended.0.store ended.0.register ended.0.archive ended.0.archive_register ended.1) }
 {
-    close(
-        alloc,
-        store,
-        register,
-        archive,
-        archive_register,
-        store_file,
-        archive_file,
-    )
+    close_over(rt, store, archive, of)
 }
 
 /// Refuses an archive that lies in another folder than its store.
@@ -133,10 +215,16 @@ fn is_beside(rt: &HostRuntime, store: &str, file: &str) -> Result<bool, TableFau
 }
 
 /// A connection to the office in a file.
-fn open_office(rt: &HostRuntime, path: &str, file: File) -> Result<Files, CloseFault>
-    ensures { IfOk result (λ conn. conn.in_transaction ≡ false) }
+fn open_office<S: Alter, F: ClosingFile<S>>(
+    rt: &HostRuntime,
+    path: &str,
+    of: F,
+    file: File,
+) -> Result<Connection<S>, CloseFault>
+    ensures idle { IfOk result (λ conn. conn.in_transaction ≡ false) }
+    ensures shows { IfOk result (λ conn. Shows S.Store F.image conn) }
 {
-    match open_there(rt, path, Unknown) {
+    match of.open_there(rt, path) {
         Ok(conn) => Ok(conn),
         Err(fault) => Err(CloseFault::File(FileFault { file, fault })),
     }
@@ -144,16 +232,18 @@ fn open_office(rt: &HostRuntime, path: &str, file: File) -> Result<Files, CloseF
 
 /// A connection to the register of the office at a path, and whether it names no archive. One that isn't there is made, if it
 /// may; else the archive is refused.
-fn open_register(
+fn open_register<S: Alter + Drop, F: ClosingFile<S> + Drop>(
     rt: &HostRuntime,
     office: &str,
+    of: F,
     may_make: bool,
     file: File,
-) -> Result<(Files, bool), CloseFault>
-    ensures { IfOk result (λ opened. opened.0.in_transaction ≡ false) }
+) -> Result<(Connection<S>, bool), CloseFault>
+    ensures idle { IfOk result (λ opened. opened.0.in_transaction ≡ false) }
+    ensures shows { IfOk result (λ opened. ShowsRegister S.Store F.image opened.0) }
 {
     let path = register_path(rt.alloc(), office)?;
-    match open_made(rt, path.as_str(), may_make) {
+    match open_made(rt, path.as_str(), of, may_make) {
         Ok(Some(opened)) => Ok(opened),
         Ok(None) => Err(CloseFault::Archive(Refusal::Register)),
         Err(fault) => Err(CloseFault::File(FileFault { file, fault })),
@@ -162,17 +252,19 @@ fn open_register(
 
 /// A connection to the register at a path, and whether it names no archive. One that isn't there is made, if it may; else
 /// there is none.
-fn open_made(
+fn open_made<S: Alter + Drop, F: ClosingFile<S> + Drop>(
     rt: &HostRuntime,
     path: &str,
+    of: F,
     may_make: bool,
-) -> Result<Option<(Files, bool)>, TableFault>
-    ensures { IfOk result (λ found. IfSome found (λ opened. opened.0.in_transaction ≡ false)) }
+) -> Result<Option<(Connection<S>, bool)>, TableFault>
+    ensures idle { IfOk result (λ found. IfSome found (λ opened. opened.0.in_transaction ≡ false)) }
+    ensures shows { IfOk result (λ found. IfSome found (λ opened. ShowsRegister S.Store F.image opened.0)) }
 {
     if !may_make && !is_there(rt, path)? {
         return Ok(None);
     }
-    let mut conn = open_found(rt, path, Unknown)?;
+    let mut conn = of.open_found(rt, path)?;
     let names_none = make_tables(rt.alloc(), &mut conn)?;
     Ok(Some((conn, names_none)))
 }
@@ -180,7 +272,11 @@ fn open_made(
 /// Makes the tables of a register if they aren't there, and answers whether it names no archive.
 fn make_tables<S: Alter>(alloc: Global, conn: &mut Connection<S>) -> Result<bool, TableFault>
     requires { (state S.Store conn.old).in_transaction ≡ false }
-    ensures { (state S.Store conn.new).in_transaction ≡ false }
+    ensures idle { (state S.Store conn.new).in_transaction ≡ false }
+    ensures clean { HasCleanDisk (state S.Store conn.new) → HasCleanDisk (state S.Store conn.old) }
+    ensures made { HasCleanDisk (state S.Store conn.new) →
+        OnOk result (((state S.Store conn.new).committed ≡ (state S.Store conn.old).committed)
+        ⊎ MakesRegister S.Store conn.old conn.new) }
 {
     match read_register(alloc, conn) {
         Ok(register) => Ok(register.archives.is_empty()),

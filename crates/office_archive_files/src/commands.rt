@@ -4,6 +4,7 @@ ghost use Rattle.office_archive_files.specs.Delivering.{AreDeliveredBeside};
 ghost use Rattle.office_archive_files.specs.Opening.{OpensOn};
 ghost use Rattle.office_archive_files.specs.Reporting.{AreOnlyLookedAt, IsReportedBeside};
 ghost use Rattle.office_archive_files.specs.Serving.{IsServedBeside};
+ghost use Rattle.office_archive_files.specs.Shelves.{FromReached};
 ghost use Rattle.office_archive_files.specs.Telling.{open_text};
 ghost use Rattle.office_archives.specs.Together.{OnlyLooksTogether, TellsBeside};
 ghost use Rattle.office_commands.specs.Accounts.{AccountEnds, AnswersAsked, LeavesWriter};
@@ -16,7 +17,7 @@ ghost use Rattle.sqlite.specs.Files.{over_files};
 ghost use Rattle.sqlite.specs.Recovery.{Image};
 ghost use Rattle.sqlite.specs.WalFiles.{image_at};
 
-use crate::file_archives::FileArchives;
+use crate::beside::ArchivesBeside;
 use crate::joined::Joined;
 use crate::opening::{FileOffice, OpenFault, open_beside, open_to_look};
 use office_archives::Archives;
@@ -49,24 +50,34 @@ pub fn tell_open_fault<E: Write>(errors: &mut Port<E>, fault: &OpenFault) -> u8
 
 /// Delivers the interchanges of a reader to the store at a path, joined with its archives, and writes the answer to each as
 /// a line, as `deliver_over` does. The office is given back as it was left, or why it did not open, which was reported.
-pub fn deliver_beside<'a, S: Start, N: Notes, R: Read, W: Write, E: Write>(
-    rt: &'a HostRuntime,
+pub fn deliver_beside<
+    S: Start,
+    A: Archives + Drop,
+    M: ArchivesBeside<A>,
+    N: Notes,
+    R: Read,
+    W: Write,
+    E: Write,
+>(
+    rt: &HostRuntime,
     store: &str,
     start: S,
+    beside: &M,
     notes: &N,
     reader: &mut Port<R>,
     writer: &mut Port<W>,
     errors: &mut Port<E>,
-) -> (u8, Result<FileOffice<'a, S>, OpenFault>)
+) -> (u8, Result<FileOffice<S, A>, OpenFault>)
     // From whatever events the files held what is left of the rows, if the archives hold the rest, the lines are the answers of
-    // that office, and what was answered outlasts a crash. And what each delivery did, whatever the files held.
-    ensures ends { IfOk result.1 (λ office.
+    // that office, as far as the archives told the truth, and what was answered outlasts a crash. And what each delivery did,
+    // whatever the files held.
+    ensures ends { IfOk result.1 (λ office. FromReached M.hold A.are (λ opened.
         StreamEnds (LeavesPorts (ports reader.old writer.old) (ports reader.new writer.new))
-        (Streams (AreDeliveredBeside over_files ⟦<FileArchives<'a> as Archives>⟧.is_sound
-        ⟦<FileArchives<'a> as Archives>⟧.are (image_at S.Start) (office.office.desk, office.office.archives))
+        (Streams (AreDeliveredBeside over_files A.is_sound A.are (image_at S.Start) opened
+        (office.office.desk, office.office.archives))
         (port_bytes (R.remaining reader.old.inner) (R.remaining reader.new.inner)
         (W.contents writer.old.inner) (W.contents writer.new.inner)))
-        (Tells errors.new.failed (E.contents errors.old.inner) (E.contents errors.new.inner)) result.0) }
+        (Tells errors.new.failed (E.contents errors.old.inner) (E.contents errors.new.inner)) result.0)) }
 
     // If it did not open, nothing was read or written.
     ensures refused { IfErr result.1 (λ fault. (result.0 ≡ 3) × (reader.new ≡ reader.old) × (writer.new ≡ writer.old)
@@ -74,7 +85,7 @@ pub fn deliver_beside<'a, S: Start, N: Notes, R: Read, W: Write, E: Write>(
     ensures in_time { reader.old.ended ≡ false → reader.new.read_behind_end ≡ reader.old.read_behind_end }
     ensures reads { reader.new.reads ≤ reader.old.reads + most_turns }
 {
-    match open_beside(rt, store, start) {
+    match open_beside(rt, store, start, beside) {
         Ok(office) => {
             let (status, office) = deliver_joined(
                 rt.alloc(),
@@ -105,7 +116,8 @@ fn deliver_joined<S: Alter + Drop, A: Archives + Drop, N: Notes, R: Read, W: Wri
 ) -> (u8, Joined<S, A>)
     ensures ends { (image : Image) → OpensOn S.Store image office.office.desk →
         StreamEnds (LeavesPorts (ports reader.old writer.old) (ports reader.new writer.new))
-        (Streams (AreDeliveredBeside S.Store A.is_sound A.are image (result.1.office.desk, result.1.office.archives))
+        (Streams (AreDeliveredBeside S.Store A.is_sound A.are image (office.office.desk, office.office.archives)
+        (result.1.office.desk, result.1.office.archives))
         (port_bytes (R.remaining reader.old.inner) (R.remaining reader.new.inner)
         (W.contents writer.old.inner) (W.contents writer.new.inner)))
         (Tells errors.new.failed (E.contents errors.old.inner) (E.contents errors.new.inner)) result.0 }
@@ -117,25 +129,25 @@ fn deliver_joined<S: Alter + Drop, A: Archives + Drop, N: Notes, R: Read, W: Wri
 
 /// Adds an account to the store at a path, joined with its archives, prints the answer as a line, and answers the exit
 /// status and the office as it was left, as `account_over` does. After a fault nothing was printed.
-pub fn account_beside<'a, S: Start, W: Write>(
-    rt: &'a HostRuntime,
+pub fn account_beside<S: Start, A: Archives + Drop, M: ArchivesBeside<A>, W: Write>(
+    rt: &HostRuntime,
     store: &str,
     start: S,
+    beside: &M,
     code: &str,
     kind: &str,
     writer: &mut Port<W>,
-) -> Result<(u8, FileOffice<'a, S>), OpenFault>
+) -> Result<(u8, FileOffice<S, A>), OpenFault>
     // From whatever events the files held what is left of the rows, if the archives hold the rest, the line is the answer of
     // that office, and an account that was added outlasts a crash. And what asking did, whatever the files held.
-    ensures ok { IfOk result (λ ended.
+    ensures ok { IfOk result (λ ended. FromReached M.hold A.are (λ opened.
         AccountEnds (LeavesWriter writer.old writer.new)
-        (AnswersAsked (IsAskedBeside over_files ⟦<FileArchives<'a> as Archives>⟧.is_sound
-        ⟦<FileArchives<'a> as Archives>⟧.are (image_at S.Start) (ended.1.office.desk, ended.1.office.archives)
-        code.now kind.now)
-        (W.contents writer.old.inner) (W.contents writer.new.inner)) ended.0) }
+        (AnswersAsked (IsAskedBeside over_files A.is_sound A.are (image_at S.Start) opened
+        (ended.1.office.desk, ended.1.office.archives) code.now kind.now)
+        (W.contents writer.old.inner) (W.contents writer.new.inner)) ended.0)) }
     ensures err { OnErr result (writer.new ≡ writer.old) }
 {
-    let mut office = open_beside(rt, store, start)?;
+    let mut office = open_beside(rt, store, start, beside)?;
     let status = enrol_joined(rt.alloc(), &mut office, code, kind, writer);
     Ok((status, office))
 }
@@ -150,8 +162,8 @@ fn enrol_joined<S: Alter + Drop, A: Archives + Drop, W: Write>(
 ) -> u8
     ensures { (image : Image) → OpensOn S.Store image office.old.office.desk →
         AccountEnds (LeavesWriter writer.old writer.new)
-        (AnswersAsked (IsAskedBeside S.Store A.is_sound A.are image (office.new.office.desk, office.new.office.archives)
-        code.now kind.now)
+        (AnswersAsked (IsAskedBeside S.Store A.is_sound A.are image (office.old.office.desk, office.old.office.archives)
+        (office.new.office.desk, office.new.office.archives) code.now kind.now)
         (W.contents writer.old.inner) (W.contents writer.new.inner)) result }
 {
     let outcome = answer_account(alloc, code, kind, writer, office);
@@ -160,27 +172,34 @@ fn enrol_joined<S: Alter + Drop, A: Archives + Drop, W: Write>(
 
 /// Serves the store at a path, joined with its archives, over HTTP, as `serve_over` does. After a fault it did not listen,
 /// and told nothing.
-pub fn serve_beside<'a, S: Start, N: Notes, W: Write, E: Write>(
-    rt: &'a HostRuntime,
+pub fn serve_beside<
+    S: Start,
+    A: Archives + Drop,
+    M: ArchivesBeside<A>,
+    N: Notes,
+    W: Write,
+    E: Write,
+>(
+    rt: &HostRuntime,
     store: &str,
     start: S,
+    beside: &M,
     service: Service,
     notes: &N,
     writer: &mut Port<W>,
     errors: &mut Port<E>,
-) -> Result<(u8, Named<FileOffice<'a, S>, StoreFile>), OpenFault>
+) -> Result<(u8, Named<FileOffice<S, A>, StoreFile>), OpenFault>
     // What was printed and told, and how many calls at most were made for requests. From whatever events the files held what is
     // left of the rows, if the archives hold the rest, each delivery and each account is answered by that office at its place,
     // or `not now`. And what each call did, whatever the files held.
-    ensures ok { IfOk result (λ ended. EndsServing service.port service.count writer.old writer.new
+    ensures ok { IfOk result (λ ended. FromReached M.hold A.are (λ opened. EndsServing service.port service.count writer.old writer.new
         (W.contents writer.old.inner) (W.contents writer.new.inner)
         (Tells errors.new.failed (E.contents errors.old.inner) (E.contents errors.new.inner))
-        (λ most. IsServedBeside over_files ⟦<FileArchives<'a> as Archives>⟧.is_sound
-        ⟦<FileArchives<'a> as Archives>⟧.are (image_at S.Start) most
-        (ended.1.desk.office.desk, ended.1.desk.office.archives)) ended.0) }
+        (λ most. IsServedBeside over_files A.is_sound A.are (image_at S.Start) most opened
+        (ended.1.desk.office.desk, ended.1.desk.office.archives)) ended.0)) }
     ensures err { OnErr result ((writer.new ≡ writer.old) × (errors.new ≡ errors.old)) }
 {
-    let office = open_beside(rt, store, start)?;
+    let office = open_beside(rt, store, start, beside)?;
     Ok(serve_joined(rt, store, office, service, notes, writer, errors))
 }
 
@@ -198,7 +217,7 @@ fn serve_joined<S: Alter + Drop, A: Archives + Drop, N: Notes, W: Write, E: Writ
         EndsServing service.port service.count writer.old writer.new
         (W.contents writer.old.inner) (W.contents writer.new.inner)
         (Tells errors.new.failed (E.contents errors.old.inner) (E.contents errors.new.inner))
-        (λ most. IsServedBeside S.Store A.is_sound A.are image most
+        (λ most. IsServedBeside S.Store A.is_sound A.are image most (office.office.desk, office.office.archives)
         (result.1.desk.office.desk, result.1.desk.office.archives)) result.0 }
 {
     serve_named(rt, store, office, service, notes, writer, errors)
@@ -206,30 +225,31 @@ fn serve_joined<S: Alter + Drop, A: Archives + Drop, N: Notes, W: Write, E: Writ
 
 /// Prints the report that a key asks for, from the store or the archive at a path, joined with its own archives, and
 /// answers the office as it was left and the exit status, as `report_over` does.
-pub fn report_beside<'a, S: Start, W: Write>(
-    rt: &'a HostRuntime,
+pub fn report_beside<S: Start, A: Archives + Drop, M: ArchivesBeside<A>, W: Write>(
+    rt: &HostRuntime,
     store: &str,
     start: S,
+    beside: &M,
     kind: ReportKind,
     key: &str,
     writer: &mut Port<W>,
-) -> Result<(FileOffice<'a, S>, Result<u8, TableFault>), OpenFault>
+) -> Result<(FileOffice<S, A>, Result<u8, TableFault>), OpenFault>
     // From whatever events the files held what is left of the rows, if the archives hold the rest, what is printed is what that
     // office tells.
-    ensures ok { IfOk result (λ ended. IfOk ended.1 (λ status.
-        Reports (IsReportedBeside over_files ⟦<FileArchives<'a> as Archives>⟧.is_sound
-        ⟦<FileArchives<'a> as Archives>⟧.are (image_at S.Start) (ended.0.office.desk, ended.0.office.archives)
-        kind key.now)
+    ensures ok { IfOk result (λ ended. IfOk ended.1 (λ status. FromReached M.hold A.are (λ opened.
+        Reports (IsReportedBeside over_files A.is_sound A.are (image_at S.Start) opened
+        (ended.0.office.desk, ended.0.office.archives) kind key.now)
         (Prints writer.old.failed writer.new.failed writer.new.flushed
-        (W.contents writer.old.inner) (W.contents writer.new.inner)) status)) }
+        (W.contents writer.old.inner) (W.contents writer.new.inner)) status))) }
 
     // It only looked, whether it told something or met a fault.
-    ensures looks { IfOk result (λ ended. AreOnlyLookedAt over_files ⟦<FileArchives<'a> as Archives>⟧.is_sound
-        ⟦<FileArchives<'a> as Archives>⟧.are (image_at S.Start) (ended.0.office.desk, ended.0.office.archives)) }
+    ensures looks { IfOk result (λ ended. FromReached M.hold A.are (λ opened.
+        AreOnlyLookedAt over_files A.is_sound A.are (image_at S.Start) opened
+        (ended.0.office.desk, ended.0.office.archives))) }
     ensures err { IfOk result (λ ended. OnErr ended.1 (writer.new ≡ writer.old)) }
     ensures refused { OnErr result (writer.new ≡ writer.old) }
 {
-    let mut office = open_to_look(rt, store, start)?;
+    let mut office = open_to_look(rt, store, start, beside)?;
     let status = report_on(rt.alloc(), &mut office, kind, key, writer);
     Ok((office, status))
 }
@@ -247,7 +267,7 @@ fn report_on<S: Alter + Drop, A: Archives + Drop, W: Write>(
         TellsKey (TellsBeside S.Store A.are office.old.office.desk office.old.office.archives) kind key.now found)
         (Prints writer.old.failed writer.new.failed writer.new.flushed
         (W.contents writer.old.inner) (W.contents writer.new.inner)) status) }
-    ensures looks { OnlyLooksTogether S.Store A.is_sound A.are office.old.office.desk office.old.office.archives
+    ensures looks { OnlyLooksTogether S.Store A.are office.old.office.desk office.old.office.archives
         office.new.office.desk office.new.office.archives }
     ensures err { OnErr result (writer.new ≡ writer.old) }
 {
@@ -271,7 +291,7 @@ fn find<S: Alter + Drop, A: Archives + Drop>(
         A.is_sound office.new.office.archives →
         TellsKey (TellsBeside S.Store A.are office.old.office.desk office.old.office.archives) kind key.now
         (option_map string_bytes found)) }
-    ensures looks { OnlyLooksTogether S.Store A.is_sound A.are office.old.office.desk office.old.office.archives
+    ensures looks { OnlyLooksTogether S.Store A.are office.old.office.desk office.old.office.archives
         office.new.office.desk office.new.office.archives }
 {
     match read_query(alloc, kind, key)? {

@@ -1,22 +1,50 @@
 ghost use Rattle.std.specs.Prelude.{◌≡◌};
 
 use crate::shelf::FileShelf;
-use office_archives::{Archives, ManyArchives};
+use office_archives::{Archives, ManyArchives, Shelf};
 use office_queries::Query;
 use office_tables::{Kept, TableFault};
-use sqlite::{FileFrom, FileStore, Unknown};
+use sqlite::{Connection, FileFrom, FileStore, Start, Unknown};
 use std::alloc::Global;
 
-/// The archives of a store in files. A type of its own, so that what is said of a store beside them stays short.
+/// A shelf of archives in files of which nothing is supposed.
+#[derive(Drop)]
+pub struct UnknownShelf<'a> {
+    shelf: FileShelf<'a, Unknown>,
+}
+
+impl<'a> UnknownShelf<'a> {
+    /// That shelf.
+    pub fn new(shelf: FileShelf<'a, Unknown>) -> UnknownShelf<'a> {
+        UnknownShelf { shelf }
+    }
+}
+
+impl Shelf<FileStore<FileFrom<Unknown>>> for UnknownShelf<'_> {
+    ghost use Rattle.std.specs.Prelude.{◌≡◌};
+    ghost use Rattle.office_archive_files.specs.Shelves.{HoldArchiveAt};
+    ghost use Rattle.sqlite.specs.WalFiles.{image_at};
+
+    ghost is_known = { λ place. place ≡ 1 };
+
+    ghost holds = { λ list shelf. HoldArchiveAt (image_at ⟦<Unknown as Start>⟧) 1 list };
+
+    fn open(&mut self, place: u16) -> Result<Connection<FileStore<FileFrom<Unknown>>>, TableFault> {
+        self.shelf.own_archive(place)
+    }
+}
+
+/// The archives of a store in files of which nothing is supposed, as the program names them: `ManyArchives` of such files, in
+/// a type of its own, so that what is said of a store beside them stays short.
 #[derive(Drop)]
 pub struct FileArchives<'a> {
-    archives: ManyArchives<FileStore<FileFrom<Unknown>>, FileShelf<'a>>,
+    archives: ManyArchives<FileStore<FileFrom<Unknown>>, UnknownShelf<'a>>,
 }
 
 impl<'a> FileArchives<'a> {
     /// Those of a shelf, as a register names them.
     pub fn new(
-        archives: ManyArchives<FileStore<FileFrom<Unknown>>, FileShelf<'a>>,
+        archives: ManyArchives<FileStore<FileFrom<Unknown>>, UnknownShelf<'a>>,
     ) -> FileArchives<'a>
         ensures { result.archives ≡ archives.entry }
     {
@@ -25,10 +53,10 @@ impl<'a> FileArchives<'a> {
 }
 
 impl<'a> Archives for FileArchives<'a> {
-    ghost is_sound = { λ files. ⟦<ManyArchives<FileStore<FileFrom<Unknown>>, FileShelf<'a>> as Archives>⟧.is_sound
+    ghost is_sound = { λ files. ⟦<ManyArchives<FileStore<FileFrom<Unknown>>, UnknownShelf<'a>> as Archives>⟧.is_sound
         files.archives };
 
-    ghost are = { λ list files. ⟦<ManyArchives<FileStore<FileFrom<Unknown>>, FileShelf<'a>> as Archives>⟧.are list
+    ghost are = { λ list files. ⟦<ManyArchives<FileStore<FileFrom<Unknown>>, UnknownShelf<'a>> as Archives>⟧.are list
         files.archives };
 
     fn kept(&mut self, partner: u16, number: u32) -> Result<Kept, TableFault> {

@@ -36,7 +36,7 @@ impl<S: Alter + Drop, A: Archives + Drop> Joined<S, A> {
         ensures told { IsSound S.Store self.new.office.desk → A.is_sound self.new.office.archives →
             IfOk result (λ found. TellsBeside S.Store A.are self.old.office.desk self.old.office.archives query.now
             (option_map string_bytes found)) }
-        ensures looks { OnlyLooksTogether S.Store A.is_sound A.are self.old.office.desk self.old.office.archives
+        ensures looks { OnlyLooksTogether S.Store A.are self.old.office.desk self.old.office.archives
             self.new.office.desk self.new.office.archives }
     {
         self.office.find_report(alloc, query)
@@ -57,7 +57,7 @@ impl<S: Alter + Drop, A: Archives + Drop> Deliver for Joined<S, A> {
 impl<S: Alter + Drop, A: Archives + Drop> AddAccount for Joined<S, A> {
     ghost use Rattle.office_archives.specs.Together.{EnrolsTogether};
 
-    ghost enrols = { λ old code kind answer new. EnrolsTogether S.Store A.is_sound A.are old.office.desk
+    ghost enrols = { λ old code kind answer new. EnrolsTogether S.Store A.are old.office.desk
         old.office.archives code kind answer new.office.desk new.office.archives };
 
     fn add_account(&mut self, alloc: Global, code: &[u8], kind: &[u8]) -> AccountAnswer {

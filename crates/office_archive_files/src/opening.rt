@@ -1,30 +1,30 @@
 ghost use Rattle.std.specs.Prelude.{◌≡◌, IfOk, IsTrue, None, false};
 ghost use Rattle.office_archive_files.specs.Opening.{IsOpenedOver, OpensOn};
-ghost use Rattle.office_checks.specs.Closed.{closed_content};
+ghost use Rattle.office_archive_files.specs.Shelves.{AreReached};
 ghost use Rattle.office_commands.specs.Opening.{ShowsHeld};
-ghost use Rattle.office_register.specs.Register.{closed_by, register_content};
+ghost use Rattle.office_register.specs.Register.{register_content};
 ghost use Rattle.office_register.specs.Sound.{is_sound};
 ghost use Rattle.sqlite.specs.Files.{file_state, over_files};
 ghost use Rattle.sqlite.specs.State.{HasCleanDisk};
 ghost use Rattle.sqlite.specs.WalFiles.{image_at};
 
-use crate::file_archives::FileArchives;
+use crate::beside::{ArchivesBeside, InFiles};
 use crate::joined::Joined;
 use crate::register::read_history;
-use crate::shelf::FileShelf;
-use office_archives::{ArchivedDesk, ManyArchives};
+use crate::shelf::{ArchiveStart, FileShelf};
+use office_archives::{ArchivedDesk, Archives};
 use office_checks::Closed;
 use office_commands::open_there;
 use office_desk::{Desk, load_beside};
 use office_register::Register;
 use office_setup::Setup;
 use office_tables::TableFault;
-use sqlite::{Alter, Connection, FileFrom, FileStore, Start, Unknown};
+use sqlite::{Alter, Connection, FileFrom, FileStore, Start};
 use std::alloc::{AllocError, Global};
 use thiserror::Error;
 
 /// A store in files, joined with its archives.
-pub type FileOffice<'a, S> = Joined<FileStore<FileFrom<S>>, FileArchives<'a>>;
+pub type FileOffice<S, A> = Joined<FileStore<FileFrom<S>>, A>;
 
 /// Why a store is not opened with its archives.
 #[derive(Debug, Drop, Error)]
@@ -50,44 +50,41 @@ impl From<AllocError> for OpenFault {
 /// register is read, so no other process closes it meanwhile.
 ///
 /// Closed if it is an archive itself.
-pub fn open_beside<'a, S: Start>(
-    rt: &'a HostRuntime,
+pub fn open_beside<S: Start, A: Archives, M: ArchivesBeside<A>>(
+    rt: &HostRuntime,
     store: &str,
     start: S,
-) -> Result<FileOffice<'a, S>, OpenFault>
+    beside: &M,
+) -> Result<FileOffice<S, A>, OpenFault>
     // From whatever events the files held what is left of the rows, with whatever archives hold the rest, the store stands
-    // beside these after them. What is closed is what the register says that was read, it has no mark, and no archive is
-    // open.
+    // beside these after them. What is closed is what the register says that was read, which has no mark.
     ensures opens { IfOk result (λ office. OpensOn over_files (image_at S.Start) office.office.desk) }
-    ensures closed { IfOk result (λ office.
-        closed_content office.office.desk.closed ≡ closed_by (register_content office.office.archives.archives.register)) }
-    ensures goes_on { IfOk result (λ office. office.office.archives.archives.register.closed_for ≡ None) }
-    ensures none_open { IfOk result (λ office. office.office.archives.archives.opened ≡ None) }
+    ensures reached { IfOk result (λ office. (reached : AreReached M.hold A.are (office.office.desk, office.office.archives))
+        × (reached.names.closed_for ≡ None)) }
 {
     let conn = open_store(rt, store, start)?;
     let register = read_names(rt, store)?;
     if register.closed_for.is_some() {
         return Err(OpenFault::Closed);
     }
-    join(rt, store, conn, register)
+    join(rt.alloc(), store, conn, register, beside)
 }
 
 /// The store or the archive at a path, joined with the archives that its register names, to be looked at.
-pub fn open_to_look<'a, S: Start>(
-    rt: &'a HostRuntime,
+pub fn open_to_look<S: Start, A: Archives, M: ArchivesBeside<A>>(
+    rt: &HostRuntime,
     store: &str,
     start: S,
-) -> Result<FileOffice<'a, S>, OpenFault>
+    beside: &M,
+) -> Result<FileOffice<S, A>, OpenFault>
     // From whatever events the files held what is left of the rows, with whatever archives hold the rest, the store stands
-    // beside these after them. What is closed is what the register says that was read, and no archive is open.
+    // beside these after them. What is closed is what the register says that was read.
     ensures opens { IfOk result (λ office. OpensOn over_files (image_at S.Start) office.office.desk) }
-    ensures closed { IfOk result (λ office.
-        closed_content office.office.desk.closed ≡ closed_by (register_content office.office.archives.archives.register)) }
-    ensures none_open { IfOk result (λ office. office.office.archives.archives.opened ≡ None) }
+    ensures reached { IfOk result (λ office. AreReached M.hold A.are (office.office.desk, office.office.archives)) }
 {
     let conn = open_store(rt, store, start)?;
     let register = read_names(rt, store)?;
-    join(rt, store, conn, register)
+    join(rt.alloc(), store, conn, register, beside)
 }
 
 /// A connection to the store at a path.
@@ -121,11 +118,12 @@ pub(crate) fn read_names(rt: &HostRuntime, store: &str) -> Result<Register, Open
 }
 
 /// The desk over the store or the archive at a path, its register, and the shelf of its archives.
-pub(crate) fn open_shelf<'a, S: Start>(
+pub(crate) fn open_shelf<'a, S: Start, B: ArchiveStart>(
     rt: &'a HostRuntime,
     store: &str,
     start: S,
-) -> Result<(Desk<FileStore<FileFrom<S>>>, Register, FileShelf<'a>), OpenFault>
+    beside: &InFiles<'a, B>,
+) -> Result<(Desk<FileStore<FileFrom<S>>>, Register, FileShelf<'a, B>), OpenFault>
     ensures sound { IfOk result (λ opened. IsTrue (is_sound (register_content opened.1))) }
 {
     let conn = open_store(rt, store, start)?;
@@ -133,30 +131,27 @@ pub(crate) fn open_shelf<'a, S: Start>(
     let closed = register.closed(rt.alloc())?;
     let (desk, setup) = open_desk(rt.alloc(), conn, closed)?;
     let path = String::from_str(rt.alloc(), store)?;
-    let shelf = FileShelf::new(rt, path, setup);
-    Ok((desk, register, shelf))
+    Ok((desk, register, beside.shelf(path, setup)))
 }
 
 /// The store over a connection, joined with the archives of a register.
-fn join<'a, S: Start>(
-    rt: &'a HostRuntime,
+fn join<S: Alter + Drop, A: Archives, M: ArchivesBeside<A>>(
+    alloc: Global,
     store: &str,
-    conn: Connection<FileStore<FileFrom<S>>>,
+    conn: Connection<S>,
     register: Register,
-) -> Result<FileOffice<'a, S>, OpenFault>
+    beside: &M,
+) -> Result<Joined<S, A>, OpenFault>
     requires idle { conn.in_transaction ≡ false }
     requires sound { IsTrue (is_sound (register_content register)) }
-    ensures opened { IfOk result (λ office. IsOpenedOver over_files conn office.office.desk) }
-    ensures closed { IfOk result (λ office. closed_content office.office.desk.closed ≡ closed_by (register_content register)) }
-    ensures register { IfOk result (λ office. office.office.archives.archives.register ≡ register) }
-    ensures none_open { IfOk result (λ office. office.office.archives.archives.opened ≡ None) }
+    ensures opened { IfOk result (λ office. IsOpenedOver S.Store conn office.office.desk) }
+    ensures reached { IfOk result (λ office. (reached : AreReached M.hold A.are (office.office.desk, office.office.archives))
+        × (reached.names ≡ register_content register)) }
 {
-    let alloc = rt.alloc();
     let closed = register.closed(alloc)?;
     let (desk, setup) = open_desk(alloc, conn, closed)?;
     let path = String::from_str(alloc, store)?;
-    let shelf = FileShelf::new(rt, path, setup);
-    let archives = FileArchives::new(ManyArchives::new(shelf, register));
+    let archives = beside.archives(path, setup, register);
     Ok(Joined::new(ArchivedDesk::new(desk, archives)))
 }
 

@@ -1,6 +1,7 @@
-ghost use Rattle.std.specs.Prelude.{◌≡◌, false, IfOk, IsTrue, List};
+ghost use Rattle.std.specs.Prelude.{◌≡◌, ℕ, false, IfOk, IsTrue, List};
 ghost use Rattle.office_archive_files.specs.Archives.{IsNamedAt, PassesAt, segments_at};
-ghost use Rattle.office_archive_files.specs.Shelves.{HoldArchives};
+ghost use Rattle.office_archive_files.specs.Listing.{IsFoundAt};
+ghost use Rattle.office_archive_files.specs.Shelves.{HoldArchiveAt};
 ghost use Rattle.office_archives.specs.Shelves.{IsOpenAt};
 ghost use Rattle.office_checks.specs.Closed.{closed_content};
 ghost use Rattle.office_parts.specs.Archives.{Archive};
@@ -37,14 +38,33 @@ pub enum Found {
     Other,
 }
 
-/// The archives of a store in files, beside the store. Nothing is supposed of what they hold.
+/// What the files of an archive hold as they are opened, and which archive it is: nothing is said of the others. So what is
+/// proved for any `B: ArchiveStart` is proved for each archive of a store, whatever its files hold.
+pub trait ArchiveStart: Start {
+    /// The place of the archive among those of its store, the first at 1.
+    ghost place: { ℕ };
+
+    /// The same of the same files, for another opening.
+    fn another(&self) -> Self;
+}
+
+impl ArchiveStart for Unknown {
+    ghost place = { 1 };
+
+    fn another(&self) -> Unknown {
+        Unknown
+    }
+}
+
+/// The archives of a store in files, beside the store.
 #[derive(Drop)]
-pub struct FileShelf<'a> {
+pub struct FileShelf<'a, B: ArchiveStart> {
     rt: &'a HostRuntime,
     // The path of the store.
     store: String,
     // The terminal of the store, and its accounts.
     setup: Setup,
+    start: B,
 }
 
 /// An archive as its store names it.
@@ -59,37 +79,60 @@ struct Named {
     visits: u32,
 }
 
-impl<'a> FileShelf<'a> {
+impl<'a, B: ArchiveStart> FileShelf<'a, B> {
     /// The archives of the store at a path, which has this terminal and these accounts.
-    pub fn new(rt: &'a HostRuntime, store: String, setup: Setup) -> FileShelf<'a>
+    pub fn new(rt: &'a HostRuntime, store: String, setup: Setup, start: B) -> FileShelf<'a, B>
         ensures store { result.store ≡ store }
         ensures setup { result.setup ≡ setup }
     {
-        FileShelf { rt, store, setup }
+        FileShelf {
+            rt,
+            store,
+            setup,
+            start,
+        }
     }
 
     /// What is found of the archive at a place, of which the store's register names the file.
-    pub fn look_at(&self, place: u16, file: &str) -> Result<Found, AllocError> {
+    pub fn look_at(&self, place: u16, file: &str) -> Result<Found, AllocError>
+        ensures { IfOk result (λ found. IsFoundAt (setup_content self.now.setup) place found) }
+    {
         let path = beside_path(self.rt.alloc(), self.store.as_str(), file)?;
         if let Ok(None) = found_at(self.rt, path.as_str()) {
             return Ok(Found::Nothing);
         }
         match self.opened(place) {
-            Ok(_) => Ok(Found::Archive),
+            Ok(_conn) => Ok(Found::Archive),
             Err(TableFault::Memory) => Err(AllocError),
             Err(_) => Ok(Found::Other),
         }
     }
 
-    /// A connection to the archive at a place. Another fault than Memory says that it is not there, or not its own.
-    fn opened(&self, place: u16) -> Result<Connection<FileStore<FileFrom<Unknown>>>, TableFault>
+    /// A connection to the archive at a place: NO_ARCHIVE if it is not there, or not its own; Memory says nothing of it.
+    pub(crate) fn own_archive(
+        &self,
+        place: u16,
+    ) -> Result<Connection<FileStore<FileFrom<B>>>, TableFault>
         ensures idle { IfOk result (λ conn. conn.in_transaction ≡ false) }
-        ensures opened { IfOk result (λ conn. (list : List Archive) → HoldArchives (image_at ⟦<Unknown as Start>⟧) list →
+        ensures opened { IfOk result (λ conn. place ≡ B.place → (list : List Archive) →
+            HoldArchiveAt (image_at B.Start) B.place list → IsOpenAt over_files list place conn) }
+    {
+        match self.opened(place) {
+            Ok(conn) => Ok(conn),
+            Err(TableFault::Memory) => Err(TableFault::Memory),
+            Err(_) => Err(TableFault::Store(NO_ARCHIVE)),
+        }
+    }
+
+    /// A connection to the archive at a place. Another fault than Memory says that it is not there, or not its own.
+    fn opened(&self, place: u16) -> Result<Connection<FileStore<FileFrom<B>>>, TableFault>
+        ensures idle { IfOk result (λ conn. conn.in_transaction ≡ false) }
+        ensures opened { IfOk result (λ conn. (list : List Archive) → HoldArchiveAt (image_at B.Start) place list →
             IsOpenAt over_files list place conn) }
         ensures passes { IfOk result (λ conn. PassesAt over_files (setup_content self.now.setup) place conn) }
     {
         let named = self.named(place)?;
-        let mut conn = open_there(self.rt, named.path.as_str(), Unknown)?;
+        let mut conn = open_there(self.rt, named.path.as_str(), self.start.another())?;
         let is_idle = conn.is_autocommit();
         prove!(is_idle);
         let (setup, beside) = load_beside(self.rt.alloc(), &mut conn, &named.closed)?;
@@ -158,20 +201,16 @@ fn segments_of(alloc: Global, segments: &[Segment], place: u16) -> Result<Vec<Se
     Ok(found)
 }
 
-impl Shelf<FileStore<FileFrom<Unknown>>> for FileShelf<'_> {
-    ghost use Rattle.std.specs.Prelude.{⊤};
-    ghost use Rattle.office_archive_files.specs.Shelves.{HoldArchives};
+impl<B: ArchiveStart> Shelf<FileStore<FileFrom<B>>> for FileShelf<'_, B> {
+    ghost use Rattle.std.specs.Prelude.{◌≡◌};
+    ghost use Rattle.office_archive_files.specs.Shelves.{HoldArchiveAt};
     ghost use Rattle.sqlite.specs.WalFiles.{image_at};
 
-    ghost is_known = { λ place. ⊤ };
+    ghost is_known = { λ place. place ≡ B.place };
 
-    ghost holds = { λ list shelf. HoldArchives (image_at ⟦<Unknown as Start>⟧) list };
+    ghost holds = { λ list shelf. HoldArchiveAt (image_at B.Start) B.place list };
 
-    fn open(&mut self, place: u16) -> Result<Connection<FileStore<FileFrom<Unknown>>>, TableFault> {
-        match self.opened(place) {
-            Ok(conn) => Ok(conn),
-            Err(TableFault::Memory) => Err(TableFault::Memory),
-            Err(_) => Err(TableFault::Store(NO_ARCHIVE)),
-        }
+    fn open(&mut self, place: u16) -> Result<Connection<FileStore<FileFrom<B>>>, TableFault> {
+        self.own_archive(place)
     }
 }

@@ -6,8 +6,9 @@ ghost use Rattle.office_register.specs.Register.{register_content};
 ghost use Rattle.office_register.specs.Sound.{is_sound};
 ghost use Rattle.sqlite.specs.Held.{state};
 
+use crate::beside::InFiles;
 use crate::opening::{OpenFault, open_shelf};
-use crate::shelf::FileShelf;
+use crate::shelf::{ArchiveStart, FileShelf};
 use office_archives::{Shelf, write_journal};
 use office_commands::{DONE, FAILED, REFUSED, print};
 use office_desk::Desk;
@@ -24,25 +25,26 @@ use std::io::Write;
 /// left and the exit status: 0, 1 if there are fewer, which prints `none`, and 3 if printing failed; or the fault for which
 /// they were not read to their end, after which a front of them may be printed. The archives are opened one after the other;
 /// none changes.
-pub fn texts_beside<S: Start, W: Write>(
+pub fn texts_beside<S: Start, B: ArchiveStart, W: Write>(
     rt: &HostRuntime,
     store: &str,
     start: S,
+    beside: &InFiles<'_, B>,
     from: u32,
     writer: &mut Port<W>,
 ) -> Result<(Connection<FileStore<FileFrom<S>>>, Result<u8, TableFault>), OpenFault>
     ensures refused { OnErr result (writer.new ≡ writer.old) }
 {
-    let (desk, register, shelf) = open_shelf(rt, store, start)?;
+    let (desk, register, shelf) = open_shelf(rt, store, start, beside)?;
     Ok(print_beside(rt.alloc(), desk, &register, shelf, from, writer))
 }
 
 /// Prints the texts of a store of any kind and of the archives in files on a shelf.
-fn print_beside<S: Alter, W: Write>(
+fn print_beside<S: Alter, B: ArchiveStart, W: Write>(
     alloc: Global,
     desk: Desk<S>,
     register: &Register,
-    shelf: FileShelf<'_>,
+    shelf: FileShelf<'_, B>,
     from: u32,
     writer: &mut Port<W>,
 ) -> (Connection<S>, Result<u8, TableFault>)

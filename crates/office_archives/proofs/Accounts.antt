@@ -1,5 +1,5 @@
 -- An account more, to a desk over a store's own rows and the archives beside it.
-use Rattle.std.proofs.Common.{◌≡◌, ◌⊎◌, ℕ, zero, suc, ◌+◌, ◌-◌, ◌<◌, ◌≤◌, inl, inr, List, [], ◌∷◌, ◌++◌, length, map, Bool, true, false, Option, None, Some, Contains, String, refl, sym, ap, ap₂, subst, ◌∙◌, arith, is_lt, Greater}
+use Rattle.std.proofs.Common.{◌≡◌, ℕ, ◌+◌, ◌-◌, ◌<◌, inl, inr, List, [], ◌∷◌, ◌++◌, length, map, Option, None, Some, String, refl, sym, ap, ap₂, subst, ◌∙◌, arith, is_lt, Greater}
 use Rattle.std.specs.Prelude.{get_or, IsSorted}
 use Rattle.std.specs.List.{range_with_len}
 use Rattle.std.specs.List.Sorted.{IsPermutation}
@@ -10,7 +10,6 @@ use Rattle.std.proofs.lemmas.List.FromFn.{length-range_with_len, get_or-range_wi
 use Rattle.std.proofs.lemmas.List.Sorted.{IsPermutation-refl}
 use Rattle.sqlite.specs.Effect.{Database}
 use Rattle.sqlite.specs.Held.{state}
-use Rattle.sqlite.specs.State.{HasCleanDisk}
 use Rattle.sqlite.specs.Tree.{Trees}
 use Rattle.sqlite_trees.specs.declared.store.Store.{Ghosts}
 use Rattle.edi_messages.specs.declared.codes.PartnerKind.{PartnerKind}
@@ -20,7 +19,7 @@ use Rattle.office_replies.specs.Adding.{with_added}
 use Rattle.office_replies.specs.Events.{Event, added}
 use Rattle.office_replies.specs.declared.accounts.AccountAnswer.{AccountAnswer}
 use Rattle.office_replies.specs.declared.accounts.AccountAnswer.TheVariants.{Added, Known, Refused, NotNow}
-use Rattle.office_checks.specs.Closed.{ClosedContent, closed_content}
+use Rattle.office_checks.specs.Closed.{closed_content}
 use Rattle.office_rows.specs.Rows.{Partner, Rows}
 use Rattle.office_rows.specs.Effects.{with_partner}
 use Rattle.office_rows.specs.Shown.{AreNexts}
@@ -38,15 +37,14 @@ use Rattle.office_parts.specs.Parts.{ArePartsAfter}
 use Rattle.office_parts.proofs.Events.{account_more}
 use Rattle.office_parts.proofs.OwnOpening.{own_office}
 use Rattle.office_desk.specs.Accounts.{AddsOver, AnswersAccount, IsLengthened, IsSameOrNone, LeavesAddedOver, Says}
-use Rattle.office_desk.specs.Beside.{IsOf, IsOrNone, nexts_after}
+use Rattle.office_desk.specs.Beside.{IsOrNone, nexts_after}
 use Rattle.office_desk.specs.Calls.{Enrols}
-use Rattle.office_desk.specs.Desks.{IsSound}
 use Rattle.office_desk.specs.Offices.{HoldsOffice}
 use Rattle.office_desk.specs.declared.beside.Beside.{Beside}
 use Rattle.office_desk.specs.declared.desk.Desk.{Desk}
 use Rattle.office_desk.proofs.AccountLemmas.{grown, nexts_grown}
 use Rattle.office_desk.proofs.CrashLemmas.{either_of}
-use Rattle.office_desk.proofs.NumberLemmas.{id_of, ids_from, nexts_loaded}
+use Rattle.office_desk.proofs.NumberLemmas.{ids_from, nexts_loaded}
 use Rattle.office_desk.proofs.OfficeLemmas.{office_once, office_with}
 use Rattle.office_archives.specs.Standing.{IsOwnWithRest, KnowsClosed, StandsBeside}
 use Rattle.office_archives.specs.Together.{EnrolsTogether, IsBesideAfter, LeavesAccount, StandTogether}
@@ -199,10 +197,10 @@ module _ {S : Type 0} (g : Ghosts S) (list : List Archive) (content : SetupConte
 
 -- ---- the call
 
-module _ {S A : Type 0} (g : Ghosts S) (is_sound : A → Type 0) (are : List Archive → A → Type 0) where
-  pub by_account : (old : Desk S g) (a : A) (code kind : List ℕ) (answer : AccountAnswer) (new : Desk S g) → Enrols g old code kind answer new → EnrolsTogether g is_sound are old a code kind answer new a
+module _ {S A : Type 0} (g : Ghosts S) (are : List Archive → A → Type 0) where
+  pub by_account : (old : Desk S g) (a : A) (code kind : List ℕ) (answer : AccountAnswer) (new : Desk S g) → Enrols g old code kind answer new → EnrolsTogether g are old a code kind answer new a
   by_account old a code kind answer new enrols = record {
-    adds = λ sound whole content es stand. (
+    adds = λ sound content es stand. (
       says_after content es stand.list stand.stands answer enrols.says,
       together content es stand answer enrols.says (enrols.over sound),
     );

@@ -1,6 +1,6 @@
 -- What the archives tell of a number that is closed, and what the rows after the events tell.
-use Rattle.std.proofs.Common.{◌≡◌, ℕ, ◌<◌, ◌≤◌, List, Bool, true, Option, None, Some, is_some, refl, sym, ap, subst, ◌∙◌, arith}
-use Rattle.std.specs.Prelude.{Contains, string_bytes}
+use Rattle.std.proofs.Common.{◌≡◌, ℕ, ◌≤◌, List, true, Option, None, Some, is_some, refl, sym, ap, subst, ◌∙◌, arith}
+use Rattle.std.specs.Prelude.{string_bytes}
 use Rattle.std.specs.Option.{option_and_then}
 use Rattle.partner_core.proofs.Firsts.{some_of}
 use Rattle.terminal_core.specs.declared.change.Source.{Source}
@@ -14,7 +14,7 @@ use Rattle.office_queries.specs.declared.query.Query.TheVariants as query
 use Rattle.office_reports.specs.Tickets.{ticket_text}
 use Rattle.office_history.specs.After.{content_after, machine_after, reply_in}
 use Rattle.office_history.proofs.Loads.{one_terminal}
-use Rattle.office_parts.specs.Archives.{Archive, archive_of, reply_by, Hold}
+use Rattle.office_parts.specs.Archives.{Archive, archive_of, Hold}
 use Rattle.office_parts.specs.LeftOver.{rows_beyond}
 use Rattle.office_parts.specs.OwnTerminal.{own_terminal, own_visits}
 use Rattle.office_parts.specs.Parts.{Archived, ArePartsAfter}
@@ -67,14 +67,14 @@ module _ (content : SetupContent) (es : List Event) (given : IsGiven content) (c
 module _ (content : SetupContent) (es : List Event) (archives : List Archive) (archived : Archived) (own whole : Rows) (given : IsGiven content) (are : ArePartsAfter content es archived own whole) (hold : Hold archives archived)
     (code : List ℕ) (p n : ℕ) (called : partner_called (content_after content es) code ≡ Some p) (low : 1 ≤ n) (high : n ≤ archived.last_closed p) where
   pub closed_here : IsClosedIn archives p n
-  closed_here = found_if_told (λ (archive : Archive). reply_in archive.rows p n) (archive_of archives p n) (ap is_some (hold.replies p n low high) ∙ are.closed.replied p n low high)
+  closed_here = (low, found_if_told (λ (archive : Archive). reply_in archive.rows p n) (archive_of archives p n) (ap is_some (hold.replies p n low high) ∙ are.closed.replied p n low high))
 
   ticket_here : (ticket : List ℕ) → AreCopies content es (λ partner. 0) archives → IsTicketIn archives code p n ticket → closed_ticket archives code p n ≡ Some ticket
   ticket_here ticket copies is =
-      let found = some_of (archive_of archives p n) closed_here in
+      let found = some_of (archive_of archives p n) closed_here.1 in
       let for = found_in_turn (IsCopy content es) p n (λ partner. 0) archives found.0 copies (omega (arith, low)) found.1 in
       ap (option_and_then (λ (archive : Archive). ticket_of archive.rows.visits archive.rows code n (Some p))) found.1
-      ∙ copy_ticket content es given for.closed_before found.0 for.stands code p n ticket (is found.0 found.1)
+      ∙ copy_ticket content es given for.closed_before found.0 for.stands code p n ticket (is low found.0 found.1)
 
   pub closed_told : (asked : Query) (found : Option (List ℕ)) → IsOfNumber asked code n → TellsClosed archives asked code p n found → TellsTogether content es archives archived whole asked found
   closed_told (query.Reply partner k) found is told = λ _.

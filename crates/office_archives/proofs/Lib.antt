@@ -12,3 +12,4 @@ pub mod Closed
 pub mod Beside
 pub mod OfArchive
 pub mod Journal
+pub mod Naming

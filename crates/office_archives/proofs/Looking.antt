@@ -1,7 +1,7 @@
 -- What a look does to a desk and the archives beside it.
-use Rattle.std.proofs.Common.{◌≡◌, ℕ, zero, suc, ◌+◌, ◌-◌, ◌<◌, ◌≤◌, List, [], ◌∷◌, length, map, Bool, true, false, cond, Option, None, Some, refl, sym, ap, subst, ◌∙◌, arith}
+use Rattle.std.proofs.Common.{◌≡◌, ℕ, zero, suc, ◌+◌, ◌-◌, ◌<◌, ◌≤◌, List, [], ◌∷◌, length, map, Bool, true, false, cond, Some, refl, sym, ap, subst, ◌∙◌, arith}
 use Rattle.std.specs.Cmp.Lexicographic.{bytes_decides}
-use Rattle.std.specs.Prelude.{IsTrue, slice_get, string_bytes}
+use Rattle.std.specs.Prelude.{IsTrue, slice_get}
 use Rattle.std.specs.Option.{unwrap_or}
 use Rattle.std.specs.Str.{bytes_eq}
 use Rattle.std.proofs.lemmas.List.{length-map}
@@ -39,7 +39,7 @@ use Rattle.office_parts.specs.OwnTerminal.{own_terminal}
 use Rattle.office_archives.specs.Opening.{OpensBeside}
 use Rattle.office_archives.specs.Standing.{KnowsClosed, StandsBeside}
 use Rattle.office_archives.specs.Telling.{IsOfNumber}
-use Rattle.office_archives.specs.Together.{IsBesideAfter, OnlyLooksTogether, StandTogether}
+use Rattle.office_archives.specs.Together.{IsBesideAfter, OnlyLooksTogether}
 use Rattle.office_archives.proofs.Opening.{beside_alike}
 use Rattle.office_archives.proofs.Together.{noted_stands}
 
@@ -124,15 +124,15 @@ module _ {S : Type 0} (g : Ghosts S) (list : List Archive) (content : SetupConte
     are = subst (StoresRows stands.rows) (sym left) (stores stands.rows (state g old.conn).committed stands.holds.has);
   }
 
-module _ {S A : Type 0} (g : Ghosts S) (is_sound : A → Type 0) (are : List Archive → A → Type 0) where
+module _ {S A : Type 0} (g : Ghosts S) (are : List Archive → A → Type 0) where
   -- the desk was looked at, and the archives are those that they were
-  pub looks_on : (old new : Desk S g) (a b : A) → (IsSound g old → (db : Trees) → (state g old.conn).may_leave db → db ≡ (state g old.conn).committed.trees) → OnlyLooks g old new → (is_sound b → (list : List Archive) → are list a → are list b)
-      → OnlyLooksTogether g is_sound are old a new b
+  pub looks_on : (old new : Desk S g) (a b : A) → (IsSound g old → (db : Trees) → (state g old.conn).may_leave db → db ≡ (state g old.conn).committed.trees) → OnlyLooks g old new → ((list : List Archive) → are list a → are list b)
+      → OnlyLooksTogether g are old a new b
   looks_on old new a b settled looks same = record {
-    same = λ sound whole content es stand.
+    same = λ sound content es stand.
         let stands = stand.stands in
         let again = looked_stands g stand.list content es old stands new looks.closed (looks.committed sound) (looks.holds sound stands.rows (mine g stand.list content es old stands) stands.holds) in
-        record { opening = again.opening; says = again.opening_says; stand = record { list = stand.list; these = same whole stand.list stand.these; stands = again.stands } };
+        record { opening = again.opening; says = again.opening_says; stand = record { list = stand.list; these = same stand.list stand.these; stands = again.stands } };
     crash = λ sound clean content es stand db left.
         let stands = stand.stands in
         rows_left g stand.list content es old stands db (settled sound db (looks.crash sound clean stands.holds.has.schema db left));
@@ -141,14 +141,14 @@ module _ {S A : Type 0} (g : Ghosts S) (is_sound : A → Type 0) (are : List Arc
   }
 
   -- and then a fault was noted
-  pub looks_noted : (old mid new : Desk S g) (a b : A) → OnlyLooksTogether g is_sound are old a mid b → new.conn ≡ mid.conn → new.setup ≡ mid.setup → new.closed ≡ mid.closed → new.beside ≡ mid.beside → OnlyLooksTogether g is_sound are old a new b
+  pub looks_noted : (old mid new : Desk S g) (a b : A) → OnlyLooksTogether g are old a mid b → new.conn ≡ mid.conn → new.setup ≡ mid.setup → new.closed ≡ mid.closed → new.beside ≡ mid.beside → OnlyLooksTogether g are old a new b
   looks_noted old mid new a b looks conn setup closed beside =
       let sound_mid : IsSound g new → IsSound g mid = λ sound. subst (λ (k : Held S). HasCleanDisk (state g k) × IsTrue (state g k).is_open) conn sound in
       record {
-        same = λ sound whole content es stand.
-            let alike = looks.same (sound_mid sound) whole content es stand in
+        same = λ sound content es stand.
+            let alike = looks.same (sound_mid sound) content es stand in
             let there = alike.stand in
-            record { opening = alike.opening; says = alike.says; stand = record { list = there.list; these = there.these; stands = noted_stands g is_sound are there.list alike.opening es mid new conn setup closed beside there.stands } };
+            record { opening = alike.opening; says = alike.says; stand = record { list = there.list; these = there.these; stands = noted_stands g there.list alike.opening es mid new conn setup closed beside there.stands } };
         crash = λ sound clean content es stand db left. looks.crash sound (subst (λ (k : Held S). HasCleanDisk (state g k)) conn clean) content es stand db (subst (λ (k : Held S). (state g k).may_leave db) conn left);
         closed = closed ∙ looks.closed;
         stays = λ sound. looks.stays (sound_mid sound);

@@ -1,5 +1,6 @@
 -- Archives on a shelf, of which one was asked.
-use Rattle.std.proofs.Common.{◌≡◌, ℕ, List, length, true, Option, None, Some, is_some, option_map, string_bytes, String, refl, sym, ap, subst, ◌∙◌}
+use Rattle.std.proofs.Common.{◌≡◌, ℕ, ◌≤◌, List, true, Option, None, Some, is_some, option_map, string_bytes, String, refl, sym, ap, subst, ◌∙◌}
+use Rattle.std.specs.Prelude.{IsTrue}
 use Rattle.std.specs.Option.{option_and_then}
 use Rattle.std.specs.declared.alloc.Global.{Global}
 use Rattle.sqlite.specs.Held.{Held, state}
@@ -15,7 +16,7 @@ use Rattle.office_register.specs.Register.{register_content}
 use Rattle.office_register.specs.Register as register
 use Rattle.office_register.specs.declared.register.Register.{Register}
 use Rattle.office_desk.proofs.ReportLemmas.{reply_of_kept}
-use Rattle.office_archives.specs.Shelves.{AreShelved, IsOpenAt, IsOpenIfAny, archive_at}
+use Rattle.office_archives.specs.Shelves.{AreShelved, IsOpenAt, IsOpenIfAny, NamesAll, archive_at}
 use Rattle.office_archives.specs.declared.opened.Opened.{Opened}
 
 -- what is named and shelved stays so, with another open
@@ -23,20 +24,21 @@ pub shelved_still : {S F : Type 0} (g : Ghosts S) (is_known : ℕ → Type 0) (h
     → IsOpenIfAny g is_known list another → AreShelved g is_known holds list after still another
 shelved_still g is_known holds list shelf after names still opened another are same on_shelf open_ = record {
   on_shelf = on_shelf;
-  counted = are.counted ∙ ap (λ (r : Register). length (register_content r).archives) (sym same);
-  named = subst (λ r. (partner number : ℕ) → archive_of list partner number ≡ option_and_then (archive_at list) (register.archive_of (register_content r).segments partner number)) (sym same) are.named;
+  are_named = subst (λ r. NamesAll (register_content r) list) (sym same) are.are_named;
   one_open = open_;
 }
 
 -- the place of a number's archive is where it stands
-pub archive_there : {S F : Type 0} (g : Ghosts S) (is_known : ℕ → Type 0) (holds : List Archive → F → Type 0) (list : List Archive) (shelf : F) (names : Register) (opened : Option (Opened S g)) (p n place : ℕ) (archive : Archive) → AreShelved g is_known holds list shelf names opened
+pub archive_there : {S F : Type 0} (g : Ghosts S) (is_known : ℕ → Type 0) (holds : List Archive → F → Type 0) (list : List Archive) (shelf : F) (names : Register) (opened : Option (Opened S g)) (p n place : ℕ) (archive : Archive) → 1 ≤ n → AreShelved g is_known holds list shelf names opened
     → register.archive_of (register_content names).segments p n ≡ Some place → archive_of list p n ≡ Some archive → archive_at list place ≡ Some archive
-archive_there g is_known holds list shelf names opened p n place archive are at reached = sym (are.named p n ∙ ap (option_and_then (archive_at list)) at) ∙ reached
+archive_there g is_known holds list shelf names opened p n place archive low are at reached = sym (are.are_named.named p n low ∙ ap (option_and_then (archive_at list)) at) ∙ reached
 
 -- what was read of an archive stays that archive
-pub open_still : {S : Type 0} (g : Ghosts S) (list : List Archive) (place : ℕ) (before after : Held S) → (HasCleanDisk (state g after) → HasCleanDisk (state g before)) → (HasCleanDisk (state g after) → (state g after).committed ≡ (state g before).committed) → IsOpenAt g list place before
-    → IsOpenAt g list place after
-open_still g list place before after first same is clean archive at = let there = is (first clean) archive at in record { has = subst (HasRows archive.rows) (sym (same clean)) there.has; kept_once = there.kept_once }
+pub open_still : {S : Type 0} (g : Ghosts S) (list : List Archive) (place : ℕ) (before after : Held S) → (HasCleanDisk (state g after) → HasCleanDisk (state g before)) → (HasCleanDisk (state g after) → IsTrue (state g after).is_open → IsTrue (state g before).is_open) →
+    (HasCleanDisk (state g after) → IsTrue (state g after).is_open → (state g after).committed ≡ (state g before).committed) → IsOpenAt g list place before → IsOpenAt g list place after
+open_still g list place before after first was_open same is clean now_open archive at =
+    let there = is (first clean) (was_open clean now_open) archive at in
+    record { has = subst (HasRows archive.rows) (sym (same clean now_open)) there.has; kept_once = there.kept_once }
 
 some_mapped : (o : Option (String Global)) → is_some (option_map string_bytes o) ≡ is_some o
 some_mapped None = refl

@@ -1,10 +1,11 @@
 -- What archives keep of a number, and what is answered by it.
-use Rattle.std.proofs.Common.{◌≡◌, ℕ, List, [], ◌∷◌, Bool, true, false, cond, Option, None, Some, is_some, refl, sym, ap, subst, ◌∙◌}
+use Rattle.std.proofs.Common.{◌≡◌, ℕ, ◌≤◌, List, [], ◌∷◌, Bool, true, false, Option, None, Some, is_some, refl, sym, ap, ◌∙◌}
 use Rattle.std.specs.Cmp.Lexicographic.{bytes_decides}
 use Rattle.std.specs.Prelude.{not, String, string_bytes}
 use Rattle.std.specs.Option.{option_map, option_and_then}
 use Rattle.std.specs.declared.alloc.Global.{Global}
 use Rattle.std.proofs.lemmas.Option.{same_Some}
+use Rattle.edi_segments.specs.Interchange.{interchange_of}
 use Rattle.partner_core.specs.Answers.{Repeat, Clash}
 use Rattle.partner_core.specs.Standings.{is_same_text}
 use Rattle.office_replies.specs.Contents.{content_of}
@@ -12,8 +13,10 @@ use Rattle.office_replies.specs.declared.deliver.Response.{Response}
 use Rattle.office_rows.specs.Rows.{Interchange}
 use Rattle.office_tables.specs.Answers.{IsKept, RepliesAs}
 use Rattle.office_tables.specs.declared.interchanges.Kept.{Kept}
-use Rattle.office_history.specs.After.{AreKeptOnce, reply_if_any, reply_in}
+use Rattle.office_setup.specs.Setups.{parties_in}
+use Rattle.office_history.specs.After.{AreKeptOnce, content_after, reply_if_any, reply_in}
 use Rattle.office_history.specs.Cascade.{text_in}
+use Rattle.office_history.proofs.Telling.{within}
 use Rattle.office_delivery.proofs.ReadLemmas.{one_kept, text_kept}
 use Rattle.office_parts.specs.Archives.{Archive, archive_of, text_by}
 use Rattle.office_parts.proofs.Lookups.{archives_answered}
@@ -31,8 +34,8 @@ told_some f None y e = cc
 told_some f (Some x) y e = refl
 
 -- an archive that tells a text reaches the number
-closed_by : (archives : List Archive) (p n : ℕ) (text : List ℕ) → text_by archives p n ≡ Some text → IsClosedIn archives p n
-closed_by archives p n text has = told_some (λ (archive : Archive). text_in archive.rows p n) (archive_of archives p n) text has
+closed_by : (archives : List Archive) (p n : ℕ) (text : List ℕ) → 1 ≤ n → text_by archives p n ≡ Some text → IsClosedIn archives p n
+closed_by archives p n text low has = (low, told_some (λ (archive : Archive). text_in archive.rows p n) (archive_of archives p n) text has)
 
 -- what the rows of a number's archive keep is what the archives keep
 pub told_by : (archives : List Archive) (archive : Archive) (p n : ℕ) (kept : Kept) → archive_of archives p n ≡ Some archive → AreKeptOnce archive.rows.interchanges → IsKept p n archive.rows (Some kept) → IsKeptIn archives p n kept
@@ -48,13 +51,11 @@ pub repeat_answers : (archives : List Archive) (p : ℕ) (code : List ℕ) (n : 
     content_of response ≡ answer_by_model code n (Repeat (Some (string_bytes reply))) → AnswersClosed archives p code n text response
 repeat_answers archives p code n kept text reply response keeps same replied given = λ content es archived own whole sent are hold text_is for high.
     let by = archives_answered content es archives archived own whole sent p n are hold for high in
-    let told = keeps (closed_by archives p n by.text by.has_text) in
+    let low : 1 ≤ n = (within (parties_in (content_after content es)) (interchange_of sent) p n for).2 in
+    let told = keeps (closed_by archives p n by.text low by.has_text) in
     let text_same : by.text ≡ kept.text.items = same_Some by.text kept.text.items (sym by.has_text ∙ told.text) in
     let reply_same : by.reply ≡ string_bytes reply = same_Some by.reply (string_bytes reply) (sym by.has_reply ∙ told.reply ∙ ap (option_map string_bytes) replied) in
-    record {
-      answers = given ∙ ap (λ r. answer_by_model code n (Repeat (Some r))) (sym reply_same) ∙ ap (answer_by_model code n) (sym (by.repeat (text_same ∙ same ∙ text_is)));
-      parts = by.parts;
-    }
+    given ∙ ap (λ r. answer_by_model code n (Repeat (Some r))) (sym reply_same) ∙ ap (answer_by_model code n) (sym (by.repeat (text_same ∙ same ∙ text_is)))
 
 -- another text is a clash
 pub clash_answers : (archives : List Archive) (p : ℕ) (code : List ℕ) (n : ℕ) (kept : Kept) (text : List ℕ) (response : Response) →
@@ -62,12 +63,10 @@ pub clash_answers : (archives : List Archive) (p : ℕ) (code : List ℕ) (n : �
     content_of response ≡ answer_by_model code n Clash → AnswersClosed archives p code n text response
 clash_answers archives p code n kept text response keeps apart given = λ content es archived own whole sent are hold text_is for high.
     let by = archives_answered content es archives archived own whole sent p n are hold for high in
-    let told = keeps (closed_by archives p n by.text by.has_text) in
+    let low : 1 ≤ n = (within (parties_in (content_after content es)) (interchange_of sent) p n for).2 in
+    let told = keeps (closed_by archives p n by.text low by.has_text) in
     let text_same : by.text ≡ kept.text.items = same_Some by.text kept.text.items (sym by.has_text ∙ told.text) in
-    record {
-      answers = given ∙ ap (answer_by_model code n) (sym (by.clash (λ e. apart (sym text_same ∙ e ∙ sym text_is))));
-      parts = by.parts;
-    }
+    given ∙ ap (answer_by_model code n) (sym (by.clash (λ e. apart (sym text_same ∙ e ∙ sym text_is))))
 
 -- ---- the same text, or another
 

@@ -1,5 +1,5 @@
 -- What a delivery does to a desk and the archives beside it.
-use Rattle.std.proofs.Common.{◌≡◌, ℕ, ◌+◌, ◌<◌, ◌≤◌, inl, List, [], ◌∷◌, ◌++◌, true, false, Option, Some, Ok, sym, refl, ap, subst, ◌∙◌, arith}
+use Rattle.std.proofs.Common.{◌≡◌, ℕ, ◌+◌, ◌≤◌, inl, List, [], ◌∷◌, ◌++◌, true, false, Ok, sym, refl, ap, subst, ◌∙◌, arith}
 use Rattle.std.specs.Prelude.{nat_le, None, IsTrue}
 use Rattle.std.proofs.lemmas.Bool.{leb-true, leb-false}
 use Rattle.sqlite.specs.Held.{Held, state}
@@ -7,8 +7,6 @@ use Rattle.sqlite.specs.State.{HasCleanDisk}
 use Rattle.sqlite.specs.Tree.{Trees}
 use Rattle.sqlite_trees.specs.declared.store.Store.{Ghosts}
 use Rattle.edi_segments.specs.Interchange.{interchange_of}
-use Rattle.partner_core.specs.Answers.{AnswerModel}
-use Rattle.partner_core.specs.Deliveries.{run}
 use Rattle.partner_core.proofs.Firsts.{some_of}
 use Rattle.partner_core.proofs.Unbroken.{used_within_run}
 use Rattle.office_replies.specs.Contents.{content_of}
@@ -32,35 +30,20 @@ use Rattle.office_history.proofs.Telling.{within}
 use Rattle.office_desk.specs.Answers.{AnswersNext, answer_at, answer_by_model, answer_to, code_of}
 use Rattle.office_desk.specs.Calls.{Leads}
 use Rattle.office_desk.specs.Desks.{IsSound}
-use Rattle.office_desk.specs.Noting.{HasFault, IsNow, NotesFault}
+use Rattle.office_desk.specs.Noting.{HasFault, IsNow}
 use Rattle.office_desk.specs.Offices.{DeskHolds, HoldsOffice}
 use Rattle.office_desk.specs.declared.desk.Desk.{Desk}
-use Rattle.office_desk.proofs.DeliverLemmas.{is_now, not_now_surely, notes_none, parties_same}
+use Rattle.office_desk.proofs.DeliverLemmas.{not_now_surely, notes_none, parties_same}
 use Rattle.office_parts.specs.Archives.{Archive, archive_of}
 use Rattle.office_parts.specs.OwnTerminal.{own_terminal}
 use Rattle.office_parts.specs.Parts.{ArePartsAfter}
-use Rattle.office_parts.proofs.Lookups.{closed_within}
+use Rattle.office_parts.proofs.Lookups.{archives_answered, closed_within}
 use Rattle.office_archives.specs.Answering.{AnswersClosed}
 use Rattle.office_archives.specs.Standing.{IsBeyond, KnowsClosed, StandsBeside}
-use Rattle.office_archives.specs.Together.{IsBesideAfter, LeavesDelivered, LeadsTogether, StandTogether}
+use Rattle.office_archives.specs.Together.{IsBesideAfter, LeadsTogether, StandTogether}
 use Rattle.office_archives.proofs.Standing.{answered_left, beyond_answered, beyond_left}
 
-module _ {S A : Type 0} (g : Ghosts S) (is_sound : A → Type 0) (are : List Archive → A → Type 0) where
-  -- ---- by the desk
-
-  pub by_desk : (old : Desk S g) (a : A) (sent : List ℕ) (given : Response) (new : Desk S g) → Leads g old sent given new → ((list : List Archive) (content : SetupContent) (es : List Event) → StandsBeside g list content es old → IsBeyond g list old sent) →
-      LeadsTogether g is_sound are old a sent given new a
-  by_desk old a sent given new leads far = record {
-    delivers = λ sound whole content es stand.
-        let it = beyond_answered g stand.list content es old sent given new leads sound stand.stands (far stand.list content es stand.stands) in
-        (it.0, record { list = stand.list; these = stand.these; stands = it.1 });
-    crash = λ sound clean whole content es stand. beyond_left g stand.list content es old sent given new leads sound clean stand.stands (far stand.list content es stand.stands);
-    setup = leads.setup;
-    closed = leads.closed;
-    stays = leads.stays;
-    noted = leads.noted;
-  }
-
+module _ {S : Type 0} (g : Ghosts S) where
   -- no archive is asked for a number that is not closed
   pub far_open : (old : Desk S g) (sent : List ℕ) (partner number : ℕ) → admission (parties_of old.setup) (interchange_of sent) ≡ Ok (partner, number) → nat_le number (last_closed old.closed partner) ≡ false →
       (list : List Archive) (content : SetupContent) (es : List Event) → StandsBeside g list content es old → IsBeyond g list old sent
@@ -90,6 +73,22 @@ module _ {S A : Type 0} (g : Ghosts S) (is_sound : A → Type 0) (are : List Arc
         (subst (λ k. HoldsOffice (closed_content new.closed) (setup_content k) stands.rows T (state g old.conn).committed new.beside) (sym setup)
         (subst (λ k. HoldsOffice (closed_content k) (setup_content old.setup) stands.rows T (state g old.conn).committed new.beside) (sym closed)
         (subst (HoldsOffice (closed_content old.closed) (setup_content old.setup) stands.rows T (state g old.conn).committed) (sym beside) stands.holds)));
+  }
+
+module _ {S A : Type 0} (g : Ghosts S) (is_sound : A → Type 0) (are : List Archive → A → Type 0) where
+  -- ---- by the desk
+
+  pub by_desk : (old : Desk S g) (a : A) (sent : List ℕ) (given : Response) (new : Desk S g) → Leads g old sent given new → ((list : List Archive) (content : SetupContent) (es : List Event) → StandsBeside g list content es old → IsBeyond g list old sent) →
+      LeadsTogether g is_sound are old a sent given new a
+  by_desk old a sent given new leads far = record {
+    answers = λ sound whole content es stand. (beyond_answered g stand.list content es old sent given new leads sound stand.stands (far stand.list content es stand.stands)).0;
+    stand = λ sound content es stand.
+        record { list = stand.list; these = stand.these; stands = (beyond_answered g stand.list content es old sent given new leads sound stand.stands (far stand.list content es stand.stands)).1 };
+    crash = λ sound clean content es stand. beyond_left g stand.list content es old sent given new leads sound clean stand.stands (far stand.list content es stand.stands);
+    setup = leads.setup;
+    closed = leads.closed;
+    stays = leads.stays;
+    noted = leads.noted;
   }
 
   -- ---- by the archives
@@ -131,14 +130,19 @@ module _ {S A : Type 0} (g : Ghosts S) (is_sound : A → Type 0) (are : List Arc
           let kept = some_of _ (used_within_run (deliveries_of content es) partner number low (omega (arith, high, below))) in
           (used_adds content es stands.whole sent partner number kept.0 stands.parts.after for (stands.parts.after.texts partner number ∙ kept.1)).machine
 
-      stand_after : (list : List Archive) (content : SetupContent) (es : List Event) (stands : StandsBeside g list content es old) → ArePartsAfter content (es ++ delivered sent ∷ []) stands.archived stands.own stands.whole → StandsBeside g list content (es ++ delivered sent ∷ []) old
-      stand_after list content es stands parts = record {
+      -- a closed number adds nothing
+      parts_after : (list : List Archive) (content : SetupContent) (es : List Event) (stands : StandsBeside g list content es old) → ArePartsAfter content (es ++ delivered sent ∷ []) stands.archived stands.own stands.whole
+      parts_after list content es stands =
+          (archives_answered content es list stands.archived stands.own stands.whole sent partner number stands.parts stands.hold (is_for list content es stands) (number_closed list content es stands)).parts
+
+      stand_after : (list : List Archive) (content : SetupContent) (es : List Event) (stands : StandsBeside g list content es old) → StandsBeside g list content (es ++ delivered sent ∷ []) old
+      stand_after list content es stands = record {
         given = stands.given;
         now_is = now_same content es sent ∙ stands.now_is;
         archived = stands.archived;
         own = stands.own;
         whole = stands.whole;
-        parts = parts;
+        parts = parts_after list content es stands;
         hold = stands.hold;
         knows = stands.knows;
         rows = stands.rows;
@@ -146,42 +150,44 @@ module _ {S A : Type 0} (g : Ghosts S) (is_sound : A → Type 0) (are : List Arc
         holds = subst (DeskHolds g old stands.rows) (ap (λ (m : MachineState). own_terminal stands.archived.stays m.terminal) (sym (machine_stays list content es stands))) stands.holds;
       }
 
-      pub by_archives : (a b : A) (given : Response) → (is_sound b → (list : List Archive) → are list a → AnswersClosed list partner code number (interchange_of sent) given) → (is_sound b → (list : List Archive) → are list a → are list b) →
-          IsNow given → LeadsTogether g is_sound are old a sent given old b
+      pub by_archives : (a b : A) (given : Response) → (is_sound b → (list : List Archive) → are list a → AnswersClosed list partner code number (interchange_of sent) given) → ((list : List Archive) → are list a → are list b) → IsNow given
+          → LeadsTogether g is_sound are old a sent given old b
       by_archives a b given answers same now = record {
-        delivers = λ sound whole content es stand.
+        answers = λ sound whole content es stand.
             let stands = stand.stands in
             let for = is_for stand.list content es stands in
-            let is = answers whole stand.list stand.these content es stands.archived stands.own stands.whole sent stands.parts stands.hold refl for (number_closed stand.list content es stands) in
+            let is : content_of given ≡ answer_by_model code number (answer_model_of content es partner number sent) =
+            answers whole stand.list stand.these content es stands.archived stands.own stands.whole sent stands.parts stands.hold refl for (number_closed stand.list content es stands) in
             let named : code ≡ code_of (parties_in (content_after content es)) partner = is_code ∙ ap (λ P. code_of P partner) (parties_now stand.list content es stands) in
-            let told : content_of given ≡ answer_to content es sent =
-            is.answers ∙ ap (λ c. answer_by_model c number (answer_model_of content es partner number sent)) named ∙ ap (answer_at content es sent) (sym for) in
-            at content es given now told (record { list = stand.list; these = same whole stand.list stand.these; stands = stand_after stand.list content es stands is.parts });
-        crash = λ sound clean whole content es stand.
+            answered content es given now (is ∙ ap (λ c. answer_by_model c number (answer_model_of content es partner number sent)) named ∙ ap (answer_at content es sent) (sym for));
+        stand = λ sound content es stand.
+            subst (λ later. StandTogether g are content later old b) (sym (added es given now)) (record { list = stand.list; these = same stand.list stand.these; stands = stand_after stand.list content es stand.stands });
+        crash = λ sound clean content es stand.
             let stands = stand.stands in
-            let is = answers whole stand.list stand.these content es stands.archived stands.own stands.whole sent stands.parts stands.hold refl (is_for stand.list content es stands) (number_closed stand.list content es stands) in
-            answered_left stand.list (closed_content old.closed) content es sent given (state g old.conn) (λ db left. stored stand.list content es (es ++ delivered sent ∷ []) stands stands.whole is.parts sound db left);
+            answered_left stand.list (closed_content old.closed) content es sent given (state g old.conn)
+            (λ db left. stored stand.list content es (es ++ delivered sent ∷ []) stands stands.whole (parts_after stand.list content es stands) sound db left);
         setup = refl;
         closed = refl;
         stays = λ sound. sound;
         noted = notes_none given old.last_fault now;
       }
         where
-          at : (content : SetupContent) (es : List Event) (given : Response) → IsNow given → content_of given ≡ answer_to content es sent → StandTogether g are content (es ++ delivered sent ∷ []) old b
-              → AnswersNext content es sent given × StandTogether g are content (with_answered es sent given) old b
-          at content es response.NotNow now told stand = absurd now
-          at content es given now told stand = (told, stand)
+          answered : (content : SetupContent) (es : List Event) (given : Response) → IsNow given → content_of given ≡ answer_to content es sent → AnswersNext content es sent given
+          answered content es response.NotNow now told = absurd now
+          answered content es given now told = told
+
+          added : (es : List Event) (given : Response) → IsNow given → with_answered es sent given ≡ es ++ delivered sent ∷ []
+          added es response.NotNow now = absurd now
+          added es given now = refl
 
     -- the archives could not be asked
     pub not_now : (a b : A) (new : Desk S g) → RefusedSurely (parties_of old.setup) (interchange_of sent) response.NotNow → new.conn ≡ old.conn → new.setup ≡ old.setup → new.closed ≡ old.closed → new.beside ≡ old.beside → HasFault new.last_fault →
-        (is_sound b → (list : List Archive) → are list a → are list b) → LeadsTogether g is_sound are old a sent response.NotNow new b
+        ((list : List Archive) → are list a → are list b) → LeadsTogether g is_sound are old a sent response.NotNow new b
     not_now a b new surely conn setup closed beside fault same = record {
-      delivers = λ sound whole content es stand.
-          let stands = stand.stands in (
-            not_now_surely (parties_in (content_after content es)) (interchange_of sent) (subst (λ P. RefusedSurely P (interchange_of sent) response.NotNow) (parties_now stand.list content es stands) surely),
-            record { list = stand.list; these = same whole stand.list stand.these; stands = noted_stands stand.list content es old new conn setup closed beside stands },
-          );
-      crash = λ sound clean whole content es stand.
+      answers = λ sound whole content es stand.
+          not_now_surely (parties_in (content_after content es)) (interchange_of sent) (subst (λ P. RefusedSurely P (interchange_of sent) response.NotNow) (parties_now stand.list content es stand.stands) surely);
+      stand = λ sound content es stand. record { list = stand.list; these = same stand.list stand.these; stands = noted_stands g stand.list content es old new conn setup closed beside stand.stands };
+      crash = λ sound clean content es stand.
           λ db left. inl (stored stand.list content es es stand.stands stand.stands.whole stand.stands.parts sound db (subst (λ k. (state g k).may_leave db) conn left));
       setup = setup;
       closed = closed;

@@ -1,8 +1,8 @@
 -- What a delivery is answered under a number that is closed.
-use Rattle.std.specs.Prelude.{◌≡◌, ℕ, ◌≤◌, List, [], ◌∷◌, ◌++◌}
+use Rattle.std.specs.Prelude.{◌≡◌, ℕ, ◌≤◌, List}
 use Rattle.edi_segments.specs.Interchange.{interchange_of}
 use Rattle.office_replies.specs.Contents.{content_of}
-use Rattle.office_replies.specs.Events.{Event, delivered}
+use Rattle.office_replies.specs.Events.{Event}
 use Rattle.office_replies.specs.declared.deliver.Response.{Response}
 use Rattle.office_rows.specs.Rows.{Rows}
 use Rattle.office_setup.specs.Setups.{SetupContent}
@@ -11,17 +11,11 @@ use Rattle.office_desk.specs.Answers.{answer_by_model}
 use Rattle.office_parts.specs.Archives.{Archive, Hold}
 use Rattle.office_parts.specs.Parts.{Archived, ArePartsAfter}
 
--- the response to the partner with a code is what is to be reported of it at its place, and a store and its archives are parts
--- of the rows after it as they are
-pub record IsAnsweredAt (content : SetupContent) (es : List Event) (archived : Archived) (own whole : Rows)
-    (sent : List ℕ) (partner : ℕ) (code : List ℕ) (number : ℕ) (response : Response) : Type 0 where
-  pub answers : content_of response ≡ answer_by_model code number (answer_model_of content es partner number sent)
-  pub parts : ArePartsAfter content (es ++ delivered sent ∷ []) archived own whole
-
--- from whatever events, if these archives hold what was put away of the rows after them
+-- The response to the partner with a code is what is to be reported of it at its place: after whatever events, if these
+-- archives hold what was put away of the rows after them.
 abbrev pub AnswersClosed : List Archive → (partner : ℕ) → (code : List ℕ) → (number : ℕ) → List ℕ → Response → Type 0
 AnswersClosed archives partner code number text response =
     (content : SetupContent) (es : List Event) (archived : Archived) (own whole : Rows) (sent : List ℕ) →
     ArePartsAfter content es archived own whole → Hold archives archived → text ≡ interchange_of sent →
     IsFor content es sent partner number → number ≤ archived.last_closed partner
-    → IsAnsweredAt content es archived own whole sent partner code number response
+    → content_of response ≡ answer_by_model code number (answer_model_of content es partner number sent)

@@ -16,9 +16,9 @@ use Rattle.office_tables.specs.declared.interchanges.Kept.{Kept}
 use Rattle.office_parts.specs.Archives.{Archive, archive_of, text_by, reply_by}
 use Rattle.office_archives.specs.Shelves.{archive_at}
 
--- the number is closed: one of the archives reaches it
+-- the number is closed: it is one, from 1, and one of the archives reaches it
 abbrev pub IsClosedIn : List Archive → ℕ → ℕ → Type 0
-IsClosedIn archives partner number = is_some (archive_of archives partner number) ≡ true
+IsClosedIn archives partner number = (1 ≤ number) × (is_some (archive_of archives partner number) ≡ true)
 
 -- it is the text and the reply that the number's archive keeps
 pub record IsKeptIn (archives : List Archive) (partner number : ℕ) (kept : Kept) : Type 0 where
@@ -40,7 +40,7 @@ pub record IsTicketOf (rows : Rows) (code : List ℕ) (partner number : ℕ) (ti
 -- it is the one that the number's archive tells, as the store that it was
 abbrev pub IsTicketIn : List Archive → (code : List ℕ) → (partner number : ℕ) → (ticket : List ℕ) → Type 0
 IsTicketIn archives code partner number ticket =
-    (archive : Archive) → archive_of archives partner number ≡ Some archive →
+    1 ≤ number → (archive : Archive) → archive_of archives partner number ≡ Some archive →
     IsTicketOf archive.rows code partner number ticket
 
 -- ---- an archive as the store that it was

@@ -1,5 +1,6 @@
 -- The archives of a store, of which one at a time is open.
-use Rattle.std.specs.Prelude.{◌≡◌, ℕ, ◌-◌, nat_lt, List, filter, length, Option, None, Some, slice_get, IsTrue}
+use Rattle.std.specs.Prelude.{◌≡◌, ℕ, ◌+◌, ◌-◌, ◌≤◌, nat_lt, List, [], ◌∷◌, ◌++◌, filter, length, Option, None, Some, slice_get, IsTrue}
+use Rattle.std.specs.List.{AllByRecursion}
 use Rattle.std.specs.Option.{option_and_then}
 use Rattle.sqlite.specs.Effect.{Database}
 use Rattle.sqlite.specs.Held.{Held, state}
@@ -8,8 +9,10 @@ use Rattle.sqlite_trees.specs.declared.store.Store.{Ghosts}
 use Rattle.office_rows.specs.Stored.{HasRows}
 use Rattle.office_history.specs.After.{AreKeptOnce}
 use Rattle.office_parts.specs.Archives.{Archive, archive_of}
-use Rattle.office_register.specs.Register.{ArchiveContent, RegisterContent, register_content}
+use Rattle.office_register.specs.Changes.{closed_with}
+use Rattle.office_register.specs.Register.{ArchiveContent, RegisterContent, last_closed, register_content}
 use Rattle.office_register.specs.Register as register
+use Rattle.office_register.specs.Sound.{is_sound}
 use Rattle.office_register.specs.declared.register.Register.{Register}
 use Rattle.office_register.specs.declared.register.Segment.{Segment}
 use Rattle.office_archives.specs.declared.opened.Opened.{Opened}
@@ -23,10 +26,11 @@ pub record HasArchive (archive : Archive) (db : Database) : Type 0 where
   pub has : HasRows archive.rows db
   pub kept_once : AreKeptOnce archive.rows.interchanges
 
--- as far as its disk has returned what was written, the connection is to the archive at that place, if there is one
+-- as far as its disk has returned what was written, and while it is open, the connection is to the archive at that place, if
+-- there is one
 abbrev pub IsOpenAt : {S : Type 0} (g : Ghosts S) → List Archive → (place : ℕ) → Held S → Type 0
 IsOpenAt g list place conn =
-    HasCleanDisk (state g conn) → (archive : Archive) → archive_at list place ≡ Some archive
+    HasCleanDisk (state g conn) → IsTrue (state g conn).is_open → (archive : Archive) → archive_at list place ≡ Some archive
     → HasArchive archive (state g conn).committed
 
 -- if one is open, its disk has returned what was written, the connection is open, and it is one of those that are known
@@ -50,12 +54,27 @@ register_before place names =
       closed_for = None;
     }
 
--- These are on the shelf. The register names as many, and for each number the one that reaches it first; what is open is
--- one of them, if it is known.
+-- a register names these archives: as many, and for each number, from 1, the one that reaches it first
+pub record NamesAll (names : RegisterContent) (list : List Archive) : Type 0 where
+  pub counted : length list ≡ length names.archives
+  pub named : (partner number : ℕ) → 1 ≤ number → archive_of list partner number
+      ≡ option_and_then (archive_at list) (register.archive_of names.segments partner number)
+
+-- These are on the shelf, and the register names them; what is open is one of them, if it is known.
 pub record AreShelved {S F : Type 0} (g : Ghosts S) (is_known : ℕ → Type 0) (holds : List Archive → F → Type 0)
     (list : List Archive) (shelf : F) (names : Register) (opened : Option (Opened S g)) : Type 0 where
   pub on_shelf : holds list shelf
-  pub counted : length list ≡ length (register_content names).archives
-  pub named : (partner number : ℕ) → archive_of list partner number
-      ≡ option_and_then (archive_at list) (register.archive_of (register_content names).segments partner number)
+  pub are_named : NamesAll (register_content names) list
   pub one_open : IsOpenIfAny g is_known list opened
+
+-- ---- what a closing makes of it
+
+-- An archive is added to a sound register, with segments of its own: then it names this archive after those that it named, if it
+-- closed what the register then says.
+abbrev pub NamesOneMore : Type 0
+NamesOneMore =
+    (names : RegisterContent) (list : List Archive) (archive : ArchiveContent) (segments : List Segment) (one : Archive) →
+    IsTrue (is_sound names) → NamesAll names list →
+    AllByRecursion (λ (segment : Segment). segment.archive ≡ length list + 1) segments →
+    ((partner : ℕ) → one.last_closed partner ≡ last_closed (closed_with archive segments names).segments partner) →
+    NamesAll (closed_with archive segments names) (list ++ one ∷ [])

@@ -68,15 +68,16 @@ LeavesDelivered archives closed content es sent given s =
 -- ---- a delivery
 
 -- A text was delivered to the desk and the archives, with that response. From whatever events, however much was put
--- away of their rows, it is answered at its place, and they stand after it; or NotNow, and they stand where they stood.
--- What a crash leaves of the store; the set-up stays, and what is closed; and why it is NotNow.
+-- away of their rows, they stand after it, or where they stood if it is NotNow; and if the archives told the truth, it is
+-- answered at its place. What a crash leaves of the store; the set-up stays, and what is closed; and why it is NotNow.
 pub record LeadsTogether {S A : Type 0} (g : Ghosts S) (is_sound : A → Type 0) (are : List Archive → A → Type 0)
     (old : Desk S g) (before : A) (sent : List ℕ) (response : Response) (new : Desk S g) (after : A) : Type 0 where
-  pub delivers : IsSound g new → is_sound after → (content : SetupContent) (es : List Event) →
-      StandTogether g are content es old before
-      → AnswersNext content es sent response × StandTogether g are content (with_answered es sent response) new after
-  pub crash : IsSound g old → HasCleanDisk (state g new.conn) → is_sound after → (content : SetupContent)
-      (es : List Event) (stand : StandTogether g are content es old before)
+  pub answers : IsSound g new → is_sound after → (content : SetupContent) (es : List Event) →
+      StandTogether g are content es old before → AnswersNext content es sent response
+  pub stand : IsSound g new → (content : SetupContent) (es : List Event) → StandTogether g are content es old before
+      → StandTogether g are content (with_answered es sent response) new after
+  pub crash : IsSound g old → HasCleanDisk (state g new.conn) → (content : SetupContent) (es : List Event)
+      (stand : StandTogether g are content es old before)
       → LeavesDelivered stand.list (closed_content old.closed) content es sent response (state g new.conn)
   pub setup : new.setup ≡ old.setup
   pub closed : new.closed ≡ old.closed
@@ -98,11 +99,9 @@ LeavesAccount archives closed content es code kind answer s = LeavesBeside archi
 
 -- An account was asked for. From whatever events it is answered at its place, and desk and archives stand after it; what a
 -- crash leaves of the store; what is closed stays; and why it is NotNow.
-pub record EnrolsTogether {S A : Type 0} (g : Ghosts S) (is_sound : A → Type 0) (are : List Archive → A → Type 0)
-    (old : Desk S g) (before : A) (code kind : List ℕ) (answer : AccountAnswer) (new : Desk S g) (after : A)
-    : Type 0 where
-  pub adds : IsSound g new → is_sound after → (content : SetupContent) (es : List Event) →
-      StandTogether g are content es old before
+pub record EnrolsTogether {S A : Type 0} (g : Ghosts S) (are : List Archive → A → Type 0) (old : Desk S g) (before : A)
+    (code kind : List ℕ) (answer : AccountAnswer) (new : Desk S g) (after : A) : Type 0 where
+  pub adds : IsSound g new → (content : SetupContent) (es : List Event) → StandTogether g are content es old before
       → AnswersAccount content es code kind answer
       × StandTogether g are content (with_added es code kind answer) new after
   pub crash : IsSound g old → HasCleanDisk (state g new.conn) → (content : SetupContent) (es : List Event)
@@ -123,10 +122,10 @@ pub record StandAlike {S A : Type 0} (g : Ghosts S) (are : List Archive → A �
 
 -- Nothing changes: desk and archives stand where they stood, a crash leaves rows that stand so, and what isn't sound stays
 -- so.
-pub record OnlyLooksTogether {S A : Type 0} (g : Ghosts S) (is_sound : A → Type 0) (are : List Archive → A → Type 0)
-    (old : Desk S g) (before : A) (new : Desk S g) (after : A) : Type 0 where
-  pub same : IsSound g new → is_sound after → (content : SetupContent) (es : List Event) →
-      StandTogether g are content es old before → StandAlike g are content es new after
+pub record OnlyLooksTogether {S A : Type 0} (g : Ghosts S) (are : List Archive → A → Type 0) (old : Desk S g) (before : A)
+    (new : Desk S g) (after : A) : Type 0 where
+  pub same : IsSound g new → (content : SetupContent) (es : List Event) → StandTogether g are content es old before
+      → StandAlike g are content es new after
   pub crash : IsSound g old → HasCleanDisk (state g new.conn) → (content : SetupContent) (es : List Event)
       (stand : StandTogether g are content es old before)
       → LeavesBeside stand.list (closed_content old.closed) content es (state g new.conn)
@@ -163,6 +162,6 @@ pub record LooksTogether {S A : Type 0} (g : Ghosts S) (is_sound : A → Type 0)
     (old : Desk S g) (before : A) (look : Look) (found : Result (Option (List ℕ)) NotNow) (new : Desk S g) (after : A)
     : Type 0 where
   pub told : IsSound g new → is_sound after → Tells (ShowsBeside g are old before look) found
-  pub looks : OnlyLooksTogether g is_sound are old before new after
+  pub looks : OnlyLooksTogether g are old before new after
   pub noted : NotesLook found old.last_fault new.last_fault
   pub is_open : HasCleanDisk (state g new.conn) → OnOk found (IsOpenAt look (state g new.conn))

@@ -72,7 +72,7 @@ impl<S: Alter + Drop, A: Archives + Drop> ArchivedDesk<S, A> {
 
     /// Adds an account to the store, and answers it.
     fn answer_account(&mut self, alloc: Global, code: &[u8], kind: &[u8]) -> AccountAnswer
-        ensures enrols { EnrolsTogether S.Store A.is_sound A.are self.old.desk self.old.archives code.now kind.now result
+        ensures enrols { EnrolsTogether S.Store A.are self.old.desk self.old.archives code.now kind.now result
             self.new.desk self.new.archives }
     {
         self.desk.add_account(alloc, code, kind)
@@ -110,7 +110,7 @@ impl<S: Alter + Drop, A: Archives + Drop> ArchivedDesk<S, A> {
     ) -> Result<Option<String>, TableFault>
         ensures told { IsSound S.Store self.new.desk → A.is_sound self.new.archives → IfOk result (λ found.
             TellsBeside S.Store A.are self.old.desk self.old.archives query.now (option_map string_bytes found)) }
-        ensures looks { OnlyLooksTogether S.Store A.is_sound A.are self.old.desk self.old.archives self.new.desk
+        ensures looks { OnlyLooksTogether S.Store A.are self.old.desk self.old.archives self.new.desk
             self.new.archives }
         ensures is_open { HasCleanDisk (state S.Store self.new.desk.conn) →
             OnOk result (IsOpenFor query.now (state S.Store self.new.desk.conn)) }
@@ -130,7 +130,7 @@ impl<S: Alter + Drop, A: Archives + Drop> ArchivedDesk<S, A> {
         requires { IsOfContainer query.now }
         ensures told { IsSound S.Store self.new.desk → A.is_sound self.new.archives → IfOk result (λ found.
             TellsBeside S.Store A.are self.old.desk self.old.archives query.now (option_map string_bytes found)) }
-        ensures looks { OnlyLooksTogether S.Store A.is_sound A.are self.old.desk self.old.archives self.new.desk
+        ensures looks { OnlyLooksTogether S.Store A.are self.old.desk self.old.archives self.new.desk
             self.new.archives }
         ensures is_open { HasCleanDisk (state S.Store self.new.desk.conn) →
             OnOk result (IsOpenFor query.now (state S.Store self.new.desk.conn)) }
@@ -151,7 +151,7 @@ impl<S: Alter + Drop, A: Archives + Drop> ArchivedDesk<S, A> {
         requires { IsOfNumber query.now code.now number }
         ensures told { IsSound S.Store self.new.desk → A.is_sound self.new.archives → IfOk result (λ found.
             TellsBeside S.Store A.are self.old.desk self.old.archives query.now (option_map string_bytes found)) }
-        ensures looks { OnlyLooksTogether S.Store A.is_sound A.are self.old.desk self.old.archives self.new.desk
+        ensures looks { OnlyLooksTogether S.Store A.are self.old.desk self.old.archives self.new.desk
             self.new.archives }
         ensures is_open { HasCleanDisk (state S.Store self.new.desk.conn) →
             OnOk result (IsOpenFor query.now (state S.Store self.new.desk.conn)) }
@@ -178,7 +178,7 @@ impl<S: Alter + Drop, A: Archives + Drop> ArchivedDesk<S, A> {
         ensures told { IsSound S.Store self.new.desk → A.is_sound self.new.archives → IfOk result (λ found.
             (asked : Query) (number : ℕ) → IsOfNumber asked code.now number →
             TellsBeside S.Store A.are self.old.desk self.old.archives asked (option_map string_bytes found)) }
-        ensures looks { OnlyLooksTogether S.Store A.is_sound A.are self.old.desk self.old.archives self.new.desk
+        ensures looks { OnlyLooksTogether S.Store A.are self.old.desk self.old.archives self.new.desk
             self.new.archives }
         ensures last_fault { self.new.desk.last_fault ≡ self.old.desk.last_fault }
     {
@@ -248,7 +248,7 @@ impl<S: Alter + Drop, A: Archives + Drop> AddAccount for ArchivedDesk<S, A> {
     ghost use Rattle.office_archives.specs.Together.{EnrolsTogether};
 
     ghost enrols = { λ old code kind answer new.
-        EnrolsTogether S.Store A.is_sound A.are old.desk old.archives code kind answer new.desk new.archives };
+        EnrolsTogether S.Store A.are old.desk old.archives code kind answer new.desk new.archives };
 
     fn add_account(&mut self, alloc: Global, code: &[u8], kind: &[u8]) -> AccountAnswer {
         self.answer_account(alloc, code, kind)
@@ -293,7 +293,7 @@ pub(crate) fn tell_of_archive<S: Alter + Drop, A: Archives>(
 ) -> Result<Option<String>, TableFault>
     ensures told { IsSound S.Store desk.new → A.is_sound archives.new → IfOk result (λ found.
         TellsOfOne S.Store A.are desk.old archives.old place query.now (option_map string_bytes found)) }
-    ensures same { A.is_sound archives.new → (list : List Archive) → A.are list archives.old → A.are list archives.new }
+    ensures same { (list : List Archive) → A.are list archives.old → A.are list archives.new }
     ensures looks { OnlyLooks S.Store desk.old desk.new }
     ensures last_fault { desk.new.last_fault ≡ desk.old.last_fault }
 {
@@ -332,7 +332,7 @@ fn tell_container<A: Archives>(
     requires { IsOfContainer query.now }
     ensures told { A.is_sound archives.new → IfOk result (λ found. (content : SetupContent) (list : List Archive) →
         A.are list archives.old → TellsAsStore content list place query.now (option_map string_bytes found)) }
-    ensures same { A.is_sound archives.new → (list : List Archive) → A.are list archives.old → A.are list archives.new }
+    ensures same { (list : List Archive) → A.are list archives.old → A.are list archives.new }
 {
     let told = archives.report(alloc, place, query)?;
     let before = usize::from(place).saturating_sub(1);
@@ -354,7 +354,7 @@ fn tell_number<S: Alter + Drop, A: Archives>(
         (content : SetupContent) (es : List Event)
         (stand : StandTogether S.Store A.are content es desk.old archives.old) →
         TellsAsStore (content_after content es) stand.list place query.now (option_map string_bytes found)) }
-    ensures same { A.is_sound archives.new → (list : List Archive) → A.are list archives.old → A.are list archives.new }
+    ensures same { (list : List Archive) → A.are list archives.old → A.are list archives.new }
     ensures looks { OnlyLooks S.Store desk.old desk.new }
     ensures last_fault { desk.new.last_fault ≡ desk.old.last_fault }
 {

@@ -1,5 +1,5 @@
 ghost use Rattle.std.specs.Option.{option_and_then, option_map, unwrap_or};
-ghost use Rattle.std.specs.Prelude.{◌≡◌, ◌≤◌, ◌++◌, [], IfOk, List, length, string_bytes, ℕ, Some, IfSome, OnOk};
+ghost use Rattle.std.specs.Prelude.{◌≡◌, ◌≤◌, ◌++◌, [], IfOk, List, length, string_bytes, Some, IfSome, OnOk};
 ghost use Rattle.office_archives.specs.Answering.{AnswersClosed};
 ghost use Rattle.office_archives.specs.Keeping.{IsClosedIn, IsKeptIn, IsReportIn, IsTicketIn};
 ghost use Rattle.office_archives.specs.Shelves.{archive_at};
@@ -37,7 +37,7 @@ pub trait Archives {
     fn kept(&mut self, partner: u16, number: u32) -> Result<Kept, TableFault>
         ensures kept { is_sound self.new → IfOk result (λ kept. (archives : List Archive) → are archives self.old →
             IsClosedIn archives partner number → IsKeptIn archives partner number kept) }
-        ensures same { is_sound self.new → (archives : List Archive) → are archives self.old → are archives self.new };
+        ensures same { (archives : List Archive) → are archives self.old → are archives self.new };
 
     /// The ticket of a partner's number that is closed, for the partner with that code: what the interchange brought in and
     /// took out, as the number's archive reports it, opened as the store that it was. It changes no archive.
@@ -53,7 +53,7 @@ pub trait Archives {
     ) -> Result<String, TableFault>
         ensures ticket { is_sound self.new → IfOk result (λ ticket. (archives : List Archive) → are archives self.old →
             IsTicketIn archives code.now partner number (string_bytes ticket)) }
-        ensures same { is_sound self.new → (archives : List Archive) → are archives self.old → are archives self.new };
+        ensures same { (archives : List Archive) → are archives self.old → are archives self.new };
 
     /// What the archive at that place tells at a query, the first at 1, opened as the store that it was: of numbers those
     /// that its own rows have. It changes no archive.
@@ -68,7 +68,7 @@ pub trait Archives {
     ) -> Result<Option<String>, TableFault>
         ensures report { is_sound self.new → IfOk result (λ found. (archives : List Archive) → are archives self.old →
             IsReportIn archives place query.now (option_map string_bytes found)) }
-        ensures same { is_sound self.new → (archives : List Archive) → are archives self.old → are archives self.new };
+        ensures same { (archives : List Archive) → are archives self.old → are archives self.new };
 
     /// The place of the archive that keeps a partner's number that is closed.
     fn place_of(&self, partner: u16, number: u32) -> Option<u16>
@@ -95,7 +95,7 @@ pub fn answer_closed<A: Archives>(
     ensures answers { A.is_sound archives.new → IfOk result (λ response. (list : List Archive) →
         A.are list archives.old → AnswersClosed list partner code.now number text.now response) }
     ensures now { IfOk result IsNow }
-    ensures same { A.is_sound archives.new → (list : List Archive) → A.are list archives.old → A.are list archives.new }
+    ensures same { (list : List Archive) → A.are list archives.old → A.are list archives.new }
 {
     let Kept { text: own, reply } = archives.kept(partner, number)?;
     if own.as_slice() != text {
@@ -176,7 +176,7 @@ pub(crate) fn tell_closed<A: Archives>(
     ensures told { A.is_sound archives.new → IfOk result (λ found. (list : List Archive) → A.are list archives.old →
         IsClosedIn list partner number →
         TellsClosed list query.now code.now partner number (option_map string_bytes found)) }
-    ensures same { A.is_sound archives.new → (list : List Archive) → A.are list archives.old → A.are list archives.new }
+    ensures same { (list : List Archive) → A.are list archives.old → A.are list archives.new }
 {
     match query {
         Query::Ticket { .. } => Ok(Some(archives.ticket(alloc, code, partner, number)?)),
@@ -199,7 +199,7 @@ fn closed_reply<A: Archives>(
 ) -> Result<String, TableFault>
     ensures reply { A.is_sound archives.new → IfOk result (λ reply. (list : List Archive) → A.are list archives.old →
         IsClosedIn list partner number → reply_by list partner number ≡ Some (string_bytes reply)) }
-    ensures same { A.is_sound archives.new → (list : List Archive) → A.are list archives.old → A.are list archives.new }
+    ensures same { (list : List Archive) → A.are list archives.old → A.are list archives.new }
 {
     let Kept { text: _, reply } = archives.kept(partner, number)?;
     match reply {

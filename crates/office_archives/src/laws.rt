@@ -2,6 +2,7 @@
 
 ghost use Rattle.office_archives.specs.Opening.{OpenedStandBeside};
 ghost use Rattle.office_archives.specs.Reporting.{WhatStandsIsToldAlike};
+ghost use Rattle.office_archives.specs.Shelves.{NamesOneMore};
 ghost use Rattle.office_archives.specs.Standing.{DeliveriesBeyondAreAnswered};
 ghost use Rattle.office_archives.specs.Texts.{OpensOn, WrittenIsJournal};
 
@@ -30,4 +31,10 @@ pub fn opened_stand_beside<S: Alter>()
 /// each once, without the first that were to be passed over.
 pub fn written_is_journal<S: Alter, T: Alter, F: Shelf<T>>()
     ensures { (shelf : _) → WrittenIsJournal T.Store S.Store (OpensOn T.Store F.is_known F.holds shelf) }
+{}
+
+/// A closing adds an archive to the store's register, which then names it after the archives that it named: for each number, from
+/// 1, the first that reaches it. So each archive is asked for its own numbers, however many closings there were.
+pub fn names_one_more()
+    ensures { NamesOneMore }
 {}

@@ -1,5 +1,5 @@
 -- What a plan says of the rows and the registers of store and archive.
-use Rattle.std.proofs.Common.{◌≡◌, inl, inr, ℕ, ◌<◌, ◌≤◌, List, [], ◌∷◌, ◌++◌, None, Some, true, map, length, refl, sym, ap, ap₂, subst, ◌∙◌, arith}
+use Rattle.std.proofs.Common.{◌≡◌, inl, inr, ℕ, ◌+◌, ◌<◌, ◌≤◌, List, [], ◌∷◌, ◌++◌, None, Some, true, map, length, refl, sym, ap, ap₂, subst, ◌∙◌, arith}
 use Rattle.std.specs.Prelude.{Contains, IsUtf8}
 use Rattle.std.specs.List.{AllByRecursion}
 use Rattle.std.proofs.lemmas.List.Sorted.{Contains-permutation, IsPermutation-sym}
@@ -74,6 +74,12 @@ module _ (held : Held) (old : Files) (has : AreHeld held old) (names : FileNames
       let third = subst (λ (s : List Segment). Raises (last_closed held.copied.segments) (numbers_of copy) (last_closed (held.copied.segments ++ s))) (sym is.segments) second in
       subst (λ (l : List Numbers). Raises (last_closed held.copied.segments) l (closed_after held closing)) (sym is.numbers) third
 
+  place_is : closing.archive.place ≡ length held.copied.archives + 1
+  place_is = ap (λ (a : ArchiveContent). a.place) is.archive ∙ ap (λ (c : RegisterContent). length c.archives + 1) copy_register
+
+  segments_are : closing.segments ≡ segments_of closing.archive.place closing.numbers
+  segments_are = is.segments ∙ ap₂ segments_of (sym (ap (λ (a : ArchiveContent). a.place) is.archive)) (sym is.numbers)
+
   -- how far it has come
   at_by : (s : Stage) → HasCome own copy names s → IsAtStage held names closing s
   at_by stage.New come = (sym own_register ∙ sym come.0 ∙ ap unmarked copy_register, ap (λ (c : RegisterContent). c.closed_for) (sym copy_register) ∙ come.1)
@@ -106,6 +112,8 @@ module _ (held : Held) (old : Files) (has : AreHeld held old) (names : FileNames
     new_closing : IsComparedAs closing.numbers held.own held.copy None → IsClosing held names closing
     new_closing compared = record {
       file = ap (λ (a : ArchiveContent). a.file) is.archive;
+      place = place_is;
+      segments = segments_are;
       sound = raised_sound;
       numbers = raises;
       rise = λ partner. subst (λ (f : ℕ → ℕ). f partner ≤ closed_after held closing partner) (sym same_before) (segments_rise held.copied.segments closing.segments partner);
@@ -128,6 +136,8 @@ module _ (held : Held) (old : Files) (has : AreHeld held old) (names : FileNames
     old_closing : IsClosing held names closing
     old_closing = record {
       file = ap (λ (a : ArchiveContent). a.file) is.archive;
+      place = place_is;
+      segments = segments_are;
       sound = raised_sound;
       numbers = raises;
       rise = λ partner. subst (λ (f : ℕ → ℕ). f partner ≤ closed_after held closing partner) (sym same_after) (omega arith);

@@ -1,5 +1,5 @@
 -- What a closing of a store does: what it closes, what is left, and what it leaves at a fault and by a crash.
-use Rattle.std.specs.Prelude.{◌≡◌, ◌⊎◌, ℕ, ◌<◌, ◌≤◌, true, Bool, List, [], Contains, length, map, Result, IfErr, IsTrue, OnErr, OnOk}
+use Rattle.std.specs.Prelude.{◌≡◌, ◌⊎◌, ℕ, ◌+◌, ◌<◌, ◌≤◌, true, Bool, List, [], Contains, length, map, Result, IfErr, IsTrue, OnErr, OnOk}
 use Rattle.std.specs.List.{range_with_len}
 use Rattle.sqlite.specs.State.{State, Survives}
 use Rattle.sqlite.specs.Tree.{Trees}
@@ -24,7 +24,7 @@ use Rattle.office_closing.specs.declared.faults.CloseFault.{CloseFault}
 use Rattle.office_closing.specs.declared.faults.CloseFault.TheVariants as fault
 use Rattle.office_closing.specs.declared.comparing.Numbers.{Numbers}
 use Rattle.office_closing.specs.declared.planning.Plan.{Plan}
-use Rattle.office_closing.specs.Copies.{FileNames}
+use Rattle.office_closing.specs.Copies.{FileNames, segments_of}
 use Rattle.office_closing.specs.Deleting.{all_but, with_visits_that, without_visits, goes}
 use Rattle.office_closing.specs.Files.{Files, AreClean, AreIdle, AreRead, IsRead}
 use Rattle.office_closing.specs.Laws.{Raises}
@@ -94,9 +94,12 @@ pub record IsBelowNext (rows : Rows) (partner number : ℕ) : Type 0 where
 
 -- The archive holds all that goes, and all of that may go: the numbers by which the last closed ones rise, of the archive's
 -- register and so of the store's, are below the next of their accounts; the visits are over, and the newest is none of
--- them. The store's register is sound with the archive.
+-- them. The store's register is sound with the archive, which comes after those that the archive's own register names, with a
+-- segment for each account of which it closes numbers.
 pub record IsClosing (held : Held) (names : FileNames) (closing : Closing) : Type 0 where
   pub file : closing.archive.file ≡ names.archive
+  pub place : closing.archive.place ≡ length held.copied.archives + 1
+  pub segments : closing.segments ≡ segments_of closing.archive.place closing.numbers
   pub sound : IsSound (raised_register held closing)
   pub numbers : Raises (last_closed held.copied.segments) closing.numbers (closed_after held closing)
   pub rise : (partner : ℕ) → closed_before held partner ≤ closed_after held closing partner

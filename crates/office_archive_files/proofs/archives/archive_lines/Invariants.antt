@@ -1,9 +1,11 @@
 use Rattle.std.proofs.Common.{ℕ, List, [], drop, map}
 use Rattle.std.specs.Prelude.{string_bytes}
 use Rattle.office_register.specs.Register.{archive_content}
+use Rattle.office_setup.specs.Setups.{setup_content}
 use Rattle.office_archive_files.specs.Listing.{FollowIn}
 use Rattle.office_archive_files.proofs.archives.archive_lines.Given as goal
 
 -- Whatever the lines that are left make of the text is what all lines make.
 abbrev pub invariant-loop-archive : goal.invariant-loop-archive
-invariant-loop-archive l = (text : List ℕ) → FollowIn (map archive_content (drop l.archive-index l.register.archives.items)) (string_bytes l.lines) text → FollowIn (map archive_content l.register.archives.items) [] text
+invariant-loop-archive g l =
+    (text : List ℕ) → FollowIn (setup_content l.shelf.setup) (map archive_content (drop l.archive-index l.register.archives.items)) (string_bytes l.lines) text → FollowIn (setup_content l.shelf.setup) (map archive_content l.register.archives.items) [] text

@@ -2,7 +2,7 @@ use Rattle.std.proofs.Common.{option_map}
 use Rattle.office_archive_files.proofs.closing.close_over.Goals as goal
 
 pub returns : goal.returns
-returns c = record {
+returns g c = record {
   names = record { store = c.place_of.result.name.now; archive = c.place_of-2.result.name.now };
   store_name = record { folder = option_map (λ folder. folder.now) c.place_of.result.folder; whole = c.place_of.ensures.whole; is_name = c.place_of.ensures.name };
   archive_name = record { folder = option_map (λ folder. folder.now) c.place_of-2.result.folder; whole = c.place_of-2.ensures.whole; is_name = c.place_of-2.ensures.name };
@@ -10,6 +10,10 @@ returns c = record {
   found_register = c.in_ok-names.names;
   found_copy = c.in_ok-copy.copy;
   found_copied = c.in_ok-copied.copied;
-  idle = record { store = c.in_ok-own.ensures; register = c.in_ok-names.ensures; archive = c.in_ok-copy.ensures; archive_register = c.in_ok-copied.ensures };
-  closes = c.close_alike-closed.ensures.closes;
+  own_shows = c.in_ok-own.ensures.shows;
+  register_shows = c.in_ok-names.ensures.shows;
+  copy_shows = c.in_ok-copy.ensures.shows;
+  copied_shows = c.in_ok-copied.ensures.shows;
+  idle = record { store = c.in_ok-own.ensures.idle; register = c.in_ok-names.ensures.idle; archive = c.in_ok-copy.ensures.idle; archive_register = c.in_ok-copied.ensures.idle };
+  closes = c.close-closed.ensures.closes;
 }

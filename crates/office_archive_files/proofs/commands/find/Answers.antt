@@ -20,9 +20,9 @@ returns-in-Some-clause-found g c =
 pub returns-in-None-clause-looks : goal.returns-in-None-clause-looks
 returns-in-None-clause-looks g c =
     let office = c.args.office.now.office in
-    looks_on g.S.Store g.A.Archives.is_sound g.A.Archives.are office.desk office.desk office.archives office.archives (λ sound db left. g.met.S.Store.settled office.desk.conn.store db sound.1 left) (looks_nowhere g.S.Store office.desk) (λ sound list are. are)
+    looks_on g.S.Store g.A.Archives.are office.desk office.desk office.archives office.archives (λ sound db left. g.met.S.Store.settled office.desk.conn.store db sound.1 left) (looks_nowhere g.S.Store office.desk) (λ list are. are)
 
 pub returns-in_err-query-clause-looks : goal.returns-in_err-query-clause-looks
 returns-in_err-query-clause-looks g c =
     let office = c.args.office.now.office in
-    looks_on g.S.Store g.A.Archives.is_sound g.A.Archives.are office.desk office.desk office.archives office.archives (λ sound db left. g.met.S.Store.settled office.desk.conn.store db sound.1 left) (looks_nowhere g.S.Store office.desk) (λ sound list are. are)
+    looks_on g.S.Store g.A.Archives.are office.desk office.desk office.archives office.archives (λ sound db left. g.met.S.Store.settled office.desk.conn.store db sound.1 left) (looks_nowhere g.S.Store office.desk) (λ list are. are)

@@ -1,6 +1,8 @@
-use Rattle.std.proofs.Common.{sym, ap, ◌∙◌}
+use Rattle.std.proofs.Common.{string_bytes, sym, ap, ◌∙◌}
+use Rattle.std.specs.Option.{option_map}
 use Rattle.std.proofs.lemmas.Result.{IfOk-weaker}
 use Rattle.partner_core.proofs.Firsts.{none_of}
+use Rattle.office_register.specs.Register.{RegisterContent}
 use Rattle.office_archive_files.proofs.OpenLemmas.{opens_on}
 use Rattle.office_archive_files.proofs.opening.open_beside.Goals as goal
 
@@ -10,7 +12,7 @@ returns-clause-opens g c =
     IfOk-weaker c.join.result _ _ (λ office opened. opens_on _ c.in_ok-conn.conn office.office.desk c.in_ok-conn.ensures.found opened) c.join.ensures.opened
 
 -- The register was read and has no mark.
-pub returns-clause-goes_on : goal.returns-clause-goes_on
-returns-clause-goes_on g c =
+pub returns-clause-reached : goal.returns-clause-reached
+returns-clause-reached g c =
     let unmarked = none_of c.in_ok-register.register.closed_for (sym c.is_some.ensures ∙ c.if-is_some.false) in
-    IfOk-weaker c.join.result _ _ (λ office is. ap (λ register. register.closed_for) is ∙ unmarked) c.join.ensures.register
+    IfOk-weaker c.join.result _ _ (λ office it. (it.0, ap (λ (names : RegisterContent). names.closed_for) it.1 ∙ ap (option_map string_bytes) unmarked)) c.join.ensures.reached

@@ -4,7 +4,7 @@ use Rattle.office_register.specs.Register.{archive_content, register_content}
 use Rattle.office_archive_files.proofs.shelf.FileShelf.named.Goals as goal
 
 pub returns : goal.returns
-returns c =
+returns g c =
     let names = c.in_ok-names.names in
     let archive = c.in-Some.archive.now in
     let is_one : slice_get names.archives.items (c.args.place - 1) ≡ Some archive = search rules in

@@ -10,29 +10,31 @@ use Rattle.office_archive_files.proofs.shelf.FileShelf.opened.Goals as goal
 
 -- What was opened was only read.
 pub returns-then-reaches-clause-opened : goal.returns-then-reaches-clause-opened
-returns-then-reaches-clause-opened c list hold =
+returns-then-reaches-clause-opened g c list hold =
     opened_at _ list c.args.place c.in_ok-conn.conn c.load_beside.new.conn c.in_ok-conn.ensures.found
     (λ clean. clean_first c.load_beside.ensures.reads clean) (λ clean. (c.in_ok-setup.ensures.reads.unchanged clean).0.committed_is) hold
 
 -- It shows what was read of it.
 pub returns-then-reaches-clause-passes : goal.returns-then-reaches-clause-passes
-returns-then-reaches-clause-passes c =
+returns-then-reaches-clause-passes g c =
     let named = c.in_ok-named.named in
     let content = setup_content c.in_ok-setup.setup in
     let beside = c.in_ok-setup.beside in
     let closed = closed_content named.closed in
     record {
-      closed = closed;
-      segments = named.segments.items;
-      visits = named.visits;
-      content = content;
-      terminal = beside.terminal;
-      nexts = beside.nexts.items;
-      named = c.in_ok-named.ensures;
+      read = record {
+        closed = closed;
+        segments = named.segments.items;
+        visits = named.visits;
+        content = content;
+        terminal = beside.terminal;
+        nexts = beside.nexts.items;
+        named = c.in_ok-named.ensures;
+        office = c.is_same_office.ensures (search rules);
+        reaches = subst (λ segments. Reaches segments named.visits beside.nexts.items beside.terminal) c.deref.ensures.value (c.reaches.ensures (search rules));
+      };
       loads = λ clean schema.
           let same = (c.in_ok-setup.ensures.reads.unchanged clean).0.now_is in
           subst (λ db. LoadsOwn closed db content beside.terminal) (sym same) (c.in_ok-setup.ensures.loaded clean (sym (ap (λ db. db.schema) same) ∙ schema));
       are_nexts = λ clean rows has. c.in_ok-setup.ensures.nexts clean rows (subst (HasRows rows) (c.in_ok-setup.ensures.reads.unchanged clean).0.now_is has);
-      office = c.is_same_office.ensures (search rules);
-      reaches = subst (λ segments. Reaches segments named.visits beside.nexts.items beside.terminal) c.deref.ensures.value (c.reaches.ensures (search rules));
     }

@@ -3,5 +3,5 @@ use Rattle.office_archives.proofs.archived_desk.ArchivedDesk.answer_account.Goal
 
 pub returns : goal.returns
 returns g c = record {
-  enrols = by_account g.S.Store g.A.Archives.is_sound g.A.Archives.are c.args.self.now.desk c.args.self.now.archives c.args.code.now c.args.kind.now c.add_account.result c.add_account.new.self c.add_account.ensures;
+  enrols = by_account g.S.Store g.A.Archives.are c.args.self.now.desk c.args.self.now.archives c.args.code.now c.args.kind.now c.add_account.result c.add_account.new.self c.add_account.ensures;
 }

@@ -8,7 +8,7 @@ returns-in-Ok g c =
     record {
       looks = record {
         told = λ sound whole. c.in-Ok.ensures.told sound whole;
-        looks = looks_on g.S.Store g.A.Archives.is_sound g.A.Archives.are old.desk asked.desk old.archives asked.archives (λ sound db left. g.met.S.Store.settled old.desk.conn.store db sound.1 left) c.tell_of_archive.ensures.looks c.tell_of_archive.ensures.same;
+        looks = looks_on g.S.Store g.A.Archives.are old.desk asked.desk old.archives asked.archives (λ sound db left. g.met.S.Store.settled old.desk.conn.store db sound.1 left) c.tell_of_archive.ensures.looks c.tell_of_archive.ensures.same;
         noted = c.tell_of_archive.ensures.last_fault;
         is_open = λ clean. tt;
       };
@@ -19,11 +19,11 @@ returns-in-Err g c =
     let old = c.args.self.now in
     let asked = c.tell_of_archive.new in
     let noted = c.note.ensures in
-    let looks = looks_on g.S.Store g.A.Archives.is_sound g.A.Archives.are old.desk asked.desk old.archives asked.archives (λ sound db left. g.met.S.Store.settled old.desk.conn.store db sound.1 left) c.tell_of_archive.ensures.looks c.tell_of_archive.ensures.same in
+    let looks = looks_on g.S.Store g.A.Archives.are old.desk asked.desk old.archives asked.archives (λ sound db left. g.met.S.Store.settled old.desk.conn.store db sound.1 left) c.tell_of_archive.ensures.looks c.tell_of_archive.ensures.same in
     record {
       looks = record {
         told = λ sound whole. tt;
-        looks = looks_noted g.S.Store g.A.Archives.is_sound g.A.Archives.are old.desk asked.desk c.note.new.self old.archives asked.archives looks noted.conn noted.setup noted.closed noted.beside;
+        looks = looks_noted g.S.Store g.A.Archives.are old.desk asked.desk c.note.new.self old.archives asked.archives looks noted.conn noted.setup noted.closed noted.beside;
         noted = (c.in-Err.fault, noted.fault);
         is_open = λ clean. tt;
       };

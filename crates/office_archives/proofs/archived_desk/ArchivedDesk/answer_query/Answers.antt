@@ -9,7 +9,7 @@ returns-in-Err g c =
     record {
       looks = record {
         told = λ sound whole. tt;
-        looks = looks_noted g.S.Store g.A.Archives.is_sound g.A.Archives.are old.desk mid.desk c.note.new.self old.archives mid.archives c.find_report.ensures.looks noted.conn noted.setup noted.closed noted.beside;
+        looks = looks_noted g.S.Store g.A.Archives.are old.desk mid.desk c.note.new.self old.archives mid.archives c.find_report.ensures.looks noted.conn noted.setup noted.closed noted.beside;
         noted = (c.in-Err.fault, noted.fault);
         is_open = λ clean. tt;
       };

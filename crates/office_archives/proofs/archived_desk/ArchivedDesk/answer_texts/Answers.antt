@@ -17,7 +17,7 @@ returns-then-count-eq0 g c =
     record {
       looks = record {
         told = λ sound whole. tells_so _ shows (texts.told sound);
-        looks = looks_on g.S.Store g.A.Archives.is_sound g.A.Archives.are self.desk c.texts.new.self self.archives self.archives (λ sound db left. g.met.S.Store.settled self.desk.conn.store db sound.1 left) texts.looks (λ sound list are. are);
+        looks = looks_on g.S.Store g.A.Archives.are self.desk c.texts.new.self self.archives self.archives (λ sound db left. g.met.S.Store.settled self.desk.conn.store db sound.1 left) texts.looks (λ list are. are);
         noted = texts.noted;
         is_open = texts.is_open;
       };
@@ -27,11 +27,11 @@ pub returns : goal.returns
 returns g c =
     let self = c.args.self.now in
     let noted = c.note.ensures in
-    let looks = looks_on g.S.Store g.A.Archives.is_sound g.A.Archives.are self.desk self.desk self.archives self.archives (λ sound db left. g.met.S.Store.settled self.desk.conn.store db sound.1 left) (looks_nowhere g.S.Store self.desk) (λ sound list are. are) in
+    let looks = looks_on g.S.Store g.A.Archives.are self.desk self.desk self.archives self.archives (λ sound db left. g.met.S.Store.settled self.desk.conn.store db sound.1 left) (looks_nowhere g.S.Store self.desk) (λ list are. are) in
     record {
       looks = record {
         told = λ sound whole. tt;
-        looks = looks_noted g.S.Store g.A.Archives.is_sound g.A.Archives.are self.desk self.desk c.note.new.self self.archives self.archives looks noted.conn noted.setup noted.closed noted.beside;
+        looks = looks_noted g.S.Store g.A.Archives.are self.desk self.desk c.note.new.self self.archives self.archives looks noted.conn noted.setup noted.closed noted.beside;
         noted = (_, noted.fault);
         is_open = λ clean. tt;
       };

@@ -12,14 +12,14 @@ returns-clause-told g c = λ sound whole.
 pub returns-clause-looks : goal.returns-clause-looks
 returns-clause-looks g c =
     let self = c.args.self.now in
-    looks_on g.S.Store g.A.Archives.is_sound g.A.Archives.are self.desk c.find_report.new.self self.archives self.archives (λ sound db left. g.met.S.Store.settled self.desk.conn.store db sound.1 left) c.find_report.ensures.looks (λ sound list are. are)
+    looks_on g.S.Store g.A.Archives.are self.desk c.find_report.new.self self.archives self.archives (λ sound db left. g.met.S.Store.settled self.desk.conn.store db sound.1 left) c.find_report.ensures.looks (λ list are. are)
 
 pub returns-in_err-told-clause-looks : goal.returns-in_err-told-clause-looks
 returns-in_err-told-clause-looks g c =
     let self = c.args.self.now in
-    looks_on g.S.Store g.A.Archives.is_sound g.A.Archives.are self.desk c.find_report.new.self self.archives self.archives (λ sound db left. g.met.S.Store.settled self.desk.conn.store db sound.1 left) c.find_report.ensures.looks (λ sound list are. are)
+    looks_on g.S.Store g.A.Archives.are self.desk c.find_report.new.self self.archives self.archives (λ sound db left. g.met.S.Store.settled self.desk.conn.store db sound.1 left) c.find_report.ensures.looks (λ list are. are)
 
 pub returns-in_err-with_archives-clause-looks : goal.returns-in_err-with_archives-clause-looks
 returns-in_err-with_archives-clause-looks g c =
     let self = c.args.self.now in
-    looks_on g.S.Store g.A.Archives.is_sound g.A.Archives.are self.desk c.find_report.new.self self.archives self.archives (λ sound db left. g.met.S.Store.settled self.desk.conn.store db sound.1 left) c.find_report.ensures.looks (λ sound list are. are)
+    looks_on g.S.Store g.A.Archives.are self.desk c.find_report.new.self self.archives self.archives (λ sound db left. g.met.S.Store.settled self.desk.conn.store db sound.1 left) c.find_report.ensures.looks (λ list are. are)

@@ -11,9 +11,9 @@ returns-clause-told g c = λ sound whole asked number is.
 pub returns-in_err-check_nobody-clause-looks : goal.returns-in_err-check_nobody-clause-looks
 returns-in_err-check_nobody-clause-looks g c =
     let self = c.args.self.now in
-    looks_on g.S.Store g.A.Archives.is_sound g.A.Archives.are self.desk c.check_nobody.new.desk self.archives self.archives (λ sound db left. g.met.S.Store.settled self.desk.conn.store db sound.1 left) c.check_nobody.ensures.looks (λ sound list are. are)
+    looks_on g.S.Store g.A.Archives.are self.desk c.check_nobody.new.desk self.archives self.archives (λ sound db left. g.met.S.Store.settled self.desk.conn.store db sound.1 left) c.check_nobody.ensures.looks (λ list are. are)
 
 pub returns-clause-looks : goal.returns-clause-looks
 returns-clause-looks g c =
     let self = c.args.self.now in
-    looks_on g.S.Store g.A.Archives.is_sound g.A.Archives.are self.desk c.check_nobody.new.desk self.archives self.archives (λ sound db left. g.met.S.Store.settled self.desk.conn.store db sound.1 left) c.check_nobody.ensures.looks (λ sound list are. are)
+    looks_on g.S.Store g.A.Archives.are self.desk c.check_nobody.new.desk self.archives self.archives (λ sound db left. g.met.S.Store.settled self.desk.conn.store db sound.1 left) c.check_nobody.ensures.looks (λ list are. are)

@@ -10,7 +10,7 @@ use Rattle.office_archives.proofs.archived_desk.ArchivedDesk.find_number.Goals a
 pub returns-in_err-partner-clause-looks : goal.returns-in_err-partner-clause-looks
 returns-in_err-partner-clause-looks g c =
     let self = c.args.self.now in
-    looks_on g.S.Store g.A.Archives.is_sound g.A.Archives.are self.desk self.desk self.archives self.archives (λ sound db left. g.met.S.Store.settled self.desk.conn.store db sound.1 left) (looks_nowhere g.S.Store self.desk) (λ sound list are. are)
+    looks_on g.S.Store g.A.Archives.are self.desk self.desk self.archives self.archives (λ sound db left. g.met.S.Store.settled self.desk.conn.store db sound.1 left) (looks_nowhere g.S.Store self.desk) (λ list are. are)
 
 pub returns-in_default-clause-told : goal.returns-in_default-clause-told
 returns-in_default-clause-told g c = λ sound whole. if_ok c.find_nobody.result (λ found told. told c.args.query.now c.args.number c.requires) (c.find_nobody.ensures.told sound whole)
@@ -29,7 +29,7 @@ returns-then-not-is_closed-clause-told g c = λ sound whole.
 pub returns-then-not-is_closed-clause-looks : goal.returns-then-not-is_closed-clause-looks
 returns-then-not-is_closed-clause-looks g c =
     let self = c.args.self.now in
-    looks_on g.S.Store g.A.Archives.is_sound g.A.Archives.are self.desk c.find_report.new.self self.archives self.archives (λ sound db left. g.met.S.Store.settled self.desk.conn.store db sound.1 left) c.find_report.ensures.looks (λ sound list are. are)
+    looks_on g.S.Store g.A.Archives.are self.desk c.find_report.new.self self.archives self.archives (λ sound db left. g.met.S.Store.settled self.desk.conn.store db sound.1 left) c.find_report.ensures.looks (λ list are. are)
 
 -- ---- one that is closed
 
@@ -45,4 +45,4 @@ returns-clause-told g c = λ sound whole.
 pub returns-clause-looks : goal.returns-clause-looks
 returns-clause-looks g c =
     let self = c.args.self.now in
-    looks_on g.S.Store g.A.Archives.is_sound g.A.Archives.are self.desk self.desk self.archives c.tell_closed.new.archives (λ sound db left. g.met.S.Store.settled self.desk.conn.store db sound.1 left) (looks_nowhere g.S.Store self.desk) c.tell_closed.ensures.same
+    looks_on g.S.Store g.A.Archives.are self.desk self.desk self.archives c.tell_closed.new.archives (λ sound db left. g.met.S.Store.settled self.desk.conn.store db sound.1 left) (looks_nowhere g.S.Store self.desk) c.tell_closed.ensures.same

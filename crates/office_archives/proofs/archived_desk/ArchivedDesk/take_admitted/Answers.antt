@@ -1,5 +1,4 @@
-use Rattle.std.proofs.Common.{◌≡◌, ℕ, List, Ok, false, sym, subst, ◌∙◌}
-use Rattle.edi_segments.specs.Interchange.{interchange_of}
+use Rattle.std.proofs.Common.{◌≡◌, Ok, false, sym, subst, ◌∙◌}
 use Rattle.edi_syntax.specs.Heads.{head_segments}
 use Rattle.office_admission.specs.Admission.{admission}
 use Rattle.office_replies.specs.declared.deliver.Response.TheVariants.{NotNow}
@@ -21,7 +20,7 @@ returns-then-not-is_closed g c = record {
       let place = numbered P text (head_segments c.head.result) partner number (c.head.ensures ∙ is.segments) c.number-number.ensures.number is.admits in
       let here = subst (λ other. admission P other ≡ Ok (partner, number)) exact place in
       by_desk g.S.Store g.A.Archives.is_sound g.A.Archives.are old c.args.self.now.archives sent c.take_admitted.result c.take_admitted.new.self (c.take_admitted.ensures.leads sent exact)
-      (far_open g.S.Store g.A.Archives.is_sound g.A.Archives.are old sent partner number here (sym c.is_closed.ensures ∙ c.if-not-is_closed.true));
+      (far_open g.S.Store old sent partner number here (sym c.is_closed.ensures ∙ c.if-not-is_closed.true));
 }
 
 pub returns-in-Ok : goal.returns-in-Ok

@@ -5,4 +5,4 @@ use Rattle.office_archives.proofs.many_archives.ManyArchivesArchives.place_of.Go
 
 -- The register names it.
 pub returns : goal.returns
-returns g c list are closed = are.named c.args.partner c.args.number ∙ ap (option_and_then (archive_at list)) (sym c.archive_of.ensures)
+returns g c list are closed = are.are_named.named c.args.partner c.args.number closed.0 ∙ ap (option_and_then (archive_at list)) (sym c.archive_of.ensures)

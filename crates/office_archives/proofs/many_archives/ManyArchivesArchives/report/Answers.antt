@@ -9,15 +9,16 @@ pub returns-clause-report : goal.returns-clause-report
 returns-clause-report g c sound list are archive at =
     let reads = c.report_by.ensures.reads in
     let known = subst g.F.Shelf.is_known c.in_ok-asked.ensures.place sound.2 in
-    let there = c.in_ok-asked.ensures.opened known list are (was_clean reads sound.0) archive at in
+    let there = c.in_ok-asked.ensures.opened known list are (was_clean reads sound.0) (was_open reads sound.0 sound.1) archive at in
     let now = c.if-prove.ensures.settled refl (was_open reads sound.0 sound.1) in
     c.in_ok-found.ensures.report sound.0 archive.rows (subst (HasRows archive.rows) (sym now) there.has) there.kept_once
 
 pub returns-clause-same : goal.returns-clause-same
-returns-clause-same g c sound list are =
+returns-clause-same g c list are =
     let self = c.args.self.now in
     let reads = c.report_by.ensures.reads in
     let there : g.F.Shelf.is_known c.in_ok-asked.asked.place → IsOpenAt g.S.Store list c.in_ok-asked.asked.place c.in_ok-asked.asked.conn =
     λ known. subst (λ place. IsOpenAt g.S.Store list place c.in_ok-asked.asked.conn) (sym c.in_ok-asked.ensures.place) (c.in_ok-asked.ensures.opened (subst g.F.Shelf.is_known c.in_ok-asked.ensures.place known) list are) in
     shelved_still g.S.Store g.F.Shelf.is_known g.F.Shelf.holds list self.shelf _ self.register _ self.opened _ are c.take_out.ensures.register (c.take_out.ensures.shelf list are.on_shelf)
-    (λ known. open_still g.S.Store list c.in_ok-asked.asked.place c.in_ok-asked.asked.conn c.report_by.new.conn (λ clean. was_clean reads clean) (λ clean. (reads.reads.keeps clean).committed sound.1) (there known))
+    (λ known. open_still g.S.Store list c.in_ok-asked.asked.place c.in_ok-asked.asked.conn c.report_by.new.conn (λ clean. was_clean reads clean) (λ clean now_open. was_open reads clean now_open)
+    (λ clean now_open. (reads.reads.keeps clean).committed now_open) (there known))

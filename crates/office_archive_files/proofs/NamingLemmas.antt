@@ -1,0 +1,33 @@
+-- A closing's segments are those of its archive.
+use Rattle.std.proofs.Common.{◌≡◌, ℕ, ◌+◌, List, [], ◌∷◌, length, map, true, refl, sym, ap, subst, ◌∙◌}
+use Rattle.std.specs.Prelude.{◌&&◌, filter}
+use Rattle.std.specs.List.{AllByRecursion}
+use Rattle.std.proofs.lemmas.Bool.{and_from, and_parts}
+use Rattle.office_register.specs.Changes.{unmarked}
+use Rattle.office_register.specs.Sound.{are_sound_archives, are_sound_segments, is_sound, is_sound_mark}
+use Rattle.office_register.specs.declared.register.Segment.{Segment}
+use Rattle.office_closing.specs.declared.comparing.Numbers.{Numbers}
+use Rattle.office_closing.specs.Closes.{Held}
+use Rattle.office_closing.specs.Copies.{closes_some, segment_of}
+use Rattle.office_archives.proofs.Naming.{names_one_more}
+use Rattle.office_archive_files.specs.Naming.{ClosingsAreNamed}
+
+all_placed : (place : ℕ) (numbers : List Numbers) → AllByRecursion (λ (segment : Segment). segment.archive ≡ place) (map (segment_of place) numbers)
+all_placed place [] = tt
+all_placed place (one ∷ numbers) = (refl, all_placed place numbers)
+
+-- the mark says nothing of its archives
+sound_unmarked : (held : Held) → is_sound held.copied ≡ true → is_sound (unmarked held.copied) ≡ true
+sound_unmarked held sound =
+    let archives = are_sound_archives held.copied.archives in
+    let segments = are_sound_segments (length held.copied.archives) held.copied.segments in
+    let outer = and_parts archives (segments && is_sound_mark held.copied.closed_for) sound in
+    let inner = and_parts segments (is_sound_mark held.copied.closed_for) outer.1 in
+    and_from archives (segments && true) outer.0 (and_from segments true inner.0 refl)
+
+pub closings_are_named : ClosingsAreNamed
+closings_are_named held names closing list one is sound are closed =
+    let place : closing.archive.place ≡ length list + 1 = is.place ∙ ap (λ n. n + 1) (sym are.counted) in
+    let placed = subst (AllByRecursion (λ (segment : Segment). segment.archive ≡ closing.archive.place)) (sym is.segments) (all_placed closing.archive.place (filter closes_some closing.numbers)) in
+    names_one_more (unmarked held.copied) list closing.archive closing.segments one (sound_unmarked held sound) are
+    (subst (λ n. AllByRecursion (λ (segment : Segment). segment.archive ≡ n) closing.segments) place placed) closed

@@ -1,0 +1,10 @@
+use Rattle.office_archive_files.proofs.closing.open_made.Goals as goal
+
+-- The tables were made, if they weren't there.
+pub returns-clause-shows : goal.returns-clause-shows
+returns-clause-shows g c = record {
+  found = c.in_ok-conn.conn;
+  shows = c.in_ok-conn.ensures.shows;
+  clean = c.make_tables.ensures.clean;
+  made = c.in_ok-names_none.ensures.made;
+}

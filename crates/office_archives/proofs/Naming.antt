@@ -1,0 +1,128 @@
+-- What a register names, once it has an archive more.
+use Rattle.std.proofs.Common.{◌≡◌, ℕ, zero, suc, ◌+◌, ◌-◌, ◌<◌, ◌≤◌, List, [], ◌∷◌, ◌++◌, length, Bool, true, false, cond, Option, None, Some, refl, sym, ap, subst, ◌∙◌, arith}
+use Rattle.std.specs.Prelude.{◌&&◌, nat_le, max, if◌then◌else◌, find, slice_get}
+use Rattle.std.specs.List.{AllByRecursion, list_all}
+use Rattle.std.specs.Option.{option_and_then, option_map, option_or}
+use Rattle.std.proofs.lemmas.Bool.{and_parts, le-leb, leb-false, leb-true}
+use Rattle.std.proofs.lemmas.List.Folds.{find-append}
+use Rattle.office_parts.specs.Archives.{Archive, archive_of}
+use Rattle.office_parts.specs.Archives as parts
+use Rattle.office_register.specs.Changes.{closed_with}
+use Rattle.office_register.specs.Register.{ArchiveContent, RegisterContent, is_of, last_closed, reaches}
+use Rattle.office_register.specs.Sound.{is_sound, is_within}
+use Rattle.office_register.specs.declared.register.Segment.{Segment}
+use Rattle.office_archives.specs.Shelves.{NamesAll, NamesOneMore, archive_at}
+
+-- ---- lists
+
+slice_left : {A : Type 0} (xs ys : List A) (i : ℕ) → i < length xs → slice_get (xs ++ ys) i ≡ slice_get xs i
+slice_left [] ys i low = absurd (omega (arith, low))
+slice_left (x ∷ xs) ys zero low = refl
+slice_left (x ∷ xs) ys (suc i) low = slice_left xs ys i (omega (arith, low))
+
+slice_last : {A : Type 0} (xs : List A) (x : A) → slice_get (xs ++ x ∷ []) (length xs) ≡ Some x
+slice_last [] x = refl
+slice_last (y ∷ xs) x = slice_last xs x
+
+slice_some : {A : Type 0} (xs : List A) (i : ℕ) → i < length xs → (x : A) × (slice_get xs i ≡ Some x)
+slice_some [] i low = absurd (omega (arith, low))
+slice_some (x ∷ xs) zero low = (x, refl)
+slice_some (x ∷ xs) (suc i) low = slice_some xs i (omega (arith, low))
+
+longer : {A : Type 0} (xs : List A) (x : A) → length (xs ++ x ∷ []) ≡ length xs + 1
+longer [] x = refl
+longer (y ∷ xs) x = let rest = longer xs x in omega (arith, rest)
+
+-- what is found is one of those that all are
+found_all : {A : Type 0} (f g : A → Bool) (xs : List A) (x : A) → list_all g xs ≡ true → find f xs ≡ Some x → g x ≡ true
+found_all f g [] x all found = absurd cc
+found_all f g (y ∷ xs) x all found = by (f y) (λ later. found_all f g xs x (and_parts (g y) (list_all g xs) all).1 later) found
+  where
+    by : (is : Bool) → (find f xs ≡ Some x → g x ≡ true) → cond is (Some y) (find f xs) ≡ Some x → g x ≡ true
+    by true rest here = let same : y ≡ x = cc in ap g (sym same) ∙ (and_parts (g y) (list_all g xs) all).0
+    by false rest later = rest later
+
+found_each : {A : Type 0} (f : A → Bool) (P : A → Type 0) (xs : List A) (x : A) → AllByRecursion P xs → find f xs ≡ Some x → P x
+found_each f P [] x all found = absurd cc
+found_each f P (y ∷ xs) x all found = by (f y) (λ later. found_each f P xs x all.1 later) found
+  where
+    by : (is : Bool) → (find f xs ≡ Some x → P x) → cond is (Some y) (find f xs) ≡ Some x → P x
+    by true rest here = let same : y ≡ x = cc in subst P same all.0
+    by false rest later = rest later
+
+-- ---- segments
+
+-- a number that a segment reaches is closed
+closed_if_found : (p n : ℕ) (segments : List Segment) (s : Segment) → find (reaches p n) segments ≡ Some s → n ≤ last_closed segments p
+closed_if_found p n [] s found = absurd cc
+closed_if_found p n (one ∷ segments) s found = by (λ later. closed_if_found p n segments s later) (is_of p one) (nat_le n one.last) refl found
+  where
+    by : (find (reaches p n) segments ≡ Some s → n ≤ last_closed segments p) → (mine within : Bool) → nat_le n one.last ≡ within → cond (mine && within) (Some one) (find (reaches p n) segments) ≡ Some s → n ≤ max (if mine then one.last else 0) (last_closed segments p)
+    by rest true true e here = let low = leb-true n one.last e in omega (arith, low)
+    by rest true false e later = let low = rest later in omega (arith, low)
+    by rest false within e later = let low = rest later in omega (arith, low)
+
+-- one that none reaches is not
+open_if_none : (p n : ℕ) (segments : List Segment) → 1 ≤ n → find (reaches p n) segments ≡ None → last_closed segments p < n
+open_if_none p n [] from none = omega (arith, from)
+open_if_none p n (one ∷ segments) from none = by (λ later. open_if_none p n segments from later) (is_of p one) (nat_le n one.last) refl none
+  where
+    by : (find (reaches p n) segments ≡ None → last_closed segments p < n) → (mine within : Bool) → nat_le n one.last ≡ within → cond (mine && within) (Some one) (find (reaches p n) segments) ≡ None → max (if mine then one.last else 0) (last_closed segments p) < n
+    by rest true true e here = absurd cc
+    by rest true false e later = let far = leb-false n one.last e in let low = rest later in omega (arith, far, low)
+    by rest false within e later = let low = rest later in omega (arith, from, low)
+
+-- ---- an archive more
+
+module _ (names : RegisterContent) (list : List Archive) (archive : ArchiveContent) (segments : List Segment) (one : Archive) (sound : is_sound names ≡ true) (are : NamesAll names list)
+    (own : AllByRecursion (λ (segment : Segment). segment.archive ≡ length list + 1) segments)
+    (closed : (partner : ℕ) → one.last_closed partner ≡ last_closed (closed_with archive segments names).segments partner) where
+  abbrev more : List Archive
+  more = list ++ one ∷ []
+
+  within : (p n : ℕ) (s : Segment) → find (reaches p n) names.segments ≡ Some s → s.archive - 1 < length list
+  within p n s found =
+      let all : list_all (is_within (length names.archives)) names.segments ≡ true = (and_parts _ _ (and_parts _ _ (and_parts _ _ sound).1).0).0 in
+      let is : is_within (length names.archives) s ≡ true = found_all (reaches p n) (is_within (length names.archives)) names.segments s all found in
+      let places : (nat_le 1 s.archive && nat_le s.archive (length names.archives)) ≡ true = (and_parts _ _ (and_parts _ _ is).0).1 in
+      let low : 1 ≤ s.archive = leb-true 1 s.archive (and_parts _ _ places).0 in
+      let high : s.archive ≤ length names.archives = leb-true s.archive (length names.archives) (and_parts _ _ places).1 in
+      omega (arith, are.counted, low, high)
+
+  -- of a number the new one is asked if none before it reaches it
+  asked : (p n : ℕ) → archive_of more p n ≡ option_or (archive_of list p n) (cond (parts.reaches p n one) (Some one) None)
+  asked p n = find-append (parts.reaches p n) list (one ∷ [])
+
+  named : (p n : ℕ) → 1 ≤ n → (old new : Option Segment) → find (reaches p n) names.segments ≡ old → find (reaches p n) segments ≡ new
+      → archive_of more p n ≡ option_and_then (archive_at more) (option_map (λ (s : Segment). s.archive) (option_or old new))
+  named p n from (Some s) new e e' =
+      let at = slice_some list (s.archive - 1) (within p n s e) in
+      let before : archive_of list p n ≡ Some at.0 = are.named p n from ∙ ap (λ o. option_and_then (archive_at list) (option_map (λ (x : Segment). x.archive) o)) e ∙ at.1 in
+      asked p n ∙ ap (λ o. option_or o (cond (parts.reaches p n one) (Some one) None)) before ∙ sym (slice_left list (one ∷ []) (s.archive - 1) (within p n s e) ∙ at.1)
+  named p n from None (Some s) e e' =
+      let before : archive_of list p n ≡ None = are.named p n from ∙ ap (λ o. option_and_then (archive_at list) (option_map (λ (x : Segment). x.archive) o)) e in
+      let found : find (reaches p n) (names.segments ++ segments) ≡ Some s = find-append (reaches p n) names.segments segments ∙ ap (λ o. option_or o (find (reaches p n) segments)) e ∙ e' in
+      let low = closed_if_found p n (names.segments ++ segments) s found in
+      let place = found_each (reaches p n) _ segments s own e' in
+      let index : s.archive - 1 ≡ length list = omega (arith, place) in
+      asked p n ∙ ap (λ o. option_or o (cond (parts.reaches p n one) (Some one) None)) before ∙ ap (λ b. cond b (Some one) None) (le-leb n (one.last_closed p) (omega (arith, low, closed p)))
+      ∙ sym (ap (slice_get more) index ∙ slice_last list one)
+  named p n from None None e e' =
+      let before : archive_of list p n ≡ None = are.named p n from ∙ ap (λ o. option_and_then (archive_at list) (option_map (λ (x : Segment). x.archive) o)) e in
+      let none : find (reaches p n) (names.segments ++ segments) ≡ None = find-append (reaches p n) names.segments segments ∙ ap (λ o. option_or o (find (reaches p n) segments)) e ∙ e' in
+      let far = open_if_none p n (names.segments ++ segments) from none in
+      asked p n ∙ ap (λ o. option_or o (cond (parts.reaches p n one) (Some one) None)) before ∙ not_reached (nat_le n (one.last_closed p)) refl (omega (arith, far, closed p))
+    where
+      not_reached : (is : Bool) → nat_le n (one.last_closed p) ≡ is → one.last_closed p < n → cond is (Some one) None ≡ None
+      not_reached true e far = absurd (omega (arith, leb-true n (one.last_closed p) e, far))
+      not_reached false e far = refl
+
+  all_named : NamesAll (closed_with archive segments names) more
+  all_named = record {
+    counted = longer list one ∙ ap (λ n. n + 1) are.counted ∙ sym (longer names.archives archive);
+    named = λ p n from. named p n from (find (reaches p n) names.segments) (find (reaches p n) segments) refl refl
+        ∙ ap (λ o. option_and_then (archive_at more) (option_map (λ (s : Segment). s.archive) o)) (sym (find-append (reaches p n) names.segments segments));
+  }
+
+pub names_one_more : NamesOneMore
+names_one_more names list archive segments one sound are own closed = all_named names list archive segments one sound are own closed
