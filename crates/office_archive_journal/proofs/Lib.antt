@@ -1,3 +1,4 @@
 pub mod Beyond
 pub mod Files
 pub mod Events
+pub mod Together

@@ -40,3 +40,8 @@ AreDayCopies content since day closed_before (archive ∷ archives) own =
 -- from the first event on, nothing being closed before the first archive
 abbrev pub AreCopiesInOrder : SetupContent → List Event → List Archive → (own : List Interchange) → Type 0
 AreCopiesInOrder content es archives own = AreDayCopies content es [] (λ partner. 0) archives own
+
+-- what is closed by the last of the archives, or was before them
+abbrev pub closed_after : (closed_before : ℕ → ℕ) → List Archive → ℕ → ℕ
+closed_after closed_before [] = closed_before
+closed_after closed_before (archive ∷ archives) = closed_after archive.last_closed archives

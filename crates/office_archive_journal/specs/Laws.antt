@@ -1,7 +1,7 @@
 -- The laws of a journal over several files.
 use Rattle.std.specs.Prelude.{◌≡◌, ℕ, ◌≤◌, List, [], ◌∷◌, ◌++◌, filter, true, false, Err}
 use Rattle.edi_segments.specs.Interchange.{interchange_of}
-use Rattle.partner_core.specs.Deliveries.{is_used}
+use Rattle.partner_core.specs.Deliveries.{is_used, run}
 use Rattle.office_admission.specs.Admission.{admission}
 use Rattle.office_admission.specs.Accounts.{content_after}
 use Rattle.office_admission.specs.Deliveries.{deliveries_of}
@@ -15,7 +15,7 @@ use Rattle.office_setup.specs.Setups.{SetupContent, parties_in}
 use Rattle.office_journal.specs.Journal.{kept_texts}
 use Rattle.office_parts.specs.Archives.{Archive}
 use Rattle.office_parts.specs.Closing.{is_beyond}
-use Rattle.office_archive_journal.specs.Copies.{HasInOrder, AreCopiesInOrder}
+use Rattle.office_archive_journal.specs.Copies.{HasInOrder, AreCopiesInOrder, closed_after}
 use Rattle.office_archive_journal.specs.Journal.{journal_of}
 
 -- The journal over the files is the journal of the events, byte for byte, as if nothing had been put away.
@@ -59,3 +59,25 @@ pub record EventsStayInOrder : Type 0 where
   pub account : (content : SetupContent) (es : List Event) (closed : ℕ → ℕ) (interchanges : List Interchange)
       (code kind : List ℕ) → HasInOrder content es closed interchanges
       → HasInOrder content (es ++ added code kind ∷ []) closed interchanges
+
+-- ---- what keeps all files in order
+
+-- The files of a store stay in order by an event that leaves the store so, and by a closing. A closing adds a copy of some day,
+-- with the archives of that day: it closes what they closed and no number beyond the runs of its day, and of the store no row
+-- is gone that it does not close.
+pub record CopiesStayInOrder : Type 0 where
+  pub store : (content : SetupContent) (es : List Event) (archives : List Archive) (own : List Interchange) →
+      AreCopiesInOrder content es archives own
+      → HasInOrder content es (closed_after (λ partner. 0) archives) own
+  pub event : (content : SetupContent) (es : List Event) (event : Event) (archives : List Archive)
+      (own left : List Interchange) → AreCopiesInOrder content es archives own
+      → ((closed : ℕ → ℕ) → HasInOrder content es closed own → HasInOrder content (es ++ event ∷ []) closed left)
+      → AreCopiesInOrder content (es ++ event ∷ []) archives left
+  pub closing : (content : SetupContent) (day since : List Event) (archives : List Archive) (copy : Archive)
+      (before : ℕ → ℕ) (own left : List Interchange) → AreCopiesInOrder content day archives copy.rows.interchanges
+      → ((partner : ℕ) → closed_after (λ partner. 0) archives partner ≤ copy.last_closed partner)
+      → ((partner : ℕ) → copy.last_closed partner ≤ run (deliveries_of content day) partner)
+      → HasInOrder content (day ++ since) before own
+      → ((partner : ℕ) → before partner ≤ copy.last_closed partner)
+      → filter (is_beyond copy.last_closed) left ≡ filter (is_beyond copy.last_closed) own
+      → AreCopiesInOrder content (day ++ since) (archives ++ copy ∷ []) left

@@ -1,7 +1,12 @@
 //! The laws of a journal over several files. Each function has an empty body, and its contract is the law: a call brings it
 //! into the caller's proof.
 
-ghost use Rattle.office_archive_journal.specs.Laws.{JournalIsOfAllFiles, ClosingStaysInOrder, EventsStayInOrder};
+ghost use Rattle.office_archive_journal.specs.Laws.{
+  ClosingStaysInOrder,
+  CopiesStayInOrder,
+  EventsStayInOrder,
+  JournalIsOfAllFiles,
+};
 
 /// What the archives of a store and the store itself keep, each text once, is the journal of all that came, as if nothing had
 /// been put away.
@@ -17,4 +22,9 @@ pub fn closing_stays_in_order()
 /// So does each event.
 pub fn events_stay_in_order()
     ensures { EventsStayInOrder }
+{}
+
+/// The store and its archives stay in order together: by an event that leaves the store so, and by a closing.
+pub fn copies_stay_in_order()
+    ensures { CopiesStayInOrder }
 {}
