@@ -10,8 +10,7 @@ use crate::init::init;
 use crate::request_log::RequestLog;
 use crate::watch::DeliveryWatch;
 use office_archive_files::{
-    InFiles, InUnknownFiles, account_beside, deliver_beside, report_beside, serve_beside,
-    texts_beside,
+    InUnknownFiles, account_beside, deliver_beside, report_beside, serve_beside, texts_beside,
 };
 use office_command_line::{CommandFault, REPORT_KINDS, Request, read_command};
 use office_commands::{
@@ -354,7 +353,7 @@ fn texts_with_archives<W: Write, E: Write>(
     writer: &mut Port<W>,
     errors: &mut Port<E>,
 ) -> u8 {
-    let beside = InFiles::new(rt, Unknown);
+    let beside = InUnknownFiles::new(rt);
     match texts_beside(rt, store, Unknown, &beside, from, writer) {
         Ok(ended) => tell_reported(rt, errors, store, ended),
         Err(fault) => tell_open(rt, errors, store, &fault),

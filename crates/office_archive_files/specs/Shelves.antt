@@ -24,6 +24,14 @@ pub record HoldsArchive (image : Image) (archive : Archive) : Type 0 where
 abbrev pub HoldArchiveAt : Image → (place : ℕ) → List Archive → Type 0
 HoldArchiveAt image place list = (archive : Archive) → archive_at list place ≡ Some archive → HoldsArchive image archive
 
+-- The archives on the shelf beside a store as it was opened are those that are supposed; the register that names them is sound
+-- and says what is closed of the store.
+pub record IsBesideShelf {S F : Type 0} {g : Ghosts S} (hold : List Archive → Type 0) (holds : List Archive → F → Type 0)
+    (names : RegisterContent) (opened : Desk S g) (shelf : F) : Type 0 where
+  pub sound : IsTrue (is_sound names)
+  pub closed : closed_content opened.closed ≡ closed_by names
+  pub these : (list : List Archive) → hold list → holds list shelf
+
 -- The archives of an office as it was opened are those that a sound register names, which says what is closed of it: whichever
 -- these are, if their files hold what they are supposed to.
 pub record AreReached {S A : Type 0} {g : Ghosts S} (hold : List Archive → Type 0) (are : List Archive → A → Type 0)

@@ -5,10 +5,20 @@ ghost use Rattle.office_register.specs.Register.{register_content};
 
 use crate::file_archives::{FileArchives, UnknownShelf};
 use crate::shelf::{ArchiveStart, FileShelf};
-use office_archives::{Archives, ManyArchives};
+use office_archives::{Archives, ManyArchives, Shelf};
 use office_register::Register;
 use office_setup::Setup;
-use sqlite::{FileFrom, FileStore, Start, Unknown};
+use sqlite::{Alter, FileFrom, FileStore, Start, Unknown};
+
+/// Where the shelf of a store's archives is.
+pub trait ShelfBeside<T: Alter, F: Shelf<T>> {
+    /// It is supposed that their files hold these.
+    ghost hold: { List Archive → Type 0 };
+
+    /// The shelf of the store at a path, which has this terminal and these accounts. No archive is opened.
+    fn shelf_of(&self, store: String, setup: Setup) -> F
+        ensures { (list : List Archive) → hold list → F.holds list result };
+}
 
 /// Where the archives of a store lie.
 pub trait ArchivesBeside<A: Archives> {
@@ -30,7 +40,9 @@ pub struct InFiles<'a, B: ArchiveStart> {
 
 impl<'a, B: ArchiveStart> InFiles<'a, B> {
     /// In files, of which something is supposed at one place.
-    pub fn new(rt: &'a HostRuntime, start: B) -> InFiles<'a, B> {
+    pub fn new(rt: &'a HostRuntime, start: B) -> InFiles<'a, B>
+        ensures { result.start ≡ start }
+    {
         InFiles { rt, start }
     }
 
@@ -39,6 +51,17 @@ impl<'a, B: ArchiveStart> InFiles<'a, B> {
         ensures { result.setup ≡ setup }
     {
         FileShelf::new(self.rt, store, setup, self.start.another())
+    }
+}
+
+impl<'a, B: ArchiveStart> ShelfBeside<FileStore<FileFrom<B>>, FileShelf<'a, B>> for InFiles<'a, B> {
+    ghost use Rattle.office_archive_files.specs.Shelves.{HoldArchiveAt};
+    ghost use Rattle.sqlite.specs.WalFiles.{image_at};
+
+    ghost hold = { HoldArchiveAt (image_at B.Start) B.place };
+
+    fn shelf_of(&self, store: String, setup: Setup) -> FileShelf<'a, B> {
+        self.shelf(store, setup)
     }
 }
 
@@ -67,10 +90,23 @@ pub struct InUnknownFiles<'a> {
 
 impl<'a> InUnknownFiles<'a> {
     /// In files of which nothing is supposed.
-    pub fn new(rt: &'a HostRuntime) -> InUnknownFiles<'a> {
+    pub fn new(rt: &'a HostRuntime) -> InUnknownFiles<'a>
+        ensures { result.files.start ≡ Unknown }
+    {
         InUnknownFiles {
             files: InFiles::new(rt, Unknown),
         }
+    }
+}
+
+impl<'a> ShelfBeside<FileStore<FileFrom<Unknown>>, UnknownShelf<'a>> for InUnknownFiles<'a> {
+    ghost use Rattle.office_archive_files.specs.Shelves.{HoldArchiveAt};
+    ghost use Rattle.sqlite.specs.WalFiles.{image_at};
+
+    ghost hold = { HoldArchiveAt (image_at ⟦<Unknown as Start>⟧) 1 };
+
+    fn shelf_of(&self, store: String, setup: Setup) -> UnknownShelf<'a> {
+        UnknownShelf::new(self.files.shelf(store, setup))
     }
 }
 

@@ -15,7 +15,9 @@ pub struct UnknownShelf<'a> {
 
 impl<'a> UnknownShelf<'a> {
     /// That shelf.
-    pub fn new(shelf: FileShelf<'a, Unknown>) -> UnknownShelf<'a> {
+    pub fn new(shelf: FileShelf<'a, Unknown>) -> UnknownShelf<'a>
+        ensures { result.shelf ≡ shelf }
+    {
         UnknownShelf { shelf }
     }
 }

@@ -16,7 +16,7 @@ mod shelf;
 mod texts;
 
 pub use archives::archives_over;
-pub use beside::{ArchivesBeside, InFiles, InUnknownFiles};
+pub use beside::{ArchivesBeside, InFiles, InUnknownFiles, ShelfBeside};
 pub use closing::{
     CloseCommandFault, ClosingFile, ClosingFiles, OfFour, UnknownFile, close_alike, close_over,
 };

@@ -1,6 +1,6 @@
 ghost use Rattle.std.specs.Prelude.{◌≡◌, IfOk, IsTrue, None, false};
 ghost use Rattle.office_archive_files.specs.Opening.{IsOpenedOver, OpensOn};
-ghost use Rattle.office_archive_files.specs.Shelves.{AreReached};
+ghost use Rattle.office_archive_files.specs.Shelves.{AreReached, IsBesideShelf};
 ghost use Rattle.office_commands.specs.Opening.{ShowsHeld};
 ghost use Rattle.office_register.specs.Register.{register_content};
 ghost use Rattle.office_register.specs.Sound.{is_sound};
@@ -8,11 +8,10 @@ ghost use Rattle.sqlite.specs.Files.{file_state, over_files};
 ghost use Rattle.sqlite.specs.State.{HasCleanDisk};
 ghost use Rattle.sqlite.specs.WalFiles.{image_at};
 
-use crate::beside::{ArchivesBeside, InFiles};
+use crate::beside::{ArchivesBeside, ShelfBeside};
 use crate::joined::Joined;
 use crate::register::read_history;
-use crate::shelf::{ArchiveStart, FileShelf};
-use office_archives::{ArchivedDesk, Archives};
+use office_archives::{ArchivedDesk, Archives, Shelf};
 use office_checks::Closed;
 use office_commands::open_there;
 use office_desk::{Desk, load_beside};
@@ -118,20 +117,23 @@ pub(crate) fn read_names(rt: &HostRuntime, store: &str) -> Result<Register, Open
 }
 
 /// The desk over the store or the archive at a path, its register, and the shelf of its archives.
-pub(crate) fn open_shelf<'a, S: Start, B: ArchiveStart>(
-    rt: &'a HostRuntime,
+pub(crate) fn open_shelf<S: Start, T: Alter, F: Shelf<T>, M: ShelfBeside<T, F>>(
+    rt: &HostRuntime,
     store: &str,
     start: S,
-    beside: &InFiles<'a, B>,
-) -> Result<(Desk<FileStore<FileFrom<S>>>, Register, FileShelf<'a, B>), OpenFault>
-    ensures sound { IfOk result (λ opened. IsTrue (is_sound (register_content opened.1))) }
+    beside: &M,
+) -> Result<(Desk<FileStore<FileFrom<S>>>, Register, F), OpenFault>
+    // From whatever events the files held what is left of the rows, with whatever archives hold the rest, the desk stands
+    // beside these after them. What is closed is what the register says.
+    ensures opens { IfOk result (λ opened. OpensOn over_files (image_at S.Start) opened.0) }
+    ensures beside { IfOk result (λ opened. IsBesideShelf M.hold F.holds (register_content opened.1) opened.0 opened.2) }
 {
     let conn = open_store(rt, store, start)?;
     let register = read_names(rt, store)?;
     let closed = register.closed(rt.alloc())?;
     let (desk, setup) = open_desk(rt.alloc(), conn, closed)?;
     let path = String::from_str(rt.alloc(), store)?;
-    Ok((desk, register, beside.shelf(path, setup)))
+    Ok((desk, register, beside.shelf_of(path, setup)))
 }
 
 /// The store over a connection, joined with the archives of a register.

@@ -1,14 +1,15 @@
 ghost use Rattle.std.specs.Prelude.{◌≡◌, false, IfOk, IsTrue, OnErr};
-ghost use Rattle.office_archive_files.specs.Texts.{EndsTexts, PrintsJournal};
+ghost use Rattle.office_archive_files.specs.Texts.{ArePrintedBeside, EndsTexts, PrintsJournal};
 ghost use Rattle.office_archives.specs.Texts.{OpensOn};
 ghost use Rattle.office_delivery.specs.Reading.{OnlyReads};
 ghost use Rattle.office_register.specs.Register.{register_content};
 ghost use Rattle.office_register.specs.Sound.{is_sound};
+ghost use Rattle.sqlite.specs.Files.{over_files};
 ghost use Rattle.sqlite.specs.Held.{state};
+ghost use Rattle.sqlite.specs.WalFiles.{image_at};
 
-use crate::beside::InFiles;
+use crate::beside::ShelfBeside;
 use crate::opening::{OpenFault, open_shelf};
-use crate::shelf::{ArchiveStart, FileShelf};
 use office_archives::{Shelf, write_journal};
 use office_commands::{DONE, FAILED, REFUSED, print};
 use office_desk::Desk;
@@ -25,33 +26,21 @@ use std::io::Write;
 /// left and the exit status: 0, 1 if there are fewer, which prints `none`, and 3 if printing failed; or the fault for which
 /// they were not read to their end, after which a front of them may be printed. The archives are opened one after the other;
 /// none changes.
-pub fn texts_beside<S: Start, B: ArchiveStart, W: Write>(
+pub fn texts_beside<S: Start, T: Alter + Drop, F: Shelf<T> + Drop, M: ShelfBeside<T, F>, W: Write>(
     rt: &HostRuntime,
     store: &str,
     start: S,
-    beside: &InFiles<'_, B>,
+    beside: &M,
     from: u32,
     writer: &mut Port<W>,
 ) -> Result<(Connection<FileStore<FileFrom<S>>>, Result<u8, TableFault>), OpenFault>
     ensures refused { OnErr result (writer.new ≡ writer.old) }
+    ensures printed { IfOk result (λ ended. ArePrintedBeside over_files T.Store M.hold F.holds
+        (OpensOn T.Store F.is_known F.holds) (image_at S.Start) from (W.contents writer.old.inner)
+        (W.contents writer.new.inner) writer.new.failed writer.new.flushed ended.0 ended.1) }
 {
     let (desk, register, shelf) = open_shelf(rt, store, start, beside)?;
-    Ok(print_beside(rt.alloc(), desk, &register, shelf, from, writer))
-}
-
-/// Prints the texts of a store of any kind and of the archives in files on a shelf.
-fn print_beside<S: Alter, B: ArchiveStart, W: Write>(
-    alloc: Global,
-    desk: Desk<S>,
-    register: &Register,
-    shelf: FileShelf<'_, B>,
-    from: u32,
-    writer: &mut Port<W>,
-) -> (Connection<S>, Result<u8, TableFault>)
-    requires sound { IsTrue (is_sound (register_content register.now)) }
-    ensures reads { OnlyReads (state S.Store desk.conn) (state S.Store result.0) result.1 }
-{
-    print_journal(alloc, desk, register, shelf, from, writer)
+    Ok(print_journal(rt.alloc(), desk, &register, shelf, from, writer))
 }
 
 /// Prints the texts of a store and of the archives on a shelf, and gives the store's connection back. Over stores of any kind, so

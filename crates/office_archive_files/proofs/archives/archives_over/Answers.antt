@@ -22,7 +22,7 @@ returns-clause-lists g c =
     record {
       store = setup_content c.in_ok-desk.shelf.setup;
       names = register_content names;
-      sound = c.in_ok-desk.ensures.sound;
+      sound = c.in_ok-desk.ensures.beside.sound;
       lines = lines;
       follow = c.in_ok-lines.ensures;
       printed = printed_as (λ text wanted. Prints old.failed new.failed new.flushed (g.W.Write.contents old.inner) (g.W.Write.contents new.inner) text wanted c.print_listing.result) c.len-count.result
