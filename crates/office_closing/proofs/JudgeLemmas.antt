@@ -13,9 +13,9 @@ use Rattle.office_closing.specs.declared.planning.Plan.{Plan}
 use Rattle.office_closing.specs.declared.planning.Stage.{Stage}
 use Rattle.office_closing.specs.declared.planning.Stage.TheVariants as stage
 use Rattle.office_closing.specs.Deleting.{is_among}
-use Rattle.office_closing.specs.Closes.{AreHeld, Closing, Held, IsBelowNext, IsClosing, closed_after, closed_before, closing_content, raised_register}
+use Rattle.office_closing.specs.Closes.{AreHeld, Closing, ClosesAll, Held, IsBelowNext, IsClosing, closed_after, closed_before, closing_content, raised_register}
 use Rattle.office_closing.specs.Comparing.{IsComparedAs}
-use Rattle.office_closing.specs.Copies.{FileNames, HasCome, IsOpened, OfficeContent, archive_in, numbers_of, raised_by, segments_of}
+use Rattle.office_closing.specs.Copies.{FileNames, HasCome, IsOpened, OfficeContent, archive_in, numbers_from, numbers_of, raised_by, segments_of}
 use Rattle.office_closing.specs.Files.{Files}
 use Rattle.office_closing.specs.Judging.{IsAtStage, IsComparedIf, IsJudged}
 use Rattle.office_closing.specs.Steps.{is_unraised}
@@ -91,6 +91,14 @@ module _ (held : Held) (old : Files) (has : AreHeld held old) (names : FileNames
       subst (λ (l : List VisitContent). AreToGo held.own.visits l closing.visits) copy_visits
       (subst (λ (l : List VisitContent). AreToGo l copy.terminal.visits closing.visits) own_visits is.visits)
 
+  closes_all : ClosesAll held closing
+  closes_all = record {
+    nexts = copy.nexts;
+    are_nexts = of_copy.nexts held.copy has.copy;
+    numbers = is.numbers ∙ ap (λ (c : RegisterContent). numbers_from (last_closed c.segments) 1 copy.nexts) copy_register;
+    visits = to_go;
+  }
+
   account_of : (partner number : ℕ) → last_closed held.copied.segments partner < number → number ≤ closed_after held closing partner → IsBelowNext held.own partner number
   account_of partner number above within =
       let are = of_own.nexts held.own has.own in
@@ -114,6 +122,7 @@ module _ (held : Held) (old : Files) (has : AreHeld held old) (names : FileNames
       file = ap (λ (a : ArchiveContent). a.file) is.archive;
       place = place_is;
       segments = segments_are;
+      all = closes_all;
       sound = raised_sound;
       numbers = raises;
       rise = λ partner. subst (λ (f : ℕ → ℕ). f partner ≤ closed_after held closing partner) (sym same_before) (segments_rise held.copied.segments closing.segments partner);
@@ -138,6 +147,7 @@ module _ (held : Held) (old : Files) (has : AreHeld held old) (names : FileNames
       file = ap (λ (a : ArchiveContent). a.file) is.archive;
       place = place_is;
       segments = segments_are;
+      all = closes_all;
       sound = raised_sound;
       numbers = raises;
       rise = λ partner. subst (λ (f : ℕ → ℕ). f partner ≤ closed_after held closing partner) (sym same_after) (omega arith);

@@ -7,6 +7,7 @@ use Rattle.terminal_core.specs.Forms.{IsFormedVisit}
 use Rattle.terminal_core.specs.Rows.{VisitContent}
 use Rattle.terminal_core.specs.State.{AreNumbered}
 use Rattle.office_rows.specs.Rows.{Interchange, Partner, Rows}
+use Rattle.office_rows.specs.Shown.{AreNexts}
 use Rattle.office_rows.specs.Stored.{HasRows, StoresRows}
 use Rattle.office_history.specs.After.{AreKeptOnce}
 use Rattle.office_parts.specs.Archives.{HoldsWhatGoes}
@@ -24,11 +25,12 @@ use Rattle.office_closing.specs.declared.faults.CloseFault.{CloseFault}
 use Rattle.office_closing.specs.declared.faults.CloseFault.TheVariants as fault
 use Rattle.office_closing.specs.declared.comparing.Numbers.{Numbers}
 use Rattle.office_closing.specs.declared.planning.Plan.{Plan}
-use Rattle.office_closing.specs.Copies.{FileNames, segments_of}
+use Rattle.office_closing.specs.Copies.{FileNames, numbers_from, segments_of}
 use Rattle.office_closing.specs.Deleting.{all_but, with_visits_that, without_visits, goes}
 use Rattle.office_closing.specs.Files.{Files, AreClean, AreIdle, AreRead, IsRead}
 use Rattle.office_closing.specs.Laws.{Raises}
 use Rattle.office_closing.specs.Refusing.{Tells}
+use Rattle.office_closing.specs.Visits.{AreToGo}
 
 -- ---- what the files hold before
 
@@ -92,6 +94,14 @@ pub record IsBelowNext (rows : Rows) (partner number : ℕ) : Type 0 where
   pub is_its : account.id ≡ partner
   pub below : number < account.next
 
+-- All goes that the archive keeps and that may go: of each of its accounts the numbers above the last one that its own register
+-- closes and below its next one, and each visit that is over there, as the store has it, but for the newest.
+pub record ClosesAll (held : Held) (closing : Closing) : Type 0 where
+  pub nexts : List ℕ
+  pub are_nexts : AreNexts held.copy nexts
+  pub numbers : closing.numbers ≡ numbers_from (last_closed held.copied.segments) 1 nexts
+  pub visits : AreToGo held.own.visits held.copy.visits closing.visits
+
 -- The archive holds all that goes, and all of that may go: the numbers by which the last closed ones rise, of the archive's
 -- register and so of the store's, are below the next of their accounts; the visits are over, and the newest is none of
 -- them. The store's register is sound with the archive, which comes after those that the archive's own register names, with a
@@ -100,6 +110,7 @@ pub record IsClosing (held : Held) (names : FileNames) (closing : Closing) : Typ
   pub file : closing.archive.file ≡ names.archive
   pub place : closing.archive.place ≡ length held.copied.archives + 1
   pub segments : closing.segments ≡ segments_of closing.archive.place closing.numbers
+  pub all : ClosesAll held closing
   pub sound : IsSound (raised_register held closing)
   pub numbers : Raises (last_closed held.copied.segments) closing.numbers (closed_after held closing)
   pub rise : (partner : ℕ) → closed_before held partner ≤ closed_after held closing partner
