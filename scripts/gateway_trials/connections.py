@@ -2,12 +2,22 @@
 import os
 import time
 
+from hostile.served import container, gate_in, gate_out
+
 from .installed import Installed
 from .judged import Judge, bare
-from .load import PARTNERS, SETUP, prepared, text_of
+from .load import PARTNERS, SETUP, prepared
 
 CONNECTIONS = int(os.environ.get('CONNECTIONS', 10000))
 LONGEST = 30                # seconds that an answer may take, where nothing else is asked
+
+
+def text_of(code, number):
+    """A gate-in under an odd number, under the next one the gate-out of the same container."""
+    serial = PARTNERS.index(code) * 1000 + (number + 1) // 2
+    if number % 2:
+        return gate_in(number, code, serial)
+    return gate_out(number, code, container(serial))
 
 
 def asked(clients, judge, code, number):

@@ -20,10 +20,23 @@ GATE_IN = (
     "UNB+UNOA:3+%s+TERM1+240305:0910+%d'UNH+1+CODECO:D:95B:UN'BGM+34+G1+9'EQD+CN+%s+22G1:102:5+++5'UNT+4+1'UNZ+1+%d'")
 
 
+GATE_OUT = "UNB+UNOA:3+%s+TERM1+240305:0910+%d'UNH+1+CODECO:D:95B:UN'BGM+36+G1+9'EQD+CN+%s'UNT+4+1'UNZ+1+%d'"
+
+
+def container(serial):
+    """A container's number."""
+    first_ten = 'ABCU%06d' % serial
+    return first_ten + str(check_digit(first_ten))
+
+
 def gate_in(number, sender='HAULA', serial=None):
     """An interchange that brings in a container, one of the number's own if none is named."""
-    first_ten = 'ABCU%06d' % (number if serial is None else serial)
-    return GATE_IN % (sender, number, first_ten + str(check_digit(first_ten)), number)
+    return GATE_IN % (sender, number, container(number if serial is None else serial), number)
+
+
+def gate_out(number, sender, name):
+    """An interchange that takes a container out."""
+    return GATE_OUT % (sender, number, name, number)
 
 
 def account(code, kind):

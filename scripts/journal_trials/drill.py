@@ -9,9 +9,8 @@ import random
 import tempfile
 
 from hostile.books import Book, Different, expect, naming
-from hostile.served import gate_in
+from hostile.served import container, gate_in, gate_out
 from hostile.working import run
-from model.names import check_digit
 from model.office import Office, json_text
 from model.rows import rows_in
 from model.setup import read_setup
@@ -25,18 +24,6 @@ SENDERS = ['HAUL' + letter for letter in 'ABCD']
 TEXTS = 90
 OUT = 0.25                  # of the texts: a gate-out of a container that its sender brought
 DRILLS_EVERY = 3            # lists for a drill
-
-
-def gate_out(number, sender, container):
-    """An interchange that takes a container out."""
-    return (
-        "UNB+UNOA:3+%s+TERM1+240305:0910+%d'UNH+1+CODECO:D:95B:UN'BGM+36+G1+9'EQD+CN+%s'UNT+4+1'UNZ+1+%d'"
-        % (sender, number, container, number))
-
-
-def number_of(serial):
-    """A container's number."""
-    return 'ABCU%06d%d' % (serial, check_digit('ABCU%06d' % serial))
 
 
 class First(Book):
@@ -59,7 +46,7 @@ class First(Book):
             if brought[sender] and self.chance.random() < OUT:
                 yield sender, gate_out(numbers[sender], sender, brought[sender].pop(0))
             else:
-                brought[sender].append(number_of(serial))
+                brought[sender].append(container(serial))
                 yield sender, gate_in(numbers[sender], sender, serial)
 
 
