@@ -90,9 +90,7 @@ pub struct InUnknownFiles<'a> {
 
 impl<'a> InUnknownFiles<'a> {
     /// In files of which nothing is supposed.
-    pub fn new(rt: &'a HostRuntime) -> InUnknownFiles<'a>
-        ensures { result.files.start ≡ Unknown }
-    {
+    pub fn new(rt: &'a HostRuntime) -> InUnknownFiles<'a> {
         InUnknownFiles {
             files: InFiles::new(rt, Unknown),
         }

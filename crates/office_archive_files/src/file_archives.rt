@@ -16,7 +16,7 @@ pub struct UnknownShelf<'a> {
 impl<'a> UnknownShelf<'a> {
     /// That shelf.
     pub fn new(shelf: FileShelf<'a, Unknown>) -> UnknownShelf<'a>
-        ensures { result.shelf ≡ shelf }
+        ensures { result.shelf ≡ shelf.entry }
     {
         UnknownShelf { shelf }
     }
