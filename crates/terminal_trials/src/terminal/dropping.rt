@@ -89,11 +89,11 @@ impl Trial {
 fn listed(
     rt: &impl Abort,
     alloc: Global,
-    lines: [(Side, &'static str); 3],
+    lines: &[(Side, &'static str)],
 ) -> Result<Trial, AllocError> {
     let mut trial = Trial::new(rt, alloc)?;
     for (side, text) in lines {
-        trial.list(alloc, side, number(rt, text))?;
+        trial.list(alloc, *side, number(rt, text))?;
     }
     Ok(trial)
 }
@@ -117,7 +117,7 @@ fn lines_are_dropped_by_their_numbers(rt: HostRuntime) -> Result<(), Fail> {
         (Side::Load, THIRD),
         (Side::Load, FIRST),
     ];
-    let mut trial = listed(&rt, alloc, lines)?;
+    let mut trial = listed(&rt, alloc, &lines)?;
     assert_eq!(rt; trial.drop_open(alloc, Side::Load)?, 3);
     for (place, text) in [FIRST, SECOND, THIRD].iter().enumerate() {
         assert!(rt; trial.dropped(place) == Some(number(&rt, text)));
@@ -141,7 +141,7 @@ fn a_line_whose_row_was_moved_is_found(rt: HostRuntime) -> Result<(), Fail> {
         (Side::Discharge, FIRST),
         (Side::Discharge, SECOND),
     ];
-    let mut trial = listed(&rt, alloc, lines)?;
+    let mut trial = listed(&rt, alloc, &lines)?;
     assert_eq!(rt; trial.drop_open(alloc, Side::Load)?, 1);
     assert!(rt; trial.state(&rt, Side::Discharge, SECOND) == Some(LineState::Pending));
     discharge(&rt, alloc, &mut trial, SECOND)?;

@@ -154,7 +154,10 @@ fn a_full_one_on_an_empty_one_stays_until_it_is_moved(rt: HostRuntime) -> Result
 
 /// The weight that the last visit says, and that the change says by which it was opened.
 fn weights(terminal: &Terminal, changes: &[Change]) -> (Option<u32>, Option<u32>) {
-    let stands = terminal.visits().last().map(|visit| visit.kilos);
+    let stands = match terminal.visits().last() {
+        Some(visit) => Some(visit.kilos),
+        None => None,
+    };
     let told = match changes.first() {
         Some(Change::VisitOpened(visit)) => Some(visit.kilos),
         _ => None,
