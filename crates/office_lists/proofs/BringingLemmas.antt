@@ -1,24 +1,16 @@
 -- A list that is brought back.
-use Rattle.std.proofs.Common.{◌≡◌, ℕ, ◌≤◌, List, [], ◌∷◌, ◌++◌, Bool, true, false, cond, refl, sym, ap, ap₂, subst, ◌∙◌, arith, IsPermutation}
-use Rattle.std.specs.Prelude.{filter, not, ◌&&◌, ◌||◌, count_by, map}
+use Rattle.std.proofs.Common.{◌≡◌, ◌≤◌, List, [], ◌∷◌, ◌++◌, Bool, true, false, cond, refl, sym, ap, ap₂, subst, ◌∙◌, IsPermutation}
+use Rattle.std.specs.Prelude.{filter, not, ◌&&◌, ◌||◌}
 use Rattle.std.specs.List.{AllByRecursion}
 use Rattle.std.proofs.lemmas.List.Elements.{filter-append, All-from_recursion, recursion_from_All}
-use Rattle.std.proofs.lemmas.List.Sorted.{IsPermutation-refl, IsPermutation-sym, IsPermutation-trans, IsPermutation-append, IsPermutation-filter_both, sum_by-IsPermutation, All-permutation}
-use Rattle.edi_messages.specs.Purposes.{CallContent}
-use Rattle.box6346.specs.declared.box_number.BoxNumber.{BoxNumber}
-use Rattle.terminal_core.specs.declared.lines.Side.{Side}
-use Rattle.terminal_core.specs.Changes.{TerminalRows}
-use Rattle.terminal_core.proofs.Lined.{same_key, tied_self}
+use Rattle.std.proofs.lemmas.List.Sorted.{IsPermutation-refl, IsPermutation-trans, IsPermutation-append, IsPermutation-filter_both, sum_by-IsPermutation, All-permutation}
+use Rattle.terminal_core.proofs.Lined.{same_key}
 use Rattle.office_rows.specs.Effects.{is_line}
-use Rattle.office_rows.specs.Rows.{ListingContent, Rows}
-use Rattle.office_rows.specs.ByKey.{lines_by, standing_by, AreListedOnce}
-use Rattle.office_replies.specs.Events.{Event}
-use Rattle.office_setup.specs.Setups.{SetupContent}
-use Rattle.office_history.specs.After.{AreAfter}
+use Rattle.office_rows.specs.Rows.{ListingContent}
+use Rattle.office_rows.specs.ByKey.{standing_by}
 use Rattle.office_history.proofs.Loads.{lines_same}
-use Rattle.office_parts.specs.Parts.{Archived, ArePartsAfter}
-use Rattle.office_lists.specs.OwnLists.{ListName, list_name, is_own_line, rows_without_lists}
-use Rattle.office_lists.specs.Bringing.{is_list, all_but, is_of, lines_of, LinesStandInAnyOrder, ListsAreBroughtBack, MoreListsArePutAway}
+use Rattle.office_lists.specs.OwnLists.{ListName, list_name, is_own_line}
+use Rattle.office_lists.specs.Bringing.{is_list, all_but, is_of, LinesStandInAnyOrder, ListsAreBroughtBack, MoreListsArePutAway}
 
 -- ---- any order
 

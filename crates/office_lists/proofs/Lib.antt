@@ -6,3 +6,4 @@ pub mod Writings
 pub mod NamingLemmas
 pub mod BringingLemmas
 pub mod PartLemmas
+pub mod DoneLemmas

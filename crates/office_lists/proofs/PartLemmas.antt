@@ -1,5 +1,5 @@
 -- A delivery that is next, to a store of which lists were put away.
-use Rattle.std.proofs.Common.{sym, ap, ◌∙◌}
+use Rattle.std.proofs.Common.{ap, ◌∙◌}
 use Rattle.edi_segments.specs.Interchange.{interchange_of}
 use Rattle.office_history.specs.After.{machine_after}
 use Rattle.office_history.specs.Cascade.{texts_with}

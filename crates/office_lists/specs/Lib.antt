@@ -4,3 +4,4 @@ pub mod Named
 pub mod Laws
 pub mod Parts
 pub mod Bringing
+pub mod Done

@@ -3,6 +3,7 @@
 
 ghost use Rattle.office_lists.specs.Laws.{OrdersSpareLists, TerminalsWithoutListsAreSound, InterchangesSpareLists, RunsSpareLists};
 ghost use Rattle.office_lists.specs.Laws.{RowsWithoutListsGiveTerminal, RunsAreWrittenWithout};
+ghost use Rattle.office_lists.specs.Done.{DoneLinesStay, DoneLinesStayInRuns};
 ghost use Rattle.office_lists.specs.Parts.{NextAddsWithoutLists};
 ghost use Rattle.office_lists.specs.Bringing.{LinesStandInAnyOrder, ListsAreBroughtBack, MoreListsArePutAway};
 
@@ -55,4 +56,14 @@ pub fn lines_stand_in_any_order()
 /// A list that was put away is brought back by its lines, in whatever order.
 pub fn lists_are_brought_back()
     ensures { ListsAreBroughtBack }
+{}
+
+/// A line that is done stays done, whatever interchange is taken.
+pub fn done_lines_stay()
+    ensures { DoneLinesStay }
+{}
+
+/// A line that is done stays done in a run.
+pub fn done_lines_stay_in_runs()
+    ensures { DoneLinesStayInRuns }
 {}
