@@ -76,7 +76,7 @@ closings_add content es closed_before [] archive copies copy = (copy, tt)
 closings_add content es closed_before (first ∷ archives) archive copies copy = (copies.0, closings_add content es first.last_closed archives archive copies.1 copy)
 
 pub copies_of_now : CopiesOfNowAreCopies
-copies_of_now content es archived own whole rows last_closed are by_numbers is rest within = record {
+copies_of_now content es archived own whole rows last_closed lists are by_numbers is rest within = record {
   earlier = es;
   later = [];
   at_its_day = sym (append-nil es);

@@ -8,7 +8,7 @@ use Rattle.terminal_core.specs.declared.change.Source.{Source}
 use Rattle.terminal_core.specs.Rows.{VisitContent}
 use Rattle.office_admission.specs.Deliveries.{deliveries_of}
 use Rattle.office_replies.specs.Events.{Event}
-use Rattle.office_rows.specs.Rows.{Interchange, Rows}
+use Rattle.office_rows.specs.Rows.{Interchange, ListingContent, Rows}
 use Rattle.office_setup.specs.Given.{IsGiven}
 use Rattle.office_setup.specs.Setups.{SetupContent}
 use Rattle.office_queries.specs.declared.query.Query.{Query}
@@ -159,12 +159,12 @@ MetricsAreTold =
 -- a copy of a store as it is now is one, whichever closed interchanges still stand there
 abbrev pub CopiesOfNowAreCopies : Type 0
 CopiesOfNowAreCopies =
-    (content : SetupContent) (es : List Event) (archived : Archived) (own whole rows : Rows) (last_closed : ℕ → ℕ) →
-    ArePartsAfter content es archived own whole → GoByNumbers archived → rows_beyond archived.last_closed rows ≡ own →
+    (content : SetupContent) (es : List Event) (archived : Archived) (own whole rows : Rows) (last_closed : ℕ → ℕ)
+    (lists : List (List ℕ) → Option (List ListingContent)) → ArePartsAfter content es archived own whole → GoByNumbers archived → rows_beyond archived.last_closed rows ≡ own →
     ((i : Interchange) → Contains (filter (is_closed archived.last_closed) rows.interchanges) i →
     Contains archived.interchanges i) →
     ((partner : ℕ) → last_closed partner ≤ run (deliveries_of content es) partner)
-    → IsCopy content es archived.last_closed (record { rows = rows; last_closed = last_closed })
+    → IsCopy content es archived.last_closed (record { rows = rows; last_closed = last_closed; lists = lists })
 
 -- copies stay copies after more events, of which none is a migration
 abbrev pub CopiesStay : Type 0

@@ -7,7 +7,7 @@ use Rattle.std.proofs.lemmas.List.Folds.{find-append}
 use Rattle.terminal_core.specs.Rows.{VisitContent}
 use Rattle.office_replies.specs.Events.{Event}
 use Rattle.office_setup.specs.Setups.{SetupContent}
-use Rattle.office_rows.specs.Rows.{Rows}
+use Rattle.office_rows.specs.Rows.{ListingContent, Rows}
 use Rattle.office_history.specs.After.{reply_in}
 use Rattle.office_history.specs.Cascade.{text_in}
 use Rattle.office_parts.specs.Parts.{Archived, rows_of_archives, ArePartsAfter}
@@ -20,8 +20,8 @@ use Rattle.office_parts.proofs.Closings.{not_true, found_own, found_before}
 
 -- ---- the newest archive
 
-abbrev archive_to : Rows → (ℕ → ℕ) → Archive
-archive_to copy last_closed = record { rows = copy; last_closed = last_closed }
+abbrev archive_to : Rows → (lists : List (List ℕ) → Option (List ListingContent)) → (ℕ → ℕ) → Archive
+archive_to copy lists last_closed = record { rows = copy; last_closed = last_closed; lists = lists }
 
 -- of a number the newest archive is asked if none before it reaches it
 with_newest : (archives : List Archive) (newest : Archive) (p n : ℕ) → archive_of (archives ++ newest ∷ []) p n ≡ option_or (archive_of archives p n) (cond (reaches p n newest) (Some newest) None)
@@ -50,10 +50,10 @@ within_or_beyond n last = elim (cases_order last n) [
 
 -- ---- an archive that was just added
 
-module _ (content : SetupContent) (es : List Event) (archives : List Archive) (archived : Archived) (own whole copy : Rows)
+module _ (content : SetupContent) (es : List Event) (archives : List Archive) (archived : Archived) (own whole copy : Rows) (lists : List (List ℕ) → Option (List ListingContent))
     (are : ArePartsAfter content es archived own whole) (holds : Hold archives archived) where
   abbrev added : List Archive
-  added = archives ++ archive_to copy archived.last_closed ∷ []
+  added = archives ++ archive_to copy lists archived.last_closed ∷ []
 
   has_archive : (p n : ℕ) → 1 ≤ n → n ≤ archived.last_closed p → is_some (archive_of archives p n) ≡ true
   has_archive p n low high =
@@ -61,12 +61,12 @@ module _ (content : SetupContent) (es : List Event) (archives : List Archive) (a
       (ap is_some (holds.replies p n low high) ∙ are.closed.replied p n low high)
 
   same_archive : (p n : ℕ) → 1 ≤ n → n ≤ archived.last_closed p → archive_of added p n ≡ archive_of archives p n
-  same_archive p n low high = with_newest archives (archive_to copy archived.last_closed) p n ∙ or_some (archive_of archives p n) _ (has_archive p n low high)
+  same_archive p n low high = with_newest archives (archive_to copy lists archived.last_closed) p n ∙ or_some (archive_of archives p n) _ (has_archive p n low high)
 
   in_added : (visit : VisitContent) → IsInArchive archives visit → IsInArchive added visit
   in_added visit was = record {
     archive = was.archive;
-    is_one = contained_has added was.archive (has_left archives (archive_to copy archived.last_closed ∷ []) was.archive (has_contained archives was.archive was.is_one));
+    is_one = contained_has added was.archive (has_left archives (archive_to copy lists archived.last_closed ∷ []) was.archive (has_contained archives was.archive was.is_one));
     has = was.has;
   }
 
@@ -75,25 +75,25 @@ module _ (content : SetupContent) (es : List Event) (archives : List Archive) (a
     texts = λ p n low high. ap (option_and_then (λ (archive : Archive). text_in archive.rows p n)) (same_archive p n low high) ∙ holds.texts p n low high;
     replies = λ p n low high. ap (option_and_then (λ (archive : Archive). reply_in archive.rows p n)) (same_archive p n low high) ∙ holds.replies p n low high;
     none_beyond = λ p n far.
-        with_newest archives (archive_to copy archived.last_closed) p n
-        ∙ ap (λ o. option_or o (cond (nat_le n (archived.last_closed p)) (Some (archive_to copy archived.last_closed)) None)) (holds.none_beyond p n far)
-        ∙ not_reached n (archived.last_closed p) (archive_to copy archived.last_closed) (nat_le n (archived.last_closed p)) refl far;
+        with_newest archives (archive_to copy lists archived.last_closed) p n
+        ∙ ap (λ o. option_or o (cond (nat_le n (archived.last_closed p)) (Some (archive_to copy lists archived.last_closed)) None)) (holds.none_beyond p n far)
+        ∙ not_reached n (archived.last_closed p) (archive_to copy lists archived.last_closed) (nat_le n (archived.last_closed p)) refl far;
     visits = λ visit has. in_added visit (holds.visits visit has);
   }
 
 pub added_hold : AddedArchivesHold
-added_hold content es archives archived own whole copy are holds = added_holds content es archives archived own whole copy are holds
+added_hold content es archives archived own whole copy lists are holds = added_holds content es archives archived own whole copy lists are holds
 
 -- ---- a closing
 
-module _ (content : SetupContent) (es : List Event) (archives : List Archive) (archived : Archived) (own whole copy : Rows) (last' : ℕ → ℕ) (stays' : ℕ → Bool)
+module _ (content : SetupContent) (es : List Event) (archives : List Archive) (archived : Archived) (own whole copy : Rows) (lists : List (List ℕ) → Option (List ListingContent)) (last' : ℕ → ℕ) (stays' : ℕ → Bool)
     (are : ArePartsAfter content es archived own whole) (ends : MayClose content es archived own last' stays') (goes : HoldsWhatGoes archived own copy last' stays')
-    (holds : Hold (archives ++ archive_to copy archived.last_closed ∷ []) archived) where
+    (holds : Hold (archives ++ archive_to copy lists archived.last_closed ∷ []) archived) where
   abbrev old : Archive
-  old = archive_to copy archived.last_closed
+  old = archive_to copy lists archived.last_closed
 
   abbrev new : Archive
-  new = archive_to copy last'
+  new = archive_to copy lists last'
 
   abbrev left : Archived
   left = archived_with archived own last' stays'
@@ -168,4 +168,4 @@ module _ (content : SetupContent) (es : List Event) (archives : List Archive) (a
   closing_held = record { texts = texts; replies = replies; none_beyond = none_reached; visits = visits }
 
 pub closings_held : ClosingsAreHeld
-closings_held content es archives archived own whole copy last' stays' are ends goes holds = closing_held content es archives archived own whole copy last' stays' are ends goes holds
+closings_held content es archives archived own whole copy lists last' stays' are ends goes holds = closing_held content es archives archived own whole copy lists last' stays' are ends goes holds

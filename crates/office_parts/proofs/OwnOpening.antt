@@ -126,7 +126,7 @@ module _ (content : SetupContent) (es : List Event) (archived : Archived) (own w
   visits_are : own.visits ≡ mine.visits
   visits_are = ap (λ (r : TerminalRows). r.visits) (own_rows content es archived own whole are)
 
-  are_own : AreOfOwn (record { last_closed = closed; newest_closed = newest_closed }) now (run D) rows mine
+  pub are_own : AreOfOwn (record { last_closed = closed; newest_closed = newest_closed }) now (run D) rows mine
   are_own =
       let sound = sound_after content es given in
       let kept = own_sound archived.stays theirs sound.whole sound.formed may in

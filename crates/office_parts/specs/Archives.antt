@@ -2,15 +2,17 @@
 use Rattle.std.specs.Prelude.{◌≡◌, ℕ, ◌<◌, ◌≤◌, false, Bool, nat_le, List, Contains, find, Option, None}
 use Rattle.std.specs.Option.{option_and_then}
 use Rattle.terminal_core.specs.Rows.{VisitContent}
-use Rattle.office_rows.specs.Rows.{Rows}
+use Rattle.office_rows.specs.Rows.{ListingContent, Rows}
 use Rattle.office_history.specs.Cascade.{text_in}
 use Rattle.office_history.specs.After.{reply_in}
 use Rattle.office_parts.specs.Parts.{Archived, rows_of_archives}
 
--- an archive: a copy of a store's rows, and the last number of each partner that was closed by it
+-- an archive: a copy of a store's rows, the last number of each partner that was closed by it, and of each list that was put
+-- away with it, by vessel, voyage and side, its lines
 pub record Archive : Type 0 where
   pub rows : Rows
   pub last_closed : ℕ → ℕ
+  pub lists : List (List ℕ) → Option (List ListingContent)
 
 abbrev pub reaches : ℕ → ℕ → Archive → Bool
 reaches partner number archive = nat_le number (archive.last_closed partner)

@@ -1,5 +1,5 @@
 -- The laws of a store and its archives.
-use Rattle.std.specs.Prelude.{◌≡◌, ℕ, ◌+◌, ◌<◌, ◌≤◌, Bool, true, List, [], ◌∷◌, ◌++◌, length, Contains, None, Some}
+use Rattle.std.specs.Prelude.{◌≡◌, ℕ, ◌+◌, ◌<◌, ◌≤◌, Bool, true, List, [], ◌∷◌, ◌++◌, length, Contains, Option, None, Some}
 use Rattle.std.specs.List.{AllByRecursion}
 use Rattle.sqlite.specs.Effect.{Database}
 use Rattle.edi_messages.specs.Orders.{OrderContent}
@@ -22,7 +22,7 @@ use Rattle.office_replies.specs.Events.{Event, delivered, added}
 use Rattle.office_rows.specs.ByKey.{terminal_rows}
 use Rattle.office_rows.specs.Effects.{with_waiting, with_partner}
 use Rattle.office_rows.specs.Opened.{NumberKept, ShowsNumbers, OpenedRows, Shows}
-use Rattle.office_rows.specs.Rows.{Interchange, Rows}
+use Rattle.office_rows.specs.Rows.{Interchange, ListingContent, Rows}
 use Rattle.office_rows.specs.Stored.{HasRows}
 use Rattle.office_setup.specs.Given.{IsGiven}
 use Rattle.office_setup.specs.Kinds.{kind_named}
@@ -217,18 +217,20 @@ ClosingKeepsParts =
 -- an archive that was just added, by which no number is closed yet, changes nothing of what archives hold
 abbrev pub AddedArchivesHold : Type 0
 AddedArchivesHold =
-    (content : SetupContent) (es : List Event) (archives : List Archive) (archived : Archived) (own whole copy : Rows) →
-    ArePartsAfter content es archived own whole → Hold archives archived
-    → Hold (archives ++ (record { rows = copy; last_closed = archived.last_closed }) ∷ []) archived
+    (content : SetupContent) (es : List Event) (archives : List Archive) (archived : Archived) (own whole copy : Rows)
+    (lists : List (List ℕ) → Option (List ListingContent)) → ArePartsAfter content es archived own whole →
+    Hold archives archived
+    → Hold (archives ++ (record { rows = copy; last_closed = archived.last_closed; lists = lists }) ∷ []) archived
 
 -- if the newest archive holds what goes from the store, the archives hold it once it is closed
 abbrev pub ClosingsAreHeld : Type 0
 ClosingsAreHeld =
     (content : SetupContent) (es : List Event) (archives : List Archive) (archived : Archived)
-    (own whole copy : Rows) (last_closed : ℕ → ℕ) (stays : ℕ → Bool) → ArePartsAfter content es archived own whole →
-    MayClose content es archived own last_closed stays → HoldsWhatGoes archived own copy last_closed stays →
-    Hold (archives ++ (record { rows = copy; last_closed = archived.last_closed }) ∷ []) archived
-    → Hold (archives ++ (record { rows = copy; last_closed = last_closed }) ∷ [])
+    (own whole copy : Rows) (lists : List (List ℕ) → Option (List ListingContent)) (last_closed : ℕ → ℕ)
+    (stays : ℕ → Bool) → ArePartsAfter content es archived own whole → MayClose content es archived own last_closed stays →
+    HoldsWhatGoes archived own copy last_closed stays →
+    Hold (archives ++ (record { rows = copy; last_closed = archived.last_closed; lists = lists }) ∷ []) archived
+    → Hold (archives ++ (record { rows = copy; last_closed = last_closed; lists = lists }) ∷ [])
     (archived_with archived own last_closed stays)
 
 -- ---- what a store is checked for when it is opened
