@@ -30,11 +30,11 @@ any_order content es rows lines after same = record {
 -- ---- lines by lists
 
 module _ {X : Type 0} (p q : X → Bool) where
-  abbrev both : X → Bool
+  abbrev pub both : X → Bool
   both x = p x && q x
 
   -- what passes both tests, one after the other
-  twice : (xs : List X) → filter q (filter p xs) ≡ filter both xs
+  pub twice : (xs : List X) → filter q (filter p xs) ≡ filter both xs
   twice [] = refl
   twice (x ∷ xs) = by (p x) (twice xs)
     where
@@ -42,7 +42,7 @@ module _ {X : Type 0} (p q : X → Bool) where
       by true rest = ap (λ l. cond (q x) (x ∷ l) l) rest
       by false rest = rest
 
-same_tests : {X : Type 0} (p q : X → Bool) → ((x : X) → p x ≡ q x) → (xs : List X) → filter p xs ≡ filter q xs
+pub same_tests : {X : Type 0} (p q : X → Bool) → ((x : X) → p x ≡ q x) → (xs : List X) → filter p xs ≡ filter q xs
 same_tests p q same [] = refl
 same_tests p q same (x ∷ xs) = λ i. cond (same x i) (x ∷ same_tests p q same xs i) (same_tests p q same xs i)
 
@@ -188,6 +188,7 @@ brought_back content es archived own whole away list back are gone same =
         };
         stay = are.stay;
       };
+      but_lines = refl;
       is_own = λ i. record own { lines = own_then away list gone own.lines back same i };
       same = permuted;
     }

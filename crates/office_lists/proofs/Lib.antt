@@ -4,6 +4,12 @@ pub mod Reading
 pub mod Takings
 pub mod Writings
 pub mod NamingLemmas
+pub mod AlikeLemmas
 pub mod BringingLemmas
 pub mod PartLemmas
+pub mod Commuting
+pub mod OfficeLemmas
 pub mod DoneLemmas
+pub mod Untouched
+pub mod AwayLemmas
+pub mod KeepingLemmas

@@ -55,7 +55,7 @@ module _ (away : ListName → Bool) where
 
   -- ---- the open lines of a list
 
-  own_entries : (lines : Lines) → finite_map.entries (own_lines away lines) ≡ where_key order is_own (finite_map.entries lines)
+  pub own_entries : (lines : Lines) → finite_map.entries (own_lines away lines) ≡ where_key order is_own (finite_map.entries lines)
   own_entries lines = same_entries order keys_total keys_apart _ _
       (finite_map.entries_sorted (own_lines away lines))
       (is_sorted-where_key order is_own (finite_map.entries lines) (finite_map.entries_sorted lines))

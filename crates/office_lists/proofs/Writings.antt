@@ -98,18 +98,18 @@ terminals away rows state are =
 -- ---- what changes add
 
 module _ (away : ListName → Bool) where
-  -- a line that is added is of an own list
-  abbrev IsHere : ChangeContent → Type 0
+  -- a line that is added, done or taken off is of an own list
+  abbrev pub IsHere : ChangeContent → Type 0
   IsHere (visit_opened visit) = Unit {0}
   IsHere (visit_closed number departure) = Unit {0}
   IsHere (placed_at container visit slot) = Unit {0}
   IsHere (moved_to container slot) = Unit {0}
   IsHere (removed_from container) = Unit {0}
   IsHere (listed_on call side container port) = away (list_name call side) ≡ false
-  IsHere (line_done call side container) = Unit {0}
-  IsHere (unlisted call side container) = Unit {0}
+  IsHere (line_done call side container) = away (list_name call side) ≡ false
+  IsHere (unlisted call side container) = away (list_name call side) ≡ false
 
-  abbrev AllHere : List ChangeContent → Type 0
+  abbrev pub AllHere : List ChangeContent → Type 0
   AllHere changes = AllByRecursion IsHere changes
 
   all_joined : (xs ys : List ChangeContent) → AllHere xs → AllHere ys → AllHere (xs ++ ys)
@@ -139,19 +139,19 @@ module _ (away : ListName → Bool) where
   listed_here state call side container port None here = (here, tt)
   listed_here state call side container port (Some line) here = tt
 
-  then_here : (call : CallContent) (side : Side) (container : BoxNumber) (line : LineContent) (after : StepResult) (o : Outcome) → AllHere after.changes → AllHere (then_line_done_at call side container line after o).changes
-  then_here call side container line after (Refused reason) all = all
-  then_here call side container line after (Done slot) all = all_joined after.changes _ all (tt, tt)
-  then_here call side container line after Gone all = all_joined after.changes _ all (tt, tt)
-  then_here call side container line after Listed all = all_joined after.changes _ all (tt, tt)
+  then_here : (call : CallContent) (side : Side) (container : BoxNumber) (line : LineContent) (after : StepResult) (o : Outcome) → away (list_name call side) ≡ false → AllHere after.changes → AllHere (then_line_done_at call side container line after o).changes
+  then_here call side container line after (Refused reason) here all = all
+  then_here call side container line after (Done slot) here all = all_joined after.changes _ all (here, tt)
+  then_here call side container line after Gone here all = all_joined after.changes _ all (here, tt)
+  then_here call side container line after Listed here all = all_joined after.changes _ all (here, tt)
 
-  state_here : (state : TerminalState) (call : CallContent) (side : Side) (container : BoxNumber) (line : LineContent) (after : StepResult) (s : LineState) → AllHere after.changes → AllHere (by_state state call side container line after s).changes
-  state_here state call side container line after LineIsDone all = tt
-  state_here state call side container line after Pending all = then_here call side container line after after.outcome all
+  state_here : (state : TerminalState) (call : CallContent) (side : Side) (container : BoxNumber) (line : LineContent) (after : StepResult) (s : LineState) → away (list_name call side) ≡ false → AllHere after.changes → AllHere (by_state state call side container line after s).changes
+  state_here state call side container line after LineIsDone here all = tt
+  state_here state call side container line after Pending here all = then_here call side container line after after.outcome here all
 
-  by_line_here : (state : TerminalState) (call : CallContent) (side : Side) (container : BoxNumber) (o : Option LineContent) (after : StepResult) → AllHere after.changes → AllHere (by_line state call side container o after).changes
-  by_line_here state call side container None after all = tt
-  by_line_here state call side container (Some line) after all = state_here state call side container line after line.state all
+  by_line_here : (state : TerminalState) (call : CallContent) (side : Side) (container : BoxNumber) (o : Option LineContent) (after : StepResult) → away (list_name call side) ≡ false → AllHere after.changes → AllHere (by_line state call side container o after).changes
+  by_line_here state call side container None after here all = tt
+  by_line_here state call side container (Some line) after here all = state_here state call side container line after line.state here all
 
   order_here : (version : Version) (state : TerminalState) (source : Source) (o : OrderContent) → AreHere away (lists_in_order o) → AllHere (step_by version state source o).changes
   order_here version state source (gate_in entry) here = either_here (is_in state entry.number) _ _ tt (entry_here version state Gate source entry)
@@ -160,9 +160,9 @@ module _ (away : ListName → Bool) where
   order_here version state source (list_discharge call container) here = listed_here state call Discharge container [] (line_of state call Discharge container) here.0
   order_here version state source (list_load call container port) here = listed_here state call Load container port (line_of state call Load container) here.0
   order_here version state source (discharge call entry) here =
-      either_here (is_in state entry.number) _ _ tt (by_line_here state call Discharge entry.number (line_of state call Discharge entry.number) (after_entry version state Ship source entry) (entry_here version state Ship source entry))
+      either_here (is_in state entry.number) _ _ tt (by_line_here state call Discharge entry.number (line_of state call Discharge entry.number) (after_entry version state Ship source entry) here.0 (entry_here version state Ship source entry))
   order_here version state source (load call container moment) here =
-      either_here (is_in state container) _ _ (by_line_here state call Load container (line_of state call Load container) (after_departure state Ship source container moment) (departed_here state container (departure_by Ship source moment) (yard_without state.yard container))) tt
+      either_here (is_in state container) _ _ (by_line_here state call Load container (line_of state call Load container) (after_departure state Ship source container moment) here.0 (departed_here state container (departure_by Ship source moment) (yard_without state.yard container))) tt
 
   -- ---- of messages
 
@@ -176,19 +176,19 @@ module _ (away : ListName → Bool) where
       let parts = here_parts away (lists_in_line line) (flat_map lists_in_line lines) here in
       all_joined (line_changes_by version state source line) _ (line_here version state source line parts.0) (lines_here version (line_taken_by version state source line).0 source lines parts.1)
 
-  unlisted_here : (call : CallContent) (side : Side) (containers : List BoxNumber) → AllHere (map (unlisted call side) containers)
-  unlisted_here call side [] = tt
-  unlisted_here call side (b ∷ containers) = (tt, unlisted_here call side containers)
+  unlisted_here : (call : CallContent) (side : Side) (containers : List BoxNumber) → away (list_name call side) ≡ false → AllHere (map (unlisted call side) containers)
+  unlisted_here call side [] here = tt
+  unlisted_here call side (b ∷ containers) here = (here, unlisted_here call side containers here)
 
-  clearing_here : (state : TerminalState) (list : Option (CallContent × Side)) → AllHere (clearing_of state list).changes
-  clearing_here state None = tt
-  clearing_here state (Some list) = unlisted_here list.0 list.1 _
+  clearing_here : (state : TerminalState) (list : Option (CallContent × Side)) → AreHere away (list_if_any list) → AllHere (clearing_of state list).changes
+  clearing_here state None here = tt
+  clearing_here state (Some list) here = unlisted_here list.0 list.1 _ here.0
 
   verdict_here : (version : Version) (state : TerminalState) (source : Source) (read : Result MessageContent MessageFault) → AreHere away (lists_ordered read) → AllHere (verdict_changes_by version state source read)
   verdict_here version state source (Err fault) here = tt
   verdict_here version state source (Ok content) here =
       let parts = here_parts away (list_if_any (list_replaced content)) (flat_map lists_in_line content.lines) here in
-      all_joined (clearing_for state content).changes _ (clearing_here state (list_replaced content)) (lines_here version (clearing_for state content).state source content.lines parts.1)
+      all_joined (clearing_for state content).changes _ (clearing_here state (list_replaced content) parts.0) (lines_here version (clearing_for state content).state source content.lines parts.1)
 
   messages_here : (version : Version) (state : TerminalState) (codes : Codes) (source : Source) (opened : CivilMoment) (messages : List Message) → AreHere away (lists_in_messages version codes opened messages)
       → AllHere (messages_changes_by version state codes source opened messages)

@@ -32,6 +32,7 @@ pub record BringsBack (content : SetupContent) (es : List Event) (archived : Arc
   pub whole : Rows
   pub parts : ArePartsAfter content es archived most whole
   pub is_own : rows_without_lists (all_but list away) most ≡ with_lines back (rows_without_lists away own)
+  pub but_lines : most ≡ record own { lines = most.lines }
   pub same : IsPermutation own.lines most.lines
 
 -- ---- the laws

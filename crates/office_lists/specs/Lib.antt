@@ -5,3 +5,7 @@ pub mod Laws
 pub mod Parts
 pub mod Bringing
 pub mod Done
+pub mod Away
+pub mod Alike
+pub mod Staying
+pub mod Keeping

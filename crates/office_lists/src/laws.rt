@@ -4,7 +4,7 @@
 ghost use Rattle.office_lists.specs.Laws.{OrdersSpareLists, TerminalsWithoutListsAreSound, InterchangesSpareLists, RunsSpareLists};
 ghost use Rattle.office_lists.specs.Laws.{RowsWithoutListsGiveTerminal, RunsAreWrittenWithout};
 ghost use Rattle.office_lists.specs.Done.{DoneLinesStay, DoneLinesStayInRuns};
-ghost use Rattle.office_lists.specs.Parts.{NextAddsWithoutLists};
+ghost use Rattle.office_lists.specs.Parts.{NextAddsWithoutLists, OwnRowsWithoutListsAreOwnOffice};
 ghost use Rattle.office_lists.specs.Bringing.{LinesStandInAnyOrder, ListsAreBroughtBack, MoreListsArePutAway};
 
 /// An order that names no list that was put away does the same without them: the same outcome, the same changes.
@@ -41,6 +41,12 @@ pub fn runs_are_written_without()
 /// whole, and is written to the store's own rows.
 pub fn next_adds_without_lists()
     ensures { NextAddsWithoutLists }
+{}
+
+/// What the store's tables show, whichever closed interchanges still stand there, is what every store is checked for:
+/// the set-up with the accounts so far, and the store's own terminal without the lists that were put away.
+pub fn own_rows_without_lists_are_own_office()
+    ensures { OwnRowsWithoutListsAreOwnOffice }
 {}
 
 /// To put more lists away is to take their lines out of those that stand in the store.

@@ -2,6 +2,7 @@
 //! that name none of the others make of it.
 #![tactic(auto)]
 
+pub mod away;
 pub mod laws;
 mod naming;
 

@@ -1,0 +1,226 @@
+-- What is away stays away.
+use Rattle.std.proofs.Common.{◌≡◌, ℕ, ◌+◌, ◌<◌, ◌≤◌, inl, inr, zero, suc, List, [], ◌∷◌, ◌++◌, length, Bool, true, false, cond, Option, None, Some, refl, sym, ap, subst, ◌∙◌, arith}
+use Rattle.std.specs.Prelude.{not, ◌&&◌, ◌==◌, slice_get, IsPermutation}
+use Rattle.std.specs.FinMap as finite_map
+use Rattle.std.proofs.lemmas.Bool.{and_parts, eq-eqb, cond-true, cases_eq}
+use Rattle.std.proofs.lemmas.List.{length-map}
+use Rattle.std.proofs.lemmas.List.Elements.{All-from_recursion, recursion_from_All}
+use Rattle.std.proofs.lemmas.List.Sorted.{IsPermutation-sym, IsPermutation-trans, All-permutation}
+use Rattle.sqlite_trees.proofs.ListLemmas.{IsPermutation-filter}
+use Rattle.edi_messages.specs.declared.codes.PartnerKind.{PartnerKind}
+use Rattle.edi_segments.specs.Interchange.{interchange_of}
+use Rattle.partner_core.specs.Deliveries.{run}
+use Rattle.partner_core.specs.Numbered.{with_number}
+use Rattle.terminal_core.specs.declared.lines.LineState.TheVariants.{Done}
+use Rattle.terminal_core.specs.State.{line_key}
+use Rattle.terminal_core.specs.Versions.{newest}
+use Rattle.office_admission.specs.Accounts.{content_after}
+use Rattle.office_admission.specs.Deliveries.{deliveries_of}
+use Rattle.office_replies.specs.Events.{Event, added, delivered}
+use Rattle.office_rows.specs.Effects.{with_waiting}
+use Rattle.office_rows.specs.Rows.{ListingContent, Rows}
+use Rattle.office_setup.specs.Setups.{SetupContent}
+use Rattle.office_taking.specs.Taking.{MachineState}
+use Rattle.office_taking.proofs.Reaching.{runs_alone}
+use Rattle.office_history.specs.After.{machine_after, machine_with, opening_of, taking_in}
+use Rattle.office_history.specs.Cascade.{text_in, TakenContent, texts_with, with_run}
+use Rattle.office_history.proofs.Afters.{pair_is, text_with}
+use Rattle.office_history.proofs.Growing.{account_adds_row}
+use Rattle.office_history.proofs.Lawful.{early_adds, now_same}
+use Rattle.office_history.proofs.Places.{alone_in}
+use Rattle.office_history.proofs.Telling.{text_within}
+use Rattle.office_parts.specs.Parts.{Archived, ArePartsAfter}
+use Rattle.office_parts.proofs.Events.{free_in_whole}
+use Rattle.office_lists.specs.Away.{ArePutAway, HasDoneLine, lists_after}
+use Rattle.office_lists.specs.Bringing.{all_but, is_list, is_of, lines_of}
+use Rattle.office_lists.specs.Done.{IsDoneLine}
+use Rattle.office_lists.specs.Laws.{NameOwnLists}
+use Rattle.office_lists.specs.Naming.{AreHere, interchange_lists, lists_named_by}
+use Rattle.office_lists.specs.OwnLists.{ListName, list_name}
+use Rattle.office_lists.specs.Parts.{AddsWithoutLists}
+use Rattle.office_lists.specs.Staying.{NextNamesNoneAway, AwayStaysWithoutRow, AwayStaysWithEarly, AwayStaysWithNext, AwayStaysWithAccount, OthersStayAway, NoLineIsAway, OtherLinesAreThere, ListsThatCameBackHaveLines}
+use Rattle.office_lists.proofs.DoneLemmas.{run_stays_done}
+use Rattle.office_lists.proofs.Lines.{own_get, own_there}
+use Rattle.office_lists.proofs.Untouched.{run_apart, texts_kept}
+
+-- ---- what a text names
+
+-- by the accounts so far
+abbrev named_in : SetupContent → ℕ → List ℕ → List ListName
+named_in now partner text = interchange_lists newest now.codes (opening_of now).kinds partner text
+
+machine_is : (content : SetupContent) (es : List Event) → machine_after content es ≡ machine_with (content_after content es) (machine_after content es).terminal
+machine_is content es = runs_alone (taking_in newest content es) (opening_of (content_after content es)) (deliveries_of content es) (alone_in newest content es)
+
+lists_are : (content : SetupContent) (es : List Event) (partner : ℕ) (text : List ℕ) → lists_after content es partner text ≡ named_in (content_after content es) partner text
+lists_are content es partner text = ap (λ (m : MachineState). interchange_lists newest m.codes m.kinds partner text) (machine_is content es)
+
+-- a delivery changes nothing of it
+lists_stay : (content : SetupContent) (es : List Event) (sent : List ℕ) (partner : ℕ) (text : List ℕ) → lists_after content (es ++ delivered sent ∷ []) partner text ≡ lists_after content es partner text
+lists_stay content es sent partner text =
+    lists_are content (es ++ delivered sent ∷ []) partner text
+    ∙ ap (λ (now : SetupContent). named_in now partner text) (now_same content es sent)
+    ∙ sym (lists_are content es partner text)
+
+-- ---- deliveries
+
+pub next_names : NextNamesNoneAway
+next_names content es archives away own sent p n are is here k text above there = by (n == k) there
+  where
+    by : (tie : Bool) → cond tie (Some (interchange_of sent)) (text_in own p k) ≡ Some text → AreHere away (lists_after content es p text)
+    by true has = let same : interchange_of sent ≡ text = cc in subst (λ t. AreHere away (lists_after content es p t)) same here
+    by false has = are.waits p k text (omega (arith, is, above)) has
+
+pub without_row : AwayStaysWithoutRow
+without_row content es archives away own whole sent are adds = record {
+  kept = are.kept;
+  done = λ list kept had. subst (λ (m : MachineState). HasDoneLine list m.terminal.lines) (sym adds.machine) (are.done list kept had);
+  waits = λ p n text far has. subst (AreHere away) (sym (lists_stay content es sent p text)) (are.waits p n text (subst (λ r. r < n) (adds.runs p) far) has);
+}
+
+-- of texts that wait, with one more
+waiting_too : (P : ℕ → List ℕ → Type 0) (own : Rows) (p n : ℕ) (new : List ℕ) → text_in own p n ≡ None → P p new → (q m : ℕ) (text : List ℕ) → (text_in own q m ≡ Some text → P q text) → text_in (with_waiting p n new own) q m ≡ Some text → P q text
+waiting_too P own p n new free is q m text before has = by ((p == q) && (n == m)) refl (sym (text_with own p n new free q m) ∙ has)
+  where
+    by : (tie : Bool) → ((p == q) && (n == m)) ≡ tie → cond tie (Some new) (text_in own q m) ≡ Some text → P q text
+    by true e there =
+        let same : new ≡ text = cc in
+        let partner : q ≡ p = (pair_is p n q m e).0 in
+        subst (λ r. P r text) (sym partner) (subst (P p) same is)
+    by false e there = before there
+
+pub with_early : AwayStaysWithEarly
+with_early content es archives away archived own whole sent p n are parts for free later here =
+    let far : run (deliveries_of content es) p < n = omega (arith, later) in
+    let adds = early_adds content es whole sent p n parts.after for (free_in_whole content es archived own whole p n parts far ∙ free) later in
+    record {
+      kept = are.kept;
+      done = λ list kept had. subst (λ (m : MachineState). HasDoneLine list m.terminal.lines) (sym adds.machine) (are.done list kept had);
+      waits = λ q m text beyond has. subst (AreHere away) (sym (lists_stay content es sent q text))
+          (waiting_too (λ r t. AreHere away (lists_after content es r t)) own p n (interchange_of sent) free here q m text
+          (λ had. are.waits q m text (subst (λ r. r < m) (adds.runs q) beyond) had) has);
+    }
+
+-- a run
+module _ (content : SetupContent) (es : List Event) (away : ListName → Bool) (archived : Archived) (own whole : Rows) (sent : List ℕ) (p n : ℕ) (taken : List TakenContent) (there : MachineState) (parts : ArePartsAfter content es archived own whole)
+    (is : n ≡ run (deliveries_of content es) p + 1) (named : NameOwnLists away (machine_after content es) p (texts_with own p n (interchange_of sent)) n) (adds : AddsWithoutLists content es archived own whole away sent p n taken there) where
+  abbrev text : List ℕ
+  text = interchange_of sent
+
+  abbrev texts : ℕ → Option (List ℕ)
+  texts = texts_with whole p n text
+
+  abbrev kept : Rows
+  kept = with_waiting p n text own
+
+  of_whole : NameOwnLists away (machine_after content es) p texts n
+  of_whole k t above has = named k t above (ap (cond (n == k) (Some text)) (sym (free_in_whole content es archived own whole p k parts (omega (arith, is, above)))) ∙ has)
+
+  lines_stay : (list : ListName) → away list ≡ true → lines_of list (with_run p n text taken own) ≡ lines_of list own
+  lines_stay list gone = run_apart away list gone p texts n (machine_after content es) taken adds.machine kept of_whole adds.on_whole
+
+  stays_done : (list : ListName) → HasDoneLine list (machine_after content es).terminal.lines → HasDoneLine list (machine_after content (es ++ delivered sent ∷ [])).terminal.lines
+  stays_done list was = record {
+    call = was.call;
+    side = was.side;
+    container = was.container;
+    is_its = was.is_its;
+    is_done = subst (λ (m : MachineState). IsDoneLine m.terminal.lines (line_key was.call was.side was.container)) adds.adds.machine_is
+        (run_stays_done p texts n (machine_after content es) taken adds.machine (line_key was.call was.side was.container) adds.on_whole was.is_done);
+  }
+
+  itself : AreHere away (lists_after content es p text)
+  itself = named n text (omega arith) (cond-true (n == n) (Some text) (text_in own p n) (eq-eqb n n refl))
+
+  -- runs go up
+  before : (q m : ℕ) → run (deliveries_of content (es ++ delivered sent ∷ [])) q < m → run (deliveries_of content es) q < m
+  before q m beyond = elim (cases_eq q p) [
+    | inl e ↦ subst (λ r. run (deliveries_of content es) r < m) (sym e) (omega (arith, adds.adds.run_is, subst (λ r. run (deliveries_of content (es ++ delivered sent ∷ [])) r < m) e beyond))
+    | inr apart ↦ subst (λ r. r < m) (adds.adds.other_runs q apart) beyond
+  ]
+
+pub with_next : AwayStaysWithNext
+with_next content es archives away archived own whole sent p n taken there are parts for free is named adds = record {
+  kept = λ list gone. subst (ArePutAway archives list) (sym (lines_stay content es away archived own whole sent p n taken there parts is named adds list gone)) (are.kept list gone);
+  done = λ list kept had. stays_done content es away archived own whole sent p n taken there parts is named adds list (are.done list kept had);
+  waits = λ q m t beyond has.
+      let still : text_in (with_waiting p n (interchange_of sent) own) q m ≡ Some t = sym (texts_kept p taken (with_waiting p n (interchange_of sent) own) q m) ∙ has in
+      subst (AreHere away) (sym (lists_stay content es sent q t))
+      (waiting_too (λ r t. AreHere away (lists_after content es r t)) own p n (interchange_of sent) free (itself content es away archived own whole sent p n taken there parts is named adds) q m t
+      (λ had. are.waits q m t (before content es away archived own whole sent p n taken there parts is named adds q m beyond) had) still);
+}
+
+-- ---- an account more
+
+at_front : {A : Type 0} (xs ys : List A) (i : ℕ) → i < length xs → slice_get (xs ++ ys) i ≡ slice_get xs i
+at_front [] ys i low = absurd (omega arith)
+at_front (x ∷ xs) ys zero low = refl
+at_front (x ∷ xs) ys (suc i) low = at_front xs ys i (omega arith)
+
+kind_still : (kinds : List PartnerKind) (kind : PartnerKind) (partner : ℕ) → 1 ≤ partner → partner ≤ length kinds → with_number (kinds ++ kind ∷ []) partner ≡ with_number kinds partner
+kind_still kinds kind zero low high = absurd (omega arith)
+kind_still kinds kind (suc i) low high = at_front kinds (kind ∷ []) i (omega arith)
+
+as_many : (content : SetupContent) (es : List Event) → length (machine_after content es).kinds ≡ length (content_after content es).partners
+as_many content es = ap (λ (m : MachineState). length m.kinds) (machine_is content es) ∙ length-map (content_after content es).partners _
+
+pub with_account : AwayStaysWithAccount
+with_account content es archives away archived own whole code kind named id are parts is answer =
+    let adds = account_adds_row content es whole code kind named id parts.after is answer in
+    let old : MachineState = machine_after content es in
+    record {
+      kept = are.kept;
+      done = λ list kept had. subst (λ (m : MachineState). HasDoneLine list m.terminal.lines) (sym adds.machine) (are.done list kept had);
+      waits = λ q m text beyond has.
+          let far : run (deliveries_of content es) q < m = subst (λ ds. run ds q < m) adds.deliveries beyond in
+          let within = text_within content es whole q m text parts.after (free_in_whole content es archived own whole q m parts far ∙ has) in
+          let same : lists_after content (es ++ added code kind ∷ []) q text ≡ lists_after content es q text =
+          ap (λ (m : MachineState). interchange_lists newest m.codes m.kinds q text) adds.machine
+          ∙ ap (lists_named_by newest old.codes text) (kind_still old.kinds named q within.0 (omega (arith, within.1, as_many content es))) in
+          subst (AreHere away) (sym same) (are.waits q m text far has);
+    }
+
+-- ---- bringing back
+
+fewer_away : (away : ListName → Bool) (list : ListName) (lists : List ListName) → AreHere away lists → AreHere (all_but list away) lists
+fewer_away away list [] here = tt
+fewer_away away list (other ∷ lists) here = (ap (λ b. b && not (is_list list other)) here.0, fewer_away away list lists here.1)
+
+abbrev AreDone : ListingContent → Type 0
+AreDone line = line.state ≡ Done
+
+pub others_stay : OthersStayAway
+others_stay content es archives archived away list own back brings are = record {
+  kept = λ other gone.
+      let was = are.kept other (and_parts (away other) (not (is_list list other)) gone).0 in
+      let same : IsPermutation (lines_of other own) (lines_of other brings.most) = IsPermutation-filter (is_of other) own.lines brings.most.lines brings.same in
+      record {
+        kept = was.kept;
+        are = was.are;
+        same = IsPermutation-trans _ _ _ (IsPermutation-sym _ _ same) was.same;
+        done = recursion_from_All AreDone _ (All-permutation AreDone _ _ same (All-from_recursion AreDone _ was.done));
+      };
+  done = are.done;
+  waits = λ q m text far has. fewer_away away list _ (are.waits q m text far (sym (ap (λ (r : Rows). text_in r q m) brings.but_lines) ∙ has));
+}
+
+-- ---- the store's terminal
+
+pub none_away : NoLineIsAway
+none_away away state call side container gone =
+    own_get away state.lines (line_key call side container)
+    ∙ ap (λ b. cond (not b) (finite_map.get state.lines (line_key call side container)) None) gone
+
+pub others_there : OtherLinesAreThere
+others_there away state call side container here = own_there away state.lines (line_key call side container) here
+
+pub came_back : ListsThatCameBackHaveLines
+came_back content es archives away stays own call side kept are had here =
+    let was = are.done (list_name call side) kept had in
+    let lines = (machine_after content es).terminal.lines in
+    let key : line_key was.call was.side was.container ≡ line_key call side was.container = ap (λ (l : ListName). l ++ was.container ∷ []) was.is_its in
+    record {
+      container = was.container;
+      line = was.is_done.line;
+      has = own_there away lines (line_key call side was.container) here ∙ ap (finite_map.get lines) (sym key) ∙ was.is_done.there;
+    }
