@@ -12,7 +12,7 @@ use Rattle.office_commands.specs.Looking.{LooksOver}
 
 -- it didn't look at all
 pub not_looked : {S : Type 0} (g : Ghosts S) (desk : Desk S g) → OnlyLooks g desk desk
-not_looked g desk = record { same = λ sound content es stands. stands; holds = λ sound rows terminal holds. holds; committed = λ sound. refl; closed = refl; crash = λ sound clean schema db left. left; stays = λ sound. sound }
+not_looked g desk = record { same = λ sound content es stands. stands; holds = λ sound rows terminal holds. holds; committed = λ sound. refl; setup = refl; closed = refl; crash = λ sound clean schema db left. left; stays = λ sound. sound; clean = λ clean. clean }
 
 pub looked_over : {D : Type 0} {g : DiskGhosts D} (image : Image) (opened desk : Desk (FileStore D g) over_files) → OpensOn image opened → OnlyLooks over_files opened desk → LooksOver image desk
 looked_over image opened desk opens looked = record {

@@ -26,9 +26,11 @@ looks_nowhere g desk = record {
   same = λ sound content es stands. stands;
   holds = λ sound rows terminal holds. holds;
   committed = λ sound. refl;
+  setup = refl;
   closed = refl;
   crash = λ sound clean schema db left. left;
   stays = λ sound. sound;
+  clean = λ clean. clean;
 }
 
 -- what was handed on is what the call answered
@@ -48,14 +50,14 @@ pub looks_noted : {S T : Type 0} (g : Ghosts S) (bytes : T → List ℕ) (old mi
     → OnlyLooks g old mid → (HasCleanDisk (state g mid.conn) → OnOk met (IsOpenAt look (state g mid.conn))) → mid.last_fault ≡ old.last_fault → Looks g old look (result_map_both (option_map bytes) (λ refusal. refusal) given) (record mid { last_fault = last; idle = idle; given = is_given })
 looks_noted g bytes old mid idle is_given look (Ok found) (Ok given) last noted told why looks opens same = record {
   told = λ sound. subst (λ f. DeskShows g old look (option_map bytes f)) (sym noted.0) (told sound);
-  looks = record { same = looks.same; holds = looks.holds; committed = looks.committed; closed = looks.closed; crash = looks.crash; stays = looks.stays };
+  looks = record { same = looks.same; holds = looks.holds; committed = looks.committed; setup = looks.setup; closed = looks.closed; crash = looks.crash; stays = looks.stays; clean = looks.clean };
   noted = noted.1 ∙ same;
   cause = λ sound rows terminal holds. tt;
   is_open = opens;
 }
 looks_noted g bytes old mid idle is_given look (Err fault) (Err refusal) last noted told why looks opens same = record {
   told = λ sound. tt;
-  looks = record { same = looks.same; holds = looks.holds; committed = looks.committed; closed = looks.closed; crash = looks.crash; stays = looks.stays };
+  looks = record { same = looks.same; holds = looks.holds; committed = looks.committed; setup = looks.setup; closed = looks.closed; crash = looks.crash; stays = looks.stays; clean = looks.clean };
   noted = (fault, noted);
   cause = λ sound rows terminal holds. (fault, noted, why sound rows terminal holds);
   is_open = λ clean. tt;

@@ -45,6 +45,7 @@ pub record Leads {S : Type 0} (g : Ghosts S) (old : Desk S g) (sent : List ℕ) 
   pub setup : new.setup ≡ old.setup
   pub closed : new.closed ≡ old.closed
   pub stays : IsSound g new → IsSound g old
+  pub clean : HasCleanDisk (state g new.conn) → HasCleanDisk (state g old.conn)
   pub crash : IsSound g old → HasCleanDisk (state g new.conn) → (content : SetupContent) (es : List Event) →
       StandsFor g content es old → LeavesBehind content es sent response (state g new.conn)
   pub office_crash : IsSound g old → HasCleanDisk (state g new.conn) → (before : Office) →
@@ -78,17 +79,19 @@ pub record Enrols {S : Type 0} (g : Ghosts S) (old : Desk S g) (code kind : List
   pub noted : NotesStore answer old.last_fault new.last_fault
 
 -- The desk stands where it stood, and holds what it held: what is committed stays as it is; a crash leaves nothing that it
--- would not have left before; and what isn't sound stays so.
+-- would not have left before; the set-up stays; and what isn't sound stays so.
 pub record OnlyLooks {S : Type 0} (g : Ghosts S) (old new : Desk S g) : Type 0 where
   pub same : IsSound g new → (content : SetupContent) (es : List Event) → StandsFor g content es old →
       StandsFor g content es new
   pub holds : IsSound g new → (rows : Rows) (terminal : TerminalState) → DeskHolds g old rows terminal →
       DeskHolds g new rows terminal
   pub committed : IsSound g new → (state g new.conn).committed ≡ (state g old.conn).committed
+  pub setup : new.setup ≡ old.setup
   pub closed : new.closed ≡ old.closed
   pub crash : IsSound g old → HasCleanDisk (state g new.conn) → (state g old.conn).committed.schema ≡ office_schema →
       LeavesNoMore (state g old.conn) (state g new.conn)
   pub stays : IsSound g new → IsSound g old
+  pub clean : HasCleanDisk (state g new.conn) → HasCleanDisk (state g old.conn)
 
 -- A report, or a page of the kept texts, was asked for. What was found is what the rows tell; the desk only looked; why it
 -- can't be reported now: over an office's rows only by the store or the memory, or by what is asked for; and where it's told

@@ -16,11 +16,13 @@ use office_admission::{Admitted, Refusal, admit};
 use office_checks::Closed;
 use office_queries::{NotNow, Query, Report};
 use office_replies::{AccountAnswer, AccountFault, AddAccount, Deliver, Response, account_known};
+use office_returns::write_lines;
 use office_setup::Setup;
 use office_tables::TableFault;
 use office_taking::Tally;
 use sqlite::{Alter, Connection};
 use std::alloc::Global;
+use terminal_core::Listing;
 
 /// The terminal's desk over a store: its records are the rows of the tables, and the terminal and the partners' next
 /// numbers stand beside them in memory.
@@ -106,6 +108,13 @@ impl<S: Alter> Desk<S> {
         self.last_fault = Some(fault);
     }
 
+    /// The set-up of the office, with the accounts so far.
+    pub fn setup(&self) -> &Setup
+        ensures { result.now ≡ self.now.setup }
+    {
+        &self.setup
+    }
+
     /// The terminal's name.
     pub fn terminal(&self) -> &str
         ensures { result.now ≡ string_bytes self.now.setup.terminal }
@@ -130,15 +139,17 @@ impl<S: Alter> Desk<S> {
 }
 
 impl<S: Alter + Drop> Desk<S> {
-    ghost use Rattle.std.specs.Prelude.{ℕ, string_bytes};
+    ghost use Rattle.std.specs.Prelude.{ℕ, IsTrue, map, string_bytes};
     ghost use Rattle.edi_segments.specs.Interchange.{interchange_of};
     ghost use Rattle.office_admission.specs.Outcomes.{IsAdmitted, IsRefused};
+    ghost use Rattle.office_delivery.specs.Writing.{IsWholeInOrder, WritesWhole};
     ghost use Rattle.std.specs.Option.{option_map};
     ghost use Rattle.std.specs.Result.{result_map_both};
     ghost use Rattle.sqlite.specs.Held.{state};
-    ghost use Rattle.sqlite.specs.State.{HasCleanDisk};
+    ghost use Rattle.sqlite.specs.State.{HasCleanDisk, Survives};
     ghost use Rattle.office_checks.specs.Closed.{closed_content};
-    ghost use Rattle.office_rows.specs.Rows.{Rows};
+    ghost use Rattle.office_rows.specs.Opening.{with_lines};
+    ghost use Rattle.office_rows.specs.Rows.{Rows, listing_content};
     ghost use Rattle.office_rows.specs.Stored.{HasRows};
     ghost use Rattle.office_rows.specs.Tables.{office_schema};
     ghost use Rattle.office_history.specs.After.{AreAfter};
@@ -192,6 +203,8 @@ impl<S: Alter + Drop> Desk<S> {
         ensures looks { OnlyLooks S.Store self.old self.new }
         ensures is_open { HasCleanDisk (state S.Store self.new.conn) →
             OnOk result (IsOpenFor query.now (state S.Store self.new.conn)) }
+        ensures stays_open { HasCleanDisk (state S.Store self.new.conn) → IsTrue (state S.Store self.old.conn).is_open →
+            OnOk result (IsTrue (state S.Store self.new.conn).is_open) }
         ensures last_fault { self.new.last_fault ≡ self.old.last_fault }
     {
         let is_idle = self.conn.is_autocommit();
@@ -294,6 +307,29 @@ impl<S: Alter + Drop> Desk<S> {
             Ok(admitted) => self.take_admitted(alloc, admitted, text),
             Err(refusal) => self.refuse(alloc, refusal),
         }
+    }
+
+    /// Writes lines of lists back that were put away, each in its state, all or none of them; there is a line at least.
+    /// What stands beside the rows is given up, so the next call loads it anew.
+    ///
+    /// Store and Memory say nothing of the rows.
+    pub fn bring_back(&mut self, lines: &[Listing]) -> Result<(), TableFault>
+        requires some { 1 ≤ length lines.now }
+        ensures writes { WritesWhole (with_lines (map listing_content lines.now)) (state S.Store self.old.conn)
+            (state S.Store self.new.conn) result }
+        ensures crash_in_order { Survives (state S.Store self.old.conn) (state S.Store self.new.conn)
+            (IsWholeInOrder (with_lines (map listing_content lines.now)) (state S.Store self.old.conn)) }
+        ensures beside { self.new.beside ≡ None }
+        ensures setup { self.new.setup ≡ self.old.setup }
+        ensures closed { self.new.closed ≡ self.old.closed }
+        ensures last_fault { self.new.last_fault ≡ self.old.last_fault }
+        ensures last_taken { self.new.last_taken ≡ self.old.last_taken }
+        ensures fault { IfErr result IsOfStore }
+    {
+        let is_idle = self.conn.is_autocommit();
+        prove!(is_idle);
+        self.beside = None;
+        write_lines(&mut self.conn, lines)
     }
 
     /// Adds an account, and answers it. What is refused takes no memory and no store, so it is never answered NotNow.

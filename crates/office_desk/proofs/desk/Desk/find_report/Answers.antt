@@ -1,4 +1,5 @@
-use Rattle.std.proofs.Common.{◌≡◌, Some, not, option_map, string_bytes, refl, sym, ap, subst, ◌∙◌}
+use Rattle.std.proofs.Common.{◌≡◌, OnOk, Some, not, option_map, string_bytes, refl, sym, ap, subst, ◌∙◌}
+use Rattle.std.specs.Prelude.{IsTrue}
 use Rattle.sqlite.specs.Held.{state}
 use Rattle.sqlite.specs.State.{HasCleanDisk}
 use Rattle.std.proofs.lemmas.Result.{IfErr-weaker, err_from_is_err_and}
@@ -7,7 +8,7 @@ use Rattle.office_tables.proofs.FaultLemmas.{of_store_or, of_store_weaker}
 use Rattle.office_checks.specs.Closed.{closed_content}
 use Rattle.office_desk.proofs.Faults.{asked_unfit}
 use Rattle.office_desk.proofs.OfficeAccounts.{keeps_accounts}
-use Rattle.office_rows.proofs.StepLemmas.{if_ok}
+use Rattle.office_rows.proofs.StepLemmas.{if_ok, on_ok}
 use Rattle.office_history.specs.After.{machine_after}
 use Rattle.office_setup.specs.Setups.{setup_content}
 use Rattle.office_delivery.specs.Reading.{IsSame}
@@ -82,9 +83,11 @@ returns-clause-looks g c =
           office_with closed content rows kept old.committed end.committed c.args.self.now.beside (Some there) ((reads.reads.keeps sound.0).committed sound.1 ∙ same.committed)
           ((stays clean).office content rows kept now) holds;
       committed = λ sound. (reads.reads.keeps sound.0).committed sound.1 ∙ (c.in_ok-there.ensures.reads.same (was_clean reads sound.0)).committed;
+      setup = refl;
       closed = refl;
       crash = λ sound clean schema db left. leaves_less old mid (was_clean reads clean) first.reads.survives db (leaves_less mid end clean reads.reads.survives db left);
       stays = λ sound. (was_clean first (was_clean reads sound.0), was_open first (was_clean reads sound.0) (was_open reads sound.0 sound.1));
+      clean = λ clean. was_clean first (was_clean reads clean);
     }
 
 -- What stands beside the rows is given up where it could not be loaded.
@@ -102,9 +105,11 @@ returns-in_err-there-clause-looks g c =
       holds = λ sound rows kept holds.
           office_with closed content rows kept old.committed mid.committed c.args.self.now.beside after ((reads.reads.keeps sound.0).committed sound.1) (subst (IsOrNone rows kept) (sym c.take.ensures.after) tt) holds;
       committed = λ sound. (reads.reads.keeps sound.0).committed sound.1;
+      setup = refl;
       closed = refl;
       crash = λ sound clean schema db left. leaves_less old mid clean reads.reads.survives db left;
       stays = λ sound. (was_clean reads sound.0, was_open reads sound.0 sound.1);
+      clean = was_clean reads;
     }
 
 -- ---- why it can't be reported
@@ -137,3 +142,16 @@ returns-in_err-there-clause-fault g c = λ sound.
     rw (p.1, p.2) (λ rows kept holds.
     let now : HoldsOffice closed content rows kept old.now c.take.result = office_with closed content rows kept old.committed old.now c.args.self.now.beside c.take.result settled (subst (IsOrNone rows kept) (sym c.take.ensures.value) holds.beside) holds in
     of_store_or _ _ (c.in_err-there.ensures.fault sound.0 content rows kept now))
+
+-- ---- an open connection stays so
+
+pub returns-clause-stays_open : goal.returns-clause-stays_open
+returns-clause-stays_open g c = λ clean was.
+    let reads = c.tell-found.ensures.reads in
+    let there = c.in_ok-there.ensures.reads.reads.unchanged (was_clean reads clean) was in
+    on_ok c.tell-found.result (λ is. is.0.is_open) (reads.reads.unchanged clean there.0.is_open)
+
+pub returns-in_err-there-clause-stays_open : goal.returns-in_err-there-clause-stays_open
+returns-in_err-there-clause-stays_open g c = λ clean was.
+    let p = err_from_is_err_and c.from_residual.result c.from_residual.ensures.1 in
+    subst (λ r. OnOk r (IsTrue (state g.S.Store c.beside_of.new.conn).is_open)) (sym p.1) tt

@@ -44,7 +44,9 @@ returns-clause-looks g c =
       holds = λ sound rows kept holds.
           office_with (closed_content c.args.self.now.closed) content rows kept old.committed new.committed there there ((reads.reads.keeps sound.0).committed sound.1) holds.beside holds;
       committed = λ sound. (reads.reads.keeps sound.0).committed sound.1;
+      setup = refl;
       closed = refl;
       crash = λ sound clean schema db left. leaves_less old new clean reads.reads.survives db left;
       stays = λ sound. (was_clean reads sound.0, was_open reads sound.0 sound.1);
+      clean = was_clean reads;
     }

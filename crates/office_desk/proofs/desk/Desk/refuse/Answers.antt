@@ -39,6 +39,7 @@ returns g c = record {
         setup = refl;
         closed = refl;
         stays = λ sound. (sound.0, sound.1);
+        clean = λ clean. clean;
         crash = λ sound clean content es stands.
             refusal_leaves g.S.Store content es sent text given desk c.args.refusal refl stands refused
             (held_leaves content es (setup_content desk.setup) (state g.S.Store desk.conn) desk.beside sound.1 (λ db left. g.met.S.Store.settled desk.conn.store db sound.1 left) stands);

@@ -63,6 +63,7 @@ returns-in-Ok g c = record {
         setup = refl;
         closed = refl;
         stays = λ sound. (ends.clean sound.0, ends.was_open sound.0 sound.1);
+        clean = ends.clean;
         crash = λ sound clean content es stands.
             let leaves : Leaves content es (state g.S.Store desk.conn) =
             held_leaves content es (setup_content desk.setup) (state g.S.Store desk.conn) desk.beside sound.1 (λ db left. g.met.S.Store.settled desk.conn.store db sound.1 left) stands in
@@ -123,6 +124,7 @@ returns-in-Err g c = record {
         setup = refl;
         closed = refl;
         stays = λ sound. (ends.clean sound.0, ends.was_open sound.0 sound.1);
+        clean = ends.clean;
         crash = λ sound clean content es stands.
             let leaves : Leaves content es (state g.S.Store desk.conn) =
             held_leaves content es (setup_content desk.setup) (state g.S.Store desk.conn) desk.beside sound.1 (λ db left. g.met.S.Store.settled desk.conn.store db sound.1 left) stands in
