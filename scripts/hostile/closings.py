@@ -53,7 +53,7 @@ def register_rows_of(register):
     """What its tables hold."""
     return {
         'archive': sorted(map(tuple, register.archives)), 'segment': sorted(map(tuple, register.segments)),
-        'closed_for': [(register.mark,)] if register.mark else []}
+        'closed_for': [(register.mark,)] if register.mark else [], 'settled': []}
 
 
 def are_within(least, got, most):

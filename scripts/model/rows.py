@@ -26,7 +26,9 @@ COLUMNS = {
     'block': 'letter bays lanes tiers',
 }
 # those of the register beside a store
-REGISTER_COLUMNS = {'archive': 'place file visits', 'segment': 'partner archive last', 'closed_for': 'file'}
+REGISTER_COLUMNS = {
+    'archive': 'place file visits', 'segment': 'partner archive last', 'closed_for': 'file',
+    'settled': 'vessel voyage side archive lines'}
 REGISTER = '-archives'
 # what stands after the path of a store in the names of its files
 ENDS = ('', '-wal', REGISTER, REGISTER + '-wal')
@@ -115,11 +117,11 @@ def rows_of(office):
 
 
 def register_rows(office):
-    """What the tables of the register beside it should hold."""
+    """What the tables of the register beside it should hold: no list was put away."""
     register = office.register
     return {
         'archive': sorted(map(tuple, register.archives)), 'segment': sorted(map(tuple, register.segments)),
-        'closed_for': [(register.mark,)] if register.mark else []}
+        'closed_for': [(register.mark,)] if register.mark else [], 'settled': []}
 
 
 # ---- what a store holds

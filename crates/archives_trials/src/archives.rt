@@ -89,7 +89,7 @@ fn register(rt: &impl Abort, alloc: Global) -> Result<Register, Fail> {
         last: 2,
     };
     assert!(rt; conn.is_autocommit());
-    close_with(&mut conn, &archive, &[segment])?;
+    close_with(&mut conn, &archive, &[segment], &[])?;
     Ok(read_register(alloc, &mut conn)?)
 }
 

@@ -4,7 +4,7 @@ use Rattle.std.specs.Prelude.{◌&&◌, filter}
 use Rattle.std.specs.List.{AllByRecursion}
 use Rattle.std.proofs.lemmas.Bool.{and_from, and_parts}
 use Rattle.office_register.specs.Changes.{unmarked}
-use Rattle.office_register.specs.Sound.{are_sound_archives, are_sound_segments, is_sound, is_sound_mark}
+use Rattle.office_register.specs.Sound.{are_sound_archives, are_sound_segments, are_sound_lists, is_sound, is_sound_mark}
 use Rattle.office_register.specs.declared.register.Segment.{Segment}
 use Rattle.office_closing.specs.declared.comparing.Numbers.{Numbers}
 use Rattle.office_closing.specs.Closes.{Held}
@@ -21,13 +21,16 @@ sound_unmarked : (held : Held) → is_sound held.copied ≡ true → is_sound (u
 sound_unmarked held sound =
     let archives = are_sound_archives held.copied.archives in
     let segments = are_sound_segments (length held.copied.archives) held.copied.segments in
-    let outer = and_parts archives (segments && is_sound_mark held.copied.closed_for) sound in
-    let inner = and_parts segments (is_sound_mark held.copied.closed_for) outer.1 in
-    and_from archives (segments && true) outer.0 (and_from segments true inner.0 refl)
+    let lists = are_sound_lists (length held.copied.archives) held.copied.lists in
+    let mark = is_sound_mark held.copied.closed_for in
+    let outer = and_parts archives (segments && (lists && mark)) sound in
+    let inner = and_parts segments (lists && mark) outer.1 in
+    let last = and_parts lists mark inner.1 in
+    and_from archives (segments && (lists && true)) outer.0 (and_from segments (lists && true) inner.0 (and_from lists true last.0 refl))
 
 pub closings_are_named : ClosingsAreNamed
-closings_are_named held names closing list one is sound are closed =
+closings_are_named held names closing list one is sound are closed none =
     let place : closing.archive.place ≡ length list + 1 = is.place ∙ ap (λ n. n + 1) (sym are.counted) in
     let placed = subst (AllByRecursion (λ (segment : Segment). segment.archive ≡ closing.archive.place)) (sym is.segments) (all_placed closing.archive.place (filter closes_some closing.numbers)) in
     names_one_more (unmarked held.copied) list closing.archive closing.segments one (sound_unmarked held sound) are
-    (subst (λ n. AllByRecursion (λ (segment : Segment). segment.archive ≡ n) closing.segments) place placed) closed
+    (subst (λ n. AllByRecursion (λ (segment : Segment). segment.archive ≡ n) closing.segments) place placed) closed none

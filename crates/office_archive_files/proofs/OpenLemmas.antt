@@ -20,6 +20,7 @@ use Rattle.office_commands.specs.Opening.{ShowsHeld}
 use Rattle.office_desk.specs.Desks.{IsSound}
 use Rattle.office_desk.specs.declared.desk.Desk.{Desk}
 use Rattle.office_parts.specs.Archives.{Archive}
+use Rattle.office_lists.specs.OwnLists.{rows_without_lists}
 use Rattle.office_archives.specs.Together.{IsBesideAfter}
 use Rattle.office_archives.proofs.Opening.{opened_beside}
 use Rattle.office_archive_files.specs.Opening.{IsOpenedOver, OpensFor, OpensOn}
@@ -40,7 +41,11 @@ opens_for g found desk opened sound list content es given schema beside =
         knows = stands.knows;
         rows = stands.rows;
         is_own = stands.is_own;
-        are = subst (StoresRows stands.rows) (sym (opened.settled sound db left)) (stores stands.rows (state g desk.conn).committed stands.holds.has);
+        away = stands.away;
+        lists = stands.lists;
+        are =
+            let left_there = rows_without_lists stands.away stands.rows in
+            subst (StoresRows left_there) (sym (opened.settled sound db left)) (stores left_there (state g desk.conn).committed stands.holds.has);
       };
     }
 

@@ -1,11 +1,13 @@
 ghost use Rattle.std.specs.Prelude.{◌≡◌};
 
 use crate::shelf::FileShelf;
+use edi_messages::Call;
 use office_archives::{Archives, ManyArchives, Shelf};
 use office_queries::Query;
 use office_tables::{Kept, TableFault};
 use sqlite::{Connection, FileFrom, FileStore, Start, Unknown};
 use std::alloc::Global;
+use terminal_core::{Listing, Side};
 
 /// A shelf of archives in files of which nothing is supposed.
 #[derive(Drop)]
@@ -86,6 +88,19 @@ impl<'a> Archives for FileArchives<'a> {
 
     fn place_of(&self, partner: u16, number: u32) -> Option<u16> {
         self.archives.place_of(partner, number)
+    }
+
+    fn has_lists(&self) -> bool {
+        self.archives.has_lists()
+    }
+
+    fn lines(
+        &self,
+        alloc: Global,
+        call: &Call,
+        side: Side,
+    ) -> Result<Option<Vec<Listing>>, TableFault> {
+        self.archives.lines(alloc, call, side)
     }
 
     fn count(&self) -> usize {

@@ -110,6 +110,7 @@ pub(crate) fn read_names(rt: &HostRuntime, store: &str) -> Result<Register, Open
         Ok(None) => Ok(Register {
             archives: Vec::new(rt.alloc()),
             segments: Vec::new(rt.alloc()),
+            lists: Vec::new(rt.alloc()),
             closed_for: None,
         }),
         Err(fault) => Err(OpenFault::Register(fault)),

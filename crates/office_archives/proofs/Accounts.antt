@@ -35,7 +35,10 @@ use Rattle.office_parts.specs.Archives.{Archive}
 use Rattle.office_parts.specs.OwnTerminal.{own_terminal}
 use Rattle.office_parts.specs.Parts.{ArePartsAfter}
 use Rattle.office_parts.proofs.Events.{account_more}
-use Rattle.office_parts.proofs.OwnOpening.{own_office}
+use Rattle.office_lists.specs.Away.{AreAway}
+use Rattle.office_lists.specs.OwnLists.{rows_without_lists, without_lists}
+use Rattle.office_lists.proofs.AwayLemmas.{with_account}
+use Rattle.office_lists.proofs.OfficeLemmas.{own_office_without}
 use Rattle.office_desk.specs.Accounts.{AddsOver, AnswersAccount, IsLengthened, IsSameOrNone, LeavesAddedOver, Says}
 use Rattle.office_desk.specs.Beside.{IsOrNone, nexts_after}
 use Rattle.office_desk.specs.Calls.{Enrols}
@@ -84,7 +87,10 @@ added_so (refused_for fault) code id body says = absurd says
 
 module _ {S : Type 0} (g : Ghosts S) (list : List Archive) (content : SetupContent) (es : List Event) (old : Desk S g) (stands : StandsBeside g list content es old) where
   abbrev terminal : TerminalState
-  terminal = own_terminal stands.archived.stays (machine_after content es).terminal
+  terminal = without_lists stands.away (own_terminal stands.archived.stays (machine_after content es).terminal)
+
+  abbrev left : Rows
+  left = rows_without_lists stands.away stands.rows
 
   -- with the same rows and set-up the desk stands where it stood
   pub still : (new : Desk S g) → new.setup ≡ old.setup → new.closed ≡ old.closed → (state g new.conn).committed ≡ (state g old.conn).committed → IsSameOrNone old.beside new.beside → StandsBeside g list content es new
@@ -99,19 +105,21 @@ module _ {S : Type 0} (g : Ghosts S) (list : List Archive) (content : SetupConte
     knows = subst (λ k. KnowsClosed (closed_content k) stands.archived) (sym closed) stands.knows;
     rows = stands.rows;
     is_own = stands.is_own;
+    away = stands.away;
+    lists = stands.lists;
     holds =
-        subst (λ k. HoldsOffice (closed_content new.closed) (setup_content k) stands.rows terminal (state g new.conn).committed new.beside) (sym setup)
-        (subst (λ k. HoldsOffice (closed_content k) (setup_content old.setup) stands.rows terminal (state g new.conn).committed new.beside) (sym closed)
-        (office_with (closed_content old.closed) (setup_content old.setup) stands.rows terminal (state g old.conn).committed (state g new.conn).committed old.beside new.beside committed (there beside) stands.holds));
+        subst (λ k. HoldsOffice (closed_content new.closed) (setup_content k) left terminal (state g new.conn).committed new.beside) (sym setup)
+        (subst (λ k. HoldsOffice (closed_content k) (setup_content old.setup) left terminal (state g new.conn).committed new.beside) (sym closed)
+        (office_with (closed_content old.closed) (setup_content old.setup) left terminal (state g old.conn).committed (state g new.conn).committed old.beside new.beside committed (there beside) stands.holds));
   }
     where
-      there : IsSameOrNone old.beside new.beside → IsOrNone stands.rows terminal new.beside
-      there (inl same) = subst (IsOrNone stands.rows terminal) (sym same) stands.holds.beside
-      there (inr none) = subst (IsOrNone stands.rows terminal) (sym none) tt
+      there : IsSameOrNone old.beside new.beside → IsOrNone left terminal new.beside
+      there (inl same) = subst (IsOrNone left terminal) (sym same) stands.holds.beside
+      there (inr none) = subst (IsOrNone left terminal) (sym none) tt
 
   -- what a crash leaves of the rows as they were
-  pub kept : (db : Trees) → StoresRows stands.rows db → IsBesideAfter list (closed_content old.closed) content es db
-  kept db are = record { archived = stands.archived; own = stands.own; whole = stands.whole; parts = stands.parts; hold = stands.hold; knows = stands.knows; rows = stands.rows; is_own = stands.is_own; are = are }
+  pub kept : (db : Trees) → StoresRows left db → IsBesideAfter list (closed_content old.closed) content es db
+  kept db are = record { archived = stands.archived; own = stands.own; whole = stands.whole; parts = stands.parts; hold = stands.hold; knows = stands.knows; rows = stands.rows; is_own = stands.is_own; away = stands.away; lists = stands.lists; are = are }
 
   -- ---- one that is added
 
@@ -128,8 +136,11 @@ module _ {S : Type 0} (g : Ghosts S) (list : List Archive) (content : SetupConte
     abbrev rows' : Rows
     rows' = with_partner id code own stands.rows
 
+    abbrev left' : Rows
+    left' = rows_without_lists stands.away rows'
+
     abbrev terminal' : TerminalState
-    terminal' = own_terminal stands.archived.stays (machine_after content later).terminal
+    terminal' = without_lists stands.away (own_terminal stands.archived.stays (machine_after content later).terminal)
 
     parts' : ArePartsAfter content later stands.archived own' whole'
     parts' = account_more content es stands.archived stands.own stands.whole code kind own id stands.parts named is
@@ -137,25 +148,28 @@ module _ {S : Type 0} (g : Ghosts S) (list : List Archive) (content : SetupConte
     is_own' : IsOwnWithRest stands.archived own' rows'
     is_own' = record { beyond = ap (with_partner id code own) stands.is_own.beyond; rest = stands.is_own.rest }
 
+    lists' : AreAway list stands.away content later own'
+    lists' = with_account content es list stands.away stands.archived stands.own stands.whole code kind own id stands.lists stands.parts named is
+
     terminal_same : terminal ≡ terminal'
-    terminal_same = ap (λ (m : MachineState). own_terminal stands.archived.stays m.terminal) (sym (account_adds_row content es stands.whole code kind own id stands.parts.after named is).machine)
+    terminal_same = ap (λ (m : MachineState). without_lists stands.away (own_terminal stands.archived.stays m.terminal)) (sym (account_adds_row content es stands.whole code kind own id stands.parts.after named is).machine)
 
     -- what a crash leaves of the rows with it
-    pub kept_with : (db : Trees) → StoresRows rows' db → IsBesideAfter list (closed_content old.closed) content later db
-    kept_with db are = record { archived = stands.archived; own = own'; whole = whole'; parts = parts'; hold = stands.hold; knows = stands.knows; rows = rows'; is_own = is_own'; are = are }
+    pub kept_with : (db : Trees) → StoresRows left' db → IsBesideAfter list (closed_content old.closed) content later db
+    kept_with db are = record { archived = stands.archived; own = own'; whole = whole'; parts = parts'; hold = stands.hold; knows = stands.knows; rows = rows'; is_own = is_own'; away = stands.away; lists = lists'; are = are }
 
-    once : AreKeptOnce rows'.interchanges
-    once = office_once (closed_content old.closed) (setup_content old.setup) stands.rows terminal (state g old.conn).committed old.beside stands.holds
+    once : AreKeptOnce left'.interchanges
+    once = office_once (closed_content old.closed) (setup_content old.setup) left terminal (state g old.conn).committed old.beside stands.holds
 
     closed_same : (record { last_closed = stands.archived.last_closed; newest_closed = (closed_content old.closed).newest_closed }) ≡ closed_content old.closed
     closed_same i = record { last_closed = λ p. sym (stands.knows.numbers p) i; newest_closed = (closed_content old.closed).newest_closed }
 
-    loads : (db : Database) → HasRows rows' db → LoadsOwn (closed_content old.closed) db (content_after content later) terminal'
+    loads : (db : Database) → HasRows left' db → LoadsOwn (closed_content old.closed) db (content_after content later) terminal'
     loads db has =
         subst (λ c. LoadsOwn c db (content_after content later) terminal') closed_same
-        (own_office content later stands.archived own' whole' rows' db (closed_content old.closed).newest_closed stands.given parts' is_own'.beyond once (of_whole stands.archived own' whole' rows' parts'.parts is_own') stands.knows.visits has)
+        (own_office_without content later stands.archived own' whole' left' stands.away db (closed_content old.closed).newest_closed stands.given parts' (ap (rows_without_lists stands.away) is_own'.beyond) once (of_whole stands.archived own' whole' rows' parts'.parts is_own') stands.knows.visits has)
 
-    beside' : (before after : Option Beside) → IsLengthened before after → IsOrNone stands.rows terminal before → IsOrNone rows' terminal' after
+    beside' : (before after : Option Beside) → IsLengthened before after → IsOrNone left terminal before → IsOrNone left' terminal' after
     beside' None None longer there = tt
     beside' None (Some after) longer there = absurd longer
     beside' (Some before) None longer there = absurd longer
@@ -167,12 +181,12 @@ module _ {S : Type 0} (g : Ghosts S) (list : List Archive) (content : SetupConte
         let were : before.nexts.items ≡ nexts_after content es = nexts_loaded content es stands.whole before.nexts.items stands.parts.after of_all in
         record {
           terminal_is = longer.0 ∙ there.terminal_is ∙ terminal_same;
-          nexts = nexts_in_order rows' f (content_after content later).partners after.nexts.items
+          nexts = nexts_in_order left' f (content_after content later).partners after.nexts.items
               (ap (λ (r : Rows). r.partners) (ap (with_partner id code own) (ap (λ ps. record stands.rows { partners = ps }) same)) ∙ parts'.after.partners)
               (longer.1 ∙ ap (λ l. l ++ 1 ∷ []) were ∙ sym (nexts_grown content es code kind own id named is));
         }
 
-    pub stand_with : (new : Desk S g) → setup_content new.setup ≡ setup_with_account (setup_content old.setup) code own → new.closed ≡ old.closed → HasRows rows' (state g new.conn).committed → IsLengthened old.beside new.beside
+    pub stand_with : (new : Desk S g) → setup_content new.setup ≡ setup_with_account (setup_content old.setup) code own → new.closed ≡ old.closed → HasRows left' (state g new.conn).committed → IsLengthened old.beside new.beside
         → StandsBeside g list content later new
     stand_with new setup closed has longer =
         let now : content_after content later ≡ setup_content new.setup = grown content es code kind own id named is ∙ ap (λ c. setup_with_account c code own) stands.now_is ∙ sym setup in
@@ -187,6 +201,8 @@ module _ {S : Type 0} (g : Ghosts S) (list : List Archive) (content : SetupConte
           knows = subst (λ k. KnowsClosed (closed_content k) stands.archived) (sym closed) stands.knows;
           rows = rows';
           is_own = is_own';
+          away = stands.away;
+          lists = lists';
           holds = record {
             has = has;
             loads = subst (λ k. LoadsOwn (closed_content k) (state g new.conn).committed (setup_content new.setup) terminal') (sym closed)
@@ -204,7 +220,7 @@ module _ {S A : Type 0} (g : Ghosts S) (are : List Archive → A → Type 0) whe
       says_after content es stand.list stand.stands answer enrols.says,
       together content es stand answer enrols.says (enrols.over sound),
     );
-    crash = λ sound clean content es stand. left content es stand answer enrols.says (enrols.crash_over sound clean stand.stands.rows stand.stands.holds.has);
+    crash = λ sound clean content es stand. left content es stand answer enrols.says (enrols.crash_over sound clean (rows_without_lists stand.stands.away stand.stands.rows) stand.stands.holds.has);
     closed = enrols.closed;
     stays = enrols.stays;
     noted = enrols.noted;
@@ -221,14 +237,14 @@ module _ {S A : Type 0} (g : Ghosts S) (are : List Archive → A → Type 0) whe
       together content es stand (Added id body) says over = record {
         list = stand.list;
         these = stand.these;
-        stands = stand_with g stand.list content es old stand.stands code kind over.0 id over.1 (is_added content es stand.list stand.stands id (added_so _ code id body says)) new over.2 enrols.closed (over.3 stand.stands.rows stand.stands.holds.has) over.4;
+        stands = stand_with g stand.list content es old stand.stands code kind over.0 id over.1 (is_added content es stand.list stand.stands id (added_so _ code id body says)) new over.2 enrols.closed (over.3 (rows_without_lists stand.stands.away stand.stands.rows) stand.stands.holds.has) over.4;
       }
       together content es stand NotNow says over = record { list = stand.list; these = stand.these; stands = still g stand.list content es old stand.stands new over.0 enrols.closed over.1 over.2 }
       together content es stand (Known id body) says over = record { list = stand.list; these = stand.these; stands = still g stand.list content es old stand.stands new over.1 enrols.closed (ap (λ k. (state g k).committed) over.0) (inl over.2) }
       together content es stand (Refused fault) says over = record { list = stand.list; these = stand.these; stands = still g stand.list content es old stand.stands new over.1 enrols.closed (ap (λ k. (state g k).committed) over.0) (inl over.2) }
 
       left : (content : SetupContent) (es : List Event) (stand : StandTogether g are content es old a) (answer : AccountAnswer) → Says (account_answer (setup_content old.setup).partners code kind) code answer
-          → LeavesAddedOver (setup_content old.setup).partners stand.stands.rows code kind answer (state g new.conn) → LeavesAccount stand.list (closed_content old.closed) content es code kind answer (state g new.conn)
+          → LeavesAddedOver (setup_content old.setup).partners (rows_without_lists stand.stands.away stand.stands.rows) code kind answer (state g new.conn) → LeavesAccount stand.list (closed_content old.closed) content es code kind answer (state g new.conn)
       left content es stand (Added id body) says leaves = λ db left.
           kept_with g stand.list content es old stand.stands code kind leaves.0 id leaves.1 (is_added content es stand.list stand.stands id (added_so _ code id body says)) db (leaves.2 db left)
       left content es stand NotNow says leaves = λ db left. either_of (λ same. kept g stand.list content es old stand.stands db same)

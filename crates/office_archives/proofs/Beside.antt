@@ -1,11 +1,14 @@
 -- What desk and archives tell, from whatever events after which they stand.
 use Rattle.std.proofs.Common.{◌≡◌, ℕ, zero, ◌<◌, ◌≤◌, List, [], ◌∷◌, length, Bool, true, false, Option, None, Some, Result, Ok, Err, refl, sym, ap, subst, ◌∙◌, arith}
-use Rattle.std.specs.Prelude.{◌&&◌, nat_le, String, string_bytes}
+use Rattle.std.specs.Prelude.{◌&&◌, is_some, nat_le, String, string_bytes}
 use Rattle.std.specs.declared.alloc.Global.{Global}
 use Rattle.std.proofs.lemmas.Bool.{le-leb, leb-false, leb-true, and_parts}
 use Rattle.sqlite_trees.specs.declared.store.Store.{Ghosts}
 use Rattle.box6346.specs.declared.box_number.BoxNumber.{BoxNumber}
+use Rattle.edi_messages.specs.Purposes.{CallContent}
+use Rattle.edi_messages.specs.declared.call.Call.{Call}
 use Rattle.terminal_core.specs.State.{TerminalState}
+use Rattle.terminal_core.specs.declared.lines.Side.{Side}
 use Rattle.office_replies.specs.Events.{Event}
 use Rattle.office_checks.specs.Closed.{last_closed}
 use Rattle.office_rows.specs.Rows.{Rows}
@@ -15,18 +18,24 @@ use Rattle.office_queries.specs.declared.query.NotNow.{NotNow}
 use Rattle.office_queries.specs.declared.query.Query.{Query}
 use Rattle.office_queries.specs.declared.query.Query.TheVariants as query
 use Rattle.office_history.specs.After.{content_after, machine_after}
+use Rattle.office_desk.specs.Desks.{IsSound}
 use Rattle.office_desk.specs.Offices.{DeskHolds}
 use Rattle.office_desk.specs.Reports.{DeskTells, TellsNext, TellsOf, partner_called}
 use Rattle.office_desk.specs.declared.desk.Desk.{Desk}
 use Rattle.office_parts.specs.Archives.{Archive, archive_of}
 use Rattle.office_parts.specs.OwnTerminal.{own_terminal}
+use Rattle.office_lists.specs.Away.{lines_away}
+use Rattle.office_lists.specs.OwnLists.{ListName, list_name, rows_without_lists, without_lists}
+use Rattle.office_lists.proofs.KeepingLemmas.{away_done}
 use Rattle.office_parts.specs.Parts.{Archived}
 use Rattle.office_archives.specs.Keeping.{IsClosedIn}
 use Rattle.office_archives.specs.Standing.{StandsBeside}
-use Rattle.office_archives.specs.Telling.{IsOfContainer, IsOfNeither, IsOfNumber, TellsClosed, TellsTogether, with_archives}
+use Rattle.office_archives.specs.Bringing.{BringsTogether}
+use Rattle.office_archives.specs.Telling.{HasListAway, IsOfContainer, IsOfList, IsOfNeither, IsOfNumber, TellsClosed, TellsTogether, archives_with_lists, with_archives}
 use Rattle.office_archives.specs.Together.{StandTogether, TellsBeside}
 use Rattle.office_archives.proofs.Closed.{closed_here, closed_told}
-use Rattle.office_archives.proofs.Told.{container_told, nobody_told, number_told, others_told}
+use Rattle.office_archives.proofs.Filled.{filled_container, filled_list, filled_neither, filled_number, filled_visits}
+use Rattle.office_archives.proofs.Told.{container_told, list_told, nobody_told, number_told, others_told}
 
 -- there is no number 0
 none_zero : (content : SetupContent) (es : List Event) (archives : List Archive) (archived : Archived) (whole : Rows) (asked : Query) (code : List ℕ) (n : ℕ) (found : Option (List ℕ)) → IsOfNumber asked code n → n < 1 → TellsTogether content es archives archived whole asked found
@@ -47,13 +56,28 @@ nobody_has g desk code name named tells rows terminal holds =
     ap (partner_called known) (sym named) ∙ no_next rows (partner_called known (string_bytes name)) (tells.office rows terminal holds)
 
 module _ {S A : Type 0} (g : Ghosts S) (are : List Archive → A → Type 0) (old : Desk S g) (a : A) where
+  abbrev Mine : (content : SetupContent) (es : List Event) → StandTogether g are content es old a → TerminalState
+  Mine content es stand = own_terminal stand.stands.archived.stays (machine_after content es).terminal
+
   -- what the desk tells, of the rows that it has
   told_here : (content : SetupContent) (es : List Event) (stand : StandTogether g are content es old a) (asked : Query) (found : Option (List ℕ)) → DeskTells g old asked found
-      → TellsOf (content_after content es) (own_terminal stand.stands.archived.stays (machine_after content es).terminal) stand.stands.rows asked found
+      → TellsOf (content_after content es) (without_lists stand.stands.away (Mine content es stand)) (rows_without_lists stand.stands.away stand.stands.rows) asked found
   told_here content es stand asked found told =
       let stands = stand.stands in
-      let mine = own_terminal stands.archived.stays (machine_after content es).terminal in
-      subst (λ k. TellsOf k mine stands.rows asked found) (sym stands.now_is) (told.office stands.rows mine stands.holds)
+      let mine = without_lists stands.away (Mine content es stand) in
+      let left = rows_without_lists stands.away stands.rows in
+      subst (λ k. TellsOf k mine left asked found) (sym stands.now_is) (told.office left mine stands.holds)
+
+  -- and with the lists that are away
+  filled_here : (content : SetupContent) (es : List Event) (stand : StandTogether g are content es old a) (asked : Query) (found : Option (List ℕ)) → IsOfContainer asked → DeskTells g old asked found
+      → TellsOf (content_after content es) (Mine content es stand) stand.stands.rows asked found
+  filled_here content es stand (query.Visits container) found is told =
+      let s = stand.stands in
+      filled_visits s.away (content_after content es) (Mine content es stand) s.rows container found (told_here content es stand (query.Visits container) found told)
+  filled_here content es stand (query.Container container) found is told =
+      let s = stand.stands in
+      filled_container s.away (content_after content es) (Mine content es stand) s.rows container found (away_done content es stand.list s.away s.archived s.own s.whole s.parts s.lists) (told_here content es stand (query.Container container) found told)
+  filled_here content es stand other found is told = absurd is
 
   pub called_here : (content : SetupContent) (es : List Event) (stand : StandTogether g are content es old a) (code : List ℕ) (p : ℕ) → partner_called (setup_content old.setup) code ≡ Some p → partner_called (content_after content es) code ≡ Some p
   called_here content es stand code p called = ap (λ k. partner_called k code) stand.stands.now_is ∙ called
@@ -63,18 +87,51 @@ module _ {S A : Type 0} (g : Ghosts S) (are : List Archive → A → Type 0) (ol
       → partner_called (content_after content es) code ≡ None
   nobody_here content es stand code nobody =
       let s = stand.stands in
-      ap (λ k. partner_called k code) s.now_is ∙ nobody s.rows (own_terminal s.archived.stays (machine_after content es).terminal) s.holds
+      ap (λ k. partner_called k code) s.now_is ∙ nobody (rows_without_lists s.away s.rows) (without_lists s.away (own_terminal s.archived.stays (machine_after content es).terminal)) s.holds
 
   pub neither_beside : (asked : Query) (found : Option (List ℕ)) → IsOfNeither asked → DeskTells g old asked found → TellsBeside g are old a asked found
   neither_beside asked found is told content es stand =
       let s = stand.stands in
-      others_told content es stand.list s.archived s.own s.whole s.rows s.parts s.is_own asked found is (told_here content es stand asked found told)
+      others_told content es stand.list s.archived s.own s.whole s.rows s.parts s.is_own asked found is
+      (filled_neither s.away (content_after content es) (Mine content es stand) s.rows asked found is (told_here content es stand asked found told))
 
   pub container_beside : (asked : Query) (told found : Option (List ℕ)) (count : ℕ) → IsOfContainer asked → ((list : List Archive) → are list a → count ≡ length list) → DeskTells g old asked told → found ≡ with_archives count told → TellsBeside g are old a asked found
   container_beside asked told found count is counted tells same content es stand =
       let s = stand.stands in
       subst (TellsTogether content es stand.list s.archived s.whole asked) (ap (λ k. with_archives k told) (sym (counted stand.list stand.these)) ∙ sym same)
-      (container_told content es stand.list s.archived s.own s.whole s.rows s.parts s.is_own asked told s.hold is (told_here content es stand asked told tells))
+      (container_told content es stand.list s.archived s.own s.whole s.rows s.parts s.is_own asked told s.hold is (filled_here content es stand asked told is tells))
+
+  -- of lists those that are not away, and how many archives there are, if lists were put away
+  pub calls_beside : (told found : Option (List ℕ)) (put_away : Bool) (count : ℕ) → (put_away ≡ false → (list : List Archive) → are list a → (name : ListName) → lines_away list name ≡ None) → (put_away ≡ true → (list : List Archive) → are list a → HasListAway list)
+      → ((list : List Archive) → are list a → count ≡ archives_with_lists list put_away) → DeskTells g old query.Calls told → found ≡ with_archives count told → TellsBeside g are old a query.Calls found
+  calls_beside told found put_away count none some counted tells same content es stand =
+      let s = stand.stands in
+      record {
+        away = s.away;
+        were_put_away = λ list e. ap is_some (s.lists.kept list e).are;
+        put_away = put_away;
+        none = λ e. none e stand.list stand.these;
+        some = λ e. some e stand.list stand.these;
+        told = same ∙ ap (λ k. with_archives k told) (counted stand.list stand.these) ∙ ap (with_archives (archives_with_lists stand.list put_away)) (told_here content es stand query.Calls told tells);
+      }
+
+  -- a list that is not away, by a desk over which it was brought back
+  pub list_beside : (mid : Desk S g) (asked : Query) (call : CallContent) (side : Side) (found : Option (List ℕ)) → IsOfList asked call side → IsSound g mid → BringsTogether g are old a (list_name call side ∷ []) (Ok tt) mid → DeskTells g mid asked found → TellsBeside g are old a asked found
+  list_beside mid asked call side found is sound brings tells content es stand =
+      let there = brings.stand sound stand.list content es stand.these stand.stands in
+      let s = there.stands in
+      let mine = own_terminal s.archived.stays (machine_after content es).terminal in
+      let left = rows_without_lists s.away s.rows in
+      let told = subst (λ k. TellsOf k (without_lists s.away mine) left asked found) (sym s.now_is) (tells.office left (without_lists s.away mine) s.holds) in
+      of_list content es asked call side found stand s.archived s.whole is
+      (list_told content es stand.list s.archived s.own s.whole s.rows s.parts s.is_own asked found call side is (filled_list s.away (content_after content es) mine s.rows asked found call side is there.here.0 told))
+    where
+      -- what is told of a list does not go by the archives
+      of_list : (content : SetupContent) (es : List Event) (asked : Query) (call : CallContent) (side : Side) (found : Option (List ℕ)) (stand : StandTogether g are content es old a) (archived : Archived) (whole : Rows) → IsOfList asked call side → TellsTogether content es stand.list archived whole asked found
+          → TellsTogether content es stand.list stand.stands.archived stand.stands.whole asked found
+      of_list content es (query.List asked on) call side found stand archived whole is told = told
+      of_list content es (query.Work asked on) call side found stand archived whole is told = told
+      of_list content es other call side found stand archived whole is told = absurd is
 
   pub number_beside : (asked : Query) (code : List ℕ) (n p : ℕ) (found : Option (List ℕ)) → IsOfNumber asked code n → partner_called (setup_content old.setup) code ≡ Some p → (nat_le 1 n && nat_le n (last_closed old.closed p)) ≡ false → DeskTells g old asked found
       → TellsBeside g are old a asked found
@@ -86,7 +143,8 @@ module _ {S A : Type 0} (g : Ghosts S) (are : List Archive → A → Type 0) (ol
           let s = stand.stands in
           let beyond : nat_le n (last_closed old.closed p) ≡ false = sym (ap (λ b. b && nat_le n (last_closed old.closed p)) e) ∙ open_ in
           let far = leb-false n (last_closed old.closed p) beyond in
-          number_told content es stand.list s.archived s.own s.whole s.rows s.parts s.is_own code p n (called_here content es stand code p called) asked found is (omega (arith, far, s.knows.numbers p)) (told_here content es stand asked found tells)
+          number_told content es stand.list s.archived s.own s.whole s.rows s.parts s.is_own code p n (called_here content es stand code p called) asked found is (omega (arith, far, s.knows.numbers p))
+          (filled_number s.away (content_after content es) (Mine content es stand) s.rows asked found code n is (told_here content es stand asked found tells))
 
   pub nobody_beside : (asked : Query) (code : List ℕ) (n : ℕ) (found : Option (List ℕ)) → IsOfNumber asked code n → found ≡ None → ((rows : Rows) (terminal : TerminalState) → DeskHolds g old rows terminal → partner_called (setup_content old.setup) code ≡ None)
       → TellsBeside g are old a asked found
@@ -120,15 +178,19 @@ module _ {S A : Type 0} (g : Ghosts S) (are : List Archive → A → Type 0) (ol
       let s = stand.stands in
       s.hold.none_beyond p n (omega (arith, beyond, s.knows.numbers p))
 
--- it is asked neither of a container nor of a number
-pub is_neither : (asked : Query) → ((container : BoxNumber) → asked ≡ query.Visits container → ⊥) → ((container : BoxNumber) → asked ≡ query.Container container → ⊥) → ((code : String Global) (number : ℕ) → asked ≡ query.Reply code number → ⊥)
+-- it is asked neither of a container, of lists, nor of a number
+pub is_neither : (asked : Query) → ((container : BoxNumber) → asked ≡ query.Visits container → ⊥) → ((container : BoxNumber) → asked ≡ query.Container container → ⊥) → (asked ≡ query.Calls → ⊥) → ((call : Call) (side : Side) → asked ≡ query.List call side → ⊥) → ((call : Call) (side : Side) → asked ≡ query.Work call side → ⊥)
+    → ((code : String Global) (number : ℕ) → asked ≡ query.Reply code number → ⊥)
     → ((code : String Global) (number : ℕ) → asked ≡ query.Contrl code number → ⊥) → ((code : String Global) (number : ℕ) → asked ≡ query.Ticket code number → ⊥) → IsOfNeither asked
-is_neither (query.Visits container) visits there reply contrl ticket = visits container refl
-is_neither (query.Container container) visits there reply contrl ticket = there container refl
-is_neither (query.Reply code number) visits there reply contrl ticket = reply code number refl
-is_neither (query.Contrl code number) visits there reply contrl ticket = contrl code number refl
-is_neither (query.Ticket code number) visits there reply contrl ticket = ticket code number refl
-is_neither other visits there reply contrl ticket = tt
+is_neither (query.Visits container) visits there calls list work reply contrl ticket = visits container refl
+is_neither (query.Container container) visits there calls list work reply contrl ticket = there container refl
+is_neither query.Calls visits there calls list work reply contrl ticket = calls refl
+is_neither (query.List call side) visits there calls list work reply contrl ticket = list call side refl
+is_neither (query.Work call side) visits there calls list work reply contrl ticket = work call side refl
+is_neither (query.Reply code number) visits there calls list work reply contrl ticket = reply code number refl
+is_neither (query.Contrl code number) visits there calls list work reply contrl ticket = contrl code number refl
+is_neither (query.Ticket code number) visits there calls list work reply contrl ticket = ticket code number refl
+is_neither other visits there calls list work reply contrl ticket = tt
 
 -- ---- whatever is looked at
 

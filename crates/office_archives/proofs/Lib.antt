@@ -1,4 +1,5 @@
 pub mod Resting
+pub mod Filled
 pub mod Telling
 pub mod Shelved
 pub mod Standing
@@ -7,6 +8,7 @@ pub mod Together
 pub mod Accounts
 pub mod Opening
 pub mod Looking
+pub mod Brought
 pub mod Told
 pub mod Closed
 pub mod Beside

@@ -15,6 +15,7 @@ use Rattle.terminal_core.specs.State.{TerminalState}
 use Rattle.partner_core.proofs.Numbered.{with_number-below}
 use Rattle.office_replies.specs.Events.{Event}
 use Rattle.office_checks.specs.Closed.{closed_content}
+use Rattle.office_rows.specs.Rows.{Rows}
 use Rattle.office_rows.specs.Stored.{StoresRows}
 use Rattle.office_rows.proofs.StepLemmas.{stores}
 use Rattle.office_setup.specs.Given.{IsGiven, AreDistinct}
@@ -35,6 +36,7 @@ use Rattle.office_desk.specs.declared.desk.Desk.{Desk}
 use Rattle.office_desk.proofs.DeliverLemmas.{parties_same}
 use Rattle.office_desk.proofs.OfficeLemmas.{shown_by_own}
 use Rattle.office_parts.specs.Archives.{Archive}
+use Rattle.office_lists.specs.OwnLists.{rows_without_lists, without_lists}
 use Rattle.office_parts.specs.OwnTerminal.{own_terminal}
 use Rattle.office_archives.specs.Opening.{OpensBeside}
 use Rattle.office_archives.specs.Standing.{KnowsClosed, StandsBeside}
@@ -94,25 +96,32 @@ open_for_number other code number s is = absurd is
 
 module _ {S : Type 0} (g : Ghosts S) (list : List Archive) (content : SetupContent) (es : List Event) (old : Desk S g) (stands : StandsBeside g list content es old) where
   abbrev mine : TerminalState
-  mine = own_terminal stands.archived.stays (machine_after content es).terminal
+  mine = without_lists stands.away (own_terminal stands.archived.stays (machine_after content es).terminal)
 
-  -- it has the same rows, so its set-up says the same
-  says_same : (new : Desk S g) → (state g new.conn).committed ≡ (state g old.conn).committed → DeskHolds g new stands.rows mine → SaysSame (setup_content new.setup) (content_after content es)
-  says_same new committed holds =
-      let loads = subst (λ db. LoadsOwn (closed_content new.closed) db (setup_content new.setup) mine) committed holds.loads in
-      let before = stands.holds.loads in
-      subst (SaysSame (setup_content new.setup)) (sym stands.now_is)
-      (one_setup (state g old.conn).committed loads.0 before.0 (setup_content new.setup) (setup_content old.setup) mine mine loads.1 before.1
-      (shown_by_own (closed_content new.closed) loads.0 (setup_content new.setup) mine loads.2) (shown_by_own (closed_content old.closed) before.0 (setup_content old.setup) mine before.2))
+  abbrev left : Rows
+  left = rows_without_lists stands.away stands.rows
 
-  pub looked_stands : (new : Desk S g) → new.closed ≡ old.closed → (state g new.conn).committed ≡ (state g old.conn).committed → DeskHolds g new stands.rows mine → OpensBeside g list content es new
-  looked_stands new closed committed holds =
-      beside_alike g list content es new stands.archived stands.own stands.whole stands.rows stands.given stands.parts stands.hold (subst (λ k. KnowsClosed (closed_content k) stands.archived) (sym closed) stands.knows) stands.is_own
-      (says_same new committed holds) holds
+  -- it has the same rows and the same set-up
+  abbrev pub looked_stands : (new : Desk S g) → IsSound g new → OnlyLooks g old new → StandsBeside g list content es new
+  looked_stands new sound looks = record {
+    given = stands.given;
+    now_is = stands.now_is ∙ ap setup_content (sym looks.setup);
+    archived = stands.archived;
+    own = stands.own;
+    whole = stands.whole;
+    parts = stands.parts;
+    hold = stands.hold;
+    knows = subst (λ k. KnowsClosed (closed_content k) stands.archived) (sym looks.closed) stands.knows;
+    rows = stands.rows;
+    is_own = stands.is_own;
+    away = stands.away;
+    lists = stands.lists;
+    holds = looks.holds sound left mine stands.holds;
+  }
 
   -- what a crash leaves of rows that are all written
   pub rows_left : (db : Trees) → db ≡ (state g old.conn).committed.trees → IsBesideAfter list (closed_content old.closed) content es db
-  rows_left db left = record {
+  rows_left db same = record {
     archived = stands.archived;
     own = stands.own;
     whole = stands.whole;
@@ -121,7 +130,9 @@ module _ {S : Type 0} (g : Ghosts S) (list : List Archive) (content : SetupConte
     knows = stands.knows;
     rows = stands.rows;
     is_own = stands.is_own;
-    are = subst (StoresRows stands.rows) (sym left) (stores stands.rows (state g old.conn).committed stands.holds.has);
+    away = stands.away;
+    lists = stands.lists;
+    are = subst (StoresRows left) (sym same) (stores left (state g old.conn).committed stands.holds.has);
   }
 
 module _ {S A : Type 0} (g : Ghosts S) (are : List Archive → A → Type 0) where
@@ -131,8 +142,11 @@ module _ {S A : Type 0} (g : Ghosts S) (are : List Archive → A → Type 0) whe
   looks_on old new a b settled looks same = record {
     same = λ sound content es stand.
         let stands = stand.stands in
-        let again = looked_stands g stand.list content es old stands new looks.closed (looks.committed sound) (looks.holds sound stands.rows (mine g stand.list content es old stands) stands.holds) in
-        record { opening = again.opening; says = again.opening_says; stand = record { list = stand.list; these = same stand.list stand.these; stands = again.stands } };
+        record {
+          opening = content;
+          says = record { terminal = refl; codes = refl; partners = refl; blocks = refl; limit = refl };
+          stand = record { list = stand.list; these = same stand.list stand.these; stands = looked_stands g stand.list content es old stands new sound looks };
+        };
     crash = λ sound clean content es stand db left.
         let stands = stand.stands in
         rows_left g stand.list content es old stands db (settled sound db (looks.crash sound clean stands.holds.has.schema db left));

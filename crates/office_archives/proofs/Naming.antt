@@ -1,5 +1,5 @@
 -- What a register names, once it has an archive more.
-use Rattle.std.proofs.Common.{◌≡◌, ℕ, zero, suc, ◌+◌, ◌-◌, ◌<◌, ◌≤◌, List, [], ◌∷◌, ◌++◌, length, Bool, true, false, cond, Option, None, Some, refl, sym, ap, subst, ◌∙◌, arith}
+use Rattle.std.proofs.Common.{◌≡◌, ℕ, zero, suc, ◌+◌, ◌-◌, ◌<◌, ◌≤◌, List, [], ◌∷◌, ◌++◌, length, Bool, true, false, cond, Option, None, Some, inl, inr, refl, sym, ap, subst, ◌∙◌, arith}
 use Rattle.std.specs.Prelude.{◌&&◌, nat_le, max, if◌then◌else◌, find, slice_get}
 use Rattle.std.specs.List.{AllByRecursion, list_all}
 use Rattle.std.specs.Option.{option_and_then, option_map, option_or}
@@ -7,11 +7,14 @@ use Rattle.std.proofs.lemmas.Bool.{and_parts, le-leb, leb-false, leb-true}
 use Rattle.std.proofs.lemmas.List.Folds.{find-append}
 use Rattle.office_parts.specs.Archives.{Archive, archive_of}
 use Rattle.office_parts.specs.Archives as parts
+use Rattle.office_lists.specs.Away.{lines_away}
+use Rattle.office_lists.specs.OwnLists.{ListName, list_name}
 use Rattle.office_register.specs.Changes.{closed_with}
+use Rattle.office_register.specs.Lists.{lines_of_list}
 use Rattle.office_register.specs.Register.{ArchiveContent, RegisterContent, is_of, last_closed, reaches}
 use Rattle.office_register.specs.Sound.{is_sound, is_within}
 use Rattle.office_register.specs.declared.register.Segment.{Segment}
-use Rattle.office_archives.specs.Shelves.{NamesAll, NamesOneMore, archive_at}
+use Rattle.office_archives.specs.Shelves.{IsKeptAs, NamesAll, NamesOneMore, archive_at}
 
 -- ---- lists
 
@@ -76,7 +79,7 @@ open_if_none p n (one ∷ segments) from none = by (λ later. open_if_none p n s
 
 module _ (names : RegisterContent) (list : List Archive) (archive : ArchiveContent) (segments : List Segment) (one : Archive) (sound : is_sound names ≡ true) (are : NamesAll names list)
     (own : AllByRecursion (λ (segment : Segment). segment.archive ≡ length list + 1) segments)
-    (closed : (partner : ℕ) → one.last_closed partner ≡ last_closed (closed_with archive segments names).segments partner) where
+    (closed : (partner : ℕ) → one.last_closed partner ≡ last_closed (closed_with archive segments [] names).segments partner) (none : (name : ListName) → one.lists name ≡ None) where
   abbrev more : List Archive
   more = list ++ one ∷ []
 
@@ -117,12 +120,18 @@ module _ (names : RegisterContent) (list : List Archive) (archive : ArchiveConte
       not_reached true e far = absurd (omega (arith, leb-true n (one.last_closed p) e, far))
       not_reached false e far = refl
 
-  all_named : NamesAll (closed_with archive segments names) more
+  away_more : (archives : List Archive) (name : ListName) → lines_away (archives ++ one ∷ []) name ≡ lines_away archives name
+  away_more [] name = none name
+  away_more (first ∷ rest) name = ap (λ o. option_or o (first.lists name)) (away_more rest name)
+
+  all_named : NamesAll (closed_with archive segments [] names) more
   all_named = record {
+    lists = λ call side. subst (IsKeptAs call side (lines_of_list names.lists call side)) (sym (away_more list (list_name call side))) (are.lists call side);
+    of_calls = λ name. elim (are.of_calls name) [ inl never ↦ inl (away_more list name ∙ never) | inr is ↦ inr is ];
     counted = longer list one ∙ ap (λ n. n + 1) are.counted ∙ sym (longer names.archives archive);
     named = λ p n from. named p n from (find (reaches p n) names.segments) (find (reaches p n) segments) refl refl
         ∙ ap (λ o. option_and_then (archive_at more) (option_map (λ (s : Segment). s.archive) o)) (sym (find-append (reaches p n) names.segments segments));
   }
 
 pub names_one_more : NamesOneMore
-names_one_more names list archive segments one sound are own closed = all_named names list archive segments one sound are own closed
+names_one_more names list archive segments one sound are own closed none = all_named names list archive segments one sound are own closed none

@@ -1,6 +1,8 @@
 -- What one archive of a store tells, as the store that it was.
-use Rattle.std.proofs.Common.{◌≡◌, ◌-◌, ℕ, List, Option, sym, ap, subst, ◌∙◌}
-use Rattle.std.specs.Prelude.{string_bytes}
+use Rattle.std.proofs.Common.{◌≡◌, ◌-◌, ℕ, List, Option, refl, sym, ap, subst, ◌∙◌}
+use Rattle.std.specs.Prelude.{String, string_bytes}
+use Rattle.std.specs.declared.alloc.Global.{Global}
+use Rattle.box6346.specs.declared.box_number.BoxNumber.{BoxNumber}
 use Rattle.sqlite_trees.specs.declared.store.Store.{Ghosts}
 use Rattle.office_replies.specs.Events.{Event}
 use Rattle.office_setup.specs.Setups.{SetupContent}
@@ -11,7 +13,7 @@ use Rattle.office_desk.specs.Reports.{partner_called}
 use Rattle.office_desk.specs.declared.desk.Desk.{Desk}
 use Rattle.office_parts.specs.Archives.{Archive}
 use Rattle.office_archives.specs.Keeping.{IsReportIn}
-use Rattle.office_archives.specs.Telling.{IsOfContainer, IsOfNeither, IsOfNumber, IsPlace, TellsAsStore, TellsOwnNumber, with_archives}
+use Rattle.office_archives.specs.Telling.{IsOfContainer, IsOfNumber, IsPlace, TellsAsStore, TellsOwnNumber, with_archives}
 use Rattle.office_archives.specs.Together.{StandTogether, TellsOfOne}
 
 pub container_as : (content : SetupContent) (list : List Archive) (place : ℕ) (asked : Query) (own found : Option (List ℕ)) → IsOfContainer asked → IsReportIn list place asked own → found ≡ with_archives (place - 1) own → TellsAsStore content list place asked found
@@ -36,13 +38,15 @@ number_as content list place (query.Ticket partner k) code n called found is who
     (subst (λ m. TellsOwnNumber list place own (string_bytes partner) m called found) (sym is.1) (subst (λ c. TellsOwnNumber list place own c n called found) (sym is.0) told))
 number_as content list place other code n called found is who told = absurd is
 
-pub neither_as : (content : SetupContent) (list : List Archive) (place : ℕ) (asked : Query) (found : Option (List ℕ)) → IsOfNeither asked → IsReportIn list place asked found → TellsAsStore content list place asked found
-neither_as content list place (query.Visits container) found is told = absurd is
-neither_as content list place (query.Container container) found is told = absurd is
-neither_as content list place (query.Reply code n) found is told = absurd is
-neither_as content list place (query.Contrl code n) found is told = absurd is
-neither_as content list place (query.Ticket code n) found is told = absurd is
-neither_as content list place other found is told = told
+pub neither_as : (content : SetupContent) (list : List Archive) (place : ℕ) (asked : Query) (found : Option (List ℕ)) → ((container : BoxNumber) → asked ≡ query.Visits container → ⊥) → ((container : BoxNumber) → asked ≡ query.Container container → ⊥)
+    → ((code : String Global) (number : ℕ) → asked ≡ query.Reply code number → ⊥) → ((code : String Global) (number : ℕ) → asked ≡ query.Contrl code number → ⊥) → ((code : String Global) (number : ℕ) → asked ≡ query.Ticket code number → ⊥)
+    → IsReportIn list place asked found → TellsAsStore content list place asked found
+neither_as content list place (query.Visits container) found visits there reply contrl ticket told = absurd (visits container refl)
+neither_as content list place (query.Container container) found visits there reply contrl ticket told = absurd (there container refl)
+neither_as content list place (query.Reply code n) found visits there reply contrl ticket told = absurd (reply code n refl)
+neither_as content list place (query.Contrl code n) found visits there reply contrl ticket told = absurd (contrl code n refl)
+neither_as content list place (query.Ticket code n) found visits there reply contrl ticket told = absurd (ticket code n refl)
+neither_as content list place other found visits there reply contrl ticket told = told
 
 module _ {S A : Type 0} (g : Ghosts S) (are : List Archive → A → Type 0) (desk : Desk S g) (a : A) where
   -- there is one at that place, and it tells so

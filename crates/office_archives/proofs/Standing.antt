@@ -47,7 +47,12 @@ use Rattle.office_parts.specs.Parts.{Archived, rows_of_archives, AreClosed, AreP
 use Rattle.office_parts.proofs.Events.{early_parts}
 use Rattle.office_parts.proofs.LeftOver.{told_alike}
 use Rattle.office_parts.proofs.Lookups.{numbers_told}
-use Rattle.office_parts.proofs.Takings.{next_adds_to_parts}
+use Rattle.office_lists.specs.Away.{AreAway, lists_after}
+use Rattle.office_lists.specs.Naming.{AreHere}
+use Rattle.office_lists.specs.OwnLists.{ListName, machine_without, rows_without_lists, without_lists}
+use Rattle.office_lists.proofs.AwayLemmas.{with_early, with_next, without_row, next_names}
+use Rattle.office_lists.proofs.PartLemmas.{next_adds}
+use Rattle.office_lists.proofs.Writings.{runs_written}
 use Rattle.office_desk.specs.Answers.{AnswersNext, answer_at, answer_by_model, answer_to, code_of}
 use Rattle.office_desk.specs.Calls.{Leads}
 use Rattle.office_desk.specs.Desks.{IsSound}
@@ -57,13 +62,13 @@ use Rattle.office_desk.specs.Offices.{DeskHolds}
 use Rattle.office_desk.specs.declared.desk.Desk.{Desk}
 use Rattle.office_desk.proofs.CrashLemmas.{either_of}
 use Rattle.office_desk.proofs.DeliverLemmas.{parties_same}
-use Rattle.office_archives.specs.Standing.{IsOwnWithRest, KnowsClosed, StandsBeside, IsBeyond, DeliveriesBeyondAreAnswered}
+use Rattle.office_archives.specs.Standing.{IsOwnWithRest, KnowsClosed, StandsBeside, IsBeyond, NamesNoneAway, DeliveriesBeyondAreAnswered}
 use Rattle.office_archives.specs.Together.{IsBesideAfter, LeavesBeside, LeavesDelivered}
 use Rattle.office_archives.proofs.Resting.{run_is_own, taken_alike, texts_own, waiting_is_own}
 
 -- ---- the machine
 
-machine_is : (content : SetupContent) (es : List Event) → machine_with (content_after content es) (machine_after content es).terminal ≡ machine_after content es
+pub machine_is : (content : SetupContent) (es : List Event) → machine_with (content_after content es) (machine_after content es).terminal ≡ machine_after content es
 machine_is content es = sym (runs_alone (taking_in newest content es) (opening_of (content_after content es)) (deliveries_of content es) (alone_in newest content es))
 
 own_is : (content : SetupContent) (es : List Event) (stays : ℕ → Bool) → machine_with (content_after content es) (own_terminal stays (machine_after content es).terminal) ≡ own_machine stays (machine_after content es)
@@ -93,16 +98,19 @@ beyond archives archived p n closed hold low none = elim (cases_order (archived.
 -- ---- what a delivery makes of the parts
 
 -- what is reported is what is to be reported, and the office that is left is of parts after the delivery
-record Follows (content : SetupContent) (es : List Event) (archived : Archived) (sent : List ℕ) (p n : ℕ) (told : AnswerModel) (new : Office) : Type 0 where
+record Follows (content : SetupContent) (es : List Event) (archives : List Archive) (away : ListName → Bool) (archived : Archived) (sent : List ℕ) (p n : ℕ) (told : AnswerModel) (new : Office) : Type 0 where
   is_told : told ≡ answer_model_of content es p n sent
   own : Rows
   left : Rows
+  filled : Rows
   parts : ArePartsAfter content (es ++ delivered sent ∷ []) archived own left
-  is_own : IsOwnWithRest archived own new.rows
-  terminal : new.terminal ≡ own_terminal archived.stays (machine_after content (es ++ delivered sent ∷ [])).terminal
+  is_own : IsOwnWithRest archived own filled
+  lists : AreAway archives away content (es ++ delivered sent ∷ []) own
+  rows : new.rows ≡ rows_without_lists away filled
+  terminal : new.terminal ≡ without_lists away (own_terminal archived.stays (machine_after content (es ++ delivered sent ∷ [])).terminal)
 
-module _ (content : SetupContent) (es : List Event) (archived : Archived) (own whole rows : Rows) (sent : List ℕ) (p n : ℕ) (given : IsGiven content) (parts : ArePartsAfter content es archived own whole)
-    (is_own : IsOwnWithRest archived own rows) (for : IsFor content es sent p n) (far : archived.last_closed p < n) where
+module _ (content : SetupContent) (es : List Event) (archives : List Archive) (away : ListName → Bool) (archived : Archived) (own whole rows : Rows) (sent : List ℕ) (p n : ℕ) (given : IsGiven content) (parts : ArePartsAfter content es archived own whole)
+    (is_own : IsOwnWithRest archived own rows) (lists : AreAway archives away content es own) (for : IsFor content es sent p n) (far : archived.last_closed p < n) (none : AreHere away (lists_after content es p (interchange_of sent))) where
   abbrev text : List ℕ
   text = interchange_of sent
 
@@ -110,7 +118,10 @@ module _ (content : SetupContent) (es : List Event) (archived : Archived) (own w
   now = content_after content es
 
   abbrev old : Office
-  old = record { rows = rows; terminal = own_terminal archived.stays (machine_after content es).terminal }
+  old = record { rows = rows_without_lists away rows; terminal = without_lists away (own_terminal archived.stays (machine_after content es).terminal) }
+
+  abbrev own_left : MachineState → TerminalState
+  own_left machine = without_lists away (own_terminal archived.stays machine.terminal)
 
   abbrev next_number : ℕ
   next_number = run (deliveries_of content es) p + 1
@@ -139,7 +150,7 @@ module _ (content : SetupContent) (es : List Event) (archived : Archived) (own w
       sym is.2 ∙ next_follows content es whole is.0 parts.after account ∙ ap (λ q. run (deliveries_of content es) q + 1) (eqb-true is.0.id p there.1)
 
   -- a number that is used leaves the parts as they are
-  stays_same : (kept : List ℕ) (told : AnswerModel) (new : Office) → text_in rows p n ≡ Some kept → told ≡ answer_model_of content es p n sent → new ≡ old → Follows content es archived sent p n told new
+  stays_same : (kept : List ℕ) (told : AnswerModel) (new : Office) → text_in rows p n ≡ Some kept → told ≡ answer_model_of content es p n sent → new ≡ old → Follows content es archives away archived sent p n told new
   stays_same kept told new is is_told same =
       let adds = used_adds content es whole sent p n kept parts.after for (text_same ∙ is) in
       record {
@@ -147,8 +158,11 @@ module _ (content : SetupContent) (es : List Event) (archived : Archived) (own w
         own = own;
         left = whole;
         parts = record { after = adds.rows_are; closed = parts.closed; parts = parts.parts; stay = parts.stay };
-        is_own = subst (λ (o : Office). IsOwnWithRest archived own o.rows) (sym same) is_own;
-        terminal = ap (λ (o : Office). o.terminal) same ∙ ap (λ (m : MachineState). own_terminal archived.stays m.terminal) (sym adds.machine);
+        filled = rows;
+        is_own = is_own;
+        lists = without_row content es archives away own whole sent lists adds;
+        rows = ap (λ (o : Office). o.rows) same;
+        terminal = ap (λ (o : Office). o.terminal) same ∙ ap own_left (sym adds.machine);
       }
 
   known : (reply : Option (List ℕ)) (next : ℕ) (told : AnswerModel) → text_in rows p n ≡ Some text → reply_in rows p n ≡ reply → next ≡ next_number → told ≡ answer_by Known next reply None → told ≡ answer_model_of content es p n sent
@@ -156,7 +170,7 @@ module _ (content : SetupContent) (es : List Event) (archived : Archived) (own w
   known None next told is has e is_told = is_told ∙ ap Waiting e ∙ sym (by_whole.waits (text_same ∙ is) (reply_same ∙ has))
 
   used : (kept : List ℕ) (same : Bool) (next : ℕ) (told : AnswerModel) (new : Office) → text_in rows p n ≡ Some kept → is_same_text kept text ≡ same → next ≡ next_number → TakesIn (cond same Known Other) now (delivery p n text) next told old new →
-      Follows content es archived sent p n told new
+      Follows content es archives away archived sent p n told new
   used kept true next told new is same e takes =
       let body : text_in rows p n ≡ Some text = is ∙ ap Some ((bytes_decides kept text).0 same) in
       stays_same kept told new is (known (reply_in rows p n) next told body refl e takes.0) takes.1
@@ -165,7 +179,7 @@ module _ (content : SetupContent) (es : List Event) (archived : Archived) (own w
       stays_same kept told new is (takes.0 ∙ sym (by_whole.clash kept (text_same ∙ is) apart)) takes.1
 
   free : (early : Bool) (next : ℕ) (told : AnswerModel) (new : Office) → text_in rows p n ≡ None → nat_lt next n ≡ early → next ≡ next_number → TakesIn (cond early Early Next) now (delivery p n text) next told old new →
-      Follows content es archived sent p n told new
+      Follows content es archives away archived sent p n told new
   free true next told new is early e takes =
       let later : next_number < n = subst (λ k. k < n) e (ltb-true next n early) in
       let adds = early_adds content es whole sent p n parts.after for (text_same ∙ is) later in
@@ -174,30 +188,37 @@ module _ (content : SetupContent) (es : List Event) (archived : Archived) (own w
         own = with_waiting p n text own;
         left = with_waiting p n text whole;
         parts = early_parts content es archived own whole sent p n parts for (text_own ∙ is) later;
-        is_own = subst (λ (o : Office). IsOwnWithRest archived (with_waiting p n text own) o.rows) (sym takes.1) (waiting_is_own archived own rows p n text is_own far);
-        terminal = ap (λ (o : Office). o.terminal) takes.1 ∙ ap (λ (m : MachineState). own_terminal archived.stays m.terminal) (sym adds.machine);
+        filled = with_waiting p n text rows;
+        is_own = waiting_is_own archived own rows p n text is_own far;
+        lists = with_early content es archives away archived own whole sent p n lists parts for (text_own ∙ is) later none;
+        rows = ap (λ (o : Office). o.rows) takes.1;
+        terminal = ap (λ (o : Office). o.terminal) takes.1 ∙ ap own_left (sym adds.machine);
       }
   free false next told new is early e takes =
       let run = takes.1 in
       let taken = run.first ∷ run.later in
       let is_next : n ≡ next_number = takes.0 ∙ e in
-      let machine = own_machine archived.stays (machine_after content es) in
+      let machine = machine_without away (own_machine archived.stays (machine_after content es)) in
       let here : AreTakenFrom p (texts_with rows p n text) n machine taken (machine_with now new.terminal) =
-      subst (λ m. AreTakenFrom p (texts_with rows p n text) n m taken (machine_with now new.terminal)) (own_is content es archived.stays) run.taken in
+      subst (λ m. AreTakenFrom p (texts_with rows p n text) n m taken (machine_with now new.terminal)) (ap (machine_without away) (own_is content es archived.stays)) run.taken in
       let from : AreTakenFrom p (texts_with own p n text) n machine taken (machine_with now new.terminal) =
       taken_alike p (texts_with rows p n text) (texts_with own p n text) n (λ k above. texts_own archived own rows p n text is_own k (omega (arith, far, above))) n (omega arith) machine taken (machine_with now new.terminal) here in
-      let all = next_adds_to_parts content es archived own whole sent p n taken (machine_with now new.terminal) given parts for (text_own ∙ is) is_next from in
+      let named = next_names content es archives away own sent p n lists is_next none in
+      let all = next_adds content es archived own whole away sent p n taken (machine_with now new.terminal) given parts for (text_own ∙ is) is_next named from in
       record {
         is_told = run.is_told ∙ sym (by_whole.next run.first run.later all.machine given (text_same ∙ is) is_next all.on_whole);
         own = with_run p n text taken own;
         left = with_run p n text taken whole;
         parts = all.parts;
-        is_own = subst (IsOwnWithRest archived (with_run p n text taken own)) (sym run.rows) (run_is_own archived own rows p n text (texts_with rows p n text) machine taken (machine_with now new.terminal) is_own far here);
-        terminal = ap (λ (m : MachineState). m.terminal) (all.beside ∙ ap (own_machine archived.stays) all.adds.machine_is);
+        filled = with_run p n text taken rows;
+        is_own = run_is_own archived own rows p n text (texts_with rows p n text) machine taken (machine_with now new.terminal) is_own far here;
+        lists = with_next content es archives away archived own whole sent p n taken (machine_with now new.terminal) lists parts for (text_own ∙ is) is_next named all;
+        rows = run.rows ∙ runs_written away rows p (texts_with own p n text) n text machine taken (machine_with now new.terminal) named from;
+        terminal = ap (λ (m : MachineState). m.terminal) all.beside ∙ ap own_left all.adds.machine_is;
       }
 
   by_kept : (kept : Option (List ℕ)) (next : ℕ) (told : AnswerModel) (new : Office) → text_in rows p n ≡ kept → next ≡ next_number → TakesIn (standing_of next n kept text) now (delivery p n text) next told old new →
-      Follows content es archived sent p n told new
+      Follows content es archives away archived sent p n told new
   by_kept (Some kept) next told new is e takes = used kept (is_same_text kept text) next told new is refl e takes
   by_kept None next told new is e takes = free (nat_lt next n) next told new is refl e takes
 
@@ -211,9 +232,9 @@ answered_left archives closed content es sent given s leaves = leaves
 -- ---- what the desk answers
 
 module _ {S : Type 0} (g : Ghosts S) (archives : List Archive) (content : SetupContent) (es : List Event) (old : Desk S g) (sent : List ℕ) (new : Desk S g) (stands : StandsBeside g archives content es old) (setup : new.setup ≡ old.setup) (closed : new.closed ≡ old.closed)
-    (far : IsBeyond g archives old sent) where
+    (far : IsBeyond g archives old sent) (none : NamesNoneAway g archives content es old stands sent) where
   abbrev office : Office
-  office = record { rows = stands.rows; terminal = own_terminal stands.archived.stays (machine_after content es).terminal }
+  office = record { rows = rows_without_lists stands.away stands.rows; terminal = without_lists stands.away (own_terminal stands.archived.stays (machine_after content es).terminal) }
 
   abbrev parties : Parties
   parties = parties_in (content_after content es)
@@ -231,10 +252,10 @@ module _ {S : Type 0} (g : Ghosts S) (archives : List Archive) (content : SetupC
   knows_still = subst (λ k. KnowsClosed (closed_content k) stands.archived) (sym closed) stands.knows
 
   -- with these parts after the delivery, desk and archives stand there
-  stands_after : (own whole rows : Rows) (terminal : TerminalState) → ArePartsAfter content (es ++ delivered sent ∷ []) stands.archived own whole → IsOwnWithRest stands.archived own rows →
-      terminal ≡ own_terminal stands.archived.stays (machine_after content (es ++ delivered sent ∷ [])).terminal → DeskHolds g new rows terminal →
+  stands_after : (own whole filled rows : Rows) (terminal : TerminalState) → ArePartsAfter content (es ++ delivered sent ∷ []) stands.archived own whole → IsOwnWithRest stands.archived own filled → AreAway archives stands.away content (es ++ delivered sent ∷ []) own →
+      rows ≡ rows_without_lists stands.away filled → terminal ≡ without_lists stands.away (own_terminal stands.archived.stays (machine_after content (es ++ delivered sent ∷ [])).terminal) → DeskHolds g new rows terminal →
       StandsBeside g archives content (es ++ delivered sent ∷ []) new
-  stands_after own whole rows terminal parts is_own same holds = record {
+  stands_after own whole filled rows terminal parts is_own lists left same holds = record {
     given = stands.given;
     now_is = now_same content es sent ∙ now_is;
     archived = stands.archived;
@@ -243,9 +264,11 @@ module _ {S : Type 0} (g : Ghosts S) (archives : List Archive) (content : SetupC
     parts = parts;
     hold = stands.hold;
     knows = knows_still;
-    rows = rows;
+    rows = filled;
     is_own = is_own;
-    holds = subst (DeskHolds g new rows) same holds;
+    away = stands.away;
+    lists = lists;
+    holds = subst (λ r. DeskHolds g new r (without_lists stands.away (own_terminal stands.archived.stays (machine_after content (es ++ delivered sent ∷ [])).terminal))) left (subst (DeskHolds g new rows) same holds);
   }
 
   at_place : (response : Response) (place : Result (ℕ × ℕ) Fault) → admission (parties_of new.setup) (interchange_of sent) ≡ place → AnswersAt g place (interchange_of sent) office response new →
@@ -255,20 +278,22 @@ module _ {S : Type 0} (g : Ghosts S) (archives : List Archive) (content : SetupC
       let adds = refused_adds content es stands.whole sent fault stands.parts.after here in
       let parts = stands.parts in (
         by.0 ∙ ap (λ P. refusal_of P (header_of (segments_in (interchange_of sent))) fault) parties_now ∙ ap (answer_at content es sent) (sym here),
-        stands_after stands.own stands.whole stands.rows office.terminal (record { after = adds.rows_are; closed = parts.closed; parts = parts.parts; stay = parts.stay }) stands.is_own
-            (ap (λ (m : MachineState). own_terminal stands.archived.stays m.terminal) (sym adds.machine)) by.1,
+        stands_after stands.own stands.whole stands.rows office.rows office.terminal (record { after = adds.rows_are; closed = parts.closed; parts = parts.parts; stay = parts.stay }) stands.is_own
+            (without_row content es archives stands.away stands.own stands.whole sent stands.lists adds) refl
+            (ap (λ (m : MachineState). without_lists stands.away (own_terminal stands.archived.stays m.terminal)) (sym adds.machine)) by.1,
       )
   at_place response (Ok place) admits by =
       let for : IsFor content es sent place.0 place.1 = admitted_here (Ok place) admits in
       let low : 1 ≤ place.1 = (within parties (interchange_of sent) place.0 place.1 for).2 in
       let open_ = beyond archives stands.archived place.0 place.1 stands.parts.closed stands.hold low
       (far place (subst (λ s. admission (parties_of s) (interchange_of sent) ≡ Ok place) setup admits)) in
-      let next = next_is content es stands.archived stands.own stands.whole stands.rows sent place.0 place.1 stands.given stands.parts stands.is_own for open_ by.next by.is_next in
+      let here = none place (subst (λ s. admission (parties_of s) (interchange_of sent) ≡ Ok place) setup admits) in
+      let next = next_is content es archives stands.away stands.archived stands.own stands.whole stands.rows sent place.0 place.1 stands.given stands.parts stands.is_own stands.lists for open_ here by.next by.is_next in
       let takes = subst (λ c. TakesIn (standing_of by.next place.1 (text_in stands.rows place.0 place.1) (interchange_of sent)) c (delivery place.0 place.1 (interchange_of sent)) by.next by.told office by.new) (sym now_is) by.takes in
-      let follows = by_kept content es stands.archived stands.own stands.whole stands.rows sent place.0 place.1 stands.given stands.parts stands.is_own for open_ (text_in stands.rows place.0 place.1) by.next by.told by.new refl next takes in (
+      let follows = by_kept content es archives stands.away stands.archived stands.own stands.whole stands.rows sent place.0 place.1 stands.given stands.parts stands.is_own stands.lists for open_ here (text_in stands.rows place.0 place.1) by.next by.told by.new refl next takes in (
         by.answers ∙ ap (answer_by_model (code_of (parties_of new.setup) place.0) place.1) follows.is_told
             ∙ ap (λ P. answer_by_model (code_of P place.0) place.1 (answer_model_of content es place.0 place.1 sent)) parties_now ∙ ap (answer_at content es sent) (sym for),
-        stands_after follows.own follows.left by.new.rows by.new.terminal follows.parts follows.is_own follows.terminal by.holds,
+        stands_after follows.own follows.left follows.filled by.new.rows by.new.terminal follows.parts follows.is_own follows.lists follows.rows follows.terminal by.holds,
       )
 
   answered : (response : Response) → AnswersOver g office sent response new → Delivers (StandsBeside g archives content) (AnswersNext content) es sent response new
@@ -285,6 +310,8 @@ module _ {S : Type 0} (g : Ghosts S) (archives : List Archive) (content : SetupC
       knows = knows_still;
       rows = stands.rows;
       is_own = stands.is_own;
+      away = stands.away;
+      lists = stands.lists;
       holds = by.2;
     },
   )
@@ -296,8 +323,8 @@ module _ {S : Type 0} (g : Ghosts S) (archives : List Archive) (content : SetupC
   knows = closed_content old.closed
 
   -- the store's rows as they were are those after the events
-  as_before : (es' : List Event) (whole : Rows) → ArePartsAfter content es' stands.archived stands.own whole → (db : Trees) → StoresRows stands.rows db → IsBesideAfter archives knows content es' db
-  as_before es' whole parts db are = record { archived = stands.archived; own = stands.own; whole = whole; parts = parts; hold = stands.hold; knows = stands.knows; rows = stands.rows; is_own = stands.is_own; are = are }
+  as_before : (es' : List Event) (whole : Rows) → ArePartsAfter content es' stands.archived stands.own whole → AreAway archives stands.away content es' stands.own → (db : Trees) → StoresRows office.rows db → IsBesideAfter archives knows content es' db
+  as_before es' whole parts lists db are = record { archived = stands.archived; own = stands.own; whole = whole; parts = parts; hold = stands.hold; knows = stands.knows; rows = stands.rows; is_own = stands.is_own; away = stands.away; lists = lists; are = are }
 
   into : (place : ℕ × ℕ) → admission (parties_of old.setup) (interchange_of sent) ≡ Ok place → (db : Trees) → IsTakenInto (setup_content old.setup) (delivery place.0 place.1 (interchange_of sent)) office db
       → IsBesideAfter archives knows content (es ++ delivered sent ∷ []) db
@@ -305,30 +332,44 @@ module _ {S : Type 0} (g : Ghosts S) (archives : List Archive) (content : SetupC
       let for : IsFor content es sent place.0 place.1 = admitted_here (Ok place) (subst (λ s. admission (parties_of s) (interchange_of sent) ≡ Ok place) (sym setup) admits) in
       let low : 1 ≤ place.1 = (within parties (interchange_of sent) place.0 place.1 for).2 in
       let open_ = beyond archives stands.archived place.0 place.1 stands.parts.closed stands.hold low (far place admits) in
-      let next = next_is content es stands.archived stands.own stands.whole stands.rows sent place.0 place.1 stands.given stands.parts stands.is_own for open_ is.next is.is_next in
+      let here = none place admits in
+      let next = next_is content es archives stands.away stands.archived stands.own stands.whole stands.rows sent place.0 place.1 stands.given stands.parts stands.is_own stands.lists for open_ here is.next is.is_next in
       let takes = subst (λ c. TakesIn (standing_of is.next place.1 (text_in stands.rows place.0 place.1) (interchange_of sent)) c (delivery place.0 place.1 (interchange_of sent)) is.next is.told office is.new) (sym stands.now_is) is.takes in
-      let follows = by_kept content es stands.archived stands.own stands.whole stands.rows sent place.0 place.1 stands.given stands.parts stands.is_own for open_ (text_in stands.rows place.0 place.1) is.next is.told is.new refl next takes in
-      record { archived = stands.archived; own = follows.own; whole = follows.left; parts = follows.parts; hold = stands.hold; knows = stands.knows; rows = is.new.rows; is_own = follows.is_own; are = is.are }
+      let follows = by_kept content es archives stands.away stands.archived stands.own stands.whole stands.rows sent place.0 place.1 stands.given stands.parts stands.is_own stands.lists for open_ here (text_in stands.rows place.0 place.1) is.next is.told is.new refl next takes in
+      record {
+        archived = stands.archived;
+        own = follows.own;
+        whole = follows.left;
+        parts = follows.parts;
+        hold = stands.hold;
+        knows = stands.knows;
+        rows = follows.filled;
+        is_own = follows.is_own;
+        away = stands.away;
+        lists = follows.lists;
+        are = subst (λ r. StoresRows r db) follows.rows is.are;
+      }
 
-  refused_here : (fault : Fault) → admission (parties_of old.setup) (interchange_of sent) ≡ Err fault → (db : Trees) → StoresRows stands.rows db → IsBesideAfter archives knows content (es ++ delivered sent ∷ []) db
+  refused_here : (fault : Fault) → admission (parties_of old.setup) (interchange_of sent) ≡ Err fault → (db : Trees) → StoresRows office.rows db → IsBesideAfter archives knows content (es ++ delivered sent ∷ []) db
   refused_here fault admits db are =
       let here = admitted_here (Err fault) (subst (λ s. admission (parties_of s) (interchange_of sent) ≡ Err fault) (sym setup) admits) in
       let adds = refused_adds content es stands.whole sent fault stands.parts.after here in
       let parts = stands.parts in
-      as_before (es ++ delivered sent ∷ []) stands.whole (record { after = adds.rows_are; closed = parts.closed; parts = parts.parts; stay = parts.stay }) db are
+      as_before (es ++ delivered sent ∷ []) stands.whole (record { after = adds.rows_are; closed = parts.closed; parts = parts.parts; stay = parts.stay })
+      (without_row content es archives stands.away stands.own stands.whole sent stands.lists adds) db are
 
   left : (response : Response) (place : Result (ℕ × ℕ) Fault) (s : State) → admission (parties_of old.setup) (interchange_of sent) ≡ place → LeavesOver (setup_content old.setup) place (interchange_of sent) office response s
       → LeavesDelivered archives knows content es sent response s
   left response (Err fault) s admits leaves = answered_left archives knows content es sent response s (λ db left. refused_here fault admits db (leaves db left))
-  left response.NotNow (Ok place) s admits leaves = λ db left. either_of (λ are. as_before es stands.whole stands.parts db are) (λ is. into place admits db is) (leaves db left)
+  left response.NotNow (Ok place) s admits leaves = λ db left. either_of (λ are. as_before es stands.whole stands.parts stands.lists db are) (λ is. into place admits db is) (leaves db left)
   left given (Ok place) s admits leaves = answered_left archives knows content es sent given s (λ db left. into place admits db (leaves db left))
 
 pub beyond_answered : {S : Type 0} (g : Ghosts S) → DeliveriesBeyondAreAnswered g
-beyond_answered g archives content es old sent response new leads sound stands far =
-    answered g archives content es old sent new stands leads.setup leads.closed far response (leads.office sound (office g archives content es old sent new stands leads.setup leads.closed far) stands.holds)
+beyond_answered g archives content es old sent response new stands leads sound far none =
+    answered g archives content es old sent new stands leads.setup leads.closed far none response (leads.office sound (office g archives content es old sent new stands leads.setup leads.closed far none) stands.holds)
 
-pub beyond_left : {S : Type 0} (g : Ghosts S) (archives : List Archive) (content : SetupContent) (es : List Event) (old : Desk S g) (sent : List ℕ) (response : Response) (new : Desk S g) → Leads g old sent response new → IsSound g old →
-    HasCleanDisk (state g new.conn) → StandsBeside g archives content es old → IsBeyond g archives old sent → LeavesDelivered archives (closed_content old.closed) content es sent response (state g new.conn)
-beyond_left g archives content es old sent response new leads sound clean stands far =
-    left g archives content es old sent new stands leads.setup leads.closed far response (admission (parties_of old.setup) (interchange_of sent)) (state g new.conn) refl
-    (leads.office_crash sound clean (office g archives content es old sent new stands leads.setup leads.closed far) stands.holds)
+pub beyond_left : {S : Type 0} (g : Ghosts S) (archives : List Archive) (content : SetupContent) (es : List Event) (old : Desk S g) (sent : List ℕ) (response : Response) (new : Desk S g) (stands : StandsBeside g archives content es old) → Leads g old sent response new → IsSound g old →
+    HasCleanDisk (state g new.conn) → IsBeyond g archives old sent → NamesNoneAway g archives content es old stands sent → LeavesDelivered archives (closed_content old.closed) content es sent response (state g new.conn)
+beyond_left g archives content es old sent response new stands leads sound clean far none =
+    left g archives content es old sent new stands leads.setup leads.closed far none response (admission (parties_of old.setup) (interchange_of sent)) (state g new.conn) refl
+    (leads.office_crash sound clean (office g archives content es old sent new stands leads.setup leads.closed far none) stands.holds)

@@ -1,5 +1,5 @@
 -- What a delivery does to a desk and the archives beside it.
-use Rattle.std.proofs.Common.{◌≡◌, ℕ, ◌+◌, ◌≤◌, inl, List, [], ◌∷◌, ◌++◌, true, false, Ok, sym, refl, ap, subst, ◌∙◌, arith}
+use Rattle.std.proofs.Common.{◌≡◌, ℕ, ◌+◌, ◌≤◌, inl, List, [], ◌∷◌, ◌++◌, true, false, Result, Ok, Err, sym, refl, ap, subst, ◌∙◌, arith}
 use Rattle.std.specs.Prelude.{nat_le, None, IsTrue}
 use Rattle.std.proofs.lemmas.Bool.{leb-true, leb-false}
 use Rattle.sqlite.specs.Held.{Held, state}
@@ -10,8 +10,9 @@ use Rattle.edi_segments.specs.Interchange.{interchange_of}
 use Rattle.partner_core.proofs.Firsts.{some_of}
 use Rattle.partner_core.proofs.Unbroken.{used_within_run}
 use Rattle.office_replies.specs.Contents.{content_of}
-use Rattle.office_replies.specs.Delivering.{with_answered}
+use Rattle.office_replies.specs.Delivering.{Delivers, with_answered}
 use Rattle.office_replies.specs.Events.{Event, delivered}
+use Rattle.office_replies.specs.declared.deliver.Fault.{Fault}
 use Rattle.office_replies.specs.declared.deliver.Response.{Response}
 use Rattle.office_replies.specs.declared.deliver.Response.TheVariants as response
 use Rattle.office_checks.specs.Closed.{closed_content, last_closed}
@@ -19,29 +20,37 @@ use Rattle.office_rows.specs.Rows.{Rows}
 use Rattle.office_rows.specs.Stored.{StoresRows}
 use Rattle.office_rows.proofs.StepLemmas.{stores}
 use Rattle.office_setup.specs.Parties.{parties_of}
+use Rattle.office_tables.specs.declared.table_fault.TableFault.{TableFault}
 use Rattle.office_setup.specs.Setups.{SetupContent, parties_in, setup_content}
 use Rattle.office_admission.specs.Admission.{admission}
 use Rattle.office_admission.specs.Refusals.{RefusedSurely}
-use Rattle.office_taking.specs.Taking.{MachineState}
-use Rattle.office_history.specs.After.{content_after, deliveries_of, machine_after}
-use Rattle.office_history.specs.Laws.{IsFor, answer_model_of}
+use Rattle.terminal_core.specs.Versions.{newest}
+use Rattle.office_lists.specs.Away.{AreAway, lists_after}
+use Rattle.office_lists.specs.Naming.{AreHere, interchange_lists}
+use Rattle.office_lists.specs.OwnLists.{ListName, rows_without_lists, without_lists}
+use Rattle.office_lists.proofs.AwayLemmas.{without_row}
+use Rattle.office_taking.specs.Taking.{MachineState, machine_of}
+use Rattle.office_history.specs.After.{content_after, deliveries_of, machine_after, machine_with}
+use Rattle.office_history.specs.Laws.{AddsNoRow, IsFor, answer_model_of}
 use Rattle.office_history.proofs.Lawful.{now_same, used_adds}
 use Rattle.office_history.proofs.Telling.{within}
 use Rattle.office_desk.specs.Answers.{AnswersNext, answer_at, answer_by_model, answer_to, code_of}
 use Rattle.office_desk.specs.Calls.{Leads}
 use Rattle.office_desk.specs.Desks.{IsSound}
-use Rattle.office_desk.specs.Noting.{HasFault, IsNow}
+use Rattle.office_desk.specs.Noting.{HasFault, IsNow, NotesFault}
 use Rattle.office_desk.specs.Offices.{DeskHolds, HoldsOffice}
 use Rattle.office_desk.specs.declared.desk.Desk.{Desk}
 use Rattle.office_desk.proofs.DeliverLemmas.{not_now_surely, notes_none, parties_same}
+use Rattle.office_desk.proofs.HoldLemmas.{machine_same}
 use Rattle.office_parts.specs.Archives.{Archive, archive_of}
 use Rattle.office_parts.specs.OwnTerminal.{own_terminal}
 use Rattle.office_parts.specs.Parts.{ArePartsAfter}
 use Rattle.office_parts.proofs.Lookups.{archives_answered, closed_within}
 use Rattle.office_archives.specs.Answering.{AnswersClosed}
-use Rattle.office_archives.specs.Standing.{IsBeyond, KnowsClosed, StandsBeside}
-use Rattle.office_archives.specs.Together.{IsBesideAfter, LeadsTogether, StandTogether}
-use Rattle.office_archives.proofs.Standing.{answered_left, beyond_answered, beyond_left}
+use Rattle.office_archives.specs.Bringing.{BringsTogether, StandsWith, named_by}
+use Rattle.office_archives.specs.Standing.{IsBeyond, KnowsClosed, NamesNoneAway, StandsBeside}
+use Rattle.office_archives.specs.Together.{IsBesideAfter, LeadsTogether, LeavesDelivered, StandTogether}
+use Rattle.office_archives.proofs.Standing.{answered_left, beyond_answered, beyond_left, machine_is}
 
 module _ {S : Type 0} (g : Ghosts S) where
   -- no archive is asked for a number that is not closed
@@ -67,29 +76,111 @@ module _ {S : Type 0} (g : Ghosts S) where
     knows = subst (λ k. KnowsClosed (closed_content k) stands.archived) (sym closed) stands.knows;
     rows = stands.rows;
     is_own = stands.is_own;
+    away = stands.away;
+    lists = stands.lists;
     holds =
-        let T = own_terminal stands.archived.stays (machine_after content es).terminal in
-        subst (λ k. HoldsOffice (closed_content new.closed) (setup_content new.setup) stands.rows T (state g k).committed new.beside) (sym conn)
-        (subst (λ k. HoldsOffice (closed_content new.closed) (setup_content k) stands.rows T (state g old.conn).committed new.beside) (sym setup)
-        (subst (λ k. HoldsOffice (closed_content k) (setup_content old.setup) stands.rows T (state g old.conn).committed new.beside) (sym closed)
-        (subst (HoldsOffice (closed_content old.closed) (setup_content old.setup) stands.rows T (state g old.conn).committed) (sym beside) stands.holds)));
+        let T = without_lists stands.away (own_terminal stands.archived.stays (machine_after content es).terminal) in
+        let R = rows_without_lists stands.away stands.rows in
+        subst (λ k. HoldsOffice (closed_content new.closed) (setup_content new.setup) R T (state g k).committed new.beside) (sym conn)
+        (subst (λ k. HoldsOffice (closed_content new.closed) (setup_content k) R T (state g old.conn).committed new.beside) (sym setup)
+        (subst (λ k. HoldsOffice (closed_content k) (setup_content old.setup) R T (state g old.conn).committed new.beside) (sym closed)
+        (subst (HoldsOffice (closed_content old.closed) (setup_content old.setup) R T (state g old.conn).committed) (sym beside) stands.holds)));
   }
 
 module _ {S A : Type 0} (g : Ghosts S) (is_sound : A → Type 0) (are : List Archive → A → Type 0) where
   -- ---- by the desk
 
-  pub by_desk : (old : Desk S g) (a : A) (sent : List ℕ) (given : Response) (new : Desk S g) → Leads g old sent given new → ((list : List Archive) (content : SetupContent) (es : List Event) → StandsBeside g list content es old → IsBeyond g list old sent) →
+  -- a text that is refused is of no number, and names no list
+  pub by_desk : (old : Desk S g) (a : A) (sent : List ℕ) (given : Response) (new : Desk S g) → Leads g old sent given new → (fault : Fault) → admission (parties_of old.setup) (interchange_of sent) ≡ Err fault →
       LeadsTogether g is_sound are old a sent given new a
-  by_desk old a sent given new leads far = record {
-    answers = λ sound whole content es stand. (beyond_answered g stand.list content es old sent given new leads sound stand.stands (far stand.list content es stand.stands)).0;
+  by_desk old a sent given new leads fault refused = record {
+    answers = λ sound whole content es stand. (beyond_answered g stand.list content es old sent given new stand.stands leads sound (far stand.list) (none stand.list content es stand.stands)).0;
     stand = λ sound content es stand.
-        record { list = stand.list; these = stand.these; stands = (beyond_answered g stand.list content es old sent given new leads sound stand.stands (far stand.list content es stand.stands)).1 };
-    crash = λ sound clean content es stand. beyond_left g stand.list content es old sent given new leads sound clean stand.stands (far stand.list content es stand.stands);
+        record { list = stand.list; these = stand.these; stands = (beyond_answered g stand.list content es old sent given new stand.stands leads sound (far stand.list) (none stand.list content es stand.stands)).1 };
+    crash = λ sound clean content es stand. beyond_left g stand.list content es old sent given new stand.stands leads sound clean (far stand.list) (none stand.list content es stand.stands);
     setup = leads.setup;
     closed = leads.closed;
     stays = leads.stays;
     noted = leads.noted;
   }
+    where
+      far : (list : List Archive) → IsBeyond g list old sent
+      far list place is = let never : Err fault ≡ Ok place = sym refused ∙ is in absurd cc
+
+      none : (list : List Archive) (content : SetupContent) (es : List Event) (stands : StandsBeside g list content es old) → NamesNoneAway g list content es old stands sent
+      none list content es stands place is = let never : Err fault ≡ Ok place = sym refused ∙ is in absurd cc
+
+  -- the lists that a text names were brought back, and then the desk took it in
+  module _ (old mid : Desk S g) (a : A) (sent : List ℕ) (partner number : ℕ) (admits : admission (parties_of old.setup) (interchange_of sent) ≡ Ok (partner, number)) (is_open : nat_le number (last_closed old.closed partner) ≡ false) where
+    abbrev named : List ListName
+    named = named_by old partner (interchange_of sent)
+
+    module _ (result : Result (Unit {0}) TableFault) (brings : BringsTogether g are old a named result mid) where
+      mid_admits : admission (parties_of mid.setup) (interchange_of sent) ≡ Ok (partner, number)
+      mid_admits = subst (λ s. admission (parties_of s) (interchange_of sent) ≡ Ok (partner, number)) (sym brings.setup) admits
+
+      mid_open : nat_le number (last_closed mid.closed partner) ≡ false
+      mid_open = ap (λ k. nat_le number (last_closed k partner)) brings.closed ∙ is_open
+
+      far : (list : List Archive) (content : SetupContent) (es : List Event) → StandsBeside g list content es mid → IsBeyond g list mid sent
+      far = far_open g mid sent partner number mid_admits mid_open
+
+      -- what the text names after the events is what it names by the desk's set-up
+      named_after : (list : List Archive) (content : SetupContent) (es : List Event) → StandsBeside g list content es old → lists_after content es partner (interchange_of sent) ≡ named
+      named_after list content es stands =
+          let same : machine_after content es ≡ machine_of old.setup (machine_after content es).terminal =
+          sym (machine_is content es) ∙ ap (λ c. machine_with c (machine_after content es).terminal) stands.now_is ∙ sym (machine_same old.setup (machine_after content es).terminal) in
+          ap (λ (m : MachineState). interchange_lists newest m.codes m.kinds partner (interchange_of sent)) same
+
+      none : (list : List Archive) (content : SetupContent) (es : List Event) (was : StandsBeside g list content es old) (there : StandsWith g list content es named old mid was) → NamesNoneAway g list content es mid there.stands sent
+      none list content es was there place is =
+          let one : (partner, number) ≡ place = let e = sym mid_admits ∙ is in cc in
+          subst (λ (q : ℕ × ℕ). AreHere there.stands.away (lists_after content es q.0 (interchange_of sent))) one
+          (subst (AreHere there.stands.away) (sym (named_after list content es was)) there.here)
+
+    pub by_open : (brings : BringsTogether g are old a named (Ok tt) mid) (given : Response) (new : Desk S g) → Leads g mid sent given new → LeadsTogether g is_sound are old a sent given new a
+    by_open brings given new leads = record {
+      answers = λ sound whole content es stand.
+          let there = brings.stand (leads.stays sound) stand.list content es stand.these stand.stands in
+          (taken sound stand.list content es stand.stands there).0;
+      stand = λ sound content es stand.
+          let there = brings.stand (leads.stays sound) stand.list content es stand.these stand.stands in
+          record { list = stand.list; these = stand.these; stands = (taken sound stand.list content es stand.stands there).1 };
+      crash = λ sound clean content es stand.
+          let clean_mid = leads.clean clean in
+          let sound_mid : IsSound g mid = (clean_mid, brings.opens sound clean_mid) in
+          let there = brings.stand sound_mid stand.list content es stand.these stand.stands in
+          subst (λ k. LeavesDelivered stand.list (closed_content k) content es sent given (state g new.conn)) brings.closed
+          (beyond_left g stand.list content es mid sent given new there.stands leads sound_mid clean (far (Ok tt) brings stand.list content es there.stands) (none (Ok tt) brings stand.list content es stand.stands there));
+      setup = leads.setup ∙ brings.setup;
+      closed = leads.closed ∙ brings.closed;
+      stays = λ sound. brings.stays (leads.stays sound);
+      noted = subst (λ last. NotesFault given last new.last_fault) brings.last_fault leads.noted;
+    }
+      where
+        taken : IsSound g new → (list : List Archive) (content : SetupContent) (es : List Event) (was : StandsBeside g list content es old) (there : StandsWith g list content es named old mid was) → Delivers (StandsBeside g list content) (AnswersNext content) es sent given new
+        taken sound list content es was there = beyond_answered g list content es mid sent given new there.stands leads sound (far (Ok tt) brings list content es there.stands) (none (Ok tt) brings list content es was there)
+
+    -- they could not be brought back
+    pub not_brought : (result : Result (Unit {0}) TableFault) (brings : BringsTogether g are old a named result mid) (new : Desk S g) → RefusedSurely (parties_of old.setup) (interchange_of sent) response.NotNow → new.conn ≡ mid.conn → new.setup ≡ mid.setup → new.closed ≡ mid.closed → new.beside ≡ mid.beside
+        → HasFault new.last_fault → LeadsTogether g is_sound are old a sent response.NotNow new a
+    not_brought result brings new surely conn setup closed beside fault = record {
+      answers = λ sound whole content es stand.
+          not_now_surely (parties_in (content_after content es)) (interchange_of sent)
+          (subst (λ P. RefusedSurely P (interchange_of sent) response.NotNow) (parties_same old.setup ∙ ap parties_in (sym stand.stands.now_is)) surely);
+      stand = λ sound content es stand.
+          let there = brings.stand (sound_mid sound) stand.list content es stand.these stand.stands in
+          record { list = stand.list; these = stand.these; stands = noted_stands g stand.list content es mid new conn setup closed beside there.stands };
+      crash = λ sound clean content es stand.
+          λ db left. inl (brings.crash sound (subst (λ (k : Held S). HasCleanDisk (state g k)) conn clean) stand.list content es stand.these stand.stands db (subst (λ (k : Held S). (state g k).may_leave db) conn left));
+      setup = setup ∙ brings.setup;
+      closed = closed ∙ brings.closed;
+      stays = λ sound. brings.stays (sound_mid sound);
+      noted = fault;
+    }
+      where
+        sound_mid : IsSound g new → IsSound g mid
+        sound_mid sound = subst (λ (k : Held S). HasCleanDisk (state g k) × IsTrue (state g k).is_open) conn sound
 
   -- ---- by the archives
 
@@ -102,9 +193,9 @@ module _ {S A : Type 0} (g : Ghosts S) (is_sound : A → Type 0) (are : List Arc
     is_for list content es stands = subst (λ P. admission P (interchange_of sent) ≡ Ok (partner, number)) (parties_now list content es stands) admits
 
     -- what a crash leaves of the store, which is not written
-    stored : (list : List Archive) (content : SetupContent) (es es' : List Event) (stands : StandsBeside g list content es old) (whole : Rows) → ArePartsAfter content es' stands.archived stands.own whole → IsSound g old → (db : Trees) → (state g old.conn).may_leave db
+    stored : (list : List Archive) (content : SetupContent) (es es' : List Event) (stands : StandsBeside g list content es old) (whole : Rows) → ArePartsAfter content es' stands.archived stands.own whole → AreAway list stands.away content es' stands.own → IsSound g old → (db : Trees) → (state g old.conn).may_leave db
         → IsBesideAfter list (closed_content old.closed) content es' db
-    stored list content es es' stands whole parts sound db left = record {
+    stored list content es es' stands whole parts lists sound db left = record {
       archived = stands.archived;
       own = stands.own;
       whole = whole;
@@ -113,22 +204,29 @@ module _ {S A : Type 0} (g : Ghosts S) (is_sound : A → Type 0) (are : List Arc
       knows = stands.knows;
       rows = stands.rows;
       is_own = stands.is_own;
-      are = subst (StoresRows stands.rows) (sym (settled sound db left)) (stores stands.rows (state g old.conn).committed stands.holds.has);
+      away = stands.away;
+      lists = lists;
+      are =
+          let R = rows_without_lists stands.away stands.rows in
+          subst (StoresRows R) (sym (settled sound db left)) (stores R (state g old.conn).committed stands.holds.has);
     }
 
     module _ (closed : nat_le number (last_closed old.closed partner) ≡ true) (code : List ℕ) (is_code : code ≡ code_of (parties_of old.setup) partner) where
       number_closed : (list : List Archive) (content : SetupContent) (es : List Event) (stands : StandsBeside g list content es old) → number ≤ stands.archived.last_closed partner
       number_closed list content es stands = let low = leb-true number (last_closed old.closed partner) closed in omega (arith, low, stands.knows.numbers partner)
 
-      -- the terminal stays what it was
-      machine_stays : (list : List Archive) (content : SetupContent) (es : List Event) (stands : StandsBeside g list content es old) → machine_after content (es ++ delivered sent ∷ []) ≡ machine_after content es
-      machine_stays list content es stands =
+      -- it adds no row
+      adds_none : (list : List Archive) (content : SetupContent) (es : List Event) (stands : StandsBeside g list content es old) → AddsNoRow content es sent stands.whole
+      adds_none list content es stands =
           let for = is_for list content es stands in
           let low : 1 ≤ number = (within (parties_in (content_after content es)) (interchange_of sent) partner number for).2 in
           let high = closed_within content es stands.archived stands.own stands.whole partner stands.parts in
           let below = number_closed list content es stands in
           let kept = some_of _ (used_within_run (deliveries_of content es) partner number low (omega (arith, high, below))) in
-          (used_adds content es stands.whole sent partner number kept.0 stands.parts.after for (stands.parts.after.texts partner number ∙ kept.1)).machine
+          used_adds content es stands.whole sent partner number kept.0 stands.parts.after for (stands.parts.after.texts partner number ∙ kept.1)
+
+      away_after : (list : List Archive) (content : SetupContent) (es : List Event) (stands : StandsBeside g list content es old) → AreAway list stands.away content (es ++ delivered sent ∷ []) stands.own
+      away_after list content es stands = without_row content es list stands.away stands.own stands.whole sent stands.lists (adds_none list content es stands)
 
       -- a closed number adds nothing
       parts_after : (list : List Archive) (content : SetupContent) (es : List Event) (stands : StandsBeside g list content es old) → ArePartsAfter content (es ++ delivered sent ∷ []) stands.archived stands.own stands.whole
@@ -147,7 +245,9 @@ module _ {S A : Type 0} (g : Ghosts S) (is_sound : A → Type 0) (are : List Arc
         knows = stands.knows;
         rows = stands.rows;
         is_own = stands.is_own;
-        holds = subst (DeskHolds g old stands.rows) (ap (λ (m : MachineState). own_terminal stands.archived.stays m.terminal) (sym (machine_stays list content es stands))) stands.holds;
+        away = stands.away;
+        lists = away_after list content es stands;
+        holds = subst (DeskHolds g old (rows_without_lists stands.away stands.rows)) (ap (λ (m : MachineState). without_lists stands.away (own_terminal stands.archived.stays m.terminal)) (sym (adds_none list content es stands).machine)) stands.holds;
       }
 
       pub by_archives : (a b : A) (given : Response) → (is_sound b → (list : List Archive) → are list a → AnswersClosed list partner code number (interchange_of sent) given) → ((list : List Archive) → are list a → are list b) → IsNow given
@@ -165,7 +265,7 @@ module _ {S A : Type 0} (g : Ghosts S) (is_sound : A → Type 0) (are : List Arc
         crash = λ sound clean content es stand.
             let stands = stand.stands in
             answered_left stand.list (closed_content old.closed) content es sent given (state g old.conn)
-            (λ db left. stored stand.list content es (es ++ delivered sent ∷ []) stands stands.whole (parts_after stand.list content es stands) sound db left);
+            (λ db left. stored stand.list content es (es ++ delivered sent ∷ []) stands stands.whole (parts_after stand.list content es stands) (away_after stand.list content es stands) sound db left);
         setup = refl;
         closed = refl;
         stays = λ sound. sound;
@@ -188,7 +288,7 @@ module _ {S A : Type 0} (g : Ghosts S) (is_sound : A → Type 0) (are : List Arc
           not_now_surely (parties_in (content_after content es)) (interchange_of sent) (subst (λ P. RefusedSurely P (interchange_of sent) response.NotNow) (parties_now stand.list content es stand.stands) surely);
       stand = λ sound content es stand. record { list = stand.list; these = same stand.list stand.these; stands = noted_stands g stand.list content es old new conn setup closed beside stand.stands };
       crash = λ sound clean content es stand.
-          λ db left. inl (stored stand.list content es es stand.stands stand.stands.whole stand.stands.parts sound db (subst (λ k. (state g k).may_leave db) conn left));
+          λ db left. inl (stored stand.list content es es stand.stands stand.stands.whole stand.stands.parts stand.stands.lists sound db (subst (λ k. (state g k).may_leave db) conn left));
       setup = setup;
       closed = closed;
       stays = λ sound. subst (λ (k : Held S). HasCleanDisk (state g k) × IsTrue (state g k).is_open) conn sound;

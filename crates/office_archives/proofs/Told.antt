@@ -7,7 +7,9 @@ use Rattle.std.proofs.lemmas.Bool.{and_parts, eqb-true, leb-true, ltb-true}
 use Rattle.edi_messages.specs.declared.codes.PartnerKind.{PartnerKind}
 use Rattle.partner_core.specs.Deliveries.{run}
 use Rattle.sqlite_rules.proofs.ListLemmas.{contains_had, has_contained, has_filtered}
+use Rattle.edi_messages.specs.Purposes.{CallContent}
 use Rattle.terminal_core.specs.State.{TerminalState}
+use Rattle.terminal_core.specs.declared.lines.Side.{Side}
 use Rattle.office_admission.specs.Deliveries.{deliveries_of}
 use Rattle.office_replies.specs.Events.{Event}
 use Rattle.office_rows.specs.Rows.{Interchange, Rows}
@@ -35,7 +37,7 @@ use Rattle.office_archive_reports.proofs.CountedTold.{metrics_told, partners_tol
 use Rattle.office_archive_reports.proofs.StayedTold.{containers_told, visits_told}
 use Rattle.office_archives.specs.Reporting.{IsOfWhatStands}
 use Rattle.office_archives.specs.Standing.{IsOwnWithRest}
-use Rattle.office_archives.specs.Telling.{IsOfContainer, IsOfNeither, IsOfNumber, TellsTogether, with_archives}
+use Rattle.office_archives.specs.Telling.{IsOfContainer, IsOfList, IsOfNeither, IsOfNumber, TellsTogether, with_archives}
 use Rattle.office_archives.proofs.Reporting.{told_alike}
 
 -- ---- closed interchanges wait for nothing
@@ -132,21 +134,25 @@ module _ (content : SetupContent) (es : List Event) (archives : List Archive) (a
   counted : (asked : Query) (found : Option (List ℕ)) → IsOfPartners asked → TellsOf now mine own asked found → TellsAfter content es asked found
   counted asked found is told = by_whole asked found (partners_told content es archived own whole asked found are is told)
 
-  -- it is asked neither of a container nor of a number
+  -- it is asked neither of a container, of lists, nor of a number
   pub others_told : (asked : Query) (found : Option (List ℕ)) → IsOfNeither asked → TellsOf now mine rows asked found → TellsTogether content es archives archived whole asked found
   others_told query.Yard found is told = standing query.Yard found tt told
   others_told query.YardTable found is told = standing query.YardTable found tt told
   others_told query.Picture found is told = standing query.Picture found tt told
   others_told query.Blocks found is told = standing query.Blocks found tt told
-  others_told query.Calls found is told = standing query.Calls found tt told
-  others_told (query.List call side) found is told = standing (query.List call side) found tt told
-  others_told (query.Work call side) found is told = standing (query.Work call side) found tt told
   others_told (query.Next code) found is told = standing (query.Next code) found tt (next_told (partner_called now (string_bytes code)) found told)
   others_told query.Partners found is told = counted query.Partners found tt (told.0, all_looked_up 1 now.partners told.0 told.1, told.2)
   others_told (query.Partner code) found is told = counted (query.Partner code) found tt (partner_own now.partners (partner_called now (string_bytes code)) found told)
   others_told query.Health found is told = counted query.Health found tt told
   others_told query.Metrics found is told = metrics_told content es archived own whole found are (told.0, all_looked_up 1 now.partners told.0 told.1, told.2)
   others_told other found is told = absurd is
+
+  -- ---- lists
+
+  pub list_told : (asked : Query) (found : Option (List ℕ)) (call : CallContent) (side : Side) → IsOfList asked call side → TellsOf now mine rows asked found → TellsTogether content es archives archived whole asked found
+  list_told (query.List asked on) found call side is told = standing (query.List asked on) found tt told
+  list_told (query.Work asked on) found call side is told = standing (query.Work asked on) found tt told
+  list_told other found call side is told = absurd is
 
   -- ---- containers
 

@@ -4,6 +4,7 @@ pub mod Standing
 pub mod Reporting
 pub mod Telling
 pub mod Together
+pub mod Bringing
 pub mod Opening
 pub mod Shelves
 pub mod Texts

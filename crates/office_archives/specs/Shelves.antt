@@ -1,15 +1,22 @@
 -- The archives of a store, of which one at a time is open.
-use Rattle.std.specs.Prelude.{◌≡◌, ℕ, ◌+◌, ◌-◌, ◌≤◌, nat_lt, List, [], ◌∷◌, ◌++◌, filter, length, Option, None, Some, slice_get, IsTrue}
+use Rattle.std.specs.Prelude.{◌≡◌, ◌⊎◌, ℕ, ◌+◌, ◌-◌, ◌≤◌, nat_lt, List, [], ◌∷◌, ◌++◌, filter, length, Option, None, Some, slice_get, IsTrue}
 use Rattle.std.specs.List.{AllByRecursion}
 use Rattle.std.specs.Option.{option_and_then}
 use Rattle.sqlite.specs.Effect.{Database}
 use Rattle.sqlite.specs.Held.{Held, state}
 use Rattle.sqlite.specs.State.{HasCleanDisk}
 use Rattle.sqlite_trees.specs.declared.store.Store.{Ghosts}
+use Rattle.edi_messages.specs.Purposes.{CallContent}
+use Rattle.terminal_core.specs.declared.lines.Side.{Side}
+use Rattle.office_rows.specs.Rows.{ListingContent}
 use Rattle.office_rows.specs.Stored.{HasRows}
 use Rattle.office_history.specs.After.{AreKeptOnce}
 use Rattle.office_parts.specs.Archives.{Archive, archive_of}
+use Rattle.office_lists.specs.Away.{lines_away}
+use Rattle.office_lists.specs.OwnLists.{ListName, list_name}
+use Rattle.office_list_texts.specs.Texts.{IsTextOf}
 use Rattle.office_register.specs.Changes.{closed_with}
+use Rattle.office_register.specs.Lists.{lines_of_list}
 use Rattle.office_register.specs.Register.{ArchiveContent, RegisterContent, last_closed, register_content}
 use Rattle.office_register.specs.Register as register
 use Rattle.office_register.specs.Sound.{is_sound}
@@ -45,20 +52,35 @@ IsOpenIfAny g is_known list (Some opened) = is_known opened.place → IsOpenAt g
 
 -- ---- what the register names
 
--- the register of a store as the archive at that place was closed: it names those before
+-- the register of a store as the archive at that place was closed, without lists: it names those before
 abbrev pub register_before : (place : ℕ) → RegisterContent → RegisterContent
 register_before place names =
     record {
       archives = filter (λ (archive : ArchiveContent). nat_lt archive.place place) names.archives;
       segments = filter (λ (segment : Segment). nat_lt segment.archive place) names.segments;
+      lists = [];
       closed_for = None;
     }
 
--- a register names these archives: as many, and for each number, from 1, the one that reaches it first
+-- what the register keeps of the list of a call is the text of its lines as they were put away last
+abbrev pub IsKeptAs : CallContent → Side → (text : Option (List ℕ)) → (lines : Option (List ListingContent)) → Type 0
+IsKeptAs call side None None = Unit {0}
+IsKeptAs call side (Some text) (Some lines) = IsTextOf call side text lines
+IsKeptAs call side text lines = ⊥
+
+-- it is the name of a call's list
+abbrev pub IsOfCall : ListName → Type 0
+IsOfCall name = (call : CallContent) × (side : Side) × (list_name call side ≡ name)
+
+-- A register names these archives: as many, and for each number, from 1, the one that reaches it first. It keeps the lines
+-- of each list that was put away.
 pub record NamesAll (names : RegisterContent) (list : List Archive) : Type 0 where
   pub counted : length list ≡ length names.archives
   pub named : (partner number : ℕ) → 1 ≤ number → archive_of list partner number
       ≡ option_and_then (archive_at list) (register.archive_of names.segments partner number)
+  pub lists : (call : CallContent) (side : Side) →
+      IsKeptAs call side (lines_of_list names.lists call side) (lines_away list (list_name call side))
+  pub of_calls : (name : ListName) → (lines_away list name ≡ None) ⊎ IsOfCall name
 
 -- These are on the shelf, and the register names them; what is open is one of them, if it is known.
 pub record AreShelved {S F : Type 0} (g : Ghosts S) (is_known : ℕ → Type 0) (holds : List Archive → F → Type 0)
@@ -69,12 +91,13 @@ pub record AreShelved {S F : Type 0} (g : Ghosts S) (is_known : ℕ → Type 0) 
 
 -- ---- what a closing makes of it
 
--- An archive is added to a sound register, with segments of its own: then it names this archive after those that it named, if it
--- closed what the register then says.
+-- An archive is added to a sound register, with segments of its own and no list: then it names this archive after those that
+-- it named, if it closed what the register then says.
 abbrev pub NamesOneMore : Type 0
 NamesOneMore =
     (names : RegisterContent) (list : List Archive) (archive : ArchiveContent) (segments : List Segment) (one : Archive) →
     IsTrue (is_sound names) → NamesAll names list →
     AllByRecursion (λ (segment : Segment). segment.archive ≡ length list + 1) segments →
-    ((partner : ℕ) → one.last_closed partner ≡ last_closed (closed_with archive segments names).segments partner) →
-    NamesAll (closed_with archive segments names) (list ++ one ∷ [])
+    ((partner : ℕ) → one.last_closed partner ≡ last_closed (closed_with archive segments [] names).segments partner) →
+    ((name : ListName) → one.lists name ≡ None) →
+    NamesAll (closed_with archive segments [] names) (list ++ one ∷ [])

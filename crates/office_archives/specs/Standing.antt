@@ -1,5 +1,5 @@
 -- Where a desk over the own rows of a store and the store's archives stand together.
-use Rattle.std.specs.Prelude.{◌≡◌, ℕ, ◌<◌, List, Contains, filter, Ok, None, true}
+use Rattle.std.specs.Prelude.{◌≡◌, ℕ, ◌<◌, Bool, List, Contains, filter, Ok, None, true}
 use Rattle.sqlite_trees.specs.declared.store.Store.{Ghosts}
 use Rattle.edi_segments.specs.Interchange.{interchange_of}
 use Rattle.office_replies.specs.Delivering.{Delivers}
@@ -12,6 +12,9 @@ use Rattle.office_setup.specs.Parties.{parties_of}
 use Rattle.office_setup.specs.Setups.{SetupContent, setup_content}
 use Rattle.office_admission.specs.Admission.{admission}
 use Rattle.office_history.specs.After.{content_after, machine_after}
+use Rattle.office_lists.specs.Away.{AreAway, lists_after}
+use Rattle.office_lists.specs.Naming.{AreHere}
+use Rattle.office_lists.specs.OwnLists.{ListName, rows_without_lists, without_lists}
 use Rattle.office_desk.specs.Answers.{AnswersNext}
 use Rattle.office_desk.specs.Calls.{Leads}
 use Rattle.office_desk.specs.Desks.{IsSound}
@@ -36,8 +39,8 @@ pub record KnowsClosed (closed : ClosedContent) (archived : Archived) : Type 0 w
   pub visits : (number : ℕ) → closed.newest_closed < number → archived.stays number ≡ true
 
 -- For that opening set-up, after those events: with the accounts so far it is the desk's set-up. The archives hold what
--- was put away, the desk knows it for closed, and holds the store's own rows and its own terminal; with what was put away
--- these are parts of the rows after the events.
+-- was put away, the desk knows it for closed, and holds the store's own rows and its own terminal, without the lists that
+-- are away; with what was put away these are parts of the rows after the events.
 pub record StandsBeside {S : Type 0} (g : Ghosts S) (archives : List Archive) (content : SetupContent) (es : List Event)
     (desk : Desk S g) : Type 0 where
   pub given : IsGiven content
@@ -50,7 +53,10 @@ pub record StandsBeside {S : Type 0} (g : Ghosts S) (archives : List Archive) (c
   pub knows : KnowsClosed (closed_content desk.closed) archived
   pub rows : Rows
   pub is_own : IsOwnWithRest archived own rows
-  pub holds : DeskHolds g desk rows (own_terminal archived.stays (machine_after content es).terminal)
+  pub away : ListName → Bool
+  pub lists : AreAway archives away content es own
+  pub holds : DeskHolds g desk (rows_without_lists away rows)
+      (without_lists away (own_terminal archived.stays (machine_after content es).terminal))
 
 -- the desk's accounts admit the text under no number that is closed
 abbrev pub IsBeyond : {S : Type 0} (g : Ghosts S) → List Archive → Desk S g → List ℕ → Type 0
@@ -58,11 +64,19 @@ IsBeyond g archives desk sent =
     (place : ℕ × ℕ) → admission (parties_of desk.setup) (interchange_of sent) ≡ Ok place →
     archive_of archives place.0 place.1 ≡ None
 
--- A text that is delivered to the desk, under no number that is closed, is answered at its place, or NotNow; and then desk
--- and archives stand after it, or where they stood.
+-- the desk's accounts admit the text, and it names no list that is away
+abbrev pub NamesNoneAway : {S : Type 0} (g : Ghosts S) (archives : List Archive) (content : SetupContent)
+    (es : List Event) (desk : Desk S g) → StandsBeside g archives content es desk → (sent : List ℕ) → Type 0
+NamesNoneAway g archives content es desk stands sent =
+    (place : ℕ × ℕ) → admission (parties_of desk.setup) (interchange_of sent) ≡ Ok place
+    → AreHere stands.away (lists_after content es place.0 (interchange_of sent))
+
+-- A text that is delivered to the desk, under no number that is closed, and that names no list that is away, is answered at
+-- its place, or NotNow; and then desk and archives stand after it, or where they stood.
 abbrev pub DeliveriesBeyondAreAnswered : {S : Type 0} → Ghosts S → Type 0
 DeliveriesBeyondAreAnswered {S} g =
     (archives : List Archive) (content : SetupContent) (es : List Event) (old : Desk S g) (sent : List ℕ)
-    (response : Response) (new : Desk S g) → Leads g old sent response new → IsSound g new →
-    StandsBeside g archives content es old → IsBeyond g archives old sent
+    (response : Response) (new : Desk S g) (stands : StandsBeside g archives content es old) →
+    Leads g old sent response new → IsSound g new → IsBeyond g archives old sent →
+    NamesNoneAway g archives content es old stands sent
     → Delivers (StandsBeside g archives content) (AnswersNext content) es sent response new

@@ -1,5 +1,5 @@
 -- What a store and its archives report together.
-use Rattle.std.specs.Prelude.{◌≡◌, ◌⊎◌, ◌==◌, ℕ, ◌≤◌, ◌-◌, List, [], ◌∷◌, ◌++◌, length, Option, None, Some, codes, decimal, string_bytes, if◌then◌else◌}
+use Rattle.std.specs.Prelude.{◌≡◌, ◌⊎◌, ◌==◌, ℕ, ◌≤◌, Bool, true, false, is_some, ◌-◌, List, [], ◌∷◌, ◌++◌, length, Option, None, Some, codes, decimal, string_bytes, if◌then◌else◌}
 use Rattle.std.specs.Option.{unwrap_or}
 use Rattle.office_replies.specs.Events.{Event}
 use Rattle.office_rows.specs.Rows.{Rows}
@@ -11,6 +11,13 @@ use Rattle.office_history.specs.After.{content_after, machine_after}
 use Rattle.office_desk.specs.Reports.{TellsAfter, partner_called}
 use Rattle.office_parts.specs.Archives.{Archive}
 use Rattle.office_parts.specs.Parts.{Archived}
+use Rattle.office_lists.specs.Away.{lines_away}
+use Rattle.office_lists.specs.OwnLists.{ListName, own_lines}
+use Rattle.edi_messages.specs.Owned.{call_content}
+use Rattle.edi_messages.specs.Purposes.{CallContent}
+use Rattle.terminal_core.specs.declared.lines.Side.{Side}
+use Rattle.office_lookups.specs.Calls.{calls_text}
+use Rattle.terminal_core.specs.State.{Lines}
 use Rattle.office_archive_reports.specs.Closed.{closed_contrl, closed_reply}
 use Rattle.office_archive_reports.specs.Copies.{AreCopies, GoByNumbers}
 use Rattle.office_archive_reports.specs.Counted.{TellsOwnMetrics}
@@ -33,6 +40,26 @@ IsOfContainer (query.Visits container) = Unit {0}
 IsOfContainer (query.Container container) = Unit {0}
 IsOfContainer other = ⊥
 
+-- ---- lists
+
+-- a list was put away
+abbrev pub HasListAway : List Archive → Type 0
+HasListAway archives = (list : ListName) × (is_some (lines_away archives list) ≡ true)
+
+-- so many are told of as not looked at, if lists were put away
+abbrev pub archives_with_lists : List Archive → (put_away : Bool) → ℕ
+archives_with_lists archives put_away = if put_away then length archives else 0
+
+-- What the store tells of its lists: of those that are not away, and if lists were put away how many archives there are. What
+-- is away was put away.
+pub record TellsOwnCalls (archives : List Archive) (lines : Lines) (found : Option (List ℕ)) : Type 0 where
+  pub away : ListName → Bool
+  pub were_put_away : (list : ListName) → away list ≡ true → is_some (lines_away archives list) ≡ true
+  pub put_away : Bool
+  pub none : put_away ≡ false → (list : ListName) → lines_away archives list ≡ None
+  pub some : put_away ≡ true → HasListAway archives
+  pub told : found ≡ with_archives (archives_with_lists archives put_away) (Some (calls_text (own_lines away lines)))
+
 -- ---- numbers that are closed
 
 -- it is asked for the reply, the CONTRL or the ticket of that number of the partner with that code
@@ -42,10 +69,19 @@ IsOfNumber (query.Contrl partner asked) code number = (string_bytes partner ≡ 
 IsOfNumber (query.Ticket partner asked) code number = (string_bytes partner ≡ code) × (asked ≡ number)
 IsOfNumber other code number = ⊥
 
--- it is asked neither of a container nor of a number
+-- it is asked for the list of a call, or what is left of it
+abbrev pub IsOfList : Query → CallContent → Side → Type 0
+IsOfList (query.List asked on) call side = (call_content asked ≡ call) × (on ≡ side)
+IsOfList (query.Work asked on) call side = (call_content asked ≡ call) × (on ≡ side)
+IsOfList other call side = ⊥
+
+-- it is asked neither of a container, of lists, nor of a number
 abbrev pub IsOfNeither : Query → Type 0
 IsOfNeither (query.Visits container) = ⊥
 IsOfNeither (query.Container container) = ⊥
+IsOfNeither (query.List call side) = ⊥
+IsOfNeither (query.Work call side) = ⊥
+IsOfNeither query.Calls = ⊥
 IsOfNeither (query.Reply code number) = ⊥
 IsOfNeither (query.Contrl code number) = ⊥
 IsOfNeither (query.Ticket code number) = ⊥
@@ -62,8 +98,8 @@ TellsClosed archives other code partner number found = found ≡ closed_reply ar
 
 -- What is reported at a query after those events, where the archives hold what was put away of the whole's rows. Of a container's
 -- visits those that stay, and where it is if it stands in the yard or its last visit stays; both with how many archives
--- there are. The metrics, of visits those that stay. All else as the whole tells it; of a ticket if visits went by numbers,
--- and the archives are copies of the store of earlier days.
+-- there are. The metrics, of visits those that stay; the calls, of lists those that are not away. All else as the whole
+-- tells it; of a ticket if visits went by numbers, and the archives are copies of the store of earlier days.
 abbrev pub TellsTogether : SetupContent → List Event → List Archive → Archived → (whole : Rows) → Query →
     Option (List ℕ) → Type 0
 TellsTogether content es archives archived whole (query.Visits container) found =
@@ -77,6 +113,8 @@ TellsTogether content es archives archived whole (query.Container container) fou
     (container_if_there (content_after content es) archived.stays (machine_after content es).terminal container)
 TellsTogether content es archives archived whole query.Metrics found =
     TellsOwnMetrics (content_after content es) archived.stays (machine_after content es).terminal whole found
+TellsTogether content es archives archived whole query.Calls found =
+    TellsOwnCalls archives (machine_after content es).terminal.lines found
 TellsTogether content es archives archived whole (query.Reply code number) found =
     1 ≤ number → TellsAfter content es (query.Reply code number) found
 TellsTogether content es archives archived whole (query.Contrl code number) found =

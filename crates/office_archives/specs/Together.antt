@@ -1,5 +1,5 @@
 -- A desk over the rows that a store has, and the store's archives: where they stand together, and what a call does.
-use Rattle.std.specs.Prelude.{◌≡◌, ◌⊎◌, ℕ, List, [], ◌∷◌, ◌++◌, Option, OnOk, Result}
+use Rattle.std.specs.Prelude.{◌≡◌, ◌⊎◌, ℕ, Bool, List, [], ◌∷◌, ◌++◌, Option, OnOk, Result}
 use Rattle.sqlite.specs.Held.{state}
 use Rattle.sqlite.specs.State.{State, HasCleanDisk}
 use Rattle.sqlite.specs.Tree.{Trees}
@@ -19,6 +19,8 @@ use Rattle.office_rows.specs.Rows.{Rows}
 use Rattle.office_rows.specs.Stored.{StoresRows}
 use Rattle.office_setup.specs.Setups.{SetupContent}
 use Rattle.office_history.specs.After.{SaysSame, content_after}
+use Rattle.office_lists.specs.Away.{AreAway}
+use Rattle.office_lists.specs.OwnLists.{ListName, rows_without_lists}
 use Rattle.office_desk.specs.Accounts.{AnswersAccount}
 use Rattle.office_desk.specs.Answers.{AnswersNext}
 use Rattle.office_desk.specs.Desks.{IsSound}
@@ -39,7 +41,8 @@ pub record StandTogether {S A : Type 0} (g : Ghosts S) (are : List Archive → A
 
 -- ---- what a crash leaves
 
--- a store holds the rows that, with what these archives hold, are parts of the rows after those events
+-- a store holds the rows that, with what these archives hold and the lists that are away, are parts of the rows after those
+-- events
 pub record IsBesideAfter (archives : List Archive) (closed : ClosedContent) (content : SetupContent) (es : List Event)
     (db : Trees) : Type 0 where
   pub archived : Archived
@@ -50,7 +53,9 @@ pub record IsBesideAfter (archives : List Archive) (closed : ClosedContent) (con
   pub knows : KnowsClosed closed archived
   pub rows : Rows
   pub is_own : IsOwnWithRest archived own rows
-  pub are : StoresRows rows db
+  pub away : ListName → Bool
+  pub lists : AreAway archives away content es own
+  pub are : StoresRows (rows_without_lists away rows) db
 
 -- a crash leaves only these
 abbrev pub LeavesBeside : List Archive → ClosedContent → SetupContent → List Event → State → Type 0

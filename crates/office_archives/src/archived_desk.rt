@@ -1,10 +1,13 @@
 ghost use Rattle.std.specs.Option.{option_map};
 ghost use Rattle.std.specs.Prelude.{◌≡◌, ◌≤◌, ◌&&◌, ◌↔◌, ℕ, nat_le, IfOk, List, None, OnOk, Some, false, string_bytes, true};
 ghost use Rattle.std.specs.Result.{result_map_both};
-ghost use Rattle.edi_segments.specs.Interchange.{interchange_of};
+ghost use Rattle.edi_messages.specs.Owned.{call_content};
+ghost use Rattle.edi_segments.specs.Interchange.{interchange_of, segments_in};
+ghost use Rattle.edi_syntax.specs.Envelope.{header_of};
+ghost use Rattle.office_admission.specs.Admission.{number_in};
 ghost use Rattle.office_admission.specs.Outcomes.{IsAdmitted};
 ghost use Rattle.office_archives.specs.Keeping.{IsClosedBefore, IsNotClosedBefore};
-ghost use Rattle.office_archives.specs.Telling.{IsOfContainer, IsOfNumber, IsPlace, TellsAsStore};
+ghost use Rattle.office_archives.specs.Telling.{IsOfContainer, IsOfList, IsOfNumber, IsPlace, TellsAsStore};
 ghost use Rattle.office_archives.specs.Together.{EnrolsTogether, LeadsTogether, LooksTogether, OnlyLooksTogether, StandTogether, TellsBeside, TellsOfOne};
 ghost use Rattle.office_checks.specs.Closed.{last_closed};
 ghost use Rattle.office_desk.specs.Calls.{OnlyLooks};
@@ -15,6 +18,7 @@ ghost use Rattle.office_history.specs.After.{content_after};
 ghost use Rattle.office_parts.specs.Archives.{Archive};
 ghost use Rattle.office_queries.specs.Looking.{of_archive, report, texts_after};
 ghost use Rattle.office_queries.specs.declared.query.Query.{Query};
+ghost use Rattle.office_queries.specs.declared.query.Query.TheVariants.{Calls};
 ghost use Rattle.office_replies.specs.Events.{Event};
 ghost use Rattle.office_rows.specs.Rows.{Rows};
 ghost use Rattle.office_setup.specs.Setups.{SetupContent, setup_content};
@@ -23,6 +27,8 @@ ghost use Rattle.sqlite.specs.State.{HasCleanDisk};
 ghost use Rattle.terminal_core.specs.State.{TerminalState};
 
 use crate::archives::{Archives, answer_closed, partner_called, tell_closed, with_archives};
+use crate::bringing::{bring_back, bring_back_named};
+use edi_messages::Call;
 use edi_segments::interchange_text;
 use office_admission::Admitted;
 use office_desk::Desk;
@@ -31,6 +37,7 @@ use office_replies::{AccountAnswer, AddAccount, Deliver, Response};
 use office_tables::TableFault;
 use sqlite::Alter;
 use std::alloc::Global;
+use terminal_core::Side;
 
 /// The desk of a store of which history was put away, and the store's archives: a delivery under a number that is closed
 /// is answered by what these keep, any other by the desk.
@@ -88,11 +95,29 @@ impl<S: Alter + Drop, A: Archives + Drop> ArchivedDesk<S, A> {
         let partner = admitted.partner;
         let number = admitted.envelope.head().number();
         if !self.desk.is_closed(partner, number) {
-            return self.desk.take_admitted(alloc, admitted, text);
+            return self.take_open(alloc, admitted, text);
         }
         let code = self.desk.code_of(partner);
         match answer_closed(alloc, &mut self.archives, partner, code, number, text) {
             Ok(response) => response,
+            Err(fault) => {
+                self.desk.note(fault);
+                Response::NotNow
+            }
+        }
+    }
+
+    /// Takes an admitted text in under a number that is not closed. Before that the lists that it names are brought back.
+    fn take_open(&mut self, alloc: Global, admitted: Admitted<'_>, text: &[u8]) -> Response
+        requires admitted { IsAdmitted self.old.desk.setup text.now admitted }
+        requires is_open { nat_le (number_in (header_of (segments_in text.now)))
+            (last_closed self.old.desk.closed admitted.partner) ≡ false }
+        ensures leads { (sent : List ℕ) → text.now ≡ interchange_of sent →
+            LeadsTogether S.Store A.is_sound A.are self.old.desk self.old.archives sent result
+            self.new.desk self.new.archives }
+    {
+        match bring_back_named(alloc, &mut self.desk, &self.archives, &admitted) {
+            Ok(()) => self.desk.take_admitted(alloc, admitted, text),
             Err(fault) => {
                 self.desk.note(fault);
                 Response::NotNow
@@ -118,6 +143,9 @@ impl<S: Alter + Drop, A: Archives + Drop> ArchivedDesk<S, A> {
     {
         match query {
             Query::Visits(_) | Query::Container(_) => self.find_container(alloc, query),
+            Query::Calls => self.find_calls(alloc, query),
+            Query::List { call, side } => self.find_list(alloc, query, call, *side),
+            Query::Work { call, side } => self.find_list(alloc, query, call, *side),
             Query::Reply { partner, number } => self.find_number(alloc, query, partner, *number),
             Query::Contrl { partner, number } => self.find_number(alloc, query, partner, *number),
             Query::Ticket { partner, number } => self.find_number(alloc, query, partner, *number),
@@ -138,6 +166,43 @@ impl<S: Alter + Drop, A: Archives + Drop> ArchivedDesk<S, A> {
     {
         let told = self.desk.find_report(alloc, query)?;
         Ok(with_archives(alloc, told, self.archives.count())?)
+    }
+
+    /// What the store tells of its lists, and how many archives there are, if lists were put away.
+    fn find_calls(&mut self, alloc: Global, query: &Query) -> Result<Option<String>, TableFault>
+        requires { query.now ≡ Calls }
+        ensures told { IsSound S.Store self.new.desk → A.is_sound self.new.archives → IfOk result (λ found.
+            TellsBeside S.Store A.are self.old.desk self.old.archives query.now (option_map string_bytes found)) }
+        ensures looks { OnlyLooksTogether S.Store A.are self.old.desk self.old.archives self.new.desk
+            self.new.archives }
+        ensures last_fault { self.new.desk.last_fault ≡ self.old.desk.last_fault }
+    {
+        let told = self.desk.find_report(alloc, query)?;
+        let count = if self.archives.has_lists() {
+            self.archives.count()
+        } else {
+            0
+        };
+        Ok(with_archives(alloc, told, count)?)
+    }
+
+    /// What the list of a call says, or what is left of it: if it is away, it is brought back.
+    fn find_list(
+        &mut self,
+        alloc: Global,
+        query: &Query,
+        call: &Call,
+        side: Side,
+    ) -> Result<Option<String>, TableFault>
+        requires { IsOfList query.now (call_content call.now) side }
+        ensures told { IsSound S.Store self.new.desk → A.is_sound self.new.archives → IfOk result (λ found.
+            TellsBeside S.Store A.are self.old.desk self.old.archives query.now (option_map string_bytes found)) }
+        ensures looks { OnlyLooksTogether S.Store A.are self.old.desk self.old.archives self.new.desk
+            self.new.archives }
+        ensures last_fault { self.new.desk.last_fault ≡ self.old.desk.last_fault }
+    {
+        bring_back(alloc, &mut self.desk, &self.archives, call, side)?;
+        self.desk.find_report(alloc, query)
     }
 
     /// What is reported of a number: by its archive, if it is closed.

@@ -1,17 +1,22 @@
 ghost use Rattle.std.specs.Option.{option_and_then, option_map, unwrap_or};
-ghost use Rattle.std.specs.Prelude.{◌≡◌, ◌≤◌, ◌++◌, [], IfOk, List, length, string_bytes, Some, IfSome, OnOk};
+ghost use Rattle.std.specs.Prelude.{◌≡◌, ◌≤◌, ◌++◌, [], false, true, IfOk, List, length, map, string_bytes, None, Some, IfSome, OnOk};
+ghost use Rattle.edi_messages.specs.Owned.{call_content};
 ghost use Rattle.office_archives.specs.Answering.{AnswersClosed};
 ghost use Rattle.office_archives.specs.Keeping.{IsClosedIn, IsKeptIn, IsReportIn, IsTicketIn};
 ghost use Rattle.office_archives.specs.Shelves.{archive_at};
-ghost use Rattle.office_archives.specs.Telling.{TellsClosed, archives_line, with_archives};
+ghost use Rattle.office_archives.specs.Telling.{HasListAway, TellsClosed, archives_line, with_archives};
 ghost use Rattle.office_desk.specs.Answers.{answer_by_model};
 ghost use Rattle.office_desk.specs.Noting.{IsNow};
 ghost use Rattle.office_desk.specs.Reports.{partner_called};
+ghost use Rattle.office_lists.specs.Away.{lines_away};
+ghost use Rattle.office_lists.specs.OwnLists.{ListName, list_name};
 ghost use Rattle.office_parts.specs.Archives.{Archive, archive_of, reply_by};
 ghost use Rattle.office_replies.specs.Contents.{content_of};
+ghost use Rattle.office_rows.specs.Rows.{listing_content};
 ghost use Rattle.office_setup.specs.Setups.{setup_content};
 ghost use Rattle.partner_core.specs.Answers.{Clash, Repeat};
 
+use edi_messages::Call;
 use office_desk::Desk;
 use office_lookups::contrl_in;
 use office_queries::Query;
@@ -20,6 +25,7 @@ use office_reports::texts::push_line;
 use office_tables::{Kept, TableFault};
 use sqlite::Alter;
 use std::alloc::{AllocError, Global};
+use terminal_core::{Listing, Side};
 
 /// What the archives of a store keep.
 pub trait Archives {
@@ -74,6 +80,25 @@ pub trait Archives {
     fn place_of(&self, partner: u16, number: u32) -> Option<u16>
         ensures { (archives : List Archive) → are archives self.now → IsClosedIn archives partner number →
             archive_of archives partner number ≡ option_and_then (archive_at archives) result };
+
+    /// Whether lists were put away.
+    fn has_lists(&self) -> bool
+        ensures none { result ≡ false → (archives : List Archive) → are archives self.now → (list : ListName) →
+            lines_away archives list ≡ None }
+        ensures some { result ≡ true → (archives : List Archive) → are archives self.now → HasListAway archives };
+
+    /// The lines of the list of a call as they were put away last, if they ever were.
+    ///
+    /// Damaged if they can't be read; Memory says nothing of them.
+    fn lines(
+        &self,
+        alloc: Global,
+        call: &Call,
+        side: Side,
+    ) -> Result<Option<Vec<Listing>>, TableFault>
+        ensures { IfOk result (λ found. (archives : List Archive) → are archives self.now →
+            option_map (λ lines. map listing_content lines.items) found
+            ≡ lines_away archives (list_name (call_content call.now) side)) };
 
     /// How many there are.
     fn count(&self) -> usize

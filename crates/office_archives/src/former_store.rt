@@ -92,7 +92,7 @@ pub(crate) fn closed_before(
     Ok(earlier.closed(alloc)?)
 }
 
-/// The register of the store as that archive was closed.
+/// The register of the store as that archive was closed, without lists.
 fn register_before(alloc: Global, register: &Register, place: u16) -> Result<Register, AllocError>
     ensures { IfOk result (λ earlier.
         register_content earlier ≡ register_before place (register_content register.now)) }
@@ -102,6 +102,7 @@ fn register_before(alloc: Global, register: &Register, place: u16) -> Result<Reg
     Ok(Register {
         archives,
         segments,
+        lists: Vec::new(alloc),
         closed_for: None,
     })
 }

@@ -3,6 +3,7 @@
 
 mod archived_desk;
 mod archives;
+mod bringing;
 mod former_store;
 pub mod laws;
 mod many_archives;

@@ -5,11 +5,14 @@ ghost use Rattle.office_parts.specs.Archives.{Archive};
 use crate::archives::Archives;
 use crate::former_store::{closed_before, report_by, ticket_by};
 use crate::opened::Opened;
+use edi_messages::Call;
+use office_list_texts::read_list;
 use office_queries::Query;
 use office_register::Register;
 use office_tables::{Kept, TableFault, kept};
 use sqlite::{Alter, Connection};
 use std::alloc::Global;
+use terminal_core::{Listing, Side};
 
 /// Where the archives of a store are kept: each is opened by its place in the order in which they were closed.
 pub trait Shelf<S: Alter> {
@@ -128,6 +131,25 @@ impl<S: Alter + Drop, F: Shelf<S>> Archives for ManyArchives<S, F> {
 
     fn place_of(&self, partner: u16, number: u32) -> Option<u16> {
         self.register.archive_of(partner, number)
+    }
+
+    fn has_lists(&self) -> bool {
+        self.register.has_lists()
+    }
+
+    fn lines(
+        &self,
+        alloc: Global,
+        call: &Call,
+        side: Side,
+    ) -> Result<Option<Vec<Listing>>, TableFault> {
+        let Some(text) = self.register.lines_of_list(call, side) else {
+            return Ok(None);
+        };
+        match read_list(alloc, call, side, text)? {
+            Some(lines) => Ok(Some(lines)),
+            None => Err(TableFault::Damaged),
+        }
     }
 
     fn count(&self) -> usize {

@@ -1,5 +1,5 @@
 -- Where a closing ends, and what it leaves there.
-use Rattle.std.proofs.Common.{inl, inr, Result, Ok, Err, IsTrue, sym, subst, ◌∙◌}
+use Rattle.std.proofs.Common.{[], inl, inr, Result, Ok, Err, IsTrue, sym, subst, ◌∙◌}
 use Rattle.sqlite.specs.Effect.{Database}
 use Rattle.sqlite.specs.State.{State, KeepsCommit, Survives}
 use Rattle.sqlite.specs.Tree.{Trees}
@@ -91,7 +91,7 @@ module _ (names : FileNames) (old mid : Files) (plan : Plan) (rests : AreResting
   MarkSteps end result = StepsIf (is_unmarked plan.stage) unmarked (marked_for names.store) mid.archive_register end result
 
   abbrev RaiseSteps : {X : Type 0} → State → Result X CloseFault → Type 0
-  RaiseSteps end result = StepsIf (is_unraised plan.stage) unchanged (closed_with (archive_content plan.archive) plan.segments.items) mid.register end result
+  RaiseSteps end result = StepsIf (is_unraised plan.stage) unchanged (closed_with (archive_content plan.archive) plan.segments.items []) mid.register end result
 
   mid_idle : AreIdle mid
   mid_idle = idle_after old mid (Ok plan) idle read

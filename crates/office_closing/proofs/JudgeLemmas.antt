@@ -55,13 +55,14 @@ module _ (held : Held) (old : Files) (has : AreHeld held old) (names : FileNames
   raised_is : raised_register held closing ≡ raised_by names.archive copy
   raised_is =
       let back = sym copy_register in
-      λ i. closed_with (is.archive i) (is.segments i) (unmarked (back i))
+      λ i. closed_with (is.archive i) (is.segments i) [] (unmarked (back i))
 
   raised_sound : IsSound (raised_register held closing)
   raised_sound = record {
     tested = ap is_sound raised_is ∙ is.is_copy.may.raised;
     texts = record {
       files = all_pushed (λ (a : ArchiveContent). IsUtf8 a.file) held.copied.archives closing.archive has.copied_sound.texts.files (subst IsUtf8 (sym (ap (λ (a : ArchiveContent). a.file) is.archive)) text);
+      lines = has.copied_sound.texts.lines;
       closed_for = tt;
     };
   }

@@ -78,7 +78,7 @@ closing_content plan = record {
 
 -- the store's register with the archive
 abbrev pub raised_register : Held → Closing → RegisterContent
-raised_register held closing = closed_with closing.archive closing.segments (unmarked held.copied)
+raised_register held closing = closed_with closing.archive closing.segments [] (unmarked held.copied)
 
 -- the last numbers that were closed before, as the store's register says, and those that are closed then
 abbrev pub closed_before : Held → ℕ → ℕ

@@ -80,7 +80,7 @@ archive_in file copy = record {
 -- the store's register with this archive
 abbrev pub raised_by : List ℕ → OfficeContent → RegisterContent
 raised_by file copy =
-    closed_with (archive_in file copy) (segments_of (archive_in file copy).place (numbers_of copy))
+    closed_with (archive_in file copy) (segments_of (archive_in file copy).place (numbers_of copy)) []
     (unmarked copy.register)
 
 -- ---- copies

@@ -117,7 +117,7 @@ fn mark_now<S: Alter>(conn: &mut Connection<S>, store_file: &str) -> Result<(), 
 fn raise<S: Alter>(conn: &mut Connection<S>, plan: &Plan) -> Result<(), CloseFault>
     requires { (state S.Store conn.old).in_transaction ≡ false }
     ensures steps { StepsIf (is_unraised plan.now.stage) unchanged
-        (closed_with (archive_content plan.now.archive) plan.now.segments.items) (state S.Store conn.old)
+        (closed_with (archive_content plan.now.archive) plan.now.segments.items []) (state S.Store conn.old)
         (state S.Store conn.new) result }
 {
     let is_due = is_unraised(plan.stage);
@@ -135,10 +135,10 @@ fn raise_now<S: Alter>(
     segments: &[Segment],
 ) -> Result<(), CloseFault>
     requires { (state S.Store conn.old).in_transaction ≡ false }
-    ensures steps { StepsIf true unchanged (closed_with (archive_content archive.now) segments.now)
+    ensures steps { StepsIf true unchanged (closed_with (archive_content archive.now) segments.now [])
         (state S.Store conn.old) (state S.Store conn.new) result }
 {
-    match close_with(conn, archive, segments) {
+    match close_with(conn, archive, segments, &[]) {
         Ok(()) => Ok(()),
         Err(fault) => Err(not_written(File::Register, fault)),
     }

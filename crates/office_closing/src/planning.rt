@@ -291,7 +291,7 @@ fn stage_of(
 {
     let is_same = copy.register.tells_same(&own.register);
     let mark = mark_of(&copy.register.closed_for, store_file);
-    let raised = copy.register.with_closing(alloc, archive, segments)?;
+    let raised = copy.register.with_closing(alloc, archive, segments, &[])?;
     let may = is_sound(alloc, &raised)? && is_file_name(store_file.as_bytes());
     let has_archive = raised.tells_same(&own.register);
     match come_so_far(is_same, has_archive, mark) {

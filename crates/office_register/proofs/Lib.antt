@@ -9,4 +9,6 @@ pub mod ReadLemmas
 pub mod SoundLemmas
 pub mod RegisterLemmas
 pub mod LoopLemmas
+pub mod PlaceLemmas
 pub mod RaiseLemmas
+pub mod LineLemmas

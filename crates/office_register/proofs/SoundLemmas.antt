@@ -1,18 +1,19 @@
 -- The tables show a sound register in one way, and it fits the types of a register.
-use Rattle.std.proofs.Common.{◌≡◌, ℕ, pos, ◌+◌, ◌<◌, ◌≤◌, ◌==◌, ◌&&◌, ◌⊎◌, inl, inr, true, false, List, [], ◌∷◌, map, length, Option, None, Some, nat_le, nat_lt, refl, sym, ap, ap₂, subst, ◌∙◌, arith, Ordering, Less, Equal, is_gt}
+use Rattle.std.proofs.Common.{◌≡◌, ℕ, pos, ◌+◌, ◌<◌, ◌≤◌, ◌==◌, ◌&&◌, ◌⊎◌, inl, inr, Bool, true, false, cond, List, [], ◌∷◌, map, length, Option, None, Some, nat_le, nat_lt, refl, sym, ap, ap₂, subst, ◌∙◌, arith, Ordering, Less, Equal, Greater, is_gt}
 use Rattle.std.specs.Prelude.{IsUtf8}
 use Rattle.std.specs.List.{AllByRecursion, list_all}
-use Rattle.std.specs.Ordering.{int_cmp, ordering_then}
+use Rattle.std.specs.Cmp.{IsTotalOrder}
+use Rattle.std.specs.Ordering.{int_cmp, is_lt, nat_cmp, ordering_then}
 use Rattle.std.proofs.lemmas.Bool.{cases_Bool, and_parts}
 use Rattle.std.proofs.lemmas.Bool.Decides.{nat_tests}
-use Rattle.std.proofs.lemmas.Cmp.{tied_itself}
+use Rattle.std.proofs.lemmas.Cmp.{tied_itself, then_total, on_total, nat_cmp_total, nat_list_cmp_total}
 use Rattle.std.proofs.lemmas.Int.{ints}
 use Rattle.std.proofs.lemmas.List.Sorted.{IsPermutation-sym}
 use Rattle.sqlite.specs.Order.{Row}
 use Rattle.sqlite.specs.Table.{Table}
 use Rattle.sqlite.specs.Effect.{Database}
 use Rattle.sqlite_value.specs.Order.{value_cmp}
-use Rattle.sqlite_value.proofs.OrderLemmas.{value_cmp-Int, value_cmp_total}
+use Rattle.sqlite_value.proofs.OrderLemmas.{value_cmp-Int, value_cmp-Text, value_cmp_total}
 use Rattle.sqlite_trees.specs.Tree.{IsAscending}
 use Rattle.sqlite_keyed.proofs.ListLemmas.{all_weaker, ascending_weaker}
 use Rattle.sqlite_keyed.proofs.SortLemmas.{sorted_unique}
@@ -21,12 +22,17 @@ use Rattle.office_rows.specs.Values.{number_value}
 use Rattle.office_rows.specs.Stored.{Holds}
 use Rattle.office_rows.specs.Shown.{columns_at, ShowsTable}
 use Rattle.office_loading.proofs.ShownLemmas.{keys_cmp, keys_total, in_order, same_rows}
+use Rattle.terminal_core.specs.State.{side_code}
+use Rattle.terminal_core.specs.declared.lines.Side.{Side}
+use Rattle.terminal_core.specs.declared.lines.Side.TheVariants.{Load, Discharge}
+use Rattle.office_loading.proofs.FitLemmas.{name_text}
+use Rattle.office_register.specs.Lists.{SettledListContent, list_cmp}
 use Rattle.office_register.specs.declared.register.Segment.{Segment}
 use Rattle.office_register.specs.Register.{ArchiveContent, RegisterContent}
-use Rattle.office_register.specs.Reading.{FitsArchive, FitsSegment, FitsRegister}
-use Rattle.office_register.specs.Sound.{may_be_archive, are_numbered, is_within, comes_later, are_in_order, IsSound}
-use Rattle.office_register.specs.Stored.{HasRegister, ShowsRegister, archive_values, segment_values, file_values, if_any}
-use Rattle.office_register.specs.Tables.{archive_table, segment_table, closed_for_table}
+use Rattle.office_register.specs.Reading.{FitsArchive, FitsSegment, FitsList, FitsRegister}
+use Rattle.office_register.specs.Sound.{may_be_archive, are_numbered, is_within, comes_later, are_in_order, may_be_list, are_rising, are_sound_archives, are_sound_segments, is_sound_mark, IsSound}
+use Rattle.office_register.specs.Stored.{HasRegisterIn, HoldsLists, ShowsLists, ShowsRegister, list_values, archive_values, segment_values, file_values, if_any}
+use Rattle.office_register.specs.Tables.{archive_table, segment_table, closed_for_table, settled_table, Layout, older, whole}
 
 -- ---- numbers
 
@@ -133,6 +139,79 @@ segments_fit archives (s ∷ segments) few h =
     let last : s.last ≤ 999999999 = most_of s.last 999999999 (and_parts _ _ sides.1).1 in
     (record { partner = omega arith; archive = omega arith; last = omega arith }, segments_fit archives segments few parts.1)
 
+-- ---- lists
+
+list_total : IsTotalOrder list_cmp
+list_total =
+    then_total (on_total (λ (l : SettledListContent). l.call.vessel) nat_list_cmp_total)
+    (then_total (on_total (λ (l : SettledListContent). l.call.voyage) nat_list_cmp_total)
+    (then_total (on_total (λ (l : SettledListContent). side_code l.side) nat_cmp_total) (on_total (λ (l : SettledListContent). l.archive) nat_cmp_total)))
+
+before_is : (o : Ordering) → is_lt o ≡ true → o ≡ Less
+before_is Less h = refl
+before_is Equal h = absurd cc
+before_is Greater h = absurd cc
+
+whole_order : (o : Ordering) → ordering_then o Equal ≡ o
+whole_order Less = refl
+whole_order Equal = refl
+whole_order Greater = refl
+
+tied_naturals : (m n : ℕ) → m ≡ n → int_cmp (pos m) (pos n) ≡ Equal
+tied_naturals m n h = grind (arith, ints, nat_tests)
+
+higher_naturals : (m n : ℕ) → n < m → int_cmp (pos m) (pos n) ≡ Greater
+higher_naturals m n h = grind (arith, ints, nat_tests)
+
+above_of : (m n : ℕ) → nat_lt m n ≡ false → (m == n) ≡ false → n < m
+above_of m n low tied = grind (arith, nat_tests)
+
+naturals_cmp : (m n : ℕ) → int_cmp (pos m) (pos n) ≡ nat_cmp m n
+naturals_cmp m n = by (nat_lt m n) (m == n) refl refl
+  where
+    by : (low tied : Bool) → nat_lt m n ≡ low → (m == n) ≡ tied → int_cmp (pos m) (pos n) ≡ nat_cmp m n
+    by true tied p q = naturals m n (less_of m n p) ∙ sym (ap (λ b. cond b Less (cond (m == n) Equal Greater)) p)
+    by false true p q = tied_naturals m n (equal_of m n q) ∙ sym (ap (λ b. cond b Less (cond (m == n) Equal Greater)) p ∙ ap (λ b. cond b Equal Greater) q)
+    by false false p q = higher_naturals m n (above_of m n p q) ∙ sym (ap (λ b. cond b Less (cond (m == n) Equal Greater)) p ∙ ap (λ b. cond b Equal Greater) q)
+
+numbers_cmp : (m n : ℕ) → value_cmp (number_value m) (number_value n) ≡ nat_cmp m n
+numbers_cmp m n = value_cmp-Int (pos m) (pos n) ∙ naturals_cmp m n
+
+rows_cmp : (x y : SettledListContent) → keys_cmp (0 ∷ 1 ∷ 2 ∷ 3 ∷ []) (list_values x) (list_values y) ≡ list_cmp x y
+rows_cmp x y = λ i.
+    ordering_then (value_cmp-Text x.call.vessel y.call.vessel i)
+    (ordering_then (value_cmp-Text x.call.voyage y.call.voyage i)
+    (ordering_then (numbers_cmp (side_code x.side) (side_code y.side) i) ((ap (λ o. ordering_then o Equal) (numbers_cmp x.archive y.archive) ∙ whole_order (nat_cmp x.archive y.archive)) i)))
+
+abbrev IsAfter : SettledListContent → SettledListContent → Type 0
+IsAfter x y = list_cmp x y ≡ Less
+
+all_after : (x : SettledListContent) (lists : List SettledListContent) → are_rising (Some x) lists ≡ true → AllByRecursion (IsAfter x) lists
+all_after x [] h = tt
+all_after x (y ∷ lists) h =
+    let parts = and_parts _ _ h in
+    let first : list_cmp x y ≡ Less = before_is (list_cmp x y) parts.0 in
+    (first, all_weaker (IsAfter y) (IsAfter x) (λ z later. list_total.trans x y z first later) lists (all_after y lists parts.1))
+
+lists_after : (x : SettledListContent) (lists : List SettledListContent) → AllByRecursion (IsAfter x) lists → AllByRecursion (λ r. keys_cmp (0 ∷ 1 ∷ 2 ∷ 3 ∷ []) (list_values x) r ≡ Less) (map list_values lists)
+lists_after x [] all = tt
+lists_after x (y ∷ lists) all = (rows_cmp x y ∙ all.0, lists_after x lists all.1)
+
+lists_rise : (before : Option SettledListContent) (lists : List SettledListContent) → are_rising before lists ≡ true → IsAscending (λ x y. keys_cmp (0 ∷ 1 ∷ 2 ∷ 3 ∷ []) x y ≡ Less) (map list_values lists)
+lists_rise before [] h = tt
+lists_rise before (x ∷ lists) h =
+    let parts = and_parts _ _ h in
+    (lists_after x lists (all_after x lists parts.1), lists_rise (Some x) lists parts.1)
+
+lists_fit : (archives : ℕ) (lists : List SettledListContent) → archives ≤ 9999 → list_all (may_be_list archives) lists ≡ true → AllByRecursion (λ (list : SettledListContent). IsUtf8 list.lines) lists → AllByRecursion FitsList lists
+lists_fit archives [] few h texts = tt
+lists_fit archives (x ∷ lists) few h texts =
+    let parts = and_parts _ _ h in
+    let sides = and_parts _ _ parts.0 in
+    let names = and_parts _ _ sides.0 in
+    let archive : x.archive ≤ archives = most_of x.archive archives (and_parts _ _ sides.1).1 in
+    (record { vessel = name_text x.call.vessel names.0; voyage = name_text x.call.voyage names.1; archive = omega (arith, archive, few); lines = texts.0 }, lists_fit archives lists few parts.1 texts.1)
+
 -- ---- one table
 
 whole_columns : {A : Type 0} (columns : List ℕ) (values : A → Row) → ((a : A) → columns_at columns (values a) ≡ values a) → (xs : List A) → map (columns_at columns) (map values xs) ≡ map values xs
@@ -181,6 +260,22 @@ one_segment x y same =
     let last : x.last ≡ y.last = cc in
     λ i. record { partner = partner i; archive = archive i; last = last i }
 
+one_side : (x y : Side) → number_value (side_code x) ≡ number_value (side_code y) → x ≡ y
+one_side Load Load same = refl
+one_side Load Discharge same = absurd cc
+one_side Discharge Load same = absurd cc
+one_side Discharge Discharge same = refl
+
+one_list : (x y : SettledListContent) → list_values x ≡ list_values y → x ≡ y
+one_list x y same =
+    let vessel : x.call.vessel ≡ y.call.vessel = cc in
+    let voyage : x.call.voyage ≡ y.call.voyage = cc in
+    let code : number_value (side_code x.side) ≡ number_value (side_code y.side) = cc in
+    let side : x.side ≡ y.side = one_side x.side y.side code in
+    let archive : x.archive ≡ y.archive = cc in
+    let lines : x.lines ≡ y.lines = cc in
+    λ i. record { call = record { vessel = vessel i; voyage = voyage i }; side = side i; archive = archive i; lines = lines i }
+
 one_file : (x y : List ℕ) → file_values x ≡ file_values y → x ≡ y
 one_file x y same = cc
 
@@ -212,25 +307,54 @@ module _ (content : RegisterContent) (sound : IsSound content) where
   ordered : are_in_order 0 0 content.segments ≡ true
   ordered = (and_parts _ _ (and_parts _ _ (and_parts _ _ (and_parts _ _ sound.tested).1).0).1).0
 
+  abbrev may_be : Bool
+  may_be = list_all (may_be_list (length content.archives)) content.lists
+
+  abbrev rise : Bool
+  rise = are_rising None content.lists
+
+  of_lists : (may_be && rise) ≡ true
+  of_lists =
+      let segments = are_sound_segments (length content.archives) content.segments in
+      let rest = (may_be && rise) && is_sound_mark content.closed_for in
+      (and_parts (may_be && rise) (is_sound_mark content.closed_for) (and_parts segments rest (and_parts (are_sound_archives content.archives) (segments && rest) sound.tested).1).1).0
+
+  settled : may_be ≡ true
+  settled = (and_parts may_be rise of_lists).0
+
+  rising : rise ≡ true
+  rising = (and_parts may_be rise of_lists).1
+
   pub sound_fits : FitsRegister content
   sound_fits = record {
     archives = archives_fit 1 0 content.archives (omega (arith, few)) numbered may sound.texts.files;
     segments = segments_fit (length content.archives) content.segments few within;
     closed_for = sound.texts.closed_for;
+    lists = lists_fit (length content.archives) content.lists few settled sound.texts.lines;
   }
 
-  pub sound_shown : (db : Database) → HasRegister content db → ShowsRegister content db
-  sound_shown db has = record {
+  lists_shown : (layout : Layout) (db : Database) → HoldsLists layout content.lists db.trees → ShowsLists layout db content.lists
+  lists_shown older db held = held
+  lists_shown whole db held = held_shown settled_table (0 ∷ 1 ∷ 2 ∷ 3 ∷ 4 ∷ []) (0 ∷ 1 ∷ 2 ∷ 3 ∷ []) (λ r. refl) db list_values content.lists (lists_rise None content.lists rising) (λ a. refl) held
+
+  one_showing : (layout : Layout) (db : Database) (other : List SettledListContent) → ShowsLists layout db content.lists → ShowsLists layout db other → other ≡ content.lists
+  one_showing older db other it that = that ∙ sym it
+  one_showing whole db other it that = one_by_one list_values one_list other content.lists (shown_once settled_table (0 ∷ 1 ∷ 2 ∷ 3 ∷ 4 ∷ []) (0 ∷ 1 ∷ 2 ∷ 3 ∷ []) (λ r. refl) db list_values content.lists (lists_rise None content.lists rising) _ it that)
+
+  pub sound_shown : (layout : Layout) (db : Database) → HasRegisterIn layout content db → ShowsRegister layout content db
+  sound_shown layout db has = record {
     archives = held_shown archive_table (0 ∷ 1 ∷ 2 ∷ []) (0 ∷ []) (λ r. refl) db archive_values content.archives (archives_rise 1 0 content.archives numbered) (λ a. refl) has.archives;
     segments = held_shown segment_table (0 ∷ 1 ∷ 2 ∷ []) (1 ∷ 0 ∷ []) (λ r. refl) db segment_values content.segments (segments_rise 0 0 content.segments ordered) (λ a. refl) has.segments;
     closed_for = held_shown closed_for_table (0 ∷ []) (0 ∷ []) (λ r. refl) db file_values (if_any content.closed_for) (files_rise content.closed_for) (λ a. refl) has.closed_for;
+    lists = lists_shown layout db has.lists;
   }
 
   -- no other register is shown
-  pub one_register : (db : Database) (other : RegisterContent) → ShowsRegister content db → ShowsRegister other db → other ≡ content
-  one_register db other it that =
+  pub one_register : (layout : Layout) (db : Database) (other : RegisterContent) → ShowsRegister layout content db → ShowsRegister layout other db → other ≡ content
+  one_register layout db other it that =
       let archives = one_by_one archive_values one_archive other.archives content.archives (shown_once archive_table (0 ∷ 1 ∷ 2 ∷ []) (0 ∷ []) (λ r. refl) db archive_values content.archives (archives_rise 1 0 content.archives numbered) _ it.archives that.archives) in
       let segments = one_by_one segment_values one_segment other.segments content.segments (shown_once segment_table (0 ∷ 1 ∷ 2 ∷ []) (1 ∷ 0 ∷ []) (λ r. refl) db segment_values content.segments (segments_rise 0 0 content.segments ordered) _ it.segments that.segments) in
       let files = one_by_one file_values one_file (if_any other.closed_for) (if_any content.closed_for) (shown_once closed_for_table (0 ∷ []) (0 ∷ []) (λ r. refl) db file_values (if_any content.closed_for) (files_rise content.closed_for) _ it.closed_for that.closed_for) in
       let mark = one_mark other.closed_for content.closed_for files in
-      λ i. record { archives = archives i; segments = segments i; closed_for = mark i }
+      let lists = one_showing layout db other.lists it.lists that.lists in
+      λ i. record { archives = archives i; segments = segments i; lists = lists i; closed_for = mark i }

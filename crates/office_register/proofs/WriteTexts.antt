@@ -3,14 +3,14 @@ use Rattle.std.proofs.Common.{◌≡◌, ℕ, List, [], ◌∷◌, codes, Ok, re
 use Rattle.sqlite.specs.declared.types.Value.TheVariants.{Null}
 use Rattle.sqlite.specs.Term.{Term, lit, col}
 use Rattle.sqlite.specs.Source.TheVariants.{Values}
-use Rattle.sqlite.specs.Command.TheVariants.{CreateTable, Insert}
+use Rattle.sqlite.specs.Command.TheVariants.{CreateTable, Insert, Nothing}
 use Rattle.sqlite.specs.Compile.{table_defined_by}
 use Rattle.sqlite_tied.specs.Compute.{everything}
 use Rattle.sqlite.specs.Listing.{understood}
 use Rattle.sqlite.proofs.Callers.{IsPlain, command_of, statement_of}
 use Rattle.office_rows.specs.Tables.{no_schema, schema_of}
 use Rattle.office_tables.proofs.MadeTexts.{MakesAnew}
-use Rattle.office_register.specs.Tables.{archive_table, segment_table, closed_for_table, register_schema}
+use Rattle.office_register.specs.Tables.{archive_table, segment_table, closed_for_table, settled_table, older_schema, register_schema}
 
 -- ---- tables
 
@@ -71,6 +71,50 @@ pub closed_for_anew : MakesAnew create_closed_for
 unfolding everything
 closed_for_anew = (refl, refl)
 
+abbrev pub create_settled : List ℕ
+create_settled = codes "CREATE TABLE settled (vessel TEXT NOT NULL, voyage TEXT NOT NULL, side INTEGER NOT NULL, archive INTEGER NOT NULL, lines TEXT NOT NULL, PRIMARY KEY(vessel, voyage, side, archive)) STRICT"
+
+pub create_settled_is : (command_of (understood older_schema create_settled) ≡ CreateTable) × (statement_of create_settled (understood older_schema create_settled) ≡ create_settled)
+unfolding understood everything
+create_settled_is = (refl, refl)
+
+pub create_settled_plain : IsPlain (understood older_schema create_settled)
+unfolding understood everything
+create_settled_plain = (refl, refl)
+
+pub settled_defined : table_defined_by create_settled ≡ Ok (record settled_table { tree = 0 })
+unfolding understood everything
+settled_defined = refl
+
+pub settled_anew : MakesAnew create_settled
+unfolding everything
+settled_anew = (refl, refl)
+
+-- the same where it may be there
+
+abbrev pub complete_settled : List ℕ
+complete_settled = codes "CREATE TABLE IF NOT EXISTS settled (vessel TEXT NOT NULL, voyage TEXT NOT NULL, side INTEGER NOT NULL, archive INTEGER NOT NULL, lines TEXT NOT NULL, PRIMARY KEY(vessel, voyage, side, archive)) STRICT"
+
+pub complete_settled_is : (command_of (understood older_schema complete_settled) ≡ CreateTable) × (statement_of complete_settled (understood older_schema complete_settled) ≡ complete_settled)
+unfolding understood everything
+complete_settled_is = (refl, refl)
+
+pub complete_settled_plain : IsPlain (understood older_schema complete_settled)
+unfolding understood everything
+complete_settled_plain = (refl, refl)
+
+pub complete_defined : table_defined_by complete_settled ≡ Ok (record settled_table { tree = 0 })
+unfolding understood everything
+complete_defined = refl
+
+pub completed_is : command_of (understood register_schema complete_settled) ≡ Nothing
+unfolding understood everything
+completed_is = refl
+
+pub completed_plain : IsPlain (understood register_schema complete_settled)
+unfolding understood everything
+completed_plain = (refl, refl)
+
 -- ---- rows
 
 abbrev pub insert_archive : List ℕ
@@ -114,3 +158,17 @@ insert_closed_for_is = refl
 pub insert_closed_for_plain : IsPlain (understood register_schema insert_closed_for)
 unfolding understood everything
 insert_closed_for_plain = (refl, refl)
+
+abbrev pub insert_settled : List ℕ
+insert_settled = codes "INSERT INTO settled (vessel, voyage, side, archive, lines) VALUES (?1, ?2, ?3, ?4, ?5)"
+
+abbrev pub insert_settled_terms : List Term
+insert_settled_terms = lit Null ∷ col 0 0 ∷ col 0 1 ∷ col 0 2 ∷ col 0 3 ∷ col 0 4 ∷ []
+
+pub insert_settled_is : command_of (understood register_schema insert_settled) ≡ Insert 3 (Values insert_settled_terms 6)
+unfolding understood everything
+insert_settled_is = refl
+
+pub insert_settled_plain : IsPlain (understood register_schema insert_settled)
+unfolding understood everything
+insert_settled_plain = (refl, refl)

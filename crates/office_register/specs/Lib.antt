@@ -1,3 +1,4 @@
+pub mod Lists
 pub mod Register
 pub mod Sound
 pub mod Tables

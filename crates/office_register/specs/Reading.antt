@@ -9,10 +9,11 @@ use Rattle.office_tables.specs.declared.table_fault.TableFault.{TableFault}
 use Rattle.office_tables.specs.Faults.{IsOfStoreOr}
 use Rattle.office_register.specs.declared.register.Register.{Register}
 use Rattle.office_register.specs.declared.register.Segment.{Segment}
+use Rattle.office_register.specs.Lists.{SettledListContent}
 use Rattle.office_register.specs.Register.{ArchiveContent, RegisterContent, register_content}
 use Rattle.office_register.specs.Sound.{IsSound}
-use Rattle.office_register.specs.Stored.{ShowsRegister, archive_values, segment_values, file_values, if_any}
-use Rattle.office_register.specs.Tables.{archive_table, segment_table, closed_for_table}
+use Rattle.office_register.specs.Stored.{ShowsLists, ShowsRegister, archive_values, segment_values, file_values, list_values, if_any}
+use Rattle.office_register.specs.Tables.{archive_table, segment_table, closed_for_table, Layout}
 
 -- ---- what no caller has to read: which rows fit the types of a record
 
@@ -26,6 +27,12 @@ pub record FitsSegment (segment : Segment) : Type 0 where
   pub archive : segment.archive < 2 ^ 16
   pub last : segment.last < 2 ^ 32
 
+pub record FitsList (list : SettledListContent) : Type 0 where
+  pub vessel : IsUtf8 list.call.vessel
+  pub voyage : IsUtf8 list.call.voyage
+  pub archive : list.archive < 2 ^ 16
+  pub lines : IsUtf8 list.lines
+
 abbrev pub SaysArchive : Row → ArchiveContent → Type 0
 SaysArchive row archive = (columns_at (0 ∷ 1 ∷ 2 ∷ []) row ≡ archive_values archive) × FitsArchive archive
 
@@ -34,6 +41,9 @@ SaysSegment row segment = (columns_at (0 ∷ 1 ∷ 2 ∷ []) row ≡ segment_val
 
 abbrev pub SaysFile : Row → List ℕ → Type 0
 SaysFile row file = (columns_at (0 ∷ []) row ≡ file_values file) × IsUtf8 file
+
+abbrev pub SaysList : Row → SettledListContent → Type 0
+SaysList row list = (columns_at (0 ∷ 1 ∷ 2 ∷ 3 ∷ 4 ∷ []) row ≡ list_values list) × FitsList list
 
 abbrev pub ShowsArchives : Database → List ArchiveContent → Type 0
 ShowsArchives db archives = ShowsTable archive_table (0 ∷ 1 ∷ 2 ∷ []) (0 ∷ []) db (map archive_values archives)
@@ -58,23 +68,27 @@ pub record FitsRegister (content : RegisterContent) : Type 0 where
   pub archives : AllByRecursion FitsArchive content.archives
   pub segments : AllByRecursion FitsSegment content.segments
   pub closed_for : IfSome content.closed_for IsUtf8
+  pub lists : AllByRecursion FitsList content.lists
 
 -- no register that the tables show fits; or the store failed, or memory
-abbrev pub FailsTables : Database → TableFault → Type 0
-FailsTables db fault = IsOfStoreOr ((content : RegisterContent) → ShowsRegister content db → ¬ FitsRegister content) fault
+abbrev pub FailsTables : Layout → Database → TableFault → Type 0
+FailsTables layout db fault =
+    IsOfStoreOr ((content : RegisterContent) → ShowsRegister layout content db → ¬ FitsRegister content) fault
 
 -- what is read is what the tables show, and fits
-abbrev pub ReadsTables : Database → Result Register TableFault → Type 0
-ReadsTables db (Ok register) = ShowsRegister (register_content register) db × FitsRegister (register_content register)
-ReadsTables db (Err fault) = FailsTables db fault
+abbrev pub ReadsTables : Layout → Database → Result Register TableFault → Type 0
+ReadsTables layout db (Ok register) =
+    ShowsRegister layout (register_content register) db × FitsRegister (register_content register)
+ReadsTables layout db (Err fault) = FailsTables layout db fault
 
 -- ---- what a caller reads
 
 -- the tables show no sound register
-abbrev pub ShowsNoSound : Database → Type 0
-ShowsNoSound db = (content : RegisterContent) → ShowsRegister content db → ¬ IsSound content
+abbrev pub ShowsNoSound : Layout → Database → Type 0
+ShowsNoSound layout db = (content : RegisterContent) → ShowsRegister layout content db → ¬ IsSound content
 
 -- what is read is what the tables show, and sound; or they show no sound register, or the store failed, or memory
-abbrev pub ReadsRegister : Database → Result Register TableFault → Type 0
-ReadsRegister db (Ok register) = ShowsRegister (register_content register) db × IsSound (register_content register)
-ReadsRegister db (Err fault) = IsOfStoreOr (ShowsNoSound db) fault
+abbrev pub ReadsRegister : Layout → Database → Result Register TableFault → Type 0
+ReadsRegister layout db (Ok register) =
+    ShowsRegister layout (register_content register) db × IsSound (register_content register)
+ReadsRegister layout db (Err fault) = IsOfStoreOr (ShowsNoSound layout db) fault

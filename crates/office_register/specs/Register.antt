@@ -5,6 +5,7 @@ use Rattle.office_checks.specs.Closed.{ClosedContent}
 use Rattle.office_register.specs.declared.register.Archive.{Archive}
 use Rattle.office_register.specs.declared.register.Register.{Register}
 use Rattle.office_register.specs.declared.register.Segment.{Segment}
+use Rattle.office_register.specs.Lists.{SettledListContent, list_content}
 
 -- an archive: its place in the order of closing, the name of its file, the number of its newest visit
 pub record ArchiveContent : Type 0 where
@@ -16,6 +17,8 @@ pub record ArchiveContent : Type 0 where
 pub record RegisterContent : Type 0 where
   pub archives : List ArchiveContent
   pub segments : List Segment
+  -- the lists that were put away
+  pub lists : List SettledListContent
   -- in an archive's own register: the file of the store that goes on
   pub closed_for : Option (List ℕ)
 
@@ -28,6 +31,7 @@ register_content register =
     record {
       archives = map archive_content register.archives.items;
       segments = register.segments.items;
+      lists = map list_content register.lists.items;
       closed_for = option_map string_bytes register.closed_for;
     }
 

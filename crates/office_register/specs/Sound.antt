@@ -2,9 +2,11 @@
 use Rattle.std.specs.Prelude.{ℕ, ◌≤◌, ◌+◌, ◌==◌, ◌&&◌, ◌||◌, not, nat_le, nat_lt, Bool, true, List, [], ◌∷◌, ◌++◌, length, IsTrue, IfSome, IsUtf8, Option, None, Some}
 use Rattle.std.specs.List.{list_all, list_any, AllByRecursion}
 use Rattle.std.specs.Str.{bytes_eq}
+use Rattle.edi_messages.specs.Texts.{is_name}
 use Rattle.edi_syntax.specs.Numbers.{last_number}
 use Rattle.office_setup.specs.Limits.{most_partners, most_visits}
 use Rattle.office_register.specs.declared.register.Segment.{Segment}
+use Rattle.office_register.specs.Lists.{SettledListContent, comes_before}
 use Rattle.office_register.specs.Register.{ArchiveContent, RegisterContent, last_closed}
 
 -- the most archives that a store may have
@@ -70,6 +72,23 @@ close_more before [] = true
 close_more before (segment ∷ segments) =
     nat_lt (last_closed before segment.partner) segment.last && close_more (before ++ segment ∷ []) segments
 
+-- ---- lists
+
+-- of a call that may be, put away with one of so many archives
+abbrev pub may_be_list : ℕ → SettledListContent → Bool
+may_be_list archives list =
+    (is_name list.call.vessel && is_name list.call.voyage) && (nat_le 1 list.archive && nat_le list.archive archives)
+
+-- it comes after this one, if there is one
+abbrev pub comes_after : Option SettledListContent → SettledListContent → Bool
+comes_after None list = true
+comes_after (Some before) list = comes_before before list
+
+-- each comes after this one and the one before it
+abbrev pub are_rising : Option SettledListContent → List SettledListContent → Bool
+are_rising before [] = true
+are_rising before (list ∷ lists) = comes_after before list && are_rising (Some list) lists
+
 -- ---- all of it
 
 abbrev pub are_sound_archives : List ArchiveContent → Bool
@@ -81,6 +100,9 @@ abbrev pub are_sound_segments : ℕ → List Segment → Bool
 are_sound_segments archives segments =
     list_all (is_within archives) segments && (are_in_order 0 0 segments && close_more [] segments)
 
+abbrev pub are_sound_lists : ℕ → List SettledListContent → Bool
+are_sound_lists archives lists = list_all (may_be_list archives) lists && are_rising None lists
+
 abbrev pub is_sound_mark : Option (List ℕ) → Bool
 is_sound_mark None = true
 is_sound_mark (Some file) = is_file_name file
@@ -88,11 +110,13 @@ is_sound_mark (Some file) = is_file_name file
 abbrev pub is_sound : RegisterContent → Bool
 is_sound content =
     are_sound_archives content.archives
-    && (are_sound_segments (length content.archives) content.segments && is_sound_mark content.closed_for)
+    && (are_sound_segments (length content.archives) content.segments
+    && (are_sound_lists (length content.archives) content.lists && is_sound_mark content.closed_for))
 
--- the names of its files are texts
+-- the names of its files are texts, and the lines of its lists
 pub record HasTexts (content : RegisterContent) : Type 0 where
   pub files : AllByRecursion (λ (archive : ArchiveContent). IsUtf8 archive.file) content.archives
+  pub lines : AllByRecursion (λ (list : SettledListContent). IsUtf8 list.lines) content.lists
   pub closed_for : IfSome content.closed_for IsUtf8
 
 -- it is that of a store, or of an archive

@@ -3,6 +3,7 @@ use Rattle.std.specs.Prelude.{◌≡◌, ℕ, List, [], ◌∷◌, Option, None,
 use Rattle.sqlite.specs.declared.types.Value.TheVariants.{Text}
 use Rattle.sqlite.specs.Order.{Row}
 use Rattle.sqlite.specs.Tree.{Trees}
+use Rattle.terminal_core.specs.State.{side_code}
 use Rattle.sqlite.specs.Effect.{Database}
 use Rattle.sqlite_trees.specs.Objects.{catalog_tree}
 use Rattle.sqlite_catalog.specs.Listing.{Lists}
@@ -10,8 +11,9 @@ use Rattle.office_rows.specs.Values.{number_value}
 use Rattle.office_rows.specs.Stored.{Holds}
 use Rattle.office_rows.specs.Shown.{ShowsTable}
 use Rattle.office_register.specs.declared.register.Segment.{Segment}
+use Rattle.office_register.specs.Lists.{SettledListContent}
 use Rattle.office_register.specs.Register.{ArchiveContent, RegisterContent}
-use Rattle.office_register.specs.Tables.{archive_table, segment_table, closed_for_table, register_schema}
+use Rattle.office_register.specs.Tables.{archive_table, segment_table, closed_for_table, settled_table, Layout, older, whole, register_schema, schema_in}
 
 -- ---- rows, in the order of the columns
 
@@ -24,6 +26,11 @@ segment_values segment = number_value segment.partner ∷ number_value segment.a
 abbrev pub file_values : List ℕ → Row
 file_values file = Text file ∷ []
 
+abbrev pub list_values : SettledListContent → Row
+list_values list =
+    Text list.call.vessel ∷ Text list.call.voyage ∷ number_value (side_code list.side) ∷ number_value list.archive
+    ∷ Text list.lines ∷ []
+
 -- the rows of which there is one or none
 abbrev pub if_any : Option (List ℕ) → List (List ℕ)
 if_any None = []
@@ -31,20 +38,43 @@ if_any (Some file) = file ∷ []
 
 -- ---- a database
 
--- the three tables and nothing else, as its trees list them too, with the rows of this register in any order
-pub record HasRegister (content : RegisterContent) (db : Database) : Type 0 where
-  pub schema : db.schema ≡ register_schema
-  pub lists : Lists (db.trees catalog_tree) register_schema
+-- the lists, in any order; where there is no table of them there are none
+abbrev pub HoldsLists : Layout → List SettledListContent → Trees → Type 0
+HoldsLists older lists trees = lists ≡ []
+HoldsLists whole lists trees = Holds settled_table list_values lists (trees 6)
+
+-- the tables of this layout and nothing else, as its trees list them too, with the rows of this register in any order
+pub record HasRegisterIn (layout : Layout) (content : RegisterContent) (db : Database) : Type 0 where
+  pub schema : db.schema ≡ schema_in layout
+  pub listed : Lists (db.trees catalog_tree) (schema_in layout)
   pub archives : Holds archive_table archive_values content.archives (db.trees 0)
   pub segments : Holds segment_table segment_values content.segments (db.trees 2)
   pub closed_for : Holds closed_for_table file_values (if_any content.closed_for) (db.trees 4)
+  pub lists : HoldsLists layout content.lists db.trees
 
--- the trees are those of a database that has this register
+-- it has this register, in one of the two layouts
+abbrev pub HasRegister : RegisterContent → Database → Type 0
+HasRegister content db = (layout : Layout) × HasRegisterIn layout content db
+
+-- it has this register in all four tables
+abbrev pub HasWhole : RegisterContent → Database → Type 0
+HasWhole = HasRegisterIn whole
+
+-- the trees are those of a database that has this register in all four tables
 abbrev pub StoresRegister : RegisterContent → Trees → Type 0
-StoresRegister content trees = HasRegister content (record { schema = register_schema; trees = trees })
+StoresRegister content trees = HasWhole content (record { schema = register_schema; trees = trees })
 
--- The tables show this register: the archives by place, the segments by archive and partner.
-pub record ShowsRegister (content : RegisterContent) (db : Database) : Type 0 where
+-- ---- what its tables show
+
+-- the lists by call, side and archive
+abbrev pub ShowsLists : Layout → Database → List SettledListContent → Type 0
+ShowsLists older db lists = lists ≡ []
+ShowsLists whole db lists =
+    ShowsTable settled_table (0 ∷ 1 ∷ 2 ∷ 3 ∷ 4 ∷ []) (0 ∷ 1 ∷ 2 ∷ 3 ∷ []) db (map list_values lists)
+
+-- The tables of this layout show this register: the archives by place, the segments by archive and partner.
+pub record ShowsRegister (layout : Layout) (content : RegisterContent) (db : Database) : Type 0 where
   pub archives : ShowsTable archive_table (0 ∷ 1 ∷ 2 ∷ []) (0 ∷ []) db (map archive_values content.archives)
   pub segments : ShowsTable segment_table (0 ∷ 1 ∷ 2 ∷ []) (1 ∷ 0 ∷ []) db (map segment_values content.segments)
   pub closed_for : ShowsTable closed_for_table (0 ∷ []) (0 ∷ []) db (map file_values (if_any content.closed_for))
+  pub lists : ShowsLists layout db content.lists

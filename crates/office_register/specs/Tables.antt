@@ -1,5 +1,5 @@
 -- The tables of a register as SQL declares them.
-use Rattle.std.specs.Prelude.{false, [], ◌∷◌, Some, None, codes, List}
+use Rattle.std.specs.Prelude.{Bool, true, false, [], ◌∷◌, Some, None, codes, List}
 use Rattle.sqlite_value.specs.Keys.{plain}
 use Rattle.sqlite.specs.Table.{Table}
 use Rattle.sqlite.specs.Schema.{Schema}
@@ -57,10 +57,44 @@ closed_for_table = record {
   is_counted = false;
 }
 
+-- a row for each list and each archive with which lines of it were put away
+abbrev pub settled_table : Table
+settled_table = record {
+  name = codes "settled";
+  tree = 6;
+  columns = required_column (codes "vessel") Text ∷ required_column (codes "voyage") Text ∷ required_column (codes "side") Integer
+      ∷ required_column (codes "archive") Integer ∷ required_column (codes "lines") Text ∷ [];
+  key = None;
+  primary = 1 ∷ 2 ∷ 3 ∷ 4 ∷ [];
+  uniques = (1 ∷ 2 ∷ 3 ∷ 4 ∷ []) ∷ [];
+  orders = plain ∷ [];
+  checks = [];
+  references = [];
+  computed = [];
+  stamps = record { places = []; terms = []; formats = [] };
+  is_counted = false;
+}
+
 -- the tables in the order in which they are made
 abbrev pub register_tables : List Table
-register_tables = archive_table ∷ segment_table ∷ closed_for_table ∷ []
+register_tables = archive_table ∷ segment_table ∷ closed_for_table ∷ settled_table ∷ []
 
 -- the schema that they make, with their automatic indexes
 abbrev pub register_schema : Schema
 register_schema = schema_of register_tables
+
+-- whether there is a table of lists: an older register has none
+pub data Layout : Type 0 where
+  older : Layout
+  whole : Layout
+
+abbrev pub older_schema : Schema
+older_schema = schema_of (archive_table ∷ segment_table ∷ closed_for_table ∷ [])
+
+abbrev pub schema_in : Layout → Schema
+schema_in older = older_schema
+schema_in whole = register_schema
+
+abbrev pub has_lists : Layout → Bool
+has_lists older = false
+has_lists whole = true

@@ -1,6 +1,8 @@
-ghost use Rattle.std.specs.Prelude.{◌≡◌, [], ◌∷◌, false, OnOk, OnErr, IfErr, IsTrue};
-ghost use Rattle.office_register.specs.Changes.{unchanged, with_archive, with_segments, closed_with, unmarked, marked_for};
+ghost use Rattle.std.specs.Prelude.{◌≡◌, [], ◌∷◌, map, false, OnOk, OnErr, IfErr, IsTrue};
+ghost use Rattle.office_register.specs.Changes.{unchanged, with_archive, with_segments, with_lists, closed_with, unmarked, marked_for};
+ghost use Rattle.office_register.specs.Lists.{list_content};
 ghost use Rattle.office_register.specs.Register.{archive_content};
+ghost use Rattle.office_register.specs.Stored.{HasRegister, HasWhole};
 ghost use Rattle.office_register.specs.Transactions.{Writes, WritesIfOpen, Becomes, HasBecome};
 ghost use Rattle.office_tables.specs.Faults.{IsOfStore};
 ghost use Rattle.sqlite.specs.Held.{state};
@@ -8,36 +10,40 @@ ghost use Rattle.sqlite.specs.State.{HasCleanDisk, Survives};
 ghost use Rattle.sqlite_value.specs.Value.{owned};
 ghost use Rattle.sqlite_value.specs.declared.value.Value.TheVariants.{Text};
 
+use crate::lists::{SettledList, side_code};
 use crate::register::{Archive, Segment};
 use office_tables::{TableFault, integer};
 use sqlite::types::ValueRef;
 use sqlite::{Alter, Connection, Transaction};
 
-/// Adds an archive with the segments that it closes, all or none of them; the caller gives the next place, and of each
-/// partner a last number above the one before.
+/// Adds an archive with the segments that it closes and the lists that were put away with it, all or none of them; the
+/// caller gives the next place, and of each partner a last number above the one before.
 ///
-/// It fails where the place, the file or a segment's partner and archive are there.
+/// It fails where the place, the file, a segment's partner and archive, or a list with its archive are there.
 pub fn close_with<S: Alter>(
     conn: &mut Connection<S>,
     archive: &Archive,
     segments: &[Segment],
+    lists: &[SettledList],
 ) -> Result<(), TableFault>
     requires { (state S.Store conn.old).in_transaction ≡ false }
     ensures idle { (state S.Store conn.new).in_transaction ≡ false }
     ensures ok { HasCleanDisk (state S.Store conn.new) →
-        OnOk result (Becomes unchanged (closed_with (archive_content archive.now) segments.now)
+        OnOk result (Becomes unchanged
+        (closed_with (archive_content archive.now) segments.now (map list_content lists.now))
         (state S.Store conn.old) (state S.Store conn.new)) }
     ensures err { HasCleanDisk (state S.Store conn.new) → IsTrue (state S.Store conn.new).is_open
         → OnErr result (((state S.Store conn.new).now ≡ (state S.Store conn.old).committed)
         × ((state S.Store conn.new).committed ≡ (state S.Store conn.old).committed)) }
     ensures crash { Survives (state S.Store conn.old) (state S.Store conn.new)
-        (HasBecome unchanged (closed_with (archive_content archive.now) segments.now) (state S.Store conn.old)) }
+        (HasBecome unchanged (closed_with (archive_content archive.now) segments.now (map list_content lists.now))
+        (state S.Store conn.old)) }
     ensures fault { IfErr result IsOfStore }
 {
     let is_idle = conn.is_autocommit();
     prove!(is_idle);
     let mut tx = conn.transaction();
-    write_closing(&mut tx, archive, segments)?;
+    write_closing(&mut tx, archive, segments, lists)?;
     tx.commit()?;
     Ok(())
 }
@@ -58,23 +64,50 @@ pub fn mark<S: Alter>(conn: &mut Connection<S>, file: &str) -> Result<(), TableF
     let is_idle = conn.is_autocommit();
     prove!(is_idle);
     let mut tx = conn.transaction();
-    insert_mark(&mut tx, file)?;
+    write_mark(&mut tx, file)?;
     tx.commit()?;
     Ok(())
 }
 
-/// The archive and its segments, in the transaction.
+/// The archive, its segments and its lists, in the transaction.
 fn write_closing<S: Alter>(
     tx: &mut Transaction<'_, S>,
     archive: &Archive,
     segments: &[Segment],
+    lists: &[SettledList],
 ) -> Result<(), TableFault>
     ensures same_reference { tx.new.conn.ghost_name ≡ tx.old.conn.ghost_name }
-    ensures writes { Writes unchanged (closed_with (archive_content archive.now) segments.now)
+    ensures writes { Writes HasRegister unchanged
+        (closed_with (archive_content archive.now) segments.now (map list_content lists.now))
         (state S.Store tx.old.conn.now) (state S.Store tx.new.conn.now) result }
 {
+    complete_tables(tx)?;
     insert_archive(tx, archive)?;
-    insert_segments(tx, segments)
+    insert_segments(tx, segments)?;
+    insert_lists(tx, lists)
+}
+
+/// The mark, in the transaction.
+fn write_mark<S: Alter>(tx: &mut Transaction<'_, S>, file: &str) -> Result<(), TableFault>
+    ensures same_reference { tx.new.conn.ghost_name ≡ tx.old.conn.ghost_name }
+    ensures writes { Writes HasRegister unmarked (marked_for file.now) (state S.Store tx.old.conn.now)
+        (state S.Store tx.new.conn.now) result }
+{
+    complete_tables(tx)?;
+    insert_mark(tx, file)
+}
+
+/// The table of lists, which an older register has not.
+fn complete_tables<S: Alter>(tx: &mut Transaction<'_, S>) -> Result<(), TableFault>
+    ensures same_reference { tx.new.conn.ghost_name ≡ tx.old.conn.ghost_name }
+    ensures writes { Writes HasRegister unchanged unchanged (state S.Store tx.old.conn.now)
+        (state S.Store tx.new.conn.now) result }
+{
+    tx.execute(
+        "CREATE TABLE IF NOT EXISTS settled (vessel TEXT NOT NULL, voyage TEXT NOT NULL, side INTEGER NOT NULL, archive INTEGER NOT NULL, lines TEXT NOT NULL, PRIMARY KEY(vessel, voyage, side, archive)) STRICT",
+        &[],
+    )?;
+    Ok(())
 }
 
 fn insert_archive<S: Alter>(
@@ -82,7 +115,7 @@ fn insert_archive<S: Alter>(
     archive: &Archive,
 ) -> Result<(), TableFault>
     ensures same_reference { tx.new.conn.ghost_name ≡ tx.old.conn.ghost_name }
-    ensures writes { Writes unchanged (with_archive (archive_content archive.now)) (state S.Store tx.old.conn.now)
+    ensures writes { Writes HasWhole unchanged (with_archive (archive_content archive.now)) (state S.Store tx.old.conn.now)
         (state S.Store tx.new.conn.now) result }
 {
     tx.execute(
@@ -101,7 +134,7 @@ fn insert_segments<S: Alter>(
     segments: &[Segment],
 ) -> Result<(), TableFault>
     ensures same_reference { tx.new.conn.ghost_name ≡ tx.old.conn.ghost_name }
-    ensures writes { WritesIfOpen unchanged (with_segments segments.now) (state S.Store tx.old.conn.now)
+    ensures writes { WritesIfOpen HasWhole unchanged (with_segments segments.now) (state S.Store tx.old.conn.now)
         (state S.Store tx.new.conn.now) result }
 {
     for segment in segments {
@@ -112,7 +145,7 @@ fn insert_segments<S: Alter>(
 
 fn insert_segment<S: Alter>(tx: &mut Transaction<'_, S>, segment: Segment) -> Result<(), TableFault>
     ensures same_reference { tx.new.conn.ghost_name ≡ tx.old.conn.ghost_name }
-    ensures writes { Writes unchanged (with_segments (segment ∷ [])) (state S.Store tx.old.conn.now)
+    ensures writes { Writes HasWhole unchanged (with_segments (segment ∷ [])) (state S.Store tx.old.conn.now)
         (state S.Store tx.new.conn.now) result }
 {
     tx.execute(
@@ -126,9 +159,41 @@ fn insert_segment<S: Alter>(tx: &mut Transaction<'_, S>, segment: Segment) -> Re
     Ok(())
 }
 
+fn insert_lists<S: Alter>(
+    tx: &mut Transaction<'_, S>,
+    lists: &[SettledList],
+) -> Result<(), TableFault>
+    ensures same_reference { tx.new.conn.ghost_name ≡ tx.old.conn.ghost_name }
+    ensures writes { WritesIfOpen HasWhole unchanged (with_lists (map list_content lists.now))
+        (state S.Store tx.old.conn.now) (state S.Store tx.new.conn.now) result }
+{
+    for list in lists {
+        insert_list(tx, list)?;
+    }
+    Ok(())
+}
+
+fn insert_list<S: Alter>(tx: &mut Transaction<'_, S>, list: &SettledList) -> Result<(), TableFault>
+    ensures same_reference { tx.new.conn.ghost_name ≡ tx.old.conn.ghost_name }
+    ensures writes { Writes HasWhole unchanged (with_lists (list_content list.now ∷ [])) (state S.Store tx.old.conn.now)
+        (state S.Store tx.new.conn.now) result }
+{
+    tx.execute(
+        "INSERT INTO settled (vessel, voyage, side, archive, lines) VALUES (?1, ?2, ?3, ?4, ?5)",
+        &[
+            characters(list.call.vessel.as_str()),
+            characters(list.call.voyage.as_str()),
+            integer(side_code(list.side)),
+            integer(u32::from(list.archive)),
+            characters(list.lines.as_str()),
+        ],
+    )?;
+    Ok(())
+}
+
 fn insert_mark<S: Alter>(tx: &mut Transaction<'_, S>, file: &str) -> Result<(), TableFault>
     ensures same_reference { tx.new.conn.ghost_name ≡ tx.old.conn.ghost_name }
-    ensures writes { Writes unmarked (marked_for file.now) (state S.Store tx.old.conn.now)
+    ensures writes { Writes HasWhole unmarked (marked_for file.now) (state S.Store tx.old.conn.now)
         (state S.Store tx.new.conn.now) result }
 {
     tx.execute(

@@ -1,7 +1,7 @@
 ghost use Rattle.std.specs.Prelude.{◌≡◌, [], ◌∷◌, take, false, OnOk, OnErr, IfErr, IsTrue};
 ghost use Rattle.office_register.specs.Changes.{empty_register};
-ghost use Rattle.office_register.specs.Stored.{HasRegister};
-ghost use Rattle.office_register.specs.Tables.{register_tables, archive_table, segment_table, closed_for_table};
+ghost use Rattle.office_register.specs.Stored.{HasWhole};
+ghost use Rattle.office_register.specs.Tables.{register_tables, archive_table, segment_table, closed_for_table, settled_table};
 ghost use Rattle.office_register.specs.Transactions.{Makes, IsMade};
 ghost use Rattle.office_rows.specs.Stored.{HasEmpty};
 ghost use Rattle.office_tables.specs.Faults.{IsOfStore};
@@ -40,12 +40,13 @@ pub fn create_register<S: Alter>(conn: &mut Connection<S>) -> Result<(), TableFa
 
 fn create_tables<S: Alter>(tx: &mut Transaction<'_, S>) -> Result<(), TableFault>
     ensures same_reference { tx.new.conn.ghost_name ≡ tx.old.conn.ghost_name }
-    ensures creates { Creates register_tables (HasEmpty (take 0 register_tables)) (HasRegister empty_register)
+    ensures creates { Creates register_tables (HasEmpty (take 0 register_tables)) (HasWhole empty_register)
         (state S.Store tx.old.conn.now) (state S.Store tx.new.conn.now) result }
 {
     create_archive(tx)?;
     create_segment(tx)?;
-    create_closed_for(tx)
+    create_closed_for(tx)?;
+    create_settled(tx)
 }
 
 fn create_archive<S: Alter>(tx: &mut Transaction<'_, S>) -> Result<(), TableFault>
@@ -72,14 +73,26 @@ fn create_segment<S: Alter>(tx: &mut Transaction<'_, S>) -> Result<(), TableFaul
     Ok(())
 }
 
-/// The last table, with which the tables are those of a register.
 fn create_closed_for<S: Alter>(tx: &mut Transaction<'_, S>) -> Result<(), TableFault>
     ensures same_reference { tx.new.conn.ghost_name ≡ tx.old.conn.ghost_name }
-    ensures creates { Creates (closed_for_table ∷ []) (HasEmpty (take 2 register_tables)) (HasRegister empty_register)
+    ensures creates { Creates (closed_for_table ∷ []) (HasEmpty (take 2 register_tables)) (HasEmpty (take 3 register_tables))
         (state S.Store tx.old.conn.now) (state S.Store tx.new.conn.now) result }
 {
     tx.execute(
         "CREATE TABLE closed_for (file TEXT PRIMARY KEY) STRICT",
+        &[],
+    )?;
+    Ok(())
+}
+
+/// The last table, with which the tables are those of a register.
+fn create_settled<S: Alter>(tx: &mut Transaction<'_, S>) -> Result<(), TableFault>
+    ensures same_reference { tx.new.conn.ghost_name ≡ tx.old.conn.ghost_name }
+    ensures creates { Creates (settled_table ∷ []) (HasEmpty (take 3 register_tables)) (HasWhole empty_register)
+        (state S.Store tx.old.conn.now) (state S.Store tx.new.conn.now) result }
+{
+    tx.execute(
+        "CREATE TABLE settled (vessel TEXT NOT NULL, voyage TEXT NOT NULL, side INTEGER NOT NULL, archive INTEGER NOT NULL, lines TEXT NOT NULL, PRIMARY KEY(vessel, voyage, side, archive)) STRICT",
         &[],
     )?;
     Ok(())

@@ -3,6 +3,7 @@
 
 mod closing;
 mod creating;
+mod lists;
 mod reading;
 mod register;
 mod rows;
@@ -10,6 +11,7 @@ mod sound;
 
 pub use closing::{close_with, mark};
 pub use creating::create_register;
+pub use lists::SettledList;
 pub use reading::read_register;
 pub use register::{Archive, Register, Segment};
 pub use sound::{MOST_ARCHIVES, is_file_name, is_sound};

@@ -2,22 +2,25 @@ ghost use Rattle.std.specs.Prelude.{◌≡◌, ◌<◌, [], ◌∷◌, ⊤, IfOk
 ghost use Rattle.std.specs.Option.{option_map};
 ghost use Rattle.office_loading.specs.Decoded.{itself};
 ghost use Rattle.office_loading.specs.Tables.{ReadsTable};
-ghost use Rattle.office_register.specs.Reading.{FitsArchive, FitsSegment, ShowsArchives, ShowsSegments, ShowsFiles, ReadsMark, ReadsTables, ReadsRegister};
+ghost use Rattle.office_register.specs.Lists.{list_content};
+ghost use Rattle.office_register.specs.Reading.{FitsArchive, FitsSegment, FitsList, ShowsArchives, ShowsSegments, ShowsFiles, ReadsMark, ReadsTables, ReadsRegister};
 ghost use Rattle.office_register.specs.Register.{archive_content, register_content};
 ghost use Rattle.office_register.specs.Sound.{is_sound, IsSound};
-ghost use Rattle.office_register.specs.Stored.{HasRegister, if_any};
-ghost use Rattle.office_register.specs.Tables.{archive_table, segment_table, closed_for_table, register_schema};
+ghost use Rattle.office_register.specs.Stored.{HasRegister, ShowsLists, if_any};
+ghost use Rattle.office_register.specs.Tables.{archive_table, segment_table, closed_for_table, settled_table, Layout, whole, has_lists, register_schema, schema_in};
 ghost use Rattle.office_rows.specs.Shown.{ShowsTable};
 ghost use Rattle.office_tables.specs.Faults.{IsOfStore, IsOfStoreOr};
 ghost use Rattle.office_tables.specs.Reading.{OnlyShows, Reads};
 ghost use Rattle.sqlite.specs.Held.{state};
 ghost use Rattle.sqlite.specs.State.{HasCleanDisk, Shown};
 
+use crate::lists::SettledList;
 use crate::register::{Archive, Register, Segment};
 use crate::rows::read_all;
 use crate::sound::is_sound;
 use office_tables::TableFault;
-use sqlite::{Alter, Connection, Row};
+use sqlite::{Alter, Connection, Error, Row};
+use sqlite_resolve::CompileError;
 use std::alloc::Global;
 
 /// The register that the tables hold. It changes nothing.
@@ -27,8 +30,9 @@ pub fn read_register<S: Alter>(
     alloc: Global,
     conn: &mut Connection<S>,
 ) -> Result<Register, TableFault>
-    ensures read { HasCleanDisk (state S.Store conn.new) → (state S.Store conn.old).now.schema ≡ register_schema →
-        ReadsRegister (state S.Store conn.old).now result }
+    ensures read { HasCleanDisk (state S.Store conn.new) → (layout : Layout) →
+        (state S.Store conn.old).now.schema ≡ schema_in layout →
+        ReadsRegister layout (state S.Store conn.old).now result }
     ensures register { HasCleanDisk (state S.Store conn.new) → IfOk result (λ register. (content : _) →
         HasRegister content (state S.Store conn.old).now → IsSound content → register_content register ≡ content) }
     ensures kept { HasCleanDisk (state S.Store conn.new) → IfErr result (λ fault. (content : _) →
@@ -46,19 +50,22 @@ pub fn read_register<S: Alter>(
     }
 }
 
-/// What the three tables show.
+/// What the tables show.
 fn read_tables<S: Alter>(alloc: Global, conn: &mut Connection<S>) -> Result<Register, TableFault>
-    ensures read { HasCleanDisk (state S.Store conn.new) → (state S.Store conn.old).now.schema ≡ register_schema →
-        ReadsTables (state S.Store conn.old).now result }
+    ensures read { HasCleanDisk (state S.Store conn.new) → (layout : Layout) →
+        (state S.Store conn.old).now.schema ≡ schema_in layout →
+        ReadsTables layout (state S.Store conn.old).now result }
     ensures version { IfErr result (IsOfStoreOr ⊤) }
     ensures reads { Reads (state S.Store conn.old) (state S.Store conn.new) result }
 {
     let archives = read_archives(alloc, conn)?;
     let segments = read_segments(alloc, conn)?;
     let closed_for = read_closed_for(alloc, conn)?;
+    let lists = read_lists(alloc, conn)?;
     Ok(Register {
         archives,
         segments,
+        lists,
         closed_for,
     })
 }
@@ -67,7 +74,8 @@ fn read_archives<S: Alter>(
     alloc: Global,
     conn: &mut Connection<S>,
 ) -> Result<Vec<Archive>, TableFault>
-    ensures read { HasCleanDisk (state S.Store conn.new) → (state S.Store conn.old).now.schema ≡ register_schema →
+    ensures read { HasCleanDisk (state S.Store conn.new) → (layout : Layout) →
+        (state S.Store conn.old).now.schema ≡ schema_in layout →
         ReadsTable archive_content FitsArchive (ShowsArchives (state S.Store conn.old).now) result }
     ensures version { IfErr result (IsOfStoreOr ⊤) }
     ensures reads { Reads (state S.Store conn.old) (state S.Store conn.new) result }
@@ -80,7 +88,8 @@ fn read_segments<S: Alter>(
     alloc: Global,
     conn: &mut Connection<S>,
 ) -> Result<Vec<Segment>, TableFault>
-    ensures read { HasCleanDisk (state S.Store conn.new) → (state S.Store conn.old).now.schema ≡ register_schema →
+    ensures read { HasCleanDisk (state S.Store conn.new) → (layout : Layout) →
+        (state S.Store conn.old).now.schema ≡ schema_in layout →
         ReadsTable itself FitsSegment (ShowsSegments (state S.Store conn.old).now) result }
     ensures version { IfErr result (IsOfStoreOr ⊤) }
     ensures reads { Reads (state S.Store conn.old) (state S.Store conn.new) result }
@@ -89,12 +98,60 @@ fn read_segments<S: Alter>(
     read_all(alloc, &rows)
 }
 
+/// The lists that were put away; none where there is no table of them.
+fn read_lists<S: Alter>(
+    alloc: Global,
+    conn: &mut Connection<S>,
+) -> Result<Vec<SettledList>, TableFault>
+    ensures read { HasCleanDisk (state S.Store conn.new) → (layout : Layout) →
+        (state S.Store conn.old).now.schema ≡ schema_in layout →
+        ReadsTable list_content FitsList (ShowsLists layout (state S.Store conn.old).now) result }
+    ensures version { IfErr result (IsOfStoreOr ⊤) }
+    ensures reads { Reads (state S.Store conn.old) (state S.Store conn.new) result }
+{
+    let there = lists_are_kept(conn)?;
+    if there {
+        read_settled(alloc, conn)
+    } else {
+        Ok(Vec::new(alloc))
+    }
+}
+
+/// Whether there is a table of lists: an older register has none.
+fn lists_are_kept<S: Alter>(conn: &mut Connection<S>) -> Result<bool, TableFault>
+    ensures layout { HasCleanDisk (state S.Store conn.new) → (layout : Layout) →
+        (state S.Store conn.old).now.schema ≡ schema_in layout → IfOk result (λ are. are ≡ has_lists layout) }
+    ensures fault { IfErr result IsOfStore }
+    ensures reads { Reads (state S.Store conn.old) (state S.Store conn.new) result }
+{
+    match conn.prepare("SELECT vessel FROM settled") {
+        Ok(_) => Ok(true),
+        Err(Error::SqlInputError(CompileError::NoSuchTable)) => Ok(false),
+        Err(error) => Err(error.into()),
+    }
+}
+
+/// What the table of lists shows.
+fn read_settled<S: Alter>(
+    alloc: Global,
+    conn: &mut Connection<S>,
+) -> Result<Vec<SettledList>, TableFault>
+    ensures read { HasCleanDisk (state S.Store conn.new) → (state S.Store conn.old).now.schema ≡ register_schema →
+        ReadsTable list_content FitsList (ShowsLists whole (state S.Store conn.old).now) result }
+    ensures version { IfErr result (IsOfStoreOr ⊤) }
+    ensures reads { Reads (state S.Store conn.old) (state S.Store conn.new) result }
+{
+    let rows = select_lists(conn)?;
+    read_all(alloc, &rows)
+}
+
 /// The file of the store for which an archive was closed, if there is one.
 fn read_closed_for<S: Alter>(
     alloc: Global,
     conn: &mut Connection<S>,
 ) -> Result<Option<String>, TableFault>
-    ensures read { HasCleanDisk (state S.Store conn.new) → (state S.Store conn.old).now.schema ≡ register_schema →
+    ensures read { HasCleanDisk (state S.Store conn.new) → (layout : Layout) →
+        (state S.Store conn.old).now.schema ≡ schema_in layout →
         ReadsMark (state S.Store conn.old).now result }
     ensures version { IfErr result (IsOfStoreOr ⊤) }
     ensures reads { Reads (state S.Store conn.old) (state S.Store conn.new) result }
@@ -105,7 +162,8 @@ fn read_closed_for<S: Alter>(
 
 /// The files that the table of them names.
 fn read_files<S: Alter>(alloc: Global, conn: &mut Connection<S>) -> Result<Vec<String>, TableFault>
-    ensures read { HasCleanDisk (state S.Store conn.new) → (state S.Store conn.old).now.schema ≡ register_schema →
+    ensures read { HasCleanDisk (state S.Store conn.new) → (layout : Layout) →
+        (state S.Store conn.old).now.schema ≡ schema_in layout →
         ReadsTable string_bytes IsUtf8 (ShowsFiles (state S.Store conn.old).now) result }
     ensures version { IfErr result (IsOfStoreOr ⊤) }
     ensures reads { Reads (state S.Store conn.old) (state S.Store conn.new) result }
@@ -129,7 +187,8 @@ fn one_at_most(mut files: Vec<String>) -> Result<Option<String>, TableFault>
 
 /// The rows of all archives, by their places.
 fn select_archives<S: Alter>(conn: &mut Connection<S>) -> Result<Vec<Row>, TableFault>
-    ensures shown { HasCleanDisk (state S.Store conn.new) → (state S.Store conn.old).now.schema ≡ register_schema →
+    ensures shown { HasCleanDisk (state S.Store conn.new) → (layout : Layout) →
+        (state S.Store conn.old).now.schema ≡ schema_in layout →
         IfOk result (λ answer. ShowsTable archive_table (0 ∷ 1 ∷ 2 ∷ []) (0 ∷ []) (state S.Store conn.old).now answer.items) }
     ensures fault { IfErr result IsOfStore }
     ensures reads { Reads (state S.Store conn.old) (state S.Store conn.new) result }
@@ -142,7 +201,8 @@ fn select_archives<S: Alter>(conn: &mut Connection<S>) -> Result<Vec<Row>, Table
 
 /// The rows of all segments, by archive and partner.
 fn select_segments<S: Alter>(conn: &mut Connection<S>) -> Result<Vec<Row>, TableFault>
-    ensures shown { HasCleanDisk (state S.Store conn.new) → (state S.Store conn.old).now.schema ≡ register_schema →
+    ensures shown { HasCleanDisk (state S.Store conn.new) → (layout : Layout) →
+        (state S.Store conn.old).now.schema ≡ schema_in layout →
         IfOk result (λ answer. ShowsTable segment_table (0 ∷ 1 ∷ 2 ∷ []) (1 ∷ 0 ∷ []) (state S.Store conn.old).now answer.items) }
     ensures fault { IfErr result IsOfStore }
     ensures reads { Reads (state S.Store conn.old) (state S.Store conn.new) result }
@@ -153,8 +213,23 @@ fn select_segments<S: Alter>(conn: &mut Connection<S>) -> Result<Vec<Row>, Table
     )
 }
 
-fn select_files<S: Alter>(conn: &mut Connection<S>) -> Result<Vec<Row>, TableFault>
+/// The rows of all lists, by vessel, voyage, side and archive.
+fn select_lists<S: Alter>(conn: &mut Connection<S>) -> Result<Vec<Row>, TableFault>
     ensures shown { HasCleanDisk (state S.Store conn.new) → (state S.Store conn.old).now.schema ≡ register_schema →
+        IfOk result (λ answer. ShowsTable settled_table (0 ∷ 1 ∷ 2 ∷ 3 ∷ 4 ∷ []) (0 ∷ 1 ∷ 2 ∷ 3 ∷ [])
+        (state S.Store conn.old).now answer.items) }
+    ensures fault { IfErr result IsOfStore }
+    ensures reads { Reads (state S.Store conn.old) (state S.Store conn.new) result }
+{
+    select(
+        conn,
+        "SELECT vessel, voyage, side, archive, lines FROM settled ORDER BY vessel, voyage, side, archive",
+    )
+}
+
+fn select_files<S: Alter>(conn: &mut Connection<S>) -> Result<Vec<Row>, TableFault>
+    ensures shown { HasCleanDisk (state S.Store conn.new) → (layout : Layout) →
+        (state S.Store conn.old).now.schema ≡ schema_in layout →
         IfOk result (λ answer. ShowsTable closed_for_table (0 ∷ []) (0 ∷ []) (state S.Store conn.old).now answer.items) }
     ensures fault { IfErr result IsOfStore }
     ensures reads { Reads (state S.Store conn.old) (state S.Store conn.new) result }

@@ -1,13 +1,19 @@
-ghost use Rattle.std.specs.Prelude.{◌≡◌, ◌↔◌, ◌++◌, ◌∷◌, [], true, ℕ, IfOk, OnOk, IsTrue, get_or, map};
+ghost use Rattle.std.specs.Prelude.{◌≡◌, ◌↔◌, ◌++◌, ◌∷◌, [], true, false, ℕ, IfOk, OnOk, IsTrue, get_or, map};
 ghost use Rattle.std.specs.List.{AllByRecursion};
+ghost use Rattle.std.specs.Option.{option_map};
 ghost use Rattle.office_checks.specs.Closed.{closed_content};
+ghost use Rattle.edi_messages.specs.Owned.{call_content};
 ghost use Rattle.office_register.specs.Changes.{closed_with, unmarked};
+ghost use Rattle.office_register.specs.Lists.{list_content, lines_of_list};
 ghost use Rattle.office_register.specs.Register.{archive_content, register_content, last_closed, archive_of, newest_visit, closed_by};
 ghost use Rattle.office_register.specs.Sound.{is_sound, IsOfAccount};
 
+use crate::lists::{SettledList, are_same_lists, is_of_list, put_lists};
+use edi_messages::Call;
 use office_checks::Closed;
 use office_setup::MOST_PARTNERS;
 use std::alloc::{AllocError, Global};
+use terminal_core::Side;
 
 /// An archive of a store: its place in the order of closing, the name of its file, the number of its newest visit.
 #[derive(Debug, Drop)]
@@ -25,12 +31,13 @@ pub struct Segment {
     pub last: u32,
 }
 
-/// Which archives hold a store's history, and which numbers each of them closed; in an archive's own register also the
-/// file of the store that goes on.
+/// Which archives hold a store's history, which numbers each of them closed, and the lists that were put away; in an
+/// archive's own register also the file of the store that goes on.
 #[derive(Debug, Drop)]
 pub struct Register {
     pub archives: Vec<Archive>,
     pub segments: Vec<Segment>,
+    pub lists: Vec<SettledList>,
     pub closed_for: Option<String>,
 }
 
@@ -61,6 +68,27 @@ impl Register {
         None
     }
 
+    /// Whether any list was put away.
+    pub fn has_lists(&self) -> bool
+        ensures { (result ≡ false) ↔ ((register_content self.now).lists ≡ []) }
+    {
+        !self.lists.is_empty()
+    }
+
+    /// The lines of a list that were put away with the newest of its archives; none if none were.
+    pub fn lines_of_list(&self, call: &Call, side: Side) -> Option<&str>
+        ensures { option_map (λ text. text.now) result
+            ≡ lines_of_list (register_content self.now).lists (call_content call.now) side }
+    {
+        let mut newest = None;
+        for list in &self.lists {
+            if is_of_list(list, call, side) {
+                newest = Some(list.lines.as_str());
+            }
+        }
+        newest
+    }
+
     /// The number of the newest visit as the last archive was closed, 0 if there is none.
     pub fn newest_visit(&self) -> u32
         ensures { result ≡ newest_visit (register_content self.now).archives }
@@ -83,33 +111,40 @@ impl Register {
         })
     }
 
-    /// The register with one more archive and the segments that it closes, and without a mark.
+    /// The register with one more archive, the segments that it closes and the lists that were put away with it, and without
+    /// a mark.
     pub fn with_closing(
         self,
         alloc: Global,
         archive: &Archive,
         segments: &[Segment],
+        lists: &[SettledList],
     ) -> Result<Register, AllocError>
         ensures { IfOk result (λ register. register_content register
-            ≡ closed_with (archive_content archive.now) segments.now (unmarked (register_content self))) }
+            ≡ closed_with (archive_content archive.now) segments.now (map list_content lists.now)
+            (unmarked (register_content self))) }
     {
         let mut archives = self.archives;
         append(&mut archives, copy_of(alloc, archive)?)?;
         let mut all = self.segments;
         append_all(&mut all, segments)?;
+        let mut settled = self.lists;
+        put_lists(alloc, &mut settled, lists)?;
         Ok(Register {
             archives,
             segments: all,
+            lists: settled,
             closed_for: None,
         })
     }
 
-    /// Whether two registers tell the same archives and segments, whatever their marks.
+    /// Whether two registers tell the same archives, segments and lists, whatever their marks.
     pub fn tells_same(&self, other: &Register) -> bool
         ensures { (result ≡ true) ↔ (unmarked (register_content self.now) ≡ unmarked (register_content other.now)) }
     {
         are_same_archives(&self.archives, &other.archives)
             && are_same_segments(&self.segments, &other.segments)
+            && are_same_lists(&self.lists, &other.lists)
     }
 }
 

@@ -1,15 +1,19 @@
 ghost use Rattle.std.specs.Prelude.{◌≡◌, ◌++◌, ◌∷◌, [], ◌^◌, OnOk, string_bytes};
-ghost use Rattle.office_loading.specs.Columns.{SaysNumber, SaysText};
+ghost use Rattle.office_loading.specs.Columns.{SaysNumber, SaysSide, SaysText};
 ghost use Rattle.office_loading.specs.Decoded.{Decodes, DecodesAll, IsSaid, ReadsAs, fault_of_column, itself};
-ghost use Rattle.office_register.specs.Reading.{SaysArchive, SaysSegment, SaysFile};
+ghost use Rattle.office_register.specs.Lists.{list_content};
+ghost use Rattle.office_register.specs.Reading.{SaysArchive, SaysSegment, SaysFile, SaysList};
 ghost use Rattle.office_register.specs.Register.{archive_content};
 ghost use Rattle.sqlite.specs.Order.{Row as Columns, column};
 
+use crate::lists::SettledList;
 use crate::register::{Archive, Segment};
+use edi_messages::Call;
 use office_tables::TableFault;
 use sqlite::types::ValueRef;
 use sqlite::{Error, ErrorCode, Row};
 use std::alloc::{AllocError, Global};
+use terminal_core::Side;
 
 /// What a row of a table says.
 pub(crate) trait Record: Sized + Drop {
@@ -78,6 +82,26 @@ impl Record for Segment {
     }
 }
 
+impl Record for SettledList {
+    ghost says = { λ row read. SaysList row (list_content read) };
+
+    ghost is_said = { IsSaid SaysList };
+
+    fn read(row: &Row) -> Result<SettledList, TableFault> {
+        let vessel = text_at(row, 0)?;
+        let voyage = text_at(row, 1)?;
+        let side = side_at(row, 2)?;
+        let archive = short_at(row, 3)?;
+        let lines = text_at(row, 4)?;
+        Ok(SettledList {
+            call: Call { vessel, voyage },
+            side,
+            archive,
+            lines,
+        })
+    }
+}
+
 impl Record for String {
     ghost says = { λ row read. SaysFile row (string_bytes read) };
 
@@ -110,6 +134,17 @@ fn short_at(row: &Row, at: usize) -> Result<u16, TableFault>
     match u16::try_from(number) {
         Ok(short) => Ok(short),
         Err(_) => Err(TableFault::Damaged),
+    }
+}
+
+/// Which of a call's lists.
+fn side_at(row: &Row, at: usize) -> Result<Side, TableFault>
+    ensures { ReadsAs itself SaysSide (column row.now at) result }
+{
+    match number_at(row, at)? {
+        1 => Ok(Side::Load),
+        2 => Ok(Side::Discharge),
+        _ => Err(TableFault::Damaged),
     }
 }
 

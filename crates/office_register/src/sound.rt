@@ -1,11 +1,15 @@
-ghost use Rattle.std.specs.Prelude.{◌≡◌, ◌&&◌, nat_le, [], IfOk, IsTrue, length, map, string_bytes};
+ghost use Rattle.std.specs.Prelude.{◌≡◌, ◌&&◌, nat_le, [], IfOk, None, IsTrue, length, map, string_bytes};
 ghost use Rattle.std.specs.List.{list_all, list_any};
 ghost use Rattle.std.specs.Option.{option_map};
+ghost use Rattle.edi_messages.specs.Texts.{is_name};
+ghost use Rattle.edi_segments.specs.Characters.{is_printable};
 ghost use Rattle.office_setup.specs.Limits.{most_partners};
+ghost use Rattle.office_register.specs.Lists.{list_content};
 ghost use Rattle.office_register.specs.declared.register.Segment.{Segment};
 ghost use Rattle.office_register.specs.Register.{register_content, archive_content};
 ghost use Rattle.office_register.specs.Sound as sound;
 
+use crate::lists::{SettledList, comes_before};
 use crate::register::{Archive, Register, Segment};
 use edi_syntax::LAST_NUMBER;
 use office_setup::{MOST_PARTNERS, MOST_VISITS};
@@ -20,7 +24,12 @@ pub fn is_sound(alloc: Global, register: &Register) -> Result<bool, AllocError>
 {
     let are_archives = are_sound_archives(&register.archives);
     let are_segments = are_sound_segments(alloc, register.archives.len(), &register.segments)?;
-    Ok(are_archives && are_segments && is_sound_mark(&register.closed_for))
+    Ok(
+        are_archives
+            && are_segments
+            && are_sound_lists(register.archives.len(), &register.lists)
+            && is_sound_mark(&register.closed_for),
+    )
 }
 
 fn are_sound_archives(archives: &[Archive]) -> bool
@@ -162,6 +171,70 @@ fn close_more(alloc: Global, segments: &[Segment]) -> Result<bool, AllocError>
         *last = segment.last;
     }
     Ok(true)
+}
+
+fn are_sound_lists(archives: usize, lists: &[SettledList]) -> bool
+    ensures { result ≡ sound.are_sound_lists archives (map list_content lists.now) }
+{
+    may_be_lists(archives, lists) && are_rising(lists)
+}
+
+/// Whether each list is of a call that may be, put away with one of so many archives.
+fn may_be_lists(archives: usize, lists: &[SettledList]) -> bool
+    ensures { result ≡ list_all (sound.may_be_list archives) (map list_content lists.now) }
+{
+    for list in lists {
+        if !may_be_list(archives, list) {
+            return false;
+        }
+    }
+    true
+}
+
+fn may_be_list(archives: usize, list: &SettledList) -> bool
+    ensures { result ≡ sound.may_be_list archives (list_content list.now) }
+{
+    is_name(list.call.vessel.as_bytes())
+        && is_name(list.call.voyage.as_bytes())
+        && 1 <= list.archive
+        && usize::from(list.archive) <= archives
+}
+
+/// Whether a text is a name: 1 to 35 bytes from space to tilde.
+fn is_name(text: &[u8]) -> bool
+    ensures { result ≡ is_name text.now }
+{
+    1 <= text.len() && text.len() <= 35 && are_printable(text)
+}
+
+fn are_printable(text: &[u8]) -> bool
+    ensures { result ≡ list_all is_printable text.now }
+{
+    text.iter().all(|byte| (b' '..=b'~').contains(byte))
+}
+
+/// Whether they rise, by vessel, voyage, side and archive.
+fn are_rising(lists: &[SettledList]) -> bool
+    ensures { result ≡ sound.are_rising None (map list_content lists.now) }
+{
+    let mut before = None;
+    for list in lists {
+        if !comes_after(before, list) {
+            return false;
+        }
+        before = Some(list);
+    }
+    true
+}
+
+/// Whether a list comes after the one before it, if there is one.
+fn comes_after(before: Option<&SettledList>, list: &SettledList) -> bool
+    ensures { result ≡ sound.comes_after (option_map (λ one. list_content one.now) before.entry) (list_content list.now) }
+{
+    match before {
+        Some(before) => comes_before(before, list),
+        None => true,
+    }
 }
 
 fn is_sound_mark(closed_for: &Option<String>) -> bool

@@ -2,7 +2,6 @@ use Rattle.std.proofs.Common.{option_map, string_bytes, refl}
 use Rattle.office_rows.proofs.StepLemmas.{if_ok}
 use Rattle.office_history.specs.After.{content_after}
 use Rattle.office_desk.proofs.LookLemmas.{looks_nowhere}
-use Rattle.office_archives.proofs.Beside.{is_neither}
 use Rattle.office_archives.proofs.OfArchive.{neither_as, told_there}
 use Rattle.office_archives.proofs.archived_desk.tell_of_archive.Goals as goal
 
@@ -29,9 +28,9 @@ returns-in-Ticket-clause-told g c = λ sound whole.
 pub returns-in_default : goal.returns-in_default
 returns-in_default g c =
     let query = c.args.query.now in
-    let is = is_neither query c.in_default.not-Visits c.in_default.not-Container c.in_default.not-Reply c.in_default.not-Contrl c.in_default.not-Ticket in
     record {
-      told = λ sound whole. if_ok c.report.result (λ found told. told_there g.S.Store g.A.Archives.are c.args.desk.now c.args.archives.now c.args.place query (option_map string_bytes found) (λ list are. (c.has_place.ensures list are).0 c.if-not-has_place.false) (λ content es stand. neither_as (content_after content es) stand.list c.args.place query (option_map string_bytes found) is (told stand.list stand.these)))
+      told = λ sound whole. if_ok c.report.result (λ found told. told_there g.S.Store g.A.Archives.are c.args.desk.now c.args.archives.now c.args.place query (option_map string_bytes found) (λ list are. (c.has_place.ensures list are).0 c.if-not-has_place.false) (λ content es stand. neither_as (content_after content es) stand.list c.args.place query (option_map string_bytes found)
+          c.in_default.not-Visits c.in_default.not-Container c.in_default.not-Reply c.in_default.not-Contrl c.in_default.not-Ticket (told stand.list stand.these)))
           (c.report.ensures.report whole);
       same = c.report.ensures.same;
       looks = looks_nowhere g.S.Store c.args.desk.now;

@@ -1,4 +1,4 @@
-use Rattle.std.proofs.Common.{◌≡◌, ℕ, Bool, true, List, None, Some, refl, sym, ap, subst, ◌∙◌}
+use Rattle.std.proofs.Common.{[], ◌≡◌, ℕ, Bool, true, List, None, Some, refl, sym, ap, subst, ◌∙◌}
 use Rattle.std.specs.Prelude.{◌↔◌, string_bytes}
 use Rattle.office_register.specs.declared.register.Segment.{Segment}
 use Rattle.office_register.specs.Changes.{closed_with, unmarked}
@@ -15,11 +15,11 @@ use Rattle.office_closing.proofs.planning.stage_of.Goals as goal
 
 -- the register with this archive
 raised_is : (copy : OfficeContent) (archive : ArchiveContent) (segments : List Segment) (file : List ℕ) → archive ≡ archive_in archive.file copy → segments ≡ segments_of archive.place (numbers_of copy) → file ≡ archive.file
-    → closed_with archive segments (unmarked copy.register) ≡ raised_by file copy
+    → closed_with archive segments [] (unmarked copy.register) ≡ raised_by file copy
 raised_is copy archive segments file is those here =
     let same : archive ≡ archive_in file copy = is ∙ ap (λ f. archive_in f copy) (sym here) in
     let all : segments ≡ segments_of (archive_in file copy).place (numbers_of copy) = those ∙ ap (λ (a : ArchiveContent). segments_of a.place (numbers_of copy)) same in
-    λ i. closed_with (same i) (all i) (unmarked copy.register)
+    λ i. closed_with (same i) (all i) [] (unmarked copy.register)
 
 module _ (own copy : OfficeContent) (names : FileNames) (is_same has_archive : Bool) (found : Mark) (raised : RegisterContent) (unclosed : own.register.closed_for ≡ None)
     (same : (is_same ≡ true) ↔ (unmarked copy.register ≡ unmarked own.register)) (is_raised : raised ≡ raised_by names.archive copy) (has : (has_archive ≡ true) ↔ (unmarked raised ≡ unmarked own.register))

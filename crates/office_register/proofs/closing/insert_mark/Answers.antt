@@ -2,7 +2,7 @@ use Rattle.std.proofs.Common.{Ok}
 use Rattle.sqlite.specs.Held.{state}
 use Rattle.sqlite.specs.State.{Executes}
 use Rattle.office_register.specs.Changes.{unmarked, marked_for}
-use Rattle.office_register.specs.Stored.{file_values}
+use Rattle.office_register.specs.Stored.{HasWhole, file_values}
 use Rattle.office_register.proofs.Committing.{writes_of}
 use Rattle.office_register.proofs.Inserted.{inserted_closed_for}
 use Rattle.office_register.proofs.WriteTexts as texts
@@ -13,7 +13,7 @@ returns-clause-writes g c =
     let old = state g.S.Store c.args.tx.now.conn.now in
     let new = state g.S.Store c.execute.new.self.conn.now in
     let one = c.args.file.now in
-    writes_of unmarked (marked_for one) old new _ c.execute.ensures.survives (λ clean inside.
+    writes_of HasWhole unmarked (marked_for one) old new _ c.execute.ensures.survives (λ clean inside.
     let ran = c.in_ok-execute.ensures.runs clean inside in
     let h : Executes texts.insert_closed_for (file_values one) old new (Ok c.in_ok-execute.field-0) = rw (c.characters.ensures) at ran.0 in
     (ran.1, λ content has. inserted_closed_for old new content c.in_ok-execute.field-0 has one h))

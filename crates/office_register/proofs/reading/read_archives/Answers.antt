@@ -8,7 +8,7 @@ use Rattle.office_register.specs.Tables.{archive_table}
 use Rattle.office_register.proofs.reading.read_archives.Goals as goal
 
 pub returns-clause-read : goal.returns-clause-read
-returns-clause-read g c clean is =
+returns-clause-read g c clean layout is =
     let old = state g.S.Store c.args.conn.now in
-    reads_table (0 ∷ 1 ∷ 2 ∷ []) (0 ∷ 1 ∷ 2 ∷ []) (λ r. refl) archive_table (0 ∷ []) (λ r. refl) old.now c.in_ok-rows.rows.items (c.in_ok-rows.ensures.shown clean is) _ archive_content archive_values FitsArchive
+    reads_table (0 ∷ 1 ∷ 2 ∷ []) (0 ∷ 1 ∷ 2 ∷ []) (λ r. refl) archive_table (0 ∷ []) (λ r. refl) old.now c.in_ok-rows.rows.items (c.in_ok-rows.ensures.shown clean layout is) _ archive_content archive_values FitsArchive
     c.deref.result.now c.deref.ensures.value c.read_all.result c.read_all.ensures

@@ -7,7 +7,7 @@ use Rattle.office_register.specs.Tables.{closed_for_table}
 use Rattle.office_register.proofs.reading.read_files.Goals as goal
 
 pub returns-clause-read : goal.returns-clause-read
-returns-clause-read g c clean is =
+returns-clause-read g c clean layout is =
     let old = state g.S.Store c.args.conn.now in
-    reads_table (0 ∷ []) (0 ∷ []) (λ r. refl) closed_for_table (0 ∷ []) (λ r. refl) old.now c.in_ok-rows.rows.items (c.in_ok-rows.ensures.shown clean is) _ string_bytes file_values IsUtf8
+    reads_table (0 ∷ []) (0 ∷ []) (λ r. refl) closed_for_table (0 ∷ []) (λ r. refl) old.now c.in_ok-rows.rows.items (c.in_ok-rows.ensures.shown clean layout is) _ string_bytes file_values IsUtf8
     c.deref.result.now c.deref.ensures.value c.read_all.result c.read_all.ensures

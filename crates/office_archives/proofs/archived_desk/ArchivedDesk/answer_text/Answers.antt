@@ -1,4 +1,4 @@
-use Rattle.std.proofs.Common.{◌≡◌, Ok, Err, sym, subst, ◌∙◌}
+use Rattle.std.proofs.Common.{subst}
 use Rattle.edi_segments.specs.Interchange.{interchange_of}
 use Rattle.office_admission.specs.Outcomes.{IsRefused, fault_in}
 use Rattle.office_desk.proofs.Admitted.{refused_for}
@@ -8,7 +8,6 @@ use Rattle.office_archives.proofs.archived_desk.ArchivedDesk.answer_text.Goals a
 pub returns-in-Ok : goal.returns-in-Ok
 returns-in-Ok g c = record { leads = c.take_admitted.ensures.leads c.args.delivered.now c.interchange_text-text.ensures.exact }
 
--- what is refused is under no number that is closed
 pub returns-in-Err : goal.returns-in-Err
 returns-in-Err g c =
     let old = c.args.self.now.desk in
@@ -16,5 +15,5 @@ returns-in-Err g c =
     let refused = subst (λ text. IsRefused old.setup text c.in-Err.refusal) c.interchange_text-text.ensures.exact c.in-Err.ensures.err in
     record {
       leads = by_desk g.S.Store g.A.Archives.is_sound g.A.Archives.are old c.args.self.now.archives sent c.refuse.result c.refuse.new.self (c.refuse.ensures.leads sent refused)
-          (λ list content es stands place is. let never = sym is ∙ refused_for old.setup (interchange_of sent) c.in-Err.refusal refused in absurd cc);
+          (fault_in c.in-Err.refusal) (refused_for old.setup (interchange_of sent) c.in-Err.refusal refused);
     }

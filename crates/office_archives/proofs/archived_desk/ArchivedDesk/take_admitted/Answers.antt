@@ -1,27 +1,30 @@
-use Rattle.std.proofs.Common.{◌≡◌, Ok, false, sym, subst, ◌∙◌}
+use Rattle.std.proofs.Common.{◌≡◌, ℕ, Ok, ap, sym, subst, ◌∙◌}
+use Rattle.std.specs.Prelude.{nat_le}
+use Rattle.edi_segments.specs.Interchange.{segments_in}
+use Rattle.edi_syntax.specs.Envelope.{header_of}
 use Rattle.edi_syntax.specs.Heads.{head_segments}
-use Rattle.office_admission.specs.Admission.{admission}
+use Rattle.office_admission.specs.Admission.{admission, number_in}
+use Rattle.office_checks.specs.Closed.{last_closed}
 use Rattle.office_replies.specs.declared.deliver.Response.TheVariants.{NotNow}
 use Rattle.office_setup.specs.Parties.{parties_of}
 use Rattle.office_desk.proofs.Admitted.{admitted_surely, numbered}
 use Rattle.office_archives.specs.Answering.{AnswersClosed}
-use Rattle.office_archives.proofs.Together.{by_archives, by_desk, far_open, not_now}
+use Rattle.office_archives.proofs.Together.{by_archives, not_now}
 use Rattle.office_archives.proofs.archived_desk.ArchivedDesk.take_admitted.Goals as goal
 
+pub take_open-requires : goal.take_open-requires
+take_open-requires g c =
+    let desk = c.args.self.now.desk in
+    let text = c.args.text.now in
+    let partner = c.args.admitted.partner in
+    let number = c.number-number.result in
+    let is = c.requires.admitted in
+    let place = numbered (parties_of desk.setup) text (head_segments c.head.result) partner number (c.head.ensures ∙ is.segments) c.number-number.ensures.number is.admits in
+    let same : (partner, number_in (header_of (segments_in text))) ≡ (partner, number) = let e = sym is.admits ∙ place in cc in
+    record { admitted = is; is_open = ap (λ (q : ℕ × ℕ). nat_le q.1 (last_closed desk.closed partner)) same ∙ sym c.is_closed.ensures ∙ c.if-not-is_closed.true }
+
 pub returns-then-not-is_closed : goal.returns-then-not-is_closed
-returns-then-not-is_closed g c = record {
-  leads = λ sent exact.
-      let old = c.args.self.now.desk in
-      let P = parties_of old.setup in
-      let text = c.args.text.now in
-      let partner = c.args.admitted.partner in
-      let number = c.number-number.result in
-      let is = c.requires.admitted in
-      let place = numbered P text (head_segments c.head.result) partner number (c.head.ensures ∙ is.segments) c.number-number.ensures.number is.admits in
-      let here = subst (λ other. admission P other ≡ Ok (partner, number)) exact place in
-      by_desk g.S.Store g.A.Archives.is_sound g.A.Archives.are old c.args.self.now.archives sent c.take_admitted.result c.take_admitted.new.self (c.take_admitted.ensures.leads sent exact)
-      (far_open g.S.Store old sent partner number here (sym c.is_closed.ensures ∙ c.if-not-is_closed.true));
-}
+returns-then-not-is_closed g c = record { leads = c.take_open.ensures.leads }
 
 pub returns-in-Ok : goal.returns-in-Ok
 returns-in-Ok g c = record {
