@@ -9,4 +9,4 @@ mod trials;
 mod writing;
 
 pub use reading::read_list;
-pub use writing::list_text;
+pub use writing::{list_text, push_line};

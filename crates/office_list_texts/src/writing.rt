@@ -19,7 +19,8 @@ pub fn list_text(alloc: Global, lines: &[Listing]) -> Result<String, AllocError>
     Ok(text)
 }
 
-fn push_line(text: &mut String, line: &Listing) -> Result<(), AllocError>
+/// Appends the text of one line more.
+pub fn push_line(text: &mut String, line: &Listing) -> Result<(), AllocError>
     ensures { OnOk result (string_bytes text.new ≡ string_bytes text.old ++ line_text (listing_content line.now)) }
 {
     push_number(text, line.container)?;

@@ -98,17 +98,17 @@ module _ (t u : CodeTable) (same : SameTexts t u) (text : List ℕ) where
     opened_same messages None = refl
     opened_same messages (Some opened) = λ i. flat_map (λ (message : Message). list_read (reading_same opened message i)) messages
 
-  named_same : (kind : Option PartnerKind) → lists_named_by newest t text kind ≡ lists_named_by newest u text kind
+  pub named_same : (kind : Option PartnerKind) → lists_named_by newest t text kind ≡ lists_named_by newest u text kind
   named_same None = refl
   named_same (Some kind) = opened_same kind (messages_of (segments_in text)) (preparation (header_of (segments_in text)))
 
 -- ---- after some events
 
 -- by the accounts so far
-abbrev named_in : SetupContent → ℕ → List ℕ → List ListName
+abbrev pub named_in : SetupContent → ℕ → List ℕ → List ListName
 named_in now partner text = interchange_lists newest now.codes (opening_of now).kinds partner text
 
-lists_are : (content : SetupContent) (es : List Event) (partner : ℕ) (text : List ℕ) → lists_after content es partner text ≡ named_in (content_after content es) partner text
+pub lists_are : (content : SetupContent) (es : List Event) (partner : ℕ) (text : List ℕ) → lists_after content es partner text ≡ named_in (content_after content es) partner text
 lists_are content es partner text =
     let machine : machine_after content es ≡ machine_with (content_after content es) (machine_after content es).terminal =
     runs_alone (taking_in newest content es) (opening_of (content_after content es)) (deliveries_of content es) (alone_in newest content es) in

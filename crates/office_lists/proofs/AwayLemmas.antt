@@ -2,6 +2,7 @@
 use Rattle.std.proofs.Common.{◌≡◌, ℕ, ◌+◌, ◌<◌, ◌≤◌, inl, inr, zero, suc, List, [], ◌∷◌, ◌++◌, length, Bool, true, false, cond, Option, None, Some, refl, sym, ap, subst, ◌∙◌, arith}
 use Rattle.std.specs.Prelude.{not, ◌&&◌, ◌==◌, slice_get, IsPermutation}
 use Rattle.std.specs.FinMap as finite_map
+use Rattle.std.specs.Option.{option_or}
 use Rattle.std.proofs.lemmas.Bool.{and_parts, eq-eqb, cond-true, cases_eq}
 use Rattle.std.proofs.lemmas.List.{length-map}
 use Rattle.std.proofs.lemmas.List.Elements.{All-from_recursion, recursion_from_All}
@@ -29,9 +30,10 @@ use Rattle.office_history.proofs.Growing.{account_adds_row}
 use Rattle.office_history.proofs.Lawful.{early_adds, now_same}
 use Rattle.office_history.proofs.Places.{alone_in}
 use Rattle.office_history.proofs.Telling.{text_within}
+use Rattle.office_parts.specs.Archives.{Archive}
 use Rattle.office_parts.specs.Parts.{Archived, ArePartsAfter}
 use Rattle.office_parts.proofs.Events.{free_in_whole}
-use Rattle.office_lists.specs.Away.{ArePutAway, HasDoneLine, lists_after}
+use Rattle.office_lists.specs.Away.{ArePutAway, HasDoneLine, lines_away, lists_after}
 use Rattle.office_lists.specs.Bringing.{all_but, is_list, is_of, lines_of}
 use Rattle.office_lists.specs.Done.{IsDoneLine}
 use Rattle.office_lists.specs.Laws.{NameOwnLists}
@@ -42,6 +44,21 @@ use Rattle.office_lists.specs.Staying.{NextNamesNoneAway, AwayStaysWithoutRow, A
 use Rattle.office_lists.proofs.DoneLemmas.{run_stays_done}
 use Rattle.office_lists.proofs.Lines.{own_get, own_there}
 use Rattle.office_lists.proofs.Untouched.{run_apart, texts_kept}
+
+-- ---- one archive more
+
+-- what it has of a list was put away last
+pub away_with : (archives : List Archive) (one : Archive) (list : ListName) → lines_away (archives ++ one ∷ []) list ≡ option_or (one.lists list) (lines_away archives list)
+away_with [] one list = by (one.lists list)
+  where
+    by : (o : Option (List ListingContent)) → o ≡ option_or o None
+    by None = refl
+    by (Some kept) = refl
+away_with (archive ∷ archives) one list = ap (λ o. option_or o (archive.lists list)) (away_with archives one list) ∙ by (one.lists list)
+  where
+    by : (o : Option (List ListingContent)) → option_or (option_or o (lines_away archives list)) (archive.lists list) ≡ option_or o (option_or (lines_away archives list) (archive.lists list))
+    by None = refl
+    by (Some kept) = refl
 
 -- ---- what a text names
 

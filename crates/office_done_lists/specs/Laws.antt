@@ -1,0 +1,40 @@
+-- What lists that are put away mean for a store and its archives.
+use Rattle.std.specs.Prelude.{◌≡◌, ◌||◌, ℕ, Bool, true, false, List, [], ◌∷◌, ◌++◌, IsPermutation, None, Some}
+use Rattle.office_replies.specs.Events.{Event}
+use Rattle.office_rows.specs.Rows.{ListingContent, Rows}
+use Rattle.office_setup.specs.Setups.{SetupContent}
+use Rattle.office_history.specs.After.{SaysSame, content_after}
+use Rattle.office_lists.specs.Away.{AreAway}
+use Rattle.office_lists.specs.Bringing.{lines_of}
+use Rattle.office_lists.specs.OwnLists.{ListName, rows_without_lists}
+use Rattle.office_parts.specs.Archives.{Archive}
+use Rattle.office_parts.specs.Closing.{MayClose, carried}
+use Rattle.office_parts.specs.Parts.{Archived, ArePartsAfter}
+use Rattle.office_done_lists.specs.Going.{MayGo}
+
+-- the archive has the list's lines, in some order
+pub record KeepsLines (one : Archive) (own : Rows) (list : ListName) : Type 0 where
+  pub kept : List ListingContent
+  pub are : one.lists list ≡ Some kept
+  pub same : IsPermutation (lines_of list own) kept
+
+-- Lists that may go are put away with one more archive, which has their lines: then they are away too, whatever set-up says the
+-- same as the opening one with the accounts so far.
+abbrev pub PutAwayListsAreAway : Type 0
+PutAwayListsAreAway =
+    (content setup : SetupContent) (es : List Event) (archives : List Archive) (away gone : ListName → Bool)
+    (archived : Archived) (own whole : Rows) (one : Archive) → ArePartsAfter content es archived own whole →
+    AreAway archives away content es own → SaysSame setup (content_after content es) →
+    ((list : ListName) → gone list ≡ true → MayGo setup (rows_without_lists away own) list) →
+    ((list : ListName) → gone list ≡ true → KeepsLines one own list) →
+    ((list : ListName) → gone list ≡ false → one.lists list ≡ None)
+    → AreAway (archives ++ one ∷ []) (λ (list : ListName). away list || gone list) content es own
+
+-- what is away stays away when numbers are closed and visits put away
+abbrev pub AwayStaysWithClosing : Type 0
+AwayStaysWithClosing =
+    (content : SetupContent) (es : List Event) (archives : List Archive) (away : ListName → Bool)
+    (archived : Archived) (own whole : Rows) (last_closed : ℕ → ℕ) (stays : ℕ → Bool) →
+    ArePartsAfter content es archived own whole → MayClose content es archived own last_closed stays →
+    AreAway archives away content es own
+    → AreAway archives away content es (carried last_closed stays own)

@@ -1,0 +1,4 @@
+pub mod Found
+pub mod Going
+pub mod Laws
+pub mod Waiting
