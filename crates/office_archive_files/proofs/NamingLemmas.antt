@@ -1,9 +1,10 @@
--- A closing's segments are those of its archive.
+-- A closing's segments and lists are those of its archive.
 use Rattle.std.proofs.Common.{◌≡◌, ℕ, ◌+◌, List, [], ◌∷◌, length, map, true, refl, sym, ap, subst, ◌∙◌}
 use Rattle.std.specs.Prelude.{◌&&◌, filter}
 use Rattle.std.specs.List.{AllByRecursion}
 use Rattle.std.proofs.lemmas.Bool.{and_from, and_parts}
 use Rattle.office_register.specs.Changes.{unmarked}
+use Rattle.office_register.specs.Lists.{SettledListContent}
 use Rattle.office_register.specs.Sound.{are_sound_archives, are_sound_segments, are_sound_lists, is_sound, is_sound_mark}
 use Rattle.office_register.specs.declared.register.Segment.{Segment}
 use Rattle.office_closing.specs.declared.comparing.Numbers.{Numbers}
@@ -29,8 +30,9 @@ sound_unmarked held sound =
     and_from archives (segments && (lists && true)) outer.0 (and_from segments (lists && true) inner.0 (and_from lists true last.0 refl))
 
 pub closings_are_named : ClosingsAreNamed
-closings_are_named held names closing list one is sound are closed none =
+closings_are_named held names closing list one is sound are closed has =
     let place : closing.archive.place ≡ length list + 1 = is.place ∙ ap (λ n. n + 1) (sym are.counted) in
     let placed = subst (AllByRecursion (λ (segment : Segment). segment.archive ≡ closing.archive.place)) (sym is.segments) (all_placed closing.archive.place (filter closes_some closing.numbers)) in
-    names_one_more (unmarked held.copied) list closing.archive closing.segments one (sound_unmarked held sound) are
-    (subst (λ n. AllByRecursion (λ (segment : Segment). segment.archive ≡ n) closing.segments) place placed) closed none
+    names_one_more (unmarked held.copied) list closing.archive closing.segments closing.lists one (sound_unmarked held sound) are
+    (subst (λ n. AllByRecursion (λ (segment : Segment). segment.archive ≡ n) closing.segments) place placed)
+    (subst (λ n. AllByRecursion (λ (put : SettledListContent). put.archive ≡ n) closing.lists) place is.lists.placed) closed has

@@ -61,7 +61,8 @@ copy_tells content es closed_before archive whole p n after copy above reached =
     let at_its_day = copy.at_its_day in
     let last = copy.closed p in
     let taken = copy.taken p in
-    own_tells content copy.earlier copy.archived _ copy.whole mine copy.parts copy.by_numbers (omega (arith, last, above))
+    ap (λ (r : Rows). visits_by mine r.visits) copy.is_own
+    ∙ own_tells content copy.earlier copy.archived copy.own copy.whole mine copy.parts copy.by_numbers (omega (arith, last, above))
     ∙ sym (later_leave_visits content copy.earlier copy.later copy.whole whole mine copy.unmigrated copy.parts.after (subst (λ l. AreAfter content l whole) at_its_day after) (omega (arith, taken, reached)))
 
 pub archives_tell_visits : ArchivesTellVisits

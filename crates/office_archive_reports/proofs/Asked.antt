@@ -34,6 +34,7 @@ use Rattle.office_parts.specs.Parts.{Archived, ArePartsAfter}
 use Rattle.office_parts.proofs.Events.{visits_same}
 use Rattle.office_parts.proofs.LeftOver.{told_alike}
 use Rattle.office_parts.proofs.Lookups.{body_there, found_beyond, reply_there}
+use Rattle.office_lists.specs.OwnLists.{ListName, rows_without_lists, without_lists}
 use Rattle.office_desk.specs.Reports.{contrl_for_partner, partner_called, ticket_if_taken, ticket_of, TellsOf, TellsReply, TellsReplyOf}
 use Rattle.office_archive_reports.specs.Asked.{IsBetween, IsOfNumberBetween, KeepsNumber}
 use Rattle.office_archive_reports.specs.Laws.{ArchivesAreAskedAsStores}
@@ -68,8 +69,8 @@ called_then content earlier later code p low e =
 
 -- ---- a number that it closed
 
-module _ (content : SetupContent) (earlier later : List Event) (none : HasNoMigration later) (archived : Archived) (rows then whole : Rows)
-    (are : ArePartsAfter content earlier archived (rows_beyond archived.last_closed rows) then) (after : AreAfter content (earlier ++ later) whole)
+module _ (content : SetupContent) (earlier later : List Event) (none : HasNoMigration later) (archived : Archived) (rows own then whole : Rows) (away : ListName → Bool)
+    (is_own : rows_beyond archived.last_closed rows ≡ rows_without_lists away own) (are : ArePartsAfter content earlier archived own then) (after : AreAfter content (earlier ++ later) whole)
     (p n : ℕ) (low : 1 ≤ n) (above : archived.last_closed p < n) (high : n ≤ run (deliveries_of content earlier) p)
     (tells : visits_by (record { partner = p; number = n }) rows.visits ≡ visits_by (record { partner = p; number = n }) whole.visits) where
   abbrev mine : Source
@@ -79,10 +80,10 @@ module _ (content : SetupContent) (earlier later : List Event) (none : HasNoMigr
   keeps = keep_numbers content earlier later then whole p n none are.after after low high
 
   text_same : text_in rows p n ≡ text_in whole p n
-  text_same = sym (told_alike archived.last_closed rows p n above).text ∙ ap body_there (sym (found_beyond archived (rows_beyond archived.last_closed rows) then p n are.closed are.parts above)) ∙ sym keeps.text
+  text_same = sym (told_alike archived.last_closed rows p n above).text ∙ ap (λ (r : Rows). text_in r p n) is_own ∙ ap body_there (sym (found_beyond archived own then p n are.closed are.parts above)) ∙ sym keeps.text
 
   reply_same : reply_in rows p n ≡ reply_in whole p n
-  reply_same = sym (told_alike archived.last_closed rows p n above).reply ∙ ap reply_there (sym (found_beyond archived (rows_beyond archived.last_closed rows) then p n are.closed are.parts above)) ∙ sym keeps.reply
+  reply_same = sym (told_alike archived.last_closed rows p n above).reply ∙ ap (λ (r : Rows). reply_in r p n) is_own ∙ ap reply_there (sym (found_beyond archived own then p n are.closed are.parts above)) ∙ sym keeps.reply
 
   first : (text : List ℕ) × (first_text (deliveries_of content earlier) p n ≡ Some text)
   first = some_of (first_text (deliveries_of content earlier) p n) (used_within_run (deliveries_of content earlier) p n low high)
@@ -117,7 +118,7 @@ module _ (content : SetupContent) (earlier later : List Event) (none : HasNoMigr
 
   lines_told : ticket_lines mine visits_then ≡ ticket_lines mine visits_now
   lines_told =
-      let own_is : rows.visits ≡ visits_then = are.parts.visits ∙ ap (own_visits archived.stays) (visits_same content earlier then are.after) in
+      let own_is : rows.visits ≡ visits_then = ap (λ (r : Rows). r.visits) is_own ∙ are.parts.visits ∙ ap (own_visits archived.stays) (visits_same content earlier then are.after) in
       same_lines mine visits_then
       ∙ ap (ticket_lines mine) (ap (visits_by mine) (sym own_is) ∙ tells ∙ ap (visits_by mine) (visits_same content (earlier ++ later) whole after))
       ∙ sym (same_lines mine visits_now)
@@ -134,8 +135,8 @@ module _ (content : SetupContent) (earlier later : List Event) (none : HasNoMigr
 
 -- ---- a query
 
-module _ (content : SetupContent) (earlier later : List Event) (none : HasNoMigration later) (archived : Archived) (closed_before last : ℕ → ℕ) (rows then whole : Rows)
-    (are : ArePartsAfter content earlier archived (rows_beyond archived.last_closed rows) then) (after : AreAfter content (earlier ++ later) whole)
+module _ (content : SetupContent) (earlier later : List Event) (none : HasNoMigration later) (archived : Archived) (closed_before last : ℕ → ℕ) (rows own then whole : Rows) (away : ListName → Bool)
+    (is_own : rows_beyond archived.last_closed rows ≡ rows_without_lists away own) (are : ArePartsAfter content earlier archived own then) (after : AreAfter content (earlier ++ later) whole)
     (closed : (partner : ℕ) → archived.last_closed partner ≤ closed_before partner) (taken : (partner : ℕ) → last partner ≤ run (deliveries_of content earlier) partner)
     (tells : (p n : ℕ) → closed_before p < n → n ≤ last p → visits_by (record { partner = p; number = n }) rows.visits ≡ visits_by (record { partner = p; number = n }) whole.visits) where
   abbrev now : SetupContent
@@ -151,21 +152,21 @@ module _ (content : SetupContent) (earlier later : List Event) (none : HasNoMigr
       let upto = taken p in
       let high : n ≤ run (deliveries_of content earlier) p = omega (arith, upto, between.1) in
       each p low above high between.0 between.1
-      (subst Then (called_then content earlier later code p (is_account content earlier later none archived rows then whole are after p n low above high (tells p n between.0 between.1)) e) told)
+      (subst Then (called_then content earlier later code p (is_account content earlier later none archived rows own then whole away is_own are after p n low above high (tells p n between.0 between.1)) e) told)
 
   asked_then : (asked : Query) (found : Option (List ℕ)) → IsOfNumberBetween now closed_before last asked
-      → TellsOf (content_after content earlier) (own_terminal archived.stays (machine_after content earlier).terminal) rows asked found → TellsOf now (machine_after content (earlier ++ later)).terminal whole asked found
+      → TellsOf (content_after content earlier) (without_lists away (own_terminal archived.stays (machine_after content earlier).terminal)) rows asked found → TellsOf now (machine_after content (earlier ++ later)).terminal whole asked found
   asked_then (query.Reply code n) found between told =
       by_partner (λ o. TellsReplyOf rows (string_bytes code) n o found) (λ o. TellsReplyOf whole (string_bytes code) n o found) (string_bytes code) n
-      (λ p low above high before reached tell. reply_told content earlier later none archived rows then whole are after p n low above high (tells p n before reached) (string_bytes code) found tell)
+      (λ p low above high before reached tell. reply_told content earlier later none archived rows own then whole away is_own are after p n low above high (tells p n before reached) (string_bytes code) found tell)
       (partner_called now (string_bytes code)) refl between told
   asked_then (query.Contrl code n) found between told =
       by_partner (λ o. found ≡ contrl_for_partner rows n o) (λ o. found ≡ contrl_for_partner whole n o) (string_bytes code) n
-      (λ p low above high before reached tell. tell ∙ contrl_told content earlier later none archived rows then whole are after p n low above high (tells p n before reached))
+      (λ p low above high before reached tell. tell ∙ contrl_told content earlier later none archived rows own then whole away is_own are after p n low above high (tells p n before reached))
       (partner_called now (string_bytes code)) refl between told
   asked_then (query.Ticket code n) found between told =
       by_partner (λ o. found ≡ ticket_of (own_visits archived.stays (machine_after content earlier).terminal.visits) rows (string_bytes code) n o) (λ o. found ≡ ticket_of (machine_after content (earlier ++ later)).terminal.visits whole (string_bytes code) n o) (string_bytes code) n
-      (λ p low above high before reached tell. tell ∙ ticket_told content earlier later none archived rows then whole are after p n low above high (tells p n before reached) (string_bytes code))
+      (λ p low above high before reached tell. tell ∙ ticket_told content earlier later none archived rows own then whole away is_own are after p n low above high (tells p n before reached) (string_bytes code))
       (partner_called now (string_bytes code)) refl between told
   asked_then other found between told = absurd between
 
@@ -173,6 +174,6 @@ pub asked_as_stores : ArchivesAreAskedAsStores
 asked_as_stores content es closed_before archive whole asked found after copy between told =
     let day = copy.at_its_day in
     subst (λ l. TellsOf (content_after content l) (machine_after content l).terminal whole asked found) (sym day)
-    (asked_then content copy.earlier copy.later copy.unmigrated copy.archived closed_before archive.last_closed archive.rows copy.whole whole copy.parts (subst (λ l. AreAfter content l whole) day after) copy.closed copy.taken
+    (asked_then content copy.earlier copy.later copy.unmigrated copy.archived closed_before archive.last_closed archive.rows copy.own copy.whole whole copy.away copy.is_own copy.parts (subst (λ l. AreAfter content l whole) day after) copy.closed copy.taken
     (λ p n before reached. copy_tells content es closed_before archive whole p n after copy before reached)
     asked found (subst (λ l. IsOfNumberBetween (content_after content l) closed_before archive.last_closed asked) day between) told)

@@ -8,12 +8,12 @@ use Rattle.terminal_core.specs.declared.visits.Departure.{Departure}
 use Rattle.terminal_core.specs.Rows.{VisitContent}
 use Rattle.office_admission.specs.Deliveries.{deliveries_of}
 use Rattle.office_replies.specs.Events.{Event}
+use Rattle.office_rows.specs.Rows.{Rows}
 use Rattle.office_setup.specs.Setups.{SetupContent}
 use Rattle.office_history.specs.Laws.{HasNoMigration}
 use Rattle.office_parts.specs.Archives.{Archive}
 use Rattle.office_parts.specs.Closing.{is_put_away, archived_with}
 use Rattle.office_parts.specs.OwnTerminal.{is_own}
-use Rattle.office_parts.specs.Parts.{ArePartsAfter}
 use Rattle.office_parts.proofs.Splits.{contained_has, had_both, had_filtered, has_contained}
 use Rattle.office_archive_reports.specs.Copies.{IsCopy}
 use Rattle.office_archive_reports.specs.Laws.{ClosingsGoByNumbers, CopiesOfNowAreCopies, CopiesStay, ClosingsAddCopies}
@@ -45,7 +45,7 @@ by_numbers content es archived own whole archive stays are may old copy all held
       | inr goes ↦
           let has = had_filtered (is_put_away stays) own.visits visit goes in
           let copied : Contains archive.rows.visits visit = held visit (contained_has own.visits visit has.0) (put_away (stays visit.number) has.1) in
-          let there = had_filtered (is_own copy.archived.stays) copy.whole.visits visit (has_contained _ visit (subst (λ l. Contains l visit) copy.parts.parts.visits copied)) in
+          let there = had_filtered (is_own copy.archived.stays) copy.whole.visits visit (has_contained _ visit (subst (λ l. Contains l visit) (ap (λ (r : Rows). r.visits) copy.is_own ∙ copy.parts.parts.visits) copied)) in
           visit_within (run (deliveries_of content copy.earlier)) archive.last_closed all visit (visits_of_taken content copy.earlier copy.whole visit copy.parts.after (contained_has copy.whole.visits visit there.0))
     ]
 
@@ -58,8 +58,11 @@ copy_stays content es later closed_before archive none copy = record {
   at_its_day = ap (λ l. l ++ later) copy.at_its_day ∙ append_assoc copy.earlier copy.later later;
   unmigrated = migration_on copy.later later none ∙ copy.unmigrated;
   archived = copy.archived;
+  own = copy.own;
   whole = copy.whole;
   parts = copy.parts;
+  away = copy.away;
+  is_own = copy.is_own;
   rest = copy.rest;
   by_numbers = copy.by_numbers;
   closed = copy.closed;
@@ -76,14 +79,17 @@ closings_add content es closed_before [] archive copies copy = (copy, tt)
 closings_add content es closed_before (first ∷ archives) archive copies copy = (copies.0, closings_add content es first.last_closed archives archive copies.1 copy)
 
 pub copies_of_now : CopiesOfNowAreCopies
-copies_of_now content es archived own whole rows last_closed lists are by_numbers is rest within = record {
+copies_of_now content es archived own whole rows away last_closed lists are by_numbers is rest within = record {
   earlier = es;
   later = [];
   at_its_day = sym (append-nil es);
   unmigrated = refl;
   archived = archived;
+  own = own;
   whole = whole;
-  parts = subst (λ rows. ArePartsAfter content es archived rows whole) (sym is) are;
+  parts = are;
+  away = away;
+  is_own = is;
   rest = rest;
   by_numbers = by_numbers;
   closed = λ partner. omega arith;

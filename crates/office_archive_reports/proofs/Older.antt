@@ -5,6 +5,7 @@ use Rattle.std.specs.Str.{bytes_eq}
 use Rattle.std.proofs.lemmas.Bool.{lt-ltb, ltb-true, or_cases, or_left, or_right}
 use Rattle.terminal_core.specs.Rows.{VisitContent}
 use Rattle.terminal_core.specs.State.{AreNumbered, is_visit_of}
+use Rattle.office_rows.specs.Rows.{Rows}
 use Rattle.office_history.specs.After.{machine_after}
 use Rattle.office_parts.specs.OwnTerminal.{is_own, own_visits}
 use Rattle.office_parts.proofs.Events.{visits_same}
@@ -128,7 +129,7 @@ full_closings content es archived own whole closed_before archive stays given ar
     let go_on : GoOn (machine_after content copy.earlier).terminal.visits (machine_after content es).terminal.visits =
     subst (λ l. GoOn (machine_after content copy.earlier).terminal.visits (machine_after content l).terminal.visits) (sym day) (later_go_on content copy.earlier copy.later given copy.unmigrated) in
     full_goes archived.stays copy.archived.stays stays (machine_after content copy.earlier).terminal.visits (machine_after content es).terminal.visits own.visits archive.rows.visits
-    (are.parts.visits ∙ ap (own_visits archived.stays) now_is) (copy.parts.parts.visits ∙ ap (own_visits copy.archived.stays) then_is)
+    (are.parts.visits ∙ ap (own_visits archived.stays) now_is) (ap (λ (r : Rows). r.visits) copy.is_own ∙ copy.parts.parts.visits ∙ ap (own_visits copy.archived.stays) then_is)
     go_on (after_ordered content copy.earlier given).over (after_ordered content es given).whole.numbered still puts
 
 -- ---- in the order of their numbers

@@ -1,5 +1,5 @@
 -- Archives as copies of a store, of earlier days.
-use Rattle.std.specs.Prelude.{◌≡◌, ℕ, ◌≤◌, List, [], ◌∷◌, ◌++◌, Contains, filter}
+use Rattle.std.specs.Prelude.{◌≡◌, ℕ, ◌≤◌, Bool, List, [], ◌∷◌, ◌++◌, Contains, filter}
 use Rattle.partner_core.specs.Deliveries.{run}
 use Rattle.terminal_core.specs.Rows.{VisitContent}
 use Rattle.office_admission.specs.Deliveries.{deliveries_of}
@@ -11,6 +11,7 @@ use Rattle.office_parts.specs.Archives.{Archive}
 use Rattle.office_parts.specs.Closing.{is_closed}
 use Rattle.office_parts.specs.LeftOver.{rows_beyond}
 use Rattle.office_parts.specs.Parts.{Archived, ArePartsAfter}
+use Rattle.office_lists.specs.OwnLists.{ListName, rows_without_lists}
 use Rattle.office_archive_reports.specs.Visits.{IsVisitWithin}
 
 -- each visit that was put away was opened and closed by interchanges that are closed
@@ -19,16 +20,19 @@ GoByNumbers archived =
     (visit : VisitContent) → Contains archived.visits visit → IsVisitWithin archived.last_closed visit
 
 -- The archive is a copy of the store of an earlier day, and no older store was migrated since. Its rows are the store's own
--- after some of the events, besides interchanges that were closed, and put away, and still stood there. At that day no more
--- was closed than by the archives before it, and what it closes was taken.
+-- after some of the events, without the lists that were away, besides interchanges that were closed, and put away, and still
+-- stood there. At that day no more was closed than by the archives before it, and what it closes was taken.
 pub record IsCopy (content : SetupContent) (es : List Event) (closed_before : ℕ → ℕ) (archive : Archive) : Type 0 where
   pub earlier : List Event
   pub later : List Event
   pub at_its_day : es ≡ earlier ++ later
   pub unmigrated : HasNoMigration later
   pub archived : Archived
+  pub own : Rows
   pub whole : Rows
-  pub parts : ArePartsAfter content earlier archived (rows_beyond archived.last_closed archive.rows) whole
+  pub parts : ArePartsAfter content earlier archived own whole
+  pub away : ListName → Bool
+  pub is_own : rows_beyond archived.last_closed archive.rows ≡ rows_without_lists away own
   pub rest : (i : Interchange) → Contains (filter (is_closed archived.last_closed) archive.rows.interchanges) i →
       Contains archived.interchanges i
   pub by_numbers : GoByNumbers archived

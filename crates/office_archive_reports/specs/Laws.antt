@@ -21,6 +21,7 @@ use Rattle.office_parts.specs.LeftOver.{rows_beyond}
 use Rattle.office_parts.specs.OwnTerminal.{own_terminal}
 use Rattle.office_parts.specs.Parts.{Archived, nothing_archived, ArePartsAfter}
 use Rattle.office_desk.specs.Reports.{partner_called, TellsOf}
+use Rattle.office_lists.specs.OwnLists.{ListName, rows_without_lists, without_lists}
 use Rattle.office_archive_reports.specs.Asked.{IsOfNumberBetween, KeepsNumber}
 use Rattle.office_archive_reports.specs.Beyond.{IsOfNumberBeyond}
 use Rattle.office_archive_reports.specs.Closed.{closed_contrl, closed_reply, closed_ticket}
@@ -97,7 +98,8 @@ ArchivesAreAskedAsStores =
     (found : Option (List ℕ)) → AreAfter content es whole → (copy : IsCopy content es closed_before archive) →
     IsOfNumberBetween (content_after content es) closed_before archive.last_closed asked →
     TellsOf (content_after content copy.earlier)
-    (own_terminal copy.archived.stays (machine_after content copy.earlier).terminal) archive.rows asked found
+    (without_lists copy.away (own_terminal copy.archived.stays (machine_after content copy.earlier).terminal))
+    archive.rows asked found
     → TellsOf (content_after content es) (machine_after content es).terminal whole asked found
 
 -- ---- all other numbers
@@ -156,11 +158,13 @@ MetricsAreTold =
 
 -- ---- copies
 
--- a copy of a store as it is now is one, whichever closed interchanges still stand there
+-- a copy of a store as it is now is one, whichever closed interchanges still stand there, and whichever lists are away
 abbrev pub CopiesOfNowAreCopies : Type 0
 CopiesOfNowAreCopies =
-    (content : SetupContent) (es : List Event) (archived : Archived) (own whole rows : Rows) (last_closed : ℕ → ℕ)
-    (lists : List (List ℕ) → Option (List ListingContent)) → ArePartsAfter content es archived own whole → GoByNumbers archived → rows_beyond archived.last_closed rows ≡ own →
+    (content : SetupContent) (es : List Event) (archived : Archived) (own whole rows : Rows) (away : ListName → Bool)
+    (last_closed : ℕ → ℕ) (lists : ListName → Option (List ListingContent)) →
+    ArePartsAfter content es archived own whole → GoByNumbers archived →
+    rows_beyond archived.last_closed rows ≡ rows_without_lists away own →
     ((i : Interchange) → Contains (filter (is_closed archived.last_closed) rows.interchanges) i →
     Contains archived.interchanges i) →
     ((partner : ℕ) → last_closed partner ≤ run (deliveries_of content es) partner)

@@ -19,7 +19,8 @@ use Rattle.office_parts.specs.LeftOver.{rows_beyond}
 use Rattle.office_parts.specs.OwnTerminal.{own_terminal, own_visits}
 use Rattle.office_parts.specs.Parts.{Archived, ArePartsAfter}
 use Rattle.office_parts.proofs.Events.{visits_same}
-use Rattle.office_parts.proofs.OwnOpening.{own_office}
+use Rattle.office_lists.specs.OwnLists.{without_lists}
+use Rattle.office_lists.proofs.OfficeLemmas.{own_office_without}
 use Rattle.office_desk.specs.Reports.{TellsOf, partner_called, ticket_if_taken, ticket_of}
 use Rattle.office_desk.proofs.OfficeAccounts.{own_once}
 use Rattle.office_desk.proofs.OfficeLemmas.{shown_by_own}
@@ -39,22 +40,24 @@ found_if_told f (Some x) e = refl
 
 module _ (content : SetupContent) (es : List Event) (given : IsGiven content) (closed_before : ℕ → ℕ) (archive : Archive) (copy : IsCopy content es closed_before archive) (code : List ℕ) (p n : ℕ) (ticket : List ℕ) (is : IsTicketOf archive.rows code p n ticket) where
   abbrev theirs : TerminalState
-  theirs = own_terminal copy.archived.stays (machine_after content copy.earlier).terminal
+  theirs = without_lists copy.away (own_terminal copy.archived.stays (machine_after content copy.earlier).terminal)
 
   -- the terminal that was loaded is that of the store of its day
   terminal_is : is.terminal ≡ theirs
   terminal_is =
       let rows = archive.rows in
-      let own : Rows = rows_beyond copy.archived.last_closed rows in
+      let own : Rows = copy.own in
+      let filled : Rows = record rows { lines = own.lines } in
+      let is_filled : rows_beyond copy.archived.last_closed filled ≡ own = ap (λ (r : Rows). record r { lines = own.lines }) copy.is_own in
       let newest = last_number copy.whole.visits in
       let once = own_once is.closed is.db rows is.loads.0 is.content is.terminal is.has is.loads.1 is.loads.2 in
-      let shown = own_office content copy.earlier copy.archived own copy.whole rows is.db newest given copy.parts refl once (of_whole copy.archived own copy.whole rows copy.parts.parts (record { beyond = refl; rest = copy.rest })) copy.parts.stay.later is.has in
+      let shown = own_office_without content copy.earlier copy.archived own copy.whole rows copy.away is.db newest given copy.parts copy.is_own once (of_whole copy.archived own copy.whole filled copy.parts.parts (record { beyond = is_filled; rest = copy.rest })) copy.parts.stay.later is.has in
       one_terminal is.db is.loads.0 shown.0 is.content (content_after content copy.earlier) is.terminal theirs is.loads.1 shown.1
       (shown_by_own is.closed is.loads.0 is.content is.terminal is.loads.2)
       (shown_by_own (record { last_closed = copy.archived.last_closed; newest_closed = newest }) shown.0 (content_after content copy.earlier) theirs shown.2)
 
   visits_are : archive.rows.visits ≡ is.terminal.visits
-  visits_are = copy.parts.parts.visits ∙ ap (own_visits copy.archived.stays) (visits_same content copy.earlier copy.whole copy.parts.after) ∙ ap (λ (t : TerminalState). t.visits) (sym terminal_is)
+  visits_are = ap (λ (r : Rows). r.visits) copy.is_own ∙ copy.parts.parts.visits ∙ ap (own_visits copy.archived.stays) (visits_same content copy.earlier copy.whole copy.parts.after) ∙ ap (λ (t : TerminalState). t.visits) (sym terminal_is)
 
   copy_ticket : ticket_of archive.rows.visits archive.rows code n (Some p) ≡ Some ticket
   copy_ticket =

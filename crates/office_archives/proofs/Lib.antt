@@ -14,4 +14,5 @@ pub mod Closed
 pub mod Beside
 pub mod OfArchive
 pub mod Journal
+pub mod Rising
 pub mod Naming

@@ -1,20 +1,27 @@
 -- What a register names, once it has an archive more.
-use Rattle.std.proofs.Common.{◌≡◌, ℕ, zero, suc, ◌+◌, ◌-◌, ◌<◌, ◌≤◌, List, [], ◌∷◌, ◌++◌, length, Bool, true, false, cond, Option, None, Some, inl, inr, refl, sym, ap, subst, ◌∙◌, arith}
+use Rattle.std.proofs.Common.{◌≡◌, ℕ, zero, suc, ◌+◌, ◌-◌, ◌<◌, ◌≤◌, List, [], ◌∷◌, ◌++◌, length, Bool, true, false, cond, Option, None, Some, inl, inr, ◌⊎◌, refl, sym, ap, subst, ◌∙◌, arith}
 use Rattle.std.specs.Prelude.{◌&&◌, nat_le, max, if◌then◌else◌, find, slice_get}
 use Rattle.std.specs.List.{AllByRecursion, list_all}
 use Rattle.std.specs.Option.{option_and_then, option_map, option_or}
 use Rattle.std.proofs.lemmas.Bool.{and_parts, le-leb, leb-false, leb-true}
 use Rattle.std.proofs.lemmas.List.Folds.{find-append}
+use Rattle.edi_messages.specs.Purposes.{CallContent}
+use Rattle.edi_syntax.specs.Numbers.{last_number}
+use Rattle.terminal_core.specs.declared.lines.Side.{Side}
+use Rattle.office_rows.specs.Rows.{ListingContent}
+use Rattle.office_setup.specs.Limits.{most_partners}
 use Rattle.office_parts.specs.Archives.{Archive, archive_of}
 use Rattle.office_parts.specs.Archives as parts
 use Rattle.office_lists.specs.Away.{lines_away}
 use Rattle.office_lists.specs.OwnLists.{ListName, list_name}
+use Rattle.office_lists.proofs.AwayLemmas.{away_with}
 use Rattle.office_register.specs.Changes.{closed_with}
-use Rattle.office_register.specs.Lists.{lines_of_list}
+use Rattle.office_register.specs.Lists.{SettledListContent, lines_of_list, put_lists}
 use Rattle.office_register.specs.Register.{ArchiveContent, RegisterContent, is_of, last_closed, reaches}
-use Rattle.office_register.specs.Sound.{is_sound, is_within}
+use Rattle.office_register.specs.Sound.{are_in_order, are_rising, are_sound_archives, are_sound_segments, close_more, is_sound, is_sound_mark, is_within, may_be_list}
 use Rattle.office_register.specs.declared.register.Segment.{Segment}
-use Rattle.office_archives.specs.Shelves.{IsKeptAs, NamesAll, NamesOneMore, archive_at}
+use Rattle.office_archives.specs.Shelves.{HasLists, IsKeptAs, IsOfCall, NamesAll, NamesOneMore, archive_at}
+use Rattle.office_archives.proofs.Rising.{put_told, rises, up_to_most}
 
 -- ---- lists
 
@@ -75,21 +82,62 @@ open_if_none p n (one ∷ segments) from none = by (λ later. open_if_none p n s
     by rest true false e later = let far = leb-false n one.last e in let low = rest later in omega (arith, far, low)
     by rest false within e later = let low = rest later in omega (arith, from, low)
 
+-- ---- lists that were put away
+
+-- what is kept of a list is what came last
+kept_last : (call : CallContent) (side : Side) (text old : Option (List ℕ)) (lines older : Option (List ListingContent)) → IsKeptAs call side text lines → IsKeptAs call side old older
+    → IsKeptAs call side (option_or text old) (option_or lines older)
+kept_last call side None old None older is was = was
+kept_last call side None old (Some lines) older is was = absurd is
+kept_last call side (Some text) old None older is was = absurd is
+kept_last call side (Some text) old (Some lines) older is was = is
+
+of_either : {A : Type 0} (one other : Option A) (P : Type 0) → (one ≡ None) ⊎ P → (other ≡ None) ⊎ P → (option_or one other ≡ None) ⊎ P
+of_either one other P (inr is) others = inr is
+of_either one other P (inl never) (inr is) = inr is
+of_either one other P (inl never) (inl before) = inl (ap (λ o. option_or o other) never ∙ before)
+
 -- ---- an archive more
 
-module _ (names : RegisterContent) (list : List Archive) (archive : ArchiveContent) (segments : List Segment) (one : Archive) (sound : is_sound names ≡ true) (are : NamesAll names list)
-    (own : AllByRecursion (λ (segment : Segment). segment.archive ≡ length list + 1) segments)
-    (closed : (partner : ℕ) → one.last_closed partner ≡ last_closed (closed_with archive segments [] names).segments partner) (none : (name : ListName) → one.lists name ≡ None) where
+module _ (names : RegisterContent) (list : List Archive) (archive : ArchiveContent) (segments : List Segment) (lists : List SettledListContent) (one : Archive) (sound : is_sound names ≡ true) (are : NamesAll names list)
+    (own : AllByRecursion (λ (segment : Segment). segment.archive ≡ length list + 1) segments) (own_lists : AllByRecursion (λ (put : SettledListContent). put.archive ≡ length list + 1) lists)
+    (closed : (partner : ℕ) → one.last_closed partner ≡ last_closed (closed_with archive segments lists names).segments partner) (has : HasLists one lists) where
   abbrev more : List Archive
   more = list ++ one ∷ []
 
+  abbrev most : ℕ
+  most = length names.archives
+
+  abbrev segments_within : Bool
+  segments_within = list_all (is_within most) names.segments
+
+  abbrev lists_within : Bool
+  lists_within = list_all (may_be_list most) names.lists
+
+  abbrev lists_rise : Bool
+  lists_rise = are_rising None names.lists
+
+  abbrev with_lists : Bool
+  with_lists = (lists_within && lists_rise) && is_sound_mark names.closed_for
+
+  after_archives : (are_sound_segments most names.segments && with_lists) ≡ true
+  after_archives = (and_parts (are_sound_archives names.archives) (are_sound_segments most names.segments && with_lists) sound).1
+
+  sound_segments : segments_within ≡ true
+  sound_segments = (and_parts segments_within (are_in_order 0 0 names.segments && close_more [] names.segments) (and_parts (are_sound_segments most names.segments) with_lists after_archives).0).0
+
+  sound_lists : (lists_within && lists_rise) ≡ true
+  sound_lists = (and_parts (lists_within && lists_rise) (is_sound_mark names.closed_for) (and_parts (are_sound_segments most names.segments) with_lists after_archives).1).0
+
   within : (p n : ℕ) (s : Segment) → find (reaches p n) names.segments ≡ Some s → s.archive - 1 < length list
   within p n s found =
-      let all : list_all (is_within (length names.archives)) names.segments ≡ true = (and_parts _ _ (and_parts _ _ (and_parts _ _ sound).1).0).0 in
-      let is : is_within (length names.archives) s ≡ true = found_all (reaches p n) (is_within (length names.archives)) names.segments s all found in
-      let places : (nat_le 1 s.archive && nat_le s.archive (length names.archives)) ≡ true = (and_parts _ _ (and_parts _ _ is).0).1 in
-      let low : 1 ≤ s.archive = leb-true 1 s.archive (and_parts _ _ places).0 in
-      let high : s.archive ≤ length names.archives = leb-true s.archive (length names.archives) (and_parts _ _ places).1 in
+      let is : is_within most s ≡ true = found_all (reaches p n) (is_within most) names.segments s sound_segments found in
+      let partner = nat_le 1 s.partner && nat_le s.partner most_partners in
+      let place = nat_le 1 s.archive && nat_le s.archive most in
+      let number = nat_le 1 s.last && nat_le s.last last_number in
+      let places = and_parts (nat_le 1 s.archive) (nat_le s.archive most) (and_parts partner place (and_parts (partner && place) number is).0).1 in
+      let low : 1 ≤ s.archive = leb-true 1 s.archive places.0 in
+      let high : s.archive ≤ most = leb-true s.archive most places.1 in
       omega (arith, are.counted, low, high)
 
   -- of a number the new one is asked if none before it reaches it
@@ -120,18 +168,25 @@ module _ (names : RegisterContent) (list : List Archive) (archive : ArchiveConte
       not_reached true e far = absurd (omega (arith, leb-true n (one.last_closed p) e, far))
       not_reached false e far = refl
 
-  away_more : (archives : List Archive) (name : ListName) → lines_away (archives ++ one ∷ []) name ≡ lines_away archives name
-  away_more [] name = none name
-  away_more (first ∷ rest) name = ap (λ o. option_or o (first.lists name)) (away_more rest name)
+  kept_then : (call : CallContent) (side : Side) → IsKeptAs call side (lines_of_list (put_lists lists names.lists) call side) (lines_away more (list_name call side))
+  kept_then call side =
+      let both = and_parts lists_within lists_rise sound_lists in
+      let text = put_told call side (length list + 1) lists names.lists own_lists (rises names.lists both.1) (up_to_most most (length list + 1) names.lists (omega (arith, are.counted)) both.0) in
+      subst (λ t. IsKeptAs call side t (lines_away more (list_name call side))) (sym text)
+      (subst (IsKeptAs call side (option_or (lines_of_list lists call side) (lines_of_list names.lists call side))) (sym (away_with list one (list_name call side)))
+      (kept_last call side _ _ _ _ (has.kept call side) (are.lists call side)))
 
-  all_named : NamesAll (closed_with archive segments [] names) more
+  of_calls_then : (name : ListName) → (lines_away more name ≡ None) ⊎ IsOfCall name
+  of_calls_then name = subst (λ o. (o ≡ None) ⊎ IsOfCall name) (sym (away_with list one name)) (of_either (one.lists name) (lines_away list name) (IsOfCall name) (has.of_calls name) (are.of_calls name))
+
+  all_named : NamesAll (closed_with archive segments lists names) more
   all_named = record {
-    lists = λ call side. subst (IsKeptAs call side (lines_of_list names.lists call side)) (sym (away_more list (list_name call side))) (are.lists call side);
-    of_calls = λ name. elim (are.of_calls name) [ inl never ↦ inl (away_more list name ∙ never) | inr is ↦ inr is ];
+    lists = kept_then;
+    of_calls = of_calls_then;
     counted = longer list one ∙ ap (λ n. n + 1) are.counted ∙ sym (longer names.archives archive);
     named = λ p n from. named p n from (find (reaches p n) names.segments) (find (reaches p n) segments) refl refl
         ∙ ap (λ o. option_and_then (archive_at more) (option_map (λ (s : Segment). s.archive) o)) (sym (find-append (reaches p n) names.segments segments));
   }
 
 pub names_one_more : NamesOneMore
-names_one_more names list archive segments one sound are own closed none = all_named names list archive segments one sound are own closed none
+names_one_more names list archive segments lists one sound are own own_lists closed has = all_named names list archive segments lists one sound are own own_lists closed has

@@ -16,7 +16,7 @@ use Rattle.office_lists.specs.Away.{lines_away}
 use Rattle.office_lists.specs.OwnLists.{ListName, list_name}
 use Rattle.office_list_texts.specs.Texts.{IsTextOf}
 use Rattle.office_register.specs.Changes.{closed_with}
-use Rattle.office_register.specs.Lists.{lines_of_list}
+use Rattle.office_register.specs.Lists.{SettledListContent, lines_of_list}
 use Rattle.office_register.specs.Register.{ArchiveContent, RegisterContent, last_closed, register_content}
 use Rattle.office_register.specs.Register as register
 use Rattle.office_register.specs.Sound.{is_sound}
@@ -91,13 +91,21 @@ pub record AreShelved {S F : Type 0} (g : Ghosts S) (is_known : ℕ → Type 0) 
 
 -- ---- what a closing makes of it
 
--- An archive is added to a sound register, with segments of its own and no list: then it names this archive after those that
--- it named, if it closed what the register then says.
+-- an archive has these lists, each by the text of its lines, and no other
+pub record HasLists (one : Archive) (lists : List SettledListContent) : Type 0 where
+  pub kept : (call : CallContent) (side : Side) →
+      IsKeptAs call side (lines_of_list lists call side) (one.lists (list_name call side))
+  pub of_calls : (name : ListName) → (one.lists name ≡ None) ⊎ IsOfCall name
+
+-- An archive is added to a sound register, with segments and lists of its own: then it names this archive after those that it
+-- named, if it closed what the register then says and has those lists.
 abbrev pub NamesOneMore : Type 0
 NamesOneMore =
-    (names : RegisterContent) (list : List Archive) (archive : ArchiveContent) (segments : List Segment) (one : Archive) →
+    (names : RegisterContent) (list : List Archive) (archive : ArchiveContent) (segments : List Segment)
+    (lists : List SettledListContent) (one : Archive) →
     IsTrue (is_sound names) → NamesAll names list →
     AllByRecursion (λ (segment : Segment). segment.archive ≡ length list + 1) segments →
-    ((partner : ℕ) → one.last_closed partner ≡ last_closed (closed_with archive segments [] names).segments partner) →
-    ((name : ListName) → one.lists name ≡ None) →
-    NamesAll (closed_with archive segments [] names) (list ++ one ∷ [])
+    AllByRecursion (λ (put : SettledListContent). put.archive ≡ length list + 1) lists →
+    ((partner : ℕ) → one.last_closed partner ≡ last_closed (closed_with archive segments lists names).segments partner) →
+    HasLists one lists →
+    NamesAll (closed_with archive segments lists names) (list ++ one ∷ [])

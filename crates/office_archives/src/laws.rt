@@ -34,7 +34,8 @@ pub fn written_is_journal<S: Alter, T: Alter, F: Shelf<T>>()
 {}
 
 /// A closing adds an archive to the store's register, which then names it after the archives that it named: for each number, from
-/// 1, the first that reaches it. So each archive is asked for its own numbers, however many closings there were.
+/// 1, the first that reaches it; and of each list that was put away the lines that were put away last. So each archive is asked
+/// for its own numbers, however many closings there were.
 pub fn names_one_more()
     ensures { NamesOneMore }
 {}

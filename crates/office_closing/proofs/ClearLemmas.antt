@@ -1,5 +1,5 @@
 -- Transactions that delete, one after the other.
-use Rattle.std.proofs.Common.{◌≡◌, ℕ, IsTrue, true, false, Result, Ok, Err, IsErr, IfErr, OnErr, OnOk, inl, refl, sym, ap, subst, ◌∙◌, arith}
+use Rattle.std.proofs.Common.{◌≡◌, IsTrue, true, false, Result, Ok, Err, IfErr, OnErr, OnOk, refl, sym, subst, ◌∙◌, arith}
 use Rattle.sqlite.specs.Held.{Held, state}
 use Rattle.sqlite.specs.State.{State, HasCleanDisk, IsRolledBack, KeepsCommit, Shows, Survives}
 use Rattle.sqlite.specs.Tree.{Trees}
@@ -7,7 +7,7 @@ use Rattle.sqlite.proofs.Callers.{survives_begin}
 use Rattle.sqlite.proofs.StateLemmas.{survives_then, survives_weaker}
 use Rattle.sqlite_trees.specs.declared.store.Store.{Ghosts}
 use Rattle.office_rows.specs.Rows.{Rows}
-use Rattle.office_rows.specs.Stored.{HasRows, StoresRows}
+use Rattle.office_rows.specs.Stored.{HasRows}
 use Rattle.office_rows.proofs.StepLemmas.{keep_then, on_ok, quiet_then, stores}
 use Rattle.office_tables.specs.Faults.{IsOfStore}
 use Rattle.office_tables.specs.declared.table_fault.TableFault.{TableFault}

@@ -1,5 +1,5 @@
 -- Where a closing ends, and what it leaves there.
-use Rattle.std.proofs.Common.{[], inl, inr, Result, Ok, Err, IsTrue, sym, subst, ◌∙◌}
+use Rattle.std.proofs.Common.{inl, inr, Result, Ok, Err, IsTrue, map, sym, subst, ◌∙◌}
 use Rattle.sqlite.specs.Effect.{Database}
 use Rattle.sqlite.specs.State.{State, KeepsCommit, Survives}
 use Rattle.sqlite.specs.Tree.{Trees}
@@ -7,6 +7,7 @@ use Rattle.sqlite.proofs.StateLemmas.{survives_weaker}
 use Rattle.office_rows.specs.Stored.{HasRows}
 use Rattle.office_tables.specs.declared.table_fault.TableFault.{TableFault}
 use Rattle.office_register.specs.Changes.{closed_with, marked_for, unchanged, unmarked}
+use Rattle.office_register.specs.Lists.{list_content}
 use Rattle.office_register.specs.Register.{archive_content}
 use Rattle.office_register.specs.Stored.{HasRegister}
 use Rattle.office_closing.specs.declared.faults.CloseFault.{CloseFault}
@@ -91,7 +92,7 @@ module _ (names : FileNames) (old mid : Files) (plan : Plan) (rests : AreResting
   MarkSteps end result = StepsIf (is_unmarked plan.stage) unmarked (marked_for names.store) mid.archive_register end result
 
   abbrev RaiseSteps : {X : Type 0} → State → Result X CloseFault → Type 0
-  RaiseSteps end result = StepsIf (is_unraised plan.stage) unchanged (closed_with (archive_content plan.archive) plan.segments.items []) mid.register end result
+  RaiseSteps end result = StepsIf (is_unraised plan.stage) unchanged (closed_with (archive_content plan.archive) plan.segments.items (map list_content plan.lists.items)) mid.register end result
 
   mid_idle : AreIdle mid
   mid_idle = idle_after old mid (Ok plan) idle read

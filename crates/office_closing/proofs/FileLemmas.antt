@@ -1,5 +1,5 @@
 -- What a closing comes to, file by file: after all four were read, a step that changes a register, and a store that is cleared.
-use Rattle.std.proofs.Common.{[], ◌≡◌, ◌⊎◌, inl, inr, true, false, Bool, None, Some, Option, Result, Ok, Err, IsTrue, OnOk, OnErr, refl, sym, ap, subst, ◌∙◌, arith}
+use Rattle.std.proofs.Common.{◌≡◌, inl, inr, true, false, Bool, None, Some, Result, Ok, Err, IsTrue, OnErr, map, sym, ap, subst, ◌∙◌, arith}
 use Rattle.std.proofs.lemmas.Bool.{cases_Bool}
 use Rattle.sqlite.specs.Effect.{Database}
 use Rattle.sqlite.specs.State.{State, HasCleanDisk, IsUnchanged, Survives}
@@ -8,6 +8,7 @@ use Rattle.sqlite.proofs.StateLemmas.{survives_then}
 use Rattle.office_rows.specs.Stored.{HasRows}
 use Rattle.office_tables.specs.declared.table_fault.TableFault.{TableFault}
 use Rattle.office_register.specs.Changes.{closed_with, marked_for, unchanged, unmarked}
+use Rattle.office_register.specs.Lists.{list_content}
 use Rattle.office_register.specs.Register.{RegisterContent, archive_content}
 use Rattle.office_register.specs.Stored.{HasRegister}
 use Rattle.office_register.specs.Transactions.{IsSettled}
@@ -147,7 +148,7 @@ module _ (names : FileNames) (old mid : Files) (plan : Plan) (rests : AreResting
   -- ---- the store's register
 
   abbrev RaiseSteps : {X : Type 0} → State → Result X CloseFault → Type 0
-  RaiseSteps end result = StepsIf (is_unraised plan.stage) unchanged (closed_with (archive_content plan.archive) plan.segments.items []) mid.register end result
+  RaiseSteps end result = StepsIf (is_unraised plan.stage) unchanged (closed_with (archive_content plan.archive) plan.segments.items (map list_content plan.lists.items)) mid.register end result
 
   module _ {X : Type 0} (end : State) (result : Result X CloseFault) (steps : RaiseSteps end result) where
     pub raise_survives : (HasCleanDisk end → AreClean mid) → Survives old.register end (StoresRaised names old)

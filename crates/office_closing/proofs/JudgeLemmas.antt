@@ -1,30 +1,40 @@
 -- What a plan says of the rows and the registers of store and archive.
-use Rattle.std.proofs.Common.{◌≡◌, inl, inr, ℕ, ◌+◌, ◌<◌, ◌≤◌, List, [], ◌∷◌, ◌++◌, None, Some, true, map, length, refl, sym, ap, ap₂, subst, ◌∙◌, arith}
-use Rattle.std.specs.Prelude.{Contains, IsUtf8}
+use Rattle.std.proofs.Common.{◌≡◌, ℕ, ◌+◌, ◌==◌, ◌<◌, ◌≤◌, List, [], ◌∷◌, ◌++◌, None, Bool, true, false, cond, if◌then◌else◌, filter, map, length, refl, sym, ap, ap₂, subst, ◌∙◌, arith}
+use Rattle.std.specs.Prelude.{Contains, IsPermutation, IsUtf8}
 use Rattle.std.specs.List.{AllByRecursion}
+use Rattle.std.proofs.lemmas.Bool.{eqb-true}
+use Rattle.std.proofs.lemmas.Str.{IsUtf8-string_bytes}
 use Rattle.std.proofs.lemmas.List.Sorted.{Contains-permutation, IsPermutation-sym}
 use Rattle.terminal_core.specs.Rows.{VisitContent}
+use Rattle.office_loading.specs.Tables.{LoadsOwn}
+use Rattle.office_done_lists.specs.Waiting.{AreWaitedFor}
+use Rattle.office_done_lists.proofs.GoesLemmas.{all_found, goes_as}
+use Rattle.office_lists.specs.OwnLists.{ListName}
 use Rattle.office_register.specs.declared.register.Segment.{Segment}
 use Rattle.office_register.specs.Changes.{closed_with, unmarked}
-use Rattle.office_register.specs.Register.{ArchiveContent, RegisterContent, last_closed}
+use Rattle.office_register.specs.declared.lists.SettledList.{SettledList}
+use Rattle.office_register.specs.Lists.{SettledListContent, comes_before, list_content, put_list, put_lists}
+use Rattle.office_register.specs.Register.{ArchiveContent, RegisterContent, closed_by, last_closed}
 use Rattle.office_register.specs.Sound.{IsSound, is_sound}
 use Rattle.office_closing.specs.declared.comparing.Numbers.{Numbers}
 use Rattle.office_closing.specs.declared.planning.Plan.{Plan}
 use Rattle.office_closing.specs.declared.planning.Stage.{Stage}
 use Rattle.office_closing.specs.declared.planning.Stage.TheVariants as stage
 use Rattle.office_closing.specs.Deleting.{is_among}
-use Rattle.office_closing.specs.Closes.{AreHeld, Closing, ClosesAll, Held, IsBelowNext, IsClosing, closed_after, closed_before, closing_content, raised_register}
+use Rattle.office_closing.specs.Closes.{AreHeld, Closing, ClosesAll, Held, IsBelowNext, IsClosing, PutsAway, closed_after, closed_before, closing_content, raised_register}
 use Rattle.office_closing.specs.Comparing.{IsComparedAs}
-use Rattle.office_closing.specs.Copies.{FileNames, HasCome, IsOpened, OfficeContent, archive_in, numbers_from, numbers_of, raised_by, segments_of}
+use Rattle.office_closing.specs.Copies.{FileNames, HasCome, IsOpened, OfficeContent, archive_in, is_put_away_with, lists_at, numbers_from, numbers_of, raised_by, segments_of}
 use Rattle.office_closing.specs.Files.{Files}
 use Rattle.office_closing.specs.Judging.{IsAtStage, IsComparedIf, IsJudged}
 use Rattle.office_closing.specs.Steps.{is_unraised}
 use Rattle.office_closing.specs.Laws.{Raises}
 use Rattle.office_closing.specs.Planning.{IsPlan}
 use Rattle.office_closing.specs.Visits.{AreToGo}
+use Rattle.office_history.proofs.Shown.{head_in, tail_in}
 use Rattle.office_closing.proofs.LawLemmas.{compared_held, goes_if_not, may_stay}
 use Rattle.office_closing.proofs.PlanLemmas.{account_found, numbers_are_from, segments_raise, segments_rise}
-use Rattle.office_closing.proofs.ShownLemmas.{accounts_by_id, visits_loaded}
+use Rattle.office_closing.proofs.StageLemmas.{one_longer}
+use Rattle.office_closing.proofs.ShownLemmas.{accounts_by_id, lines_loaded, visits_loaded}
 
 -- ---- texts
 
@@ -32,10 +42,44 @@ all_pushed : {A : Type 0} (P : A → Type 0) (xs : List A) (x : A) → AllByRecu
 all_pushed P [] x all here = (here, tt)
 all_pushed P (y ∷ xs) x all here = (all.0, all_pushed P xs x all.1 here)
 
+texts_of_lists : (lists : List SettledList) → AllByRecursion (λ (list : SettledListContent). IsUtf8 list.lines) (map list_content lists)
+texts_of_lists [] = tt
+texts_of_lists (list ∷ lists) = (IsUtf8-string_bytes list.lines, texts_of_lists lists)
+
+-- ---- lists
+
+module _ (P : SettledListContent → Type 0) where
+  all_put_one : (one : SettledListContent) (lists : List SettledListContent) → P one → AllByRecursion P lists → AllByRecursion P (put_list one lists)
+  all_put_one one [] here all = (here, tt)
+  all_put_one one (other ∷ lists) here all = by (comes_before one other) (all_put_one one lists here all.1)
+    where
+      by : (b : Bool) → AllByRecursion P (put_list one lists) → AllByRecursion P (if b then one ∷ other ∷ lists else other ∷ put_list one lists)
+      by true rest = (here, all)
+      by false rest = (all.0, rest)
+
+  all_put : (more lists : List SettledListContent) → AllByRecursion P more → AllByRecursion P lists → AllByRecursion P (put_lists more lists)
+  all_put [] lists these all = all
+  all_put (one ∷ more) lists these all = all_put more (put_list one lists) these.1 (all_put_one one lists these.0 all)
+
+  -- what each of them is all are
+  all_each : (lists : List SettledListContent) → ((one : SettledListContent) → Contains lists one → P one) → AllByRecursion P lists
+  all_each [] each = tt
+  all_each (one ∷ lists) each = (each one (head_in one lists), all_each lists (λ other inside. each other (tail_in one other lists inside)))
+
+-- those that an archive has are its
+those_with : (archive : ℕ) (lists : List SettledListContent) → AllByRecursion (λ (one : SettledListContent). one.archive ≡ archive) (filter (is_put_away_with archive) lists)
+those_with archive [] = tt
+those_with archive (one ∷ lists) = by (one.archive == archive) refl (those_with archive lists)
+  where
+    by : (b : Bool) → (one.archive == archive) ≡ b → AllByRecursion (λ (l : SettledListContent). l.archive ≡ archive) (filter (is_put_away_with archive) lists)
+        → AllByRecursion (λ (l : SettledListContent). l.archive ≡ archive) (cond b (one ∷ filter (is_put_away_with archive) lists) (filter (is_put_away_with archive) lists))
+    by true e rest = (eqb-true one.archive archive e, rest)
+    by false e rest = rest
+
 -- ---- a plan
 
 module _ (held : Held) (old : Files) (has : AreHeld held old) (names : FileNames) (own copy : OfficeContent) (of_own : IsOpened old.store.now old.register.now own)
-    (of_copy : IsOpened old.archive.now old.archive_register.now copy) (plan : Plan) (is : IsPlan own copy names plan) (text : IsUtf8 names.archive) where
+    (of_copy : IsOpened old.archive.now old.archive_register.now copy) (named : List ListName) (waited : AreWaitedFor own.setup held.own named) (plan : Plan) (is : IsPlan own copy names named plan) (text : IsUtf8 names.archive) where
   own_register : own.register ≡ held.register
   own_register = of_own.registered held.register has.register has.register_sound
 
@@ -52,17 +96,17 @@ module _ (held : Held) (old : Files) (has : AreHeld held old) (names : FileNames
   closing = closing_content plan
 
   -- the register with the archive
-  raised_is : raised_register held closing ≡ raised_by names.archive copy
+  raised_is : raised_register held closing ≡ raised_by names.archive closing.lists copy
   raised_is =
       let back = sym copy_register in
-      λ i. closed_with (is.archive i) (is.segments i) [] (unmarked (back i))
+      λ i. closed_with (is.archive i) (is.segments i) closing.lists (unmarked (back i))
 
   raised_sound : IsSound (raised_register held closing)
   raised_sound = record {
-    tested = ap is_sound raised_is ∙ is.is_copy.may.raised;
+    tested = ap is_sound raised_is ∙ is.is_copy.comes.may.raised;
     texts = record {
       files = all_pushed (λ (a : ArchiveContent). IsUtf8 a.file) held.copied.archives closing.archive has.copied_sound.texts.files (subst IsUtf8 (sym (ap (λ (a : ArchiveContent). a.file) is.archive)) text);
-      lines = has.copied_sound.texts.lines;
+      lines = all_put (λ (list : SettledListContent). IsUtf8 list.lines) closing.lists held.copied.lists (texts_of_lists plan.lists.items) has.copied_sound.texts.lines;
       closed_for = tt;
     };
   }
@@ -82,7 +126,7 @@ module _ (held : Held) (old : Files) (has : AreHeld held old) (names : FileNames
   segments_are = is.segments ∙ ap₂ segments_of (sym (ap (λ (a : ArchiveContent). a.place) is.archive)) (sym is.numbers)
 
   -- how far it has come
-  at_by : (s : Stage) → HasCome own copy names s → IsAtStage held names closing s
+  at_by : (s : Stage) → HasCome own copy names closing.lists s → IsAtStage held names closing s
   at_by stage.New come = (sym own_register ∙ sym come.0 ∙ ap unmarked copy_register, ap (λ (c : RegisterContent). c.closed_for) (sym copy_register) ∙ come.1)
   at_by stage.Marked come = (sym own_register ∙ sym come.0 ∙ ap unmarked copy_register, ap (λ (c : RegisterContent). c.closed_for) (sym copy_register) ∙ come.1)
   at_by stage.Raised come = (sym own_register ∙ sym come.0 ∙ sym raised_is, ap (λ (c : RegisterContent). c.closed_for) (sym copy_register) ∙ come.1)
@@ -113,8 +157,46 @@ module _ (held : Held) (old : Files) (has : AreHeld held old) (names : FileNames
         below = found.3;
       }
 
+  -- ---- the lists
+
+  own_loads : LoadsOwn (closed_by held.register) old.store.now own.setup own.terminal
+  own_loads = subst (λ (c : RegisterContent). LoadsOwn (closed_by c) old.store.now own.setup own.terminal) own_register (of_own.loaded has.own.schema)
+
+  own_lines : IsPermutation held.own.lines is.are_done.lines
+  own_lines = lines_loaded (closed_by held.register) old.store.now held.own own.setup own.terminal is.are_done.lines has.own own_loads is.are_done.once is.are_done.by_key
+
+  -- until the register has the archive these are the lists that are done
+  same_lists : (s : Stage) → IsAtStage held names closing s → held.register ≡ unmarked held.copied → lists_at own (archive_in names.archive copy).place is.done s ≡ is.done
+  same_lists stage.New at new = refl
+  same_lists stage.Marked at new = refl
+  same_lists stage.Raised at new = absurd (one_longer held.copied.archives closing.archive (ap (λ (c : RegisterContent). c.archives) (sym at.0 ∙ new)))
+
+  all_placed : (s : Stage) → AllByRecursion (λ (one : SettledListContent). one.archive ≡ (archive_in names.archive copy).place) (lists_at own (archive_in names.archive copy).place is.done s)
+  all_placed stage.New = all_each _ is.done is.are_done.are.archive_is
+  all_placed stage.Marked = all_each _ is.done is.are_done.are.archive_is
+  all_placed stage.Raised = those_with (archive_in names.archive copy).place own.register.lists
+
+  module _ (at : IsAtStage held names closing plan.stage) where
+    are_done : held.register ≡ unmarked held.copied → closing.lists ≡ is.done
+    are_done new = is.lists ∙ same_lists plan.stage at new
+
+    puts_away : PutsAway held closing
+    puts_away = record {
+      setup = own.setup;
+      is_setup = record { db = old.store.now; has = has.own; terminal = own.terminal; loads = own_loads };
+      placed = subst (λ n. AllByRecursion (λ (one : SettledListContent). one.archive ≡ n) closing.lists) (sym (ap (λ (a : ArchiveContent). a.place) is.archive)) (subst (AllByRecursion (λ (one : SettledListContent). one.archive ≡ (archive_in names.archive copy).place)) (sym is.lists) (all_placed plan.stage));
+      has = λ one here. ((is.gone one).0 here).1;
+      goes = λ one here. goes_as is.are_done.lines own.terminal is.are_done.once (sym is.are_done.by_key) own_loads.2.formed own.setup held.own named (archive_in names.archive copy).place is.done own_lines waited is.are_done.are one ((is.gone one).0 here).0;
+      all = λ new list may.
+          let found = all_found own.setup held.own is.are_done.lines named (archive_in names.archive copy).place is.done own_lines waited is.are_done.are list may in
+          record { one = found.one; has = (is.gone found.one).1 (found.has, subst (λ l. Contains l found.one) (sym (are_done new)) found.has); named = found.named };
+      only = λ new one here. (is.gone one).1 (subst (λ l. Contains l one) (are_done new) here, here);
+    }
+
+  -- ---- the whole
+
   -- numbers are closed by this call, or they are closed already
-  module _ (new : held.register ≡ unmarked held.copied) where
+  module _ (new : held.register ≡ unmarked held.copied) (lists : PutsAway held closing) where
     same_before : closed_before held ≡ last_closed held.copied.segments
     same_before = ap (λ (c : RegisterContent). last_closed c.segments) new
 
@@ -132,9 +214,10 @@ module _ (held : Held) (old : Files) (has : AreHeld held old) (names : FileNames
           (compared_held archived held.own held.copy closing.numbers (closed_after held closing) closing.visits
           (subst (λ (f : ℕ → ℕ). Raises f closing.numbers (closed_after held closing)) (sym (e ∙ same_before)) raises) compared has.own_orderly.numbered to_go).0;
       may = may_stay held.own.visits held.copy.visits closing.visits has.own_orderly.numbered to_go;
+      lists = lists;
     }
 
-  module _ (raised : held.register ≡ raised_register held closing) where
+  module _ (raised : held.register ≡ raised_register held closing) (lists : PutsAway held closing) where
     same_after : closed_before held ≡ closed_after held closing
     same_after = ap (λ (c : RegisterContent). last_closed c.segments) raised
 
@@ -159,14 +242,15 @@ module _ (held : Held) (old : Files) (has : AreHeld held old) (names : FileNames
         visits = λ visit here gone. (goes_if_not held.own.visits held.copy.visits closing.visits has.own_orderly.numbered to_go visit here gone).is_copied;
       };
       may = may_stay held.own.visits held.copy.visits closing.visits has.own_orderly.numbered to_go;
+      lists = lists;
     }
 
-  judged_by : (s : Stage) → IsAtStage held names closing s → (is_unraised s ≡ true → IsComparedAs closing.numbers held.own held.copy None) → IsClosing held names closing
-  judged_by stage.New at compared = new_closing at.0 (compared refl)
-  judged_by stage.Marked at compared = new_closing at.0 (compared refl)
-  judged_by stage.Raised at compared = old_closing at.0
+  judged_by : (s : Stage) → IsAtStage held names closing s → PutsAway held closing → (is_unraised s ≡ true → IsComparedAs closing.numbers held.own held.copy None) → IsClosing held names closing
+  judged_by stage.New at lists compared = new_closing at.0 lists (compared refl)
+  judged_by stage.Marked at lists compared = new_closing at.0 lists (compared refl)
+  judged_by stage.Raised at lists compared = old_closing at.0 lists
 
   pub plan_judged : IsComparedIf plan held → IsJudged held names plan
   plan_judged compared =
-      let at = at_by plan.stage is.is_copy.has_come in
-      record { is_closing = judged_by plan.stage at compared; at = at }
+      let at = at_by plan.stage is.is_copy.comes.has_come in
+      record { is_closing = judged_by plan.stage at (puts_away at) compared; at = at }

@@ -1,6 +1,6 @@
 -- The laws of a closing.
-use Rattle.std.proofs.Common.{◌≡◌, inl, inr, ℕ, suc, ◌+◌, ◌<◌, ◌≤◌, ◌==◌, ◌||◌, List, [], ◌∷◌, Bool, true, false, cond, not, filter, get_or, length, refl, sym, ap, ap₂, subst, ◌∙◌, arith}
-use Rattle.std.specs.Prelude.{Contains, None, is_some, nat_le, All, slice_get}
+use Rattle.std.proofs.Common.{◌≡◌, inl, inr, ℕ, suc, ◌<◌, ◌≤◌, ◌==◌, ◌||◌, List, [], ◌∷◌, Bool, true, false, cond, not, filter, get_or, refl, sym, ap, ap₂, subst, ◌∙◌, arith}
+use Rattle.std.specs.Prelude.{Contains, None, All, slice_get}
 use Rattle.std.specs.List.{AllByRecursion, list_any}
 use Rattle.std.proofs.lemmas.Bool.{cases_Bool, eqb-true, le-leb, leb-true}
 use Rattle.std.proofs.lemmas.List.{get_or_default}
@@ -10,20 +10,17 @@ use Rattle.std.proofs.lemmas.Option.{same_Some}
 use Rattle.terminal_core.specs.Rows.{VisitContent}
 use Rattle.terminal_core.specs.State.{AreNumbered, last_from, last_number}
 use Rattle.terminal_core.proofs.Numbered.{found_at, same_index}
-use Rattle.office_replies.specs.Events.{Event}
 use Rattle.office_rows.specs.Rows.{Interchange, Rows}
-use Rattle.office_setup.specs.Setups.{SetupContent}
 use Rattle.office_parts.specs.Archives.{HoldsWhatGoes}
 use Rattle.office_parts.specs.Closing.{is_closed, is_beyond, carried}
 use Rattle.office_parts.specs.LeftOver.{rows_beyond, rows_without}
 use Rattle.office_parts.specs.OwnTerminal.{own_visits, IsOverOrStays, MayStay}
-use Rattle.office_parts.specs.Parts.{Archived, ArePartsAfter}
+use Rattle.office_parts.specs.Parts.{Archived}
 use Rattle.office_parts.proofs.LeftOver.{may_go}
 use Rattle.office_parts.proofs.Opening.{own_beyond}
 use Rattle.office_closing.specs.declared.comparing.Numbers.{Numbers}
-use Rattle.office_closing.specs.Clearing.{IsWithoutSome}
 use Rattle.office_closing.specs.Comparing.{IsComparedAs}
-use Rattle.office_closing.specs.Deleting.{all_but, without_visits, is_among, goes}
+use Rattle.office_closing.specs.Deleting.{all_but, without_visits, goes}
 use Rattle.office_closing.specs.Laws.{Raises, ComparedIsHeld, ClearingLeavesTheRest, ClearedIsCarried}
 use Rattle.office_closing.specs.Visits.{AreToGo, GoesBelow}
 

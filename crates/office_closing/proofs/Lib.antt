@@ -1,12 +1,15 @@
 mod DeleteLemmas
 mod NumberLemmas
 mod ClearLemmas
+mod ListLemmas
 mod LoopLemmas
 mod CompareLemmas
 mod LawLemmas
 mod VisitLemmas
 mod PlanLemmas
 mod ShownLemmas
+mod StageLemmas
+mod BothLemmas
 mod JudgeLemmas
 mod RefuseLemmas
 mod FileLemmas

@@ -1,16 +1,15 @@
 -- The steps of the loops that delete.
-use Rattle.std.proofs.Common.{◌≡◌, ◌⊎◌, ℕ, ◌+◌, ◌≤◌, List, [], ◌∷◌, ◌++◌, Bool, true, false, ◌||◌, refl, Result, Ok, Err, IsErr, IfErr, sym, ap, ◌∙◌}
+use Rattle.std.proofs.Common.{◌≡◌, ◌⊎◌, ℕ, ◌+◌, ◌≤◌, List, [], ◌∷◌, ◌++◌, Bool, true, false, ◌||◌, refl, Result, Ok, Err, sym, ap, ◌∙◌}
 use Rattle.sqlite.specs.State.{State}
 use Rattle.office_rows.specs.Effects.{is_pair}
 use Rattle.office_rows.specs.Rows.{Interchange, Rows}
-use Rattle.office_tables.specs.Faults.{IsOfStore}
 use Rattle.office_tables.specs.declared.table_fault.TableFault.{TableFault}
 use Rattle.office_parts.specs.LeftOver.{rows_without}
 use Rattle.office_closing.specs.declared.comparing.Numbers.{Numbers}
 use Rattle.office_closing.specs.Clearing.{Clears, IsWithoutSome, IsWithoutSomeVisits}
 use Rattle.office_closing.specs.Deleting.{Deletes, all_but, without_interchange, without_visits, goes}
 use Rattle.office_closing.proofs.ClearLemmas as lemma
-use Rattle.office_closing.proofs.NumberLemmas.{numbers_to, numbers_from, deleted_twice, deleted_alike, deleted_none, some_then, whole_is_some, some_of_more, goes_none, goes_next, goes_more, goes_append, goes_end, goes_within, without_more, without_none, some_visits_then, whole_is_some_visits, some_visits_of_more, stays_of_more}
+use Rattle.office_closing.proofs.NumberLemmas.{numbers_to, numbers_from, deleted_twice, deleted_alike, deleted_none, some_then, whole_is_some, some_of_more, goes_none, goes_next, goes_more, goes_append, goes_end, goes_within, without_more, some_visits_then, whole_is_some_visits, some_visits_of_more, stays_of_more}
 
 -- ---- in a transaction
 

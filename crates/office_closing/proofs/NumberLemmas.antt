@@ -1,18 +1,17 @@
 -- Rows that are deleted in turn.
-use Rattle.std.proofs.Common.{◌≡◌, ◌⊎◌, inl, inr, ℕ, ◌+◌, ◌<◌, ◌≤◌, List, [], ◌∷◌, ◌++◌, Bool, true, false, cond, not, ◌&&◌, ◌||◌, ◌==◌, filter, refl, sym, ap, ◌∙◌, arith}
+use Rattle.std.proofs.Common.{◌≡◌, ◌⊎◌, inl, inr, ℕ, ◌+◌, ◌≤◌, List, [], ◌∷◌, ◌++◌, Bool, true, false, cond, not, ◌&&◌, ◌||◌, ◌==◌, filter, refl, sym, ap, ◌∙◌, arith}
 use Rattle.std.specs.Prelude.{nat_le, nat_lt}
 use Rattle.std.specs.List.{list_any}
 use Rattle.std.proofs.lemmas.Bool.Decides.{nat_tests}
 use Rattle.std.proofs.lemmas.List.Elements.{filter_agree}
 use Rattle.std.proofs.lemmas.List.Folds.{list_any-append}
-use Rattle.terminal_core.specs.Rows.{VisitContent}
 use Rattle.office_rows.specs.Effects.{is_pair}
 use Rattle.office_rows.specs.Rows.{Interchange, Rows}
 use Rattle.office_parts.specs.LeftOver.{rows_without}
-use Rattle.office_parts.specs.OwnTerminal.{own_visits, is_own}
+use Rattle.office_parts.specs.OwnTerminal.{is_own}
 use Rattle.office_closing.specs.declared.comparing.Numbers.{Numbers}
 use Rattle.office_closing.specs.Clearing.{IsWithoutSome, IsWithoutSomeVisits}
-use Rattle.office_closing.specs.Deleting.{with_visits_that, all_but, without_visits, is_of, is_among, goes}
+use Rattle.office_closing.specs.Deleting.{with_visits_that, all_but, without_visits, is_of, goes}
 
 filter_twice : {A : Type 0} (p q : A → Bool) (xs : List A) → filter q (filter p xs) ≡ filter (λ x. p x && q x) xs
 filter_twice p q [] = refl
@@ -23,11 +22,11 @@ filter_twice p q (x ∷ xs) = by (p x) (filter_twice p q xs)
     by true rest = ap (λ l. cond (q x) (x ∷ l) l) rest
     by false rest = rest
 
-filter_all : {A : Type 0} (p : A → Bool) → ((x : A) → p x ≡ true) → (xs : List A) → filter p xs ≡ xs
+pub filter_all : {A : Type 0} (p : A → Bool) → ((x : A) → p x ≡ true) → (xs : List A) → filter p xs ≡ xs
 filter_all p all [] = refl
 filter_all p all (x ∷ xs) = ap (λ b. cond b (x ∷ filter p xs) (filter p xs)) (all x) ∙ ap (λ l. x ∷ l) (filter_all p all xs)
 
-neither : (a b : Bool) → (not a && not b) ≡ not (a || b)
+pub neither : (a b : Bool) → (not a && not b) ≡ not (a || b)
 neither true b = refl
 neither false b = refl
 

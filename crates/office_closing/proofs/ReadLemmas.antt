@@ -74,6 +74,9 @@ if_open_ok y r = record { same = r.same; unchanged = r.reads.unchanged; keeps = 
 pub if_open_err : {X Y E : Type 0} {old new : State} {inner : Result X TableFault} (e : E) → OnlyReads old new inner → IsReadIfOpen {T = Y} old new (Err e)
 if_open_err e r = record { same = λ clean. tt; unchanged = λ clean was. tt; keeps = r.reads.keeps; mode = r.reads.mode; survives = r.reads.survives }
 
+pub none_failed : {Y E : Type 0} (now : State) (e : E) → IsReadIfOpen {T = Y} now now (Err e)
+none_failed now e = if_open_err {inner = Ok tt} e (nothing_read {T = Unit {0}} now (Ok tt))
+
 pub none_read : {Y E : Type 0} (now : State) (y : Y) → IsReadIfOpen {E = E} now now (Ok y)
 none_read now y = if_open_ok y (nothing_read {T = Unit {0}} now (Ok tt))
 

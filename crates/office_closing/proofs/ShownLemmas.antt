@@ -1,11 +1,11 @@
--- What an opened office has, of rows in order: their visits, and the next numbers of their accounts.
-use Rattle.std.proofs.Common.{◌≡◌, ℕ, zero, suc, ◌+◌, ◌-◌, ◌<◌, ◌≤◌, inl, inr, List, [], ◌∷◌, length, map, Bool, true, false, cond, Option, Some, None, refl, sym, ap, ap₂, subst, ◌∙◌, arith}
+-- What an opened office has, of rows in order: their visits, their lines, and the next numbers of their accounts.
+use Rattle.std.proofs.Common.{◌≡◌, ℕ, zero, suc, ◌+◌, ◌<◌, ◌≤◌, inl, inr, List, [], ◌∷◌, length, map, Bool, true, false, cond, Option, Some, None, refl, sym, ap, subst, ◌∙◌, arith}
 use Rattle.std.specs.Prelude.{◌==◌, count_by, Contains, IsSorted, IsTrue}
 use Rattle.std.specs.List.{range_with_len}
 use Rattle.std.specs.List.Sorted.{IsPermutation, IsNonDecreasing}
 use Rattle.std.specs.Ordering.{nat_cmp}
 use Rattle.std.proofs.lemmas.Bool.{cases_order, eqb-true, eq-eqb}
-use Rattle.std.proofs.lemmas.List.Sorted.{Contains-permutation, IsNonDecreasingBy-from_sort, IsPermutation-map, IsPermutation-sym, length_permutation, sum_by-IsPermutation}
+use Rattle.std.proofs.lemmas.List.Sorted.{Contains-permutation, IsNonDecreasingBy-from_sort, IsPermutation-map, IsPermutation-sym, IsPermutation-trans, length_permutation, sum_by-IsPermutation}
 use Rattle.sqlite.specs.Effect.{Database}
 use Rattle.sqlite.specs.Order.{Row, column}
 use Rattle.box6346.specs.declared.slot.Slot.{Slot}
@@ -19,19 +19,25 @@ use Rattle.terminal_core.specs.declared.visits.Way.TheVariants as way
 use Rattle.terminal_core.specs.Changes.{TerminalRows}
 use Rattle.terminal_core.specs.Forms.{IsFormedVisit, IsFormedExit}
 use Rattle.terminal_core.specs.Rows.{VisitContent}
-use Rattle.terminal_core.specs.State.{TerminalState}
+use Rattle.terminal_core.specs.State.{TerminalState, side_code}
+use Rattle.terminal_core.specs.declared.lines.LineState.{LineState}
+use Rattle.terminal_core.specs.declared.lines.LineState.TheVariants as line_state
+use Rattle.terminal_core.specs.declared.lines.Side.{Side}
+use Rattle.terminal_core.specs.declared.lines.Side.TheVariants as side
 use Rattle.terminal_core.proofs.Counted.{one_place}
 use Rattle.terminal_core.proofs.Numbered.{found_at}
 use Rattle.office_setup.specs.Setups.{SetupContent}
-use Rattle.office_rows.specs.Rows.{Partner, Rows}
+use Rattle.office_done_lists.proofs.OnceLemmas.{once_same}
+use Rattle.office_rows.specs.ByKey.{AreListedOnce, lines_by}
+use Rattle.office_rows.specs.Rows.{ListingContent, Partner, Rows}
 use Rattle.office_rows.specs.Shown.{AreNexts}
 use Rattle.office_rows.specs.Stored.{HasRows}
-use Rattle.office_rows.specs.Tables.{visit_table}
-use Rattle.office_rows.specs.Values.{way_code, laden_code, out_by, out_partner, out_number, out_at, visit_values}
+use Rattle.office_rows.specs.Tables.{listing_table, visit_table}
+use Rattle.office_rows.specs.Values.{way_code, laden_code, line_values, out_by, out_partner, out_number, out_at, state_code, visit_values}
 use Rattle.office_checks.specs.Closed.{ClosedContent}
 use Rattle.office_loading.specs.Tables.{LoadsOwn}
 use Rattle.office_history.proofs.Loads.{number_one, numbered_rise, text_one}
-use Rattle.office_history.proofs.Shown.{Rises, above, fewer, head_in, one_at, rising_same, same_records, shown_in, tail_in}
+use Rattle.office_history.proofs.Shown.{Rises, above, fewer, head_in, one_at, rising_same, same_records, shown_in}
 use Rattle.office_closing.specs.Closes.{AreOrderly}
 
 -- ---- a visit by its columns
@@ -111,6 +117,41 @@ visits_loaded closed db rows content state has orderly loads =
     sym are
     ∙ sym (rising_same (λ (v : VisitContent). v.number) 0 rows.visits shown.visits (numbered_rise 0 rows.visits orderly.numbered)
     (subst (Rises (λ (v : VisitContent). v.number) 0) (sym are) (numbered_rise 0 state.visits office.whole.numbered)) (subst (IsPermutation rows.visits) (sym same) in_order.1))
+
+-- ---- the lines
+
+side_one : (a b : Side) → side_code a ≡ side_code b → a ≡ b
+side_one side.Load side.Load e = refl
+side_one side.Discharge side.Discharge e = refl
+side_one a b e = absurd (omega (arith, e))
+
+state_one : (a b : LineState) → state_code a ≡ state_code b → a ≡ b
+state_one line_state.Pending line_state.Pending e = refl
+state_one line_state.Done line_state.Done e = refl
+state_one a b e = absurd (omega (arith, e))
+
+line_one : (a b : ListingContent) → Unit {0} → Unit {0} → line_values a ≡ line_values b → a ≡ b
+line_one a b fa fb e =
+    let ra = line_values a in
+    let rb = line_values b in
+    let vessel = text_one a.call.vessel b.call.vessel (at 0 ra rb e) in
+    let voyage = text_one a.call.voyage b.call.voyage (at 1 ra rb e) in
+    let side = side_one a.side b.side (number_one _ _ (at 2 ra rb e)) in
+    let container = text_one a.container b.container (at 3 ra rb e) in
+    let port = text_one a.port b.port (at 4 ra rb e) in
+    let state = state_one a.state b.state (number_one _ _ (at 5 ra rb e)) in
+    λ i. record { call = record { vessel = vessel i; voyage = voyage i }; side = side i; container = container i; port = port i; state = state i }
+
+-- lines that are those of the terminal that is loaded, none of them twice, are those of the rows, in some order
+pub lines_loaded : (closed : ClosedContent) (db : Database) (rows : Rows) (content : SetupContent) (state : TerminalState) (lines : List ListingContent) → HasRows rows db → LoadsOwn closed db content state → AreListedOnce lines → lines_by lines ≡ state.lines
+    → IsPermutation rows.lines lines
+lines_loaded closed db rows content state lines has loads once by_key =
+    let shown = loads.0 in
+    let office = loads.2 in
+    let are : lines_by shown.lines ≡ state.lines = ap (λ (r : TerminalRows). r.lines) office.terminal in
+    let in_order = shown_in listing_table (0 ∷ 1 ∷ 2 ∷ 3 ∷ 4 ∷ 5 ∷ []) (0 ∷ 1 ∷ 2 ∷ 3 ∷ []) line_values rows.lines db (map line_values shown.lines) (λ l. refl) has.rows_are.lines loads.1.lines in
+    let same : shown.lines ≡ in_order.0 = same_records (λ l. Unit {0}) line_values line_one shown.lines in_order.0 (λ l inside. tt) (λ l inside. tt) in_order.2 in
+    IsPermutation-trans rows.lines shown.lines lines (subst (IsPermutation rows.lines) (sym same) in_order.1) (once_same shown.lines lines office.listed_once once (are ∙ sym by_key))
 
 -- ---- the accounts
 

@@ -1,5 +1,5 @@
 -- A step that was due, and one that was not.
-use Rattle.std.proofs.Common.{◌≡◌, Bool, true, false, Result, Ok, Err, IsTrue, inl, refl, arith}
+use Rattle.std.proofs.Common.{◌≡◌, true, false, Ok, Err, IsTrue, refl}
 use Rattle.sqlite.specs.State.{State, HasCleanDisk, Survives}
 use Rattle.sqlite.proofs.StateLemmas.{survives_weaker}
 use Rattle.office_tables.proofs.WritesLemmas.{survives_here}

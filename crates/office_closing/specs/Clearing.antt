@@ -1,5 +1,5 @@
 -- What clearing a store of rows that were closed commits: some transactions, one after the other.
-use Rattle.std.specs.Prelude.{◌≡◌, ℕ, false, true, Bool, List, Result, IfErr, IsTrue, OnErr, OnOk}
+use Rattle.std.specs.Prelude.{◌≡◌, ℕ, true, Bool, Result, IfErr, IsTrue, OnErr, OnOk}
 use Rattle.sqlite.specs.State.{State, HasCleanDisk, Survives}
 use Rattle.sqlite.specs.Tree.{Trees}
 use Rattle.office_rows.specs.Rows.{Interchange, Rows}
@@ -7,6 +7,7 @@ use Rattle.office_rows.specs.Stored.{HasRows, StoresRows}
 use Rattle.office_tables.specs.Faults.{IsOfStore}
 use Rattle.office_tables.specs.declared.table_fault.TableFault.{TableFault}
 use Rattle.office_parts.specs.LeftOver.{rows_without}
+use Rattle.office_lists.specs.OwnLists.{ListName, rows_without_lists}
 use Rattle.office_delivery.specs.Writing.{EndsIdle}
 use Rattle.office_closing.specs.Deleting.{with_visits_that}
 
@@ -23,6 +24,12 @@ pub record IsWithoutSomeVisits (stays : ℕ → Bool) (rows left : Rows) : Type 
   pub kept : ℕ → Bool
   pub only : (number : ℕ) → stays number ≡ true → kept number ≡ true
   pub is : left ≡ with_visits_that kept rows
+
+-- rows without the lines of some of the lists that go
+pub record IsWithoutSomeLists (goes : ListName → Bool) (rows left : Rows) : Type 0 where
+  pub deleted : ListName → Bool
+  pub only : (list : ListName) → deleted list ≡ true → goes list ≡ true
+  pub is : left ≡ rows_without_lists deleted rows
 
 -- ---- what is committed
 

@@ -1,15 +1,20 @@
 -- What a closing of a store does: what it closes, what is left, and what it leaves at a fault and by a crash.
-use Rattle.std.specs.Prelude.{◌≡◌, ◌⊎◌, ℕ, ◌+◌, ◌<◌, ◌≤◌, true, Bool, List, [], Contains, length, map, Result, IfErr, IsTrue, OnErr, OnOk}
-use Rattle.std.specs.List.{range_with_len}
+use Rattle.std.specs.Prelude.{◌≡◌, ◌⊎◌, ℕ, ◌+◌, ◌<◌, ◌≤◌, true, Bool, List, Contains, length, map, Result, IfErr, IsTrue, OnErr, OnOk}
+use Rattle.std.specs.List.{AllByRecursion, range_with_len}
+use Rattle.sqlite.specs.Effect.{Database}
 use Rattle.sqlite.specs.State.{State, Survives}
 use Rattle.sqlite.specs.Tree.{Trees}
 use Rattle.terminal_core.specs.Forms.{IsFormedVisit}
 use Rattle.terminal_core.specs.Rows.{VisitContent}
-use Rattle.terminal_core.specs.State.{AreNumbered}
+use Rattle.terminal_core.specs.State.{AreNumbered, TerminalState}
 use Rattle.office_rows.specs.Rows.{Interchange, Partner, Rows}
 use Rattle.office_rows.specs.Shown.{AreNexts}
 use Rattle.office_rows.specs.Stored.{HasRows, StoresRows}
+use Rattle.office_setup.specs.Setups.{SetupContent}
 use Rattle.office_history.specs.After.{AreKeptOnce}
+use Rattle.office_loading.specs.Tables.{LoadsOwn}
+use Rattle.office_done_lists.specs.Going.{GoesAs, IsAmong, MayGo}
+use Rattle.office_lists.specs.OwnLists.{ListName, rows_without_lists}
 use Rattle.office_parts.specs.Archives.{HoldsWhatGoes}
 use Rattle.office_parts.specs.LeftOver.{rows_without}
 use Rattle.office_parts.specs.OwnTerminal.{MayStay}
@@ -17,7 +22,8 @@ use Rattle.office_parts.specs.Parts.{Archived}
 use Rattle.office_tables.specs.Faults.{IsOfStore}
 use Rattle.office_register.specs.declared.register.Segment.{Segment}
 use Rattle.office_register.specs.Changes.{closed_with, marked_for, unmarked}
-use Rattle.office_register.specs.Register.{ArchiveContent, RegisterContent, archive_content, last_closed}
+use Rattle.office_register.specs.Lists.{SettledListContent, list_content}
+use Rattle.office_register.specs.Register.{ArchiveContent, RegisterContent, archive_content, closed_by, last_closed}
 use Rattle.office_register.specs.Sound.{IsSound}
 use Rattle.office_register.specs.Stored.{HasRegister, StoresRegister}
 use Rattle.office_register.specs.Transactions.{IsSettled}
@@ -26,7 +32,7 @@ use Rattle.office_closing.specs.declared.faults.CloseFault.TheVariants as fault
 use Rattle.office_closing.specs.declared.comparing.Numbers.{Numbers}
 use Rattle.office_closing.specs.declared.planning.Plan.{Plan}
 use Rattle.office_closing.specs.Copies.{FileNames, numbers_from, segments_of}
-use Rattle.office_closing.specs.Deleting.{all_but, with_visits_that, without_visits, goes}
+use Rattle.office_closing.specs.Deleting.{all_but, goes, is_one_of, with_visits_that, without_visits}
 use Rattle.office_closing.specs.Files.{Files, AreClean, AreIdle, AreRead, IsRead}
 use Rattle.office_closing.specs.Laws.{Raises}
 use Rattle.office_closing.specs.Refusing.{Tells}
@@ -61,12 +67,15 @@ pub record AreHeld (held : Held) (files : Files) : Type 0 where
 
 -- ---- what is closed
 
--- the numbers that are closed, the visits that go, the archive, and its segments
+-- the numbers that are closed, the visits that go, the archive, its segments, the lists that the register gets with it, and
+-- those of them that go
 pub record Closing : Type 0 where
   pub numbers : List Numbers
   pub visits : List ℕ
   pub archive : ArchiveContent
   pub segments : List Segment
+  pub lists : List SettledListContent
+  pub gone : List SettledListContent
 
 abbrev pub closing_content : Plan → Closing
 closing_content plan = record {
@@ -74,11 +83,13 @@ closing_content plan = record {
   visits = plan.visits.items;
   archive = archive_content plan.archive;
   segments = plan.segments.items;
+  lists = map list_content plan.lists.items;
+  gone = map list_content plan.gone.items;
 }
 
--- the store's register with the archive
+-- the store's register with the archive and the lists
 abbrev pub raised_register : Held → Closing → RegisterContent
-raised_register held closing = closed_with closing.archive closing.segments [] (unmarked held.copied)
+raised_register held closing = closed_with closing.archive closing.segments closing.lists (unmarked held.copied)
 
 -- the last numbers that were closed before, as the store's register says, and those that are closed then
 abbrev pub closed_before : Held → ℕ → ℕ
@@ -102,10 +113,30 @@ pub record ClosesAll (held : Held) (closing : Closing) : Type 0 where
   pub numbers : closing.numbers ≡ numbers_from (last_closed held.copied.segments) 1 nexts
   pub visits : AreToGo held.own.visits held.copy.visits closing.visits
 
+-- the rows open, beyond what is closed, as an office of this set-up
+pub record AreOfSetup (rows : Rows) (register : RegisterContent) (setup : SetupContent) : Type 0 where
+  pub db : Database
+  pub has : HasRows rows db
+  pub terminal : TerminalState
+  pub loads : LoadsOwn (closed_by register) db setup terminal
+
+-- Lists that go may go, and the register has the text of their lines, as put away with this archive. If it is to get the
+-- archive now, all lists go that may, and it gets no others.
+pub record PutsAway (held : Held) (closing : Closing) : Type 0 where
+  pub setup : SetupContent
+  pub is_setup : AreOfSetup held.own held.register setup
+  pub placed : AllByRecursion (λ (one : SettledListContent). one.archive ≡ closing.archive.place) closing.lists
+  pub has : (one : SettledListContent) → Contains closing.gone one → Contains closing.lists one
+  pub goes : (one : SettledListContent) → Contains closing.gone one → GoesAs setup held.own one
+  pub all : held.register ≡ unmarked held.copied → (list : ListName) → MayGo setup held.own list
+      → IsAmong closing.gone list
+  pub only : held.register ≡ unmarked held.copied → (one : SettledListContent) → Contains closing.lists one
+      → Contains closing.gone one
+
 -- The archive holds all that goes, and all of that may go: the numbers by which the last closed ones rise, of the archive's
 -- register and so of the store's, are below the next of their accounts; the visits are over, and the newest is none of
--- them. The store's register is sound with the archive, which comes after those that the archive's own register names, with a
--- segment for each account of which it closes numbers.
+-- them. Lists go as the register has them. The store's register is sound with the archive, which comes after those that the
+-- archive's own register names, with a segment for each account of which it closes numbers.
 pub record IsClosing (held : Held) (names : FileNames) (closing : Closing) : Type 0 where
   pub file : closing.archive.file ≡ names.archive
   pub place : closing.archive.place ≡ length held.copied.archives + 1
@@ -119,20 +150,24 @@ pub record IsClosing (held : Held) (names : FileNames) (closing : Closing) : Typ
   pub holds : (archived : Archived) → archived.last_closed ≡ closed_before held →
       HoldsWhatGoes archived held.own held.copy (closed_after held closing) (all_but closing.visits)
   pub may : MayStay (all_but closing.visits) held.own.visits
+  pub lists : PutsAway held closing
 
 -- ---- what is left
 
 -- the rows without all that goes
 abbrev pub cleared : Closing → Rows → Rows
-cleared closing rows = without_visits closing.visits (rows_without (goes closing.numbers) rows)
+cleared closing rows =
+    rows_without_lists (is_one_of closing.gone) (without_visits closing.visits (rows_without (goes closing.numbers) rows))
 
--- the rows without some interchanges and some visits of what goes
+-- the rows without some interchanges, some visits and the lines of some lists of what goes
 pub record IsLeft (closing : Closing) (rows left : Rows) : Type 0 where
   pub deleted : Interchange → Bool
   pub only : (i : Interchange) → deleted i ≡ true → goes closing.numbers i ≡ true
   pub kept : ℕ → Bool
   pub stay : (number : ℕ) → all_but closing.visits number ≡ true → kept number ≡ true
-  pub is : left ≡ with_visits_that kept (rows_without deleted rows)
+  pub away : ListName → Bool
+  pub lists : (list : ListName) → away list ≡ true → is_one_of closing.gone list ≡ true
+  pub is : left ≡ rows_without_lists away (with_visits_that kept (rows_without deleted rows))
 
 -- All that goes is gone from the store, its register has the archive, and the archive is marked for it. All is committed,
 -- and a crash leaves only that.

@@ -1,16 +1,20 @@
 -- Which archives are copies of a store, of an earlier day or of the same, and what they close.
-use Rattle.std.specs.Prelude.{◌≡◌, ◌≢◌, ℕ, ◌+◌, ◌-◌, ◌≤◌, ◌++◌, Bool, nat_lt, List, [], ◌∷◌, length, map, filter, Option, None, Some, IsTrue}
+use Rattle.std.specs.Prelude.{◌≡◌, ◌≢◌, ℕ, ◌+◌, ◌-◌, ◌≤◌, ◌==◌, ◌++◌, Bool, nat_lt, List, [], ◌∷◌, length, map, filter, None, Some, IsTrue}
 use Rattle.sqlite.specs.Effect.{Database}
 use Rattle.terminal_core.specs.State.{TerminalState, last_number}
 use Rattle.office_setup.specs.Limits.{most_partners}
 use Rattle.office_setup.specs.Setups.{SetupContent, setup_content}
-use Rattle.office_rows.specs.Rows.{Rows}
+use Rattle.office_rows.specs.ByKey.{AreListedOnce, lines_by}
+use Rattle.office_rows.specs.Rows.{ListingContent, Rows}
 use Rattle.office_rows.specs.Shown.{AreNexts}
 use Rattle.office_rows.specs.Stored.{HasRows}
 use Rattle.office_rows.specs.Tables.{office_schema}
 use Rattle.office_loading.specs.Tables.{LoadsOwn}
+use Rattle.office_done_lists.specs.Going.{AreDone}
+use Rattle.office_lists.specs.OwnLists.{ListName}
 use Rattle.office_register.specs.declared.register.Segment.{Segment}
 use Rattle.office_register.specs.Changes.{closed_with, unmarked}
+use Rattle.office_register.specs.Lists.{SettledListContent}
 use Rattle.office_register.specs.Register.{ArchiveContent, RegisterContent, register_content, last_closed, closed_by}
 use Rattle.office_register.specs.Sound.{is_sound, is_file_name, IsSound}
 use Rattle.office_register.specs.Stored.{HasRegister}
@@ -77,11 +81,30 @@ archive_in file copy = record {
   visits = last_number copy.terminal.visits;
 }
 
--- the store's register with this archive
-abbrev pub raised_by : List ℕ → OfficeContent → RegisterContent
-raised_by file copy =
-    closed_with (archive_in file copy) (segments_of (archive_in file copy).place (numbers_of copy)) []
+-- the store's register with this archive, and the lists that are put away with it
+abbrev pub raised_by : List ℕ → List SettledListContent → OfficeContent → RegisterContent
+raised_by file lists copy =
+    closed_with (archive_in file copy) (segments_of (archive_in file copy).place (numbers_of copy)) lists
     (unmarked copy.register)
+
+-- ---- lists
+
+-- the lists of this terminal that are done and not among those named, each as put away with that archive
+pub record AreDoneIn (terminal : TerminalState) (named : List ListName) (archive : ℕ) (found : List SettledListContent)
+    : Type 0 where
+  pub lines : List ListingContent
+  pub once : AreListedOnce lines
+  pub by_key : lines_by lines ≡ terminal.lines
+  pub are : AreDone lines named archive found
+
+abbrev pub is_put_away_with : ℕ → SettledListContent → Bool
+is_put_away_with archive list = list.archive == archive
+
+-- the lists that are put away with an archive: those that are done, or those that the store's register has with it already
+abbrev pub lists_at : OfficeContent → (archive : ℕ) → (done : List SettledListContent) → Stage → List SettledListContent
+lists_at own archive done stage.New = done
+lists_at own archive done stage.Marked = done
+lists_at own archive done stage.Raised = filter (is_put_away_with archive) own.register.lists
 
 -- ---- copies
 
@@ -113,17 +136,17 @@ pub record IsNoLater (own copy : OfficeContent) : Type 0 where
 
 -- how far the closing has come, as the registers tell: nothing was done; the archive is marked for the store; the store's
 -- register has the archive
-abbrev pub HasCome : OfficeContent → OfficeContent → FileNames → Stage → Type 0
-HasCome own copy names stage.New =
+abbrev pub HasCome : OfficeContent → OfficeContent → FileNames → List SettledListContent → Stage → Type 0
+HasCome own copy names lists stage.New =
     (unmarked copy.register ≡ own.register) × (copy.register.closed_for ≡ None)
-HasCome own copy names stage.Marked =
+HasCome own copy names lists stage.Marked =
     (unmarked copy.register ≡ own.register) × (copy.register.closed_for ≡ Some names.store)
-HasCome own copy names stage.Raised =
-    (raised_by names.archive copy ≡ own.register) × (copy.register.closed_for ≡ Some names.store)
+HasCome own copy names lists stage.Raised =
+    (raised_by names.archive lists copy ≡ own.register) × (copy.register.closed_for ≡ Some names.store)
 
--- the store's register may have the archive, and the archive's be marked
-pub record MayBeRaised (copy : OfficeContent) (names : FileNames) : Type 0 where
-  pub raised : IsTrue (is_sound (raised_by names.archive copy))
+-- the store's register may have the archive and these lists, and the archive's be marked
+pub record MayBeRaised (copy : OfficeContent) (names : FileNames) (lists : List SettledListContent) : Type 0 where
+  pub raised : IsTrue (is_sound (raised_by names.archive lists copy))
   pub mark : IsTrue (is_file_name names.store)
 
 -- the archive is of the store's terminal and of no later day, and the store no archive itself
@@ -132,17 +155,31 @@ pub record IsOfStore (own copy : OfficeContent) : Type 0 where
   pub office : IsSameOffice own copy
   pub no_later : IsNoLater own copy
 
+-- the closing has come so far, with these lists, and may go on
+pub record ComesOn (own copy : OfficeContent) (names : FileNames) (lists : List SettledListContent) (come : Stage)
+    : Type 0 where
+  pub has_come : HasCome own copy names lists come
+  pub may : MayBeRaised copy names lists
+
 -- the archive is a copy of the store, and the closing has come so far
-pub record IsCopy (own copy : OfficeContent) (names : FileNames) (come : Stage) : Type 0 where
+pub record IsCopy (own copy : OfficeContent) (names : FileNames) (lists : List SettledListContent) (come : Stage)
+    : Type 0 where
   pub of_store : IsOfStore own copy
-  pub has_come : HasCome own copy names come
-  pub may : MayBeRaised copy names
+  pub comes : ComesOn own copy names lists come
+
+-- With the lists that are done, of those that are not named, a closing has come to no stage from which it may go on.
+pub record ComesToNone (own copy : OfficeContent) (names : FileNames) : Type 0 where
+  pub named : List ListName
+  pub done : List SettledListContent
+  pub are_done : AreDoneIn own.terminal named (archive_in names.archive copy).place done
+  pub none : (come : Stage) →
+      ¬ ComesOn own copy names (lists_at own (archive_in names.archive copy).place done come) come
 
 -- why the archive does not take the store's history; a number that it keeps otherwise is found in rows
 abbrev pub IsReason : OfficeContent → OfficeContent → FileNames → Refusal → Type 0
 IsReason own copy names refusal.Closed = own.register.closed_for ≢ None
 IsReason own copy names refusal.Office = ¬ IsSameOffice own copy
 IsReason own copy names refusal.Later = ¬ IsNoLater own copy
-IsReason own copy names refusal.Register = (come : Stage) → ¬ (HasCome own copy names come × MayBeRaised copy names)
+IsReason own copy names refusal.Register = ComesToNone own copy names
 IsReason own copy names (refusal.Visit number) = IsCauseOf own.terminal.visits copy.terminal.visits (Differs number)
 IsReason own copy names (refusal.Interchange difference) = ⊥

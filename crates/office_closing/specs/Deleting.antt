@@ -5,6 +5,10 @@ use Rattle.sqlite.specs.State.{State, HasCleanDisk, KeepsCommit, Survives}
 use Rattle.office_rows.specs.Effects.{is_pair}
 use Rattle.office_rows.specs.Rows.{Interchange, Rows}
 use Rattle.office_rows.specs.Stored.{HasRows}
+use Rattle.office_done_lists.specs.Going.{name_of}
+use Rattle.office_lists.specs.Bringing.{is_list}
+use Rattle.office_lists.specs.OwnLists.{ListName}
+use Rattle.office_register.specs.Lists.{SettledListContent}
 use Rattle.office_tables.specs.Faults.{IsOfStore}
 use Rattle.office_tables.specs.declared.table_fault.TableFault.{TableFault}
 use Rattle.office_parts.specs.LeftOver.{rows_without}
@@ -24,6 +28,12 @@ is_among closing partner number = list_any (is_of partner number) closing
 -- the interchange has such a number
 abbrev pub goes : List Numbers → Interchange → Bool
 goes closing i = is_among closing i.partner i.number
+
+-- ---- which lists go
+
+-- the name is that of one of these lists
+abbrev pub is_one_of : List SettledListContent → ListName → Bool
+is_one_of lists list = list_any (λ (one : SettledListContent). is_list (name_of one) list) lists
 
 -- ---- what the calls that delete make of the rows
 

@@ -1,23 +1,44 @@
 -- What a closing is to do, as the opened offices and their registers tell.
-use Rattle.std.specs.Prelude.{◌≡◌, ◌≢◌, ℕ, Bool, true, Option, None, Some, List}
+use Rattle.std.specs.Prelude.{◌≡◌, ◌≢◌, ◌↔◌, ℕ, Bool, true, Option, None, Some, List, Contains, filter, map}
+use Rattle.office_lists.specs.OwnLists.{ListName}
+use Rattle.office_register.specs.Changes.{unmarked}
+use Rattle.office_register.specs.Lists.{SettledListContent, list_content}
 use Rattle.office_register.specs.Register.{archive_content}
 use Rattle.office_closing.specs.declared.faults.CloseFault.{CloseFault}
 use Rattle.office_closing.specs.declared.faults.CloseFault.TheVariants as fault
+use Rattle.office_closing.specs.declared.faults.Refusal.TheVariants as refusal
 use Rattle.office_closing.specs.declared.planning.Mark.{Mark}
 use Rattle.office_closing.specs.declared.planning.Mark.TheVariants as mark
 use Rattle.office_closing.specs.declared.planning.Plan.{Plan}
 use Rattle.office_closing.specs.declared.planning.Stage.{Stage}
 use Rattle.office_closing.specs.declared.planning.Stage.TheVariants as stage
-use Rattle.office_closing.specs.Copies.{OfficeContent, FileNames, IsCopy, IsReason, archive_in, numbers_of, segments_of}
+use Rattle.office_closing.specs.Copies.{AreDoneIn, ComesOn, FileNames, IsCopy, IsReason, OfficeContent, archive_in, is_put_away_with, lists_at, numbers_of, segments_of}
 use Rattle.office_closing.specs.Visits.{AreToGo}
 
--- the archive is a copy, and this is what it closes and which visits go
-pub record IsPlan (own copy : OfficeContent) (names : FileNames) (plan : Plan) : Type 0 where
-  pub is_copy : IsCopy own copy names plan.stage
+-- these are the lists that are done, if the registers name the same archives, and else those that the store's has with this one
+pub record AreFor (own copy : OfficeContent) (archive : ℕ) (done lists : List SettledListContent) : Type 0 where
+  pub same : unmarked copy.register ≡ unmarked own.register → lists ≡ done
+  pub other : unmarked copy.register ≢ unmarked own.register
+      → lists ≡ filter (is_put_away_with archive) own.register.lists
+
+-- these are what both have
+abbrev pub AreInBoth : (ones others both : List SettledListContent) → Type 0
+AreInBoth ones others both =
+    (list : SettledListContent) → Contains both list ↔ (Contains ones list × Contains others list)
+
+-- The archive is a copy, and this is what it closes, which visits go and which lists: those that are done, if the register has
+-- them so.
+pub record IsPlan (own copy : OfficeContent) (names : FileNames) (named : List ListName) (plan : Plan) : Type 0 where
+  pub is_copy : IsCopy own copy names (map list_content plan.lists.items) plan.stage
   pub numbers : plan.numbers.items ≡ numbers_of copy
   pub archive : archive_content plan.archive ≡ archive_in names.archive copy
   pub segments : plan.segments.items ≡ segments_of (archive_in names.archive copy).place (numbers_of copy)
   pub visits : AreToGo own.terminal.visits copy.terminal.visits plan.visits.items
+  pub done : List SettledListContent
+  pub are_done : AreDoneIn own.terminal named (archive_in names.archive copy).place done
+  pub lists : map list_content plan.lists.items
+      ≡ lists_at own (archive_in names.archive copy).place done plan.stage
+  pub gone : AreInBoth done (map list_content plan.lists.items) (map list_content plan.gone.items)
 
 -- there is a reason to refuse the archive; or memory was refused
 abbrev pub IsRefused : OfficeContent → OfficeContent → FileNames → CloseFault → Type 0
@@ -25,6 +46,15 @@ IsRefused own copy names (fault.Archive why) = IsReason own copy names why
 IsRefused own copy names fault.Memory = Unit {0}
 IsRefused own copy names (fault.File of) = ⊥
 IsRefused own copy names (fault.Comparing of) = ⊥
+
+-- the closing has come to no stage with these lists that are done; or memory was refused
+abbrev pub IsRefusedWith : (own copy : OfficeContent) → FileNames → (done : List SettledListContent) → CloseFault → Type 0
+IsRefusedWith own copy names done (fault.Archive refusal.Register) =
+    (come : Stage) → ¬ ComesOn own copy names (lists_at own (archive_in names.archive copy).place done come) come
+IsRefusedWith own copy names done (fault.Archive why) = ⊥
+IsRefusedWith own copy names done fault.Memory = Unit {0}
+IsRefusedWith own copy names done (fault.File of) = ⊥
+IsRefusedWith own copy names done (fault.Comparing of) = ⊥
 
 -- whether a register is marked, and for this store
 abbrev pub IsMarkedAs : Option (List ℕ) → List ℕ → Mark → Type 0

@@ -1,7 +1,6 @@
 -- The steps of a closing that change a register, each only if it is due.
 use Rattle.std.specs.Prelude.{◌≡◌, Bool, true, false, Result, IfErr, IsTrue, OnErr, OnOk}
 use Rattle.sqlite.specs.State.{State, HasCleanDisk, Survives}
-use Rattle.sqlite.specs.Tree.{Trees}
 use Rattle.office_tables.specs.Faults.{IsOfStore}
 use Rattle.office_register.specs.Register.{RegisterContent}
 use Rattle.office_register.specs.Transactions.{Becomes, HasBecome}

@@ -1,14 +1,18 @@
-ghost use Rattle.std.specs.Prelude.{◌≡◌, ◌<◌, ◌≤◌, [], ◌∷◌, false, true, OnOk, OnErr, IfErr, IsTrue};
-ghost use Rattle.office_closing.specs.Clearing.{Clears, IsWithoutSome, IsWithoutSomeVisits};
+ghost use Rattle.std.specs.Prelude.{◌≡◌, ◌<◌, ◌≤◌, [], ◌∷◌, false, map, true, OnOk, OnErr, IfErr, IsTrue};
+ghost use Rattle.edi_messages.specs.Owned.{call_content};
+ghost use Rattle.office_closing.specs.Clearing.{Clears, IsWithoutSome, IsWithoutSomeLists, IsWithoutSomeVisits};
 ghost use Rattle.office_closing.specs.Closes.{Closes, IsLeft, cleared, closing_content};
-ghost use Rattle.office_closing.specs.Deleting.{Deletes, all_but, goes, without_interchange, without_visits};
+ghost use Rattle.office_closing.specs.Deleting.{Deletes, all_but, goes, is_one_of, without_interchange, without_visits};
 ghost use Rattle.office_closing.specs.Files.{AreIdle, files};
 ghost use Rattle.office_closing.specs.Judging.{AreResting};
 ghost use Rattle.office_closing.specs.Steps.{StepsIf, is_unmarked, is_unraised};
 ghost use Rattle.office_closing.specs.declared.faults.CloseFault.TheVariants as close_fault;
 ghost use Rattle.office_delivery.specs.Writing.{IsUndone};
+ghost use Rattle.office_lists.specs.Bringing.{is_list};
+ghost use Rattle.office_lists.specs.OwnLists.{list_name, rows_without_lists};
 ghost use Rattle.office_parts.specs.LeftOver.{rows_without};
 ghost use Rattle.office_register.specs.Changes.{closed_with, marked_for, unchanged, unmarked};
+ghost use Rattle.office_register.specs.Lists.{list_content};
 ghost use Rattle.office_register.specs.Register.{archive_content};
 ghost use Rattle.office_tables.specs.Faults.{IsOfStore};
 ghost use Rattle.sqlite.specs.Held.{state};
@@ -18,10 +22,12 @@ use crate::comparing::Numbers;
 use crate::faults::{CloseFault, File, FileFault};
 use crate::judging::judge;
 use crate::planning::{Plan, Stage, is_unmarked, is_unraised};
-use office_register::{Archive, Segment, close_with, mark};
+use edi_messages::Call;
+use office_register::{Archive, Segment, SettledList, characters, close_with, mark, side_code};
 use office_tables::{TableFault, integer};
 use sqlite::{Alter, Connection, Transaction};
 use std::alloc::Global;
+use terminal_core::Side;
 
 /// Puts history of a store away: what an archive, a copy of the store of an earlier day, keeps as the store does goes from
 /// the store. The archive is marked for the store first, then the store's register has the archive, and then rows go.
@@ -117,28 +123,29 @@ fn mark_now<S: Alter>(conn: &mut Connection<S>, store_file: &str) -> Result<(), 
 fn raise<S: Alter>(conn: &mut Connection<S>, plan: &Plan) -> Result<(), CloseFault>
     requires { (state S.Store conn.old).in_transaction ≡ false }
     ensures steps { StepsIf (is_unraised plan.now.stage) unchanged
-        (closed_with (archive_content plan.now.archive) plan.now.segments.items []) (state S.Store conn.old)
+        (closed_with (archive_content plan.now.archive) plan.now.segments.items (map list_content plan.now.lists.items)) (state S.Store conn.old)
         (state S.Store conn.new) result }
 {
     let is_due = is_unraised(plan.stage);
     if is_due {
-        raise_now(conn, &plan.archive, &plan.segments)
+        raise_now(conn, &plan.archive, &plan.segments, &plan.lists)
     } else {
         Ok(())
     }
 }
 
-/// Gives the store's register an archive with its segments.
+/// Gives the store's register an archive with its segments and lists.
 fn raise_now<S: Alter>(
     conn: &mut Connection<S>,
     archive: &Archive,
     segments: &[Segment],
+    lists: &[SettledList],
 ) -> Result<(), CloseFault>
     requires { (state S.Store conn.old).in_transaction ≡ false }
-    ensures steps { StepsIf true unchanged (closed_with (archive_content archive.now) segments.now [])
+    ensures steps { StepsIf true unchanged (closed_with (archive_content archive.now) segments.now (map list_content lists.now))
         (state S.Store conn.old) (state S.Store conn.new) result }
 {
-    match close_with(conn, archive, segments, &[]) {
+    match close_with(conn, archive, segments, lists) {
         Ok(()) => Ok(()),
         Err(fault) => Err(not_written(File::Register, fault)),
     }
@@ -151,7 +158,8 @@ fn clear_all<S: Alter>(conn: &mut Connection<S>, plan: &Plan) -> Result<(), Tabl
         (state S.Store conn.old) (state S.Store conn.new) result }
 {
     clear(conn, &plan.numbers)?;
-    clear_visits(conn, &plan.visits)
+    clear_visits(conn, &plan.visits)?;
+    clear_lists(conn, &plan.gone)
 }
 
 /// The most rows that one transaction deletes.
@@ -276,6 +284,39 @@ fn delete_visits<S: Alter>(tx: &mut Transaction<'_, S>, visits: &[u32]) -> Resul
     Ok(())
 }
 
+/// Deletes the lines of these lists, those of each in a transaction. What was deleted stays so if it fails, and it may be called
+/// again.
+pub fn clear_lists<S: Alter>(
+    conn: &mut Connection<S>,
+    lists: &[SettledList],
+) -> Result<(), TableFault>
+    requires idle { (state S.Store conn.old).in_transaction ≡ false }
+    ensures clears { Clears (rows_without_lists (is_one_of (map list_content lists.now)))
+        (IsWithoutSomeLists (is_one_of (map list_content lists.now))) (state S.Store conn.old) (state S.Store conn.new)
+        result }
+{
+    let is_idle = conn.is_autocommit();
+    prove!(is_idle);
+    for list in lists {
+        clear_list(conn, list)?;
+    }
+    Ok(())
+}
+
+/// Deletes the lines of a list in one transaction, wholly or not at all.
+fn clear_list<S: Alter>(conn: &mut Connection<S>, list: &SettledList) -> Result<(), TableFault>
+    requires idle { (state S.Store conn.old).in_transaction ≡ false }
+    ensures clears { Clears (rows_without_lists (is_one_of (list_content list.now ∷ [])))
+        (IsWithoutSomeLists (is_one_of (list_content list.now ∷ []))) (state S.Store conn.old) (state S.Store conn.new)
+        result }
+{
+    let is_idle = conn.is_autocommit();
+    prove!(is_idle);
+    let mut tx = conn.transaction();
+    delete_list(&mut tx, &list.call, list.side)?;
+    commit(tx)
+}
+
 /// Commits what a transaction deleted, or nothing of it.
 fn commit<S: Alter>(tx: Transaction<'_, S>) -> Result<(), TableFault>
     ensures ended { (state S.Store tx.exit.0.now).in_transaction ≡ false }
@@ -308,6 +349,27 @@ pub fn delete_interchange<S: Alter>(
     tx.execute(
         "DELETE FROM interchange WHERE partner = ?1 AND number = ?2",
         &[integer(u32::from(partner)), integer(number)],
+    )?;
+    Ok(())
+}
+
+/// Removes the rows of the lines of a call's list.
+pub fn delete_list<S: Alter>(
+    tx: &mut Transaction<'_, S>,
+    call: &Call,
+    side: Side,
+) -> Result<(), TableFault>
+    ensures same_reference { tx.new.conn.ghost_name ≡ tx.old.conn.ghost_name }
+    ensures deletes { Deletes (rows_without_lists (is_list (list_name (call_content call.now) side)))
+        (state S.Store tx.old.conn.now) (state S.Store tx.new.conn.now) result }
+{
+    tx.execute(
+        "DELETE FROM listed WHERE vessel = ?1 AND voyage = ?2 AND side = ?3",
+        &[
+            characters(call.vessel.as_str()),
+            characters(call.voyage.as_str()),
+            integer(side_code(side)),
+        ],
     )?;
     Ok(())
 }

@@ -1,4 +1,4 @@
-ghost use Rattle.std.specs.Prelude.{◌≡◌, IfErr, IfOk, None, OnOk, IsTrue};
+ghost use Rattle.std.specs.Prelude.{◌≡◌, IfErr, IfOk, None, OnOk, IsTrue, map};
 ghost use Rattle.office_checks.specs.Closed.{closed_content};
 ghost use Rattle.office_closing.specs.Closes.{AreHeld, Held};
 ghost use Rattle.office_closing.specs.Comparing.{IsComparedAs};
@@ -6,7 +6,9 @@ ghost use Rattle.office_closing.specs.Copies.{IsOpened, office_content};
 ghost use Rattle.office_closing.specs.Files.{AreClean, AreRead, IsRead, IsReadIfOpen, files};
 ghost use Rattle.office_closing.specs.Judging.{IsComparedIf, IsJudged};
 ghost use Rattle.office_closing.specs.Refusing.{IsOfComparing, IsOfFile, Tells};
+ghost use Rattle.office_done_lists.specs.Waiting.{AreWaitedFor, HaveNexts};
 ghost use Rattle.office_history.specs.After.{AreKeptOnce};
+ghost use Rattle.office_lists.specs.Named.{named_list_content};
 ghost use Rattle.office_loading.specs.Tables.{LoadsOwn};
 ghost use Rattle.office_register.specs.Register.{RegisterContent, register_content};
 ghost use Rattle.office_register.specs.Sound.{IsSound, is_sound};
@@ -23,9 +25,12 @@ use crate::comparing::{Numbers, compare};
 use crate::faults::{CloseFault, File, FileFault, Refusal};
 use crate::planning::{Opened, Plan, is_unraised, make_plan};
 use office_checks::Closed;
+use office_done_lists::lists_waited_for;
+use office_lists::NamedList;
 use office_loading::{load_own, nexts};
 use office_register::{Register, read_register};
-use office_setup::Setup;
+use office_setup::{MOST_PARTNERS, Setup};
+use office_tables::TableFault;
 use sqlite::{Alter, Connection};
 use std::alloc::Global;
 use terminal_core::Terminal;
@@ -60,7 +65,8 @@ pub(crate) fn judge<S: Alter, R: Alter, A: Alter, M: Alter>(
         File::Archive,
         File::ArchiveRegister,
     )?;
-    let plan = make_plan(alloc, &own, copy, store_file, archive_file)?;
+    let named = waited_for(alloc, store, &own)?;
+    let plan = make_plan(alloc, &own, copy, &named, store_file, archive_file)?;
     compare_all(store, archive, &plan)?;
     Ok(plan)
 }
@@ -144,6 +150,35 @@ fn nexts_of<S: Alter>(
         Ok(found) => Ok(found),
         Err(fault) => Err(CloseFault::File(FileFault { file, fault })),
     }
+}
+
+/// The lists that texts name which wait in the store.
+fn waited_for<S: Alter>(
+    alloc: Global,
+    conn: &mut Connection<S>,
+    own: &Opened,
+) -> Result<Vec<NamedList>, CloseFault>
+    ensures named { HasCleanDisk (state S.Store conn.new) → IfOk result (λ lists. (rows : Rows) →
+        HasRows rows (state S.Store conn.old).now → HaveNexts rows own.now.nexts.items →
+        AreWaitedFor (setup_content own.now.setup) rows (map named_list_content lists.items)) }
+    ensures fault { IfErr result IsOfFile }
+    ensures read { IsReadIfOpen (state S.Store conn.old) (state S.Store conn.new) result }
+{
+    if own.setup.partners.as_slice().len() > MOST_PARTNERS || own.nexts.len() > MOST_PARTNERS {
+        return Err(of_store(TableFault::Damaged));
+    }
+    match lists_waited_for(alloc, conn, &own.setup, &own.nexts) {
+        Ok(lists) => Ok(lists),
+        Err(fault) => Err(of_store(fault)),
+    }
+}
+
+/// A fault of the store's.
+fn of_store(fault: TableFault) -> CloseFault
+    ensures { IsOfFile result }
+{
+    let file = File::Store;
+    CloseFault::File(FileFault { file, fault })
 }
 
 /// That the archive keeps, under each number that this call closes, what the store keeps.

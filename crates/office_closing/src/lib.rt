@@ -6,10 +6,13 @@ mod comparing;
 mod faults;
 mod judging;
 pub mod laws;
+mod lists;
 mod planning;
 mod visits;
 
-pub use closing::{clear, clear_visits, close, delete_interchange, delete_visit};
+pub use closing::{
+    clear, clear_lists, clear_visits, close, delete_interchange, delete_list, delete_visit,
+};
 pub use comparing::{Difference, Numbers, compare};
 pub use faults::{CloseFault, File, FileFault, Refusal};
 pub use visits::{VisitFault, visits_to_go};

@@ -1,11 +1,13 @@
 ghost use Rattle.std.specs.Option.{option_map};
-ghost use Rattle.std.specs.Prelude.{◌≡◌, ◌↔◌, ◌≤◌, ◌++◌, ◌∷◌, [], true, IfOk, IfErr, IsTrue, MatchOption, OnOk, length, string_bytes};
+ghost use Rattle.std.specs.Prelude.{◌≡◌, ◌↔◌, ◌≤◌, ◌++◌, ◌∷◌, [], true, IfOk, IfErr, IsTrue, MatchOption, OnOk, length, map, string_bytes};
 ghost use Rattle.office_checks.specs.Closed.{last_closed};
-ghost use Rattle.office_closing.specs.Copies.{AreAtMost, AreFirst, FileNames, HasCome, IsNoLater, IsOfStore, IsReason, IsSameOffice, MayBeRaised, archive_in, numbers_from, numbers_of, office_content, segments_of};
-ghost use Rattle.office_closing.specs.Planning.{IsMarkedAs, IsPlan, IsRefused, IsToldBy};
+ghost use Rattle.office_closing.specs.Copies.{AreAtMost, AreDoneIn, AreFirst, ComesOn, ComesToNone, FileNames, IsNoLater, IsOfStore, IsReason, IsSameOffice, archive_in, lists_at, numbers_from, numbers_of, office_content, segments_of};
+ghost use Rattle.office_closing.specs.Planning.{AreFor, IsMarkedAs, IsPlan, IsRefused, IsRefusedWith, IsToldBy};
 ghost use Rattle.office_closing.specs.Steps.{is_unmarked, is_unraised};
 ghost use Rattle.office_closing.specs.Visits.{AreToGo};
 ghost use Rattle.office_closing.specs.declared.planning.Stage.{Stage};
+ghost use Rattle.office_lists.specs.Named.{named_list_content};
+ghost use Rattle.office_register.specs.Lists.{list_content};
 ghost use Rattle.office_register.specs.Register.{archive_content, register_content};
 ghost use Rattle.office_register.specs.Sound as sound;
 ghost use Rattle.office_setup.specs.Accounts.{account_contents};
@@ -13,9 +15,12 @@ ghost use Rattle.office_setup.specs.Limits.{most_partners};
 
 use crate::comparing::Numbers;
 use crate::faults::{CloseFault, Refusal};
+use crate::lists::{lists_in_both, lists_to_register};
 use crate::visits::{VisitFault, newest_number, visits_to_go};
 use office_checks::Closed;
-use office_register::{Archive, Register, Segment, is_file_name, is_sound};
+use office_done_lists::done_lists;
+use office_lists::NamedList;
+use office_register::{Archive, Register, Segment, SettledList, is_file_name, is_sound};
 use office_setup::{Account, MOST_PARTNERS, Setup};
 use std::alloc::{AllocError, Global};
 use terminal_core::Terminal;
@@ -88,21 +93,26 @@ pub(crate) struct Plan {
     pub archive: Archive,
     /// Its segments.
     pub segments: Vec<Segment>,
+    /// The lists that the store's register has with it.
+    pub lists: Vec<SettledList>,
+    /// Those of them that go.
+    pub gone: Vec<SettledList>,
     /// How far it has come.
     pub stage: Stage,
 }
 
-/// What is to be closed by an archive, if it is a copy of the store.
+/// What is to be closed by an archive, if it is a copy of the store. The lists that are named stay.
 pub(crate) fn make_plan(
     alloc: Global,
     own: &Opened,
     copy: Opened,
+    named: &[NamedList],
     store_file: &str,
     archive_file: &str,
 ) -> Result<Plan, CloseFault>
     requires { IsTrue (sound.is_sound (register_content copy.register)) }
     ensures ok { IfOk result (IsPlan (office_content own.now) (office_content copy)
-        (record { store = store_file.now; archive = archive_file.now })) }
+        (record { store = store_file.now; archive = archive_file.now }) (map named_list_content named.now)) }
     ensures err { IfErr result (IsRefused (office_content own.now) (office_content copy)
         (record { store = store_file.now; archive = archive_file.now })) }
 {
@@ -112,12 +122,17 @@ pub(crate) fn make_plan(
     let numbers = numbers_to_close(alloc, &closed, &copy.nexts)?;
     let archive = archive_in(alloc, &copy, archive_file)?;
     let segments = segments_of(alloc, archive.place, &numbers)?;
-    let stage = stage_of(alloc, own, copy, &archive, &segments, store_file)?;
+    let done = done_lists(alloc, own.terminal.lines(), named, archive.place)?;
+    let lists = lists_to_register(alloc, own, &copy, &done, archive.place)?;
+    let stage = stage_of(alloc, own, copy, &archive, &segments, &lists, store_file)?;
+    let gone = lists_in_both(alloc, &done, &lists)?;
     Ok(Plan {
         numbers,
         visits,
         archive,
         segments,
+        lists,
+        gone,
         stage,
     })
 }
@@ -229,7 +244,7 @@ fn numbers_to_close(
 }
 
 /// One more at the end.
-fn append<T: Drop>(all: &mut Vec<T>, one: T) -> Result<(), AllocError>
+pub(crate) fn append<T: Drop>(all: &mut Vec<T>, one: T) -> Result<(), AllocError>
     ensures { OnOk result (all.new.items ≡ all.old.items ++ one ∷ []) }
 {
     all.push(one)?;
@@ -276,6 +291,7 @@ fn stage_of(
     copy: Opened,
     archive: &Archive,
     segments: &[Segment],
+    lists: &[SettledList],
     store_file: &str,
 ) -> Result<Stage, CloseFault>
     requires unclosed { option_map string_bytes own.now.register.closed_for ≡ None }
@@ -283,15 +299,15 @@ fn stage_of(
     requires segments { segments.now ≡ segments_of (archive_content archive.now).place (numbers_of (office_content copy)) }
     ensures ok { IfOk result (λ stage. (names : FileNames) → names.store ≡ store_file.now →
         names.archive ≡ (archive_content archive.now).file →
-        HasCome (office_content own.now) (office_content copy) names stage
-        × MayBeRaised (office_content copy) names) }
-    ensures err { IfErr result (λ fault. (names : FileNames) → names.store ≡ store_file.now →
+        ComesOn (office_content own.now) (office_content copy) names (map list_content lists.now) stage) }
+    ensures err { IfErr result (λ fault. (names : FileNames) (done : _) → names.store ≡ store_file.now →
         names.archive ≡ (archive_content archive.now).file →
-        IsRefused (office_content own.now) (office_content copy) names fault) }
+        AreFor (office_content own.now) (office_content copy) archive.now.place done (map list_content lists.now) →
+        IsRefusedWith (office_content own.now) (office_content copy) names done fault) }
 {
     let is_same = copy.register.tells_same(&own.register);
     let mark = mark_of(&copy.register.closed_for, store_file);
-    let raised = copy.register.with_closing(alloc, archive, segments, &[])?;
+    let raised = copy.register.with_closing(alloc, archive, segments, lists)?;
     let may = is_sound(alloc, &raised)? && is_file_name(store_file.as_bytes());
     let has_archive = raised.tells_same(&own.register);
     match come_so_far(is_same, has_archive, mark) {

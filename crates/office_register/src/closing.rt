@@ -204,7 +204,7 @@ fn insert_mark<S: Alter>(tx: &mut Transaction<'_, S>, file: &str) -> Result<(), 
 }
 
 /// A text as SQL has it.
-fn characters<'a>(text: &'a str) -> ValueRef<'a>
+pub fn characters<'a>(text: &'a str) -> ValueRef<'a>
     ensures { owned result ≡ Text text.now }
 {
     ValueRef::Text(text.as_bytes())

@@ -22,7 +22,7 @@ pub struct SettledList {
 }
 
 /// Which of a call's lists, as a row has it.
-pub(crate) fn side_code(side: Side) -> u32
+pub fn side_code(side: Side) -> u32
     ensures { result ≡ side_code side }
 {
     match side {
@@ -61,13 +61,13 @@ pub(crate) fn put_lists(
         ≡ put_lists (map list_content more.now) (map list_content lists.old.items)) }
 {
     for list in more {
-        put_list(lists, copy_of(alloc, list)?)?;
+        put_list(lists, copied_list(alloc, list)?)?;
     }
     Ok(())
 }
 
-/// An equal one.
-fn copy_of(alloc: Global, list: &SettledList) -> Result<SettledList, AllocError>
+/// An equal list.
+pub fn copied_list(alloc: Global, list: &SettledList) -> Result<SettledList, AllocError>
     ensures { IfOk result (λ copy. list_content copy ≡ list_content list.now) }
 {
     let vessel = String::from_str(alloc, list.call.vessel.as_str())?;
@@ -120,7 +120,8 @@ pub(crate) fn are_same_lists(one: &[SettledList], other: &[SettledList]) -> bool
     true
 }
 
-fn is_same_list(one: &SettledList, other: &SettledList) -> bool
+/// Whether two lists say the same.
+pub fn is_same_list(one: &SettledList, other: &SettledList) -> bool
     ensures { (result ≡ true) ↔ (list_content one.now ≡ list_content other.now) }
 {
     one.call.vessel.as_bytes() == other.call.vessel.as_bytes()

@@ -1,7 +1,6 @@
 use Rattle.std.proofs.Common.{◌+◌, [], not, take, drop, ap, sym, refl, ◌∙◌}
 use Rattle.std.proofs.lemmas.List.{take_more, take-append-drop}
 use Rattle.std.proofs.lemmas.Result.{err_from_is_err_and}
-use Rattle.sqlite.specs.Held.{state}
 use Rattle.office_parts.specs.LeftOver.{rows_without}
 use Rattle.office_closing.specs.Clearing.{IsWithoutSome}
 use Rattle.office_closing.specs.Deleting.{goes}

@@ -1,4 +1,4 @@
-use Rattle.std.proofs.Common.{◌≡◌, Ok, take}
+use Rattle.std.proofs.Common.{Ok, take}
 use Rattle.sqlite.specs.Held.{state}
 use Rattle.office_parts.specs.LeftOver.{rows_without}
 use Rattle.office_closing.specs.Clearing.{Clears, IsWithoutSome}

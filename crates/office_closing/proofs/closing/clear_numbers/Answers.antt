@@ -1,6 +1,5 @@
-use Rattle.std.proofs.Common.{◌≡◌, ◌<◌, ◌≤◌, inl, inr, [], ◌∷◌, Ok, not, ap, refl, ◌∙◌, arith}
+use Rattle.std.proofs.Common.{inl, inr, [], ◌∷◌, not, ap, refl, ◌∙◌, arith}
 use Rattle.std.proofs.lemmas.Result.{err_from_is_err_and}
-use Rattle.sqlite.specs.Held.{state}
 use Rattle.office_parts.specs.LeftOver.{rows_without}
 use Rattle.office_closing.specs.Clearing.{IsWithoutSome}
 use Rattle.office_closing.specs.Deleting.{goes}

@@ -1,7 +1,6 @@
 use Rattle.std.proofs.Common.{◌≡◌, ◌++◌, [], not, ap, ap₂, refl, append_assoc, ◌∙◌}
 use Rattle.std.proofs.lemmas.List.{take-append-drop}
 use Rattle.std.proofs.lemmas.Result.{err_from_is_err_and}
-use Rattle.sqlite.specs.Held.{state}
 use Rattle.office_closing.specs.Clearing.{IsWithoutSomeVisits}
 use Rattle.office_closing.specs.Deleting.{all_but, without_visits}
 use Rattle.office_closing.proofs.ClearLemmas.{clears_none}

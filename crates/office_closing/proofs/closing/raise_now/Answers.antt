@@ -1,16 +1,17 @@
-use Rattle.std.specs.Prelude.{[]}
+use Rattle.std.specs.Prelude.{map}
 use Rattle.sqlite.specs.Held.{state}
 use Rattle.office_register.specs.Changes.{closed_with, unchanged}
+use Rattle.office_register.specs.Lists.{list_content}
 use Rattle.office_register.specs.Register.{archive_content}
 use Rattle.office_closing.proofs.StepLemmas.{stepped, stopped}
 use Rattle.office_closing.proofs.closing.raise_now.Goals as goal
 
 pub returns-in-Ok : goal.returns-in-Ok
 returns-in-Ok g c = record {
-  steps = stepped unchanged (closed_with (archive_content c.args.archive.now) c.args.segments.now []) (state g.S.Store c.args.conn.now) (state g.S.Store c.close_with.new.conn) _ c.in-Ok.ensures.idle c.in-Ok.ensures.ok c.in-Ok.ensures.crash;
+  steps = stepped unchanged (closed_with (archive_content c.args.archive.now) c.args.segments.now (map list_content c.args.lists.now)) (state g.S.Store c.args.conn.now) (state g.S.Store c.close_with.new.conn) _ c.in-Ok.ensures.idle c.in-Ok.ensures.ok c.in-Ok.ensures.crash;
 }
 
 pub returns-in-Err : goal.returns-in-Err
 returns-in-Err g c = record {
-  steps = rw c.not_written.ensures (stopped unchanged (closed_with (archive_content c.args.archive.now) c.args.segments.now []) (state g.S.Store c.args.conn.now) (state g.S.Store c.close_with.new.conn) _ c.in-Err.ensures.idle c.in-Err.ensures.err c.in-Err.ensures.crash c.in-Err.ensures.fault);
+  steps = rw c.not_written.ensures (stopped unchanged (closed_with (archive_content c.args.archive.now) c.args.segments.now (map list_content c.args.lists.now)) (state g.S.Store c.args.conn.now) (state g.S.Store c.close_with.new.conn) _ c.in-Err.ensures.idle c.in-Err.ensures.err c.in-Err.ensures.crash c.in-Err.ensures.fault);
 }

@@ -1,8 +1,11 @@
-use Rattle.std.proofs.Common.{◌≡◌, sym, subst, arith}
+use Rattle.std.proofs.Common.{map, sym, subst, arith}
 use Rattle.std.proofs.lemmas.Result.{err_from_is_err_and}
 use Rattle.sqlite.specs.Held.{state}
 use Rattle.sqlite.specs.State.{HasCleanDisk}
+use Rattle.office_done_lists.specs.Waiting.{AreWaitedFor}
+use Rattle.office_lists.specs.Named.{named_list_content}
 use Rattle.office_rows.specs.Stored.{HasRows}
+use Rattle.office_closing.specs.declared.faults.CloseFault.{CloseFault}
 use Rattle.office_closing.specs.Copies.{FileNames, office_content}
 use Rattle.office_closing.specs.Files.{files}
 use Rattle.office_closing.proofs.JudgeLemmas.{plan_judged}
@@ -30,11 +33,21 @@ returns-in_err-copy-clause-read g c =
       archive_register = failed _ c.in_err-copy.ensures.register_read;
     })
 
+pub returns-in_err-named-clause-read : goal.returns-in_err-named-clause-read
+returns-in_err-named-clause-read g c =
+    let p = err_from_is_err_and c.from_residual-in_err-named.result c.from_residual-in_err-named.ensures.1 in
+    rw (p.1, p.2) (record {
+      store = then_if_open_failed _ c.in_ok-own.ensures.rows_read c.in_err-named.ensures.read;
+      register = failed _ c.in_ok-own.ensures.register_read;
+      archive = failed _ c.in_ok-copy.ensures.rows_read;
+      archive_register = failed _ c.in_ok-copy.ensures.register_read;
+    })
+
 pub returns-in_err-plan-clause-read : goal.returns-in_err-plan-clause-read
 returns-in_err-plan-clause-read g c =
     let p = err_from_is_err_and c.from_residual-in_err-plan.result c.from_residual-in_err-plan.ensures.1 in
     rw (p.1, p.2) (record {
-      store = failed _ c.in_ok-own.ensures.rows_read;
+      store = then_if_open_failed _ c.in_ok-own.ensures.rows_read c.in_ok-named.ensures.read;
       register = failed _ c.in_ok-own.ensures.register_read;
       archive = failed _ c.in_ok-copy.ensures.rows_read;
       archive_register = failed _ c.in_ok-copy.ensures.register_read;
@@ -44,7 +57,7 @@ pub returns-in_err-compare_all-clause-read : goal.returns-in_err-compare_all-cla
 returns-in_err-compare_all-clause-read g c =
     let p = err_from_is_err_and c.from_residual-in_err-compare_all.result c.from_residual-in_err-compare_all.ensures.1 in
     rw (p.1, p.2) (record {
-      store = then_if_open_failed _ c.in_ok-own.ensures.rows_read c.in_err-compare_all.ensures.store_read;
+      store = then_if_open_failed {E = CloseFault} _ (then_if_open c.in_ok-named.named c.in_ok-own.ensures.rows_read c.in_ok-named.ensures.read) c.in_err-compare_all.ensures.store_read;
       register = failed _ c.in_ok-own.ensures.register_read;
       archive = then_if_open_failed _ c.in_ok-copy.ensures.rows_read c.in_err-compare_all.ensures.archive_read;
       archive_register = failed _ c.in_ok-copy.ensures.register_read;
@@ -52,7 +65,7 @@ returns-in_err-compare_all-clause-read g c =
 
 pub returns-clause-read : goal.returns-clause-read
 returns-clause-read g c = record {
-  store = then_if_open c.in_ok-plan.plan c.in_ok-own.ensures.rows_read c.in_ok-compare_all.ensures.store_read;
+  store = then_if_open {E = CloseFault} c.in_ok-plan.plan (then_if_open c.in_ok-named.named c.in_ok-own.ensures.rows_read c.in_ok-named.ensures.read) c.in_ok-compare_all.ensures.store_read;
   register = passed c.in_ok-plan.plan c.in_ok-own.ensures.register_read;
   archive = then_if_open c.in_ok-plan.plan c.in_ok-copy.ensures.rows_read c.in_ok-compare_all.ensures.archive_read;
   archive_register = passed c.in_ok-plan.plan c.in_ok-copy.ensures.register_read;
@@ -64,12 +77,19 @@ returns-clause-judged g c clean held has =
     let old = files g.S.Store g.R.Store g.A.Store g.M.Store c.args.store.now c.args.register.now c.args.archive.now c.args.archive_register.now in
     let own = c.in_ok-own.ensures in
     let copy = c.in_ok-copy.ensures in
+    let named = c.in_ok-named.ensures in
     let call = c.in_ok-compare_all.ensures in
-    let store_clean : HasCleanDisk (state g.S.Store c.open_office.new.conn) = omega (arith, call.store_read.survives.clean, clean.store) in
+    let named_clean : HasCleanDisk (state g.S.Store c.waited_for.new.conn) = omega (arith, call.store_read.survives.clean, clean.store) in
+    let store_clean : HasCleanDisk (state g.S.Store c.open_office.new.conn) = omega (arith, named.read.survives.clean, named_clean) in
     let archive_clean : HasCleanDisk (state g.A.Store c.open_office-2.new.conn) = omega (arith, call.archive_read.survives.clean, clean.archive) in
-    let own_has = subst (HasRows held.own) (sym (own.rows_read.unchanged store_clean).0.now_is) has.own in
+    let first = own.rows_read.unchanged store_clean in
+    let opened_has = subst (HasRows held.own) (sym first.0.now_is) has.own in
+    let own_has = subst (HasRows held.own) (sym (named.read.unchanged named_clean first.0.is_open).0.now_is) opened_has in
     let copy_has = subst (HasRows held.copy) (sym (copy.rows_read.unchanged archive_clean).0.now_is) has.copy in
-    plan_judged held old has names (office_content c.in_ok-own.own) (office_content c.in_ok-copy.copy) (own.opened store_clean clean.register) (copy.opened archive_clean clean.archive_register)
+    let opened = own.opened store_clean clean.register in
+    let waited = named.named named_clean held.own opened_has (record { accounts = has.own_orderly.accounts; are = opened.nexts held.own has.own; kept_once = has.own_orderly.once }) in
+    plan_judged held old has names (office_content c.in_ok-own.own) (office_content c.in_ok-copy.copy) opened (copy.opened archive_clean clean.archive_register)
+    (map named_list_content c.deref.result.now) (subst (λ l. AreWaitedFor (office_content c.in_ok-own.own).setup held.own (map named_list_content l)) (sym c.deref.ensures.value) waited)
     c.in_ok-plan.plan c.in_ok-plan.ensures.ok c.utf8.archive_file
     (call.compared clean.store clean.archive held own_has copy_has has.own_orderly.once has.copy_orderly.once)
 
@@ -89,13 +109,21 @@ returns-in_err-copy-clause-tells g c clean =
     let old = files g.S.Store g.R.Store g.A.Store g.M.Store c.args.store.now c.args.register.now c.args.archive.now c.args.archive_register.now in
     rw (p.1, p.2) (λ held has. file_tells held.own held.copy names old _ c.in_err-copy.ensures.fault)
 
+pub returns-in_err-named-clause-tells : goal.returns-in_err-named-clause-tells
+returns-in_err-named-clause-tells g c clean =
+    let p = err_from_is_err_and c.from_residual-in_err-named.result c.from_residual-in_err-named.ensures.1 in
+    let names : FileNames = record { store = c.args.store_file.now; archive = c.args.archive_file.now } in
+    let old = files g.S.Store g.R.Store g.A.Store g.M.Store c.args.store.now c.args.register.now c.args.archive.now c.args.archive_register.now in
+    rw (p.1, p.2) (λ held has. file_tells held.own held.copy names old _ c.in_err-named.ensures.fault)
+
 pub returns-in_err-plan-clause-tells : goal.returns-in_err-plan-clause-tells
 returns-in_err-plan-clause-tells g c clean =
     let p = err_from_is_err_and c.from_residual-in_err-plan.result c.from_residual-in_err-plan.ensures.1 in
     let names : FileNames = record { store = c.args.store_file.now; archive = c.args.archive_file.now } in
     let old = files g.S.Store g.R.Store g.A.Store g.M.Store c.args.store.now c.args.register.now c.args.archive.now c.args.archive_register.now in
+    let store_clean : HasCleanDisk (state g.S.Store c.open_office.new.conn) = omega (arith, c.in_ok-named.ensures.read.survives.clean, clean.store) in
     rw (p.1, p.2) (λ held has.
-    plan_tells held.own held.copy names old (office_content c.in_ok-own.own) (office_content c.in_ok-copy.copy) (c.in_ok-own.ensures.opened clean.store clean.register)
+    plan_tells held.own held.copy names old (office_content c.in_ok-own.own) (office_content c.in_ok-copy.copy) (c.in_ok-own.ensures.opened store_clean clean.register)
     (c.in_ok-copy.ensures.opened clean.archive clean.archive_register) _ c.in_err-plan.ensures.err)
 
 pub returns-in_err-compare_all-clause-tells : goal.returns-in_err-compare_all-clause-tells
@@ -105,10 +133,13 @@ returns-in_err-compare_all-clause-tells g c clean =
     let old = files g.S.Store g.R.Store g.A.Store g.M.Store c.args.store.now c.args.register.now c.args.archive.now c.args.archive_register.now in
     let own = c.in_ok-own.ensures in
     let copy = c.in_ok-copy.ensures in
+    let named = c.in_ok-named.ensures in
     let call = c.in_err-compare_all.ensures in
-    let store_clean : HasCleanDisk (state g.S.Store c.open_office.new.conn) = omega (arith, call.store_read.survives.clean, clean.store) in
+    let named_clean : HasCleanDisk (state g.S.Store c.waited_for.new.conn) = omega (arith, call.store_read.survives.clean, clean.store) in
+    let store_clean : HasCleanDisk (state g.S.Store c.open_office.new.conn) = omega (arith, named.read.survives.clean, named_clean) in
+    let first = own.rows_read.unchanged store_clean in
     let archive_clean : HasCleanDisk (state g.A.Store c.open_office-2.new.conn) = omega (arith, call.archive_read.survives.clean, clean.archive) in
     rw (p.1, p.2) (λ held has.
-    let own_has = subst (HasRows held.own) (sym (own.rows_read.unchanged store_clean).0.now_is) has.own in
+    let own_has = subst (HasRows held.own) (sym (named.read.unchanged named_clean first.0.is_open).0.now_is) (subst (HasRows held.own) (sym first.0.now_is) has.own) in
     let copy_has = subst (HasRows held.copy) (sym (copy.rows_read.unchanged archive_clean).0.now_is) has.copy in
     compared_tells held.own held.copy names old _ (call.fault clean.store clean.archive held.own held.copy own_has copy_has has.own_orderly.once has.copy_orderly.once))

@@ -14,7 +14,7 @@ loop-list-preserved c =
     let pushed : map list_content (take (i + 1) more) ≡ before ++ list_content item ∷ [] =
     ap (map list_content) (take_more more i item c.loop-list-test.true) ∙ map-append list_content (take i more) (get_or more i item ∷ []) ∙ ap (λ l. before ++ list_content l ∷ []) (sym c.list-item.is) in
     c.in_ok-put_list.ensures
-    ∙ ap (λ a. put_list a (map list_content c.loop-list.lists.items)) c.in_ok-copy_of.ensures
+    ∙ ap (λ a. put_list a (map list_content c.loop-list.lists.items)) c.in_ok-copied_list.ensures
     ∙ ap (put_list (list_content item)) c.loop-list.invariant
     ∙ sym (put_more before (list_content item) start)
     ∙ ap (λ l. put_lists l start) (sym pushed)
