@@ -15,6 +15,7 @@ KEPT = 100000               # interchanges that one closing puts away
 CLOSINGS, EACH = 10, 1000   # of a store that is closed often, and how much each puts away
 ENDS = ('', '-wal', '-archives', '-archives-wal')
 TURNS = 5                   # of which the least counts
+LINES, OF_CALL = 100000, 500    # done lines of lists, and how many a call has (streams.lists)
 
 
 def copied(store, archive):
@@ -88,9 +89,30 @@ def often(stores, folder):
     return [Row('a delivery after %d closings; after none' % CLOSINGS, 'us', *pair, '1.05 times')]
 
 
+def of_lists(stores, folder):
+    """A closing that puts many done lines away; openings with these lines and without them, and what brings a list back."""
+    store, texts = stores.new('lists', folder=folder), streams.lists(LINES // streams.LIST * (2 * streams.LIST + 1))
+    delivered(stores, store, texts)
+    archive = copied(store, os.path.join(folder, 'archive.db'))
+    taken = spent(stores.office, 'close', store, archive)[1]
+    without = processor(TURNS, stores.office, 'report', store, 'health')
+    keys = ['9123456/V%d/load' % voyage for voyage in range(LINES // OF_CALL)]
+    away = min(processor(1, stores.office, 'report', store, 'list', key) for key in keys[:TURNS])
+    here = min(processor(1, stores.office, 'report', store, 'list', key) for key in keys[:TURNS])
+    for key in keys[TURNS:]:
+        command(stores.office, 'report', store, 'list', key)
+    lines = processor(TURNS, stores.office, 'report', store, 'health')
+    return [
+        Row('close, %s interchanges and %s done lines, processor' % (format(len(texts), ','), format(LINES, ',')), 's', taken),
+        Row('opening with these lines; after they were put away', 's', lines, without),
+        Row('a list of %d lines that is away, with the opening; that is there' % OF_CALL, 's', away, here)]
+
+
 def closing(stores):
     """The rows of closings."""
     with tempfile.TemporaryDirectory(prefix='bench-', dir=IN_MEMORY) as folder:
-        rows = large(stores, folder)
+        rows = of_lists(stores, folder)
+    with tempfile.TemporaryDirectory(prefix='bench-', dir=IN_MEMORY) as folder:
+        rows += large(stores, folder)
     with tempfile.TemporaryDirectory(prefix='bench-', dir=IN_MEMORY) as folder:
         return rows + often(stores, folder)

@@ -17,6 +17,8 @@ from model.rows import copy_files, rows_in, rows_of
 from model.setup import DEMO, read_setup
 from model.setups import Files, files_of
 from model.stream import status
+from model.syntax import BREAKS
+from model.vessels import Vessels
 
 from .working import Served, run
 
@@ -112,9 +114,48 @@ class Book:
             self.answered.append(text)
         return refused
 
+    # ---- vessels' lists
+
+    def vessels(self):
+        """What is sent on lists, by the office as it stands."""
+        return Vessels(self.chance, self.day)
+
+    def finishing(self):
+        """Texts that get lists done, each made after the one before was answered."""
+        vessels = self.vessels()
+        for texts in (vessels.new_call, vessels.finished):
+            for text in texts(self.office):
+                if text:
+                    yield text
+
+    def naming_away(self):
+        """A text that names a list that is away, if there is one."""
+        if not self.office.away:
+            return None
+        return self.vessels().named_again(self.office, self.chance.choice(sorted(self.office.away)))[0]
+
+    def comes_next(self, text):
+        """The text comes before all that was not answered."""
+        self.texts.insert(len(self.answered), text)
+
+    def delivers_next(self, text):
+        """The text is delivered before all others."""
+        self.comes_next(text)
+        self.take(run(self.program, 'deliver', self.store, self.file('next.edi', text))[0].splitlines())
+
+    def brought_back(self, in_flight):
+        """The office with one of the lists brought back that a text in flight names, with two of them, and so on."""
+        names = [] if isinstance(in_flight, Added) else self.office.lists_away_in(in_flight.strip(BREAKS))
+        for count in range(1, len(names) + 1):
+            office = copy.deepcopy(self.office)
+            office.brings_back(names[:count])
+            yield office
+
+    # ---- what is found
+
     def found(self, in_flight):
         """Which rows the store has: those after all answered, those with the one in flight too, or either, if they are
-        the same. Any other rows are a difference."""
+        the same; or those after all answered with lists that the one in flight names. Any other rows are a difference."""
         got, faults = rows_in(self.store)
         expect('integrity and foreign keys', [], faults)
         wanted = rows_of(self.office)
@@ -128,6 +169,10 @@ class Book:
             return 'n or n+1'
         if got == wanted:
             return 'n'
+        for office in self.brought_back(in_flight):
+            if rows_of(office) == got != rows_of(further):
+                self.office = office
+                return 'n, lists brought back'
         expect('the rows with the one in flight', rows_of(further), got)
         self.office = further
         return 'n+1'

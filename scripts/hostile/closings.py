@@ -1,9 +1,9 @@
 """`close`, killed at each call of the system, each call refused, with files that may not grow, killed at random moments of a
 large closing, and after losses of power: scripts/kill9 closings.
 
-After each of these the store has its rows, or its register has the archive and some of what goes is gone. The program opens
-it, answers a closed number, takes another and prints all texts, and the same closing again goes on to the end. The archive keeps
-its rows.
+After each of these the store has its rows, or its register has the archive and some of what goes is gone, of vessels' lists some
+wholly. The program opens it, answers a closed number, takes another, also one that names a list that goes, and prints all texts,
+and the same closing again goes on to the end. The archive keeps its rows.
 """
 import copy
 import os
@@ -17,7 +17,7 @@ from model.days import Day
 from model.office import json_text
 from model.register import EMPTY
 from model.reports import printed
-from model.rows import ENDS, copy_files, register_rows, registered_in, rows_in, rows_of
+from model.rows import ENDS, copy_files, register_rows, registered_in, rows_in, rows_of, rows_of_register
 from model.setup import DEMO
 from model.setups import files_of
 from model.stream import status
@@ -35,6 +35,8 @@ NAMES = 'first.db', 'second.db'
 MANY = {'pread64': 12, 'brk': 6, 'mmap': 12}      # of which so many alone are tried
 LOSSES = 250                # of power, for each store
 LARGE, KILLS = 5000, 40     # texts of a large store, and how often its closing is killed
+FINISHED = 4                # new calls, and lists that are finished, before a copy
+UNCLOSED = 'nothing done', 'marked'
 SPAN = 1.1                  # of a closing's time within which it is killed
 
 
@@ -44,23 +46,22 @@ def register_in(path):
     """The rows of a register; those of an empty one, if it is not made yet."""
     got, faults = registered_in(path)
     if faults == UNMADE or not got:
-        return register_rows_of(EMPTY)
+        return rows_of_register(EMPTY)
     expect('integrity', [], faults)
     return got
 
 
-def register_rows_of(register):
-    """What its tables hold."""
-    return {
-        'archive': sorted(map(tuple, register.archives)), 'segment': sorted(map(tuple, register.segments)),
-        'closed_for': [(register.mark,)] if register.mark else [], 'settled': []}
+def lists_in(rows):
+    """Call and side of each list that has a line."""
+    return {row[:3] for row in rows['listed']}
 
 
 def are_within(least, got, most):
-    """Whether rows are at least these and at most those, and of other tables those."""
+    """Whether rows are at least these and at most those, each list wholly there or gone, and of other tables those."""
     return set(got) == set(most) and all(
-        got[table] == most[table] if table not in ('interchange', 'visit')
-        else set(least[table]) <= set(got[table]) <= set(most[table]) for table in most)
+        got[table] == most[table] if table not in ('interchange', 'visit', 'listed')
+        else set(least[table]) <= set(got[table]) <= set(most[table]) for table in most) and got['listed'] == [
+        row for row in most['listed'] if row[:3] in lists_in(got)]
 
 
 def stage(before, after, got, what):
@@ -120,7 +121,7 @@ class Closing(Beside):
 
     def found(self, given):
         """How far a process came that printed, told and ended so; then the store is used, and closed."""
-        before = self.modelled()
+        before, offices = self.modelled(), copy.deepcopy((self.book.office, self.archive))
         self.closes()
         after = self.modelled()
         found = stage(before, after, self.standing(), given)
@@ -128,22 +129,30 @@ class Closing(Beside):
             raise Different('%r' % (given,))
         if given[0] and found != 'closed':
             raise Different('%r, and found: %s' % (given, found))
-        self.goes_on()
+        archived = [each.text for each in self.book.office.deliveries
+                    if self.book.office.archive_of(each.partner, each.number)]
+        going = sorted(self.book.office.away - offices[0].away)
+        if found in UNCLOSED:
+            self.book.office, self.archive = offices
+        self.goes_on(archived, going)
         return found
 
-    def goes_on(self):
-        """The store takes a text, answers one of a closed number and prints all; the closing again ends it."""
-        book, archived = self.book, [each for each in self.book.office.deliveries
-                                     if self.book.office.archive_of(each.partner, each.number)]
-        texts = [book.upcoming(1)[0], book.chance.choice(archived).text]
-        given = [book.office.answer(text) for text in texts]
+    def goes_on(self, archived, going):
+        """The store takes a text and one that names a list that goes, answers one of a closed number and prints all; the closing
+        again ends it."""
+        book = self.book
+        texts = [book.upcoming(1)[0], book.chance.choice(archived)]
+        texts += [book.vessels().named_again(book.office, book.chance.choice(going))[0]] if going else []
+        given = [book.office.answer(text) for text in filter(None, texts)]
         wanted = ''.join(json_text(each) + '\n' for each in given), '', status(given)
-        expect('deliveries', wanted, run(book.program, 'deliver', book.store, book.file('again.edi', '\n'.join(texts))))
+        expect('deliveries', wanted, run(book.program, 'deliver', book.store, book.file(
+            'again.edi', '\n'.join(filter(None, texts)))))
         self.prints_texts()
         expect('close again', READY, run(*self.words))
+        self.closes()
         expect('all behind it', self.modelled(), self.standing())
         self.prints_texts()
-        for kind in ('yard', 'archives', 'metrics'):
+        for kind in ('yard', 'calls', 'archives', 'metrics'):
             expect(kind, (printed(book.office, kind)[0], '', 0), run(book.program, 'report', book.store, kind))
 
     def tried(self, front, _kind, fault):
@@ -177,8 +186,15 @@ class Prepared:
 
     def copied(self, name):
         """A copy of now."""
+        self.finishes()
         copy_files(self.book.store, os.path.join(self.book.folder, name))
         self.archive = copy.deepcopy(self.book.office)
+
+    def finishes(self):
+        """Some lists get done."""
+        for _list in range(FINISHED):
+            for text in self.book.finishing():
+                self.book.delivers_next(text)
 
     def delivered(self):
         """Some texts more."""

@@ -20,7 +20,7 @@ from model.requests import report_path
 from model.rows import copy_files
 
 from .books import Book, Different, expect
-from .closings import READY, Beside, stage
+from .closings import READY, UNCLOSED, Beside, stage
 from .working import Delivering, Served, run
 
 KILLS = 80                  # a store: some 400 deliveries, so that the log is moved into the file at least once
@@ -33,6 +33,8 @@ OLD_TEXTS = 12              # that were delivered to it before
 CLOSED_EVERY = 10           # kills of a store, from its copy to the closing by that copy a quarter of these
 PAGES_EVERY = 4             # kills after which pages are looked at
 PAGES = 3                   # of them, at once
+FINISHED = 2                # new calls, and lists that are finished, before a copy
+NAMED = 0.3                 # of the kills: what comes next names a list that is away, if there is one
 
 
 class Pace:
@@ -147,11 +149,15 @@ class Copied(Beside):
 def killed_closing(book, copied, pace, counted):
     """`close`, killed; the store takes a text as far as it is closed, and the same closing goes on to its end."""
     words, before = [book.program, 'close', book.store, copied.path], copied.modelled()
+    offices = copy.deepcopy((book.office, copied.archive))
     with subprocess.Popen(words, stdout=subprocess.DEVNULL, stderr=subprocess.DEVNULL) as process:
         sleep(book.chance.uniform(0, 5) * pace.opening)
         process.kill()
     copied.closes()
-    counted['closings killed, found: ' + stage(before, copied.modelled(), copied.standing(), 'a closing')] += 1
+    found = stage(before, copied.modelled(), copied.standing(), 'a closing')
+    counted['closings killed, found: ' + found] += 1
+    if found in UNCLOSED:
+        book.office, copied.archive = offices
     added(book, counted)
     line, _told, _status = run(book.program, 'deliver', book.store, book.file('one.edi', book.upcoming(1)[0]))
     book.take([line[:-1]])
@@ -161,6 +167,22 @@ def killed_closing(book, copied, pace, counted):
     expect('all after it', copied.modelled(), copied.standing())
     copied.prints_texts()
     counted['closings'] += 1
+    counted['lists away after closings'] += len(book.office.away)
+
+
+def finishes(book):
+    """Some lists get done."""
+    for _list in range(FINISHED):
+        for text in book.finishing():
+            book.delivers_next(text)
+
+
+def names_away(book, counted):
+    """What comes next names a list that is away, if there is one."""
+    text = book.naming_away()
+    if text:
+        book.comes_next(text)
+        counted['texts that name a list that is away'] += 1
 
 
 def written(book):
@@ -181,11 +203,14 @@ def killed_often(program, seed, kills, pace, counted):
             book.adds = True
             for kill in range(kills):
                 before = written(book)
+                if book.chance.random() < NAMED:
+                    names_away(book, counted)
                 killed_once(book, pace, counted)
                 counted['the log moved into the file'] += written(book) != before
                 if kill % PAGES_EVERY == 0:
                     pages(book, counted)
                 if kill % CLOSED_EVERY == CLOSED_EVERY // 2:
+                    finishes(book)
                     copied = Copied(book)
                 if kill % CLOSED_EVERY == CLOSED_EVERY // 2 + CLOSED_EVERY // 4:
                     killed_closing(book, copied, pace, counted)

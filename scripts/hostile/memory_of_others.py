@@ -11,14 +11,15 @@ from functools import partial
 
 from model.commands import outcome
 from model.http import response, response_text
-from model.office import Office
+from model.office import Office, json_text
 from model.pages import KINDS as PAGED
 from model.reports import REPORTS, WHOLE, printed
 from model.requests import every_key, path_of
-from model.rows import rows_in, rows_of
+from model.rows import copy_files, rows_in, rows_of
 from model.setup import DEMO
 from model.stores import exchanged
 from model.syntax import sender_of
+from model.vessels import REPORTED
 
 from .books import Different, expect
 from .closings import CLOSED, SEED, Prepared, refuse_closing
@@ -35,6 +36,8 @@ PRINTING = 20               # more allocations than printing takes that nothing 
 
 # what a command may tell that had no memory
 WANTS = {('', 'store: Memory\n', 3), ('', 'setup: Memory\n', 1), ('', 'cannot read\n', 3), ('', '', 3)}
+# and what `deliver` prints that takes nothing then
+LEFT = {('{"answer":"not now"}\n', '', 3), ('{"answer":"cut","fault":"Memory"}\n', '', 3)}
 
 
 def allocations_of(refusing, words):
@@ -118,6 +121,37 @@ def refuse_texts(refusing, _office, _text, steps, counted):
                 expect('texts, allocation %d' % refused, wanted, given)
             counted['texts: %s' % ('told that memory ran out' if is_told else 'all')] += 1
         expect('rows behind the texts', before, rows_in(book.store))
+
+
+# ---- lists
+
+def refuse_lists(refusing, _office, _text, steps, counted):
+    """Allocations of what brings a list back, a delivery that names it and a report on it, once the store is open: each of a second
+    step. Without memory the list is away, or there, and nothing else has changed."""
+    with tempfile.TemporaryDirectory(prefix='memory-') as folder:
+        book = Prepared(refusing.program, folder, SEED, True).book
+        start = os.path.join(folder, 'start.db')
+        copy_files(book.store, start)
+        call, side = min(book.office.away)
+        text = book.vessels().text(book.office, REPORTED[side], call, ['ABCU0000017'])
+        key = '/'.join(word.replace('/', '%2F') for word in (*call, side))
+        back, taken = deepcopy(book.office), deepcopy(book.office)
+        back.brings_back([(call, side)])
+        opened = allocations_of(refusing, ['report', book.store, 'visits', UNUSED]) - PRINTING
+        for words, wanted, after in (
+                (['deliver', book.store, book.file('naming.edi', text)], (json_text(taken.answer(text)) + '\n', '', 0), taken),
+                (['report', book.store, 'list', key], (printed(back, 'list', key)[0], '', 0), back)):
+            copy_files(start, book.store)
+            for refused in range(opened + 1, allocations_of(refusing, words) + 1, steps[1]):
+                copy_files(start, book.store)
+                what, given = '%s a list that is away, allocation %d' % (words[0], refused), refusing.run(words, refused)
+                rows = [rows_of(after)] if given == wanted else [rows_of(book.office), rows_of(back)]
+                if given not in WANTS | LEFT | {wanted} or rows_in(book.store)[0] not in rows:
+                    raise Different('%s: %r' % (what, given))
+                if given != wanted:
+                    expect(what + ', again', wanted, refusing.run(words))
+                    expect(what + ', rows again', (rows_of(after), []), rows_in(book.store))
+                counted['%s a list that is away: %s' % (words[0], 'brought back' if given == wanted else 'no memory')] += 1
 
 
 # ---- serve
@@ -206,5 +240,5 @@ OTHERS = {
     **{'migrate, version %d, share %d' % (version, share): partial(refuse_migration, version, share)
        for version in (1, 2) for share in range(SHARES)},
     'init': refuse_init, 'serve': refuse_requests, 'routes': refuse_routes, 'reports': refuse_reports,
-    'texts': refuse_texts,
+    'texts': refuse_texts, 'lists': refuse_lists,
     'account': refuse_addition, **{'close, %s' % what: partial(refuse_closing, what) for what in CLOSED}}

@@ -27,6 +27,9 @@ CLOSES = 0.4                # of the turns of a standby: the first's history is 
 def put_away(book, counted, others=()):
     """A copy, what comes meanwhile, to other offices too, and the closing by that copy. The texts are then the same, and those of
     the archive are those of its day. Gives the archive, as a book."""
+    for text in book.finishing():
+        book.comes_next(text)
+        send(book, 1, others)
     copied = Copied(book)
     counted['texts that waited as a copy was made'] += sum(not row[3] for row in interchange_rows(copied.archive))
     send(book, book.chance.choice([0, book.chance.randint(1, BEHIND)]), others)
@@ -39,6 +42,7 @@ def put_away(book, counted, others=()):
     archive.store, archive.office = copied.path, copied.archive
     hands_out(archive)
     counted['closings'] += 1
+    counted['lists away after closings'] += len(book.office.away)
     return archive
 
 
@@ -81,7 +85,8 @@ class WithArchives(Standby):
         expect('texts, the first of the first\'s', True, printed in fronts)
         for text in theirs[len(kept_texts(self.office.deliveries)):fronts[printed]]:
             self.office.answer(text)
-        expect('the rows after as many texts', (rows_of(self.office), []), rows_in(self.store))
+        # the next one may have brought lists back
+        self.found((theirs + [None])[fronts[printed]])
         return fronts[printed]
 
 

@@ -1,7 +1,8 @@
 """Stores that the program closes, among random deliveries, beside the model: scripts/beside.
 
 The model's answers, and the texts that it keeps, are those of a store that is never closed, and so is a second store of the
-program's, to which the same is delivered. An archive is a copy of the store of now, or of some deliveries earlier.
+program's, to which the same is delivered. An archive is a copy of the store of now, or of some deliveries earlier. Vessels' lists
+get done, are put away, are named again and asked for.
 """
 import copy
 import os
@@ -17,7 +18,8 @@ from .commands import texts_before_lost
 from .days import NEWCOMERS, SENDERS, Day, streamed
 from .deliveries import first_text, kept_texts
 from .events import Added, refusal
-from .reports import WHOLE
+from .naming import SIDES
+from .reports import WHOLE, printed
 from .requests import every_key, get, of_archive, path_of, question, random_requests
 from .rows import ENDS, REGISTER, copy_files, identities, interchange_rows, rows_in, rows_of, standing_in
 from .setup import DEMO, read_setup
@@ -25,6 +27,7 @@ from .setups import Files, files_of
 from .stores import Program
 from .stream import answers, lines
 from .syntax import number_of, sender_of
+from .vessels import Vessels
 from .words import text_of
 
 LISTS = 12
@@ -35,6 +38,8 @@ CLOSES, COPIES = 0.5, 0.4   # of the turns
 MOST_ARCHIVES = 4
 CLOSED_AGAIN = 0.4          # of the closings: the same command once more
 AGAIN = 5                   # closed numbers that are sent again, and as many with other bytes
+CALLS = 2                   # in a turn: new calls, and lists that are finished
+NAMED, LOOKED = 3, 0.3      # lists that were put away and are named again in a turn; of these so many are asked for instead
 QUESTIONS = 4               # after a turn
 ASKED = 20                  # reports by a command after the turns; all of them by HTTP
 ANOTHER_DAY = 0.25          # of the archives that are spoiled: the rows of another day
@@ -56,6 +61,7 @@ class Closable:
             files = files_of(DEMO)
         self.files, self.office = files, beside.init(name, self.program, files)
         self.day, self.archives, self.earlier = Day('closed %s' % seed, self.office.setup, NEWCOMERS), [], None
+        self.vessels = Vessels(self.chance, self.day)
 
     # ---- copies and closings
 
@@ -86,8 +92,12 @@ class Closable:
         else:
             archive = self.copied(os.path.basename(path))[1]
         self.earlier, rows = None, rows_of(archive)
-        for _time in range(2 if self.chance.random() < CLOSED_AGAIN else 1):
+        for time in range(2 if self.chance.random() < CLOSED_AGAIN else 1):
+            if time:
+                self.asks_lists(sorted(self.office.away))
+            before = self.office.away
             fault = close(self.office, archive, 'office.db', os.path.basename(path))
+            self.counts_away(before, 'again by the same closing' if time else '')
             self.beside.expect('close', self.name, None, fault)
             self.beside.expect('close', self.name, READY, self.program.close(path))
             self.beside.rows(self.name, self.program, self.office)
@@ -98,15 +108,57 @@ class Closable:
         self.office.archives[len(self.archives)] = archive
         self.asks_texts()
 
+    def counts_away(self, before, how):
+        """Counts the lists that a closing put away."""
+        for call, side in self.office.away - before:
+            rows = [settled for settled in self.office.register.lists if settled[:3] == (*call, SIDES[side])]
+            self.beside.counted['lists put away ' + (how or 'for the %d. time' % len(rows))] += 1
+
     # ---- what happens between
 
     def delivers(self, text):
         """By a command."""
+        before = self.office.away
         self.beside.deliver(self.name, self.program, self.office, text)
+        self.beside.counted['lists brought back by a delivery'] += len(before - self.office.away)
 
     def serves(self, count):
         """By HTTP."""
+        before = self.office.away
         self.beside.serve(self.name, self.program, self.office, random_requests(self.chance, self.day, self.office, count))
+        self.beside.counted['lists brought back by a request'] += len(before - self.office.away)
+
+    def delivers_all(self, texts):
+        """One text after the other, each made after the one before was answered."""
+        for text in texts:
+            if text:
+                self.delivers(text)
+
+    def finishes(self):
+        """A new call, and a list that is finished."""
+        self.delivers_all(self.vessels.new_call(self.office))
+        self.delivers_all(self.vessels.finished(self.office))
+
+    def asks_lists(self, names):
+        """Some lists, what is left of them, and the calls, before and after."""
+        self.asks([('calls', '')])
+        for call, side in self.chance.sample(names, min(NAMED, len(names))):
+            self.asks([(self.chance.choice(['list', 'work']), '/'.join(word.replace('/', '%2F') for word in (*call, side)))])
+        self.asks([('calls', '')])
+
+    def names_again(self):
+        """Some lists that were put away once, whether they are away or not."""
+        names = sorted({(settled[:2], settled.side) for settled in self.office.register.lists})
+        names = [(call, {code: side for side, code in SIDES.items()}[code]) for call, code in names]
+        for name in self.chance.sample(names, min(NAMED, len(names))):
+            if self.chance.random() < LOOKED:
+                self.asks_lists([name])
+                continue
+            is_away = name in self.office.away
+            text, what, when = self.vessels.named_again(self.office, name)
+            if text:
+                self.beside.counted['lists named, %s: %s, %s' % ('away' if is_away else 'here', what, when)] += 1
+                self.delivers(text)
 
     def again(self):
         """Texts under closed numbers as they were, and others under such numbers; of each archive some."""
@@ -121,8 +173,10 @@ class Closable:
 
     def asks(self, asked):
         """Reports."""
+        before = self.office.away
         for kind, key in asked:
             self.beside.report(self.name, self.program, self.office, kind, key)
+        self.beside.counted['lists brought back by a report'] += len(before - self.office.away)
 
     def asks_all(self):
         """All reports: those on the whole terminal and some others by a command, all others by HTTP."""
@@ -150,6 +204,9 @@ class Closable:
             self.delivers(streamed(self.day, DELIVERIES, 0.05))
         if self.chance.random() < 0.3:
             self.beside.account(self.name, self.program, self.office, *self.day.addition())
+        self.names_again()
+        for _call in range(CALLS):
+            self.finishes()
         self.asks([question(self.chance, self.office) for _question in range(QUESTIONS)] + [('archives', '')])
         self.delivers('\n'.join(self.again()))
         self.beside.texts(self.name, self.program, self.office, self.chance)
@@ -173,15 +230,15 @@ class Closable:
 # ---- a store that is never closed
 
 def differ_as_said(kind, own, other):
-    """Whether a report of a closed store differs from that of one that never was as it may: visits and a container may lack what
-    went, and end with how many archives there are; the metrics count fewer visits."""
+    """Whether a report of a closed store differs from that of one that never was as it may: visits, a container and the calls may
+    lack what went, and end with how many archives there are; the metrics count fewer visits."""
     if kind == 'archives':
         return True
     if kind == 'metrics':
         return re.sub(r'(?m)^office_visits \d+$', '', own) == re.sub(r'(?m)^office_visits \d+$', '', other)
-    if kind in ('visits', 'container') and re.search(r'(?m)^ARCHIVES \d+\n\Z', own):
+    if kind in ('visits', 'container', 'calls') and re.search(r'(?m)^ARCHIVES \d+\n\Z', own):
         own_lines, other_lines = own.splitlines()[:-1], other.splitlines()
-        return set(own_lines) <= set(other_lines) and (kind == 'visits' or own_lines in ([], other_lines))
+        return set(own_lines) <= set(other_lines) and (kind != 'container' or own_lines in ([], other_lines))
     return own == other
 
 
@@ -190,6 +247,7 @@ def compare(beside, name, closable, other):
     keys = every_key(closable.office)
     for kind, key in WHOLE + closable.chance.sample(keys, min(COMPARED, len(keys))):
         own, never = closable.program.report(kind, key), other.report(kind, key)
+        printed(closable.office, kind, key)         # which brings a list back, as the program does
         is_same = own[1] == never[1] and differ_as_said(kind, own[0], never[0])
         beside.expect('as of a store that is never closed', '%s, %s %s' % (name, kind, key), True, is_same or (own, never))
 

@@ -2,21 +2,25 @@
 
 A store that was closed passes the checks of its rows by its register, and without it is Damaged; its rows and those of its
 archives are all rows; each closed number is told by its archive, asked as the store that it was, as by the whole; and the texts
-of the archives and of the store, each once, are those that the whole keeps, in the order in which they came.
+of the archives and of the store, each once, are those that the whole keeps, in the order in which they came. The lists that are
+away are done, stand in the register, and are named by no text that waits; each is told as by the whole.
 """
 import copy
 import random
 
-from .closing import close, is_over, never_closed
+from .closing import close, is_over, never_closed, text_of_lines, waited_for
 from .days import NEWCOMERS, Day
 from .deliveries import kept_texts
 from .office import Office
+from .naming import SIDES
 from .opened import fault_of_rows
-from .register import is_sound, last_closed
-from .reports import OF_NUMBERS, report
-from .rows import interchange_rows, rows_of, visit_rows
+from .register import is_sound, last_closed, lines_of
+from .reports import OF_LISTS, OF_NUMBERS, report
+from .rows import interchange_rows, listed_rows, rows_of, visit_rows
+from .vessels import Vessels
 
 LISTS = 12
+SIDES_OF = {code: side for side, code in SIDES.items()}
 TURNS, DELIVERIES = 5, 14
 
 
@@ -24,10 +28,11 @@ def closed_by_turns(seed):
     """An office that was closed some times, by a copy of the day or of a turn earlier; its archives as they were; and the same
     office, never closed."""
     chance, day, office = random.Random(seed), Day('alone %s' % seed, newcomers=NEWCOMERS), Office(keeps_fold=True)
-    archives, earlier = [], None
+    archives, earlier, vessels = [], None, Vessels(chance, day)
     for _turn in range(TURNS):
         for _delivery in range(DELIVERIES):
             office.answer(day.delivery())
+        names_lists(vessels, office)
         if chance.random() < 0.5:
             office.add_account(*day.addition())
         copied = copy.deepcopy(office)
@@ -41,6 +46,31 @@ def closed_by_turns(seed):
     return office, archives, never_closed(office)
 
 
+def names_lists(vessels, office):
+    """A new call, and a list that is finished; then one that is away is named, if there is one."""
+    for texts in (vessels.new_call, vessels.finished):
+        for text in texts(office):
+            office.answer(text)
+    if office.away:
+        text = vessels.named_again(office, vessels.chance.choice(sorted(office.away)))[0]
+        if text:
+            office.answer(text)
+
+
+def lists_away(office, whole):
+    """How many lists are away, and whether each is done, named by no text that waits, kept by the register as the whole has it, and
+    told as by the whole once it is brought back."""
+    lines = whole.fold().terminal.lines
+    for call, side in office.away:
+        own = {number: line for (of_call, of_side, number), line in lines.items() if (of_call, of_side) == (call, side)}
+        kept = lines_of(office.register, (*call, SIDES[side]))
+        if not own or not all(line.is_done for line in own.values()) or kept != text_of_lines(own):
+            return len(office.away), False
+    back, keys = copy.deepcopy(office), ['%s/%s/%s' % (*call, side) for call, side in sorted(office.away) if '/' not in call[1]]
+    are_told = all(report(back, kind, key) == report(whole, kind, key) for key in keys for kind in OF_LISTS)
+    return len(office.away), are_told and not office.away & waited_for(office)
+
+
 def are_parts(office, archives, whole):
     """Whether what the store has and what went by each archive are all rows, and no interchange twice."""
     texts, visits = interchange_rows(office), set(visit_rows(office))
@@ -48,7 +78,9 @@ def are_parts(office, archives, whole):
         lasts = {segment.partner: segment.last for segment in office.register.segments if segment.archive == place}
         texts += [row for row in interchange_rows(archive) if row[1] <= lasts.get(row[0], 0)]
         visits |= {visit for visit in visit_rows(archive) if visit[0] in office.gone and is_over(visit)}
-    return sorted(texts) == sorted(interchange_rows(whole)) and sorted(visits) == sorted(visit_rows(whole))
+    lines = [row for row in listed_rows(whole) if (row[:2], SIDES_OF[row[2]]) in office.away]
+    return (sorted(texts) == sorted(interchange_rows(whole)) and sorted(visits) == sorted(visit_rows(whole))
+            and sorted(listed_rows(office) + lines) == sorted(listed_rows(whole)))
 
 
 def told_alike(office, archives, whole):
@@ -83,15 +115,16 @@ def are_in_order(office, archives):
 
 def judge_all():
     """Gives how many lists are wrong."""
-    wrong, told = [], 0
+    wrong, told, away = [], 0, 0
     for seed in range(1, LISTS + 1):
         office, archives, whole = closed_by_turns(seed)
         rows, count = rows_of(office), told_alike(office, archives, whole)
-        told += count[0]
+        lists = lists_away(office, whole)
+        told, away = told + count[0], away + lists[0]
         lost = fault_of_rows(rows) == ('Damaged' if office.register.segments else None)
         if not (is_sound(office.register) and fault_of_rows(rows, register=office.register) is None and lost and not count[1]
-                and are_parts(office, archives, whole) and are_in_order(office, archives)):
+                and lists[1] and are_parts(office, archives, whole) and are_in_order(office, archives)):
             wrong.append(seed)
     print(''.join('wrong: closings, list %d\n' % seed for seed in wrong), end='')
-    print('%d stores that the model closed, %d closed numbers told, %d wrong' % (LISTS, told, len(wrong)))
+    print('%d stores that the model closed, %d closed numbers told, %d lists away, %d wrong' % (LISTS, told, away, len(wrong)))
     return len(wrong)

@@ -1,11 +1,16 @@
 """How a store's history is put away: which files `close` takes for an archive of a store, and what goes from it
 (crates/office_closing/README.md).
 
-Both are offices of the model, the archive a copy of the store as it was some time before. What is compared are their rows.
+Both are offices of the model, the archive a copy of the store as it was some time before. What is compared are their rows. Lists
+of vessels go by the store alone: their lines are kept in its register.
 """
 import copy
 
-from .register import EMPTY, Archive, Segment, is_file_name, is_sound, last_closed, with_archive
+from .deliveries import kept, run
+from .lookups import own_lines
+from .naming import SIDES, lists_named
+from .register import (
+    EMPTY, Archive, Segment, Settled, is_file_name, is_sound, last_closed, with_archive, with_lists, without_lists_of)
 from .rows import interchange_rows, partner_rows, visit_rows
 
 
@@ -61,29 +66,60 @@ def is_of_store(store, archive):
         and all(row[3] <= other[3] for row, other in zip(copied, own)) and newest[1] <= newest[0])
 
 
+# ---- lists
+
+def waited_for(store):
+    """The lists that a text names which waits: it is kept under a number beyond its account's next one."""
+    deliveries, found = store.deliveries, set()
+    for delivery in kept(deliveries):
+        if delivery.number > run(deliveries, delivery.partner) + 1:
+            found.update(lists_named(store.setup, delivery.text))
+    return found
+
+
+def text_of_lines(lines):
+    """The text of a list's lines by their containers: the number, the port, and a line feed."""
+    return ''.join('%s%s\n' % (number, line.port) for number, line in sorted(lines.items()))
+
+
+def lists_to_go(store, place):
+    """The lists that stand in the store, are done to the last line, and are named by no text that waits; each as it is put away
+    with the archive of that place."""
+    lists, waiting = {}, waited_for(store)
+    for (call, side, number), line in own_lines(store).items():
+        lists.setdefault((call, side), {})[number] = line
+    return {
+        (call, side): Settled(*call, SIDES[side], place, text_of_lines(lines)) for (call, side), lines in lists.items()
+        if all(line.is_done for line in lines.values()) and (call, side) not in waiting}
+
+
 # ---- closing
 
 def close(store, archive, store_file, archive_file):
     """Closes a store by an archive, which are the files of these names in one folder. The fault, or None. A closing that was
-    done is done again if the archive is the store's last."""
+    done is done again if the archive is the store's last; then of the lists those go again that its register has so with that
+    archive."""
     if store.register.mark:
         return 'Closed'
     after = raised(archive, archive_file)
-    is_done = archive.register.mark == store_file and store.register == after
+    place = len(after.archives)
+    is_done = archive.register.mark == store_file and without_lists_of(store.register, place) == after
     is_new = archive.register.mark in (None, store_file) and store.register == archive.register._replace(mark=None)
     if not is_of_store(store, archive) or not (is_done or is_new) or not is_sound(after) or not is_file_name(store_file):
         return 'Archive'
     if not is_done and not are_alike(store, archive):
         return 'Archive'
-    going = visits_to_go(store, archive)
+    visits, lists = visits_to_go(store, archive), lists_to_go(store, place)
     archive.register = archive.register._replace(mark=store_file)
-    store.register = after
-    store.gone = store.gone | set(going)
+    if is_new:
+        store.register = with_lists(after, lists.values())
+    store.gone = store.gone | set(visits)
+    store.away = store.away | {name for name, settled in lists.items() if settled in store.register.lists}
     return None
 
 
 def never_closed(office):
     """The same office, of which nothing was put away."""
     whole = copy.deepcopy(office)
-    whole.register, whole.gone, whole.archives, whole.lost = EMPTY, frozenset(), {}, {}
+    whole.register, whole.gone, whole.away, whole.archives, whole.lost = EMPTY, frozenset(), frozenset(), {}, {}
     return whole

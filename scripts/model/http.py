@@ -11,7 +11,7 @@ from .keys import PARTS, decoded, read_key
 from .moments import are_digits
 from .office import json_text
 from .pages import KINDS as PAGED, page, start, told, typed
-from .reports import OF_NUMBERS, Lost, report
+from .reports import OF_NUMBERS, Lost, own_report, report
 from .setup import is_utf8
 from .syntax import BREAKS, FAULTS, LONGEST_TEXT, is_printable, number_of, sender_of
 
@@ -189,7 +189,7 @@ def of_archive(office, head, place, path):
         raise Lost
     archive.lost = office.lost
     try:
-        return kind, report(archive, kind, key)
+        return kind, own_report(archive, kind, key)
     finally:
         archive.lost = {}
 

@@ -29,10 +29,15 @@ def own_visits(office):
     return [(number, visit) for number, visit in numbered if number not in office.gone]
 
 
+def archives_line(office):
+    """How many archives were not asked, if there are any."""
+    count = len(office.register.archives)
+    return ['ARCHIVES %d' % count] * (count > 0)
+
+
 def with_archives(office, lines):
     """Lines on what the store has, and after them how many archives were not asked; None, if there is nothing to tell."""
-    count = len(office.register.archives)
-    return text_of(lines + ['ARCHIVES %d' % count] * (count > 0)) or None
+    return text_of(lines + archives_line(office)) or None
 
 
 # ---- a container
@@ -74,6 +79,12 @@ def container_lines(office, box):
 
 
 # ---- a vessel
+
+def own_lines(office):
+    """The lines of lists that the store has, by call, side and container: all, but for those of the lists that are away."""
+    lines = office.fold().terminal.lines
+    return {(call, side, number): line for (call, side, number), line in lines.items() if (call, side) not in office.away}
+
 
 def words_of(*words):
     """Those that are not empty, with a space between each two."""
@@ -121,15 +132,20 @@ def discharge_lines(terminal, jobs):
 def work(office, vessel, voyage, side):
     """What is left to do of a list that has a line, open or done."""
     terminal, call = office.fold().terminal, (vessel, voyage)
-    if not any((of_call, of_side) == (call, side) for of_call, of_side, _number in terminal.lines):
+    if not any((of_call, of_side) == (call, side) for of_call, of_side, _number in own_lines(office)):
         return None
     lines = {'load': load_lines, 'discharge': discharge_lines}[side](terminal, open_on(terminal, call, side))
     return text_of(['%s WORK %s %s' % (side.upper(), vessel, voyage)] + lines)
 
 
 def calls(office):
+    """The lists that stand in the store; if lists were ever put away also how many archives there are."""
+    return own_calls(office) + text_of(archives_line(office) if office.register.lists else [])
+
+
+def own_calls(office):
     """Each list that has a line, by vessel, voyage and side, with how many of its lines are open and how many are done."""
-    lines = office.fold().terminal.lines
+    lines = own_lines(office)
     texts = []
     for call in sorted({of_call for of_call, _side, _number in lines}):
         for side in ('load', 'discharge'):

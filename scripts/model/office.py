@@ -10,6 +10,7 @@ from .events import (
     NAMES, Added, Delivered, Migrated, account_answer, as_delivery, deliveries_of, delivery_of, migration_in, refusal,
     setup_after, setup_with)
 from .messages import lines_of, list_replaced, message_fault
+from .naming import lists_named
 from .register import EMPTY, archive_of
 from .rules import NEWEST, RULES
 from .setup import DEMO, orders_of
@@ -109,8 +110,8 @@ class Office:
     """The set-up with which it was opened, and all that happened to it since: texts that were delivered, admitted or not,
     accounts that were added, and the migration of its store. Each answer is computed from these alone, anew. `version` is
     that of its store. A closing is no event: `register` says what is closed, `gone` has the numbers of the visits that went
-    from the store, `archives` are the offices that its archives are, and `lost` is what is said of one that can't be asked, both
-    by place.
+    from the store, `away` the calls and sides of the lists that did and were not brought back, `archives` are the offices that its
+    archives are, and `lost` is what is said of one that can't be asked, both by place.
 
     For long streams that is too slow: 300 deliveries would take the first of them 300 times. There an office is made
     with `keeps_fold`, and keeps what was admitted and the fold of the order so far: the order after one delivery more begins
@@ -121,7 +122,7 @@ class Office:
     def __init__(self, opening=DEMO, keeps_fold=False, version=NEWEST):
         self.opening, self.events, self.version = opening, [], version
         self.kept, self.admitted = Fold(opening) if keeps_fold else None, []
-        self.register, self.gone, self.archives, self.lost = EMPTY, frozenset(), {}, {}
+        self.register, self.gone, self.away, self.archives, self.lost = EMPTY, frozenset(), frozenset(), {}, {}
 
     @property
     def setup(self):
@@ -163,11 +164,13 @@ class Office:
 
     def answer(self, delivered):
         """The answer to a delivery, as a dict. CR and LF at both ends are no part of the text (own). One that is refused
-        keeps nothing, and neither does one whose number only an archive could answer that can't be asked."""
+        keeps nothing, and neither does one whose number only an archive could answer that can't be asked. The lists that an
+        admitted one names are brought back, unless its number is closed."""
         event, setup, before = Delivered(delivered.strip(BREAKS)), self.setup, self.deliveries
         fault = refusal(setup, event.text)
         if not fault and self.is_lost(sender_of(event.text), number_of(event.text)):
             return dict(answer='not now')
+        self.brings_back(self.lists_away_in(event.text))
         self.happens(event)
         if fault:
             return refused(setup, event.text, fault)
@@ -185,6 +188,17 @@ class Office:
         """The place of the archive that keeps a number; None, if it is not closed."""
         known = list(self.setup.partners)
         return archive_of(self.register, known.index(partner) + 1, number) if partner in known else None
+
+    def lists_away_in(self, text):
+        """The lists that are away and that a text names, each once, in its order; none, if it is not admitted, or its number is
+        closed."""
+        if not self.away or refusal(self.setup, text) or self.archive_of(sender_of(text), number_of(text)) is not None:
+            return []
+        return [name for name in dict.fromkeys(lists_named(self.setup, text)) if name in self.away]
+
+    def brings_back(self, names):
+        """These lists stand in its store again."""
+        self.away = self.away - set(names)
 
     def is_lost(self, partner, number):
         """Whether the archive that keeps a number can't be asked."""

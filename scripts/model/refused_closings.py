@@ -15,11 +15,12 @@ from .days import Day
 from .office import Office
 from .old_stores import write_store
 from .opened import fault_of_rows
-from .register import Archive, Register, Segment, is_sound
+from .register import Archive, Register, Segment, Settled, is_sound
 from .rows import ENDS, REGISTER, REGISTER_COLUMNS, copy_files, registered_in, rows_in, rows_of
 from .setup import DEMO, with_accounts
 from .setups import files_of
 from .stores import Program
+from .vessels import REPORTED, Vessels
 
 DELIVERIES = 30             # before a copy
 MORE = 12                   # between two
@@ -36,8 +37,16 @@ UNSOUND = [
     'UPDATE segment SET partner = 1000 WHERE partner = 1', 'UPDATE segment SET partner = 0 WHERE partner = 1',
     "INSERT INTO closed_for VALUES ('a/b')", "INSERT INTO closed_for VALUES ('')",
     'DELETE FROM archive', 'DELETE FROM segment', "UPDATE archive SET file = '%s'" % ('a' * 256),
-    "INSERT INTO closed_for VALUES ('a'), ('b')"]
+    "INSERT INTO closed_for VALUES ('a'), ('b')", "INSERT INTO settled VALUES ('9123456', 'V12', 1, 2, '')",
+    "INSERT INTO settled VALUES ('9123456', 'V12', 1, 0, '')", "INSERT INTO settled VALUES ('9123456', 'V12', 0, 1, '')",
+    "INSERT INTO settled VALUES ('9123456', 'V12', 3, 1, '')", "INSERT INTO settled VALUES ('', 'V12', 1, 1, '')",
+    "INSERT INTO settled VALUES ('9123456', 'V' || char(9), 2, 1, '')",
+    "INSERT INTO settled VALUES ('%s', 'V12', 2, 1, '')" % ('V' * 36)]
 EMPTIED = ''.join('DELETE FROM %s;' % table for table in REGISTER_COLUMNS)
+# what makes lines of lists unreadable
+UNREADABLE = [
+    "UPDATE settled SET lines = ''", "UPDATE settled SET lines = substr(lines, 1, length(lines) - 1)",
+    "UPDATE settled SET lines = 'X' || lines", "UPDATE settled SET lines = lines || char(10)"]
 # what makes one that its store doesn't fit
 UNFIT = [
     'UPDATE segment SET last = last + 1 WHERE partner = 1',
@@ -237,7 +246,7 @@ def judged(path):
     found = registered_in(path)[0]
     register = Register(
         tuple(Archive(*row) for row in found['archive']), tuple(Segment(*row) for row in found['segment']),
-        found['closed_for'][0][0] if found['closed_for'] else None)
+        found['closed_for'][0][0] if found['closed_for'] else None, tuple(Settled(*row) for row in found['settled']))
     is_one = len(found['closed_for']) <= 1 and is_sound(register)
     return fault_of_rows(rows_in(path)[0], register=register) if is_one else 'Damaged'
 
@@ -269,8 +278,52 @@ def try_registers(room, day):
         room.beside.report('the register put back', room.program('office.db'), room.offices[room.path('office.db')], kind)
 
 
+def try_older(room, day):
+    """Registers of before lists were put away, without a table of them: the next closing makes it."""
+    room.make('office.db', day)
+    room.copy('office.db', 'first.db')
+    room.close('office.db', 'first.db')
+    for name in ('office.db', 'first.db'):
+        edit(room.path(name) + REGISTER, 'DROP TABLE settled')
+    office, vessels = room.offices[room.path('office.db')], Vessels(day.random, day)
+    for kind in ('calls', 'archives'):
+        room.beside.report('an older register', room.program('office.db'), office, kind)
+    for text in vessels.new_call(office):
+        room.deliver('office.db', [text])
+    room.copy('office.db', 'second.db')
+    room.close('office.db', 'second.db')
+    room.beside.report('an older register', room.program('office.db'), office, 'calls')
+    room.beside.counted['lists put away, of an older register'] += len(office.away)
+
+
+def try_unreadable(room, day):
+    """Lines that a register has and that can't be read: what needs them is not to be had, and all else goes on."""
+    room.make('office.db', day)
+    office, vessels = room.offices[room.path('office.db')], Vessels(day.random, day)
+    for text in vessels.new_call(office):
+        room.deliver('office.db', [text])
+    room.copy('office.db', 'first.db')
+    room.close('office.db', 'first.db')
+    for call, side in office.away:
+        key, before = '/'.join(word.replace('/', '%2F') for word in (*call, side)), rows_in(room.path('office.db'))
+        for change in UNREADABLE:
+            copy_files(room.path('office.db'), room.path('kept.db'))
+            edit(room.path('office.db') + REGISTER, change)
+            for kind in ('list', 'work'):
+                given = room.program('office.db').report(kind, key)
+                room.beside.expect('lines that can\'t be read', change, told('Damaged'), given)
+            text = vessels.text(office, REPORTED[side], call, ['ABCU0000017'])
+            room.beside.expect('lines that can\'t be read', change, ('{"answer":"not now"}\n', '', 3), (
+                room.program('office.db').deliver(text)))
+            room.beside.expect('lines that can\'t be read', change, before, rows_in(room.path('office.db')))
+            for kind in ('calls', 'yard', 'archives'):
+                room.beside.report('lines that can\'t be read', room.program('office.db'), office, kind)
+            copy_files(room.path('kept.db'), room.path('office.db'))
+        room.beside.report('lines put back', room.program('office.db'), office, 'list', key)
+
+
 def try_all(beside):
     """Each in a folder of its own."""
-    for trial in (try_files, try_copies, try_marks, try_beside, try_registers):
+    for trial in (try_files, try_copies, try_marks, try_beside, try_registers, try_older, try_unreadable):
         with tempfile.TemporaryDirectory(prefix='beside-') as folder:
             trial(Room(beside, folder), Day(trial.__name__))

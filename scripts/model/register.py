@@ -7,10 +7,13 @@ from collections import namedtuple
 Archive = namedtuple('Archive', 'place file visits')
 # up to `last` the interchanges of an account, by its number, are in the archives 1 to this one
 Segment = namedtuple('Segment', 'partner archive last')
-# `mark` is the file of the store that goes on, in an archive's own register, and else None
-Register = namedtuple('Register', 'archives segments mark')
+# the lines of a list as they were put away with an archive, as a text: of each its container's number and its port; `side` is 1
+# for a load list, 2 for a discharge list
+Settled = namedtuple('Settled', 'vessel voyage side archive lines')
+# `mark` is the file of the store that goes on, in an archive's own register, and else None; the lists are in order
+Register = namedtuple('Register', 'archives segments mark lists')
 
-EMPTY = Register((), (), None)
+EMPTY = Register((), (), None, ())
 MOST_ARCHIVES, MOST_ACCOUNTS, MOST_NUMBER = 9999, 999, 999999999
 
 
@@ -33,6 +36,27 @@ def newest_closed(register):
 def with_archive(register, archive, segments):
     """With one archive more, and what it closes."""
     return register._replace(archives=register.archives + (archive,), segments=register.segments + tuple(segments))
+
+
+def lines_of(register, name):
+    """The lines of a list, by its vessel, voyage and side, as they were put away last; None, if they never were."""
+    texts = [settled.lines for settled in register.lists if settled[:3] == name]
+    return texts[-1] if texts else None
+
+
+def with_lists(register, lists):
+    """With these lists more."""
+    return register._replace(lists=tuple(sorted(register.lists + tuple(lists))))
+
+
+def without_lists_of(register, place):
+    """Without the lists that were put away with the archive of that place."""
+    return register._replace(lists=tuple(settled for settled in register.lists if settled.archive != place))
+
+
+def is_name(text):
+    """A vessel or a voyage: 1 to 35 printable bytes."""
+    return 1 <= len(text) <= 35 and all(' ' <= character <= '~' for character in text)
 
 
 def is_file_name(name):
@@ -61,4 +85,8 @@ def is_sound(register):
             1 <= segment.partner <= MOST_ACCOUNTS and segment.archive in places and 1 <= segment.last <= MOST_NUMBER
             for segment in register.segments)
         and all(do_rise(numbers, strictly=True) for numbers in lasts)
+        and all(
+            is_name(settled.vessel) and is_name(settled.voyage) and settled.side in (1, 2) and settled.archive in places
+            for settled in register.lists)
+        and len({settled[:4] for settled in register.lists}) == len(register.lists)
         and (register.mark is None or is_file_name(register.mark)))

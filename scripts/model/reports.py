@@ -6,7 +6,7 @@ answers are.
 from . import lookups
 from .deliveries import first_text, run
 from .keys import PARTS, read_key
-from .lookups import own_visits, standing, with_archives
+from .lookups import own_lines, own_visits, standing, with_archives
 from .moments import day_number
 from .names import slot_text
 from .office import json_text
@@ -59,7 +59,7 @@ def visits(office, box):
 def vessel_list(office, vessel, voyage, side):
     """The lines of a list by container, and how many are open and done."""
     lines = [
-        (number, line) for ((call, of_side, number), line) in sorted(office.fold().terminal.lines.items())
+        (number, line) for ((call, of_side, number), line) in sorted(own_lines(office).items())
         if call == (vessel, voyage) and of_side == side]
     if not lines:
         return None
@@ -111,8 +111,9 @@ REPORTS = {
     'reply': reply, 'contrl': lookups.contrl}
 
 
-# those on one interchange
+# those on one interchange, and those on one list
 OF_NUMBERS = ('ticket', 'reply', 'contrl')
+OF_LISTS = ('list', 'work')
 
 
 class Lost(Exception):
@@ -128,10 +129,22 @@ WHOLE = [(kind, '') for kind in REPORTS if not has_key(kind)]
 
 
 def report(office, kind, key=''):
-    """The report of a kind under a key. None where nothing is found, also under a key that can't be read."""
-    if not has_key(kind):
-        return REPORTS[kind](office)
-    values = read_key(kind, key)
+    """The report of a kind under a key. None where nothing is found, also under a key that can't be read. A list that is away is
+    brought back before it is asked for."""
+    values = read_key(kind, key) if has_key(kind) else []
+    if values and kind in OF_LISTS:
+        office.brings_back([((values[0], values[1]), values[2])])
+    return reported(office, kind, values)
+
+
+def own_report(office, kind, key=''):
+    """The same as an archive is asked by its store: no list is brought back, and of its lists it tells those that stand there."""
+    values = read_key(kind, key) if has_key(kind) else []
+    return lookups.own_calls(office) if kind == 'calls' else reported(office, kind, values)
+
+
+def reported(office, kind, values):
+    """The report of a kind on what a key names; None where it names nothing."""
     if values and kind in OF_NUMBERS and office.is_lost(*values):
         raise Lost
     return None if values is None else REPORTS[kind](office, *values)

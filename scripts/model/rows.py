@@ -9,9 +9,10 @@ import tempfile
 from contextlib import closing, contextmanager
 
 from .deliveries import kept, run
-from .lookups import own_visits
+from .lookups import own_lines, own_visits
 from .names import slot_text
 from .office import json_text
+from .naming import SIDES
 from .rules import NEWEST, RULES
 from .setup import KINDS
 
@@ -37,7 +38,6 @@ OLD_VERSIONS = {str(version) for version in RULES} - {VERSION}
 # before the newest version a visit had no weight
 OLD_COLUMNS = dict(COLUMNS, visit=COLUMNS['visit'].replace(' kilos', ''))
 WAYS = {'gate': 1, 'ship': 2}
-SIDES = {'load': 1, 'discharge': 2}
 
 
 # ---- what they should hold
@@ -91,10 +91,10 @@ def place_rows(office):
 
 
 def listed_rows(office):
-    """The lines of all lists."""
+    """The lines of all lists, but for those that are away."""
     return [
         (*call, SIDES[side], number, line.port, int(line.is_done))
-        for (call, side, number), line in office.fold().terminal.lines.items()]
+        for (call, side, number), line in own_lines(office).items()]
 
 
 def setting_rows(office):
@@ -117,11 +117,15 @@ def rows_of(office):
 
 
 def register_rows(office):
-    """What the tables of the register beside it should hold: no list was put away."""
-    register = office.register
+    """What the tables of the register beside it should hold."""
+    return rows_of_register(office.register)
+
+
+def rows_of_register(register):
+    """What the tables of a register should hold."""
     return {
         'archive': sorted(map(tuple, register.archives)), 'segment': sorted(map(tuple, register.segments)),
-        'closed_for': [(register.mark,)] if register.mark else [], 'settled': []}
+        'closed_for': [(register.mark,)] if register.mark else [], 'settled': sorted(map(tuple, register.lists))}
 
 
 # ---- what a store holds

@@ -110,8 +110,8 @@ fn cleared(rt: &impl Abort, alloc: Global) -> Result<Connection<MemStore>, Fail>
 
 /// A shelf with one archive, which is opened once.
 #[derive(Drop)]
-struct Drawer {
-    archive: Option<Connection<MemStore>>,
+pub(crate) struct Drawer {
+    pub(crate) archive: Option<Connection<MemStore>>,
 }
 
 impl Shelf<MemStore> for Drawer {
@@ -146,7 +146,7 @@ fn opened(
 }
 
 /// Delivers a text to a store of which nothing was put away and to one beside its archive, which answer alike.
-fn assert_answers(
+pub(crate) fn assert_answers(
     rt: &impl Abort,
     alloc: Global,
     whole: &mut Desk<MemStore>,
@@ -208,7 +208,7 @@ fn an_account_is_added_beside_archives(rt: HostRuntime) -> Result<(), Fail> {
 }
 
 /// The text of a report, if it is one.
-fn text_of(found: &Result<Option<String>, NotNow>) -> Option<&str> {
+pub(crate) fn text_of(found: &Result<Option<String>, NotNow>) -> Option<&str> {
     match found {
         Ok(Some(text)) => Some(text.as_str()),
         _ => None,

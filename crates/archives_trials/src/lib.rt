@@ -3,3 +3,5 @@
 
 #[cfg(test)]
 mod archives;
+#[cfg(test)]
+mod lists;
