@@ -8,6 +8,7 @@ use Rattle.std.proofs.lemmas.List.Sorted.{Contains-permutation, IsPermutation-sy
 use Rattle.terminal_core.specs.Rows.{VisitContent}
 use Rattle.office_loading.specs.Tables.{LoadsOwn}
 use Rattle.office_done_lists.specs.Waiting.{AreWaitedFor}
+use Rattle.office_done_lists.proofs.AccountLemmas.{accounts_by_id}
 use Rattle.office_done_lists.proofs.GoesLemmas.{all_found, goes_as}
 use Rattle.office_lists.specs.OwnLists.{ListName}
 use Rattle.office_register.specs.declared.register.Segment.{Segment}
@@ -34,7 +35,7 @@ use Rattle.office_history.proofs.Shown.{head_in, tail_in}
 use Rattle.office_closing.proofs.LawLemmas.{compared_held, goes_if_not, may_stay}
 use Rattle.office_closing.proofs.PlanLemmas.{account_found, numbers_are_from, segments_raise, segments_rise}
 use Rattle.office_closing.proofs.StageLemmas.{one_longer}
-use Rattle.office_closing.proofs.ShownLemmas.{accounts_by_id, lines_loaded, visits_loaded}
+use Rattle.office_closing.proofs.ShownLemmas.{lines_loaded, visits_loaded}
 
 -- ---- texts
 
@@ -147,7 +148,7 @@ module _ (held : Held) (old : Files) (has : AreHeld held old) (names : FileNames
   account_of : (partner number : ℕ) → last_closed held.copied.segments partner < number → number ≤ closed_after held closing partner → IsBelowNext held.own partner number
   account_of partner number above within =
       let are = of_own.nexts held.own has.own in
-      let by_id = accounts_by_id held.own own.nexts has.own_orderly are in
+      let by_id = accounts_by_id held.own own.nexts has.own_orderly.accounts are in
       let among = ap (λ l. is_among l partner number) (sym is.numbers) ∙ raises.each partner number above within in
       let found = account_found (last_closed copy.register.segments) 1 copy.nexts own.nexts are.0 is.is_copy.of_store.no_later.nexts by_id.next_numbers by_id.ids partner number among in
       record {

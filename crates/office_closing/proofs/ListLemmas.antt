@@ -90,9 +90,6 @@ pub one_more : (lists : List SettledList) (i : ℕ) (d : SettledList) → i < le
 one_more lists i d within =
     take-map list_content (i + 1) lists ∙ map_more list_content lists i d within ∙ ap (λ l. l ++ list_content (get_or lists i d) ∷ []) (sym (take-map list_content i lists))
 
-pub one_taken : (lists : List SettledList) (i : ℕ) (d : SettledList) → i < length lists → map list_content (take (i + 1) lists) ≡ map list_content (take i lists) ++ list_content (get_or lists i d) ∷ []
-one_taken lists i d within = map_more list_content lists i d within
-
 -- one more at the end of those that were found
 pub content_pushed : (found : List SettledList) (one : SettledList) (after : List SettledList) → after ≡ found ++ one ∷ [] → map list_content after ≡ map list_content found ++ list_content one ∷ []
 content_pushed found one after is = ap (map list_content) is ∙ map-append list_content found (one ∷ [])

@@ -1,11 +1,8 @@
--- What an opened office has, of rows in order: their visits, their lines, and the next numbers of their accounts.
-use Rattle.std.proofs.Common.{◌≡◌, ℕ, zero, suc, ◌+◌, ◌<◌, ◌≤◌, inl, inr, List, [], ◌∷◌, length, map, Bool, true, false, cond, Option, Some, None, refl, sym, ap, subst, ◌∙◌, arith}
-use Rattle.std.specs.Prelude.{◌==◌, count_by, Contains, IsSorted, IsTrue}
-use Rattle.std.specs.List.{range_with_len}
-use Rattle.std.specs.List.Sorted.{IsPermutation, IsNonDecreasing}
-use Rattle.std.specs.Ordering.{nat_cmp}
-use Rattle.std.proofs.lemmas.Bool.{cases_order, eqb-true, eq-eqb}
-use Rattle.std.proofs.lemmas.List.Sorted.{Contains-permutation, IsNonDecreasingBy-from_sort, IsPermutation-map, IsPermutation-sym, IsPermutation-trans, length_permutation, sum_by-IsPermutation}
+-- What an opened office has, of rows in order: their visits and their lines.
+use Rattle.std.proofs.Common.{◌≡◌, ℕ, List, [], ◌∷◌, map, Bool, true, false, Option, Some, None, refl, sym, ap, subst, ◌∙◌, arith}
+use Rattle.std.specs.Prelude.{Contains, IsTrue}
+use Rattle.std.specs.List.Sorted.{IsPermutation}
+use Rattle.std.proofs.lemmas.List.Sorted.{Contains-permutation, IsPermutation-sym, IsPermutation-trans}
 use Rattle.sqlite.specs.Effect.{Database}
 use Rattle.sqlite.specs.Order.{Row, column}
 use Rattle.box6346.specs.declared.slot.Slot.{Slot}
@@ -24,20 +21,17 @@ use Rattle.terminal_core.specs.declared.lines.LineState.{LineState}
 use Rattle.terminal_core.specs.declared.lines.LineState.TheVariants as line_state
 use Rattle.terminal_core.specs.declared.lines.Side.{Side}
 use Rattle.terminal_core.specs.declared.lines.Side.TheVariants as side
-use Rattle.terminal_core.proofs.Counted.{one_place}
-use Rattle.terminal_core.proofs.Numbered.{found_at}
 use Rattle.office_setup.specs.Setups.{SetupContent}
 use Rattle.office_done_lists.proofs.OnceLemmas.{once_same}
 use Rattle.office_rows.specs.ByKey.{AreListedOnce, lines_by}
-use Rattle.office_rows.specs.Rows.{ListingContent, Partner, Rows}
-use Rattle.office_rows.specs.Shown.{AreNexts}
+use Rattle.office_rows.specs.Rows.{ListingContent, Rows}
 use Rattle.office_rows.specs.Stored.{HasRows}
 use Rattle.office_rows.specs.Tables.{listing_table, visit_table}
 use Rattle.office_rows.specs.Values.{way_code, laden_code, line_values, out_by, out_partner, out_number, out_at, state_code, visit_values}
 use Rattle.office_checks.specs.Closed.{ClosedContent}
 use Rattle.office_loading.specs.Tables.{LoadsOwn}
 use Rattle.office_history.proofs.Loads.{number_one, numbered_rise, text_one}
-use Rattle.office_history.proofs.Shown.{Rises, above, fewer, head_in, one_at, rising_same, same_records, shown_in}
+use Rattle.office_history.proofs.Shown.{Rises, rising_same, same_records, shown_in}
 use Rattle.office_closing.specs.Closes.{AreOrderly}
 
 -- ---- a visit by its columns
@@ -152,60 +146,3 @@ lines_loaded closed db rows content state lines has loads once by_key =
     let in_order = shown_in listing_table (0 ∷ 1 ∷ 2 ∷ 3 ∷ 4 ∷ 5 ∷ []) (0 ∷ 1 ∷ 2 ∷ 3 ∷ []) line_values rows.lines db (map line_values shown.lines) (λ l. refl) has.rows_are.lines loads.1.lines in
     let same : shown.lines ≡ in_order.0 = same_records (λ l. Unit {0}) line_values line_one shown.lines in_order.0 (λ l inside. tt) (λ l inside. tt) in_order.2 in
     IsPermutation-trans rows.lines shown.lines lines (subst (IsPermutation rows.lines) (sym same) in_order.1) (once_same shown.lines lines office.listed_once once (are ∙ sym by_key))
-
--- ---- the accounts
-
-abbrev is_one : ℕ → ℕ → Bool
-is_one v x = x == v
-
--- numbers in order, none of them twice, rise
-rise : (low : ℕ) (xs : List ℕ) → IsNonDecreasing xs → ((v : ℕ) → count_by (is_one v) xs ≤ 1) → ((x : ℕ) → Contains xs x → low < x) → Rises (λ x. x) low xs
-rise low [] up once above = tt
-rise low (x ∷ xs) up once above = (
-  above x (head_in x xs),
-  rise x xs (λ i j d before within. up (suc i) (suc j) d (omega (arith, before)) (omega (arith, within)))
-      (λ v. fewer (is_one v) x xs (once v))
-      (λ y inside. beyond y inside (subst (λ z. x ≤ z) inside.2 (up zero (suc inside.0) y (omega arith) (omega (arith, inside.1))))),
-)
-  where
-    beyond : (y : ℕ) → Contains xs y → x ≤ y → x < y
-    beyond y inside low = elim (cases_order x y) [
-      | inl same ↦
-          let bad : 0 ≡ suc inside.0 = one_place (is_one y) (x ∷ xs) 0 (suc inside.0) x y (once y) refl (found_at xs y inside) (eq-eqb x y same) (eq-eqb y y refl) in
-          absurd (omega (arith, bad))
-      | inr o ↦ elim o [ inl below ↦ below | inr above ↦ absurd (omega (arith, low, above)) ]
-    ]
-
-rises_from : (low a n : ℕ) → low < a → Rises (λ x. x) low (range_with_len a n)
-rises_from low a zero below = tt
-rises_from low a (suc n) below = (below, rises_from a (a + 1) n (omega arith))
-
--- the ids in order are 1, 2 and so on
-in_range : (n : ℕ) (xs : List ℕ) → IsPermutation (range_with_len 1 n) xs → IsSorted nat_cmp xs → xs ≡ range_with_len 1 n
-in_range n xs same sorted =
-    let all = range_with_len 1 n in
-    sym (rising_same (λ x. x) 0 all xs (rises_from 0 1 n (omega arith))
-    (rise 0 xs (IsNonDecreasingBy-from_sort (λ x. x) xs sorted)
-    (λ v. subst (λ k. k ≤ 1) (sym (sum_by-IsPermutation (λ x. cond (x == v) 1 0) all xs same)) (one_at (λ x. x) (is_one v) v (λ x e. eqb-true x v e) 0 all (rises_from 0 1 n (omega arith))))
-    (λ x inside. above (λ x. x) 0 all x (rises_from 0 1 n (omega arith)) (Contains-permutation xs all x (IsPermutation-sym all xs same) inside)))
-    same)
-
-abbrev pub id_of : Partner → ℕ
-id_of p = p.id
-
--- the accounts by id are those of the rows, and numbered from 1
-pub record AreById (rows : Rows) (nexts : List ℕ) (by_id : List Partner) : Type 0 where
-  pub same : IsPermutation rows.partners by_id
-  pub next_numbers : nexts ≡ map (λ (p : Partner). p.next) by_id
-  pub ids : map id_of by_id ≡ range_with_len 1 (length by_id)
-
-pub accounts_by_id : (rows : Rows) (nexts : List ℕ) → AreOrderly rows → (are : AreNexts rows nexts) → AreById rows nexts are.0
-accounts_by_id rows nexts orderly are =
-    let by_id = are.0 in
-    let placed : IsPermutation (range_with_len 1 (length rows.partners)) (map id_of by_id) = subst (λ l. IsPermutation l (map id_of by_id)) orderly.accounts (IsPermutation-map id_of rows.partners by_id are.1) in
-    let count : length by_id ≡ length rows.partners = length_permutation rows.partners by_id are.1 in
-    record {
-      same = are.1;
-      next_numbers = are.3;
-      ids = in_range (length rows.partners) (map id_of by_id) placed are.2 ∙ ap (range_with_len 1) (sym count);
-    }

@@ -1,10 +1,10 @@
 use Rattle.std.proofs.Common.{◌≡◌, ◌+◌, ◌++◌, [], ◌∷◌, true, false, map, take, sym, ap, subst, ◌∙◌, arith, rules}
 use Rattle.std.specs.Prelude.{Contains}
-use Rattle.std.proofs.lemmas.List.{take_all}
+use Rattle.std.proofs.lemmas.List.{map_more, take_all}
 use Rattle.office_register.specs.Lists.{list_content}
 use Rattle.office_closing.specs.Planning.{AreInBoth}
 use Rattle.office_closing.proofs.BothLemmas.{both_passed, both_pushed}
-use Rattle.office_closing.proofs.ListLemmas.{content_pushed, one_taken}
+use Rattle.office_closing.proofs.ListLemmas.{content_pushed}
 use Rattle.office_closing.proofs.lists.lists_in_both.Goals.{else-is_among, then-is_among+in_ok-copied_list+in_ok-append}
 use Rattle.office_closing.proofs.lists.lists_in_both.Goals as goal
 
@@ -17,7 +17,7 @@ loop-list-preserved c =
     let others = map list_content c.args.others.now in
     let both = map list_content c.loop-list.both.items in
     let one = list_content item in
-    let seen : map list_content (take (i + 1) lists) ≡ ones ++ one ∷ [] = one_taken lists i item c.loop-list-test.true ∙ ap (λ l. ones ++ list_content l ∷ []) (sym c.list-item.is) in
+    let seen : map list_content (take (i + 1) lists) ≡ ones ++ one ∷ [] = map_more list_content lists i item c.loop-list-test.true ∙ ap (λ l. ones ++ list_content l ∷ []) (sym c.list-item.is) in
     elim c.if-is_among.branch [
       | then-is_among+in_ok-copied_list+in_ok-append w ↦
           let after : map list_content c.if-is_among.both.items ≡ both ++ one ∷ [] =
