@@ -135,7 +135,9 @@ fn opened(
     let mut archive = stored(rt, alloc)?.into_connection();
     let register = close_by(rt, alloc, &mut store, &mut archive)?;
     assert!(rt; store.is_autocommit());
-    let desk = Desk::open(alloc, store, register.closed(alloc)?)?;
+    let last = vec![in alloc; register.last_closed(1), register.last_closed(2)]?;
+    let newest_visit = register.newest_visit();
+    let desk = Desk::open(alloc, store, Closed { last, newest_visit })?;
     let archive = Some(archive);
     Ok(ArchivedDesk::new(desk, ManyArchives::new(Drawer { archive }, register)))
 }
