@@ -52,17 +52,16 @@ const A: Block = Block {
     tiers: 3,
 };
 
-fn account(alloc: Global, code: &str, kind: PartnerKind) -> Result<Account, AllocError> {
-    let code = String::from_str(alloc, code)?;
-    Ok(Account { code, kind })
-}
-
 fn setup(alloc: Global, codes: CodeTable) -> Result<Setup, AllocError>
     ensures { IfOk result (λ setup. length setup.partners.items ≤ 999) }
 {
     let terminal = String::from_str(alloc, "TERM1")?;
-    let line = account(alloc, "LINEA", PartnerKind::Line)?;
-    let quay = account(alloc, "QUAY1", PartnerKind::Quay)?;
+    let code = String::from_str(alloc, "LINEA")?;
+    let kind = PartnerKind::Line;
+    let line = Account { code, kind };
+    let code = String::from_str(alloc, "QUAY1")?;
+    let kind = PartnerKind::Quay;
+    let quay = Account { code, kind };
     let partners = Accounts::of(alloc, vec![in alloc; line, quay]?)?;
     let blocks = vec![in alloc; A]?;
     Ok(Setup {
@@ -112,8 +111,10 @@ fn close_by(
 ) -> Result<Register, Fail> {
     let mut register = empty_register(rt, alloc)?;
     let mut copied = empty_register(rt, alloc)?;
-    assert!(rt; store.is_autocommit() && archive.is_autocommit());
-    assert!(rt; register.is_autocommit() && copied.is_autocommit());
+    assert!(rt; store.is_autocommit());
+    assert!(rt; archive.is_autocommit());
+    assert!(rt; register.is_autocommit());
+    assert!(rt; copied.is_autocommit());
     close(
         alloc,
         store,
