@@ -1,9 +1,8 @@
 -- Lists that are put away are away.
-use Rattle.std.proofs.Common.{◌≡◌, ℕ, ◌+◌, ◌<◌, ◌≤◌, List, [], ◌∷◌, ◌++◌, length, map, Bool, true, false, cond, None, Some, inl, inr, refl, sym, ap, ap₂, subst, ◌∙◌, arith}
-use Rattle.std.specs.Prelude.{◌≢◌, ◌||◌, ◌&&◌, not, filter, Contains}
+use Rattle.std.proofs.Common.{◌≡◌, ℕ, ◌+◌, ◌<◌, ◌≤◌, List, [], ◌∷◌, length, map, Bool, true, false, cond, None, Some, inl, inr, refl, sym, ap, ap₂, subst, ◌∙◌, arith}
+use Rattle.std.specs.Prelude.{◌≢◌, ◌||◌, ◌&&◌, not, filter, Contains, IsPermutation}
 use Rattle.std.specs.FinMap as finite_map
 use Rattle.std.specs.List.{AllByRecursion}
-use Rattle.std.specs.Option.{option_or}
 use Rattle.std.specs.Ordering.{eq_by_cmp}
 use Rattle.std.proofs.lemmas.Bool.{cases_eq, cases_order}
 use Rattle.edi_messages.specs.declared.codes.PartnerKind.{PartnerKind}
@@ -35,10 +34,9 @@ use Rattle.office_lists.specs.Bringing.{is_list, is_of, lines_of}
 use Rattle.office_lists.specs.Naming.{AreHere, lists_named_by}
 use Rattle.office_lists.specs.OwnLists.{ListName, is_own_line, list_name, list_of, rows_without_lists}
 use Rattle.office_lists.proofs.AlikeLemmas.{lists_are, named_same}
-use Rattle.office_lists.proofs.AwayLemmas.{away_with}
 use Rattle.office_lists.proofs.BringingLemmas.{same_tests, twice}
 use Rattle.office_done_lists.specs.Going.{IsWaiting, MayGo, lines_on, lists_in}
-use Rattle.office_done_lists.specs.Laws.{AwayStaysWithClosing, KeepsLines, PutAwayListsAreAway}
+use Rattle.office_done_lists.specs.Laws.{AwayStaysWithClosing, KeepLines, PutAwayListsAreAway}
 
 -- ---- lines of lists that are not away
 
@@ -192,70 +190,70 @@ module _ (content : SetupContent) (es : List Event) (archived : Archived) (own w
         };
       }
 
--- ---- one archive more
+-- ---- the archives that a store then has
 
 no_more : (a b : Bool) → a ≡ false → b ≡ false → (a || b) ≡ false
 no_more a b e f = ap₂ ◌||◌ e f
 
--- names of lists that are here, of which none goes
-still_here : (away gone : ListName → Bool) (lists : List ListName) → AreHere away lists → ((list : ListName) → Contains lists list → gone list ≡ false) → AreHere (λ (list : ListName). away list || gone list) lists
-still_here away gone [] here stay = tt
-still_here away gone (list ∷ lists) here stay =
-    (no_more (away list) (gone list) here.0 (stay list (head_in list lists)), still_here away gone lists here.1 (λ other has. stay other (tail_in list other lists has)))
+-- what is not there is no part of it
+no_part : (part all : Bool) → (part ≡ true → all ≡ true) → all ≡ false → part ≡ false
+no_part true all within none = sym (within refl) ∙ none
+no_part false all within none = refl
 
-module _ (content setup : SetupContent) (es : List Event) (archives : List Archive) (away gone : ListName → Bool) (archived : Archived) (own whole : Rows) (one : Archive) (parts : ArePartsAfter content es archived own whole)
-    (are : AreAway archives away content es own) (says : SaysSame setup (content_after content es)) (may : (list : ListName) → gone list ≡ true → MayGo setup (rows_without_lists away own) list)
-    (keeps : (list : ListName) → gone list ≡ true → KeepsLines one own list) (others : (list : ListName) → gone list ≡ false → one.lists list ≡ None) where
-  abbrev more : List Archive
-  more = archives ++ one ∷ []
+-- names of lists that are here, of which none is deleted
+still_here : (away deleted : ListName → Bool) (lists : List ListName) → AreHere away lists → ((list : ListName) → Contains lists list → deleted list ≡ false) → AreHere (λ (list : ListName). away list || deleted list) lists
+still_here away deleted [] here stay = tt
+still_here away deleted (list ∷ lists) here stay =
+    (no_more (away list) (deleted list) here.0 (stay list (head_in list lists)), still_here away deleted lists here.1 (λ other has. stay other (tail_in list other lists has)))
 
+module _ (content setup : SetupContent) (es : List Event) (archives after : List Archive) (away goes deleted : ListName → Bool) (archived : Archived) (own whole : Rows) (parts : ArePartsAfter content es archived own whole)
+    (are : AreAway archives away content es own) (says : SaysSame setup (content_after content es)) (may : (list : ListName) → goes list ≡ true → MayGo setup (rows_without_lists away own) list)
+    (keep : (list : ListName) → goes list ≡ true → KeepLines after (rows_without_lists away own) list) (others : (list : ListName) → goes list ≡ false → lines_away after list ≡ lines_away archives list)
+    (within : (list : ListName) → deleted list ≡ true → goes list ≡ true) where
   -- a list that goes was not away, so it has the lines that the store shows of it
-  same_lines : (list : ListName) → gone list ≡ true → lines_on list (rows_without_lists away own).lines ≡ lines_of list own
-  same_lines list goes = lines_there away list (is_there away list own.lines (may list goes).done.some) own.lines
+  same_lines : (list : ListName) → goes list ≡ true → lines_on list (rows_without_lists away own).lines ≡ lines_of list own
+  same_lines list its = lines_there away list (is_there away list own.lines (may list its).done.some) own.lines
 
-  has_lines : (list : ListName) → gone list ≡ true → lines_of list own ≢ []
-  has_lines list goes = subst (λ lines. lines ≢ []) (same_lines list goes) (may list goes).done.some
+  has_lines : (list : ListName) → goes list ≡ true → lines_of list own ≢ []
+  has_lines list its = subst (λ lines. lines ≢ []) (same_lines list its) (may list its).done.some
 
-  are_done : (list : ListName) → gone list ≡ true → AreDone (lines_of list own)
-  are_done list goes = subst AreDone (same_lines list goes) (may list goes).done.done
+  are_done : (list : ListName) → goes list ≡ true → AreDone (lines_of list own)
+  are_done list its = subst AreDone (same_lines list its) (may list its).done.done
 
-  goes_away : (list : ListName) → gone list ≡ true → ArePutAway more list (lines_of list own)
-  goes_away list goes = record {
-    kept = (keeps list goes).kept;
-    are = away_with archives one list ∙ ap (λ o. option_or o (lines_away archives list)) (keeps list goes).are;
-    same = (keeps list goes).same;
-    done = are_done list goes;
+  goes_away : (list : ListName) → goes list ≡ true → ArePutAway after list (lines_of list own)
+  goes_away list its = record {
+    kept = (keep list its).kept;
+    are = (keep list its).are;
+    same = subst (λ lines. IsPermutation lines (keep list its).kept) (same_lines list its) (keep list its).same;
+    done = are_done list its;
   }
 
-  as_before : (list : ListName) → gone list ≡ false → lines_away more list ≡ lines_away archives list
-  as_before list stays = away_with archives one list ∙ ap (λ o. option_or o (lines_away archives list)) (others list stays)
-
-  stays_away : (list : ListName) → gone list ≡ false → away list ≡ true → ArePutAway more list (lines_of list own)
+  stays_away : (list : ListName) → goes list ≡ false → away list ≡ true → ArePutAway after list (lines_of list own)
   stays_away list stays is = record {
     kept = (are.kept list is).kept;
-    are = as_before list stays ∙ (are.kept list is).are;
+    are = others list stays ∙ (are.kept list is).are;
     same = (are.kept list is).same;
     done = (are.kept list is).done;
   }
 
-  kept_then : (list : ListName) (is goes : Bool) → away list ≡ is → gone list ≡ goes → (is || goes) ≡ true → ArePutAway more list (lines_of list own)
+  kept_then : (list : ListName) (is its : Bool) → away list ≡ is → goes list ≡ its → (is || deleted list) ≡ true → ArePutAway after list (lines_of list own)
   kept_then list is true e f either = goes_away list f
   kept_then list true false e f either = stays_away list f e
-  kept_then list false false e f either = absurd cc
+  kept_then list false false e f either = absurd (let gone = within list either in cc)
 
-  done_then : (list : ListName) (kept : List ListingContent) (goes : Bool) → gone list ≡ goes → lines_away more list ≡ Some kept → HasDoneLine list (machine_after content es).terminal.lines
+  done_then : (list : ListName) (kept : List ListingContent) (its : Bool) → goes list ≡ its → lines_away after list ≡ Some kept → HasDoneLine list (machine_after content es).terminal.lines
   done_then list kept true e had = has_done content es archived own whole parts list (has_lines list e) (are_done list e)
-  done_then list kept false e had = are.done list kept (sym (as_before list e) ∙ had)
+  done_then list kept false e had = are.done list kept (sym (others list e) ∙ had)
 
   -- no text that waits names a list that goes
   unnamed : (partner number : ℕ) (text : List ℕ) → run (deliveries_of content es) partner < number → text_in own partner number ≡ Some text
-      → (list : ListName) → Contains (lists_after content es partner text) list → gone list ≡ false
-  unnamed partner number text far kept list names = by (gone list) refl
+      → (list : ListName) → Contains (lists_after content es partner text) list → deleted list ≡ false
+  unnamed partner number text far kept list names = no_part (deleted list) (goes list) (within list) (by (goes list) refl)
     where
       waiting : IsWaiting own partner number text
       waiting = waits content es archived own whole parts partner number text far kept
 
-      by : (goes : Bool) → gone list ≡ goes → goes ≡ false
+      by : (its : Bool) → goes list ≡ its → its ≡ false
       by true e = absurd ((may list e).free (record {
         partner = partner;
         number = number;
@@ -265,16 +263,16 @@ module _ (content setup : SetupContent) (es : List Event) (archives : List Archi
       }))
       by false e = refl
 
-  put_away_then : AreAway more (λ (list : ListName). away list || gone list) content es own
+  put_away_then : AreAway after (λ (list : ListName). away list || deleted list) content es own
   put_away_then = record {
-    kept = λ list either. kept_then list (away list) (gone list) refl refl either;
-    done = λ list kept had. done_then list kept (gone list) refl had;
-    waits = λ partner number text far kept. still_here away gone (lists_after content es partner text) (are.waits partner number text far kept) (unnamed partner number text far kept);
+    kept = λ list either. kept_then list (away list) (goes list) refl refl either;
+    done = λ list kept had. done_then list kept (goes list) refl had;
+    waits = λ partner number text far kept. still_here away deleted (lists_after content es partner text) (are.waits partner number text far kept) (unnamed partner number text far kept);
   }
 
 pub put_away : PutAwayListsAreAway
-put_away content setup es archives away gone archived own whole one parts are says may keeps others =
-    put_away_then content setup es archives away gone archived own whole one parts are says may keeps others
+put_away content setup es archives after away goes deleted archived own whole parts are says may keep others within =
+    put_away_then content setup es archives after away goes deleted archived own whole parts are says may keep others within
 
 -- ---- a closing
 

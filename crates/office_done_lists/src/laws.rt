@@ -2,7 +2,7 @@
 
 ghost use Rattle.office_done_lists.specs.Laws.{AwayStaysWithClosing, PutAwayListsAreAway};
 
-/// Lists that may go, put away with one more archive that has their lines, are away with those that were.
+/// Lists that may go, of which archives keep the lines, are away with those that were, as far as they are deleted.
 pub fn put_away_lists_are_away()
     ensures { PutAwayListsAreAway }
 {}
