@@ -6,6 +6,7 @@ use Rattle.std.proofs.lemmas.Bool.{eqb-true}
 use Rattle.std.proofs.lemmas.Str.{IsUtf8-string_bytes}
 use Rattle.std.proofs.lemmas.List.Sorted.{Contains-permutation, IsPermutation-sym}
 use Rattle.terminal_core.specs.Rows.{VisitContent}
+use Rattle.terminal_core.specs.State.{last_number}
 use Rattle.office_loading.specs.Tables.{LoadsOwn}
 use Rattle.office_done_lists.specs.Waiting.{AreWaitedFor}
 use Rattle.office_done_lists.proofs.AccountLemmas.{accounts_by_id}
@@ -123,6 +124,9 @@ module _ (held : Held) (old : Files) (has : AreHeld held old) (names : FileNames
   place_is : closing.archive.place ≡ length held.copied.archives + 1
   place_is = ap (λ (a : ArchiveContent). a.place) is.archive ∙ ap (λ (c : RegisterContent). length c.archives + 1) copy_register
 
+  newest_is : closing.archive.visits ≡ last_number held.copy.visits
+  newest_is = ap (λ (a : ArchiveContent). a.visits) is.archive ∙ ap last_number copy_visits
+
   segments_are : closing.segments ≡ segments_of closing.archive.place closing.numbers
   segments_are = is.segments ∙ ap₂ segments_of (sym (ap (λ (a : ArchiveContent). a.place) is.archive)) (sym is.numbers)
 
@@ -205,6 +209,7 @@ module _ (held : Held) (old : Files) (has : AreHeld held old) (names : FileNames
     new_closing compared = record {
       file = ap (λ (a : ArchiveContent). a.file) is.archive;
       place = place_is;
+      newest = newest_is;
       segments = segments_are;
       all = closes_all;
       sound = raised_sound;
@@ -231,6 +236,7 @@ module _ (held : Held) (old : Files) (has : AreHeld held old) (names : FileNames
     old_closing = record {
       file = ap (λ (a : ArchiveContent). a.file) is.archive;
       place = place_is;
+      newest = newest_is;
       segments = segments_are;
       all = closes_all;
       sound = raised_sound;

@@ -36,7 +36,7 @@ any_back n (m ∷ numbers) e = elim (cases_Bool (m == n)) [
   | inr other ↦ (let rest = any_back n numbers (ap (λ b. b || list_any (λ m. m == n) numbers) (sym other) ∙ e) in (suc rest.0, omega (arith, rest.1), rest.2))
 ]
 
-gone_contained : (numbers : List ℕ) (n : ℕ) → all_but numbers n ≡ false → Contains numbers n
+pub gone_contained : (numbers : List ℕ) (n : ℕ) → all_but numbers n ≡ false → Contains numbers n
 gone_contained numbers n e = any_back n numbers (not_false (list_any (λ m. m == n) numbers) e)
   where
     not_false : (b : Bool) → not b ≡ false → b ≡ true
@@ -54,13 +54,13 @@ module _ (own copy : List VisitContent) (numbers : List ℕ) (are : AreNumbered 
       let same : found.0 ≡ visit = same_Some found.0 visit (sym at' ∙ ap (slice_get own) (sym index) ∙ at) in
       subst (GoesBelow (last_number own) copy) same found.3
 
-  stays_if_newest : (number : ℕ) → last_number own ≤ number → all_but numbers number ≡ true
+  pub stays_if_newest : (number : ℕ) → last_number own ≤ number → all_but numbers number ≡ true
   stays_if_newest number high = elim (cases_Bool (all_but numbers number)) [
     | inl stays ↦ stays
     | inr not_ ↦ (let found = (to_go number).0 (gone_contained numbers number not_) in absurd (omega (arith, high, found.1, found.3.not_newest)))
   ]
 
-  last_kept : (stays : ℕ → Bool) (above : ℕ) (visits : List VisitContent) → stays (last_from above visits) ≡ true → last_from above (own_visits stays visits) ≡ last_from above visits
+  pub last_kept : (stays : ℕ → Bool) (above : ℕ) (visits : List VisitContent) → stays (last_from above visits) ≡ true → last_from above (own_visits stays visits) ≡ last_from above visits
   last_kept stays above [] e = refl
   last_kept stays above (v ∷ []) e = ap (λ b. last_from above (cond b (v ∷ []) [])) e
   last_kept stays above (v ∷ w ∷ visits) e = elim (cases_Bool (stays v.number)) [
@@ -91,7 +91,7 @@ compared_held archived own copy closing last_closed visits raises compared are t
 pub gone_is_closed : (before after : ℕ → ℕ) (closing : List Numbers) → Raises before closing after → (i : Interchange) → goes closing i ≡ true → is_closed after i ≡ true
 gone_is_closed before after closing raises i e = le-leb _ _ (raises.only i.partner i.number e)
 
-beyond_is_above : (before : ℕ → ℕ) (i : Interchange) → is_beyond before i ≡ true → before i.partner < i.number
+pub beyond_is_above : (before : ℕ → ℕ) (i : Interchange) → is_beyond before i ≡ true → before i.partner < i.number
 beyond_is_above before i e = grind (arith, nat_tests, e)
 
 same_test : (before after : ℕ → ℕ) (closing : List Numbers) → Raises before closing after → (i : Interchange) → is_beyond before i ≡ true → goes closing i ≡ is_closed after i

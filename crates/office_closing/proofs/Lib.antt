@@ -18,3 +18,5 @@ mod ReadLemmas
 mod LeftLemmas
 mod CopyLemmas
 mod StepLemmas
+mod AwayLemmas
+mod StandLemmas

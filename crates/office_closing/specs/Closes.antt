@@ -6,7 +6,7 @@ use Rattle.sqlite.specs.State.{State, Survives}
 use Rattle.sqlite.specs.Tree.{Trees}
 use Rattle.terminal_core.specs.Forms.{IsFormedVisit}
 use Rattle.terminal_core.specs.Rows.{VisitContent}
-use Rattle.terminal_core.specs.State.{AreNumbered, TerminalState}
+use Rattle.terminal_core.specs.State.{AreNumbered, TerminalState, last_number}
 use Rattle.office_rows.specs.Rows.{Interchange, Partner, Rows}
 use Rattle.office_rows.specs.Shown.{AreNexts}
 use Rattle.office_rows.specs.Stored.{HasRows, StoresRows}
@@ -140,6 +140,7 @@ pub record PutsAway (held : Held) (closing : Closing) : Type 0 where
 pub record IsClosing (held : Held) (names : FileNames) (closing : Closing) : Type 0 where
   pub file : closing.archive.file ≡ names.archive
   pub place : closing.archive.place ≡ length held.copied.archives + 1
+  pub newest : closing.archive.visits ≡ last_number held.copy.visits
   pub segments : closing.segments ≡ segments_of closing.archive.place closing.numbers
   pub all : ClosesAll held closing
   pub sound : IsSound (raised_register held closing)

@@ -10,3 +10,4 @@ pub mod Closes
 pub mod Steps
 pub mod Judging
 pub mod Laws
+pub mod PuttingAway

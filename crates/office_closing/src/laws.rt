@@ -2,6 +2,7 @@
 //! proof.
 
 ghost use Rattle.office_closing.specs.Laws.{ComparedIsHeld, ClearingLeavesTheRest, ClearedIsCarried};
+ghost use Rattle.office_closing.specs.PuttingAway.{ClosedStoresStand, ListsThatGoAreAway};
 
 /// What was compared is held, and the visits that go may go.
 pub fn compared_is_held()
@@ -16,4 +17,14 @@ pub fn clearing_leaves_the_rest()
 /// A store that is cleared of all that was compared has the rows that a closing carries on.
 pub fn cleared_is_carried()
     ensures { ClearedIsCarried }
+{}
+
+/// Whichever of the lists that go are deleted, once the register has the archive, they are away with those that were.
+pub fn lists_that_go_are_away()
+    ensures { ListsThatGoAreAway }
+{}
+
+/// A store that is closed, or of which some of what goes is deleted, stands beside its archives after the same events.
+pub fn closed_stores_stand()
+    ensures { ClosedStoresStand }
 {}
