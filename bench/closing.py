@@ -89,18 +89,24 @@ def often(stores, folder):
     return [Row('a delivery after %d closings; after none' % CLOSINGS, 'us', *pair, '1.05 times')]
 
 
+def naming(voyage, number):
+    """The line's text under a number, which lists a container of a call that was loaded: the list is brought back as it was."""
+    groups = [streams.Group(streams.box(voyage * OF_CALL), port='NLRTM')]
+    return streams.interchange('LINEA', number, streams.message(1, '45', groups, ('9123456', 'V%d' % voyage)))
+
+
 def of_lists(stores, folder):
-    """A closing that puts many done lines away; openings with these lines and without them, and what brings a list back."""
+    """A closing that puts many done lines away; openings with these lines and without them, and lists that are away and there."""
     store, texts = stores.new('lists', folder=folder), streams.lists(LINES // streams.LIST * (2 * streams.LIST + 1))
     delivered(stores, store, texts)
     archive = copied(store, os.path.join(folder, 'archive.db'))
     taken = spent(stores.office, 'close', store, archive)[1]
     without = processor(TURNS, stores.office, 'report', store, 'health')
-    keys = ['9123456/V%d/load' % voyage for voyage in range(LINES // OF_CALL)]
-    away = min(processor(1, stores.office, 'report', store, 'list', key) for key in keys[:TURNS])
-    here = min(processor(1, stores.office, 'report', store, 'list', key) for key in keys[:TURNS])
-    for key in keys[TURNS:]:
-        command(stores.office, 'report', store, 'list', key)
+    again = [naming(voyage, LINES // streams.LIST + voyage + 1) for voyage in range(LINES // OF_CALL)]
+    away = processor(TURNS, stores.office, 'report', store, 'list', '9123456/V0/load')
+    delivered(stores, store, again[:1])
+    here = processor(TURNS, stores.office, 'report', store, 'list', '9123456/V0/load')
+    delivered(stores, store, again[1:])
     lines = processor(TURNS, stores.office, 'report', store, 'health')
     return [
         Row('close, %s interchanges and %s done lines, processor' % (format(len(texts), ','), format(LINES, ',')), 's', taken),

@@ -126,8 +126,8 @@ def refuse_texts(refusing, _office, _text, steps, counted):
 # ---- lists
 
 def refuse_lists(refusing, _office, _text, steps, counted):
-    """Allocations of what brings a list back, a delivery that names it and a report on it, once the store is open: each of a second
-    step. Without memory the list is away, or there, and nothing else has changed."""
+    """Allocations of a delivery that names a list that is away, and of a report on it, once the store is open: each of a second
+    step. Without memory the delivery leaves the list away or there, and all else as before; a report changes nothing."""
     with tempfile.TemporaryDirectory(prefix='memory-') as folder:
         book = Prepared(refusing.program, folder, SEED, True).book
         start = os.path.join(folder, 'start.db')
@@ -138,20 +138,21 @@ def refuse_lists(refusing, _office, _text, steps, counted):
         back, taken = deepcopy(book.office), deepcopy(book.office)
         back.brings_back([(call, side)])
         opened = allocations_of(refusing, ['report', book.store, 'visits', UNUSED]) - PRINTING
-        for words, wanted, after in (
-                (['deliver', book.store, book.file('naming.edi', text)], (json_text(taken.answer(text)) + '\n', '', 0), taken),
-                (['report', book.store, 'list', key], (printed(back, 'list', key)[0], '', 0), back)):
+        naming, asking = ['deliver', book.store, book.file('naming.edi', text)], ['report', book.store, 'list', key]
+        for words, wanted, after, others in (
+                (naming, (json_text(taken.answer(text)) + '\n', '', 0), taken, [book.office, back]),
+                (asking, (printed(book.office, 'list', key)[0], '', 0), book.office, [book.office])):
             copy_files(start, book.store)
             for refused in range(opened + 1, allocations_of(refusing, words) + 1, steps[1]):
                 copy_files(start, book.store)
                 what, given = '%s a list that is away, allocation %d' % (words[0], refused), refusing.run(words, refused)
-                rows = [rows_of(after)] if given == wanted else [rows_of(book.office), rows_of(back)]
+                rows = [rows_of(office) for office in ([after] if given == wanted else others)]
                 if given not in WANTS | LEFT | {wanted} or rows_in(book.store)[0] not in rows:
                     raise Different('%s: %r' % (what, given))
                 if given != wanted:
                     expect(what + ', again', wanted, refusing.run(words))
                     expect(what + ', rows again', (rows_of(after), []), rows_in(book.store))
-                counted['%s a list that is away: %s' % (words[0], 'brought back' if given == wanted else 'no memory')] += 1
+                counted['%s a list that is away: %s' % (words[0], 'as ever' if given == wanted else 'no memory')] += 1
 
 
 # ---- serve

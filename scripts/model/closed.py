@@ -2,7 +2,7 @@
 
 The model's answers, and the texts that it keeps, are those of a store that is never closed, and so is a second store of the
 program's, to which the same is delivered. An archive is a copy of the store of now, or of some deliveries earlier. Vessels' lists
-get done, are put away, are named again and asked for.
+get done, are put away, are asked for and named again.
 """
 import copy
 import os
@@ -19,7 +19,7 @@ from .days import NEWCOMERS, SENDERS, Day, streamed
 from .deliveries import first_text, kept_texts
 from .events import Added, refusal
 from .naming import SIDES
-from .reports import WHOLE, printed
+from .reports import OF_LISTS, WHOLE
 from .requests import every_key, get, of_archive, path_of, question, random_requests
 from .rows import ENDS, REGISTER, copy_files, identities, interchange_rows, rows_in, rows_of, standing_in
 from .setup import DEMO, read_setup
@@ -48,6 +48,12 @@ COMPARED = 24               # reports that are compared with those of the store 
 NAMES = ['office-%04d.db', 'archive %d', '%d', 'Hafen-Altona-\u00e4%d.db', 'office.db.%d', '-%d.db']
 
 READY, ARCHIVED = ('ready\n', '', 0), ('', 'store: Closed\n', 3)
+
+
+def key_of(name):
+    """The key of a list."""
+    call, side = name
+    return '/'.join(word.replace('/', '%2F') for word in (*call, side))
 
 
 class Closable:
@@ -94,7 +100,7 @@ class Closable:
         self.earlier, rows = None, rows_of(archive)
         for time in range(2 if self.chance.random() < CLOSED_AGAIN else 1):
             if time:
-                self.asks_lists(sorted(self.office.away))
+                self.names_some(sorted(self.office.away))
             before = self.office.away
             fault = close(self.office, archive, 'office.db', os.path.basename(path))
             self.counts_away(before, 'again by the same closing' if time else '')
@@ -126,7 +132,7 @@ class Closable:
         """By HTTP."""
         before = self.office.away
         self.beside.serve(self.name, self.program, self.office, random_requests(self.chance, self.day, self.office, count))
-        self.beside.counted['lists brought back by a request'] += len(before - self.office.away)
+        self.beside.counted['lists brought back by a delivery over HTTP'] += len(before - self.office.away)
 
     def delivers_all(self, texts):
         """One text after the other, each made after the one before was answered."""
@@ -140,11 +146,24 @@ class Closable:
         self.delivers_all(self.vessels.finished(self.office))
 
     def asks_lists(self, names):
-        """Some lists, what is left of them, and the calls, before and after."""
+        """Some lists or what is left of them, and the calls, before and after: one that is away stays away."""
         self.asks([('calls', '')])
-        for call, side in self.chance.sample(names, min(NAMED, len(names))):
-            self.asks([(self.chance.choice(['list', 'work']), '/'.join(word.replace('/', '%2F') for word in (*call, side)))])
+        for name in self.chance.sample(names, min(NAMED, len(names))):
+            self.beside.counted['lists asked for, ' + self.standing(name)] += 1
+            self.asks([(self.chance.choice(['list', 'work']), key_of(name))])
         self.asks([('calls', '')])
+
+    def standing(self, name):
+        """Whether a list is away."""
+        return 'away' if name in self.office.away else 'here'
+
+    def names_some(self, names):
+        """Some lists are named, each by a text, if anybody may send one."""
+        for name in self.chance.sample(names, min(NAMED, len(names))):
+            standing, (text, what, when) = self.standing(name), self.vessels.named_again(self.office, name)
+            if text:
+                self.beside.counted['lists named, %s: %s, %s' % (standing, what, when)] += 1
+                self.delivers(text)
 
     def names_again(self):
         """Some lists that were put away once, whether they are away or not."""
@@ -153,12 +172,8 @@ class Closable:
         for name in self.chance.sample(names, min(NAMED, len(names))):
             if self.chance.random() < LOOKED:
                 self.asks_lists([name])
-                continue
-            is_away = name in self.office.away
-            text, what, when = self.vessels.named_again(self.office, name)
-            if text:
-                self.beside.counted['lists named, %s: %s, %s' % ('away' if is_away else 'here', what, when)] += 1
-                self.delivers(text)
+            else:
+                self.names_some([name])
 
     def again(self):
         """Texts under closed numbers as they were, and others under such numbers; of each archive some."""
@@ -173,10 +188,8 @@ class Closable:
 
     def asks(self, asked):
         """Reports."""
-        before = self.office.away
         for kind, key in asked:
             self.beside.report(self.name, self.program, self.office, kind, key)
-        self.beside.counted['lists brought back by a report'] += len(before - self.office.away)
 
     def asks_all(self):
         """All reports: those on the whole terminal and some others by a command, all others by HTTP."""
@@ -221,7 +234,8 @@ class Closable:
         beside.expect('an archive refuses', self.name, ARCHIVED, other.deliver(''))
         beside.expect('an archive refuses', self.name, ARCHIVED, other.run('serve', path, '8080', '1'))
         beside.expect('an archive refuses', self.name, ARCHIVED, other.close(self.program.store))
-        for kind, key in WHOLE + [question(self.chance, office) for _question in range(QUESTIONS)]:
+        away = [(kind, key_of(name)) for name in sorted(office.away) for kind in OF_LISTS]
+        for kind, key in WHOLE + away + [question(self.chance, office) for _question in range(QUESTIONS)]:
             beside.report(self.name + ', an archive', other, office, kind, key)
         beside.rows(self.name + ', an archive', other, office)
         beside.register(self.name + ', an archive', path, office)
@@ -247,7 +261,6 @@ def compare(beside, name, closable, other):
     keys = every_key(closable.office)
     for kind, key in WHOLE + closable.chance.sample(keys, min(COMPARED, len(keys))):
         own, never = closable.program.report(kind, key), other.report(kind, key)
-        printed(closable.office, kind, key)         # which brings a list back, as the program does
         is_same = own[1] == never[1] and differ_as_said(kind, own[0], never[0])
         beside.expect('as of a store that is never closed', '%s, %s %s' % (name, kind, key), True, is_same or (own, never))
 

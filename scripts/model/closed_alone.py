@@ -59,16 +59,16 @@ def names_lists(vessels, office):
 
 def lists_away(office, whole):
     """How many lists are away, and whether each is done, named by no text that waits, kept by the register as the whole has it, and
-    told as by the whole once it is brought back."""
+    told as by the whole, though it stays away."""
     lines = whole.fold().terminal.lines
     for call, side in office.away:
         own = {number: line for (of_call, of_side, number), line in lines.items() if (of_call, of_side) == (call, side)}
         kept = lines_of(office.register, (*call, SIDES[side]))
         if not own or not all(line.is_done for line in own.values()) or kept != text_of_lines(own):
             return len(office.away), False
-    back, keys = copy.deepcopy(office), ['%s/%s/%s' % (*call, side) for call, side in sorted(office.away) if '/' not in call[1]]
-    are_told = all(report(back, kind, key) == report(whole, kind, key) for key in keys for kind in OF_LISTS)
-    return len(office.away), are_told and not office.away & waited_for(office)
+    away, keys = office.away, ['%s/%s/%s' % (*call, side) for call, side in sorted(office.away) if '/' not in call[1]]
+    are_told = all(report(office, kind, key) == report(whole, kind, key) for key in keys for kind in OF_LISTS)
+    return len(away), are_told and office.away == away and not away & waited_for(office)
 
 
 def are_parts(office, archives, whole):

@@ -132,7 +132,7 @@ def discharge_lines(terminal, jobs):
 def work(office, vessel, voyage, side):
     """What is left to do of a list that has a line, open or done."""
     terminal, call = office.fold().terminal, (vessel, voyage)
-    if not any((of_call, of_side) == (call, side) for of_call, of_side, _number in own_lines(office)):
+    if not any((of_call, of_side) == (call, side) for of_call, of_side, _number in terminal.lines):
         return None
     lines = {'load': load_lines, 'discharge': discharge_lines}[side](terminal, open_on(terminal, call, side))
     return text_of(['%s WORK %s %s' % (side.upper(), vessel, voyage)] + lines)

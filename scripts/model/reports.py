@@ -6,7 +6,7 @@ answers are.
 from . import lookups
 from .deliveries import first_text, run
 from .keys import PARTS, read_key
-from .lookups import own_lines, own_visits, standing, with_archives
+from .lookups import own_visits, standing, with_archives
 from .moments import day_number
 from .names import slot_text
 from .office import json_text
@@ -57,9 +57,9 @@ def visits(office, box):
 # ---- vessels
 
 def vessel_list(office, vessel, voyage, side):
-    """The lines of a list by container, and how many are open and done."""
+    """The lines of a list by container, and how many are open and done; those of one that is away as they were put away."""
     lines = [
-        (number, line) for ((call, of_side, number), line) in sorted(own_lines(office).items())
+        (number, line) for ((call, of_side, number), line) in sorted(office.fold().terminal.lines.items())
         if call == (vessel, voyage) and of_side == side]
     if not lines:
         return None
@@ -129,17 +129,15 @@ WHOLE = [(kind, '') for kind in REPORTS if not has_key(kind)]
 
 
 def report(office, kind, key=''):
-    """The report of a kind under a key. None where nothing is found, also under a key that can't be read. A list that is away is
-    brought back before it is asked for."""
-    values = read_key(kind, key) if has_key(kind) else []
-    if values and kind in OF_LISTS:
-        office.brings_back([((values[0], values[1]), values[2])])
-    return reported(office, kind, values)
+    """The report of a kind under a key. None where nothing is found, also under a key that can't be read."""
+    return reported(office, kind, read_key(kind, key) if has_key(kind) else [])
 
 
 def own_report(office, kind, key=''):
-    """The same as an archive is asked by its store: no list is brought back, and of its lists it tells those that stand there."""
+    """The same as an archive is asked by its store: of its lists it tells those that stand there."""
     values = read_key(kind, key) if has_key(kind) else []
+    if values and kind in OF_LISTS and ((values[0], values[1]), values[2]) in office.away:
+        return None
     return lookups.own_calls(office) if kind == 'calls' else reported(office, kind, values)
 
 

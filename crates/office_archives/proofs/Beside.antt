@@ -11,13 +11,14 @@ use Rattle.terminal_core.specs.State.{TerminalState}
 use Rattle.terminal_core.specs.declared.lines.Side.{Side}
 use Rattle.office_replies.specs.Events.{Event}
 use Rattle.office_checks.specs.Closed.{last_closed}
-use Rattle.office_rows.specs.Rows.{Rows}
+use Rattle.office_rows.specs.Rows.{ListingContent, Rows}
 use Rattle.office_setup.specs.Setups.{SetupContent, setup_content}
 use Rattle.office_queries.specs.Looking.{Tells}
 use Rattle.office_queries.specs.declared.query.NotNow.{NotNow}
 use Rattle.office_queries.specs.declared.query.Query.{Query}
 use Rattle.office_queries.specs.declared.query.Query.TheVariants as query
 use Rattle.office_history.specs.After.{content_after, machine_after}
+use Rattle.office_desk.specs.Calls.{OnlyLooks}
 use Rattle.office_desk.specs.Desks.{IsSound}
 use Rattle.office_desk.specs.Offices.{DeskHolds}
 use Rattle.office_desk.specs.Reports.{DeskTells, TellsNext, TellsOf, partner_called}
@@ -30,9 +31,10 @@ use Rattle.office_lists.proofs.KeepingLemmas.{away_done}
 use Rattle.office_parts.specs.Parts.{Archived}
 use Rattle.office_archives.specs.Keeping.{IsClosedIn}
 use Rattle.office_archives.specs.Standing.{StandsBeside}
-use Rattle.office_archives.specs.Bringing.{BringsTogether}
+use Rattle.office_archives.specs.ListsAway.{FindsIfAway, TellsByLines}
 use Rattle.office_archives.specs.Telling.{HasListAway, IsOfContainer, IsOfList, IsOfNeither, IsOfNumber, TellsClosed, TellsTogether, archives_with_lists, with_archives}
 use Rattle.office_archives.specs.Together.{StandTogether, TellsBeside}
+use Rattle.office_archives.proofs.AwayTold.{told_by_lines}
 use Rattle.office_archives.proofs.Closed.{closed_here, closed_told}
 use Rattle.office_archives.proofs.Filled.{filled_container, filled_list, filled_neither, filled_number, filled_visits}
 use Rattle.office_archives.proofs.Told.{container_told, list_told, nobody_told, number_told, others_told}
@@ -115,23 +117,22 @@ module _ {S A : Type 0} (g : Ghosts S) (are : List Archive → A → Type 0) (ol
         told = same ∙ ap (λ k. with_archives k told) (counted stand.list stand.these) ∙ ap (with_archives (archives_with_lists stand.list put_away)) (told_here content es stand query.Calls told tells);
       }
 
-  -- a list that is not away, by a desk over which it was brought back
-  pub list_beside : (mid : Desk S g) (asked : Query) (call : CallContent) (side : Side) (found : Option (List ℕ)) → IsOfList asked call side → IsSound g mid → BringsTogether g are old a (list_name call side ∷ []) (Ok tt) mid → DeskTells g mid asked found → TellsBeside g are old a asked found
-  list_beside mid asked call side found is sound brings tells content es stand =
-      let there = brings.stand sound stand.list content es stand.these stand.stands in
-      let s = there.stands in
-      let mine = own_terminal s.archived.stays (machine_after content es).terminal in
+  -- a list that is not away, by a desk that was looked at
+  pub list_beside : (mid : Desk S g) (asked : Query) (call : CallContent) (side : Side) (found : Option (List ℕ)) → IsOfList asked call side → IsSound g mid → OnlyLooks g old mid → FindsIfAway g are old a (list_name call side) None → DeskTells g mid asked found → TellsBeside g are old a asked found
+  list_beside mid asked call side found is sound looks here tells content es stand =
+      let s = stand.stands in
+      let mine = Mine content es stand in
       let left = rows_without_lists s.away s.rows in
-      let told = subst (λ k. TellsOf k (without_lists s.away mine) left asked found) (sym s.now_is) (tells.office left (without_lists s.away mine) s.holds) in
-      of_list content es asked call side found stand s.archived s.whole is
-      (list_told content es stand.list s.archived s.own s.whole s.rows s.parts s.is_own asked found call side is (filled_list s.away (content_after content es) mine s.rows asked found call side is there.here.0 told))
-    where
-      -- what is told of a list does not go by the archives
-      of_list : (content : SetupContent) (es : List Event) (asked : Query) (call : CallContent) (side : Side) (found : Option (List ℕ)) (stand : StandTogether g are content es old a) (archived : Archived) (whole : Rows) → IsOfList asked call side → TellsTogether content es stand.list archived whole asked found
-          → TellsTogether content es stand.list stand.stands.archived stand.stands.whole asked found
-      of_list content es (query.List asked on) call side found stand archived whole is told = told
-      of_list content es (query.Work asked on) call side found stand archived whole is told = told
-      of_list content es other call side found stand archived whole is told = absurd is
+      let now : content_after content es ≡ setup_content mid.setup = s.now_is ∙ ap setup_content (sym looks.setup) in
+      let told = subst (λ k. TellsOf k (without_lists s.away mine) left asked found) (sym now) (tells.office left (without_lists s.away mine) (looks.holds sound left (without_lists s.away mine) s.holds)) in
+      list_told content es stand.list s.archived s.own s.whole s.rows s.parts s.is_own asked found call side is
+      (filled_list s.away (content_after content es) mine s.rows asked found call side is (here stand.list content es stand.these s) told)
+
+  -- one that is away, by its lines
+  pub away_beside : (asked : Query) (call : CallContent) (side : Side) (lines : List ListingContent) (found : Option (List ℕ)) → IsOfList asked call side → FindsIfAway g are old a (list_name call side) (Some lines) → TellsByLines lines asked found → TellsBeside g are old a asked found
+  away_beside asked call side lines found is away tells content es stand =
+      let s = stand.stands in
+      told_by_lines content es stand.list s.archived s.own s.whole s.away s.parts s.lists lines asked call side found is (away stand.list content es stand.these s) tells
 
   pub number_beside : (asked : Query) (code : List ℕ) (n p : ℕ) (found : Option (List ℕ)) → IsOfNumber asked code n → partner_called (setup_content old.setup) code ≡ Some p → (nat_le 1 n && nat_le n (last_closed old.closed p)) ≡ false → DeskTells g old asked found
       → TellsBeside g are old a asked found

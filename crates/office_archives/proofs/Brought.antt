@@ -42,15 +42,16 @@ use Rattle.terminal_core.proofs.Lined.{tied_self}
 use Rattle.office_lists.proofs.AwayLemmas.{came_back, none_away, others_stay}
 use Rattle.office_lists.proofs.BringingLemmas.{brought_back}
 use Rattle.office_lists.proofs.OfficeLemmas.{own_office_without}
-use Rattle.office_archives.specs.Bringing.{AsksList, BringsTogether, StandsWith, lists_back}
+use Rattle.office_archives.specs.Bringing.{BringsTogether, StandsWith, lists_back}
+use Rattle.office_archives.specs.ListsAway.{AsksList, FindsIfAway}
 use Rattle.office_archives.specs.Standing.{IsOwnWithRest, KnowsClosed, StandsBeside}
-use Rattle.office_archives.specs.Together.{IsBesideAfter, LeavesBeside, OnlyLooksTogether}
+use Rattle.office_archives.specs.Together.{IsBesideAfter, LeavesBeside}
 use Rattle.office_archives.proofs.Filled.{no_list, some_list}
 use Rattle.office_archives.proofs.Looking.{looked_stands, rows_left}
 use Rattle.office_archives.proofs.Resting.{of_whole}
 
 -- what was put away as these lines is a list of them
-kept_so : (archives : List Archive) (list : ListName) (kept back : List ListingContent) (lines : List ListingContent) → lines_away archives list ≡ Some kept → lines_away archives list ≡ Some back → IsPermutation lines kept → IsPermutation lines back
+pub kept_so : (archives : List Archive) (list : ListName) (kept back : List ListingContent) (lines : List ListingContent) → lines_away archives list ≡ Some kept → lines_away archives list ≡ Some back → IsPermutation lines kept → IsPermutation lines back
 kept_so archives list kept back lines e f same = let one : kept ≡ back = let both : Some kept ≡ Some back = sym e ∙ f in cc in subst (IsPermutation lines) one same
 
 -- ---- a list that is brought back, of rows that stand beside archives
@@ -218,9 +219,7 @@ module _ {S A : Type 0} (g : Ghosts S) (are : List Archive → A → Type 0) (ol
   brings_fault names result fault is = subst (λ r. BringsTogether g are old a names r mid) (sym is) (brings_nothing names (Err fault) (λ clean was. tt) (λ sound list content es these stands. tt))
 
   -- the store has no line of the list, and its lines were written
-  module _ (name : ListName) (back : List ListingContent) (put_away : (list : List Archive) → are list a → lines_away list name ≡ Some back)
-      (gone : IsSound g mid → (list : List Archive) (content : SetupContent) (es : List Event) → are list a → (stands : StandsBeside g list content es old) → stands.away name ≡ true)
-      (was_open : HasCleanDisk (state g mid.conn) → IsTrue (state g old.conn).is_open → IsTrue (state g mid.conn).is_open) where
+  module _ (name : ListName) (back : List ListingContent) (away : IsSound g mid → FindsIfAway g are old a name (Some back)) (was_open : HasCleanDisk (state g mid.conn) → IsTrue (state g old.conn).is_open → IsTrue (state g mid.conn).is_open) where
     pub brings_lines : (result : Result (Unit {0}) TableFault) (new : Desk S g) → WritesWhole (with_lines back) (state g mid.conn) (state g new.conn) result → new.beside ≡ None → new.setup ≡ mid.setup → new.closed ≡ mid.closed → new.last_fault ≡ mid.last_fault
         → BringsTogether g are old a (name ∷ []) result new
     brings_lines result new writes beside setup closed fault = record {
@@ -233,7 +232,7 @@ module _ {S A : Type 0} (g : Ghosts S) (are : List Archive → A → Type 0) (ol
             | inl before ↦ rows_left g list content es old stands db (settled sound db (looks.crash sound clean_mid stands.holds.has.schema db before))
             | inr whole ↦
                 subst (λ k. IsBesideAfter list (closed_content k) content es db) looks.closed
-                (brought_left g list content es mid there name back (put_away list these) (gone sound_mid list content es these stands) db (whole (rows_without_lists stands.away stands.rows) there.holds.has))
+                (let gone = away sound_mid list content es these stands in brought_left g list content es mid there name back gone.1 gone.0 db (whole (rows_without_lists stands.away stands.rows) there.holds.has))
           ];
       setup = setup ∙ looks.setup;
       closed = closed ∙ looks.closed;
@@ -255,7 +254,8 @@ module _ {S A : Type 0} (g : Ghosts S) (are : List Archive → A → Type 0) (ol
         stand_by (Ok done) writes sound list content es these stands =
             let mid_sound = sound_before sound in
             let there = looked_stands g list content es old stands mid mid_sound looks in
-            let so = brought_stands g list content es mid there name back (put_away list these) (gone mid_sound list content es these stands) new setup closed beside
+            let gone = away mid_sound list content es these stands in
+            let so = brought_stands g list content es mid there name back gone.1 gone.0 new setup closed beside
             ((writes.ok sound.0).rows (rows_without_lists stands.away stands.rows) there.holds.has) in
             record { stands = so.stands; here = so.here; others = so.others }
         stand_by (Err fault) writes sound list content es these stands =
@@ -326,39 +326,6 @@ brings_failed g are old new a names others met result fault is brings = subst (�
   where
     so : BringsTogether g are old a names (Err met) new → BringsTogether g are old a others (Err fault) new
     so b = record { stand = λ sound list content es these stands. (let s = b.stand sound list content es these stands in record { stands = s.stands; here = tt; others = s.others }); crash = b.crash; setup = b.setup; closed = b.closed; last_fault = b.last_fault; stays = b.stays; clean = b.clean; opens = λ sound clean. tt }
-
--- ---- a look after them
-
-module _ {S A : Type 0} (g : Ghosts S) (are : List Archive → A → Type 0) (old mid : Desk S g) (a : A) (names : List ListName) where
-  pub brought_looks : (result : Result (Unit {0}) TableFault) → BringsTogether g are old a names result mid → OnlyLooksTogether g are old a mid a
-  brought_looks result brings = record {
-    same = λ sound content es stand. record {
-      opening = content;
-      says = record { terminal = refl; codes = refl; partners = refl; blocks = refl; limit = refl };
-      stand = record { list = stand.list; these = stand.these; stands = (brings.stand sound stand.list content es stand.these stand.stands).stands };
-    };
-    crash = λ sound clean content es stand. brings.crash sound clean stand.list content es stand.these stand.stands;
-    closed = brings.closed;
-    stays = brings.stays;
-  }
-
-  pub brought_then : BringsTogether g are old a names (Ok tt) mid → (new : Desk S g) → OnlyLooks g mid new → OnlyLooksTogether g are old a new a
-  brought_then brings new looks = record {
-    same = λ sound content es stand.
-        let there = (brings.stand (looks.stays sound) stand.list content es stand.these stand.stands).stands in
-        record {
-          opening = content;
-          says = record { terminal = refl; codes = refl; partners = refl; blocks = refl; limit = refl };
-          stand = record { list = stand.list; these = stand.these; stands = looked_stands g stand.list content es mid there new sound looks };
-        };
-    crash = λ sound clean content es stand db left.
-        let clean_mid = looks.clean clean in
-        let sound_mid : IsSound g mid = (clean_mid, brings.opens sound clean_mid) in
-        let there = (brings.stand sound_mid stand.list content es stand.these stand.stands).stands in
-        brings.crash sound clean_mid stand.list content es stand.these stand.stands db (looks.crash sound_mid clean there.holds.has.schema db left);
-    closed = looks.closed ∙ brings.closed;
-    stays = λ sound. brings.stays (looks.stays sound);
-  }
 
 -- where no list was put away none is
 pub none_there : (away : ListName → Bool) (names : List ListName) → ((name : ListName) → away name ≡ false) → AreHere away names

@@ -36,14 +36,22 @@ use Rattle.office_lists.proofs.KeepingLemmas.{open_kept}
 use Rattle.office_lists.proofs.Lines.{own_there}
 use Rattle.office_archives.specs.Telling.{IsOfList, IsOfNeither, IsOfNumber}
 
-abbrev Entry : Type 0
+abbrev pub Entry : Type 0
 Entry = List ℕ × LineContent
 
 nothing_in_empty : (entry : Entry) → Contains [] entry → ⊥
 nothing_in_empty entry (k, below, at) = absurd (omega (arith, below))
 
-first_in : (entry : Entry) (list : List Entry) → Contains (entry ∷ list) entry
+pub first_in : (entry : Entry) (list : List Entry) → Contains (entry ∷ list) entry
 first_in entry list = (zero, omega arith, refl)
+
+-- a list of which two terminals have the same lines
+pub listed_alike : (one other : TerminalState) (call : CallContent) (side : Side) → ((container : BoxNumber) → line_of one call side container ≡ line_of other call side container) → (list : List Entry) → AreListed (HasContent one call side) list → AreListed (HasContent other call side) list
+listed_alike one other call side same list listed = record {
+  sorted = listed.sorted;
+  each = λ container line has. listed.each container line (same container ∙ has);
+  only = λ container line inside. sym (same container) ∙ listed.only container line inside;
+}
 
 module _ (away : ListName → Bool) (now : SetupContent) (state : TerminalState) (rows : Rows) where
   abbrev mine : TerminalState
@@ -142,16 +150,8 @@ module _ (away : ListName → Bool) (now : SetupContent) (state : TerminalState)
 
   -- ---- a list
 
-  module _ (call : CallContent) (side : Side) (here : away (list_name call side) ≡ false) where
-    line_there : (container : BoxNumber) → line_of mine call side container ≡ line_of state call side container
-    line_there container = own_there away state.lines (line_key call side container) here
-
-    lines_listed : (list : List Entry) → AreListed (HasContent mine call side) list → AreListed (HasContent state call side) list
-    lines_listed list listed = record {
-      sorted = listed.sorted;
-      each = λ container line has. listed.each container line (line_there container ∙ has);
-      only = λ container line inside. sym (line_there container) ∙ listed.only container line inside;
-    }
+  line_there : (call : CallContent) (side : Side) → away (list_name call side) ≡ false → (container : BoxNumber) → line_of mine call side container ≡ line_of state call side container
+  line_there call side here container = own_there away state.lines (line_key call side container) here
 
   work_same : (call : CallContent) (side : Side) (list : List Entry) → work_found mine call side list ≡ work_found state call side list
   work_same call side [] = refl
@@ -161,10 +161,10 @@ module _ (away : ListName → Bool) (now : SetupContent) (state : TerminalState)
   pub filled_list : (asked : Query) (found : Option (List ℕ)) (call : CallContent) (side : Side) → IsOfList asked call side → away (list_name call side) ≡ false → TellsOf now mine own asked found → TellsOf now state rows asked found
   filled_list (query.List named on) found call side is here told =
       let its : away (list_name (call_content named) on) ≡ false = (λ i. away (list_name (is.0 i) (is.1 i))) ∙ here in
-      record { list = told.list; listed = lines_listed (call_content named) on its told.list told.listed; is = told.is }
+      record { list = told.list; listed = listed_alike mine state (call_content named) on (line_there (call_content named) on its) told.list told.listed; is = told.is }
   filled_list (query.Work named on) found call side is here told =
       let its : away (list_name (call_content named) on) ≡ false = (λ i. away (list_name (is.0 i) (is.1 i))) ∙ here in
-      record { list = told.list; listed = lines_listed (call_content named) on its told.list told.listed; is = told.is ∙ work_same (call_content named) on told.list }
+      record { list = told.list; listed = listed_alike mine state (call_content named) on (line_there (call_content named) on its) told.list told.listed; is = told.is ∙ work_same (call_content named) on told.list }
   filled_list other found call side is here told = absurd is
 
   -- ---- whether a list has lines in the store

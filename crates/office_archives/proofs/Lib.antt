@@ -10,6 +10,7 @@ pub mod Opening
 pub mod Looking
 pub mod Brought
 pub mod Told
+pub mod AwayTold
 pub mod Closed
 pub mod Beside
 pub mod OfArchive

@@ -6,6 +6,7 @@ use Rattle.std.specs.Option.{unwrap_or}
 use Rattle.std.specs.Str.{bytes_eq}
 use Rattle.std.proofs.lemmas.List.{length-map}
 use Rattle.std.proofs.lemmas.Option.{same_Some}
+use Rattle.sqlite.specs.Effect.{Database}
 use Rattle.sqlite.specs.Held.{Held, state}
 use Rattle.sqlite.specs.State.{State, HasCleanDisk}
 use Rattle.sqlite.specs.Tree.{Trees}
@@ -134,6 +135,22 @@ module _ {S : Type 0} (g : Ghosts S) (list : List Archive) (content : SetupConte
     lists = stands.lists;
     are = subst (StoresRows left) (sym same) (stores left (state g old.conn).committed stands.holds.has);
   }
+
+-- one look after the other
+pub looks_more : {S : Type 0} (g : Ghosts S) (old mid new : Desk S g) → (HasCleanDisk (state g mid.conn) → IsTrue (state g old.conn).is_open → IsTrue (state g mid.conn).is_open) → OnlyLooks g old mid → OnlyLooks g mid new → OnlyLooks g old new
+looks_more g old mid new opens first second = record {
+  same = λ sound content es stands. second.same sound content es (first.same (second.stays sound) content es stands);
+  holds = λ sound rows terminal holds. second.holds sound rows terminal (first.holds (second.stays sound) rows terminal holds);
+  committed = λ sound. second.committed sound ∙ first.committed (second.stays sound);
+  setup = second.setup ∙ first.setup;
+  closed = second.closed ∙ first.closed;
+  crash = λ sound clean schema db left.
+      let clean_mid = second.clean clean in
+      let sound_mid : IsSound g mid = (clean_mid, opens clean_mid sound.1) in
+      first.crash sound clean_mid schema db (second.crash sound_mid clean (ap (λ (d : Database). d.schema) (first.committed sound_mid) ∙ schema) db left);
+  stays = λ sound. first.stays (second.stays sound);
+  clean = λ clean. first.clean (second.clean clean);
+}
 
 module _ {S A : Type 0} (g : Ghosts S) (are : List Archive → A → Type 0) where
   -- the desk was looked at, and the archives are those that they were

@@ -1,31 +1,21 @@
--- Lists that are away are brought back into the store before they are named.
+-- Lists that are away are brought back into the store before a text names them.
 use Rattle.std.specs.Prelude.{◌≡◌, ℕ, false, List, [], IsTrue, OnOk, Result, Ok, Err}
 use Rattle.sqlite.specs.Held.{state}
 use Rattle.sqlite.specs.State.{HasCleanDisk}
 use Rattle.sqlite_trees.specs.declared.store.Store.{Ghosts}
-use Rattle.edi_messages.specs.Owned.{call_content}
-use Rattle.edi_messages.specs.Purposes.{CallContent}
 use Rattle.terminal_core.specs.Versions.{newest}
-use Rattle.terminal_core.specs.declared.lines.Side.{Side}
 use Rattle.office_checks.specs.Closed.{closed_content}
 use Rattle.office_desk.specs.Desks.{IsSound}
 use Rattle.office_desk.specs.declared.desk.Desk.{Desk}
 use Rattle.office_lists.specs.Naming.{AreHere, interchange_lists}
 use Rattle.office_lists.specs.OwnLists.{ListName}
 use Rattle.office_parts.specs.Archives.{Archive}
-use Rattle.office_queries.specs.declared.query.Query.{Query}
-use Rattle.office_queries.specs.declared.query.Query.TheVariants as query
 use Rattle.office_replies.specs.Events.{Event}
 use Rattle.office_setup.specs.Parties.{partner_kinds}
 use Rattle.office_setup.specs.Setups.{SetupContent}
 use Rattle.office_tables.specs.declared.table_fault.TableFault.{TableFault}
 use Rattle.office_archives.specs.Standing.{StandsBeside}
 use Rattle.office_archives.specs.Together.{LeavesBeside}
-
--- it is asked for the list of that call
-abbrev pub AsksList : Query → CallContent → Side → Type 0
-AsksList (query.List asked on) call side = (call_content asked ≡ call) × (on ≡ side)
-AsksList other call side = ⊥
 
 -- the lists that the text names as that of the partner, by the desk's set-up
 abbrev pub named_by : {S : Type 0} {g : Ghosts S} → Desk S g → (partner : ℕ) → (text : List ℕ) → List ListName

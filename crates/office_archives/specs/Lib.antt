@@ -5,6 +5,7 @@ pub mod Reporting
 pub mod Telling
 pub mod Together
 pub mod Bringing
+pub mod ListsAway
 pub mod Opening
 pub mod Shelves
 pub mod Texts

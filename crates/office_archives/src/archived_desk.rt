@@ -27,7 +27,8 @@ ghost use Rattle.sqlite.specs.State.{HasCleanDisk};
 ghost use Rattle.terminal_core.specs.State.{TerminalState};
 
 use crate::archives::{Archives, answer_closed, partner_called, tell_closed, with_archives};
-use crate::bringing::{bring_back, bring_back_named};
+use crate::bringing::bring_back_named;
+use crate::lists_away::{lines_if_away, report_by_lines};
 use edi_messages::Call;
 use edi_segments::interchange_text;
 use office_admission::Admitted;
@@ -186,7 +187,7 @@ impl<S: Alter + Drop, A: Archives + Drop> ArchivedDesk<S, A> {
         Ok(with_archives(alloc, told, count)?)
     }
 
-    /// What the list of a call says, or what is left of it: if it is away, it is brought back.
+    /// What the list of a call says, or what is left of it: if it is away, by its lines as they were put away.
     fn find_list(
         &mut self,
         alloc: Global,
@@ -201,8 +202,10 @@ impl<S: Alter + Drop, A: Archives + Drop> ArchivedDesk<S, A> {
             self.new.archives }
         ensures last_fault { self.new.desk.last_fault ≡ self.old.desk.last_fault }
     {
-        bring_back(alloc, &mut self.desk, &self.archives, call, side)?;
-        self.desk.find_report(alloc, query)
+        match lines_if_away(alloc, &mut self.desk, &self.archives, call, side)? {
+            Some(lines) => report_by_lines(alloc, query, call, side, lines),
+            None => self.desk.find_report(alloc, query),
+        }
     }
 
     /// What is reported of a number: by its archive, if it is closed.

@@ -1,19 +1,19 @@
-ghost use Rattle.std.specs.Prelude.{ℕ, List, [], ◌∷◌, IfOk, map};
+ghost use Rattle.std.specs.Prelude.{ℕ, List, [], ◌∷◌, map};
 ghost use Rattle.edi_messages.specs.Owned.{call_content};
 ghost use Rattle.office_admission.specs.Outcomes.{IsAdmitted};
-ghost use Rattle.office_archives.specs.Bringing.{AsksList, BringsTogether, named_by};
+ghost use Rattle.office_archives.specs.Bringing.{BringsTogether, named_by};
 ghost use Rattle.office_lists.specs.Named.{named_list_content};
 ghost use Rattle.office_lists.specs.OwnLists.{list_name};
 
 use crate::archives::Archives;
+use crate::lists_away::lines_if_away;
 use edi_messages::Call;
 use office_admission::Admitted;
 use office_desk::Desk;
 use office_lists::{NamedList, lists_named};
-use office_queries::Query;
 use office_tables::TableFault;
 use sqlite::Alter;
-use std::alloc::{AllocError, Global};
+use std::alloc::Global;
 use terminal_core::Side;
 
 /// Brings back each list that an admitted interchange names and that is away. Lists are looked for only if some were put
@@ -52,7 +52,7 @@ fn bring_back_all<S: Alter + Drop, A: Archives>(
 /// Brings back the list of a call, if it is away: its lines stand in the store again, as they were put away.
 ///
 /// Damaged if it was put away without a line; the faults of desk and archives; Memory.
-pub(crate) fn bring_back<S: Alter + Drop, A: Archives>(
+fn bring_back<S: Alter + Drop, A: Archives>(
     alloc: Global,
     desk: &mut Desk<S>,
     archives: &A,
@@ -62,27 +62,8 @@ pub(crate) fn bring_back<S: Alter + Drop, A: Archives>(
     ensures brings { BringsTogether S.Store A.are desk.old archives.now (list_name (call_content call.now) side ∷ []) result
         desk.new }
 {
-    let Some(lines) = archives.lines(alloc, call, side)? else {
-        return Ok(());
-    };
-    let asked = asked_of(alloc, call, side)?;
-    if desk.find_report(alloc, &asked)?.is_some() {
-        return Ok(());
+    match lines_if_away(alloc, desk, archives, call, side)? {
+        Some(lines) => desk.bring_back(&lines),
+        None => Ok(()),
     }
-    if lines.is_empty() {
-        return Err(TableFault::Damaged);
-    }
-    desk.bring_back(&lines)
-}
-
-/// The query for the list of a call.
-fn asked_of(alloc: Global, call: &Call, side: Side) -> Result<Query, AllocError>
-    ensures { IfOk result (λ asked. AsksList asked (call_content call.now) side) }
-{
-    let vessel = String::from_str(alloc, call.vessel.as_str())?;
-    let voyage = String::from_str(alloc, call.voyage.as_str())?;
-    Ok(Query::List {
-        call: Call { vessel, voyage },
-        side,
-    })
 }

@@ -6,6 +6,7 @@ mod archives;
 mod bringing;
 mod former_store;
 pub mod laws;
+mod lists_away;
 mod many_archives;
 mod opened;
 mod texts;

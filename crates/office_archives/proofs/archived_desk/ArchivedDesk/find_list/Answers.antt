@@ -1,24 +1,46 @@
-use Rattle.std.proofs.Common.{[], ◌∷◌, option_map, string_bytes}
+use Rattle.std.proofs.Common.{None, Some, map, option_map, string_bytes, subst}
 use Rattle.edi_messages.specs.Owned.{call_content}
 use Rattle.office_rows.proofs.StepLemmas.{if_ok}
+use Rattle.office_rows.specs.Rows.{listing_content}
 use Rattle.office_lists.specs.OwnLists.{list_name}
-use Rattle.office_archives.proofs.Beside.{list_beside}
-use Rattle.office_archives.proofs.Brought.{brought_looks, brought_then}
+use Rattle.office_archives.specs.ListsAway.{FindsIfAway}
+use Rattle.office_archives.proofs.Beside.{away_beside, list_beside}
+use Rattle.office_archives.proofs.Looking.{looks_more, looks_on}
 use Rattle.office_archives.proofs.archived_desk.ArchivedDesk.find_list.Goals as goal
 
-pub returns-in_err-bring_back-clause-looks : goal.returns-in_err-bring_back-clause-looks
-returns-in_err-bring_back-clause-looks g c =
+pub returns-in_err-lines-clause-looks : goal.returns-in_err-lines-clause-looks
+returns-in_err-lines-clause-looks g c =
     let self = c.args.self.now in
-    brought_looks g.S.Store g.A.Archives.are self.desk c.bring_back.new.desk self.archives (list_name (call_content c.args.call.now) c.args.side ∷ []) c.bring_back.result c.bring_back.ensures.brings
+    looks_on g.S.Store g.A.Archives.are self.desk c.lines_if_away.new.desk self.archives self.archives (λ sound db left. g.met.S.Store.settled self.desk.conn.store db sound.1 left) c.lines_if_away.ensures.looks (λ list are. are)
 
-pub returns-clause-told : goal.returns-clause-told
-returns-clause-told g c = λ sound whole.
+-- ---- a list that is away
+
+pub returns-in-Some-clause-told : goal.returns-in-Some-clause-told
+returns-in-Some-clause-told g c = λ sound whole.
     let self = c.args.self.now in
-    if_ok c.find_report.result (λ found here.
-    list_beside g.S.Store g.A.Archives.are self.desk self.archives c.bring_back.new.desk c.args.query.now (call_content c.args.call.now) c.args.side (option_map string_bytes found) c.requires (c.find_report.ensures.looks.stays sound) c.in_ok-bring_back.ensures.brings here)
+    let call = call_content c.args.call.now in
+    let away = subst (λ o. FindsIfAway g.S.Store g.A.Archives.are self.desk self.archives (list_name call c.args.side) (option_map (λ lines. map listing_content lines.items) o)) c.in-Some.is (c.in_ok-lines.ensures.away sound) in
+    if_ok c.report_by_lines.result (λ found told. away_beside g.S.Store g.A.Archives.are self.desk self.archives c.args.query.now call c.args.side (map listing_content c.in-Some.lines.items) (option_map string_bytes found) c.requires away told) c.report_by_lines.ensures
+
+pub returns-in-Some-clause-looks : goal.returns-in-Some-clause-looks
+returns-in-Some-clause-looks g c =
+    let self = c.args.self.now in
+    looks_on g.S.Store g.A.Archives.are self.desk c.lines_if_away.new.desk self.archives self.archives (λ sound db left. g.met.S.Store.settled self.desk.conn.store db sound.1 left) c.lines_if_away.ensures.looks (λ list are. are)
+
+-- ---- one that is here
+
+pub returns-in-None-clause-told : goal.returns-in-None-clause-told
+returns-in-None-clause-told g c = λ sound whole.
+    let self = c.args.self.now in
+    let call = call_content c.args.call.now in
+    let sound_mid = c.find_report.ensures.looks.stays sound in
+    let here = subst (λ o. FindsIfAway g.S.Store g.A.Archives.are self.desk self.archives (list_name call c.args.side) (option_map (λ lines. map listing_content lines.items) o)) c.in-None.is (c.in_ok-lines.ensures.away sound_mid) in
+    if_ok c.find_report.result (λ found told.
+    list_beside g.S.Store g.A.Archives.are self.desk self.archives c.lines_if_away.new.desk c.args.query.now call c.args.side (option_map string_bytes found) c.requires sound_mid c.lines_if_away.ensures.looks here told)
     (c.find_report.ensures.told sound)
 
-pub returns-clause-looks : goal.returns-clause-looks
-returns-clause-looks g c =
+pub returns-in-None-clause-looks : goal.returns-in-None-clause-looks
+returns-in-None-clause-looks g c =
     let self = c.args.self.now in
-    brought_then g.S.Store g.A.Archives.are self.desk c.bring_back.new.desk self.archives (list_name (call_content c.args.call.now) c.args.side ∷ []) c.in_ok-bring_back.ensures.brings c.find_report.new.self c.find_report.ensures.looks
+    let looks = looks_more g.S.Store self.desk c.lines_if_away.new.desk c.find_report.new.self c.in_ok-lines.ensures.stays_open c.lines_if_away.ensures.looks c.find_report.ensures.looks in
+    looks_on g.S.Store g.A.Archives.are self.desk c.find_report.new.self self.archives self.archives (λ sound db left. g.met.S.Store.settled self.desk.conn.store db sound.1 left) looks (λ list are. are)
