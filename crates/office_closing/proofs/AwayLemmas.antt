@@ -2,7 +2,6 @@
 use Rattle.std.proofs.Common.{◌≡◌, ◌⊎◌, inl, inr, ℕ, ◌<◌, ◌≤◌, List, [], ◌∷◌, ◌++◌, ◌||◌, Bool, true, false, Option, None, Some, filter, not, refl, sym, ap, subst, ◌∙◌, arith}
 use Rattle.std.specs.Prelude.{Contains, IsPermutation, find}
 use Rattle.std.specs.Option.{option_map, option_or}
-use Rattle.sqlite.specs.Effect.{Database}
 use Rattle.sqlite_rules.proofs.ListLemmas.{contains_had, has_contained, has_filtered, has_found, has_kept, has_left, has_right, some_from, some_has}
 use Rattle.terminal_core.specs.State.{TerminalState}
 use Rattle.terminal_core.proofs.Lined.{same_key, tied_self}
@@ -11,9 +10,8 @@ use Rattle.office_replies.specs.Events.{Event}
 use Rattle.office_checks.specs.Closed.{ClosedContent}
 use Rattle.office_checks.specs.OwnOffice.{AreInOrder, IsOwnOffice}
 use Rattle.office_rows.specs.Effects.{is_pair}
-use Rattle.office_rows.specs.Opened.{NumberKept, OpenedRows, Shows}
+use Rattle.office_rows.specs.Opened.{NumberKept, OpenedRows}
 use Rattle.office_rows.specs.Rows.{Interchange, Rows}
-use Rattle.office_rows.specs.Stored.{HasRows}
 use Rattle.office_setup.specs.Setups.{SetupContent}
 use Rattle.office_history.specs.After.{AreKeptOnce, SaysSame, machine_after}
 use Rattle.office_history.specs.Cascade.{text_in}

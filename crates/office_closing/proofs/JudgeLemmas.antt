@@ -1,5 +1,5 @@
 -- What a plan says of the rows and the registers of store and archive.
-use Rattle.std.proofs.Common.{◌≡◌, ℕ, ◌+◌, ◌==◌, ◌<◌, ◌≤◌, List, [], ◌∷◌, ◌++◌, None, Bool, true, false, cond, if◌then◌else◌, filter, map, length, refl, sym, ap, ap₂, subst, ◌∙◌, arith}
+use Rattle.std.proofs.Common.{◌≡◌, inl, inr, ℕ, ◌+◌, ◌==◌, ◌<◌, ◌≤◌, List, [], ◌∷◌, ◌++◌, None, Bool, true, false, cond, if◌then◌else◌, filter, map, length, refl, sym, ap, ap₂, subst, ◌∙◌, arith}
 use Rattle.std.specs.Prelude.{Contains, IsPermutation, IsUtf8}
 use Rattle.std.specs.List.{AllByRecursion}
 use Rattle.std.proofs.lemmas.Bool.{eqb-true}
@@ -210,6 +210,7 @@ module _ (held : Held) (old : Files) (has : AreHeld held old) (names : FileNames
       file = ap (λ (a : ArchiveContent). a.file) is.archive;
       place = place_is;
       newest = newest_is;
+      register = inl new;
       segments = segments_are;
       all = closes_all;
       sound = raised_sound;
@@ -237,6 +238,7 @@ module _ (held : Held) (old : Files) (has : AreHeld held old) (names : FileNames
       file = ap (λ (a : ArchiveContent). a.file) is.archive;
       place = place_is;
       newest = newest_is;
+      register = inr raised;
       segments = segments_are;
       all = closes_all;
       sound = raised_sound;

@@ -17,7 +17,6 @@ use Rattle.office_history.specs.After.{reply_in}
 use Rattle.office_history.specs.Cascade.{text_in}
 use Rattle.office_history.proofs.Telling.{next_follows}
 use Rattle.office_done_lists.proofs.AwayLemmas.{closing_keeps}
-use Rattle.office_lists.specs.Away.{AreAway}
 use Rattle.office_lists.specs.OwnLists.{ListName, rows_without_lists}
 use Rattle.office_lists.proofs.BringingLemmas.{more_away}
 use Rattle.office_parts.specs.Archives.{Archive, Hold, HoldsWhatGoes}
@@ -31,7 +30,7 @@ use Rattle.office_parts.proofs.Events.{all_own}
 use Rattle.office_parts.proofs.LeftOver.{may_go, raising_closes, told_alike}
 use Rattle.office_parts.proofs.Lookups.{closed_within}
 use Rattle.office_register.specs.Register.{ArchiveContent, RegisterContent, last_closed, newest_visit}
-use Rattle.office_register.specs.Sound.{are_in_order, are_numbered, are_sound_archives, are_sound_lists, are_sound_segments, close_more, have_own_files, is_sound, is_sound_mark}
+use Rattle.office_register.specs.Sound.{are_numbered, are_sound_archives, have_own_files}
 use Rattle.office_closing.specs.Closes.{AreOrderly, Closing, Held, IsClosing, IsLeft, closed_after, closed_before, raised_register}
 use Rattle.office_closing.specs.Copies.{FileNames}
 use Rattle.office_closing.specs.Deleting.{all_but, with_visits_that}

@@ -136,11 +136,13 @@ pub record PutsAway (held : Held) (closing : Closing) : Type 0 where
 -- The archive holds all that goes, and all of that may go: the numbers by which the last closed ones rise, of the archive's
 -- register and so of the store's, are below the next of their accounts; the visits are over, and the newest is none of
 -- them. Lists go as the register has them. The store's register is sound with the archive, which comes after those that the
--- archive's own register names, with a segment for each account of which it closes numbers.
+-- archive's own register names, with a segment for each account of which it closes numbers; it names those only, or has the
+-- archive already.
 pub record IsClosing (held : Held) (names : FileNames) (closing : Closing) : Type 0 where
   pub file : closing.archive.file ≡ names.archive
   pub place : closing.archive.place ≡ length held.copied.archives + 1
   pub newest : closing.archive.visits ≡ last_number held.copy.visits
+  pub register : (held.register ≡ unmarked held.copied) ⊎ (held.register ≡ raised_register held closing)
   pub segments : closing.segments ≡ segments_of closing.archive.place closing.numbers
   pub all : ClosesAll held closing
   pub sound : IsSound (raised_register held closing)
