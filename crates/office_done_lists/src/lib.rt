@@ -3,8 +3,6 @@
 
 mod going;
 pub mod laws;
-#[cfg(test)]
-mod trials;
 mod waiting;
 
 pub use going::done_lists;

@@ -1,8 +1,8 @@
 //! The lists that are found of a few lines, and of many.
 
-use crate::done_lists;
 use box6346::BoxNumber;
 use edi_messages::Call;
+use office_done_lists::done_lists;
 use office_lists::NamedList;
 use std::alloc::{AllocError, Global};
 use std::process::Abort;
