@@ -1,5 +1,5 @@
 -- An account more, to a desk over a store's own rows and the archives beside it.
-use Rattle.std.proofs.Common.{◌≡◌, ℕ, ◌+◌, ◌-◌, ◌<◌, inl, inr, List, [], ◌∷◌, ◌++◌, length, map, Option, None, Some, String, refl, sym, ap, ap₂, subst, ◌∙◌, arith, is_lt, Greater}
+use Rattle.std.proofs.Common.{◌≡◌, ℕ, ◌+◌, ◌<◌, inl, inr, List, [], ◌∷◌, ◌++◌, length, map, Option, None, Some, String, refl, sym, ap, ap₂, subst, ◌∙◌, arith, is_lt, Greater}
 use Rattle.std.specs.Prelude.{get_or, IsSorted}
 use Rattle.std.specs.List.{range_with_len}
 use Rattle.std.specs.List.Sorted.{IsPermutation}

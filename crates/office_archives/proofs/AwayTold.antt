@@ -1,5 +1,5 @@
 -- What is told of a list that is away, by its lines as they were put away.
-use Rattle.std.proofs.Common.{◌≡◌, ℕ, List, [], ◌∷◌, ◌++◌, Bool, true, false, cond, Option, None, Some, map, refl, sym, ap, subst, ◌∙◌}
+use Rattle.std.proofs.Common.{◌≡◌, ℕ, List, [], ◌∷◌, ◌++◌, Bool, true, false, cond, Option, Some, map, refl, sym, ap, subst, ◌∙◌}
 use Rattle.std.specs.Prelude.{Contains, IsPermutation, filter}
 use Rattle.std.specs.FinMap as finite_map
 use Rattle.std.specs.Ordering.{eq_by_cmp}

@@ -1,8 +1,8 @@
 -- What desk and archives tell, from whatever events after which they stand.
-use Rattle.std.proofs.Common.{◌≡◌, ℕ, zero, ◌<◌, ◌≤◌, List, [], ◌∷◌, length, Bool, true, false, Option, None, Some, Result, Ok, Err, refl, sym, ap, subst, ◌∙◌, arith}
+use Rattle.std.proofs.Common.{◌≡◌, ℕ, ◌<◌, ◌≤◌, List, [], ◌∷◌, length, Bool, true, false, Option, None, Some, Result, Ok, Err, refl, sym, ap, subst, ◌∙◌, arith}
 use Rattle.std.specs.Prelude.{◌&&◌, is_some, nat_le, String, string_bytes}
 use Rattle.std.specs.declared.alloc.Global.{Global}
-use Rattle.std.proofs.lemmas.Bool.{le-leb, leb-false, leb-true, and_parts}
+use Rattle.std.proofs.lemmas.Bool.{leb-false, leb-true, and_parts}
 use Rattle.sqlite_trees.specs.declared.store.Store.{Ghosts}
 use Rattle.box6346.specs.declared.box_number.BoxNumber.{BoxNumber}
 use Rattle.edi_messages.specs.Purposes.{CallContent}
@@ -30,7 +30,6 @@ use Rattle.office_lists.specs.OwnLists.{ListName, list_name, rows_without_lists,
 use Rattle.office_lists.proofs.KeepingLemmas.{away_done}
 use Rattle.office_parts.specs.Parts.{Archived}
 use Rattle.office_archives.specs.Keeping.{IsClosedIn}
-use Rattle.office_archives.specs.Standing.{StandsBeside}
 use Rattle.office_archives.specs.ListsAway.{FindsIfAway, TellsByLines}
 use Rattle.office_archives.specs.Telling.{HasListAway, IsOfContainer, IsOfList, IsOfNeither, IsOfNumber, TellsClosed, TellsTogether, archives_with_lists, with_archives}
 use Rattle.office_archives.specs.Together.{StandTogether, TellsBeside}

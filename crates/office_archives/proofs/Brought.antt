@@ -1,20 +1,19 @@
 -- Lists that are brought back into a store.
-use Rattle.std.proofs.Common.{◌≡◌, ◌⊎◌, inl, inr, ℕ, List, [], ◌∷◌, ◌++◌, Bool, true, false, cond, Option, None, Some, Result, Ok, Err, IfOk, OnOk, refl, sym, ap, subst, ◌∙◌, map, string_bytes}
-use Rattle.std.specs.Prelude.{◌&&◌, not, IsTrue, IsPermutation, Contains, filter}
-use Rattle.std.specs.Option.{option_map}
+use Rattle.std.proofs.Common.{◌≡◌, inl, inr, ℕ, List, [], ◌∷◌, ◌++◌, Bool, true, false, Option, None, Some, Result, Ok, Err, OnOk, refl, sym, ap, subst, ◌∙◌}
+use Rattle.std.specs.Prelude.{◌&&◌, not, IsTrue, IsPermutation}
 use Rattle.sqlite.specs.Effect.{Database}
-use Rattle.sqlite.specs.Held.{Held, state}
-use Rattle.sqlite.specs.State.{HasCleanDisk, State}
+use Rattle.sqlite.specs.Held.{state}
+use Rattle.sqlite.specs.State.{HasCleanDisk}
 use Rattle.sqlite.specs.Tree.{Trees}
 use Rattle.sqlite_trees.specs.declared.store.Store.{Ghosts}
 use Rattle.edi_messages.specs.Owned.{call_content}
 use Rattle.edi_messages.specs.Purposes.{CallContent}
-use Rattle.terminal_core.specs.State.{TerminalState, line_of}
+use Rattle.terminal_core.specs.State.{TerminalState}
 use Rattle.terminal_core.specs.declared.lines.Side.{Side}
 use Rattle.office_replies.specs.Events.{Event}
-use Rattle.office_checks.specs.Closed.{ClosedContent, closed_content}
+use Rattle.office_checks.specs.Closed.{closed_content}
 use Rattle.office_rows.specs.Opening.{with_lines}
-use Rattle.office_rows.specs.Rows.{Interchange, ListingContent, Rows}
+use Rattle.office_rows.specs.Rows.{ListingContent, Rows}
 use Rattle.office_rows.specs.Stored.{HasRows, StoresRows}
 use Rattle.office_setup.specs.Setups.{SetupContent, setup_content}
 use Rattle.office_history.specs.After.{AreKeptOnce, content_after, machine_after}
@@ -26,14 +25,12 @@ use Rattle.office_queries.specs.declared.query.Query.TheVariants as query
 use Rattle.office_desk.specs.Beside.{IsOrNone}
 use Rattle.office_desk.specs.Calls.{OnlyLooks}
 use Rattle.office_desk.specs.Desks.{IsSound}
-use Rattle.office_desk.specs.Offices.{DeskHolds, HoldsOffice}
+use Rattle.office_desk.specs.Offices.{HoldsOffice}
 use Rattle.office_desk.specs.Reports.{DeskTells, TellsOf}
 use Rattle.office_desk.specs.declared.desk.Desk.{Desk}
 use Rattle.office_desk.proofs.OfficeLemmas.{office_once, office_with}
 use Rattle.office_parts.specs.Archives.{Archive}
-use Rattle.office_parts.specs.LeftOver.{rows_beyond}
 use Rattle.office_parts.specs.OwnTerminal.{own_terminal}
-use Rattle.office_parts.specs.Parts.{ArePartsAfter}
 use Rattle.office_lists.specs.Away.{AreAway, lines_away}
 use Rattle.office_lists.specs.Bringing.{BringsBack, all_but, is_list}
 use Rattle.office_lists.specs.Naming.{AreHere}

@@ -23,27 +23,21 @@ use Rattle.office_setup.specs.Given.{IsGiven, AreDistinct}
 use Rattle.office_setup.specs.Parties.{Parties, parties_of, partner_from}
 use Rattle.office_setup.specs.Setups.{SetupContent, setup_content}
 use Rattle.office_setup.specs.declared.setup.Setup.{Setup}
-use Rattle.office_loading.specs.Tables.{LoadsOwn}
 use Rattle.office_queries.specs.declared.query.Query.{Query}
 use Rattle.office_queries.specs.declared.query.Query.TheVariants as query
-use Rattle.office_history.specs.After.{SaysSame, content_after, machine_after}
-use Rattle.office_history.proofs.Loads.{one_setup}
+use Rattle.office_history.specs.After.{machine_after}
 use Rattle.office_desk.specs.Answers.{code_of}
 use Rattle.office_desk.specs.Calls.{OnlyLooks}
 use Rattle.office_desk.specs.Desks.{IsSound}
-use Rattle.office_desk.specs.Offices.{DeskHolds}
 use Rattle.office_desk.specs.Reports.{IsOpenFor, partner_called}
 use Rattle.office_desk.specs.declared.desk.Desk.{Desk}
 use Rattle.office_desk.proofs.DeliverLemmas.{parties_same}
-use Rattle.office_desk.proofs.OfficeLemmas.{shown_by_own}
 use Rattle.office_parts.specs.Archives.{Archive}
 use Rattle.office_lists.specs.OwnLists.{rows_without_lists, without_lists}
 use Rattle.office_parts.specs.OwnTerminal.{own_terminal}
-use Rattle.office_archives.specs.Opening.{OpensBeside}
 use Rattle.office_archives.specs.Standing.{KnowsClosed, StandsBeside}
 use Rattle.office_archives.specs.Telling.{IsOfNumber}
 use Rattle.office_archives.specs.Together.{IsBesideAfter, OnlyLooksTogether}
-use Rattle.office_archives.proofs.Opening.{beside_alike}
 use Rattle.office_archives.proofs.Together.{noted_stands}
 
 -- ---- the partner of a code

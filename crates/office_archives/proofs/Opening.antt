@@ -10,13 +10,12 @@ use Rattle.office_replies.specs.Events.{Event}
 use Rattle.office_checks.specs.Closed.{ClosedContent, closed_content}
 use Rattle.office_rows.specs.Rows.{Rows}
 use Rattle.office_rows.specs.Stored.{HasRows}
-use Rattle.office_rows.specs.Tables.{office_schema}
 use Rattle.office_setup.specs.Given.{IsGiven}
 use Rattle.office_setup.specs.Setups.{SetupContent, setup_content}
 use Rattle.office_history.specs.After.{AreKeptOnce, SaysSame, content_after, machine_after}
 use Rattle.office_history.proofs.Alike.{codes_after, now_with_codes}
 use Rattle.office_history.proofs.Loads.{one_setup, one_terminal}
-use Rattle.office_desk.specs.Offices.{DeskHolds, OpensOffice}
+use Rattle.office_desk.specs.Offices.{DeskHolds}
 use Rattle.office_desk.specs.declared.desk.Desk.{Desk}
 use Rattle.office_desk.proofs.AlikeLemmas.{answers_alike}
 use Rattle.office_desk.proofs.OfficeAccounts.{own_once}
@@ -30,7 +29,6 @@ use Rattle.office_lists.proofs.AlikeLemmas.{away_alike}
 use Rattle.office_lists.proofs.OfficeLemmas.{own_office_without}
 use Rattle.office_archives.specs.Opening.{OpenedStandBeside, OpensBeside}
 use Rattle.office_archives.specs.Standing.{IsOwnWithRest, KnowsClosed}
-use Rattle.office_archives.specs.Together.{IsBesideAfter}
 use Rattle.office_archives.proofs.Resting.{of_whole}
 
 -- a desk that holds the store's rows with the terminal of its own goes on from there, for the opening set-up with its codes

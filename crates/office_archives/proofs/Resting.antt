@@ -1,11 +1,11 @@
 -- Closed interchanges that still stand in a store, while others are written beyond them.
-use Rattle.std.proofs.Common.{◌≡◌, ℕ, ◌+◌, ◌<◌, ◌≤◌, List, [], ◌∷◌, ◌++◌, map, Bool, true, false, cond, Option, None, Some, refl, sym, ap, subst, ◌∙◌, arith}
+use Rattle.std.proofs.Common.{◌≡◌, ℕ, ◌+◌, ◌<◌, ◌≤◌, List, [], ◌∷◌, ◌++◌, map, Bool, true, false, cond, Option, Some, refl, sym, ap, subst, ◌∙◌, arith}
 use Rattle.std.specs.Prelude.{◌==◌, filter, nat_le, not, Contains}
 use Rattle.std.proofs.lemmas.Bool.{leb-true}
 use Rattle.std.proofs.lemmas.List.Elements.{filter-append}
 use Rattle.terminal_core.specs.Rows.{ChangeContent, visit_opened, visit_closed, placed_at, moved_to, removed_from, listed_on, line_done, unlisted}
 use Rattle.office_rows.specs.Rows.{Interchange, Rows}
-use Rattle.office_rows.specs.Effects.{is_pair, with_change, with_taken, with_waiting}
+use Rattle.office_rows.specs.Effects.{is_pair, with_change, with_waiting}
 use Rattle.office_taking.specs.Taking.{MachineState, interchange_taken}
 use Rattle.office_history.specs.Cascade.{TakenContent, AreTakenFrom, text_in, texts_with, with_changes, with_interchange, with_interchanges, with_run}
 use Rattle.office_history.proofs.Runs.{pair_of}

@@ -1,5 +1,5 @@
 -- What a delivery does to a desk and the archives beside it.
-use Rattle.std.proofs.Common.{◌≡◌, ℕ, ◌+◌, ◌≤◌, inl, List, [], ◌∷◌, ◌++◌, true, false, Result, Ok, Err, sym, refl, ap, subst, ◌∙◌, arith}
+use Rattle.std.proofs.Common.{◌≡◌, ℕ, ◌≤◌, inl, List, [], ◌∷◌, ◌++◌, true, false, Result, Ok, Err, sym, refl, ap, subst, ◌∙◌, arith}
 use Rattle.std.specs.Prelude.{nat_le, None, IsTrue}
 use Rattle.std.proofs.lemmas.Bool.{leb-true, leb-false}
 use Rattle.sqlite.specs.Held.{Held, state}

@@ -1,4 +1,4 @@
-use Rattle.std.proofs.Common.{Ok, Err, [], ◌∷◌, map, take, ◌+◌, sym, subst, refl}
+use Rattle.std.proofs.Common.{Ok, Err, [], ◌∷◌, map, take, sym, subst, refl}
 use Rattle.std.proofs.lemmas.Result.{err_from_is_err_and}
 use Rattle.office_tables.proofs.WritesLemmas.{taken_more}
 use Rattle.office_desk.proofs.LookLemmas.{looks_nowhere}

@@ -1,4 +1,4 @@
-use Rattle.std.proofs.Common.{◌≡◌, sym, subst}
+use Rattle.std.proofs.Common.{sym, subst}
 use Rattle.sqlite.specs.Held.{state}
 use Rattle.office_rows.specs.Stored.{HasRows}
 use Rattle.office_rows.proofs.StepLemmas.{if_ok}

@@ -1,10 +1,10 @@
-use Rattle.std.proofs.Common.{◌≡◌, sym, ap, subst, ◌∙◌}
+use Rattle.std.proofs.Common.{sym, ap, subst, ◌∙◌}
 use Rattle.sqlite.specs.Effect.{Database}
 use Rattle.sqlite.specs.Held.{state}
 use Rattle.office_setup.specs.Setups.{setup_content}
 use Rattle.office_checks.specs.Closed.{closed_content}
 use Rattle.office_loading.specs.Tables.{LoadsOwn}
-use Rattle.office_tables.proofs.ReadingLemmas.{clean_first, reads_on, reads_stopped, ◌then◌}
+use Rattle.office_tables.proofs.ReadingLemmas.{clean_first, reads_on, ◌then◌}
 use Rattle.office_archives.proofs.Shelved.{taken_in}
 use Rattle.office_archives.proofs.former_store.ticket_by.Goals as goal
 

@@ -1,4 +1,4 @@
-use Rattle.std.proofs.Common.{None, Some, map, option_map, string_bytes, subst}
+use Rattle.std.proofs.Common.{map, option_map, string_bytes, subst}
 use Rattle.edi_messages.specs.Owned.{call_content}
 use Rattle.office_rows.proofs.StepLemmas.{if_ok}
 use Rattle.office_rows.specs.Rows.{listing_content}

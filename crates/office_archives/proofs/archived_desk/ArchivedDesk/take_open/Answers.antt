@@ -1,5 +1,5 @@
-use Rattle.std.proofs.Common.{◌≡◌, Ok, Err, sym, subst, ◌∙◌}
-use Rattle.edi_segments.specs.Interchange.{interchange_of, segments_in}
+use Rattle.std.proofs.Common.{◌≡◌, Ok, Err, sym, subst}
+use Rattle.edi_segments.specs.Interchange.{segments_in}
 use Rattle.edi_syntax.specs.Envelope.{header_of}
 use Rattle.office_admission.specs.Admission.{admission, number_in}
 use Rattle.office_admission.specs.Outcomes.{IsAdmitted}
