@@ -12,17 +12,19 @@ use Rattle.office_rows.specs.Tables.{office_schema}
 use Rattle.office_checks.specs.Closed.{ClosedContent}
 use Rattle.office_loading.specs.Tables.{LoadsOwn}
 use Rattle.office_setup.specs.Setups.{SetupContent}
+use Rattle.office_register.specs.Lists.{SettledListContent}
 use Rattle.office_register.specs.Register.{ArchiveContent, RegisterContent, closed_by}
 use Rattle.office_register.specs.Sound.{is_sound}
 use Rattle.office_register.specs.declared.register.Segment.{Segment}
 
 -- An archive's own register is that of the archive at a place of the store whose register names the archives: it is marked for
--- the store in this file, and has the archives before that place, and their segments.
+-- the store in this file, and has the archives before that place, with their segments and lists.
 pub record IsRegisterAt (store : List ℕ) (place : ℕ) (names own : RegisterContent) : Type 0 where
   pub marked : own.closed_for ≡ Some store
   pub before : length own.archives + 1 ≡ place
   pub archives : own.archives ≡ take (length own.archives) names.archives
   pub segments : own.segments ≡ filter (λ (segment : Segment). nat_lt segment.archive place) names.segments
+  pub lists : own.lists ≡ filter (λ (list : SettledListContent). nat_lt list.archive place) names.lists
 
 -- it is of the store's terminal, and its accounts are the first of the store's
 pub record IsOfOffice (archive store : SetupContent) : Type 0 where

@@ -1,6 +1,7 @@
-ghost use Rattle.std.specs.Prelude.{◌≡◌, ◌↔◌, ◌+◌, ◌-◌, ◌++◌, ◌∷◌, [], true, IfSome, Some, filter, length, map, nat_lt, option_map, slice_get, string_bytes, take};
+ghost use Rattle.std.specs.Prelude.{◌≡◌, ◌↔◌, ◌<◌, ◌+◌, ◌-◌, ◌++◌, ◌∷◌, [], true, IfSome, Some, filter, length, map, nat_lt, option_map, slice_get, string_bytes, take};
 ghost use Rattle.std.specs.List.{AllByRecursion};
 ghost use Rattle.office_archive_files.specs.Archives.{IsBelowNext, IsOfOffice, IsRegisterAt, Reaches};
+ghost use Rattle.office_register.specs.Lists.{SettledListContent, list_content};
 ghost use Rattle.office_register.specs.Register.{archive_content, register_content};
 ghost use Rattle.office_register.specs.declared.register.Segment.{Segment};
 ghost use Rattle.office_setup.specs.Accounts.{account_contents};
@@ -9,7 +10,7 @@ ghost use Rattle.terminal_core.specs.Rows.{visit_content};
 ghost use Rattle.terminal_core.specs.State.{last_number};
 
 use office_desk::Beside;
-use office_register::{Archive, Register, Segment};
+use office_register::{Archive, Register, Segment, SettledList, is_same_list};
 use office_setup::{Account, Setup};
 use terminal_core::Visit;
 
@@ -24,7 +25,7 @@ pub(crate) fn archive_at(archives: &[Archive], place: u16) -> Option<&Archive>
 }
 
 /// Whether an archive's own register is that of the archive at a place of a store: it is marked for the store in this file,
-/// and has the archives before that place, with their segments, as the store's register has them.
+/// and has the archives before that place, with their segments and lists, as the store's register has them.
 pub(crate) fn is_register_of(own: &Register, names: &Register, place: u16, store_file: &str) -> bool
     ensures { result ≡ true → IsRegisterAt store_file.now place (register_content names.now) (register_content own.now) }
 {
@@ -32,6 +33,9 @@ pub(crate) fn is_register_of(own: &Register, names: &Register, place: u16, store
         return false;
     }
     if own.archives.len() + 1 != usize::from(place) {
+        return false;
+    }
+    if !are_lists_before(&own.lists, &names.lists, place) {
         return false;
     }
     are_first_archives(&own.archives, &names.archives)
@@ -103,6 +107,35 @@ fn is_same_segment(one: Segment, other: Segment) -> bool
     ensures { (result ≡ true) ↔ (one ≡ other) }
 {
     one.partner == other.partner && one.archive == other.archive && one.last == other.last
+}
+
+/// Whether these lists are those of the others that were put away with archives before a place.
+fn are_lists_before(lists: &[SettledList], others: &[SettledList], place: u16) -> bool
+    ensures { result ≡ true → map list_content lists.now
+        ≡ filter (λ (list : SettledListContent). nat_lt list.archive place) (map list_content others.now) }
+{
+    let mut count = 0;
+    for other in others {
+        if other.archive < place {
+            if !is_at(lists, count, other) {
+                return false;
+            }
+            count += 1;
+        }
+    }
+    count == lists.len()
+}
+
+/// Whether the list at an index says the same as another.
+fn is_at(lists: &[SettledList], index: usize, other: &SettledList) -> bool
+    ensures within { result ≡ true → index < length lists.now }
+    ensures same { result ≡ true → map list_content (take (index + 1) lists.now)
+        ≡ map list_content (take index lists.now) ++ list_content other.now ∷ [] }
+{
+    match lists.get(index) {
+        Some(list) => is_same_list(list, other),
+        None => false,
+    }
 }
 
 /// Whether an archive is of the same terminal as the store, and its accounts are the first of the store's.

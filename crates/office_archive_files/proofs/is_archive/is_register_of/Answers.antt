@@ -12,6 +12,7 @@ pub returns-then-are_first_archives : goal.returns-then-are_first_archives
 returns-then-are_first_archives c = λ e. record {
   marked = search rules;
   before = rw (length-map c.args.own.now.archives.items archive_content) (search rules);
-  archives = first_said c.args.own.now.archives.items c.args.names.now.archives.items (rw (sym c.deref.ensures.value, sym c.deref-2.ensures.value) (c.if-are_first_archives.ensures refl));
+  archives = first_said c.args.own.now.archives.items c.args.names.now.archives.items (rw (sym c.deref-3.ensures.value, sym c.deref-4.ensures.value) (c.if-are_first_archives.ensures refl));
   segments = search rules;
+  lists = search rules;
 }
