@@ -1,4 +1,5 @@
-//! A closing of a store of which a vessel's list is done: the list is away, and is brought back as it is asked for or named.
+//! A closing of a store of which a vessel's list is done: the list is away. It is reported all the same, and a text that names
+//! it brings it back.
 
 ghost use Rattle.std.specs.Prelude.{◌≡◌, ◌≤◌, IfOk, length};
 
@@ -143,14 +144,25 @@ fn opened(
     Ok(ArchivedDesk::new(desk, ManyArchives::new(Drawer { archive }, register)))
 }
 
-/// The list of the discharges.
-fn discharges(alloc: Global) -> Result<Query, AllocError> {
+/// The voyage whose discharges are done.
+fn voyage(alloc: Global) -> Result<Call, AllocError> {
     let vessel = String::from_str(alloc, "9123456")?;
     let voyage = String::from_str(alloc, "V12")?;
-    Ok(Query::List {
-        call: Call { vessel, voyage },
-        side: Side::Discharge,
-    })
+    Ok(Call { vessel, voyage })
+}
+
+/// The list of the discharges.
+fn discharges(alloc: Global) -> Result<Query, AllocError> {
+    let call = voyage(alloc)?;
+    let side = Side::Discharge;
+    Ok(Query::List { call, side })
+}
+
+/// What is left of it.
+fn left(alloc: Global) -> Result<Query, AllocError> {
+    let call = voyage(alloc)?;
+    let side = Side::Discharge;
+    Ok(Query::Work { call, side })
 }
 
 /// The office reports that at the query.
@@ -166,26 +178,27 @@ fn assert_reports<R: Report>(
 }
 
 #[test]
-fn a_list_that_is_done_is_brought_back_for_a_report(rt: HostRuntime) -> Result<(), Fail> {
+fn a_list_that_is_away_is_reported_and_a_text_brings_it_back(rt: HostRuntime) -> Result<(), Fail> {
     let alloc = rt.alloc();
     let mut office = opened(&rt, alloc)?;
     let list = discharges(alloc)?;
+    let left = left(alloc)?;
+    let away = "9123456 V12 LOAD 1 OPEN 0 DONE\n9123456 V13 DISCHARGE 0 OPEN 1 DONE\nARCHIVES 1\n";
     for (query, expected) in [
-        (
-            &Query::Calls,
-            "9123456 V12 LOAD 1 OPEN 0 DONE\n9123456 V13 DISCHARGE 0 OPEN 1 DONE\nARCHIVES 1\n",
-        ),
+        (&Query::Calls, away),
         (
             &list,
             "DISCHARGE LIST 9123456 V12\nABCU0000017 DONE\n0 OPEN 1 DONE\n",
         ),
-        (
-            &Query::Calls,
-            "9123456 V12 LOAD 1 OPEN 0 DONE\n9123456 V12 DISCHARGE 0 OPEN 1 DONE\n9123456 V13 DISCHARGE 0 OPEN 1 DONE\nARCHIVES 1\n",
-        ),
+        (&left, "DISCHARGE WORK 9123456 V12\n0 OPEN 0 IN\n"),
+        (&Query::Calls, away),
     ] {
         assert_reports(&rt, alloc, &mut office, query, expected);
     }
+    assert!(rt; office.deliver(alloc, LATER[0]).status() < 300);
+    let back =
+        "9123456 V12 LOAD 1 OPEN 0 DONE\n9123456 V12 DISCHARGE 0 OPEN 1 DONE\n9123456 V13 DISCHARGE 0 OPEN 1 DONE\nARCHIVES 1\n";
+    assert_reports(&rt, alloc, &mut office, &Query::Calls, back);
     Ok(())
 }
 
