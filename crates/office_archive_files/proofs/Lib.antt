@@ -5,3 +5,8 @@ pub mod OpenLemmas
 pub mod ShelfLemmas
 pub mod ServeLemmas
 pub mod NamingLemmas
+pub mod ClosingLemmas
+pub mod AddedLemmas
+pub mod GoingOnLemmas
+pub mod StopLemmas
+pub mod OpenedLemmas

@@ -11,3 +11,5 @@ pub mod Reporting
 pub mod Listing
 pub mod Texts
 pub mod Naming
+pub mod ClosedStores
+pub mod Stops
