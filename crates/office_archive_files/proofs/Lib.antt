@@ -10,3 +10,4 @@ pub mod AddedLemmas
 pub mod GoingOnLemmas
 pub mod StopLemmas
 pub mod OpenedLemmas
+pub mod FileLemmas

@@ -1,5 +1,5 @@
 -- What the command that puts history away does to the four files that it opens.
-use Rattle.std.specs.Prelude.{◌≡◌, ◌⊎◌, ℕ, List, Option, Result, IsTrue}
+use Rattle.std.specs.Prelude.{◌≡◌, ◌≢◌, ◌⊎◌, ℕ, List, Option, Result}
 use Rattle.sqlite_catalog.specs.Listing.{Lists}
 use Rattle.sqlite_trees.specs.Objects.{catalog_tree}
 use Rattle.sqlite_trees.specs.declared.store.Store.{Ghosts}
@@ -9,8 +9,12 @@ use Rattle.sqlite.specs.Recovery.{Image}
 use Rattle.sqlite.specs.Schema.{Schema}
 use Rattle.sqlite.specs.State.{HasCleanDisk}
 use Rattle.sqlite.specs.Tree.{Trees}
+use Rattle.office_rows.specs.Tables.{no_schema}
+use Rattle.office_tables.specs.Opened.{AreMissing}
+use Rattle.office_commands.specs.Opening.{HoldsNoTables}
 use Rattle.office_register.specs.Changes.{empty_register}
-use Rattle.office_register.specs.Transactions.{Makes}
+use Rattle.office_register.specs.Tables.{register_tables}
+use Rattle.office_register.specs.Transactions.{IsSettled, Makes}
 use Rattle.office_closing.specs.Closes.{Closes}
 use Rattle.office_closing.specs.Copies.{FileNames}
 use Rattle.office_closing.specs.Files.{AreIdle, files}
@@ -37,21 +41,31 @@ module _ {S : Type 0} (g : Ghosts S) where
       HasCleanDisk (state g conn) → (db : Trees) (schema : Schema) → ∥ HoldsDatabase image db ∥₁ →
       Lists (db catalog_tree) schema → (state g conn).committed ≡ record { schema = schema; trees = db }
 
-  -- the tables of an empty register were made in what was committed of a connection
+  -- what was committed of a connection has tables, and stayed
+  pub record KeepsRegister (found conn : Held S) : Type 0 where
+    pub some : (state g found).committed.schema ≢ no_schema
+    pub same : (state g conn).committed ≡ (state g found).committed
+
+  -- the tables of an empty register were made in what was committed of a connection, which had none of them
   pub record MakesRegister (found conn : Held S) : Type 0 where
     pub before : Held S
-    pub same : IsTrue (state g before).is_open → (state g before).committed ≡ (state g found).committed
+    pub same : (state g before).committed ≡ (state g found).committed
+    pub missing : AreMissing register_tables (state g found).committed.schema
     pub makes : Makes empty_register (state g before) (state g conn)
 
-  -- a connection shows what its file held, or the tables of an empty register were made in that
+  -- A connection shows what its file held, or the tables of an empty register were made in that. All is committed, and a crash
+  -- leaves only that.
   pub record ShowsRegister (image : Image) (conn : Held S) : Type 0 where
     pub found : Held S
     pub shows : Shows image found
+    pub empty : HasCleanDisk (state g found) → HoldsNoTables image → (state g found).committed.schema ≡ no_schema
     pub clean : HasCleanDisk (state g conn) → HasCleanDisk (state g found)
-    pub made : HasCleanDisk (state g conn) → ((state g conn).committed ≡ (state g found).committed) ⊎ MakesRegister found conn
+    pub made : HasCleanDisk (state g conn) → KeepsRegister found conn ⊎ MakesRegister found conn
+    pub settled : HasCleanDisk (state g conn) → IsSettled (state g conn)
 
 -- The connections to a store, its register, an archive and its register: the four were opened on files that held this, with no
--- transaction on any, and closing them under the names of the two paths left these, with that answer.
+-- transaction on any, so that what was committed is in memory and all that a crash leaves; and closing them under the names of
+-- the two paths left these, with that answer.
 pub record ClosesOver {S R A M T : Type 0} (s : Ghosts S) (r : Ghosts R) (a : Ghosts A) (m : Ghosts M) (images : Images)
     (store archive : List ℕ) (own : Held S) (register : Held R) (copy : Held A) (copied : Held M)
     (result : Result T CloseFault) : Type 0 where
@@ -63,8 +77,10 @@ pub record ClosesOver {S R A M T : Type 0} (s : Ghosts S) (r : Ghosts R) (a : Gh
   pub found_copy : Held A
   pub found_copied : Held M
   pub own_shows : Shows s images.store found_own
+  pub own_settled : HasCleanDisk (state s found_own) → IsSettled (state s found_own)
   pub register_shows : ShowsRegister r images.register found_register
   pub copy_shows : Shows a images.archive found_copy
+  pub copy_settled : HasCleanDisk (state a found_copy) → IsSettled (state a found_copy)
   pub copied_shows : ShowsRegister m images.archive_register found_copied
   pub idle : AreIdle (files s r a m found_own found_register found_copy found_copied)
   pub closes : Closes names (files s r a m found_own found_register found_copy found_copied)

@@ -13,3 +13,4 @@ pub mod Texts
 pub mod Naming
 pub mod ClosedStores
 pub mod Stops
+pub mod ClosedFiles

@@ -1,8 +1,11 @@
 ghost use Rattle.std.specs.Prelude.{◌≡◌, ◌⊎◌, false, IfOk, IfSome, OnOk};
-ghost use Rattle.office_archive_files.specs.Closing.{ClosesOver, MakesRegister, Shows, ShowsRegister};
+ghost use Rattle.office_archive_files.specs.Closing.{ClosesOver, KeepsRegister, MakesRegister, Shows, ShowsRegister};
+ghost use Rattle.office_commands.specs.Opening.{HoldsNoTables};
+ghost use Rattle.office_register.specs.Transactions.{IsSettled};
+ghost use Rattle.office_rows.specs.Tables.{no_schema};
 ghost use Rattle.sqlite.specs.Held.{state};
 ghost use Rattle.sqlite.specs.Recovery.{Image};
-ghost use Rattle.sqlite.specs.State.{HasCleanDisk};
+ghost use Rattle.sqlite.specs.State.{HasCleanDisk, Opens};
 
 use crate::register::{beside_path, found_at, has_no_tables, is_there, place_of, register_path};
 use office_closing::{CloseFault, File, FileFault, Refusal, close};
@@ -45,12 +48,15 @@ pub trait ClosingFile<S: Alter> {
     /// A connection to the file at a path. An empty one, or none, is a fault.
     fn open_there(self, rt: &HostRuntime, path: &str) -> Result<Connection<S>, TableFault>
         ensures idle { IfOk result (λ conn. conn.in_transaction ≡ false) }
+        ensures opens { IfOk result (λ conn. HasCleanDisk (state S.Store conn) → Opens (state S.Store conn)) }
         ensures shows { IfOk result (λ conn. Shows S.Store image conn) };
 
     /// A connection to the file at a path. One that isn't there is made.
     fn open_found(self, rt: &HostRuntime, path: &str) -> Result<Connection<S>, TableFault>
         ensures idle { IfOk result (λ conn. conn.in_transaction ≡ false) }
-        ensures shows { IfOk result (λ conn. Shows S.Store image conn) };
+        ensures shows { IfOk result (λ conn. Shows S.Store image conn) }
+        ensures empty { IfOk result (λ conn. HasCleanDisk (state S.Store conn) → HoldsNoTables image →
+            (state S.Store conn).committed.schema ≡ no_schema) };
 }
 
 impl<B: Start> ClosingFile<FileStore<FileFrom<B>>> for B {
@@ -223,6 +229,7 @@ fn open_office<S: Alter, F: ClosingFile<S>>(
 ) -> Result<Connection<S>, CloseFault>
     ensures idle { IfOk result (λ conn. conn.in_transaction ≡ false) }
     ensures shows { IfOk result (λ conn. Shows S.Store F.image conn) }
+    ensures settled { IfOk result (λ conn. HasCleanDisk (state S.Store conn) → IsSettled (state S.Store conn)) }
 {
     match of.open_there(rt, path) {
         Ok(conn) => Ok(conn),
@@ -275,9 +282,11 @@ fn make_tables<S: Alter>(alloc: Global, conn: &mut Connection<S>) -> Result<bool
     ensures idle { (state S.Store conn.new).in_transaction ≡ false }
     ensures clean { HasCleanDisk (state S.Store conn.new) → HasCleanDisk (state S.Store conn.old) }
     ensures made { HasCleanDisk (state S.Store conn.new) →
-        OnOk result (((state S.Store conn.new).committed ≡ (state S.Store conn.old).committed)
-        ⊎ MakesRegister S.Store conn.old conn.new) }
+        OnOk result (KeepsRegister S.Store conn.old conn.new ⊎ MakesRegister S.Store conn.old conn.new) }
+    ensures settled { HasCleanDisk (state S.Store conn.new) → OnOk result (IsSettled (state S.Store conn.new)) }
 {
+    let is_idle = conn.is_autocommit();
+    prove!(is_idle);
     match read_register(alloc, conn) {
         Ok(register) => Ok(register.archives.is_empty()),
         Err(fault) if has_no_tables(&fault) => {

@@ -1,5 +1,6 @@
 //! Laws of a store in files and its archives: each function does nothing, and its contract is the law.
 
+ghost use Rattle.office_archive_files.specs.ClosedFiles.{ClosingsOfFilesAreNoEvents, OpenStoresAreHeld};
 ghost use Rattle.office_archive_files.specs.ClosedStores.{ClosingsAddAnArchive, ClosingsAreNoEvents, ClosingsGoOn, LoadedStoresOpen, OpenedRowsAreOrderly, UnclosedStoresOpen};
 ghost use Rattle.office_archive_files.specs.Naming.{ClosingsAreNamed};
 ghost use Rattle.office_archive_files.specs.Stops.{StopsAreNoEvents};
@@ -53,3 +54,18 @@ pub fn stops_are_no_events<S: Alter, R: Alter, A: Alter, M: Alter>()
 {
     closings_are_no_events();
 }
+
+/// A closing over files is no event: if the four files held a store that opens after some events, its register and a copy with its
+/// register, whatever is left of it, at whatever moment, opens after the same events, beside the archives that the register then
+/// names.
+pub fn closings_of_files_are_no_events<S: Alter, R: Alter, A: Alter, M: Alter>()
+    ensures { ClosingsOfFilesAreNoEvents S.Store R.Store A.Store M.Store }
+{
+    stops_are_no_events::<S, R, A, M>();
+    opened_rows_are_orderly();
+}
+
+/// Files that hold a store that opens after some events are opened so, beside its archives.
+pub fn open_stores_are_held()
+    ensures { OpenStoresAreHeld }
+{}

@@ -10,7 +10,7 @@ ghost use Rattle.office_setup.specs.Given.{IsGiven};
 ghost use Rattle.office_setup.specs.Limits.{most_partners};
 ghost use Rattle.office_setup.specs.Setups.{SetupContent, setup_content};
 ghost use Rattle.sqlite.specs.Files.{file_state, over_files};
-ghost use Rattle.sqlite.specs.State.{HasCleanDisk};
+ghost use Rattle.sqlite.specs.State.{HasCleanDisk, Opens};
 ghost use Rattle.sqlite.specs.Tree.{Trees};
 ghost use Rattle.sqlite.specs.WalFiles.{image_at};
 
@@ -61,6 +61,7 @@ pub fn open_there<S: Start>(
     start: S,
 ) -> Result<Connection<FileStore<FileFrom<S>>>, TableFault>
     ensures idle { IfOk result (λ conn. conn.in_transaction ≡ false) }
+    ensures opened { IfOk result (λ conn. HasCleanDisk (file_state conn) → Opens (file_state conn)) }
     ensures found { IfOk result (λ conn. HasCleanDisk (file_state conn) → ShowsHeld (image_at S.Start) conn) }
 {
     if !is_there(rt, path) {
@@ -116,6 +117,7 @@ pub fn open_found<S: Start>(
     start: S,
 ) -> Result<Connection<FileStore<FileFrom<S>>>, TableFault>
     ensures idle { IfOk result (λ conn. conn.in_transaction ≡ false) }
+    ensures opened { IfOk result (λ conn. HasCleanDisk (file_state conn) → Opens (file_state conn)) }
     ensures found { IfOk result (λ conn. HasCleanDisk (file_state conn) → ShowsHeld (image_at S.Start) conn) }
     ensures empty { IfOk result (λ conn. HasCleanDisk (file_state conn) → HoldsNoTables (image_at S.Start) →
         (file_state conn).committed.schema ≡ no_schema) }

@@ -1,5 +1,5 @@
 -- What each query of all rows of a table shows.
-use Rattle.std.proofs.Common.{◌≡◌, ℕ, List, [], ◌∷◌, Bool, false, map, filter, refl, sym, ap, subst, ◌∙◌}
+use Rattle.std.proofs.Common.{◌≡◌, ℕ, List, [], ◌∷◌, Bool, false, Ok, Err, map, filter, refl, sym, ap, subst, ◌∙◌}
 use Rattle.std.specs.Ordering.{is_lt}
 use Rattle.std.specs.List.Sorted.{IsPermutation, IsSortedBy}
 use Rattle.std.proofs.lemmas.List.Sorted.{IsPermutation-map}
@@ -15,12 +15,14 @@ use Rattle.sqlite.specs.Tree.{Trees}
 use Rattle.sqlite.specs.Command.TheVariants.{Select}
 use Rattle.sqlite.specs.Listing.{understood, reads_listing}
 use Rattle.sqlite.specs.State.{State, Shown}
+use Rattle.sqlite_resolve.specs.declared.error.CompileError.{CompileError}
 use Rattle.sqlite.proofs.Callers.{IsPlain, command_of, reads_as}
 use Rattle.sqlite_trees.proofs.ListLemmas.{map-map, filter_all, all_of}
 use Rattle.sqlite_value.specs.Keys.{ascending}
 use Rattle.sqlite_value.specs.declared.keys.Key.{Key}
 use Rattle.office_rows.specs.Shown.{columns_at, ShowsTable}
 use Rattle.office_rows.specs.Stored.{columns_of}
+use Rattle.office_rows.specs.Tables.{no_schema}
 use Rattle.office_rows.proofs.Listed.{unmapped, sorted_as}
 use Rattle.office_rows.proofs.WriteLemmas.{rows_of, passes, answer_in_order}
 use Rattle.office_register.specs.Tables.{archive_table, segment_table, closed_for_table, settled_table, Layout, register_schema, schema_in}
@@ -66,3 +68,10 @@ module _ (old new : State) (layout : Layout) (has : old.now.schema ≡ schema_in
 
 pub lists_settled : (old new : State) → old.now.schema ≡ register_schema → (answer : List Row) → Shown texts.select_settled [] old new answer → ShowsTable settled_table (0 ∷ 1 ∷ 2 ∷ 3 ∷ 4 ∷ []) (0 ∷ 1 ∷ 2 ∷ 3 ∷ []) old.now answer
 lists_settled old new has answer = lists old new register_schema has answer settled_table texts.select_settled texts.select_settled_shown texts.select_settled_order texts.select_settled_names (0 ∷ 1 ∷ 2 ∷ 3 ∷ 4 ∷ []) (0 ∷ 1 ∷ 2 ∷ 3 ∷ []) texts.select_settled_is texts.select_settled_plain (λ trees. refl) (λ r. refl) (λ r. refl) refl
+
+-- Where there are no tables nothing is shown.
+pub lists_nothing : (old new : State) (sql : List ℕ) (e : CompileError) → understood no_schema sql ≡ Err e → old.now.schema ≡ no_schema → (answer : List Row) → Shown sql [] old new answer → ⊥
+unfolding Shown
+lists_nothing old new sql e missing none answer h =
+    let failed : Ok h.0 ≡ Err e = sym h.1.is ∙ ap (λ s. understood s sql) none ∙ missing in
+    absurd cc

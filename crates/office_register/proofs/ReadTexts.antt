@@ -10,6 +10,7 @@ use Rattle.sqlite.specs.Listing.{understood, reads_listing, listing_schema}
 use Rattle.sqlite.proofs.Callers.{IsPlain, command_of}
 use Rattle.sqlite_value.specs.Keys.{ascending}
 use Rattle.sqlite_value.specs.declared.keys.Key.{Key}
+use Rattle.office_rows.specs.Tables.{no_schema}
 use Rattle.office_rows.proofs.WriteLemmas.{rows_of}
 use Rattle.office_tables.specs.Reading.{OnlyShows}
 use Rattle.office_tables.proofs.TextLemmas.{is_read, only_shows}
@@ -36,6 +37,10 @@ pub select_archive_plain : (layout : Layout) → IsPlain (understood (schema_in 
 unfolding understood everything
 select_archive_plain older = (refl, refl)
 select_archive_plain whole = (refl, refl)
+
+pub select_archive_missing : understood no_schema select_archive ≡ Err NoSuchTable
+unfolding understood listing_schema everything
+select_archive_missing = refl
 
 archive_read : is_read (first select_archive) ≡ true
 unfolding everything

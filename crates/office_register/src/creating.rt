@@ -21,8 +21,8 @@ pub fn create_register<S: Alter>(conn: &mut Connection<S>) -> Result<(), TableFa
     ensures idle { (state S.Store conn.new).in_transaction ≡ false }
     ensures ok { HasCleanDisk (state S.Store conn.new) →
         OnOk result (Makes empty_register (state S.Store conn.old) (state S.Store conn.new)) }
-    ensures new { HasCleanDisk (state S.Store conn.new) →
-        OnOk result (AreMissing register_tables (state S.Store conn.old).committed.schema) }
+    ensures new { HasCleanDisk (state S.Store conn.new) → OnOk result (IsTrue (state S.Store conn.old).is_open
+        × AreMissing register_tables (state S.Store conn.old).committed.schema) }
     ensures err { HasCleanDisk (state S.Store conn.new) → IsTrue (state S.Store conn.new).is_open
         → OnErr result (((state S.Store conn.new).now ≡ (state S.Store conn.old).committed)
         × ((state S.Store conn.new).committed ≡ (state S.Store conn.old).committed)) }

@@ -9,6 +9,7 @@ ghost use Rattle.office_register.specs.Sound.{is_sound, IsSound};
 ghost use Rattle.office_register.specs.Stored.{HasRegister, ShowsLists, if_any};
 ghost use Rattle.office_register.specs.Tables.{archive_table, segment_table, closed_for_table, settled_table, Layout, whole, has_lists, register_schema, schema_in};
 ghost use Rattle.office_rows.specs.Shown.{ShowsTable};
+ghost use Rattle.office_rows.specs.Tables.{no_schema};
 ghost use Rattle.office_tables.specs.Faults.{IsOfStore, IsOfStoreOr};
 ghost use Rattle.office_tables.specs.Reading.{OnlyShows, Reads};
 ghost use Rattle.sqlite.specs.Held.{state};
@@ -25,7 +26,7 @@ use std::alloc::Global;
 
 /// The register that the tables hold. It changes nothing.
 ///
-/// Damaged if they hold no sound one; Store and Memory say nothing of the rows.
+/// Damaged if they hold no sound one; Store if there are none. Store and Memory say nothing of the rows.
 pub fn read_register<S: Alter>(
     alloc: Global,
     conn: &mut Connection<S>,
@@ -38,6 +39,7 @@ pub fn read_register<S: Alter>(
     ensures kept { HasCleanDisk (state S.Store conn.new) → IfErr result (λ fault. (content : _) →
         HasRegister content (state S.Store conn.old).now → IsSound content → IsOfStore fault) }
     ensures sound { IfOk result (λ register. IsTrue (is_sound (register_content register))) }
+    ensures missing { HasCleanDisk (state S.Store conn.new) → (state S.Store conn.old).now.schema ≡ no_schema → IfOk result (λ _. ⊥) }
     ensures version { IfErr result (IsOfStoreOr ⊤) }
     ensures reads { Reads (state S.Store conn.old) (state S.Store conn.new) result }
 {
@@ -55,6 +57,7 @@ fn read_tables<S: Alter>(alloc: Global, conn: &mut Connection<S>) -> Result<Regi
     ensures read { HasCleanDisk (state S.Store conn.new) → (layout : Layout) →
         (state S.Store conn.old).now.schema ≡ schema_in layout →
         ReadsTables layout (state S.Store conn.old).now result }
+    ensures missing { HasCleanDisk (state S.Store conn.new) → (state S.Store conn.old).now.schema ≡ no_schema → IfOk result (λ _. ⊥) }
     ensures version { IfErr result (IsOfStoreOr ⊤) }
     ensures reads { Reads (state S.Store conn.old) (state S.Store conn.new) result }
 {
@@ -77,6 +80,7 @@ fn read_archives<S: Alter>(
     ensures read { HasCleanDisk (state S.Store conn.new) → (layout : Layout) →
         (state S.Store conn.old).now.schema ≡ schema_in layout →
         ReadsTable archive_content FitsArchive (ShowsArchives (state S.Store conn.old).now) result }
+    ensures missing { HasCleanDisk (state S.Store conn.new) → (state S.Store conn.old).now.schema ≡ no_schema → IfOk result (λ _. ⊥) }
     ensures version { IfErr result (IsOfStoreOr ⊤) }
     ensures reads { Reads (state S.Store conn.old) (state S.Store conn.new) result }
 {
@@ -190,6 +194,7 @@ fn select_archives<S: Alter>(conn: &mut Connection<S>) -> Result<Vec<Row>, Table
     ensures shown { HasCleanDisk (state S.Store conn.new) → (layout : Layout) →
         (state S.Store conn.old).now.schema ≡ schema_in layout →
         IfOk result (λ answer. ShowsTable archive_table (0 ∷ 1 ∷ 2 ∷ []) (0 ∷ []) (state S.Store conn.old).now answer.items) }
+    ensures missing { HasCleanDisk (state S.Store conn.new) → (state S.Store conn.old).now.schema ≡ no_schema → IfOk result (λ _. ⊥) }
     ensures fault { IfErr result IsOfStore }
     ensures reads { Reads (state S.Store conn.old) (state S.Store conn.new) result }
 {

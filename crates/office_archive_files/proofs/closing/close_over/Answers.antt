@@ -11,8 +11,10 @@ returns g c = record {
   found_copy = c.in_ok-copy.copy;
   found_copied = c.in_ok-copied.copied;
   own_shows = c.in_ok-own.ensures.shows;
+  own_settled = c.in_ok-own.ensures.settled;
   register_shows = c.in_ok-names.ensures.shows;
   copy_shows = c.in_ok-copy.ensures.shows;
+  copy_settled = c.in_ok-copy.ensures.settled;
   copied_shows = c.in_ok-copied.ensures.shows;
   idle = record { store = c.in_ok-own.ensures.idle; register = c.in_ok-names.ensures.idle; archive = c.in_ok-copy.ensures.idle; archive_register = c.in_ok-copied.ensures.idle };
   closes = c.close-closed.ensures.closes;

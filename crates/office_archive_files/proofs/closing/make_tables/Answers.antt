@@ -1,14 +1,43 @@
-use Rattle.std.proofs.Common.{inl, inr, arith}
+use Rattle.std.proofs.Common.{◌≡◌, inl, inr, IsTrue, not, sym, ap, subst, ◌∙◌, arith}
+use Rattle.sqlite.specs.Effect.{Database}
+use Rattle.sqlite.specs.Held.{state}
+use Rattle.sqlite.specs.State.{HasCleanDisk}
+use Rattle.office_tables.specs.Opened.{AreMissing}
+use Rattle.office_register.specs.Tables.{register_tables}
 use Rattle.office_archive_files.proofs.closing.make_tables.Goals as goal
 
--- It was only read.
+-- It was only read: it has tables.
 pub returns-in-Ok-clause-made : goal.returns-in-Ok-clause-made
-returns-in-Ok-clause-made g c = λ clean. inl (c.in-Ok.ensures.reads.unchanged clean).0.committed_is
+returns-in-Ok-clause-made g c clean =
+    let is = (c.in-Ok.ensures.reads.unchanged clean).0 in
+    let settled = c.is_autocommit-is_idle.ensures.settled (c.is_autocommit-is_idle.ensures.value ∙ ap not c.requires) is.was_open in
+    inl record {
+      some = λ none. c.in-Ok.ensures.missing clean (ap (λ (d : Database). d.schema) settled ∙ none);
+      same = is.committed_is;
+    }
 
--- What was read had no register.
+pub returns-in-Ok-clause-settled : goal.returns-in-Ok-clause-settled
+returns-in-Ok-clause-settled g c clean =
+    let is = (c.in-Ok.ensures.reads.unchanged clean).0 in
+    let settled = c.is_autocommit-is_idle.ensures.settled (c.is_autocommit-is_idle.ensures.value ∙ ap not c.requires) is.was_open in
+    record {
+      settled = is.now_is ∙ settled ∙ sym is.committed_is;
+      is_open = is.is_open;
+      alone = λ db left. g.met.S.Store.settled c.read_register.new.conn.store db is.is_open left;
+    }
+
+-- What was read had no register: its tables were missing.
 pub returns-in_ok-create_register-in-Err-clause-made : goal.returns-in_ok-create_register-in-Err-clause-made
-returns-in_ok-create_register-in-Err-clause-made g c = λ clean. inr record {
-  before = c.read_register.new.conn;
-  same = λ was_open. (c.read_register.ensures.reads.keeps (omega (arith, c.create_register.ensures.crash.clean, clean))).committed was_open;
-  makes = c.in_ok-create_register-in-Err.ensures.ok clean;
-}
+returns-in_ok-create_register-in-Err-clause-made g c clean =
+    let read : HasCleanDisk (state g.S.Store c.read_register.new.conn) = omega (arith, c.create_register.ensures.crash.clean, clean) in
+    let new = c.in_ok-create_register-in-Err.ensures.new clean in
+    let same = (c.read_register.ensures.reads.keeps read).committed new.0 in
+    inr record {
+      before = c.read_register.new.conn;
+      same = same;
+      missing = subst (λ (d : Database). AreMissing register_tables d.schema) same new.1;
+      makes = c.in_ok-create_register-in-Err.ensures.ok clean;
+    }
+
+pub returns-in_ok-create_register-in-Err-clause-settled : goal.returns-in_ok-create_register-in-Err-clause-settled
+returns-in_ok-create_register-in-Err-clause-settled g c clean = (c.in_ok-create_register-in-Err.ensures.ok clean).is_settled

@@ -5,6 +5,8 @@ pub returns-clause-shows : goal.returns-clause-shows
 returns-clause-shows g c = record {
   found = c.in_ok-conn.conn;
   shows = c.in_ok-conn.ensures.shows;
+  empty = c.in_ok-conn.ensures.empty;
   clean = c.make_tables.ensures.clean;
   made = c.in_ok-names_none.ensures.made;
+  settled = c.in_ok-names_none.ensures.settled;
 }

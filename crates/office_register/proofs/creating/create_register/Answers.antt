@@ -95,4 +95,4 @@ returns-clause-new g c clean =
     let keeps = rw begins at (c.create_tables.ensures.creates.keeps before (rw begins refl)) in
     let settled = c.is_autocommit-is_idle.ensures.settled (c.is_autocommit-is_idle.ensures.value ∙ ap not c.requires) (keeps.was_open steps.is_open) in
     let made : MakesTables register_tables (state g.S.Store begun).now.schema (state g.S.Store last).now.schema = rw begins at (c.in_ok-create_tables.ensures.creates.makes before (rw begins refl)) in
-    subst (λ (d : Database). AreMissing register_tables d.schema) settled made.missing
+    (keeps.was_open steps.is_open, subst (λ (d : Database). AreMissing register_tables d.schema) settled made.missing)

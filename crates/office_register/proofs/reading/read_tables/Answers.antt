@@ -73,3 +73,10 @@ returns-clause-read g c clean layout is =
 
 pub returns-clause-reads : goal.returns-clause-reads
 returns-clause-reads g c = reads_on (Ok _) (c.in_ok-archives.ensures.reads then c.in_ok-segments.ensures.reads then c.in_ok-closed_for.ensures.reads then c.in_ok-lists.ensures.reads)
+
+pub returns-clause-missing : goal.returns-clause-missing
+returns-clause-missing g c clean none =
+    let d3 = clean_first c.in_ok-lists.ensures.reads clean in
+    let d2 = clean_first c.in_ok-closed_for.ensures.reads d3 in
+    let d1 = clean_first c.in_ok-segments.ensures.reads d2 in
+    c.in_ok-archives.ensures.missing d1 none

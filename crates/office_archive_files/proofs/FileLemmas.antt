@@ -1,0 +1,113 @@
+-- A closing over files is one over connections that show what the files held.
+use Rattle.std.proofs.Common.{◌≡◌, inl, inr, ℕ, List, true, false, Result, sym, ap, subst, ◌∙◌}
+use Rattle.sqlite_schema.specs.Names.{same_name}
+use Rattle.sqlite.specs.Effect.{Database}
+use Rattle.sqlite.specs.Held as connection
+use Rattle.sqlite.specs.Held.{state}
+use Rattle.sqlite.specs.Recovery.{Image}
+use Rattle.sqlite.specs.State.{HasCleanDisk}
+use Rattle.sqlite.specs.Tree.{Trees}
+use Rattle.sqlite_trees.specs.declared.store.Store.{Ghosts}
+use Rattle.office_replies.specs.Events.{Event}
+use Rattle.office_rows.specs.Rows.{Rows}
+use Rattle.office_rows.specs.Stored.{HasRows}
+use Rattle.office_rows.specs.Tables.{office_schema}
+use Rattle.office_setup.specs.Setups.{SetupContent}
+use Rattle.office_tables.specs.Opened.{AreMissing}
+use Rattle.office_parts.specs.Archives.{Archive}
+use Rattle.office_register.specs.Register.{RegisterContent}
+use Rattle.office_register.specs.Stored.{HasRegister, HasRegisterIn}
+use Rattle.office_register.specs.Tables.{Layout, older, whole, register_tables, schema_in}
+use Rattle.office_register.specs.Transactions.{IsSettled}
+use Rattle.office_closing.specs.Closes.{Held}
+use Rattle.office_closing.specs.Files.{AreClean, Files, files}
+use Rattle.office_closing.specs.declared.faults.CloseFault.{CloseFault}
+use Rattle.office_closing.proofs.FileLemmas.{was_clean}
+use Rattle.office_archive_files.specs.ClosedFiles.{ClosingsOfFilesAreNoEvents, HoldClosable, HoldsRegister, HoldsRows, OpenStoresAreHeld}
+use Rattle.office_archive_files.specs.ClosedStores.{OpenedRowsAreOrderly, OpensAfter}
+use Rattle.office_archive_files.specs.Closing.{ClosesOver, Images, Shows, ShowsRegister}
+use Rattle.office_archive_files.specs.Stops.{MayBeClosed, StopsAreNoEvents, StopsLeaveOpen, StoresEither}
+
+-- ---- one file
+
+-- the tables of a register are in its schema
+never_missing : (layout : Layout) → AreMissing register_tables (schema_in layout) → ⊥
+unfolding same_name
+never_missing older missing = let none : true ≡ false = missing.0 in absurd cc
+never_missing whole missing = let none : true ≡ false = missing.0 in absurd cc
+
+module _ {S : Type 0} (g : Ghosts S) (image : Image) (conn : connection.Held S) (clean : HasCleanDisk (state g conn)) where
+  -- the database that the files held
+  shows_rows : (rows : Rows) → Shows g image conn → IsSettled (state g conn) → (holds : HoldsRows image rows) → (state g conn).now ≡ record { schema = office_schema; trees = holds.db }
+  shows_rows rows shows settled holds = settled.settled ∙ shows clean holds.db office_schema holds.held holds.are.lists
+
+  has_rows : (rows : Rows) → Shows g image conn → IsSettled (state g conn) → HoldsRows image rows → HasRows rows (state g conn).now
+  has_rows rows shows settled holds = subst (HasRows rows) (sym (shows_rows rows shows settled holds)) holds.are
+
+  -- the register that they held, or the empty one that was made
+  module _ (register : RegisterContent) (shows : ShowsRegister g image conn) where
+    has_committed : HoldsRegister image register → HasRegister register (state g conn).committed
+    has_committed (inl (db, held, (layout, has))) =
+        let found : (state g shows.found).committed ≡ record { schema = schema_in layout; trees = db } = shows.shows (shows.clean clean) db (schema_in layout) held has.listed in
+        elim (shows.made clean) [
+          | inl keeps ↦ (layout, subst (HasRegisterIn layout register) (sym (keeps.same ∙ found)) has)
+          | inr makes ↦ absurd (never_missing layout (subst (λ (d : Database). AreMissing register_tables d.schema) found makes.missing))
+        ]
+    has_committed (inr (none, is)) =
+        let empty = shows.empty (shows.clean clean) none in
+        elim (shows.made clean) [
+          | inl keeps ↦ absurd (keeps.some empty)
+          | inr makes ↦ subst (λ content. HasRegister content (state g conn).committed) (sym is) (makes.makes.register (ap (λ (d : Database). d.schema) makes.same ∙ empty))
+        ]
+
+    has_register : HoldsRegister image register → HasRegister register (state g conn).now
+    has_register holds = subst (HasRegister register) (sym (shows.settled clean).settled) (has_committed holds)
+
+-- ---- the four
+
+module _ {S R A M : Type 0} (s : Ghosts S) (r : Ghosts R) (a : Ghosts A) (m : Ghosts M) (no_event : StopsAreNoEvents s r a m) (orderly : OpenedRowsAreOrderly)
+    (images : Images) (store archive : List ℕ) (own : connection.Held S) (register : connection.Held R) (copy : connection.Held A) (copied : connection.Held M) (result : Result (Unit {0}) CloseFault)
+    (over : ClosesOver s r a m images store archive own register copy copied result) (content : SetupContent) (es : List Event) (archives : List Archive) (held : Held)
+    (may : HoldClosable over.names content es archives held images) (clean : AreClean (files s r a m own register copy copied)) where
+  abbrev found : Files
+  found = files s r a m over.found_own over.found_register over.found_copy over.found_copied
+
+  found_clean : AreClean found
+  found_clean = record {
+    store = was_clean (state s over.found_own) (state s own) _ (over.closes.store clean) clean.store;
+    register = was_clean (state r over.found_register) (state r register) _ (over.closes.register clean) clean.register;
+    archive = was_clean (state a over.found_copy) (state a copy) _ over.closes.archive.survives clean.archive;
+    archive_register = was_clean (state m over.found_copied) (state m copied) _ (over.closes.mark clean) clean.archive_register;
+  }
+
+  own_settled : IsSettled (state s over.found_own)
+  own_settled = over.own_settled found_clean.store
+
+  may_be_closed : MayBeClosed over.names content es archives held found
+  may_be_closed = record {
+    given = may.given;
+    has = record {
+      own = has_rows s images.store over.found_own found_clean.store held.own over.own_shows own_settled may.own;
+      register = has_register r images.register over.found_register found_clean.register held.register over.register_shows may.register;
+      copy = has_rows a images.archive over.found_copy found_clean.archive held.copy over.copy_shows (over.copy_settled found_clean.archive) may.copy;
+      copied = has_register m images.archive_register over.found_copied found_clean.archive_register held.copied over.copied_shows may.copied;
+      own_orderly = orderly content es archives held.register held.own may.own.db may.given may.opens;
+      copy_orderly = may.copy_orderly;
+      register_sound = may.opens.sound;
+      copied_sound = may.copied_sound;
+    };
+    opens = subst (λ (d : Database). OpensAfter content es archives held.register held.own d.trees) (sym (shows_rows s images.store over.found_own found_clean.store held.own over.own_shows own_settled may.own)) may.opens;
+    store = own_settled;
+    register = over.register_shows.settled found_clean.register;
+    last = may.last;
+  }
+
+  leave_open : StopsLeaveOpen content es (files s r a m own register copy copied)
+  leave_open = no_event over.names content es archives held over.found_own own over.found_register register over.found_copy copy over.found_copied copied result may_be_closed over.closes clean
+
+pub closings_of_files_are_no_events : {S R A M : Type 0} (s : Ghosts S) (r : Ghosts R) (a : Ghosts A) (m : Ghosts M) → StopsAreNoEvents s r a m → OpenedRowsAreOrderly → ClosingsOfFilesAreNoEvents s r a m
+closings_of_files_are_no_events s r a m no_event orderly images store archive own register copy copied result over content es archives held may clean =
+    leave_open s r a m no_event orderly images store archive own register copy copied result over content es archives held may clean
+
+pub open_stores_are_held : OpenStoresAreHeld
+open_stores_are_held content es archives register rows db image opens held = record { db = db; held = held; beside = opens.beside }
