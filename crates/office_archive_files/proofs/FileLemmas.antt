@@ -1,11 +1,11 @@
 -- A closing over files is one over connections that show what the files held.
-use Rattle.std.proofs.Common.{◌≡◌, inl, inr, ℕ, List, true, false, Result, sym, ap, subst, ◌∙◌}
+use Rattle.std.proofs.Common.{◌≡◌, inl, inr, ℕ, List, true, false, Result, sym, ap, subst, ◌∙◌, arith}
 use Rattle.sqlite_schema.specs.Names.{same_name}
 use Rattle.sqlite.specs.Effect.{Database}
 use Rattle.sqlite.specs.Held as connection
 use Rattle.sqlite.specs.Held.{state}
 use Rattle.sqlite.specs.Recovery.{Image}
-use Rattle.sqlite.specs.State.{HasCleanDisk}
+use Rattle.sqlite.specs.State.{State, HasCleanDisk, Survives}
 use Rattle.sqlite.specs.Tree.{Trees}
 use Rattle.sqlite_trees.specs.declared.store.Store.{Ghosts}
 use Rattle.office_replies.specs.Events.{Event}
@@ -22,11 +22,10 @@ use Rattle.office_register.specs.Transactions.{IsSettled}
 use Rattle.office_closing.specs.Closes.{Held}
 use Rattle.office_closing.specs.Files.{AreClean, Files, files}
 use Rattle.office_closing.specs.declared.faults.CloseFault.{CloseFault}
-use Rattle.office_closing.proofs.FileLemmas.{was_clean}
 use Rattle.office_archive_files.specs.ClosedFiles.{ClosingsOfFilesAreNoEvents, HoldClosable, HoldsRegister, HoldsRows, OpenStoresAreHeld}
 use Rattle.office_archive_files.specs.ClosedStores.{OpenedRowsAreOrderly, OpensAfter}
 use Rattle.office_archive_files.specs.Closing.{ClosesOver, Images, Shows, ShowsRegister}
-use Rattle.office_archive_files.specs.Stops.{MayBeClosed, StopsAreNoEvents, StopsLeaveOpen, StoresEither}
+use Rattle.office_archive_files.specs.Stops.{MayBeClosed, StopsAreNoEvents, StopsLeaveOpen}
 
 -- ---- one file
 
@@ -64,6 +63,9 @@ module _ {S : Type 0} (g : Ghosts S) (image : Image) (conn : connection.Held S) 
     has_register holds = subst (HasRegister register) (sym (shows.settled clean).settled) (has_committed holds)
 
 -- ---- the four
+
+was_clean : (old new : State) (P : Trees → Type 0) → Survives old new P → HasCleanDisk new → HasCleanDisk old
+was_clean old new P s clean = omega (arith, s.clean)
 
 module _ {S R A M : Type 0} (s : Ghosts S) (r : Ghosts R) (a : Ghosts A) (m : Ghosts M) (no_event : StopsAreNoEvents s r a m) (orderly : OpenedRowsAreOrderly)
     (images : Images) (store archive : List ℕ) (own : connection.Held S) (register : connection.Held R) (copy : connection.Held A) (copied : connection.Held M) (result : Result (Unit {0}) CloseFault)
