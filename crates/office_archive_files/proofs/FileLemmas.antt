@@ -4,15 +4,18 @@ use Rattle.sqlite_schema.specs.Names.{same_name}
 use Rattle.sqlite.specs.Effect.{Database}
 use Rattle.sqlite.specs.Held as connection
 use Rattle.sqlite.specs.Held.{state}
+use Rattle.sqlite.specs.Files.{HoldsDatabase}
 use Rattle.sqlite.specs.Recovery.{Image}
 use Rattle.sqlite.specs.State.{State, HasCleanDisk, Survives}
 use Rattle.sqlite.specs.Tree.{Trees}
 use Rattle.sqlite_trees.specs.declared.store.Store.{Ghosts}
 use Rattle.office_replies.specs.Events.{Event}
 use Rattle.office_rows.specs.Rows.{Rows}
-use Rattle.office_rows.specs.Stored.{HasRows}
+use Rattle.office_rows.specs.Stored.{HasRows, StoresRows}
 use Rattle.office_rows.specs.Tables.{office_schema}
+use Rattle.office_rows.proofs.StepLemmas.{stores}
 use Rattle.office_setup.specs.Setups.{SetupContent}
+use Rattle.office_history.specs.After.{AreKeptOnce}
 use Rattle.office_tables.specs.Opened.{AreMissing}
 use Rattle.office_parts.specs.Archives.{Archive}
 use Rattle.office_register.specs.Register.{RegisterContent}
@@ -22,9 +25,10 @@ use Rattle.office_register.specs.Transactions.{IsSettled}
 use Rattle.office_closing.specs.Closes.{Held}
 use Rattle.office_closing.specs.Files.{AreClean, Files, files}
 use Rattle.office_closing.specs.declared.faults.CloseFault.{CloseFault}
-use Rattle.office_archive_files.specs.ClosedFiles.{ClosingsOfFilesAreNoEvents, HoldClosable, HoldsRegister, HoldsRows, OpenStoresAreHeld}
+use Rattle.office_archive_files.specs.ClosedFiles.{AreLeft, ClosingsOfFilesAreNoEvents, HoldClosable, HoldsRegister, HoldsRows, OpenStoresAreHeld}
 use Rattle.office_archive_files.specs.ClosedStores.{OpenedRowsAreOrderly, OpensAfter}
 use Rattle.office_archive_files.specs.Closing.{ClosesOver, Images, Shows, ShowsRegister}
+use Rattle.office_archive_files.specs.Shelves.{HoldsArchive}
 use Rattle.office_archive_files.specs.Stops.{MayBeClosed, StopsAreNoEvents, StopsLeaveOpen}
 
 -- ---- one file
@@ -85,13 +89,16 @@ module _ {S R A M : Type 0} (s : Ghosts S) (r : Ghosts R) (a : Ghosts A) (m : Gh
   own_settled : IsSettled (state s over.found_own)
   own_settled = over.own_settled found_clean.store
 
+  copy_settled : IsSettled (state a over.found_copy)
+  copy_settled = over.copy_settled found_clean.archive
+
   may_be_closed : MayBeClosed over.names content es archives held found
   may_be_closed = record {
     given = may.given;
     has = record {
       own = has_rows s images.store over.found_own found_clean.store held.own over.own_shows own_settled may.own;
       register = has_register r images.register over.found_register found_clean.register held.register over.register_shows may.register;
-      copy = has_rows a images.archive over.found_copy found_clean.archive held.copy over.copy_shows (over.copy_settled found_clean.archive) may.copy;
+      copy = has_rows a images.archive over.found_copy found_clean.archive held.copy over.copy_shows copy_settled may.copy;
       copied = has_register m images.archive_register over.found_copied found_clean.archive_register held.copied over.copied_shows may.copied;
       own_orderly = orderly content es archives held.register held.own may.own.db may.given may.opens;
       copy_orderly = may.copy_orderly;
@@ -104,12 +111,32 @@ module _ {S R A M : Type 0} (s : Ghosts S) (r : Ghosts R) (a : Ghosts A) (m : Gh
     last = may.last;
   }
 
-  leave_open : StopsLeaveOpen content es (files s r a m own register copy copied)
+  leave_open : StopsLeaveOpen content es archives held.copy (files s r a m own register copy copied)
   leave_open = no_event over.names content es archives held over.found_own own over.found_register register over.found_copy copy over.found_copied copied result may_be_closed over.closes clean
+
+  -- the archive was only read
+  keep_archive : (db : Trees) → (state a copy).may_leave db → StoresRows held.copy db
+  keep_archive db left = elim (over.closes.archive.survives.crash clean.archive db left) [
+    | inl was ↦
+        let is : db ≡ (state a over.found_copy).now.trees = copy_settled.alone db was ∙ ap (λ (d : Database). d.trees) (sym copy_settled.settled) in
+        subst (StoresRows held.copy) (sym is) (stores held.copy (state a over.found_copy).now may_be_closed.has.copy)
+    | inr none ↦ absurd none
+  ]
+
+  hold_archive : (db : Trees) (image : Image) (one : Archive) → (state a copy).may_leave db → ∥ HoldsDatabase image db ∥₁ → one.rows ≡ held.copy → HoldsArchive image one
+  hold_archive db image one left holds same = record {
+    db = db;
+    held = holds;
+    are = subst (λ rows. StoresRows rows db) (sym same) (keep_archive db left);
+    kept_once = subst (λ (rows : Rows). AreKeptOnce rows.interchanges) (sym same) may.copy_orderly.once;
+  }
+
+  are_left : AreLeft content es archives held.copy (files s r a m own register copy copied)
+  are_left = record { store = leave_open; archive = hold_archive }
 
 pub closings_of_files_are_no_events : {S R A M : Type 0} (s : Ghosts S) (r : Ghosts R) (a : Ghosts A) (m : Ghosts M) → StopsAreNoEvents s r a m → OpenedRowsAreOrderly → ClosingsOfFilesAreNoEvents s r a m
 closings_of_files_are_no_events s r a m no_event orderly images store archive own register copy copied result over content es archives held may clean =
-    leave_open s r a m no_event orderly images store archive own register copy copied result over content es archives held may clean
+    are_left s r a m no_event orderly images store archive own register copy copied result over content es archives held may clean
 
 pub open_stores_are_held : OpenStoresAreHeld
 open_stores_are_held content es archives register rows db image opens held = record { db = db; held = held; beside = opens.beside }

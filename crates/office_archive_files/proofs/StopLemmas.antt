@@ -20,7 +20,7 @@ use Rattle.office_closing.specs.Files.{Files, AreClean, files}
 use Rattle.office_closing.specs.PuttingAway.{AreNamedThen}
 use Rattle.office_closing.specs.declared.faults.CloseFault.{CloseFault}
 use Rattle.office_archive_files.specs.ClosedStores.{ClosingsAreNoEvents, OpensAfter}
-use Rattle.office_archive_files.specs.Stops.{AreLeftOpen, MayBeClosed, StopsAreNoEvents, StopsLeaveOpen, StoresEither}
+use Rattle.office_archive_files.specs.Stops.{AreLeftOpen, AreWith, MayBeClosed, StopsAreNoEvents, StopsLeaveOpen, StoresEither}
 use Rattle.office_archive_files.proofs.AddedLemmas.{closings_add_an_archive}
 
 -- ---- nothing is gone
@@ -58,11 +58,21 @@ module _ (no_event : ClosingsAreNoEvents) (names : FileNames) (content : SetupCo
   named_after : (closing : Closing) → IsClosing held names closing → (after : List Archive) × AreNamedThen held closing archives after
   named_after closing is = elim is.register [ inl new ↦ closings_add_an_archive archives held names closing is new | inr old ↦ (archives, may.last closing is old) ]
 
-  left_open : (closing : Closing) (left : Rows) (store register : Trees) → IsClosing held names closing → IsLeft closing held.own left → StoresRows left store → StoresEither (raised_register held closing) register → AreLeftOpen content es store register
+  with_copy : (closing : Closing) (after : List Archive) → AreNamedThen held closing archives after → AreWith held.copy archives after
+  with_copy closing after named = record {
+    before = named.before;
+    one = named.one;
+    are = named.are;
+    rows = named.rows;
+    were = elim named.named [ inl new ↦ inl new.1 | inr old ↦ inr old.1 ];
+  }
+
+  left_open : (closing : Closing) (left : Rows) (store register : Trees) → IsClosing held names closing → IsLeft closing held.own left → StoresRows left store → StoresEither (raised_register held closing) register → AreLeftOpen content es archives held.copy store register
   left_open closing left store register is is_left stored has =
       let after = named_after closing is in
       record {
         archives = after.0;
+        are = inr (with_copy closing after.0 after.1);
         names = raised_register held closing;
         rows = left;
         has = has;
@@ -75,16 +85,17 @@ module _ (no_event : ClosingsAreNoEvents) (names : FileNames) (content : SetupCo
   register_is : (register : Trees) → old.register.may_leave register → register ≡ old.register.now.trees
   register_is register left = may.register.alone register left ∙ ap (λ (d : Database). d.trees) (sym may.register.settled)
 
-  as_before : (store register : Trees) → old.store.may_leave store → old.register.may_leave register → AreLeftOpen content es store register
+  as_before : (store register : Trees) → old.store.may_leave store → old.register.may_leave register → AreLeftOpen content es archives held.copy store register
   as_before store register of_store of_register = record {
     archives = archives;
+    are = inl refl;
     names = held.register;
     rows = held.own;
     has = subst (StoresEither held.register) (sym (register_is register of_register)) (stores_either held.register old.register.now may.has.register);
     opens = subst (OpensAfter content es archives held.register held.own) (sym (store_is store of_store)) may.opens;
   }
 
-  stops : {T : Type 0} (result : Result T CloseFault) → Closes names old new result → AreClean new → StopsLeaveOpen content es new
+  stops : {T : Type 0} (result : Result T CloseFault) → Closes names old new result → AreClean new → StopsLeaveOpen content es archives held.copy new
   stops result closes clean store register of_store of_register = elim ((closes.store clean).crash clean.store store of_store) [
     | inl before ↦ elim ((closes.register clean).crash clean.register register of_register) [
       | inl was ↦ as_before store register before was

@@ -17,12 +17,13 @@ use Rattle.office_register.specs.Register.{RegisterContent, closed_by}
 use Rattle.office_register.specs.Sound.{IsSound}
 use Rattle.office_closing.specs.Closes.{AreOrderly, Closing, Held, IsClosing, raised_register}
 use Rattle.office_closing.specs.Copies.{FileNames}
-use Rattle.office_closing.specs.Files.{AreClean, files}
+use Rattle.office_closing.specs.Files.{AreClean, Files, files}
 use Rattle.office_closing.specs.PuttingAway.{AreNamedThen}
 use Rattle.office_closing.specs.declared.faults.CloseFault.{CloseFault}
 use Rattle.office_archive_files.specs.ClosedStores.{OpensAfter}
 use Rattle.office_archive_files.specs.Closing.{ClosesOver, Images}
 use Rattle.office_archive_files.specs.Opening.{HoldsBeside}
+use Rattle.office_archive_files.specs.Shelves.{HoldsArchive}
 use Rattle.office_archive_files.specs.Stops.{StopsLeaveOpen, StoresEither}
 
 -- files hold the rows of an office
@@ -53,8 +54,15 @@ pub record HoldClosable (names : FileNames) (content : SetupContent) (es : List 
   pub last : (closing : Closing) → IsClosing held names closing → held.register ≡ raised_register held closing →
       AreNamedThen held closing archives archives
 
+-- Whatever a stop leaves: the store opens after those events, and the archive's files hold the rows that were compared.
+pub record AreLeft (content : SetupContent) (es : List Event) (archives : List Archive) (copy : Rows) (files : Files)
+    : Type 0 where
+  pub store : StopsLeaveOpen content es archives copy files
+  pub archive : (db : Trees) (image : Image) (one : Archive) → files.archive.may_leave db → ∥ HoldsDatabase image db ∥₁ →
+      one.rows ≡ copy → HoldsArchive image one
+
 -- A closing over files is no event: at whatever moment it stops, and however it ends, what is left of the store opens after the
--- events after which it opened before.
+-- events after which it opened before, beside the archives that it had, and the copy.
 abbrev pub ClosingsOfFilesAreNoEvents : {S R A M : Type 0} → Ghosts S → Ghosts R → Ghosts A → Ghosts M → Type 0
 ClosingsOfFilesAreNoEvents {S} {R} {A} {M} s r a m =
     (images : Images) (store archive : List ℕ) (own : connection.Held S) (register : connection.Held R)
@@ -62,7 +70,7 @@ ClosingsOfFilesAreNoEvents {S} {R} {A} {M} s r a m =
     (over : ClosesOver s r a m images store archive own register copy copied result) (content : SetupContent)
     (es : List Event) (archives : List Archive) (held : Held) →
     HoldClosable over.names content es archives held images → AreClean (files s r a m own register copy copied)
-    → StopsLeaveOpen content es (files s r a m own register copy copied)
+    → AreLeft content es archives held.copy (files s r a m own register copy copied)
 
 -- Files that hold a store that opens after some events are opened so, beside these archives.
 abbrev pub OpenStoresAreHeld : Type 0

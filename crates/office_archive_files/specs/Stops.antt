@@ -1,5 +1,5 @@
 -- What a stop of a closing leaves of a store is opened after the same events.
-use Rattle.std.specs.Prelude.{◌≡◌, List, Result}
+use Rattle.std.specs.Prelude.{◌≡◌, ◌⊎◌, ◌++◌, ◌∷◌, [], List, Result}
 use Rattle.sqlite.specs.Held as connection
 use Rattle.sqlite.specs.Tree.{Trees}
 use Rattle.sqlite_trees.specs.declared.store.Store.{Ghosts}
@@ -36,19 +36,30 @@ pub record MayBeClosed (names : FileNames) (content : SetupContent) (es : List E
   pub last : (closing : Closing) → IsClosing held names closing → held.register ≡ raised_register held closing →
       AreNamedThen held closing archives archives
 
--- a store and its register as a stop left them: it opens after those events, beside the archives that the register names
-pub record AreLeftOpen (content : SetupContent) (es : List Event) (store register : Trees) : Type 0 where
+-- archives with the one that holds these rows as the last, which it may have been before
+pub record AreWith (copy : Rows) (archives after : List Archive) : Type 0 where
+  pub before : List Archive
+  pub one : Archive
+  pub are : after ≡ before ++ one ∷ []
+  pub rows : one.rows ≡ copy
+  pub were : (archives ≡ before) ⊎ (archives ≡ after)
+
+-- A store and its register as a stop left them: it opens after those events, beside the archives that the register names. These
+-- are those that it named, or with the copy.
+pub record AreLeftOpen (content : SetupContent) (es : List Event) (named : List Archive) (copy : Rows) (store register : Trees)
+    : Type 0 where
   pub archives : List Archive
+  pub are : (archives ≡ named) ⊎ AreWith copy named archives
   pub names : RegisterContent
   pub rows : Rows
   pub has : StoresEither names register
   pub opens : OpensAfter content es archives names rows store
 
 -- whatever a stop leaves of the store and of its register
-abbrev pub StopsLeaveOpen : SetupContent → List Event → Files → Type 0
-StopsLeaveOpen content es files =
+abbrev pub StopsLeaveOpen : SetupContent → List Event → List Archive → (copy : Rows) → Files → Type 0
+StopsLeaveOpen content es named copy files =
     (store register : Trees) → files.store.may_leave store → files.register.may_leave register
-    → AreLeftOpen content es store register
+    → AreLeftOpen content es named copy store register
 
 -- At whatever moment a closing stops, and however it ends, the store opens after the events after which it opened before.
 abbrev pub StopsAreNoEvents : {S R A M : Type 0} → Ghosts S → Ghosts R → Ghosts A → Ghosts M → Type 0
@@ -61,4 +72,4 @@ StopsAreNoEvents {S} {R} {A} {M} s r a m =
     Closes names (files s r a m store register archive archive_register)
     (files s r a m new_store new_register new_archive new_archive_register) result →
     AreClean (files s r a m new_store new_register new_archive new_archive_register)
-    → StopsLeaveOpen content es (files s r a m new_store new_register new_archive new_archive_register)
+    → StopsLeaveOpen content es archives held.copy (files s r a m new_store new_register new_archive new_archive_register)

@@ -48,7 +48,7 @@ pub fn closings_are_no_events()
 }
 
 /// At whatever moment a closing stops, and however it ends, the store opens after the events after which it opened before, beside
-/// the archives that its register then names.
+/// the archives that its register then names: those that it named, or with the copy.
 pub fn stops_are_no_events<S: Alter, R: Alter, A: Alter, M: Alter>()
     ensures { StopsAreNoEvents S.Store R.Store A.Store M.Store }
 {
@@ -57,7 +57,7 @@ pub fn stops_are_no_events<S: Alter, R: Alter, A: Alter, M: Alter>()
 
 /// A closing over files is no event: if the four files held a store that opens after some events, its register and a copy with its
 /// register, whatever is left of it, at whatever moment, opens after the same events, beside the archives that the register then
-/// names.
+/// names; and the archive's file holds the copy.
 pub fn closings_of_files_are_no_events<S: Alter, R: Alter, A: Alter, M: Alter>()
     ensures { ClosingsOfFilesAreNoEvents S.Store R.Store A.Store M.Store }
 {
