@@ -48,7 +48,8 @@ impl<'a, B: ArchiveStart> InFiles<'a, B> {
 
     /// The archives of the store at a path, which has this terminal and these accounts.
     pub fn shelf(&self, store: String, setup: Setup) -> FileShelf<'a, B>
-        ensures { result.setup ≡ setup }
+        ensures store { result.store ≡ store }
+        ensures setup { result.setup ≡ setup }
     {
         FileShelf::new(self.rt, store, setup, self.start.another())
     }
