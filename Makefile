@@ -1,4 +1,12 @@
-.PHONY: demo test build check strength refusals beside program pages kill9 memory clients journal gateway fuzz bench
+.PHONY: try demo test build install uninstall deb package check strength refusals beside program pages kill9 memory clients journal renumber gateway fuzz bench
+
+PREFIX = /usr/local
+DESTDIR =
+
+# To look at: the whole program without a proof, as out/try/office, a store with the day of examples/day, and how to serve it. Some
+# four minutes of one processor.
+try:
+	@scripts/try
 
 # The main job on a real interchange, by a build that proves nothing (`make build` leaves the proved program).
 demo:
@@ -15,6 +23,24 @@ test:
 build:
 	@scripts/build
 
+# The proved program with its manual page, completions and a unit of systemd, once it is built:
+# `make install PREFIX=/usr/local DESTDIR=`.
+install:
+	@scripts/install "$(PREFIX)" "$(DESTDIR)"
+
+uninstall:
+	@scripts/install --remove "$(PREFIX)" "$(DESTDIR)"
+
+# The same as a package of Debian 12, out/office_VERSION_ARCHITECTURE.deb, once it is built.
+deb:
+	@scripts/package
+
+# The manual page and the completions beside what `--help` prints, and the package in a clean root of Debian 12: as root, once it is
+# built, some minutes.
+package:
+	scripts/manual --try crates/office/out/office
+	scripts/package --try
+
 # One crate, and those above it that its change reaches, over the proofs that are kept: `make check NAME=yard_core`.
 check:
 	@scripts/check $(NAME)
@@ -25,7 +51,7 @@ strength:
 
 # The orders of a terminal with each allocation refused in turn: some twenty minutes.
 refusals:
-	scripts/refusals terminal_trials
+	scripts/refusals
 
 # The program beside a plain slow model, on the worked rows, changed stores and random streams: a minute or two, once it is
 # built.
@@ -51,7 +77,7 @@ kill9:
 memory:
 	scripts/memory
 
-# Real clients against `office serve`, curl and sockets, kind ones and others: once it is built, half a minute.
+# Real clients against `office serve`, curl, sockets and a browser, kind ones and others: once it is built, a minute or two.
 clients:
 	scripts/clients
 
@@ -59,6 +85,10 @@ clients:
 # beside the model: once it is built. `make journal` or `make journal COUNT=5 SEED=7`.
 journal:
 	scripts/journal $(or $(COUNT),60) $(SEED)
+
+# examples/renumber beside the program, killed at each line and at random: once it is built, some minutes.
+renumber:
+	scripts/renumber
 
 # The gateway of examples/gateway with nginx, HAProxy, OpenSSL and curl before the program, beside the model: once it is built.
 gateway:

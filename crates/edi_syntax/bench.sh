@@ -11,7 +11,7 @@ crate=${1:-edi_syntax}
 work=$(mktemp -d)
 trap 'rm -rf "$work"' EXIT
 mkdir -p "$work/crates/edi_bench/src"
-for name in box6346 edi_segments edi_moments edi_cutter edi_syntax edi_messages; do
+for name in box6346 edi_syntax edi_messages; do
     cp -a "$top/crates/$name" "$work/crates"
     grep -E "^$name:" "$top/crates.txt"
 done > "$work/crates.txt"

@@ -1,6 +1,6 @@
 """Debian's Chromium without a window, by the protocol of its own tools (DevTools) over a pair of pipes: one JSON object after
-the other, each ended by a zero byte. It reaches nothing but loopback: all other names lead nowhere. It opens no connection
-ahead of a request, since one that asks for nothing holds `office serve` up for two seconds."""
+the other, each ended by a zero byte. It reaches nothing but loopback: all other names lead nowhere. Unless it is
+to be plain it opens no connection ahead of a request, which would count among those that `office serve` accepts."""
 import base64
 import json
 import os
@@ -32,11 +32,11 @@ class Chromium:
     """A browser with one page, until it is left. `asked` are the addresses that it has asked for, `said` what it had to say of
     pages, and `moves` how often it has come to another page, or to another place of one."""
 
-    def __init__(self, path, folder):
+    def __init__(self, path, folder, is_plain=False):
         user = os.path.join(folder, 'user')
         os.makedirs(os.path.join(user, 'Default'))
         with open(os.path.join(user, 'Default', 'Preferences'), 'w', encoding='utf-8') as file:
-            json.dump(PREFERENCES, file)
+            json.dump({} if is_plain else PREFERENCES, file)
         (asked, self.asks), (self.answers, answered) = os.pipe(), os.pipe()
         self.log = open(os.path.join(folder, 'chromium.log'), 'wb')
         self.process = subprocess.Popen(

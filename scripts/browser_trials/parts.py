@@ -12,7 +12,7 @@ from .walk import LISTED, Walk
 
 # views of pages of the day: where, and how large
 VIEWS = {
-    'page_start.png': ('/', 1000, 420), 'page_container.png': ('/pages/containers/ABCU6488207', 1000, 420),
+    'page_start.png': ('/', 1000, 420), 'page_container.png': ('/pages/containers/ABCU6488207', 1000, 500),
     'page_list.png': ('/pages/lists/9123456/V12/load', 1000, 480), 'page_reply_phone.png': ('/pages/replies/HAULA/1', 360, 900)}
 MOST_BYTES = 400000         # of all of docs/pictures
 # which of the day's pages ask again by themselves, and what is delivered meanwhile

@@ -10,17 +10,21 @@ WIDTHS = {'desk': (1280, 800), 'phone': (390, 844)}
 VIEWS = {('wide', 'desk'): 'picture_desk.png', ('wide', 'phone'): 'picture_phone.png'}
 LEAST_CELL = 60             # pixels across, at any width of the window
 LEAST_LINK = 44             # pixels up, what a thumb hits
+PAPER = (1045, 720)         # A4 across, between its margins
+LEAST_ON_PAPER = 48         # pixels across of a cell: its smallest letters are 2.2 mm high
+BAYS_ON_PAPER = 20          # in each part of a row
 
 # Where the page lies: the window and the page across, the narrowest cell, the lowest link, how many rows can't be scrolled to their
 # end and how many containers have lettering beyond their shape, and the links that lead to their block.
 MEASURES = '''(() => {
 const box = e => e.getBoundingClientRect(), all = (e, what) => [...e.querySelectorAll(what)];
 const rows = all(document, 'figure'), links = all(document, 'nav a');
-const cell = row => 64 * box(row.lastChild).width / row.lastChild.viewBox.baseVal.width;
+const view = row => row.querySelector('.row');
+const cell = row => 64 * box(view(row)).width / view(row).viewBox.baseVal.width;
 const scrolls = row => getComputedStyle(row).overflowX === 'auto';
 const ends = row => {
     row.scrollLeft = scrolls(row) ? 1e6 : 0;
-    return box(row.lastChild).right <= box(row).right + 1;
+    return box(view(row)).right <= box(row).right + 1;
 };
 const holds = (out, e) => out.left <= e.left && e.right <= out.right && out.top <= e.top && e.bottom <= out.bottom + 1;
 const fits = g => all(g, 'text').every(text => holds(box(g.querySelector('use')), box(text)));
@@ -36,8 +40,18 @@ return {
     cell: Math.min(...rows.map(cell)),
     link: links.length ? Math.min(...links.map(link => box(link).height)) : null,
     endless: rows.filter(row => !ends(row)).length,
-    beyond: all(document, 'figure g').filter(g => !fits(g)).length,
+    beyond: all(document, 'g[transform]').filter(g => !fits(g)).length,
     links: links.filter(leads).map(link => link.innerText)};
+})()'''
+
+# What paper shows: the narrowest cell, how many parts each row is in, and how many rows are there as on a screen.
+ON_PAPER = '''(() => {
+const box = e => e.getBoundingClientRect(), all = (e, what) => [...e.querySelectorAll(what)];
+const cell = part => 64 * box(part).width / part.viewBox.baseVal.width;
+return {
+    cell: Math.min(...all(document, 'svg.paper').map(cell)),
+    parts: all(document, 'figure').map(row => all(row, 'svg.paper').filter(part => box(part).height).length),
+    wide: all(document, 'svg.row').filter(row => box(row).width).length};
 })()'''
 
 
@@ -95,6 +109,16 @@ def misplaced(office, width, found):
     return [fault % found for fault, applies in faults_by_name.items() if applies]
 
 
+def misprinted(office, found):
+    """What is wrong with the page on paper, in words."""
+    parts = [-(-block.bays // BAYS_ON_PAPER) for block in office.setup.plan for _row in range(block.rows)]
+    faults_by_name = {
+        'on paper a cell of %(cell)d': found['cell'] < LEAST_ON_PAPER,
+        'on paper rows in %(parts)s parts': found['parts'] != parts,
+        'on paper %(wide)d rows as on a screen': found['wide'] > 0}
+    return [fault % found for fault, applies in faults_by_name.items() if applies]
+
+
 def misdrawn(office, text):
     """What is wrong with a page as the browser holds it, in words."""
     held, drawn = Held(text), wanted(office)
@@ -118,5 +142,7 @@ def look(chromium, served, width, saved):
     found = [] if (came.status, came.text) == served.owed('/picture') else ["it is not the model's"]
     found += misdrawn(served.office, chromium.value('document.documentElement.outerHTML'))
     found += misplaced(served.office, WIDTHS[width][0], chromium.value(MEASURES))
+    chromium.resize(*PAPER, is_paper=True)
+    found += misprinted(served.office, chromium.value(ON_PAPER))
     print('picture, %s: %d containers, %d bytes' % (width, len(wanted(served.office)), len(came.text)), flush=True)
     return ['picture, %s: %s' % (width, fault) for fault in found]

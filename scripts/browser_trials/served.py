@@ -2,19 +2,19 @@
 import os
 import random
 import re
-import socket
 import subprocess
 import time
 from collections import namedtuple
 
+from model.asking import container, exchanged, free_port, post
 from model.cuts import cut
 from model.days import Day
 from model.http import response
-from model.names import Slot, check_digit, slot_text
+from model.names import Slot, slot_text
 from model.office import Office
 from model.setup import DEMO, read_setup
 from model.setups import files_of
-from model.stores import Program, exchanged
+from model.stores import Program
 from model.stream import answers, lines
 from model.yard import Block
 
@@ -52,9 +52,9 @@ def stack(chance, height, ground, before):
     """So many containers, one on the other."""
     laden = chance.randint(max(height - 2, 0), height)
     for tier in range(1, height + 1):
-        first = chance.choice(['ABCU', 'HLXU', 'MSCU', 'OOLU', 'TGHU']) + '%06d' % (before + tier)
+        number = container(before + tier, chance.choice(['ABCU', 'HLXU', 'MSCU', 'OOLU', 'TGHU']))
         size_type = '42G1' if ground.bay % 2 == 0 else '22G1'
-        yield ground._replace(tier=tier), Container(first + str(check_digit(first)), size_type, tier <= laden)
+        yield ground._replace(tier=tier), Container(number, size_type, tier <= laden)
 
 
 def sender_of(setup, kind):
@@ -101,8 +101,7 @@ def released(value):
 
 def oddly_named(setup):
     """A container with a booking, and a list with it, by names that a browser could take for something else."""
-    number = 'ABCU%06d' % 77
-    number += str(check_digit(number))
+    number = container(77)
     yield interchange(setup, 'gate', 1, "CODECO:D:95B:UN'BGM+34+G1+9'", [
         "EQD+CN+%s+22G1:102:5+++5'RFF+BN:%s'" % (number, released('<b title="x\'>&amp;</b>'))])
     vessel, voyage, port = map(released, ('</pre><script>X', '\'>"&#39; %41/..?', '<img src=x:y>'))
@@ -161,9 +160,7 @@ class Served:
         self.expect('init', 'ready\n', self.program.init(*files_of(yard.setup))[0])
         owed = ''.join(line + '\n' for line in lines(answers(self.office, yard.stream)))
         self.expect('deliver', owed, self.program.deliver(yard.stream)[0])
-        with socket.socket() as free:
-            free.bind(('127.0.0.1', 0))
-            self.port = free.getsockname()[1]
+        self.port = free_port()
         self.log, self.owed_pages = open(os.path.join(folder, 'log'), 'w+', encoding='utf-8'), {}
         words = [path, 'serve', self.program.store, str(self.port), '1000000', '--log']
         self.process = subprocess.Popen(words, stdout=subprocess.PIPE, stderr=self.log, encoding='utf-8')
@@ -182,7 +179,7 @@ class Served:
 
     def deliver(self, text):
         """A delivery while it serves, after which pages are others."""
-        request = 'POST /interchanges HTTP/1.1\r\nContent-Length: %d\r\n\r\n%s' % (len(text), text)
+        request = post(text)
         self.expect('a delivery', response(self.office, request), exchanged(self.port, request))
         self.owed_pages.clear()
 

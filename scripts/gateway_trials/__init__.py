@@ -11,6 +11,11 @@
     copies.py        copies while it serves, and the drill that restores one
     health.py        a store that failed, an office that hangs, one that is away
     units.py         the units by systemd-analyze, the rotation of logs
+    by_page.py       the ten steps as the page says, on a machine that is thrown away, with Debian's users, units and log rotation
+    standby.py       a standby set up by its page on a second one, until it takes the first's place
+    browser.py       Chromium with a person's certificate, and a form of another site's page
+    machine.py       machines that are thrown away
+    pages.py         what a page says to do
     parts.py         all of these: scripts/gateway
 
 Nothing is reached but loopback and sockets in a folder of its own, and no process is stopped but those that were started

@@ -22,14 +22,14 @@ def parted(response):
     return Came(int(words[1]) if len(words) > 1 and words[1].isdigit() else 0, body, head)
 
 
-def head_of(method, path, *fields):
+def head_of(method, path, *fields, host=HOST):
     """The head of a request, after which nothing more comes on its connection."""
-    return '\r\n'.join(['%s %s HTTP/1.1' % (method, path), 'Host: ' + HOST, *fields, 'Connection: close', '', ''])
+    return '\r\n'.join(['%s %s HTTP/1.1' % (method, path), 'Host: ' + host, *fields, 'Connection: close', '', ''])
 
 
-def delivery(text, path='/interchanges'):
+def delivery(text, path='/interchanges', *fields):
     """The request that delivers a text."""
-    return head_of('POST', path, 'Content-Length: %d' % len(text)) + text
+    return head_of('POST', path, *fields, 'Content-Length: %d' % len(text)) + text
 
 
 def chunked(text, size):
@@ -55,9 +55,9 @@ class Asking:
             self.contexts[name, authority] = context
         return self.contexts[name, authority]
 
-    def connect(self, name, port=None, authority=None):
+    def connect(self, name, port=None, authority=None, address='127.0.0.1'):
         """A connection."""
-        plain = socket.create_connection(('127.0.0.1', port or self.installed.port), SECONDS)
+        plain = socket.create_connection((address, port or self.installed.port), SECONDS)
         plain.setsockopt(socket.IPPROTO_TCP, socket.TCP_NODELAY, 1)
         try:
             return self.context(name, authority).wrap_socket(plain, server_hostname=HOST)
@@ -65,18 +65,18 @@ class Asking:
             plain.close()
             raise
 
-    def raw(self, name, request, port=None, authority=None):
+    def raw(self, name, request, port=None, authority=None, address='127.0.0.1'):
         """All that comes back for these bytes on one connection; where it breaks, what became of it."""
         try:
-            with self.connect(name, port, authority) as connection:
+            with self.connect(name, port, authority, address) as connection:
                 connection.sendall(request.encode('latin-1'))
                 return received(connection)
         except OSError as fault:
             return repr(fault)
 
-    def ask(self, name, request, port=None, authority=None):
+    def ask(self, name, request, port=None, authority=None, address='127.0.0.1'):
         """The same for one response."""
-        return parted(self.raw(name, request, port, authority))
+        return parted(self.raw(name, request, port, authority, address))
 
     def post(self, name, text, path='/interchanges', port=None, authority=None):
         """A delivery."""
@@ -97,10 +97,10 @@ class Asking:
             stdin=subprocess.DEVNULL, capture_output=True, check=False)
         return parted((done.stdout + done.stderr).decode('latin-1'))
 
-    def inside(self, path):
+    def inside(self, path, method='GET', *fields, host='localhost'):
         """What the office itself answers, past nginx, by its Unix socket: for looks that no certificate may take."""
         with socket.socket(socket.AF_UNIX) as connection:
             connection.settimeout(SECONDS)
             connection.connect(self.installed.file('queue.sock'))
-            connection.sendall(head_of('GET', path).encode('latin-1'))
+            connection.sendall(head_of(method, path, *fields, host=host).encode('latin-1'))
             return parted(received(connection))

@@ -1,5 +1,6 @@
 """The parts of examples/gateway as an operator installs them, but in a folder and on ports of their own."""
 import os
+import re
 import shutil
 import signal
 import socket
@@ -17,6 +18,8 @@ SECONDS = 300               # that the office or a part may take to start or to 
 LIFE = 4 * 3600             # seconds after which nothing of a trial is left, whatever happens
 AHEAD = 1000                # how far ahead a partner may send
 GROUP = 'www-data'          # of nginx on Debian
+PAGE = os.path.join(TOP, 'docs/OPERATIONS.md')
+HAS_IPV6 = os.path.exists('/proc/net/if_inet6')
 
 NGINX = """user %s;
 worker_processes 2;
@@ -153,7 +156,7 @@ class Installed:
         self.network, self.nginx, self.haproxy, self.socket = None, None, None, None
         self.setup, self.port, self.people = setup, free_port(), free_port()
         os.chmod(self.folder, 0o711)
-        os.mkdir(self.file('logs'))
+        self.make_logs()
         self.authority = Authority(self.file('authority'), setup.terminal)
         self.network = Network()
         self.office = Office(program, self.folder, self.network, free_port(), setup)
@@ -161,6 +164,15 @@ class Installed:
     def file(self, name):
         """A path below its folder."""
         return os.path.join(self.folder, name)
+
+    def make_logs(self):
+        """The folder of logs, for whom the page makes it."""
+        with open(PAGE, encoding='utf-8') as file:
+            mode, group = re.search(r'install -d -m (\d+) -g (\w+) /var/log/office-gateway', file.read()).groups()
+        os.mkdir(self.file('logs'))
+        os.chmod(self.file('logs'), int(mode, 8))
+        if not os.geteuid():
+            shutil.chown(self.file('logs'), 'root', group)
 
     def __enter__(self):
         try:
@@ -206,8 +218,9 @@ class Installed:
         os.makedirs(self.file('snippets'))
         put('nginx/office.conf', self.file('office.conf'), [
             ('/var/log/office-gateway/', self.file('logs/')), ('/run/office-queue.sock', self.file('queue.sock')),
-            ('listen 443 ssl', 'listen 127.0.0.1:%d ssl' % self.port),
-            ('listen 8443 ssl', 'listen 127.0.0.1:%d ssl' % self.people)])
+            *[('listen %s%s ssl;' % (of_all, port), 'listen %s:%d ssl;' % (loopback, ours) if loopback else '')
+              for of_all, loopback in (('', '127.0.0.1'), ('[::]:', '[::1]' if HAS_IPV6 else None))
+              for port, ours in ((443, self.port), (8443, self.people))]])
         put('nginx/office-shared.conf', self.file('snippets/office-shared.conf'), [
             ('/etc/office-authority/', self.file('authority/')), ('/var/log/office-gateway/', self.file('logs/'))])
         text = NGINX % (GROUP, *[self.folder] * 8)

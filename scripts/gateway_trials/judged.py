@@ -5,7 +5,7 @@ import shutil
 import sqlite3
 import tempfile
 
-from hostile.served import get
+from model.asking import get
 from model.http import STATUSES, response
 from model.office import Office, json_text
 from model.reports import report as report_of
@@ -13,6 +13,7 @@ from model.rows import rows_in, rows_of
 
 OTHER_SENDER = 403, '{"answer":"refused","fault":"OtherSender"}'
 CERTIFICATE = 403, '{"answer":"refused","fault":"Certificate"}'
+ORIGIN = 403, '{"answer":"refused","fault":"Origin"}'
 ROLE = 403, '{"answer":"refused","fault":"Role"}'
 NONE = 404, '{"answer":"none"}'
 METHOD = 405, '{"answer":"method"}'
@@ -21,6 +22,8 @@ BAD_REQUEST = 400, '{"answer":"bad request"}'
 NO_ANSWER = 503, '{"answer":"no answer"}'
 NOT_NOW = 503, '{"answer":"not now"}'
 READY = 200, '{"answer":"ready"}'
+# what the gateway adds to each answer
+ADDED = ['X-Content-Type-Options: nosniff', 'Cache-Control: no-store', 'Strict-Transport-Security: max-age=31536000']
 
 
 def bare(text):
@@ -60,8 +63,10 @@ class Judge:
         return 200, next(line for line in lines if line.startswith(code + ' '))
 
     def same(self, name, wanted, came):
-        """An answer is as wanted, and the rows after it are those of the model."""
+        """An answer is as wanted, with what the gateway adds, and the rows after it are those of the model."""
         self.checks.expect(name, wanted, (came.status, bare(came.body)))
+        fields = came.head.split('\r\n')
+        self.checks.expect(name + ': what is added', [1, 1, 1], [fields.count(field) for field in ADDED])
         self.rows(name)
 
     def rows(self, name):

@@ -1,5 +1,6 @@
 """Each case of a partner before the gateway: whom a text may come from, paths, methods, bodies, clients that are slow."""
 import json
+import subprocess
 import threading
 import time
 
@@ -8,8 +9,8 @@ from model.setup import DEMO
 from model.syntax import LONGEST_TEXT
 
 from .asking import Asking, chunked, delivery, head_of, parted
-from .installed import AHEAD, Installed
-from .judged import BAD_REQUEST, METHOD, NONE, OTHER_SENDER, TOO_LONG, Judge, bare
+from .installed import AHEAD, HAS_IPV6, HOST, Installed
+from .judged import BAD_REQUEST, METHOD, NONE, ORIGIN, OTHER_SENDER, TOO_LONG, Judge, bare
 
 UNA = "UNA:+.? '"
 SWAPPED = "UNA+:.? '"       # which makes a colon part elements, and a plus sign components
@@ -156,9 +157,51 @@ def bodies(clients, judge):
     judge.same('more fields than the office takes', judge.delivered(sent), clients.ask('HAULA', request))
 
 
+# ---- where it comes from
+
+def sites(clients, judge):
+    """A page of another site can't post with a partner's certificate; IPv6 is a way in like any other."""
+    text = gate_in(6, 'HAULB', 40)
+    for fields in (
+            ['Origin: https://evil.example'], ['Origin: null'], ['Sec-Fetch-Site: cross-site'], ['Sec-Fetch-Site: same-site'],
+            ['Sec-Fetch-Site: same-origin', 'Origin: https://evil.example']):
+        for path in ('/interchanges', '/explain', '/yard'):
+            judge.same('POST %s %s' % (path, fields), ORIGIN, clients.ask('HAULB', delivery(text, path, *fields)))
+    address = '::1' if HAS_IPV6 else '127.0.0.1'
+    request = delivery(text, '/interchanges', 'Sec-Fetch-Site: same-origin', 'Origin: https://' + HOST)
+    came = clients.ask('HAULB', request, address=address)
+    judge.same('its own page, by IPv6', judge.delivered(text), came)
+
+
+def explained(clients, judge):
+    """What is wrong with a text, as the command says it, and nothing of it is kept."""
+    office = clients.installed.office
+    judge.same('GET /explain', METHOD, clients.get('HAULB', '/explain'))
+    judge.same('/explain of too much', TOO_LONG, clients.post('HAULB', 1048577 * ' ', '/explain'))
+    if clients.inside('/explain').status == 404:
+        print('gateway: POST /explain was not tried, which the program has not')
+        return
+    words = [office.program, 'explain', '-']
+    for text in (gate_in(9, 'HAULB', 40), gate_in(9, 'HAULB', 40).replace('UNT+4', 'UNT+9'), gate_in(9, 'HAULB', 40)[:-9]):
+        wanted = subprocess.run(words, input=text.encode('latin-1'), capture_output=True, check=False).stdout.decode('latin-1')
+        judge.same('/explain %s' % text[-20:], (200, bare(wanted)), clients.post('HAULB', text, '/explain'))
+
+
+def hosts(clients, judge):
+    """nginx names the office by a name of this machine, whatever the client says; past it the office takes no other name."""
+    for host in ('evil.example', '127.0.0.1', HOST + ':443'):
+        came = clients.ask('HAULB', head_of('GET', '/standing', host=host))
+        judge.same('Host: ' + host, judge.standing('HAULB'), came)
+    if clients.inside('/health', host='evil.example').status == 200:
+        print('gateway: the names of the office were not tried, which the program takes all')
+        return
+    wanted = 403, '{"answer":"refused","fault":"Host"}'
+    judge.checks.expect('past nginx, by another name', wanted, clients.inside('/health', host='evil.example')[:2])
+
+
 def two_on_a_connection(clients, judge):
     """Each of two requests on a connection is judged by itself."""
-    first, sent = gate_in(6, 'HAULB', 41), gate_in(9, 'HAULA', 42)
+    first, sent = gate_in(7, 'HAULB', 41), gate_in(9, 'HAULA', 42)
     request = delivery(first).replace('Connection: close\r\n', '') + delivery(sent)
     came = clients.raw('HAULB', request).split('HTTP/1.1 ')
     wanted = judge.delivered(first), OTHER_SENDER
@@ -169,7 +212,7 @@ def two_on_a_connection(clients, judge):
 
 def by_curl(clients, judge):
     """What a partner's program may be: curl, with and without a length, with Expect."""
-    number = iter(range(7, 30))
+    number = iter(range(8, 30))
 
     def words(text, *more):
         """Words for curl that deliver a text."""
@@ -186,7 +229,7 @@ def by_curl(clients, judge):
             came = parted(came.body)
         judge.same('curl' + name, judge.delivered(text), came)
     judge.same('curl, foreign', OTHER_SENDER, clients.curl('HAULB', '/interchanges', *words(gate_in(9, 'HAULA', 60))))
-    judge.same('curl, its reply', judge.report('reply', 'HAULB/7'), clients.curl('HAULB', '/replies/7'))
+    judge.same('curl, its reply', judge.report('reply', 'HAULB/8'), clients.curl('HAULB', '/replies/8'))
     judge.same('curl, a path with dots', NONE, clients.curl('HAULB', '/replies/../yard'))
 
 
@@ -209,7 +252,7 @@ def slow(clients, judge):
             except OSError as fault:
                 came.append(repr(fault).encode())
 
-    body = gate_in(10, 'HAULB', 70) + 1000 * ' '
+    body = gate_in(11, 'HAULB', 70) + 1000 * ' '
     threads = [threading.Thread(target=trickle, args=[body, 0.1], daemon=True) for _client in range(SLOW)]
     for thread in threads:
         thread.start()
@@ -241,7 +284,7 @@ def refusals(clients, judge):
         judge.checks.expect('written down once: %d of %s, %r' % (status, by, text[:20]), 1, len(found))
 
 
-CASES = [own, foreign, ahead, paths, bodies, two_on_a_connection, by_curl, slow, refusals]
+CASES = [own, foreign, ahead, paths, bodies, sites, explained, hosts, two_on_a_connection, by_curl, slow, refusals]
 
 
 def try_all(checks, program):

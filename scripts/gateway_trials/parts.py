@@ -7,14 +7,15 @@ from time import monotonic
 
 from hostile.served import Checks
 
-from . import certificates, connections, copies, health, load, partners, people, units
+from . import browser, by_page, certificates, connections, copies, health, load, partners, people, standby, units
 from .installed import TOP
 
 PROGRAM = os.path.join(TOP, 'crates/office/out/office')
 WANTED = ['nginx', 'haproxy', 'openssl', 'curl']
 PARTS = {
     'partners': partners.try_all, 'certificates': certificates.try_all, 'people': people.try_all, 'load': load.try_all,
-    'connections': connections.try_all, 'copies': copies.try_all, 'health': health.try_all, 'units': units.try_all}
+    'connections': connections.try_all, 'copies': copies.try_all, 'health': health.try_all, 'units': units.try_all,
+    'by_page': by_page.try_all, 'standby': standby.try_all, 'browser': browser.try_all}
 
 
 def tried(checks, name, trial, program):

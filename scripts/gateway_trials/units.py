@@ -8,11 +8,10 @@ from hostile.served import gate_in
 from model.setup import DEMO
 
 from .asking import Asking
-from .installed import EXAMPLES, Installed, put, until
+from .installed import EXAMPLES, PAGE, Installed, put, until
 
 NETWORKED = ['office.service', 'office-queue.service', 'office-copy.service', 'office-drill.service', 'office-health.service']
 UNITS = sorted(os.listdir(os.path.join(EXAMPLES, 'systemd')))
-PAGE = os.path.join(EXAMPLES, '../../docs/OPERATIONS.md')
 
 
 def verified(checks, program, folder):
@@ -48,7 +47,7 @@ def rotated(checks, installed):
     """The logs are renamed and begun anew, and nginx goes on in the new ones."""
     clients, logs = Asking(installed), installed.file('logs')
     put('logrotate/office', installed.file('rotation'), [
-        ('/var/log/office-gateway', logs), ('/run/nginx.pid', installed.file('nginx.pid')), ('root adm', 'root root')])
+        ('/var/log/office-gateway', logs), ('/run/nginx.pid', installed.file('nginx.pid'))])
     clients.post('HAULA', 'nothing')
     done = subprocess.run(
         ['logrotate', '-f', '-s', installed.file('rotated'), installed.file('rotation')], capture_output=True, encoding='utf-8',

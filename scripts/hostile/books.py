@@ -2,7 +2,6 @@
 import copy
 import os
 import random
-import subprocess
 from contextlib import contextmanager
 
 from model.cuts import cut
@@ -20,7 +19,7 @@ from model.stream import status
 from model.syntax import BREAKS
 from model.vessels import Vessels
 
-from .working import Served, run
+from .working import Delivering, Served, run
 
 NOT_NOW = '{"answer":"not now"}'
 ADDED = 0.08                # of what is sent, where accounts are added
@@ -216,11 +215,10 @@ class Book:
 
 
 def prefilled(program, folder, seed, count):
-    """A store to which so much was delivered in one call."""
-    book = Book(program, folder, seed).init()
-    text = ''.join(book.upcoming(count))
-    words = [program, 'deliver', book.store, '-']
-    done = subprocess.run(words, input=text.encode('latin-1'), capture_output=True, check=False)
-    book.take(done.stdout.decode('utf-8').splitlines())
+    """A store to which so much was delivered by a process that was killed then, so that its log still holds what it took."""
+    book, lines = Book(program, folder, seed).init(), []
+    with Delivering(program, book.store, ahead=True) as worker:
+        worker.answers(book.upcoming(count), lines.append)
+    book.take(lines)
     expect('the answers', count, len(book.answered))
     return book

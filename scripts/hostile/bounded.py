@@ -3,10 +3,10 @@ import tempfile
 
 from model.setup import DEMO
 from model.setups import files_of
-from model.stores import exchanged
+from model.asking import exchanged, post
 
 from .sampled import Sampled
-from .served import Served, gate_in, post
+from .served import Served, gate_in
 
 REPEATS = 5000              # of an interchange in a stream
 POSTS = 40                  # of a mebibyte each

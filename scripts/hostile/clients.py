@@ -5,11 +5,11 @@ import sys
 import time
 from concurrent.futures import ThreadPoolExecutor
 
-from . import clients_at_once, clients_by_curl, clients_in_the_way
+from . import clients_at_once, clients_beside, clients_by_curl, clients_in_the_way
 from .served import Checks
 
 TOP = os.path.dirname(os.path.dirname(os.path.dirname(os.path.abspath(__file__))))
-CHECKS = clients_in_the_way.CHECKS + clients_at_once.CHECKS + clients_by_curl.CHECKS
+CHECKS = clients_in_the_way.CHECKS + clients_beside.CHECKS + clients_at_once.CHECKS + clients_by_curl.CHECKS
 
 
 def tried(checks, check, path):

@@ -5,10 +5,11 @@ import signal
 import threading
 import time
 
+from model.asking import account, get, post
 from model.setup import DEMO
 from model.yard import Block
 
-from .served import Served, account, gate_in, get, post, received
+from .served import Served, gate_in, received
 
 CLIENTS = 200
 TOO_MUCH = 100              # clients that send more than their Content-Length

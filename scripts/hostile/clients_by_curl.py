@@ -1,9 +1,10 @@
 """What curl and plain sockets ask for, and the bytes that they are owed: each route, lengths, forms of requests."""
 import subprocess
 
+from model.asking import account, get, post
 from model.syntax import LONGEST_TEXT
 
-from .served import Served, account, gate_in, get, listening, post, received
+from .served import Served, gate_in, listening, received
 
 MOST_STALL = 5              # seconds that an answer may take, on a busy machine too
 CURL_WAITS = 0.2            # seconds that curl is told to wait for a 100

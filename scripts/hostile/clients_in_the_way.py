@@ -1,15 +1,17 @@
-"""Clients that hold the office up: ones that send nothing or slowly, that don't read or slowly, that stay or reset. Each is
-given up within limits, and others are served after it."""
+"""Clients that would hold the office up: ones that send nothing or slowly, that don't read or slowly, that stay or reset. Each is
+given up within limits, and others are served meanwhile."""
 import threading
 import time
 
-from .served import Served, gate_in, get, post, received, reset
+from model.asking import get, post
+
+from .served import Served, gate_in, received, reset
 
 FIRST_BYTE_LIMIT = 2        # seconds for the first byte of a request
 REQUEST_LIMIT = 10          # seconds until a request is whole
 RESPONSE_LIMIT = 10         # seconds until a response is taken, and until the peer has closed after it
-DRAIN_LIMIT = 1             # seconds for a read of what is dropped after a response
-SLACK = 6                   # seconds besides, on a busy machine; from the first byte's limit not as far as a request's
+AT_ONCE = 1.5               # seconds in which another one is served, on a busy machine; less than the first byte's limit
+SLACK = 6                   # the same beside megabytes, whose own request takes its time; less than the limits of ten
 SLOWEST = REQUEST_LIMIT + RESPONSE_LIMIT + SLACK     # seconds that a slow client goes on
 SILENT = 3                  # clients that send nothing, one after the other
 TRIES = 20                  # of a client that is in time, on a machine that holds it up itself
@@ -35,17 +37,19 @@ def silent(checks, path):
                 ('half a body', post(gate_in(1))[:-9], REQUEST_LIMIT)):
             with server.connect() as connection:
                 connection.sendall(sent.encode('latin-1'))
-                behind(checks, server, name, limit + SLACK)
+                behind(checks, server, name, AT_ONCE)
+                began = time.monotonic()
                 checks.expect('%s: it gets no answer' % name, '', received(connection))
+                checks.within('%s: it is closed' % name, limit + SLACK, time.monotonic() - began)
         server.same(checks, 'half a body was not delivered', get('/replies/HAULA/1'))
 
 
 def silent_ones(checks, path):
-    """Several send nothing and stay: each costs the next one two seconds, and each counts as a connection."""
+    """Several send nothing and stay: the next one is served at once, and each counts as a connection."""
     with Served(path, count=SILENT + 1) as server:
         staying = [server.connect() for _place in range(SILENT)]
         time.sleep(0.2)
-        behind(checks, server, '%d clients that send nothing' % SILENT, SILENT * FIRST_BYTE_LIMIT + SLACK)
+        behind(checks, server, '%d clients that send nothing' % SILENT, AT_ONCE)
         checks.expect('each of them is counted', ('served %d\n' % (SILENT + 1), 0), server.wait())
         for connection in staying:
             connection.close()
@@ -90,7 +94,7 @@ def slow(checks, path):
         sender = threading.Thread(target=trickle, args=[connection, 'GET /yard HTTP/1.1\r\nX: ', SLOWEST])
         sender.start()
         time.sleep(0.2)
-        behind(checks, server, 'a client that sends a byte a second', REQUEST_LIMIT + SLACK)
+        behind(checks, server, 'a client that sends a byte a second', AT_ONCE)
         sender.join()
 
 
@@ -101,7 +105,7 @@ def slow_body(checks, path):
             sender = threading.Thread(target=trickle, args=[connection, post(gate_in(1))[:-60], SLOWEST])
             sender.start()
             time.sleep(0.2)
-            behind(checks, server, 'a client that sends a body a byte a second', REQUEST_LIMIT + SLACK)
+            behind(checks, server, 'a client that sends a body a byte a second', AT_ONCE)
             sender.join()
         server.same(checks, 'it was not delivered', get('/replies/HAULA/1'))
 
@@ -112,7 +116,7 @@ def going_on(checks, path):
         sender = threading.Thread(target=trickle, args=[connection, get('/yard'), SLOWEST, 0.5])
         sender.start()
         time.sleep(0.2)
-        behind(checks, server, 'a client that goes on sending behind its answer', RESPONSE_LIMIT + SLACK)
+        behind(checks, server, 'a client that goes on sending behind its answer', AT_ONCE)
         sender.join()
 
 
@@ -148,11 +152,11 @@ def unread(checks, path):
         with server.connect(TOO_SMALL) as connection:
             connection.sendall(get('/replies/HAULA/1').encode('latin-1'))
             time.sleep(0.2)
-            behind(checks, server, "a client that doesn't read", RESPONSE_LIMIT + SLACK)
+            behind(checks, server, "a client that doesn't read", SLACK)
         with server.connect() as connection:
             connection.sendall(get('/yard').encode('latin-1'))
             time.sleep(0.2)
-            behind(checks, server, "a client that reads nothing of a short one and stays", DRAIN_LIMIT + SLACK)
+            behind(checks, server, "a client that reads nothing of a short one and stays", AT_ONCE)
 
 
 def slow_reader(checks, path):
@@ -164,7 +168,7 @@ def slow_reader(checks, path):
             reader = threading.Thread(target=sip, args=[connection, SLOWEST])
             reader.start()
             time.sleep(0.2)
-            behind(checks, server, 'a client that reads a little every second', RESPONSE_LIMIT + SLACK)
+            behind(checks, server, 'a client that reads a little every second', SLACK)
             reader.join()
 
 

@@ -29,7 +29,7 @@ NOT_NOW = '{"answer":"not now"}'
 LAST_TAKEN = '12-haulier-a-gate-out.edi'       # of the day; after it are repeats and a clash
 
 # what a process may tell that had no memory before it delivered anything
-FAILURES = {('', 'store: Memory\n', 3), ('', 'cannot read\n', 3), ('', '', 3)}
+FAILURES = {('', 'store: Memory\n', 3), ('', 'cannot listen\n', 3), ('', 'cannot read\n', 3), ('', '', 3)}
 
 
 class Refusing:

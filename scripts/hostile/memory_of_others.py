@@ -9,6 +9,7 @@ import tempfile
 from copy import deepcopy
 from functools import partial
 
+from model.asking import account, exchanged, free_port, get, post
 from model.commands import outcome
 from model.http import response, response_text
 from model.office import Office, json_text
@@ -17,15 +18,12 @@ from model.reports import REPORTS, WHOLE, printed
 from model.requests import every_key, path_of
 from model.rows import copy_files, rows_in, rows_of
 from model.setup import DEMO
-from model.stores import exchanged
 from model.syntax import sender_of
 from model.vessels import REPORTED
 
 from .books import Different, expect
 from .closings import CLOSED, SEED, Prepared, refuse_closing
 from .commands import CODE, KIND, SHARES, refuse_addition, refuse_migration
-from .sampled import free_port
-from .served import account, get, post
 
 TOP = os.path.dirname(os.path.dirname(os.path.dirname(os.path.abspath(__file__))))
 SETUP = [os.path.join(TOP, 'examples/setup', name) for name in ('partners.csv', 'blocks.csv')]

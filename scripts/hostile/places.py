@@ -8,6 +8,8 @@ import subprocess
 import tempfile
 from contextlib import closing
 
+from model.rows import rows_in, rows_of
+
 from .books import expect, naming, prefilled
 from .full import Mounted
 from .working import Delivering, Served, post, run
@@ -140,6 +142,33 @@ def try_unmounted(program, seed, counted):
         counted['the file system unmounted while serve works: answered; report: store: Store'] += 1
 
 
+def deliver_killed(book, count):
+    """Some deliveries to a process that is killed then: their rows are in the log."""
+    lines = []
+    with Delivering(book.program, book.store) as worker:
+        worker.answers(book.upcoming(count), lines.append)
+    book.take(lines)
+
+
+def by_itself(book, alone, words):
+    """After a command that ends by itself the file without its log has all rows."""
+    if words[0] == 'serve':
+        with Served(book.program, book.store, 1) as worker:
+            worker.exchange('GET /x HTTP/1.1\r\n\r\n')
+            expect('the end of serve', (0, ''), worker.ended())
+    else:
+        _printed, told, status = run(book.program, *words)
+        expect('the end of ' + words[0], ('', 0), (told, status))
+    for end in ('', '-wal'):
+        if os.path.exists(alone + end):
+            os.remove(alone + end)
+    shutil.copy2(book.store, alone)
+    got, faults = rows_in(alone)
+    expect('integrity and foreign keys', [], faults)
+    expect('the rows of the file by itself', rows_of(book.office), got)
+    expect('report yard', run(book.program, 'report', book.store, 'yard'), run(book.program, 'report', alone, 'yard'))
+
+
 def try_copies(program, seed, counted):
     """A copy while nothing runs opens and goes on by itself; a copy of the file without its log; other names."""
     with tempfile.TemporaryDirectory(prefix='kill9-') as folder, tempfile.TemporaryDirectory(prefix='kill9-') as other:
@@ -153,7 +182,12 @@ def try_copies(program, seed, counted):
         alone = os.path.join(other, 'alone.db')
         shutil.copy2(book.store, alone)
         printed, told, _status = run(program, 'report', alone, 'yard')
-        counted['a copy of the file without its log: ' + (told.strip() or 'opens')] += 1
+        counted['a copy of the file without its log, of a process that was killed: ' + (told.strip() or 'opens')] += 1
+        known = next(iter(book.office.setup.partners.items()))
+        for words in (('deliver', book.store, '-'), ('account', book.store, *known), ('serve',)):
+            deliver_killed(book, 3)
+            by_itself(book, alone, words)
+            counted['a copy of the file without its log, after %s: the whole' % words[0]] += 1
         os.link(book.store, os.path.join(folder, 'second.db'))
         refused(book, 'a second name (hard link)', {}, counted)
         os.remove(os.path.join(folder, 'second.db'))

@@ -1,14 +1,14 @@
 """The program over a store, with the peak of its memory (VmHWM) for each command, as far as it can be read."""
 import fcntl
 import re
-import socket
 import struct
 import subprocess
 import tempfile
 import termios
 import time
 
-from model.stores import SECONDS, Program, exchanged
+from model.asking import SECONDS, exchanged, free_port
+from model.stores import Program
 
 
 def peak_of(process):
@@ -33,13 +33,6 @@ def is_sleeping(process):
 def is_read(pipe):
     """Whether all that was written to a pipe was read."""
     return struct.unpack('i', fcntl.ioctl(pipe, termios.FIONREAD, b'\0' * 4))[0] == 0
-
-
-def free_port():
-    """A port that nothing listens at."""
-    with socket.socket() as free:
-        free.bind(('127.0.0.1', 0))
-        return free.getsockname()[1]
 
 
 class Sampled(Program):

@@ -7,26 +7,18 @@ import tempfile
 import threading
 import time
 
+from model.asking import SECONDS, container, exchanged, free_port, read_all
 from model.http import response
-from model.names import check_digit
 from model.office import Office
 from model.setup import DEMO
 from model.setups import files_of
-from model.stores import SECONDS, Program, exchanged
-
-from .sampled import free_port
+from model.stores import Program
 
 GATE_IN = (
     "UNB+UNOA:3+%s+TERM1+240305:0910+%d'UNH+1+CODECO:D:95B:UN'BGM+34+G1+9'EQD+CN+%s+22G1:102:5+++5'UNT+4+1'UNZ+1+%d'")
 
 
 GATE_OUT = "UNB+UNOA:3+%s+TERM1+240305:0910+%d'UNH+1+CODECO:D:95B:UN'BGM+36+G1+9'EQD+CN+%s'UNT+4+1'UNZ+1+%d'"
-
-
-def container(serial):
-    """A container's number."""
-    first_ten = 'ABCU%06d' % serial
-    return first_ten + str(check_digit(first_ten))
 
 
 def gate_in(number, sender='HAULA', serial=None):
@@ -37,21 +29,6 @@ def gate_in(number, sender='HAULA', serial=None):
 def gate_out(number, sender, name):
     """An interchange that takes a container out."""
     return GATE_OUT % (sender, number, name, number)
-
-
-def account(code, kind):
-    """The request that adds an account."""
-    return 'POST /partners/%s/%s HTTP/1.1\r\nContent-Length: 0\r\n\r\n' % (code, kind)
-
-
-def post(text):
-    """The request that delivers a text."""
-    return 'POST /interchanges HTTP/1.1\r\nContent-Length: %d\r\n\r\n%s' % (len(text), text)
-
-
-def get(path):
-    """The request that asks for a path."""
-    return 'GET %s HTTP/1.1\r\n\r\n' % path
 
 
 class Checks:
@@ -159,8 +136,7 @@ def received(connection):
     """All that comes over a connection until it ends, or what became of it."""
     parts = []
     try:
-        while not parts or parts[-1]:
-            parts.append(connection.recv(65536))
+        read_all(connection, parts)
     except OSError as fault:
         return b''.join(parts).decode('latin-1') + ' then ' + repr(fault)
     return b''.join(parts).decode('latin-1')

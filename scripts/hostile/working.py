@@ -8,9 +8,9 @@ import subprocess
 import threading
 from urllib.parse import quote
 
+from model.asking import SECONDS, account, free_port, post, read_all
 from model.events import Added
 
-SECONDS = 60                # that one answer may take
 
 
 def run(program, *words, **how):
@@ -26,17 +26,12 @@ def printed_texts(program, store, passed=0):
     return done.stdout.decode('latin-1'), done.stderr.decode('utf-8'), done.returncode
 
 
-def post(text):
-    """A request that delivers a text."""
-    return 'POST /interchanges HTTP/1.1\r\nContent-Length: %d\r\n\r\n%s' % (len(text), text)
-
-
 def request_of(sent):
     """A request that delivers a text, or adds an account."""
     if not isinstance(sent, Added):
         return post(sent)
     code, kind = (quote(part.encode('latin-1'), safe='') for part in sent)
-    return 'POST /partners/%s/%s HTTP/1.1\r\nContent-Length: 0\r\n\r\n' % (code, kind)
+    return account(code, kind)
 
 
 class Worker:
@@ -107,10 +102,7 @@ class Served(Worker):
     """`serve DB PORT COUNT` at a port that was free."""
 
     def __init__(self, program, store, count=1000000, front=(), **how):
-        with socket.socket() as free:
-            free.bind(('127.0.0.1', 0))
-            self.port = free.getsockname()[1]
-        self.listens = None
+        self.port, self.listens = free_port(), None
         super().__init__([*front, program, 'serve', store, str(self.port), str(count)], **how)
 
     def listening(self):
@@ -128,8 +120,7 @@ class Served(Worker):
             with socket.create_connection(('127.0.0.1', self.port), SECONDS) as connection:
                 connection.sendall(request.encode('latin-1'))
                 connection.shutdown(socket.SHUT_WR)
-                while not parts or parts[-1]:
-                    parts.append(connection.recv(65536))
+                read_all(connection, parts)
         except OSError:
             pass
         return b''.join(parts).decode('latin-1')

@@ -9,7 +9,8 @@ import random
 import tempfile
 
 from hostile.books import Book, Different, expect, naming
-from hostile.served import container, gate_in, gate_out
+from hostile.served import gate_in, gate_out
+from model.asking import container
 from hostile.working import run
 from model.office import Office, json_text
 from model.rows import rows_in

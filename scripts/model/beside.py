@@ -6,7 +6,7 @@ from collections import Counter
 from functools import partial
 
 from . import (
-    cases, closed, closed_alone, counts, crowded, damaged, directory, meanings, migrated, refused_closings, replaced, samples,
+    cases, closed, closed_alone, counts, crowded, damaged, directory, full, meanings, migrated, refused_closings, replaced, samples,
     shown, stores, worked)
 from .days import stream
 from .messages import MESSAGE_FAULTS
@@ -38,7 +38,7 @@ USAGE = """usage: scripts/beside [demo | model | STREAMS DELIVERIES SHARE [SEED]
 
 Compares crates/office/out/office with the model: first the worked rows, the day of examples/day and the cases of
 scripts/model/cases.txt, as `office demo` and over stores in files, and the pages that show them or others; then the changed
-stores of scripts/model/damaged.txt, a crowded yard and full lists replaced; then random set-ups, deliveries and reports over
+stores of scripts/model/damaged.txt, a crowded yard, full lists replaced and full blocks; then random set-ups, deliveries and reports over
 stores, and requests by HTTP; then stores that are closed from time to time; then random streams. With arguments the rows,
 and STREAMS streams of DELIVERIES interchanges each, SHARE of them (0 to 1) with altered bytes, with the seeds from SEED on (1 where none is given). Without arguments: %s.
 With `demo` no store is made. With `model` the program isn't needed: rows, cases and changed stores are held to the model
@@ -125,7 +125,7 @@ def by_model_alone():
 
 
 def main():
-    """The worked rows and the cases, changed stores, a crowded yard and full lists; without arguments set-ups, stores and
+    """The worked rows and the cases, changed stores, a crowded yard, full lists and blocks; without arguments set-ups, stores and
     requests; then each mix. With `demo` alone no store is made. Gives the status."""
     demo_alone = sys.argv[1:] == ['demo']
     if sys.argv[1:] == ['model']:
@@ -149,6 +149,7 @@ def main():
         damaged.try_all_old(beside)
         crowded.try_all(beside)
         replaced.try_all(beside)
+        full.try_all(beside)
     if len(sys.argv) == 1:
         stores.try_all(beside)
         migrated.try_all(beside)

@@ -18,6 +18,7 @@ import time
 from collections import namedtuple
 from functools import partial
 
+from .asking import account, exchanged, get, in_bytes, in_two, post
 from .commands import texts
 from .cuts import cut
 from .deliveries import kept_texts
@@ -27,7 +28,7 @@ from .office import Office, json_text
 from .reports import text_of
 from .setup import DEMO, with_accounts
 from .setups import files_of
-from .stores import Program, exchanged, in_bytes, in_two
+from .stores import Program
 from .stream import answers, lines, status
 from .yard import Block
 
@@ -87,32 +88,22 @@ def read(text):
     return text.replace(r'\r', '\r').replace(r'\n', '\n')
 
 
-def posting(text):
-    """The request that delivers a text."""
-    return 'POST /interchanges HTTP/1.1\r\nContent-Length: %d\r\n\r\n%s' % (len(text), text)
-
-
 def adding(code, kind):
     """The request that adds an account."""
     parts = [''.join('%%%02X' % ord(character) if character in '%/?' else character for character in part)
              for part in (code, kind)]
-    return 'POST /partners/%s/%s HTTP/1.1\r\nContent-Length: 0\r\n\r\n' % tuple(parts)
+    return account(*parts)
 
 
 def request_of(event):
     """The request that does what an event says."""
-    return posting(event.text) if isinstance(event, Delivered) else adding(*event)
+    return post(event.text) if isinstance(event, Delivered) else adding(*event)
 
 
 def answer_to(office, event):
     """The line that answers an event."""
     is_text = isinstance(event, Delivered)
     return json_text(office.answer(event.text) if is_text else office.add_account(*event))
-
-
-def asking(path):
-    """The request for a report."""
-    return 'GET %s HTTP/1.1\r\n\r\n' % path
 
 
 def unread(pipe):
@@ -182,7 +173,7 @@ class Cases:
         given = [answer_to(office, event) for event, _line in case.steps]
         self.expect(case.name, 'the model', [line for _event, line in case.steps], given)
         for path, wanted in case.looks:
-            self.expect(case.name, 'the model, ' + path, wanted, response(office, asking(path)).partition('\r\n\r\n')[2])
+            self.expect(case.name, 'the model, ' + path, wanted, response(office, get(path)).partition('\r\n\r\n')[2])
         if self.with_stores:
             self.serve(case)
         if len(case.steps) > len(case.texts):
@@ -201,7 +192,7 @@ class Cases:
             wanted = response(office, request)
             self.expect(case.name, 'the model over HTTP', line, wanted.partition('\r\n\r\n')[2])
             requests.append((request, wanted))
-        requests += [(asking(path), response(office, asking(path))) for path, _wanted in case.looks]
+        requests += [(get(path), response(office, get(path))) for path, _wanted in case.looks]
         self.served(case, requests, in_two)
 
     def calls(self, case):

@@ -10,7 +10,8 @@ import tempfile
 from collections import Counter
 
 from . import counts
-from .names import Slot, check_digit, slot_text
+from .asking import container
+from .names import Slot, slot_text
 from .office import Office
 from .setup import DEMO
 from .setups import files_of
@@ -66,9 +67,8 @@ class Crowd:
         else:
             number, is_forty, more = chance.randrange(CONTAINERS), chance.randrange(4) == 0, []
         more += ['MEA+AAE+G+KGM:%d' % chance.choice([0, 7, 24000, 999999, 1000000])] if chance.randrange(4) == 0 else []
-        first_ten = 'ABCU%06d' % number
         size, load = '42G1' if is_forty else '22G1', chance.choice('554')
-        return self.text(code.replace('first', '34'), first_ten + str(check_digit(first_ten)), size, load, more)
+        return self.text(code.replace('first', '34'), container(number), size, load, more)
 
     def text(self, code, box, size, load, more):
         """An interchange under its partner's next number."""

@@ -7,7 +7,7 @@ before each value in a table are its weight.
 import random
 import re
 
-from .names import check_digit
+from .asking import container
 from .setup import CODE_NAMES, DEMO
 
 SENT_AGAIN = 0.12           # of all deliveries: one that was sent comes again, the same bytes
@@ -115,9 +115,7 @@ class Day:
         self.senders = [(SENDERS[kind][0], (code, SENDERS[kind][1])) for code, kind in setup.partners.items()]
         self.codes = {meant.order: (meant.type_name, setup.codes[name]) for name, meant in CODE_NAMES.items()}
         self.containers, self.asked = [], {}
-        for number in range(1, self.pick(CONTAINERS) + 1):
-            first_ten = 'ABCU%06d' % number
-            self.containers.append(first_ten + str(check_digit(first_ten)))
+        self.containers += [container(number) for number in range(1, self.pick(CONTAINERS) + 1)]
 
     def happens(self, share):
         """By chance, that share of the times."""

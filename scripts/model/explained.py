@@ -1,18 +1,22 @@
 """What `office explain` tells of a file: docs/OPERATIONS.md, "Explain a file".
 
 Of each interchange the lowest fault by which a delivery of it would be refused, else the faults of its messages and of their
-lines: each with the segment and the byte where it stands, what was found there and what is expected.
+lines: each with the segment and the byte where it stands, what was found there and what is expected. Of each line without
+fault what was read, and what was passed over. At the end how many interchanges there are, and how they fare.
 """
-from collections import namedtuple
+import re
+from collections import Counter, namedtuple
 
 from .contrl import ERROR_CODES
 from .cuts import cut_at
 from .messages import (
-    container_groups, first, groups_of, header_of, line_fault, message_fault, number_in, transport_of, type_of)
-from .names import check_digit
+    READ_MOMENT, READ_WEIGHT, container_groups, first, groups_of, has_limits, header_of, line_fault, lines_of, message_fault,
+    number_in, transport_of, type_of)
+from .moments import are_digits
+from .names import check_digit, slot_text
 from .office import refused
 from .rules import NEWEST, RULES
-from .setup import DEFAULT_CODES, KINDS, Setup, orders_of
+from .setup import CODE_NAMES, DEFAULT_CODES, KINDS, Setup, orders_of
 from .syntax import (
     LONGEST_TEXT, Ended, Misfit, fault_of, is_count, is_printable, messages_of, moment_of_header, number_of, past_breaks,
     place_of_segments, read_segment, recipient_of, segments_of, sender_of, service_of)
@@ -25,8 +29,16 @@ NOBODY = Setup(terminal=None, partners=None, codes=DEFAULT_CODES, plan=None, mos
 # it stands, and what is expected there
 Found = namedtuple('Found', 'subject name code segment begin end expected')
 
-# an interchange or what is cut off: the byte of the file where it begins, its text, what is said of it, and its faults
-Explained = namedtuple('Explained', 'begin text said faults')
+# a line that is read: what is said of it
+Read = namedtuple('Read', 'said')
+
+# a segment that is passed over: of which message, or of the line before it (None); its number from 1, its bytes of the text,
+# and what is read in its place
+Passed = namedtuple('Passed', 'message segment begin end why')
+
+# an interchange or what is cut off: the byte of the file where it begins, its text, what is said of it, how it fares, its
+# faults and what was read, in order, and what its first bytes are if they are no interchange's
+Explained = namedtuple('Explained', 'begin text said fares found stranger')
 
 
 # ---- where segments stand
@@ -282,8 +294,8 @@ def at(text, place, message, segment):
     return (place + index + 1,) + spans[place + index]
 
 
-def faults_of(setup, text):
-    """The faults of the messages of a text, and of their lines."""
+def messages_told(setup, text):
+    """The faults of the messages of a text and of their lines, and what was read of those without."""
     kind, found = kind_of(setup, text), []
     may_order = orders_of(setup, kind)
     for count, (place, message) in enumerate(placed_messages(text), 1):
@@ -294,16 +306,108 @@ def faults_of(setup, text):
                                *at(text, place, message, segment), expected))
             continue
         order = may_order[type_of(message), first(header_of(message), 'BGM').value(1)]
-        for line, group_of_line in enumerate(container_groups(message), 1):
+        found += heading_told(text, place, count, message, order)
+        lines = lines_of(message, may_order, moment_of_header(text), RULES[NEWEST])
+        for line, (group_of_line, read) in enumerate(zip(container_groups(message), lines), 1):
             fault = line_fault(group_of_line, order, moment_of_header(text))
             if fault:
                 segment, expected = line_place(group_of_line, fault)
                 found.append(Found('message %d, line %d refused: ' % (count, line), fault, None,
                                    *at(text, place, message, segment), expected))
+            else:
+                found.append(Read('message %d, line %d read: %s' % (
+                    count, line, ', '.join(order_said(group_of_line, read.order)))))
+                found += [Passed(None, *at(text, place, message, segment), why)
+                          for segment, why in passed_in(group_of_line, read.order)]
     return found
 
 
+# ---- what was read of a line
+
+ORDER_NAMES = {meant.order: name for name, meant in CODE_NAMES.items()}
+
+
+def order_said(group, order):
+    """What a line orders, in parts: each kind of order has what it reads."""
+    said = [ORDER_NAMES[order.name], order.number]
+    if order.name in READ_WEIGHT:
+        said += [order.size_type, 'full' if order.is_full else 'empty']
+    if order.name in READ_MOMENT:
+        date, time = order.moment[:8], order.moment[8:]
+        said.append('%s-%s-%s %s:%s (%s)' % (
+            date[:4], date[4:6], date[6:], time[:2], time[2:], 'DTM' if moment_segment(group) else 'UNB'))
+    if order.name in READ_WEIGHT:
+        said.append('%d kg' % order.kilos if order.kilos else 'no weight')
+        said.append('booking ' + order.booking if order.booking else 'no booking')
+    if order.name == 'ListLoad':
+        said.append('port ' + order.port if order.port else 'no port')
+    if order.slot:
+        said.append('slot ' + slot_text(order.slot))
+    return said + (['vessel ' + order.call[0], 'voyage ' + order.call[1]] if order.call else [])
+
+
+def moment_segment(group):
+    """The DTM from which the moment is read, or None."""
+    return first(group, 'DTM', lambda segment: segment.value(1, 3) in ('203', '102'))
+
+
+# ---- what was passed over
+
+WEIGHT = 'a weight is read of the first MEA with G (6313) and KGM (6411), of 1 to 6 digits'
+MOMENT = 'a moment is read of the first DTM in 203 or 102 (2379)'
+BOOKING = 'a booking is read of the first RFF+BN after its EQD, of 1 to 35 bytes from space to tilde'
+PORT = 'a port is read of the first LOC+11 after its EQD, of 1 to 35 bytes from space to tilde'
+
+
+def passed_in(group, order):
+    """The segments of a line that say what its order reads, but from which nothing was read."""
+    weight = first(group, 'MEA', lambda segment: (segment.value(2), segment.value(3, 1)) == ('G', 'KGM'))
+    booking = first(group, 'RFF', lambda segment: segment.value(1) == 'BN')
+    port = first(group, 'LOC', lambda segment: segment.value(1) == '11')
+    for segment in group[1:]:
+        is_weight = segment is weight and are_digits(segment.value(3, 2), 1, 6)
+        if segment.tag == 'MEA' and order.name in READ_WEIGHT and not is_weight:
+            yield segment, WEIGHT
+        if segment.tag == 'DTM' and order.name in READ_MOMENT and segment is not moment_segment(group):
+            yield segment, MOMENT
+        if is_booking(segment) and order.name in READ_WEIGHT and not (segment is booking and has_limits(segment.value(1, 2))):
+            yield segment, BOOKING
+        is_port = segment.tag == 'LOC' and segment.value(1) == '11'
+        if is_port and order.name == 'ListLoad' and not (segment is port and has_limits(segment.value(2))):
+            yield segment, PORT
+
+
+def is_booking(segment):
+    """RFF+BN."""
+    return segment.tag == 'RFF' and segment.value(1) == 'BN'
+
+
+def heading_told(text, place, count, message, order):
+    """The bookings before the first EQD of a message whose lines read one: they are nobody's."""
+    return [Passed(count, *at(text, place, message, segment), BOOKING)
+            for segment in header_of(message) if is_booking(segment) and order in READ_WEIGHT]
+
+
 # ---- a file
+
+STRANGERS = [
+    ('\xef\xbb\xbf', 'a byte order mark stands here: save the file without it'),
+    ('\xff\xfe', 'this is UTF-16: save the file in ASCII or Latin 1'),
+    ('\xfe\xff', 'this is UTF-16: save the file in ASCII or Latin 1'),
+    ('U\0', 'this is UTF-16: save the file in ASCII or Latin 1'),
+    ('\0U', 'this is UTF-16: save the file in ASCII or Latin 1'),
+    ('\xe4\xd5', 'this is EBCDIC: send the file in ASCII'),
+]
+MAIL = "this is a mail's head: save the interchange that is attached"
+
+
+def stranger_in(text):
+    """What a text that can't be split begins with, if that is known: a mark or another code, or a field of a mail's head."""
+    for front, said in STRANGERS:
+        if text.startswith(front):
+            return said
+    return MAIL if not text.startswith('UN') and re.match('[A-Za-z0-9-]+: ', text) else None
+
 
 def explained(setup, file):
     """What is told of each interchange of a file."""
@@ -312,15 +416,18 @@ def explained(setup, file):
     for text in interchanges:
         refusal = refusal_of(setup, text)
         if refusal:
-            told.append(Explained(begin, text, 'refused, and nothing of it is kept', [refused_as(setup, text, refusal)]))
+            told.append(Explained(begin, text, 'refused, and nothing of it is kept', 'refused',
+                                  [refused_as(setup, text, refusal)], None))
         else:
             said = 'number %d of %s, of the kind %s, to %s' % (
                 number_of(text), shown_whole(sender_of(text)[:35]), kind_of(setup, text), shown_whole(recipient_of(text)[:35]))
-            told.append(Explained(begin, text, said, faults_of(setup, text)))
+            found = messages_told(setup, text)
+            fares = 'with faults' if any(isinstance(one, Found) for one in found) else 'without a fault'
+            told.append(Explained(begin, text, said, fares, found, None))
         begin = past_breaks(file, begin + len(text))
     if fault:
-        told.append(Explained(
-            place, file[place:], 'cut, and nothing after it is read', [Found('', fault, None, *CUTS[fault](file[place:]))]))
+        told.append(Explained(place, file[place:], 'cut, and nothing after it is read', 'cut',
+                              [Found('', fault, None, *CUTS[fault](file[place:]))], stranger_in(file[place:])))
     return told
 
 
@@ -334,20 +441,44 @@ def shown(text):
     return shown_whole(text[:60]) + ('..' if len(text) > 60 else '')
 
 
+def told_lines(told, one):
+    """What is printed of a fault, of a line that is read, or of a segment that is passed over."""
+    if isinstance(one, Read):
+        return ['  ' + one.said]
+    if isinstance(one, Passed):
+        return ['%s passed over: segment %d, byte %d, %s (%s)' % (
+            '  message %d' % one.message if one.message else '   ', one.segment, told.begin + one.begin + 1,
+            shown(told.text[one.begin:one.end]), one.why)]
+    code = ' (CONTRL 4, %s)' % one.code if one.code else ''
+    return ['  %s%s%s at segment %d, byte %d' % (one.subject, one.name, code, one.segment, told.begin + one.begin + 1),
+            '    found     ' + shown(told.text[one.begin:one.end]),
+            '    expected  ' + one.expected]
+
+
 def block(number, told):
     """What is printed of an interchange."""
     lines = ['interchange %d, from byte %d: %s' % (number, told.begin + 1, told.said)]
-    for fault in told.faults:
-        code = ' (CONTRL 4, %s)' % fault.code if fault.code else ''
-        lines.append('  %s%s%s at segment %d, byte %d' % (
-            fault.subject, fault.name, code, fault.segment, told.begin + fault.begin + 1))
-        lines.append('    found     ' + shown(told.text[fault.begin:fault.end]))
-        lines.append('    expected  ' + fault.expected)
-    return lines + ([] if told.faults else ['  no fault'])
+    lines += ['  no fault'] if told.fares == 'without a fault' else []
+    for one in told.found:
+        lines += told_lines(told, one)
+    return lines + (['    note      ' + told.stranger] if told.stranger else [])
+
+
+FARES = ['without a fault', 'with faults', 'refused', 'cut']
+
+
+def tally(file, told):
+    """How many interchanges a file has and how they fare; that it has none; that a request takes only one."""
+    if not told:
+        return ['no interchange: ' + ('only CR and LF stand in the file' if file else 'the file is empty')]
+    counted = Counter(one.fares for one in told)
+    lines = ['%d interchange%s: %s' % (
+        len(told), '' if len(told) == 1 else 's', ', '.join('%d %s' % (counted[fares], fares) for fares in FARES))]
+    return lines + (['a POST takes one interchange: send each by itself'] if len(told) > 1 else [])
 
 
 def printed(setup, file):
     """The lines that are printed of a file, and the status: 1 where there is any fault."""
     told = explained(setup, file)
-    lines = [line for number, one in enumerate(told, 1) for line in block(number, one)]
-    return lines, 1 if any(one.faults for one in told) else 0
+    lines = [line for number, one in enumerate(told, 1) for line in block(number, one)] + tally(file, told)
+    return lines, 1 if any(one.fares != 'without a fault' for one in told) else 0

@@ -1,4 +1,4 @@
-"""Keys of reports, as the command line and HTTP have them: crates/office_queries/README.md."""
+"""Keys of reports, as the command line and HTTP have them: crates/office_reports/README.md."""
 from .moments import DIGITS, are_digits
 from .names import number_fault
 

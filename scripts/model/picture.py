@@ -28,13 +28,15 @@ figure{margin:0;max-width:100%;overflow-x:auto}
 figcaption{position:sticky;left:0;font-size:.875rem;font-weight:600}
 svg{display:block;flex:none}
 svg.parts{position:absolute;width:0;height:0}
+svg.paper{display:none}
 text{text-anchor:middle;font:600 11px ui-monospace,'DejaVu Sans Mono',Menlo,Consolas,monospace;fill:#16263a}
-g[id] text{font-weight:400;fill:#526375}
+.parts text{font-weight:400;fill:#526375}
 use~text:last-child{font-weight:400}
 [href^='#full']~text{fill:#fff}
 [href^='#empty']~text{stroke:#fff;stroke-width:3.5px;paint-order:stroke}
 @media(max-width:40rem){main{padding:1rem .5rem 2rem}section{padding:.75rem .5rem}}
-@media print{body{background:none}main,section{padding:0}section{border:0}nav{display:none}figure{break-inside:avoid}figure svg{max-width:100%;height:auto}h2{break-after:avoid}}
+@page{size:landscape;margin:1cm}
+@media print{body{background:none}main,section{padding:0}section{border:0}nav{display:none}figure{break-inside:avoid}figure svg{max-width:100%;height:auto}h2{break-after:avoid}svg.row{position:absolute;width:0;height:0}svg.paper{display:block}}
 '''
 HEAD = '''\
 <!doctype html>
@@ -103,12 +105,17 @@ def grid(block):
 
 
 def row_view(block, row, standings):
-    """A side view: the grid, and the containers over it."""
+    """A side view: the grid, and the containers over it; for paper also in parts of 20 bays, which show it again."""
+    letter, up, high = escaped(block.letter), 40 * block.tiers, 40 * block.tiers + 20
     width = 64 * block.bays + 28
-    head = "<figure><figcaption>Row %d</figcaption><svg viewBox='-22 -%d %d %d' width='%d'><use href='#%s'/>\n" % (
-        row, 40 * block.tiers, width, 40 * block.tiers + 20, width, escaped(block.letter))
+    head = "<figure><figcaption>Row %d</figcaption><svg class='row' viewBox='-22 -%d %d %d' width='%d'>" % (
+        row, up, width, high, width)
+    group = "<g id='%s-%d'><use href='#%s'/>\n" % (letter, row, letter)
     containers = [container(slot, visit) for slot, visit in standings if slot.row == row]
-    return head + ''.join(containers) + '</svg></figure>\n'
+    wide = 64 * min(block.bays, 20) + 28
+    parts = ["<svg class='paper' viewBox='-22 -%d %d %d' width='%d'><use href='#%s-%d' x='-%d'/></svg>\n" % (
+        up, wide, high, wide, letter, row, start) for start in ([0] if block.bays <= 20 else [0, 1302])]
+    return head + group + ''.join(containers) + '</g></svg>\n' + ''.join(parts) + '</figure>\n'
 
 
 def block_view(block, every):

@@ -1,5 +1,5 @@
 """What the register beside a store says: which archives hold what was put away of its history, and up to which number of each
-account (crates/office_register/README.md). It is empty of a store that was never closed.
+account (crates/office_closing/README.md). It is empty of a store that was never closed.
 """
 from collections import namedtuple
 

@@ -2,7 +2,7 @@
 answers each as the model does, and leaves the same rows and the same list."""
 import tempfile
 
-from .names import check_digit
+from .asking import container
 from .office import Office
 from .setup import DEMO
 from .setups import files_of
@@ -13,15 +13,9 @@ LINES = 999                 # of the longest message
 CALL = '9123456', 'V12'
 
 
-def box(serial):
-    """A container's number, with its check digit."""
-    front = 'ABCU%06d' % serial
-    return front + str(check_digit(front))
-
-
 def full_list(number, first, function, is_bad=False):
     """A load list of 999 containers from that one on; if it is bad, none has the form of a number, so each line is refused."""
-    groups = ["EQD+CN+%s'" % ('bad' if is_bad else box(serial)) for serial in range(first, first + LINES)]
+    groups = ["EQD+CN+%s'" % ('bad' if is_bad else container(serial)) for serial in range(first, first + LINES)]
     segments = ["UNH+1+COPRAR:D:95B:UN'", "BGM+45+%d+%d'" % (number, function), "TDT+20+%s+1+++++%s'" % CALL[::-1], *groups]
     return ''.join([
         "UNB+UNOA:3+LINEA+TERM1+240305:0910+%d'" % number, *segments, "UNT+%d+1'UNZ+1+%d'" % (len(segments) + 1, number)])

@@ -1,4 +1,4 @@
-"""What can be asked of the office besides deliveries: crates/office_queries/README.md.
+"""What can be asked of the office besides deliveries: crates/office_reports/README.md.
 
 Each report is a text of whole lines, or None where there is nothing to tell. It is computed from all deliveries, as
 answers are.

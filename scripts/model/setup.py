@@ -1,6 +1,6 @@
 """Set-ups: the terminal's code, its partners, the codes of document names, the yard's blocks, the most visits.
 
-The two files that say one, and what is wrong with them: crates/office_setup_files/README.md. Each fault is a predicate of
+The two files that say one, and what is wrong with them: crates/office_explain/README.md. Each fault is a predicate of
 all records, which is asked only where none of those before it applies.
 """
 import csv

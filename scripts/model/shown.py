@@ -6,7 +6,8 @@ import re
 import tempfile
 from collections import namedtuple
 
-from .cases import asking, posting, read
+from .asking import get, post
+from .cases import read
 from .http import response
 from .office import Office, json_text
 from .reports import printed
@@ -76,9 +77,9 @@ def by_program(path, name, steps):
     office, requests, wrong = Office(DEMO), [], []
     for step in steps:
         if isinstance(step, Sent):
-            requests.append(posting(step.text))
+            requests.append(post(step.text))
         if isinstance(step, Told):
-            requests.append(asking('/%s/%s' % (ROUTES[step.kind], step.key)))
+            requests.append(get('/%s/%s' % (ROUTES[step.kind], step.key)))
     with tempfile.TemporaryDirectory(prefix='beside-') as folder:
         program = Program(path, folder)
         program.init(*files_of(DEMO))

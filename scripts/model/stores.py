@@ -2,12 +2,12 @@
 import json
 import os
 import random
-import socket
 import subprocess
 import tempfile
 from collections import Counter
 from functools import partial
 
+from .asking import SECONDS, exchanged, free_port
 from .closing import never_closed
 from .commands import outcome, texts_before_lost
 from .days import NEWCOMERS, Day, streamed
@@ -21,7 +21,6 @@ from .setup import DEMO, read_setup
 from .setups import Files, at_limits, files_of
 from .stream import answers, lines, status
 
-SECONDS = 60                # that an answer over a socket may take
 LONGEST = 600               # seconds that a command may take
 
 # how many set-ups are tried, lists of deliveries over a store, requests by HTTP, and what is asked after each list
@@ -91,9 +90,7 @@ class Program:
         """Sends each request on a connection of its own, and hands on the response that it should have beside the one
         that it has. By the path of a partner numbers may be above its next one by so many, or by any."""
         exchange = exchange or exchanged
-        with socket.socket() as free:
-            free.bind(('127.0.0.1', 0))
-            port = free.getsockname()[1]
+        port = free_port()
         words = [self.path, 'serve', self.store, str(port), str(len(requests))]
         words += [] if ahead is None else ['--ahead', str(ahead)]
         with subprocess.Popen(words, stdout=subprocess.PIPE, encoding='utf-8') as process:
@@ -106,30 +103,6 @@ class Program:
                 expect('a connection', 'an answer', repr(fault))
             finally:
                 process.kill()
-
-
-def in_two(request):
-    """Two pieces of a request."""
-    middle = len(request) % 61
-    return [request[:middle], request[middle:]]
-
-
-def in_bytes(request):
-    """The first 300 bytes of a request, each by itself, and the rest."""
-    return [*request[:300], request[300:]]
-
-
-def exchanged(port, request, pieces_of=in_two):
-    """The response to a request, which is sent in pieces, and then its end is told."""
-    with socket.create_connection(('127.0.0.1', port), SECONDS) as connection:
-        connection.setsockopt(socket.IPPROTO_TCP, socket.TCP_NODELAY, 1)
-        for piece in pieces_of(request):
-            connection.sendall(piece.encode('latin-1'))
-        connection.shutdown(socket.SHUT_WR)
-        parts = []
-        while not parts or parts[-1]:
-            parts.append(connection.recv(65536))
-        return b''.join(parts).decode('latin-1')
 
 
 class Beside:

@@ -5,8 +5,8 @@ listed, discharged or loaded, and finished. Numbers before each value in a table
 """
 from collections import namedtuple
 
+from .asking import container
 from .deliveries import run
-from .names import check_digit
 
 VESSEL, VOYAGES = '9123456', ['V12', 'V13', 'W1', 'W 2', 'X/3']
 LISTED = {'load': 'ListLoad', 'discharge': 'ListDischarge'}
@@ -25,8 +25,7 @@ NUMBERED = [(6, 'next'), (3, 'early'), (2, 'used'), (1, 'closed')]
 
 def another_container(chance):
     """The number of a container that seldom comes."""
-    first_ten = 'TEXU%06d' % chance.randrange(300)
-    return first_ten + str(check_digit(first_ten))
+    return container(chance.randrange(300), 'TEXU')
 
 
 class Vessels:

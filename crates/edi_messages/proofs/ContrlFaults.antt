@@ -6,20 +6,19 @@ use Rattle.std.specs.Option.{is_none}
 use Rattle.std.proofs.lemmas.Bool.{and_parts}
 use Rattle.std.proofs.lemmas.List.{length-append}
 use Rattle.std.proofs.lemmas.List.Folds.{list_any-append}
-use Rattle.edi_segments.specs.Text.{Content, has_tag}
-use Rattle.edi_segments.specs.Interchange.{most_bytes}
-use Rattle.edi_segments.specs.Spelling.{segments_text}
-use Rattle.edi_segments.specs.Written.{IsWritableSegment}
+use Rattle.edi_syntax.specs.Text.{Content, has_tag}
+use Rattle.edi_syntax.specs.Interchange.{most_bytes}
+use Rattle.edi_syntax.specs.Spelling.{segments_text}
+use Rattle.edi_syntax.specs.Written.{IsWritableSegment}
 use Rattle.edi_syntax.specs.Header.{sender, recipient, control_number, preparation, names_partners, is_printable_element}
 use Rattle.edi_syntax.specs.Messages.{Message}
 use Rattle.edi_syntax.specs.Envelope.{header_of, trailer_of, messages_of, has_envelope, is_of_functional_group}
 use Rattle.edi_syntax.specs.Faults.{header_fault_of}
-use Rattle.edi_syntax.proofs.FaultLemmas.{header_found, body_found}
+use Rattle.edi_syntax.proofs.BlockLemmas.{header_found, body_found}
 use Rattle.edi_messages.specs.Contrl.{unb, unh, uci, ucm, unt, unz, answer_segments, contrl_text, rejection_text, IsReadAs, ContrlsAreWithoutFault}
 use Rattle.edi_messages.specs.declared.message.Verdict.{Verdict}
 use Rattle.edi_messages.specs.declared.message.Verdict.TheVariants.{Accepted, Rejected}
-use Rattle.edi_messages.proofs.ContrlCounts.{AreInner, ucms_inner, last, faultless}
-use Rattle.edi_messages.proofs.WrittenText.{four_bytes_each, read_without_fault}
+use Rattle.edi_messages.proofs.SameSegments.{AreInner, ucms_inner, last, faultless, four_bytes_each, read_without_fault}
 use Rattle.edi_messages.proofs.WritableContrl.{printable_component, writable_header, uci_written, ucms_written, answer_writable}
 
 -- ---- its header

@@ -1,16 +1,111 @@
 -- Segments that are the same have the same faults.
-use Rattle.std.proofs.Common.{◌≡◌, ℕ, zero, suc, ◌+◌, ◌-◌, Bool, true, false, cond, not, List, [], ◌∷◌, length, get_or, refl, sym, ap, ◌∙◌, arith}
-use Rattle.std.specs.List.{list_all, list_any, find}
-use Rattle.std.specs.Option.{is_none}
-use Rattle.edi_segments.specs.Characters.{is_printable}
-use Rattle.edi_segments.specs.Text.{Content, no_segment, IsSameSegment}
-use Rattle.edi_segments.specs.Written.{AreSameSegments}
-use Rattle.edi_segments.specs.declared.interchange.SyntaxFault.{SyntaxFault}
-use Rattle.edi_segments.specs.declared.interchange.SyntaxFault.TheVariants.{TooLong, Service, Segment, NoEnvelope, Group, Version, Number, Moment, Test, MessageFrame, SegmentCount, MessageReference, Empty, ControlCount, ControlReference}
-use Rattle.edi_syntax.specs.Header.{preparation, is_printable_element, is_known_syntax}
-use Rattle.edi_syntax.specs.Messages.{Message, begins_message, ends_message, message_from, messages_in, before_trailer, trailer_in, are_messages, is_counted, is_referenced}
-use Rattle.edi_syntax.specs.Envelope.{header_of, behind_header, last_of, is_of_functional_group}
-use Rattle.edi_syntax.specs.Faults.{applies_to}
+use Rattle.std.proofs.Common.{◌≡◌, ℕ, ◌+◌, ◌<◌, ◌%◌, ◌^◌, true, false, List, [], ◌∷◌, ◌++◌, length, map, None, refl, ap, eq-eqb, arith, zero, suc, ◌-◌, Bool, cond, not, get_or, sym, ◌∙◌, ◌*◌, ◌≤◌, Option, ◌&&◌, nat_le, Some}
+use Rattle.std.specs.Prelude.{zip, decimal, unwrap_or}
+use Rattle.std.specs.List.{list_all, list_any, find, AllByRecursion}
+use Rattle.std.specs.Str.{bytes_eq}
+use Rattle.std.proofs.lemmas.Bool.{le-leb, and_parts, leb-true}
+use Rattle.std.proofs.lemmas.Fmt.{decimal_by_steps, decimal_nonempty, decimal_is_IsNumeral, length-decimal-le}
+use Rattle.edi_syntax.specs.Characters.{is_digit, is_printable}
+use Rattle.edi_syntax.specs.Text.{Content, no_segment, IsSameSegment, component_of}
+use Rattle.edi_syntax.specs.Header.{control_reference, preparation, is_printable_element, is_known_syntax}
+use Rattle.edi_syntax.specs.Numbers.{is_count, number_of}
+use Rattle.edi_syntax.specs.Messages.{Message, begins_message, ends_message, is_inner, before_trailer, trailer_in, messages_in, are_messages, message_from, is_counted, is_referenced}
+use Rattle.edi_syntax.specs.Envelope.{last_of, header_of, behind_header, is_of_functional_group}
+use Rattle.edi_syntax.specs.Faults.{body_fault_of, applies_to, applies, header_faults, body_faults, fault_of, header_fault_of}
+use Rattle.edi_syntax.proofs.BlockLemmas.{digits_one, past_bytes}
+use Rattle.edi_messages.specs.Contrl.{unh, uci, ucm, unt, unz, answer_segments, ContrlsAreCounted, IsReadAs}
+use Rattle.edi_messages.proofs.SurveyLemmas.{length_ucms}
+use Rattle.edi_messages.specs.declared.message.Verdict.{Verdict}
+use Rattle.edi_messages.specs.declared.message.Verdict.TheVariants.{Accepted, Rejected}
+use Rattle.std.specs.Option.{is_none, option_or, option_map_or}
+use Rattle.edi_syntax.specs.Written.{AreSameSegments, IsWritableSegment}
+use Rattle.edi_syntax.specs.declared.interchange.SyntaxFault.{SyntaxFault}
+use Rattle.edi_syntax.specs.declared.interchange.SyntaxFault.TheVariants.{TooLong, Service, Segment, NoEnvelope, Group, Version, Number, Moment, Test, MessageFrame, SegmentCount, MessageReference, Empty, ControlCount, ControlReference}
+use Rattle.std.proofs.lemmas.List.{length-append}
+use Rattle.std.proofs.lemmas.List.Folds.{find-append}
+use Rattle.edi_syntax.specs.Interchange.{most_bytes, segments_in, read_fault}
+use Rattle.edi_syntax.specs.Spelling.{elements_text, segment_text, segments_text}
+use Rattle.edi_syntax.proofs.AdviceLemmas.{interchange_complete, reads_back}
+use Rattle.std.specs.Str.Parse.{AllDigits, digits_value}
+use Rattle.std.proofs.lemmas.Option.{cond_some}
+use Rattle.std.proofs.lemmas.Str.{digit_value_digit}
+use Rattle.std.proofs.lemmas.Int.Digits.{digits_value-lt}
+use Rattle.std.proofs.Math.Nat.{pow-le-pow_right}
+use Rattle.edi_messages.specs.Orders.{weight}
+use Rattle.edi_messages.specs.Parts.{EquipmentGroup, states_weight}
+
+-- ==== ContrlCounts: The segments of a CONTRL are one message that is counted and referenced.
+
+-- segments that neither begin nor end anything
+abbrev pub AreInner : List Content → Type 0
+AreInner [] = Unit {0}
+AreInner (segment ∷ segments) = (begins_message segment ≡ false) × (ends_message segment ≡ false) × (is_inner segment ≡ true) × AreInner segments
+
+pub ucms_inner : (verdicts : List Verdict) (messages : List Message) → AreInner (map ucm (zip verdicts messages))
+ucms_inner [] messages = tt
+ucms_inner (verdict ∷ verdicts) [] = tt
+ucms_inner (verdict ∷ verdicts) (message ∷ messages) = (refl, refl, refl, ucms_inner verdicts messages)
+
+framed : (between : List Content) (header : Content) (n : ℕ) → AreInner between → are_messages true (between ++ unt n ∷ unz header ∷ []) ≡ true
+framed [] header n inner = refl
+framed (segment ∷ between) header n (begins, ends, is, others) = rw (is, ends) (framed between header n others)
+
+before : (between : List Content) (header : Content) (n : ℕ) → AreInner between → before_trailer (between ++ unt n ∷ unz header ∷ []) ≡ between
+before [] header n inner = refl
+before (segment ∷ between) header n (begins, ends, is, others) = rw ends (ap (λ (t : List Content). segment ∷ t) (before between header n others))
+
+trailer : (between : List Content) (header : Content) (n : ℕ) → AreInner between → trailer_in (between ++ unt n ∷ unz header ∷ []) ≡ unt n
+trailer [] header n inner = refl
+trailer (segment ∷ between) header n (begins, ends, is, others) = rw ends (trailer between header n others)
+
+none_begins : (between : List Content) (header : Content) (n : ℕ) → AreInner between → messages_in (between ++ unt n ∷ unz header ∷ []) ≡ []
+none_begins [] header n inner = refl
+none_begins (segment ∷ between) header n (begins, ends, is, others) = rw begins (none_begins between header n others)
+
+pub last : (between : List Content) (first header : Content) (n : ℕ) → last_of first (between ++ unt n ∷ unz header ∷ []) ≡ unz header
+last [] first header n = refl
+last (segment ∷ between) first header n = last between segment header n
+
+-- ---- the count
+
+digits_all : (n : ℕ) → n < 2 ^ 64 → list_all is_digit (decimal n) ≡ true
+digits_all n fits =
+    decimal_by_steps (λ m ds. list_all is_digit ds ≡ true)
+    (λ m small. digits_one [] (48 + m) refl (omega arith) (omega arith))
+    (λ m ds big before. digits_one ds (48 + m % 10) before (omega arith) (omega arith))
+    n fits
+
+counted : (n : ℕ) → n < 10 ^ 6 → is_count (decimal n) n ≡ true
+counted n fits =
+    let some = decimal_nonempty n (omega (arith, fits)) in
+    let short = length-decimal-le 6 n (omega arith) fits (omega (arith, fits)) in
+    let value = (decimal_is_IsNumeral n (omega (arith, fits))).1 in
+    rw (le-leb 1 (length (decimal n)) (omega (arith, some)), le-leb (length (decimal n)) 6 short, digits_all n (omega (arith, fits)), value) (eq-eqb n n refl)
+
+same_bytes : (value : List ℕ) → bytes_eq value value ≡ true
+same_bytes [] = refl
+same_bytes (b ∷ value) = rw (eq-eqb b b refl) (same_bytes value)
+
+pub faultless : (header : Content) (between : List Content) → AreInner between → length between + 2 < 10 ^ 6 → body_fault_of (answer_segments header between) ≡ None
+faultless header between inner few =
+    let n = length between + 2 in
+    rw (
+      framed between header n inner,
+      before between header n inner,
+      trailer between header n inner,
+      none_begins between header n inner,
+      last between unh header n,
+      counted n few,
+      same_bytes (control_reference header),
+    ) refl
+
+pub contrls_are_counted : ContrlsAreCounted
+contrls_are_counted header = (
+  λ messages verdicts same few. faultless header (uci header Accepted ∷ map ucm (zip verdicts messages)) (refl, refl, refl, ucms_inner verdicts messages) (omega (arith, few, length_ucms messages verdicts same)),
+  λ code. faultless header (uci header (Rejected code) ∷ []) (refl, refl, refl, tt) (omega arith),
+)
+
+-- ==== SameSegments: Segments that are the same have the same faults.
 
 -- ---- values
 
@@ -197,3 +292,71 @@ same_faults read written same ControlReference =
 pub first_fault : (p q : SyntaxFault → Bool) → ((fault : SyntaxFault) → p fault ≡ q fault) → (faults : List SyntaxFault) → find p faults ≡ find q faults
 first_fault p q same [] = refl
 first_fault p q same (fault ∷ faults) = rw (same fault, first_fault p q same faults) refl
+
+-- ==== WrittenText: The text of segments that may be written is read as these, with their faults.
+
+-- a segment takes four bytes at least: its tag and the terminator
+segment_bytes : (segment : Content) → IsWritableSegment segment → 4 ≤ length (segment_text segment)
+segment_bytes segment ((tag, other), writable) =
+    let body : List ℕ = segment.tag ++ elements_text segment.elements in
+    let front : length body ≡ length segment.tag + length (elements_text segment.elements) = length-append segment.tag (elements_text segment.elements) in
+    let whole : length (segment_text segment) ≡ length body + 1 = length-append body (39 ∷ []) in
+    omega (arith, front, whole, tag.0)
+
+pub four_bytes_each : (segments : List Content) → AllByRecursion IsWritableSegment segments → 4 * length segments ≤ length (segments_text segments)
+four_bytes_each [] writable = omega arith
+four_bytes_each (segment ∷ segments) (first, others) =
+    let whole : length (segments_text (segment ∷ segments)) ≡ length (segment_text segment) + length (segments_text segments) = length-append (segment_text segment) (segments_text segments) in
+    omega (arith, whole, segment_bytes segment first, four_bytes_each segments others)
+
+no_first : (first second : Option SyntaxFault) → first ≡ None → second ≡ None → option_or first second ≡ None
+no_first first second none also = rw none also
+
+pub read_without_fault : (segments : List Content) → AllByRecursion IsWritableSegment segments → length (segments_text segments) ≤ most_bytes
+    → header_fault_of segments ≡ None → body_fault_of segments ≡ None → IsReadAs segments (segments_text segments)
+read_without_fault segments writable short header body =
+    let text = segments_text segments in
+    let back = reads_back segments writable in
+    let complete = interchange_complete back.0 text back.2 in
+    let readable : read_fault text ≡ None = rw (complete.0, complete.1) refl in
+    let same : AreSameSegments (segments_in text) segments = rw back.3 back.1 in
+    let as_written : (faults : List SyntaxFault) → find (applies_to (segments_in text)) faults ≡ find (applies_to segments) faults =
+    first_fault (applies_to (segments_in text)) (applies_to segments) (same_faults (segments_in text) segments same) in
+    let none : fault_of text ≡ None =
+    past_bytes text (header_faults ++ body_faults) short readable ∙ find-append (applies text) header_faults body_faults
+    ∙ no_first (find (applies text) header_faults) (find (applies text) body_faults) (as_written header_faults ∙ header) (as_written body_faults ∙ body) in (none, same)
+
+-- ==== Weights: A gross weight has at most six digits.
+
+digits : (text : List ℕ) → list_all is_digit text ≡ true → AllDigits 10 text
+digits [] all = tt
+digits (c ∷ text) all =
+    let both = and_parts (is_digit c) (list_all is_digit text) all in
+    let range = and_parts (nat_le 48 c) (nat_le c 57) both.0 in
+    let high = leb-true c 57 range.1 in
+    let value = digit_value_digit c (leb-true 48 c range.0, high) in
+    (omega (arith, high), digits text both.1)
+
+power : (n : ℕ) → n ≤ 6 → 10 ^ n ≤ 1000000
+power n low = let one : zero < 10 = omega arith in pow-le-pow_right one low
+
+-- six digits write a number up to 999,999
+pub number_short : (text : List ℕ) (number : ℕ) → number_of 6 text ≡ Some number → number ≤ 999999
+number_short text number is =
+    let found = cond_some (nat_le 1 (length text) && nat_le (length text) 6 && list_all is_digit text) (digits_value 10 text) number is in
+    let both = and_parts (nat_le 1 (length text) && nat_le (length text) 6) (list_all is_digit text) found.0 in
+    let long = and_parts (nat_le 1 (length text)) (nat_le (length text) 6) both.0 in
+    let below = digits_value-lt 10 text (digits text both.1) in
+    let most = power (length text) (leb-true (length text) 6 long.1) in
+    omega (arith, below, most, found.1)
+
+or_none : (o : Option ℕ) → ((number : ℕ) → o ≡ Some number → number ≤ 999999) → unwrap_or o 0 ≤ 999999
+or_none None small = omega arith
+or_none (Some number) small = small number refl
+
+found_short : (found : Option Content) → option_map_or (λ segment. unwrap_or (number_of 6 (component_of segment 3 2)) 0) found 0 ≤ 999999
+found_short None = omega arith
+found_short (Some segment) = or_none (number_of 6 (component_of segment 3 2)) (number_short (component_of segment 3 2))
+
+pub weight_short : (group : EquipmentGroup) → weight group ≤ 999999
+weight_short group = found_short (find states_weight group.details)

@@ -9,10 +9,10 @@ use Rattle.std.specs.Fmt.{digit_glyph, digits_onto, digits}
 use Rattle.std.proofs.lemmas.Bool.{and_parts, and_from, cases_Bool, eqb-true, leb-true, le-leb, lt-ltb, true≢false, false≢true}
 use Rattle.std.proofs.lemmas.Slice.Eq.{bytes_eq-Decides}
 use Rattle.std.proofs.lemmas.List.Folds.{list_all-append}
-use Rattle.edi_moments.specs.Moments.{CivilMoment, is_moment, moment_written, are_moment_digits}
-use Rattle.edi_segments.specs.Characters.{is_tag_byte, is_data_byte, is_digit, is_printable}
-use Rattle.edi_segments.specs.Text.{Content, component_of}
-use Rattle.edi_segments.specs.Written.{IsWritableSegment}
+use Rattle.edi_syntax.specs.Moments.{CivilMoment, is_moment, moment_written, are_moment_digits}
+use Rattle.edi_syntax.specs.Characters.{is_tag_byte, is_data_byte, is_digit, is_printable}
+use Rattle.edi_syntax.specs.Text.{Content, component_of}
+use Rattle.edi_syntax.specs.Written.{IsWritableSegment}
 use Rattle.edi_syntax.specs.Header.{control_reference, control_number, preparation, preparation_date, preparation_time, is_printable_element}
 use Rattle.edi_syntax.specs.Numbers.{as_control_number}
 use Rattle.edi_syntax.specs.Messages.{Message, is_referenced, is_reference, message_reference, message_identity, is_printable_identity, is_printable_component}

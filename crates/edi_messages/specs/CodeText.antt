@@ -3,7 +3,7 @@ use Rattle.std.specs.Prelude.{ℕ, Bool, false, ◌&&◌, ◌||◌, List, [], �
 use Rattle.std.specs.Borrow.{Bor}
 use Rattle.std.specs.List.{list_all}
 use Rattle.std.specs.Str.{bytes_eq}
-use Rattle.edi_segments.specs.Characters.{is_tag_byte}
+use Rattle.edi_syntax.specs.Characters.{is_tag_byte}
 use Rattle.edi_messages.specs.declared.code.CodeFault.{CodeFault}
 use Rattle.edi_messages.specs.declared.code.CodeFault.TheVariants.{Form, Twice}
 

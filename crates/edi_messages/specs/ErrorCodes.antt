@@ -1,8 +1,8 @@
 -- Error codes (0085) of a CONTRL: 12 invalid value, 13 missing, 18 unspecified error, 25 test indicator not supported,
 -- 28 references do not match, 29 control count does not match number of instances received.
 use Rattle.std.specs.Prelude.{ℕ, Option, None, Some}
-use Rattle.edi_segments.specs.declared.interchange.SyntaxFault.{SyntaxFault}
-use Rattle.edi_segments.specs.declared.interchange.SyntaxFault.TheVariants.{TooLong, Service, Segment, NoEnvelope, Group, Version, Number, Moment, Test, MessageFrame, SegmentCount, MessageReference, Empty, ControlCount, ControlReference}
+use Rattle.edi_syntax.specs.declared.interchange.SyntaxFault.{SyntaxFault}
+use Rattle.edi_syntax.specs.declared.interchange.SyntaxFault.TheVariants.{TooLong, Service, Segment, NoEnvelope, Group, Version, Number, Moment, Test, MessageFrame, SegmentCount, MessageReference, Empty, ControlCount, ControlReference}
 use Rattle.edi_messages.specs.declared.message.MessageFault.{MessageFault}
 use Rattle.edi_messages.specs.declared.message.MessageFault.TheVariants.{OtherType, NoBgm, Code, Function, NoTransport, NoEquipment, EquipmentCount, TooMany, Memory}
 

@@ -3,7 +3,7 @@ use Rattle.std.specs.Prelude.{ℕ, Bool, true, false, not, ◌&&◌, ◌||◌, n
 use Rattle.std.specs.Option.{option_map_or, option_and_then}
 use Rattle.std.specs.List.{list_any, find}
 use Rattle.std.specs.Str.{bytes_eq}
-use Rattle.edi_segments.specs.Text.{Content, component_of, has_tag}
+use Rattle.edi_syntax.specs.Text.{Content, component_of, has_tag}
 use Rattle.edi_syntax.specs.Numbers.{is_count}
 use Rattle.edi_syntax.specs.Messages.{Message}
 use Rattle.edi_messages.specs.Texts.{is_name}

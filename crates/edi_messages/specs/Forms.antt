@@ -3,7 +3,7 @@ use Rattle.std.specs.Prelude.{◌≡◌, ℕ, ◌≤◌, Bool, ◌||◌, ◌==�
 use Rattle.box6346.specs.NumberText.{is_number}
 use Rattle.box6346.specs.SizeText.{is_size}
 use Rattle.box6346.specs.declared.box_number.BoxNumber.{BoxNumber}
-use Rattle.edi_moments.specs.Moments.{CivilMoment, is_moment}
+use Rattle.edi_syntax.specs.Moments.{CivilMoment, is_moment}
 use Rattle.edi_syntax.specs.Messages.{Message}
 use Rattle.edi_messages.specs.Message.{LineContent, ordered, refused, MessageContent, reading}
 use Rattle.edi_messages.specs.Orders.{EntryContent, OrderContent, gate_in, gate_out, move, list_discharge, list_load, discharge, load}

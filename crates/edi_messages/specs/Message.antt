@@ -4,7 +4,7 @@ use Rattle.std.specs.Option.{option_map_or}
 use Rattle.std.specs.Result.{result_ok}
 use Rattle.box6346.specs.declared.box_number.BoxNumber.{BoxNumber}
 use Rattle.edi_syntax.specs.Moments.{CivilMoment}
-use Rattle.edi_segments.specs.Text.{Content}
+use Rattle.edi_syntax.specs.Text.{Content}
 use Rattle.edi_syntax.specs.Messages.{Message}
 use Rattle.edi_messages.specs.Parts.{EquipmentGroup, groups_of}
 use Rattle.edi_messages.specs.Faults.{is_container, purpose_of, fault_of, replaces_list}

@@ -14,7 +14,7 @@ use Rattle.box6346.specs.declared.box_number.NumberFault.{NumberFault}
 use Rattle.box6346.specs.declared.box_number.NumberFault as number_fault
 use Rattle.edi_syntax.specs.Moments.{CivilMoment, moment_of}
 use Rattle.edi_syntax.specs.Numbers as numbers
-use Rattle.edi_segments.specs.Text.{Content, component_of}
+use Rattle.edi_syntax.specs.Text.{Content, component_of}
 use Rattle.edi_messages.specs.Parts.{EquipmentGroup, is_qualified, states_moment, states_weight}
 use Rattle.edi_messages.specs.Texts.{is_name}
 use Rattle.edi_messages.specs.Purposes.{CallContent, Purpose}

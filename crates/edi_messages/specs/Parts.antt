@@ -1,9 +1,7 @@
 -- The parts of a message: what stands before the equipment, and the group of each equipment.
 use Rattle.std.specs.Prelude.{ℕ, Bool, ◌&&◌, ◌||◌, List, [], ◌∷◌, codes, if◌then◌else◌}
 use Rattle.std.specs.Str.{bytes_eq}
-use Rattle.edi_segments.specs.Text.{Content}
-use Rattle.edi_segments.specs.Text.{has_tag}
-use Rattle.edi_segments.specs.Text.{component_of}
+use Rattle.edi_syntax.specs.Text.{Content, has_tag, component_of}
 use Rattle.edi_syntax.specs.Frames.{message_segments_left}
 use Rattle.edi_messages.specs.declared.part.Part.{Part}
 

@@ -1,6 +1,6 @@
 -- What the spans of the code stand for: what the code relies on, and no caller has to read.
 use Rattle.std.specs.Prelude.{ℕ, List}
-use Rattle.edi_segments.specs.Segment.{content}
+use Rattle.edi_syntax.specs.Segment.{content}
 use Rattle.edi_messages.specs.Parts.{EquipmentGroup, part_left}
 use Rattle.edi_messages.specs.Faults.{call_named}
 use Rattle.edi_messages.specs.Purposes.{CallContent, Purpose}

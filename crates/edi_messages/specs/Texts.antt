@@ -1,7 +1,7 @@
 -- Names: of vessels, voyages, bookings and ports.
 use Rattle.std.specs.Prelude.{ℕ, Bool, ◌&&◌, nat_le, List, length}
 use Rattle.std.specs.List.{list_all}
-use Rattle.edi_segments.specs.Characters.{is_printable}
+use Rattle.edi_syntax.specs.Characters.{is_printable}
 
 -- 1 to 35 bytes from space to tilde
 abbrev pub is_name : List ℕ → Bool

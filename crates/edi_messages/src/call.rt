@@ -1,8 +1,8 @@
 ghost use Rattle.std.specs.Prelude.{IsTrue};
 ghost use Rattle.edi_messages.specs.Faults.{names_call};
-ghost use Rattle.edi_segments.specs.Segment.{content};
+ghost use Rattle.edi_syntax.specs.Segment.{content};
 
-use edi_segments::Segment;
+use edi_syntax::Segment;
 
 /// A vessel's call at the terminal.
 #[derive(PartialEq, Eq, Hash, Debug, Drop)]

@@ -2,11 +2,11 @@ ghost use Rattle.std.specs.List.{list_all};
 ghost use Rattle.std.specs.Prelude.{◌≡◌, ◌≤◌, IsTrue, ◌<◌, ◌||◌, List, Bool, ℕ, map, IfOk, IfErr, Some, None, slice_get};
 ghost use Rattle.std.specs.Str.{bytes_eq};
 ghost use Rattle.edi_messages.specs.CodeText.{is_code, texts_of, is_twice, are_two_same, table_fault};
-ghost use Rattle.edi_segments.specs.Characters.{is_tag_byte};
+ghost use Rattle.edi_syntax.specs.Characters.{is_tag_byte};
 
 use crate::part::is_value;
-use edi_segments::Component;
-use edi_segments::characters::is_tag_byte;
+use edi_syntax::Component;
+use edi_syntax::characters::is_tag_byte;
 use thiserror::Error;
 
 /// A code that a message begins with (1001): one to three capitals or digits.
@@ -19,7 +19,7 @@ pub struct Code {
 
 impl Code {
     ghost use Rattle.std.specs.Str.{bytes_eq};
-    ghost use Rattle.edi_segments.specs.Segment.{value};
+    ghost use Rattle.edi_syntax.specs.Segment.{value};
     ghost use Rattle.edi_messages.specs.Codes.{code_text};
 
     /// The code of such a text.
@@ -90,7 +90,7 @@ impl CodeTable {
 
     /// The table of seven codes, in the order above. Answers Form if one of them isn't 1 to 3 capitals or digits,
     /// else Twice if two of one message type are the same: of the first three, of the next two or of the last two.
-    #[tactic(auto, using(crate::proofs::CodeTexts::code_at))]
+    #[tactic(auto, using(crate::proofs::SurveyLemmas::code_at))]
     pub fn new(codes: [&[u8]; 7]) -> Result<CodeTable, CodeFault>
         ensures ok { IfOk result
             (λ table. (table_fault (texts_of codes.entry) ≡ None) ×
@@ -152,7 +152,7 @@ fn are_codes(codes: [&[u8]; 7]) -> bool
     true
 }
 
-/// Whether a code stands twice within one message type.
+/// Whether a code is there twice within one message type.
 fn is_twice(codes: [&[u8]; 7]) -> bool
     ensures { result ≡ is_twice (texts_of codes.entry) }
 {

@@ -1,12 +1,12 @@
 ghost use Rattle.std.specs.Prelude.{◌≡◌, Some, None, if◌then◌else◌};
 ghost use Rattle.std.specs.Str.{bytes_eq};
 ghost use Rattle.edi_messages.specs.Codes.{code_text, order_meant};
-ghost use Rattle.edi_segments.specs.Segment.{value};
+ghost use Rattle.edi_syntax.specs.Segment.{value};
 
 use crate::code::{Code, CodeTable};
 use crate::message::MessageType;
 use crate::order::OrderKind;
-use edi_segments::Component;
+use edi_syntax::Component;
 
 /// What a partner of the terminal is, which decides the codes that it may send.
 #[derive(Clone, Copy, PartialEq, Eq, Debug)]

@@ -1,9 +1,9 @@
 ghost use Rattle.std.specs.Prelude.{◌≡◌, ◌∷◌, [], length, map, zip, decimal, false, true, OnOk, IfOk};
 ghost use Rattle.edi_messages.specs.Contrl.{sender_of, recipient_of, identity_of, unb, unh, verdict_elements, uci, ucm, unt, unz, contrl_text, rejection_text};
 ghost use Rattle.edi_messages.specs.ErrorCodes.{message_error, interchange_error};
-ghost use Rattle.edi_segments.specs.Segment.{value};
-ghost use Rattle.edi_segments.specs.Spelling.{with_element, with_elements, with_segment};
-ghost use Rattle.edi_segments.specs.Written.{with_segments};
+ghost use Rattle.edi_syntax.specs.Segment.{value};
+ghost use Rattle.edi_syntax.specs.Spelling.{with_element, with_elements, with_segment};
+ghost use Rattle.edi_syntax.specs.Written.{with_segments};
 ghost use Rattle.edi_syntax.specs.Envelope.{header_of, messages_of};
 ghost use Rattle.edi_syntax.specs.Envelopes.{envelope_segments};
 ghost use Rattle.edi_syntax.specs.Frames.{message, messages_left};
@@ -11,15 +11,14 @@ ghost use Rattle.edi_syntax.specs.Header.{control_reference};
 ghost use Rattle.edi_syntax.specs.Heads.{head_segments};
 
 use crate::message::{MessageFault, Verdict};
-use edi_segments::{Component, SegmentWriter};
-use edi_syntax::{Envelope, Frame, Frames, Head, SyntaxFault};
+use edi_syntax::{Component, Envelope, Frame, Frames, Head, SegmentWriter, SyntaxFault};
 use itoa::Buffer;
 use std::alloc::{AllocError, Global};
 
 /// The error code (0085) for an interchange whose recipient is another than who got it.
 pub const WRONG_RECIPIENT: u8 = 7;
 
-/// The error code (0085) for a message that is rejected. `None` for lack of memory, which no CONTRL tells.
+/// The error code (0085) for a message that is rejected. `None` for lack of memory, which no CONTRL reports.
 pub fn message_error(fault: MessageFault) -> Option<u8>
     ensures { result ≡ message_error fault }
 {

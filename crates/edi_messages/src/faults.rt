@@ -1,5 +1,5 @@
 ghost use Rattle.std.specs.Prelude.{◌≡◌, is_none};
-ghost use Rattle.edi_segments.specs.Segment.{content, value};
+ghost use Rattle.edi_syntax.specs.Segment.{content, value};
 ghost use Rattle.edi_syntax.specs.Frames.{message};
 ghost use Rattle.edi_messages.specs.Texts.{is_name};
 ghost use Rattle.edi_messages.specs.Faults.{beginning, is_original, is_replacement, is_list, names_list, has_function, replaces_list, names_call, is_container, order_kind_of, fault_of, is_of_other_type, has_other_function, lacks_transport, lacks_equipment, miscounts_equipment, has_too_many};
@@ -8,8 +8,8 @@ use crate::codes::Codes;
 use crate::message::{MessageFault, MessageType, Survey};
 use crate::order::OrderKind;
 use crate::part::{is_qualified, is_value};
-use edi_segments::{Component, Segment};
 use edi_syntax::head::is_count;
+use edi_syntax::{Component, Segment};
 
 /// The most containers that a message may have.
 const MOST_CONTAINERS: u64 = 999;

@@ -4,7 +4,7 @@ ghost use Rattle.std.specs.Result.{result_map_both};
 ghost use Rattle.box6346.specs.ContainerNumber.{number_of};
 ghost use Rattle.box6346.specs.SizeCode.{size_of};
 ghost use Rattle.box6346.specs.SlotName.{slot_of};
-ghost use Rattle.edi_segments.specs.Segment.{content, value};
+ghost use Rattle.edi_syntax.specs.Segment.{content, value};
 ghost use Rattle.edi_messages.specs.Orders.{is_laden, booking, weight, moment_stated, moment_of_length, read_number, read_size, read_moment, read_slot, read_slot_if_named, read_entry};
 ghost use Rattle.edi_messages.specs.Spans.{group_content, entry_with};
 
@@ -12,9 +12,7 @@ use crate::line::{Group, LineFault};
 use crate::order::EntryFacts;
 use crate::part::is_value;
 use box6346::{BoxNumber, NumberFault, SizeFault, SizeType, Slot};
-use edi_moments::Moment;
-use edi_segments::{Component, Segment};
-use edi_syntax::head;
+use edi_syntax::{Component, Moment, Segment, head};
 
 /// What a group says of a container that comes into the yard, or the first fault of its line.
 pub(crate) fn read_entry_facts(opened: Moment, group: &Group<'_>) -> Result<EntryFacts, LineFault>
@@ -75,7 +73,7 @@ fn size_of(component: Component<'_>) -> Result<SizeType, SizeFault>
     }
 }
 
-#[tactic(auto, using(crate::proofs::SlotTexts::slot_of_unfixed))]
+#[tactic(auto, using(crate::proofs::SurveyLemmas::slot_of_unfixed))]
 fn slot_of(component: Component<'_>) -> Option<Slot>
     ensures { result ≡ slot_of (value component.entry) }
 {

@@ -3,15 +3,14 @@ ghost use Rattle.std.specs.List.{find};
 ghost use Rattle.std.specs.Option.{option_map};
 ghost use Rattle.std.specs.Prelude.{◌≡◌, codes};
 ghost use Rattle.edi_messages.specs.Parts.{part_left, is_qualified, states_moment, states_weight};
-ghost use Rattle.edi_segments.specs.Segment.{content};
+ghost use Rattle.edi_syntax.specs.Segment.{content};
 
 use crate::order::Order;
 use crate::part::{
     Part, is_qualified, keep_first, keep_first_places, next_of_group, states_moment, states_weight,
 };
 use box6346::BoxNumber;
-use edi_segments::Segment;
-use edi_syntax::MessageSegments;
+use edi_syntax::{MessageSegments, Segment};
 use thiserror::Error;
 
 /// What a message says of one container.
@@ -69,7 +68,7 @@ pub(crate) struct Group<'a> {
     pub booking: Option<Segment<'a>>,
     /// The first that states a gross weight in kilograms.
     pub weight: Option<Segment<'a>>,
-    /// What stands after them.
+    /// What follows them.
     pub behind: MessageSegments<'a>,
     ghost timed: { option_map content moment
         ≡ find states_moment (part_left details) } by { Prim.hlevel props },

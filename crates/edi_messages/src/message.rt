@@ -8,7 +8,7 @@ ghost use Rattle.edi_messages.specs.Owned.{call_content, line_content, message_c
 ghost use Rattle.edi_messages.specs.Parts.{is_equipment};
 ghost use Rattle.edi_messages.specs.Spans.{group_content, call_spanned, purpose_spanned};
 ghost use Rattle.edi_messages.specs.Types.{type_named, message_type_of};
-ghost use Rattle.edi_segments.specs.Segment.{content, value};
+ghost use Rattle.edi_syntax.specs.Segment.{content, value};
 ghost use Rattle.edi_syntax.specs.Frames.{message, message_segments_left};
 ghost use Rattle.edi_messages.specs.Faults as faults;
 
@@ -22,9 +22,7 @@ use crate::order::{OrderKind, read_order};
 use crate::part::{
     call_of, is_equipment, is_qualified, is_value, keep_first, kind_of, own_call, purpose,
 };
-use edi_moments::Moment;
-use edi_segments::{Component, Segment};
-use edi_syntax::{Frame, MessageSegments};
+use edi_syntax::{Component, Frame, MessageSegments, Moment, Segment};
 use std::alloc::{AllocError, Global};
 use thiserror::Error;
 
@@ -113,7 +111,7 @@ pub enum MessageFault {
     Memory,
 }
 
-/// A message that is rejected, by a fault that a CONTRL tells: any but lack of memory.
+/// A message that is rejected, by a fault that a CONTRL reports: any but lack of memory.
 #[derive(Clone, Copy, Debug)]
 pub struct Rejection {
     /// Why.

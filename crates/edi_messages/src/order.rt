@@ -9,7 +9,7 @@ use crate::group_reading::{read_entry_facts, read_moment, read_number, read_slot
 use crate::line::{Group, LineFault};
 use crate::part::{own_booking, own_call, own_port};
 use box6346::{BoxNumber, SizeType, Slot};
-use edi_moments::Moment;
+use edi_syntax::Moment;
 use std::alloc::{AllocError, Global};
 
 /// What a message orders for one container, by its number (8260). Each kind has what it reads and nothing else. A
@@ -53,7 +53,7 @@ pub enum Order {
     },
 }
 
-/// What the terminal can be told to do with a container.
+/// What the terminal can be ordered to do with a container.
 #[derive(Clone, Copy, PartialEq, Eq, Debug)]
 pub enum OrderKind {
     /// It comes in by the gate.

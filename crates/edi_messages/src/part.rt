@@ -8,8 +8,8 @@ ghost use Rattle.edi_messages.specs.Owned.{call_content};
 ghost use Rattle.edi_messages.specs.Parts.{is_equipment, ends_group, before_end, part_left, is_qualified, states_moment, states_weight};
 ghost use Rattle.edi_messages.specs.Purposes.{kind_of, call_of};
 ghost use Rattle.edi_messages.specs.Spans.{call_spanned, purpose_spanned, group_content};
-ghost use Rattle.edi_segments.specs.Characters.{is_printable};
-ghost use Rattle.edi_segments.specs.Segment.{content, value};
+ghost use Rattle.edi_syntax.specs.Characters.{is_printable};
+ghost use Rattle.edi_syntax.specs.Segment.{content, value};
 ghost use Rattle.edi_syntax.specs.Frames.{message, message_segments_left};
 
 use crate::call::{Call, CallSpan, PurposeSpan};
@@ -18,8 +18,7 @@ use crate::faults::{is_name, names_call, order_kind};
 use crate::line::Group;
 use crate::message::Survey;
 use crate::order::OrderKind;
-use edi_segments::{Component, Segment};
-use edi_syntax::MessageSegments;
+use edi_syntax::{Component, MessageSegments, Segment};
 use std::alloc::{AllocError, Global};
 
 /// What the message is for.
@@ -200,7 +199,7 @@ fn own_text(alloc: Global, component: Component<'_>) -> Result<String, AllocErro
     }
 }
 
-/// The same, also if release characters stand in the text.
+/// The same, also if the text has release characters.
 fn own_text_by_bytes(alloc: Global, component: Component<'_>) -> Result<String, AllocError>
     requires { IsTrue (list_all is_printable (value component)) }
     ensures { IfOk result (λ text. string_bytes text ≡ value component.entry) }
@@ -213,7 +212,7 @@ fn own_text_by_bytes(alloc: Global, component: Component<'_>) -> Result<String, 
 }
 
 /// The text of a value that is a name. A value that is none is kept as empty.
-#[tactic(auto, using(crate::proofs::Names::name_printable))]
+#[tactic(auto, using(crate::proofs::SurveyLemmas::name_printable))]
 fn own_name(alloc: Global, component: Component<'_>) -> Result<String, AllocError>
     ensures { IfOk result (λ text. string_bytes text ≡ name_kept (value component.entry)) }
 {

@@ -1,6 +1,13 @@
-pub mod NumberLemmas
-pub mod FaultLemmas
-pub mod MessageLemmas
 pub mod BlockLemmas
-pub mod TagLemmas
 pub mod TallyLemmas
+pub mod SegmentLemmas
+pub mod SegmentsLemmas
+pub mod PartLemmas
+pub mod AdviceLemmas
+pub mod ReaderLemmas
+pub mod DigitLemmas
+pub mod PositionLemmas
+pub mod CutLemmas
+pub mod BehindLemmas
+pub mod PieceLemmas
+pub mod FrontLemmas

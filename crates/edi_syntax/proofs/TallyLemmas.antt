@@ -2,7 +2,7 @@
 use Rattle.std.proofs.Common.{◌≡◌, ◌∷◌, Bool, true, false, cond, ◌&&◌, ◌||◌, List, [], length, codes, Some, None, refl, ap, ◌∙◌, inl, inr}
 use Rattle.std.specs.List.{list_all, list_any}
 use Rattle.std.proofs.lemmas.Bool.{cases_Bool, false≢true}
-use Rattle.edi_segments.specs.Text.{Content, has_tag}
+use Rattle.edi_syntax.specs.Text.{Content, has_tag}
 use Rattle.edi_syntax.specs.Messages.{begins_message, ends_message, is_inner, before_trailer, trailer_in, messages_in, are_messages, is_counted, is_referenced}
 use Rattle.edi_syntax.specs.Envelope.{last_of, is_of_functional_group}
 use Rattle.edi_syntax.specs.TallyValues.{tally_in}
@@ -88,10 +88,6 @@ pub or_false : (b : Bool) → b || false ≡ b
 or_false true = refl
 or_false false = refl
 
-pub or_moved : (a b c : Bool) → a || (b || c) ≡ (a || b) || c
-or_moved true b c = refl
-or_moved false b c = refl
-
 -- ---- the tally as a function
 
 pub tally_none : (segments : List Content) → None ≡ tally_in segments → are_messages false segments ≡ false
@@ -116,9 +112,3 @@ tally_some segments tally is = found (are_messages false segments) refl is
     found true e h =
         let same : tally ≡ whole = cc in
         record { framed = e; counted = ap (λ (t : Tally). t.are_counted) same; referenced = ap (λ (t : Tally). t.are_referenced) same; messages = ap (λ (t : Tally). t.messages) same }
-
-pub tally_of_none : (segments : List Content) → are_messages false segments ≡ false → None ≡ tally_in segments
-tally_of_none segments other = rw other refl
-
-pub tally_of_some : (segments : List Content) (tally : Tally) → IsTally segments tally → Some tally ≡ tally_in segments
-tally_of_some segments tally h = rw (h.framed, ← h.counted, ← h.referenced, ← h.messages) refl

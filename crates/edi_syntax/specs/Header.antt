@@ -3,9 +3,9 @@ use Rattle.std.specs.Prelude.{ℕ, Bool, not, ◌&&◌, ◌||◌, ◌==◌, List
 use Rattle.std.specs.Option.{option_and_then}
 use Rattle.std.specs.List.{list_all}
 use Rattle.std.specs.Str.{bytes_eq}
-use Rattle.edi_moments.specs.Moments.{CivilMoment, moment_of}
-use Rattle.edi_segments.specs.Characters.{is_printable}
-use Rattle.edi_segments.specs.Text.{Content, component_of, element_of}
+use Rattle.edi_syntax.specs.Moments.{CivilMoment, moment_of}
+use Rattle.edi_syntax.specs.Characters.{is_printable}
+use Rattle.edi_syntax.specs.Text.{Content, component_of, element_of}
 use Rattle.edi_syntax.specs.Numbers.{number_of, as_control_number}
 
 -- S001, syntax identifier: 0001 identifier, 0002 version

@@ -1,7 +1,7 @@
 -- What an opened head stands for.
 use Rattle.std.specs.Prelude.{List, ◌∷◌}
-use Rattle.edi_segments.specs.Text.{Content}
-use Rattle.edi_segments.specs.Segment.{content, segments_left}
+use Rattle.edi_syntax.specs.Text.{Content}
+use Rattle.edi_syntax.specs.Segment.{content, segments_left}
 use Rattle.edi_syntax.specs.declared.head.Head.{Head}
 
 -- the segments of the interchange

@@ -2,8 +2,8 @@
 use Rattle.std.specs.Prelude.{ℕ, ◌+◌, Bool, true, false, not, ◌&&◌, ◌==◌, nat_le, List, [], ◌∷◌, length, codes, if◌then◌else◌}
 use Rattle.std.specs.Str.{bytes_eq}
 use Rattle.std.specs.List.{list_all}
-use Rattle.edi_segments.specs.Characters.{is_printable}
-use Rattle.edi_segments.specs.Text.{Content, no_segment, has_tag, component_of}
+use Rattle.edi_syntax.specs.Characters.{is_printable}
+use Rattle.edi_syntax.specs.Text.{Content, no_segment, has_tag, component_of}
 use Rattle.edi_syntax.specs.Numbers.{is_count}
 
 -- a message: its header UNH, the segments between, its trailer UNT

@@ -3,7 +3,7 @@ use Rattle.std.specs.Prelude.{ℕ, Bool, ◌&&◌, ◌==◌, nat_le, List, lengt
 use Rattle.std.specs.Option.{option_map_or}
 use Rattle.std.specs.List.{list_all}
 use Rattle.std.specs.Str.Parse.{digits_value}
-use Rattle.edi_segments.specs.Characters.{is_digit}
+use Rattle.edi_syntax.specs.Characters.{is_digit}
 
 -- the number that one to `limit` digits write
 abbrev pub number_of : ℕ → List ℕ → Option ℕ

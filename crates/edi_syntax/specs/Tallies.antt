@@ -1,10 +1,10 @@
 -- What the messages of an interchange come to, segment by segment: what the code relies on, and no caller has to read.
 use Rattle.std.specs.Prelude.{◌≡◌, ◌≤◌, ◌||◌, true, false, List, [], ◌∷◌, length}
 use Rattle.std.specs.List.{list_all, list_any}
-use Rattle.edi_segments.specs.Text.{Content}
-use Rattle.edi_segments.specs.Segment.{content}
-use Rattle.edi_segments.specs.Checks.{checked_left, are_all}
-use Rattle.edi_segments.specs.declared.segment.CheckedSegments.{CheckedSegments}
+use Rattle.edi_syntax.specs.Text.{Content}
+use Rattle.edi_syntax.specs.Segment.{content}
+use Rattle.edi_syntax.specs.Checks.{checked_left, are_all}
+use Rattle.edi_syntax.specs.declared.segment.CheckedSegments.{CheckedSegments}
 use Rattle.edi_syntax.specs.Envelope.{last_of, is_of_functional_group}
 use Rattle.edi_syntax.specs.Messages.{before_trailer, trailer_in, messages_in, are_messages, is_counted, is_referenced}
 use Rattle.edi_syntax.specs.declared.faults.Tally.{Tally}

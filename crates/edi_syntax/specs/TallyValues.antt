@@ -1,7 +1,7 @@
 -- What the messages of an interchange come to, as a function of its segments.
 use Rattle.std.specs.Prelude.{List, length, false, Option, None, Some, if◌then◌else◌}
 use Rattle.std.specs.List.{list_all}
-use Rattle.edi_segments.specs.Text.{Content}
+use Rattle.edi_syntax.specs.Text.{Content}
 use Rattle.edi_syntax.specs.Messages.{messages_in, are_messages, is_counted, is_referenced}
 use Rattle.edi_syntax.specs.declared.faults.Tally.{Tally}
 

@@ -1,7 +1,7 @@
 ghost use Rattle.std.specs.Iterator.{YieldsFirstBy, item_count};
 ghost use Rattle.std.specs.Prelude.{◌≡◌, ◌≤◌, length, None};
-ghost use Rattle.edi_segments.specs.Interchange.{most_bytes};
-ghost use Rattle.edi_segments.specs.Segment.{content, segments_left};
+ghost use Rattle.edi_syntax.specs.Interchange.{most_bytes};
+ghost use Rattle.edi_syntax.specs.Segment.{content, segments_left};
 ghost use Rattle.edi_syntax.specs.Envelope.{messages_of};
 ghost use Rattle.edi_syntax.specs.Faults.{body_fault_of};
 ghost use Rattle.edi_syntax.specs.Frames.{message_segments_left};
@@ -10,7 +10,7 @@ ghost use Rattle.edi_syntax.specs.Messages.{before_trailer};
 
 use crate::frames::Frames;
 use crate::head::Head;
-use edi_segments::{Segment, Segments};
+use crate::{Segment, Segments};
 
 /// An interchange without fault.
 #[derive(Clone, Copy)]

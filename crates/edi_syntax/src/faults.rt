@@ -1,8 +1,8 @@
 ghost use Rattle.std.specs.List.{list_any, find};
 ghost use Rattle.std.specs.Prelude.{IfOk, IfErr, None, Some, ◌≡◌, ◌∷◌, ◌≤◌, ◌||◌, [], length, MatchOption, true, false, ◌==◌};
-ghost use Rattle.edi_segments.specs.Checks.{checked_left, are_all};
-ghost use Rattle.edi_segments.specs.Interchange.{most_bytes, InterchangeText, segments_in};
-ghost use Rattle.edi_segments.specs.Segment.{content, segments_left, value};
+ghost use Rattle.edi_syntax.specs.Checks.{checked_left, are_all};
+ghost use Rattle.edi_syntax.specs.Interchange.{most_bytes, InterchangeText, segments_in};
+ghost use Rattle.edi_syntax.specs.Segment.{content, segments_left, value};
 ghost use Rattle.edi_syntax.specs.Envelope.{last_of, has_envelope, is_of_functional_group};
 ghost use Rattle.edi_syntax.specs.Envelopes.{envelope_segments};
 ghost use Rattle.edi_syntax.specs.Faults.{applies_to, header_fault_of, body_fault_of, fault_of};
@@ -14,7 +14,7 @@ ghost use Rattle.edi_syntax.specs.TallyValues.{tally_in};
 use crate::envelope::Envelope;
 use crate::frames::{is_of_functional_group, message_end};
 use crate::head::{Head, control_number, is_count, is_known_syntax, names_partners, preparation};
-use edi_segments::{CheckedSegments, Component, Segment, Segments, SyntaxFault};
+use crate::{CheckedSegments, Component, Segment, Segments, SyntaxFault};
 
 /// Reads the text of an interchange: the first fault that applies to the whole text, or the envelope if none does.
 pub fn open_envelope<'a>(text: &'a [u8]) -> Result<Envelope<'a>, SyntaxFault>
@@ -259,7 +259,7 @@ fn is_printable_identity(header: Segment<'_>) -> bool
         && header.component(2, 5).is_printable()
 }
 
-/// What was found up to the trailer of an interchange, of which no segment stands after.
+/// What was found up to the trailer of an interchange, which no segment follows.
 #[derive(Clone, Copy)]
 pub(crate) struct Tallied<'t, 'a> {
     /// What its messages come to.
@@ -268,6 +268,6 @@ pub(crate) struct Tallied<'t, 'a> {
     pub(crate) trailer: Segment<'a>,
     /// A segment is of a functional group.
     pub(crate) has_functional_group: bool,
-    /// What stands after the trailer: nothing, or what is no segment.
+    /// What follows the trailer: nothing, or what is no segment.
     pub(crate) rest: CheckedSegments<'t, 'a>,
 }

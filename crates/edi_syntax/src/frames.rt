@@ -1,14 +1,14 @@
 ghost use Rattle.std.specs.Iterator.{YieldsFirstBy, item_count};
 ghost use Rattle.std.specs.Prelude.{◌≡◌, ℕ, ◌<◌, ◌≤◌, length, MatchOption, true, false, ◌==◌, get_or};
-ghost use Rattle.edi_segments.specs.Checks.{checked_left};
-ghost use Rattle.edi_segments.specs.Interchange.{most_bytes};
-ghost use Rattle.edi_segments.specs.Segment.{content, segments_left, value};
+ghost use Rattle.edi_syntax.specs.Checks.{checked_left};
+ghost use Rattle.edi_syntax.specs.Interchange.{most_bytes};
+ghost use Rattle.edi_syntax.specs.Segment.{content, segments_left, value};
 ghost use Rattle.edi_syntax.specs.Envelope.{is_of_functional_group};
 ghost use Rattle.edi_syntax.specs.Messages.{message_from, message_reference, message_identity, messages_in, are_messages, is_inner};
 ghost use Rattle.edi_syntax.specs.Tallies.{EndsMessage};
 
 use crate::envelope::MessageSegments;
-use edi_segments::{CheckedSegments, Component, Segment, Segments};
+use crate::{CheckedSegments, Component, Segment, Segments};
 
 /// A message, by where it begins and ends in the text.
 #[derive(Clone, Copy)]
@@ -105,16 +105,16 @@ impl<'a> Iterator for Frames<'a> {
 pub struct MessageEnd<'t, 'a> {
     /// The trailer, UNT.
     pub(crate) trailer: Segment<'a>,
-    /// How many segments stand between header and trailer.
+    /// How many segments are between header and trailer.
     pub(crate) between: u64,
     /// A segment after the header, up to the trailer, is of a functional group.
     pub(crate) has_functional_group: bool,
-    /// What stands after the trailer.
+    /// What follows the trailer.
     pub(crate) rest: CheckedSegments<'t, 'a>,
 }
 
-/// The end of the message that the segments are after the header of. `None` if something stands before it that may
-/// not stand in a message.
+/// The end of the message that the segments are after the header of. `None` if something is before it that may
+/// not be in a message.
 pub(crate) fn message_end<'t, 'a>(behind: CheckedSegments<'t, 'a>) -> Option<MessageEnd<'t, 'a>>
     requires { length (checked_left behind) ≤ most_bytes }
     ensures { MatchOption result (are_messages true (checked_left behind.entry)
@@ -142,7 +142,7 @@ pub(crate) fn message_end<'t, 'a>(behind: CheckedSegments<'t, 'a>) -> Option<Mes
 }
 
 /// A segment that neither begins nor ends a message or an interchange.
-#[tactic(auto, using(crate::proofs::TagLemmas::of_inside))]
+#[tactic(auto, using(crate::proofs::BlockLemmas::of_inside))]
 fn is_inner(segment: Segment<'_>) -> bool
     ensures { result ≡ is_inner (content segment.entry) }
 {
@@ -154,7 +154,7 @@ fn is_inner(segment: Segment<'_>) -> bool
 }
 
 /// A segment of a functional group.
-#[tactic(auto, using(crate::proofs::TagLemmas::of_no_group))]
+#[tactic(auto, using(crate::proofs::BlockLemmas::of_no_group))]
 pub(crate) fn is_of_functional_group(segment: Segment<'_>) -> bool
     ensures { result ≡ is_of_functional_group (content segment.entry) }
 {

@@ -1,10 +1,10 @@
 ghost use Rattle.std.proofs.Props.{props};
 ghost use Rattle.std.specs.Prelude.{◌≡◌, ◌∷◌, ℕ, ◌<◌, ◌≤◌, length, IfOk, IfErr, Some, None, true, ◌++◌, codes};
-ghost use Rattle.edi_moments.specs.Moments.{moment_of};
-ghost use Rattle.edi_segments.specs.Checks.{checked_left, are_all};
-ghost use Rattle.edi_segments.specs.Interchange.{most_bytes, InterchangeText, segments_in};
-ghost use Rattle.edi_segments.specs.Segment.{content, segments_left, value};
-ghost use Rattle.edi_segments.specs.Text.{component_of};
+ghost use Rattle.edi_syntax.specs.Moments.{moment_of};
+ghost use Rattle.edi_syntax.specs.Checks.{checked_left, are_all};
+ghost use Rattle.edi_syntax.specs.Interchange.{most_bytes, InterchangeText, segments_in};
+ghost use Rattle.edi_syntax.specs.Segment.{content, segments_left, value};
+ghost use Rattle.edi_syntax.specs.Text.{component_of};
 ghost use Rattle.edi_syntax.specs.Envelope.{header_of, behind_header, last_of};
 ghost use Rattle.edi_syntax.specs.Faults.{head_fault_of, header_fault_of, body_fault_of, segments_fault};
 ghost use Rattle.edi_syntax.specs.Header.{sender, recipient, control_reference, control_number, preparation, names_partners, is_printable_element, is_known_syntax};
@@ -13,9 +13,8 @@ ghost use Rattle.edi_syntax.specs.TallyValues.{tally_in};
 
 use crate::envelope::Envelope;
 use crate::faults::{Tally, body_fault, header_fault, look_through};
-use edi_moments::Moment;
-use edi_segments::{
-    CheckedSegments, Component, MOST_BYTES, Segment, SegmentCheck, Segments, SyntaxFault,
+use crate::{
+    CheckedSegments, Component, MOST_BYTES, Moment, Segment, SegmentCheck, Segments, SyntaxFault,
 };
 
 /// An interchange whose header, UNB, has been read.
@@ -201,7 +200,7 @@ pub(crate) fn control_number(header: &Segment<'_>) -> Option<u32>
     }
 }
 
-/// The moment of preparation (S004), six and four digits in 2000 to 2099.
+/// The moment of preparation (S004), six and four digits. The century of its two-digit year is the 21st: 2000 to 2099.
 pub(crate) fn preparation(header: &Segment<'_>) -> Option<Moment>
     ensures { result ≡ preparation (content header.now) }
 {
@@ -210,7 +209,7 @@ pub(crate) fn preparation(header: &Segment<'_>) -> Option<Moment>
     moment_in_century(&date, &time)
 }
 
-/// The moment of a date YYMMDD in 2000 to 2099 and a time HHMM.
+/// The moment of a date YYMMDD, each YY being 20YY, and a time HHMM.
 fn moment_in_century(date: &[u8; 6], time: &[u8; 4]) -> Option<Moment>
     ensures { result ≡ moment_of (codes "20" ++ date.now ++ time.now) }
 {

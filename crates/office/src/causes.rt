@@ -1,5 +1,6 @@
+use crate::links::is_link;
 use office_commands::{FAILED, WhyNotNow, tell, tell_fault};
-use office_stream::Port;
+use office_replies::Port;
 use office_tables::TableFault;
 use sqlite::{Error, ErrorCode};
 use sqlite_resolve::CompileError;
@@ -8,10 +9,10 @@ use std::io::{IsTerminal, Write};
 use std::os::unix::fs::MetadataExt;
 use std::{fmt, fs};
 
-/// Words that tell a person why something could not be done, and what to do about it.
+/// Words that say to a person why something could not be done, and what to do about it.
 #[derive(Clone, Copy, PartialEq, Eq)]
 pub(crate) struct Words {
-    /// Whether the path stands before them.
+    /// Whether the path comes before them.
     follow_path: bool,
     text: &'static str,
 }
@@ -87,6 +88,18 @@ impl Words {
     pub(crate) const OTHER_VISIT: Words = Words {
         follow_path: true,
         text: " has another visit than the store under one number: copy the store again",
+    };
+
+    /// An archive is to be made first.
+    pub(crate) const NO_COPY: Words = Words {
+        follow_path: true,
+        text: " is not there: first copy the store to it, with its log and its register",
+    };
+
+    /// A store that is to be migrated is of this version.
+    pub(crate) const IS_NEWEST: Words = Words {
+        follow_path: true,
+        text: " is of this version already: work on it",
     };
 
     const HAS_TABLES: Words = Words {
@@ -175,6 +188,7 @@ fn words_of_code(rt: &HostRuntime, path: &str, code: ErrorCode) -> &'static str 
 /// Why the file at a path can't be opened.
 fn words_at(rt: &HostRuntime, path: &str) -> &'static str {
     match fs::metadata(rt, path) {
+        Err(_) if is_link(rt, path) => "it is a link that leads to no file: see where it leads",
         Err(_) =>
             "no such file or folder: see that the path is right, or make a store by `office init`",
         Ok(found) if found.is_dir() => "it is a folder: name the file in it",
@@ -207,7 +221,7 @@ fn words_of_unread(rt: &HostRuntime, path: &str) -> Words {
     }
 }
 
-/// What a person was told of why answers are `not now`: once, and again when it changes.
+/// What a person was shown of why answers are `not now`: once, and again when it changes.
 #[derive(Clone, Copy)]
 pub(crate) struct Causes<'a> {
     path: &'a str,
@@ -247,63 +261,97 @@ impl<'a> Causes<'a> {
     }
 }
 
-/// Tells a text, and gives the status that goes with it.
+/// Who reads what is written to standard error.
+#[derive(Clone, Copy)]
+pub(crate) struct Audience<'a> {
+    rt: &'a HostRuntime,
+    wants_causes: bool,
+}
+
+impl<'a> Audience<'a> {
+    /// A person, if standard error is a terminal.
+    pub(crate) fn of(rt: &'a HostRuntime) -> Audience<'a> {
+        let wants_causes = stderr_is_terminal(rt);
+        Audience { rt, wants_causes }
+    }
+
+    /// A person, if standard error is a terminal, or if a log is wanted.
+    pub(crate) fn of_log(rt: &'a HostRuntime, log: bool) -> Audience<'a> {
+        let wants_causes = log || stderr_is_terminal(rt);
+        Audience { rt, wants_causes }
+    }
+
+    /// What the program runs on.
+    pub(crate) fn rt(self) -> &'a HostRuntime {
+        self.rt
+    }
+
+    /// Whether causes are written too, after the lines that a program reads.
+    pub(crate) fn wants_causes(self) -> bool {
+        self.wants_causes
+    }
+
+    /// Writes why something could not be done, if causes are wanted.
+    pub(crate) fn tell<E: Write>(self, errors: &mut Port<E>, cause: Cause<'_>) {
+        if self.wants_causes {
+            tell_cause(self.rt.alloc(), errors, cause);
+        }
+    }
+}
+
+/// Writes a text, and gives the status that goes with it.
 pub(crate) fn tell_with<E: Write>(errors: &mut Port<E>, text: &str, status: u8) -> u8 {
     tell(errors, text);
     status
 }
 
-/// Tells that an input file can't be read, and to a person which one, and why.
+/// Reports that an input file can't be read, and to a person which one, and why.
 pub(crate) fn tell_unread<E: Write>(rt: &HostRuntime, errors: &mut Port<E>, path: &str) -> u8 {
     let status = tell_with(errors, "cannot read\n", FAILED);
     tell_unread_cause(rt, errors, path);
     status
 }
 
-/// Tells a person which input file can't be read, and why.
+/// Shows a person which input file can't be read, and why.
 pub(crate) fn tell_unread_cause<E: Write>(rt: &HostRuntime, errors: &mut Port<E>, path: &str) {
     if stderr_is_terminal(rt) {
         tell_cause(rt.alloc(), errors, cause_of_unread(rt, path));
     }
 }
 
-/// Tells why the store at a path did not do what was asked, and to a person also the cause and what to do.
+/// Reports why the store at a path did not do what was asked, and to a person also the cause and what to do.
 pub(crate) fn tell_store<E: Write>(
-    rt: &HostRuntime,
+    to: Audience<'_>,
     errors: &mut Port<E>,
     path: &str,
     fault: &TableFault,
 ) -> u8 {
     let status = tell_fault(errors, fault);
-    tell_store_cause(rt, errors, path, fault);
+    tell_store_cause(to, errors, path, fault);
     status
 }
 
-/// Tells a person why the store at a path did not do what was asked, and what to do.
+/// Shows a person why the store at a path did not do what was asked, and what to do.
 pub(crate) fn tell_store_cause<E: Write>(
-    rt: &HostRuntime,
+    to: Audience<'_>,
     errors: &mut Port<E>,
     path: &str,
     fault: &TableFault,
 ) {
-    if stderr_is_terminal(rt) {
-        tell_cause(rt.alloc(), errors, cause_of(rt, path, fault));
-    }
+    to.tell(errors, cause_of(to.rt, path, fault));
 }
 
-/// Tells a person something of the file at a path.
+/// Shows a person something of the file at a path.
 pub(crate) fn tell_words<E: Write>(
-    rt: &HostRuntime,
+    to: Audience<'_>,
     errors: &mut Port<E>,
     path: &str,
     words: Words,
 ) {
-    if stderr_is_terminal(rt) {
-        tell_cause(rt.alloc(), errors, Cause::new(path, words));
-    }
+    to.tell(errors, Cause::new(path, words));
 }
 
-/// Tells a person why an answer was `not now`, if one was: the fault for which the store at a path gave it.
+/// Shows a person why an answer was `not now`, if one was: the fault for which the store at a path gave it.
 pub(crate) fn tell_not_now<E: Write>(
     rt: &HostRuntime,
     errors: &mut Port<E>,
@@ -325,7 +373,7 @@ fn tell_cause<E: Write>(alloc: Global, errors: &mut Port<E>, cause: Cause<'_>) {
     }
 }
 
-/// Whether a person looks at standard error: only then it is told more than faults.
+/// Whether a person looks at standard error: only then more than faults is written there.
 pub(crate) fn stderr_is_terminal(rt: &HostRuntime) -> bool {
     rt.stderr().is_terminal()
 }

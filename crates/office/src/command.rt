@@ -1,24 +1,29 @@
 use crate::causes::{
-    stderr_is_terminal, tell_not_now, tell_store, tell_store_cause, tell_unread, tell_unread_cause,
-    tell_with,
+    Audience, Words, stderr_is_terminal, tell_store, tell_store_cause, tell_unread,
+    tell_unread_cause, tell_with, tell_words,
 };
 use crate::explain::explain;
 use crate::history::{
     Way, archives, close, may_be_made, tell_open, tell_open_cause, way_to_deliver, way_to_look,
 };
 use crate::init::init;
+use crate::leaving::{end_account, end_account_beside, end_serving, end_serving_beside, give_up};
+use crate::links::followed;
+use crate::long_work::{WatchedTexts, Work, tell_long};
 use crate::request_log::RequestLog;
 use crate::watch::DeliveryWatch;
 use office_archive_files::{
-    InUnknownFiles, account_beside, deliver_beside, report_beside, serve_beside, texts_beside,
+    InUnknownFiles, account_beside, deliver_beside, leave_joined, report_beside, serve_beside,
+    texts_beside,
 };
 use office_command_line::{CommandFault, REPORT_KINDS, Request, read_command};
 use office_commands::{
-    COMMAND_LINE, DONE, FAILED, Faults, MigrationFault, Service, account_over, deliver_over,
-    demonstrate, migrate_over, print, report_over, serve_over, tell, texts_over,
+    COMMAND_LINE, DONE, FAILED, MigrationFault, Service, account_over, deliver_over, demonstrate,
+    leave_desk, leave_whole, migrate_over, open_store, print, report_over, serve_over, tell,
+    tell_fault, texts_over,
 };
-use office_queries::ReportKind;
-use office_stream::Port;
+use office_replies::Port;
+use office_reports::ReportKind;
 use office_tables::TableFault;
 use sqlite::Unknown;
 use std::fs::File;
@@ -68,8 +73,8 @@ pub(crate) fn run<R: Read, W: Write, E: Write>(
     }
 }
 
-/// Help and version that were asked for are results; else the command line is at fault. To a person also the kinds of
-/// reports are printed, if a report was asked for.
+/// Help and version that were asked for are results; else the command line is at fault. A person is also shown
+/// what the values of a command may be.
 fn refuse<W: Write, E: Write>(
     rt: &HostRuntime,
     words: &[&str],
@@ -85,28 +90,30 @@ fn refuse<W: Write, E: Write>(
         _ if fault.is_asked() => print(writer, text.as_str(), DONE),
         _ => {
             let status = tell_with(errors, text.as_str(), COMMAND_LINE);
-            if is_of_report(words, fault) {
-                tell_kinds(rt, errors);
+            if let CommandFault::Values(_) = fault {
+                tell_values(rt, words, errors);
             }
             status
         }
     }
 }
 
-/// Whether the kind of a report, or its key, is at fault.
-fn is_of_report(words: &[&str], fault: &CommandFault) -> bool {
-    match (words.get(1), fault) {
-        (Some(command), CommandFault::Values(_)) => *command == "report",
-        _ => false,
+/// Shows a person what the values of a command may be, after its usage text.
+fn tell_values<E: Write>(rt: &HostRuntime, words: &[&str], errors: &mut Port<E>) {
+    if !stderr_is_terminal(rt) {
+        return;
     }
-}
-
-/// Tells a person the kinds of reports.
-fn tell_kinds<E: Write>(rt: &HostRuntime, errors: &mut Port<E>) {
-    if stderr_is_terminal(rt) {
-        tell(errors, "KIND is ");
-        tell(errors, REPORT_KINDS);
-        tell(errors, "; KEY is required from `container` on\n");
+    match words.get(1) {
+        Some(command) if *command == "report" => {
+            tell(errors, "KIND is ");
+            tell(errors, REPORT_KINDS);
+            tell(errors, "; KEY is required from `container` on\n");
+        }
+        Some(command) if *command == "serve" => tell(
+            errors,
+            "PORT is 1 to 65535, COUNT 1 to 1000000, N 1 to 999999999\n",
+        ),
+        _ => {}
     }
 }
 
@@ -128,7 +135,7 @@ pub(crate) fn deliver<R: Read, W: Write, E: Write>(
     }
 }
 
-/// Delivers what a reader gives. A person is told more than a program: what the watch tells, and the cause of a fault.
+/// Delivers what a reader gives. A person is shown more than a program: what the watch shows, and the cause of a fault.
 fn deliver_all<R: Read, W: Write, E: Write>(
     rt: &HostRuntime,
     store: &str,
@@ -137,8 +144,13 @@ fn deliver_all<R: Read, W: Write, E: Write>(
     writer: &mut Port<W>,
     errors: &mut Port<E>,
 ) -> u8 {
+    let Ok(store) = followed(rt, store) else {
+        return tell_fault(errors, &TableFault::Memory);
+    };
+    let store = store.as_str();
+    tell_long(rt, errors, Work::OPENING, store);
     let watch = DeliveryWatch::new(rt, stderr_is_terminal(rt), store);
-    let status = match way_to_deliver(rt, store, errors) {
+    let status = match way_to_deliver(Audience::of(rt), store, errors) {
         Way::Alone => deliver_alone(rt, store, &watch, reader, writer, errors),
         Way::BesideArchives => deliver_with_archives(rt, store, &watch, reader, writer, errors),
         Way::Refused(status) => status,
@@ -159,8 +171,11 @@ fn deliver_alone<R: Read, W: Write, E: Write>(
     errors: &mut Port<E>,
 ) -> u8 {
     let (status, ended) = deliver_over(rt, store, Unknown, watch, reader, writer, errors);
-    if let Err(fault) = ended {
-        tell_store_cause(rt, errors, store, &fault);
+    match ended {
+        Ok(desk) => {
+            give_up(leave_desk(desk));
+        }
+        Err(fault) => tell_store_cause(Audience::of(rt), errors, store, &fault),
     }
     status
 }
@@ -178,9 +193,11 @@ fn deliver_with_archives<R: Read, W: Write, E: Write>(
     let (status, ended) = deliver_beside(
         rt, store, Unknown, &beside, watch, reader, writer, errors,
     );
-    let fault = ended.err();
-    if let Some(fault) = &fault {
-        tell_open_cause(rt, errors, store, fault);
+    match ended {
+        Ok(office) => {
+            give_up(leave_joined(office));
+        }
+        Err(fault) => tell_open_cause(Audience::of(rt), errors, store, &fault),
     }
     status
 }
@@ -194,7 +211,12 @@ pub(crate) fn account<W: Write, E: Write>(
     writer: &mut Port<W>,
     errors: &mut Port<E>,
 ) -> u8 {
-    match way_to_deliver(rt, store, errors) {
+    let Ok(store) = followed(rt, store) else {
+        return tell_fault(errors, &TableFault::Memory);
+    };
+    let store = store.as_str();
+    tell_long(rt, errors, Work::OPENING, store);
+    match way_to_deliver(Audience::of(rt), store, errors) {
         Way::Alone => account_alone(rt, store, code, kind, writer, errors),
         Way::BesideArchives => account_with_archives(rt, store, code, kind, writer, errors),
         Way::Refused(status) => status,
@@ -211,11 +233,8 @@ fn account_alone<W: Write, E: Write>(
     errors: &mut Port<E>,
 ) -> u8 {
     match account_over(rt, store, Unknown, code, kind, writer) {
-        Ok((status, desk)) => {
-            tell_not_now(rt, errors, store, desk.last_fault());
-            status
-        }
-        Err(fault) => tell_store(rt, errors, store, &fault),
+        Ok(ended) => end_account(rt, errors, store, ended),
+        Err(fault) => tell_store(Audience::of(rt), errors, store, &fault),
     }
 }
 
@@ -230,24 +249,12 @@ fn account_with_archives<W: Write, E: Write>(
 ) -> u8 {
     let beside = InUnknownFiles::new(rt);
     match account_beside(rt, store, Unknown, &beside, code, kind, writer) {
-        Ok(ended) => tell_asked(rt, errors, store, ended),
-        Err(fault) => tell_open(rt, errors, store, &fault),
+        Ok(ended) => end_account_beside(rt, errors, store, ended),
+        Err(fault) => tell_open(Audience::of(rt), errors, store, &fault),
     }
 }
 
-/// Tells a person why an account was not added now, and answers the status. The office is given up.
-fn tell_asked<E: Write, D: Faults + Drop>(
-    rt: &HostRuntime,
-    errors: &mut Port<E>,
-    store: &str,
-    ended: (u8, D),
-) -> u8 {
-    let (status, office) = ended;
-    tell_not_now(rt, errors, store, office.last_fault());
-    status
-}
-
-/// `report DB KIND [KEY]`: prints a report, or `none` if there is nothing to tell.
+/// `report DB KIND [KEY]`: prints a report, or `none` if there is nothing to report.
 pub(crate) fn report<W: Write, E: Write>(
     rt: &HostRuntime,
     store: &str,
@@ -257,6 +264,11 @@ pub(crate) fn report<W: Write, E: Write>(
     errors: &mut Port<E>,
 ) -> u8 {
     let key = key.unwrap_or("");
+    let Ok(store) = followed(rt, store) else {
+        return tell_fault(errors, &TableFault::Memory);
+    };
+    let store = store.as_str();
+    tell_long(rt, errors, Work::OPENING, store);
     match way_to_look(rt, store, errors) {
         Way::Alone => report_alone(rt, store, kind, key, writer, errors),
         Way::BesideArchives => report_with_archives(rt, store, kind, key, writer, errors),
@@ -276,9 +288,9 @@ fn report_alone<W: Write, E: Write>(
     match report_over(rt, store, Unknown, kind, key, writer) {
         Ok((_desk, told)) => match told {
             Ok(status) => status,
-            Err(fault) => tell_store(rt, errors, store, &fault),
+            Err(fault) => tell_store(Audience::of(rt), errors, store, &fault),
         },
-        Err(fault) => tell_store(rt, errors, store, &fault),
+        Err(fault) => tell_store(Audience::of(rt), errors, store, &fault),
     }
 }
 
@@ -294,11 +306,11 @@ fn report_with_archives<W: Write, E: Write>(
     let beside = InUnknownFiles::new(rt);
     match report_beside(rt, store, Unknown, &beside, kind, key, writer) {
         Ok(ended) => tell_reported(rt, errors, store, ended),
-        Err(fault) => tell_open(rt, errors, store, &fault),
+        Err(fault) => tell_open(Audience::of(rt), errors, store, &fault),
     }
 }
 
-/// Tells why a report could not be made, if it could not, and answers the status. The office is given up.
+/// Reports why a report could not be made, if it could not, and answers the status. The office is given up.
 fn tell_reported<E: Write, D: Drop>(
     rt: &HostRuntime,
     errors: &mut Port<E>,
@@ -308,7 +320,7 @@ fn tell_reported<E: Write, D: Drop>(
     let (_office, told) = ended;
     match told {
         Ok(status) => status,
-        Err(fault) => tell_store(rt, errors, store, &fault),
+        Err(fault) => tell_store(Audience::of(rt), errors, store, &fault),
     }
 }
 
@@ -321,11 +333,19 @@ pub(crate) fn texts<W: Write, E: Write>(
     writer: &mut Port<W>,
     errors: &mut Port<E>,
 ) -> u8 {
-    match way_to_look(rt, store, errors) {
-        Way::Alone => texts_alone(rt, store, from, writer, errors),
-        Way::BesideArchives => texts_with_archives(rt, store, from, writer, errors),
+    let Ok(store) = followed(rt, store) else {
+        return tell_fault(errors, &TableFault::Memory);
+    };
+    let store = store.as_str();
+    tell_long(rt, errors, Work::OPENING, store);
+    let mut watched = Port::new(WatchedTexts::new(rt, writer));
+    let status = match way_to_look(rt, store, errors) {
+        Way::Alone => texts_alone(rt, store, from, &mut watched, errors),
+        Way::BesideArchives => texts_with_archives(rt, store, from, &mut watched, errors),
         Way::Refused(status) => status,
-    }
+    };
+    watched.into_inner().end();
+    status
 }
 
 /// Prints the texts of a store of which nothing was put away.
@@ -339,9 +359,9 @@ fn texts_alone<W: Write, E: Write>(
     match texts_over(rt, store, Unknown, from, writer) {
         Ok((_conn, printed)) => match printed {
             Ok(status) => status,
-            Err(fault) => tell_store(rt, errors, store, &fault),
+            Err(fault) => tell_store(Audience::of(rt), errors, store, &fault),
         },
-        Err(fault) => tell_store(rt, errors, store, &fault),
+        Err(fault) => tell_store(Audience::of(rt), errors, store, &fault),
     }
 }
 
@@ -356,7 +376,7 @@ fn texts_with_archives<W: Write, E: Write>(
     let beside = InUnknownFiles::new(rt);
     match texts_beside(rt, store, Unknown, &beside, from, writer) {
         Ok(ended) => tell_reported(rt, errors, store, ended),
-        Err(fault) => tell_open(rt, errors, store, &fault),
+        Err(fault) => tell_open(Audience::of(rt), errors, store, &fault),
     }
 }
 
@@ -369,20 +389,48 @@ pub(crate) fn migrate<W: Write, E: Write>(
     writer: &mut Port<W>,
     errors: &mut Port<E>,
 ) -> u8 {
+    let (Ok(old), Ok(new)) = (followed(rt, old), followed(rt, new)) else {
+        return tell_fault(errors, &TableFault::Memory);
+    };
+    let (old, new) = (old.as_str(), new.as_str());
     if !may_be_made(rt, new, errors) {
         return FAILED;
     }
+    tell_long(rt, errors, Work::MIGRATING, old);
     match migrate_over(rt, (old, Unknown), (new, Unknown), writer) {
         Ok(ended) => match ended.outcome {
-            Ok(status) => status,
-            Err(fault) => tell_store(rt, errors, new, &fault),
+            Ok(status) => {
+                give_up(leave_whole(ended.new));
+                status
+            }
+            Err(fault) => tell_store(Audience::of(rt), errors, new, &fault),
         },
-        Err(MigrationFault::Old(fault)) => tell_store(rt, errors, old, &fault),
-        Err(MigrationFault::New(fault)) => tell_store(rt, errors, new, &fault),
+        Err(MigrationFault::Old(fault)) => tell_old(Audience::of(rt), errors, old, &fault),
+        Err(MigrationFault::New(fault)) => tell_store(Audience::of(rt), errors, new, &fault),
     }
 }
 
-/// `serve DB PORT COUNT [--log] [--ahead N]`: serves so many connections at a port of this machine, one after the other. It
+/// Reports why an older store was not brought over; to a person also that it is of this version, if it is.
+fn tell_old<E: Write>(to: Audience<'_>, errors: &mut Port<E>, old: &str, fault: &TableFault) -> u8 {
+    let status = tell_fault(errors, fault);
+    match fault {
+        TableFault::Version if to.wants_causes() && is_newest(to.rt(), old) => {
+            tell_words(to, errors, old, Words::IS_NEWEST);
+        }
+        _ => tell_store_cause(to, errors, old, fault),
+    }
+    status
+}
+
+/// Whether the rows of a store are of this version. Beside archives they are not whole by themselves.
+fn is_newest(rt: &HostRuntime, path: &str) -> bool {
+    matches!(
+        open_store(rt, path, Unknown),
+        Ok(_) | Err(TableFault::Damaged)
+    )
+}
+
+/// `serve DB PORT COUNT [--log] [--ahead N]`: serves that many connections at a port of this machine, one after the other. It
 /// writes a line for each to the standard error if that is a terminal, or if a log is wanted.
 pub(crate) fn serve<W: Write, E: Write>(
     rt: &HostRuntime,
@@ -392,35 +440,36 @@ pub(crate) fn serve<W: Write, E: Write>(
     writer: &mut Port<W>,
     errors: &mut Port<E>,
 ) -> u8 {
-    let log = RequestLog::new(rt, log || stderr_is_terminal(rt), store);
-    match way_to_deliver(rt, store, errors) {
+    let Ok(store) = followed(rt, store) else {
+        return tell_fault(errors, &TableFault::Memory);
+    };
+    let store = store.as_str();
+    let to = Audience::of_log(rt, log);
+    let log = RequestLog::new(rt, to.wants_causes(), store);
+    tell_long(rt, errors, Work::OPENING, store);
+    match way_to_deliver(to, store, errors) {
         Way::Alone => match serve_over(rt, store, Unknown, service, &log, writer, errors) {
-            Ok((status, _desk)) => status,
-            Err(fault) => tell_store(rt, errors, store, &fault),
+            Ok(ended) => end_serving(ended),
+            Err(fault) => tell_store(to, errors, store, &fault),
         },
-        Way::BesideArchives => serve_with_archives(rt, store, service, &log, writer, errors),
+        Way::BesideArchives => serve_with_archives(to, store, service, &log, writer, errors),
         Way::Refused(status) => status,
     }
 }
 
 /// Serves a store beside its archives.
 fn serve_with_archives<W: Write, E: Write>(
-    rt: &HostRuntime,
+    to: Audience<'_>,
     store: &str,
     service: Service,
     log: &RequestLog<'_>,
     writer: &mut Port<W>,
     errors: &mut Port<E>,
 ) -> u8 {
+    let rt = to.rt();
     let beside = InUnknownFiles::new(rt);
     match serve_beside(rt, store, Unknown, &beside, service, log, writer, errors) {
-        Ok(ended) => status_of(ended),
-        Err(fault) => tell_open(rt, errors, store, &fault),
+        Ok(ended) => end_serving_beside(ended),
+        Err(fault) => tell_open(to, errors, store, &fault),
     }
-}
-
-/// The status of what was served. The office is given up.
-fn status_of<D: Drop>(ended: (u8, D)) -> u8 {
-    let (status, _office) = ended;
-    status
 }

@@ -1,9 +1,9 @@
 use crate::causes::{tell_unread, tell_with};
+use crate::init::refuse;
 use office_commands::{DONE, FAILED, REFUSED, print};
-use office_explain::{Partners, explain_from};
-use office_setup_files::SetupFault;
-use office_stream::Port;
-use std::alloc::{AllocError, Global};
+use office_explain::{ONE_BLOCK, Partners, explain_file};
+use office_replies::Port;
+use std::alloc::Global;
 use std::fs;
 use std::io::{Read, Write};
 
@@ -21,39 +21,35 @@ pub(crate) fn explain<R: Read, W: Write, E: Write>(
         return tell_unread(rt, errors, file);
     };
     let Some(path) = partners else {
-        return explain_by(rt, Partners::unknown(rt.alloc()), &bytes, writer, errors);
+        return match Partners::unknown(rt.alloc()) {
+            Ok(unknown) => explain_all(rt.alloc(), &unknown, &bytes, writer, errors),
+            Err(_) => tell_with(errors, "setup: Memory\n", REFUSED),
+        };
     };
     match fs::read(rt, path) {
-        Ok(given) => explain_by(
-            rt,
-            Partners::read(rt.alloc(), &given),
-            &bytes,
-            writer,
-            errors,
-        ),
+        Ok(given) => explain_by(rt, path, &given, &bytes, writer, errors),
         Err(_) => tell_unread(rt, errors, path),
     }
 }
 
-/// Prints what is wrong with the interchanges of a file, by what is known of partners.
+/// Prints what is wrong with the interchanges of a file, by a file of partners, which comes with its path.
 fn explain_by<W: Write, E: Write>(
     rt: &HostRuntime,
-    partners: Result<Partners, SetupFault>,
+    path: &str,
+    given: &[u8],
     file: &[u8],
     writer: &mut Port<W>,
     errors: &mut Port<E>,
 ) -> u8 {
-    match partners {
+    match Partners::read(rt.alloc(), given) {
         Ok(partners) => explain_all(rt.alloc(), &partners, file, writer, errors),
-        Err(fault) => refuse_partners(rt, fault, errors),
-    }
-}
-
-/// Tells why a file of partners gives none.
-fn refuse_partners<E: Write>(rt: &HostRuntime, fault: SetupFault, errors: &mut Port<E>) -> u8 {
-    match format!(in rt.alloc(); "setup: {fault}\n") {
-        Ok(text) => tell_with(errors, text.as_str(), REFUSED),
-        Err(_) => tell_with(errors, "setup: Memory\n", REFUSED),
+        Err(fault) => refuse(
+            rt,
+            fault,
+            (path, given),
+            (path, ONE_BLOCK.as_bytes()),
+            errors,
+        ),
     }
 }
 
@@ -69,7 +65,7 @@ fn bytes_in<R: Read>(rt: &HostRuntime, file: &str, reader: &mut Port<R>) -> Opti
     }
 }
 
-/// Prints what is told of each interchange of a file.
+/// Prints what is found of the interchanges of a file, and answers the status that goes with the worst.
 fn explain_all<W: Write, E: Write>(
     alloc: Global,
     partners: &Partners,
@@ -77,33 +73,15 @@ fn explain_all<W: Write, E: Write>(
     writer: &mut Port<W>,
     errors: &mut Port<E>,
 ) -> u8 {
-    match print_blocks(alloc, partners, file, writer) {
-        Ok(status) => status,
+    match explain_file(alloc, partners, file) {
+        Ok(explanation) => {
+            let status = if explanation.is_faultless {
+                DONE
+            } else {
+                REFUSED
+            };
+            print(writer, explanation.text.as_str(), status)
+        }
         Err(_) => tell_with(errors, "store: Memory\n", FAILED),
     }
-}
-
-/// Prints the blocks of a file, and answers the status that goes with the worst. An error is that memory was refused.
-fn print_blocks<W: Write>(
-    alloc: Global,
-    partners: &Partners,
-    file: &[u8],
-    writer: &mut Port<W>,
-) -> Result<u8, AllocError> {
-    let mut worst = DONE;
-    let mut from = 0;
-    for number in 1..usize::MAX {
-        let Some(block) = explain_from(alloc, partners, file, from, number)? else {
-            break;
-        };
-        if !block.is_faultless() {
-            worst = REFUSED;
-        }
-        let text = format!(in alloc; "{block}")?;
-        if print(writer, text.as_str(), DONE) != DONE {
-            return Ok(FAILED);
-        }
-        from = block.end;
-    }
-    Ok(worst)
 }

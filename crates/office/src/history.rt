@@ -1,15 +1,16 @@
-use crate::causes::{
-    Words, stderr_is_terminal, tell_store, tell_store_cause, tell_with, tell_words,
-};
+use crate::causes::{Audience, Words, tell_store, tell_store_cause, tell_with, tell_words};
+use crate::links::followed;
+use crate::long_work::{Work, tell_long};
 use office_archive_files::{
     CloseCommandFault, History, InFiles, OfFour, OpenFault, UnknownFile, archives_over,
     close_alike, history_of, register_path,
 };
 use office_closing::{CloseFault, File, FileFault, Refusal};
 use office_commands::{DONE, FAILED, print, tell_fault};
-use office_stream::Port;
+use office_replies::Port;
 use office_tables::TableFault;
 use sqlite::Unknown;
+use std::fs;
 use std::io::Write;
 
 /// How a store is worked on, by what its register of archives says.
@@ -24,11 +25,11 @@ pub(crate) enum Way {
 }
 
 /// How interchanges and accounts are taken to the store at a path. An archive takes none.
-pub(crate) fn way_to_deliver<E: Write>(rt: &HostRuntime, store: &str, errors: &mut Port<E>) -> Way {
-    match history_of(rt, store) {
-        Ok(history) if history.is_closed => Way::Refused(tell_closed(rt, errors, store)),
+pub(crate) fn way_to_deliver<E: Write>(to: Audience<'_>, store: &str, errors: &mut Port<E>) -> Way {
+    match history_of(to.rt(), store) {
+        Ok(history) if history.is_closed => Way::Refused(tell_closed(to, errors, store)),
         Ok(history) => way_by(history),
-        Err(fault) => Way::Refused(tell_register(rt, errors, store, &fault)),
+        Err(fault) => Way::Refused(tell_register(to, errors, store, &fault)),
     }
 }
 
@@ -36,7 +37,7 @@ pub(crate) fn way_to_deliver<E: Write>(rt: &HostRuntime, store: &str, errors: &m
 pub(crate) fn way_to_look<E: Write>(rt: &HostRuntime, store: &str, errors: &mut Port<E>) -> Way {
     match history_of(rt, store) {
         Ok(history) => way_by(history),
-        Err(fault) => Way::Refused(tell_register(rt, errors, store, &fault)),
+        Err(fault) => Way::Refused(tell_register(Audience::of(rt), errors, store, &fault)),
     }
 }
 
@@ -64,72 +65,72 @@ pub(crate) fn may_be_made<E: Write>(rt: &HostRuntime, store: &str, errors: &mut 
         }
         _ => {
             tell_with(errors, "store: Store\n", FAILED);
-            tell_words(rt, errors, store, Words::HAS_REGISTER);
+            tell_words(Audience::of(rt), errors, store, Words::HAS_REGISTER);
             false
         }
     }
 }
 
-/// Tells that a store is an archive, where another one goes on.
-fn tell_closed<E: Write>(rt: &HostRuntime, errors: &mut Port<E>, store: &str) -> u8 {
+/// Reports that a store is an archive, where another one goes on.
+fn tell_closed<E: Write>(to: Audience<'_>, errors: &mut Port<E>, store: &str) -> u8 {
     let status = tell_with(errors, "store: Closed\n", FAILED);
-    tell_words(rt, errors, store, Words::IS_ARCHIVE);
+    tell_words(to, errors, store, Words::IS_ARCHIVE);
     status
 }
 
-/// Tells a fault of a store's register of archives.
+/// Reports a fault of a store's register of archives.
 fn tell_register<E: Write>(
-    rt: &HostRuntime,
+    to: Audience<'_>,
     errors: &mut Port<E>,
     store: &str,
     fault: &TableFault,
 ) -> u8 {
     let status = tell_fault(errors, fault);
-    tell_register_cause(rt, errors, store, fault);
+    tell_register_cause(to, errors, store, fault);
     status
 }
 
-/// Tells a person why a store's register of archives can't be read or written.
+/// Shows a person why a store's register of archives can't be read or written.
 fn tell_register_cause<E: Write>(
-    rt: &HostRuntime,
+    to: Audience<'_>,
     errors: &mut Port<E>,
     store: &str,
     fault: &TableFault,
 ) {
-    let Ok(path) = register_path(rt.alloc(), store) else {
+    let Ok(path) = register_path(to.rt().alloc(), store) else {
         return;
     };
     match fault {
-        TableFault::Damaged => tell_words(rt, errors, path.as_str(), Words::DAMAGED_REGISTER),
-        _ => tell_store_cause(rt, errors, path.as_str(), fault),
+        TableFault::Damaged => tell_words(to, errors, path.as_str(), Words::DAMAGED_REGISTER),
+        _ => tell_store_cause(to, errors, path.as_str(), fault),
     }
 }
 
-/// Tells a person why a store was not opened beside its archives.
+/// Shows a person why a store was not opened beside its archives.
 pub(crate) fn tell_open_cause<E: Write>(
-    rt: &HostRuntime,
+    to: Audience<'_>,
     errors: &mut Port<E>,
     store: &str,
     fault: &OpenFault,
 ) {
     match fault {
-        OpenFault::Closed => tell_words(rt, errors, store, Words::IS_ARCHIVE),
-        OpenFault::Store(fault) => tell_store_cause(rt, errors, store, fault),
-        OpenFault::Register(fault) => tell_register_cause(rt, errors, store, fault),
+        OpenFault::Closed => tell_words(to, errors, store, Words::IS_ARCHIVE),
+        OpenFault::Store(fault) => tell_store_cause(to, errors, store, fault),
+        OpenFault::Register(fault) => tell_register_cause(to, errors, store, fault),
     }
 }
 
-/// Tells why a store was not opened beside its archives, and to a person also the cause and what to do.
+/// Reports why a store was not opened beside its archives, and to a person also the cause and what to do.
 pub(crate) fn tell_open<E: Write>(
-    rt: &HostRuntime,
+    to: Audience<'_>,
     errors: &mut Port<E>,
     store: &str,
     fault: &OpenFault,
 ) -> u8 {
     match fault {
-        OpenFault::Closed => tell_closed(rt, errors, store),
-        OpenFault::Store(fault) => tell_store(rt, errors, store, fault),
-        OpenFault::Register(fault) => tell_register(rt, errors, store, fault),
+        OpenFault::Closed => tell_closed(to, errors, store),
+        OpenFault::Store(fault) => tell_store(to, errors, store, fault),
+        OpenFault::Register(fault) => tell_register(to, errors, store, fault),
     }
 }
 
@@ -140,10 +141,13 @@ pub(crate) fn archives<W: Write, E: Write>(
     writer: &mut Port<W>,
     errors: &mut Port<E>,
 ) -> u8 {
+    let Ok(store) = followed(rt, store) else {
+        return tell_fault(errors, &TableFault::Memory);
+    };
     let beside = InFiles::new(rt, Unknown);
-    match archives_over(rt, store, Unknown, &beside, writer) {
+    match archives_over(rt, store.as_str(), Unknown, &beside, writer) {
         Ok(status) => status,
-        Err(fault) => tell_open(rt, errors, store, &fault),
+        Err(fault) => tell_open(Audience::of(rt), errors, store.as_str(), &fault),
     }
 }
 
@@ -155,6 +159,22 @@ pub(crate) fn close<W: Write, E: Write>(
     writer: &mut Port<W>,
     errors: &mut Port<E>,
 ) -> u8 {
+    let (Ok(store), Ok(archive)) = (followed(rt, store), followed(rt, archive)) else {
+        return tell_fault(errors, &TableFault::Memory);
+    };
+    tell_long(rt, errors, Work::CLOSING, store.as_str());
+    close_files(rt, store.as_str(), archive.as_str(), writer, errors)
+}
+
+/// Closes the store at a path, and prints that it is.
+fn close_files<W: Write, E: Write>(
+    rt: &HostRuntime,
+    store: &str,
+    archive: &str,
+    writer: &mut Port<W>,
+    errors: &mut Port<E>,
+) -> u8 {
+    let to = Audience::of(rt);
     let unknown = OfFour {
         store: UnknownFile,
         register: UnknownFile,
@@ -165,57 +185,72 @@ pub(crate) fn close<W: Write, E: Write>(
     match &closed {
         Ok(ended) => match &ended.1 {
             Ok(()) => print(writer, "ready\n", DONE),
-            Err(fault) => tell_close(rt, errors, store, archive, fault),
+            Err(fault) => tell_close(to, errors, store, archive, fault),
         },
-        Err(CloseCommandFault::Folder) => tell_no_copy(rt, errors, archive, Words::OTHER_FOLDER),
-        Err(CloseCommandFault::Close(fault)) => tell_close(rt, errors, store, archive, fault),
+        Err(CloseCommandFault::Folder) => tell_no_copy(to, errors, archive, Words::OTHER_FOLDER),
+        Err(CloseCommandFault::Close(fault)) => tell_close(to, errors, store, archive, fault),
     }
 }
 
-/// Tells that an archive does not take the store's history, and to a person also why.
+/// Reports that an archive does not take the store's history, and to a person also why.
 fn tell_no_copy<E: Write>(
-    rt: &HostRuntime,
+    to: Audience<'_>,
     errors: &mut Port<E>,
     archive: &str,
     words: Words,
 ) -> u8 {
     let status = tell_with(errors, "store: Archive\n", FAILED);
-    tell_words(rt, errors, archive, words);
+    tell_words(to, errors, archive, words);
     status
 }
 
-/// Tells why a store's history was not put away.
+/// Reports why a store's history was not put away.
 fn tell_close<E: Write>(
-    rt: &HostRuntime,
+    to: Audience<'_>,
     errors: &mut Port<E>,
     store: &str,
     archive: &str,
     fault: &CloseFault,
 ) -> u8 {
     match fault {
-        CloseFault::Archive(Refusal::Closed) => tell_closed(rt, errors, store),
-        CloseFault::Archive(why) => tell_no_copy(rt, errors, archive, words_of_refusal(*why)),
+        CloseFault::Archive(Refusal::Closed) => tell_closed(to, errors, store),
+        CloseFault::Archive(why) => tell_no_copy(to, errors, archive, words_of_refusal(*why)),
         CloseFault::File(of) | CloseFault::Comparing(of) => {
-            tell_file(rt, errors, store, archive, of)
+            tell_file(to, errors, store, archive, of)
         }
-        CloseFault::Memory => tell_store(rt, errors, store, &TableFault::Memory),
+        CloseFault::Memory => tell_store(to, errors, store, &TableFault::Memory),
     }
 }
 
-/// Tells a fault of one of the four files of a closing.
+/// Reports a fault of one of the four files of a closing.
 fn tell_file<E: Write>(
-    rt: &HostRuntime,
+    to: Audience<'_>,
     errors: &mut Port<E>,
     store: &str,
     archive: &str,
     of: &FileFault,
 ) -> u8 {
     match of.file {
-        File::Store => tell_store(rt, errors, store, &of.fault),
-        File::Register => tell_register(rt, errors, store, &of.fault),
-        File::Archive => tell_store(rt, errors, archive, &of.fault),
-        File::ArchiveRegister => tell_register(rt, errors, archive, &of.fault),
+        File::Store => tell_store(to, errors, store, &of.fault),
+        File::Register => tell_register(to, errors, store, &of.fault),
+        File::Archive => tell_archive(to, errors, archive, &of.fault),
+        File::ArchiveRegister => tell_register(to, errors, archive, &of.fault),
     }
+}
+
+/// Reports a fault of an archive; to a person that it has to be made first, if nothing is there.
+fn tell_archive<E: Write>(
+    to: Audience<'_>,
+    errors: &mut Port<E>,
+    archive: &str,
+    fault: &TableFault,
+) -> u8 {
+    if fs::metadata(to.rt(), archive).is_ok() {
+        return tell_store(to, errors, archive, fault);
+    }
+    let status = tell_fault(errors, fault);
+    tell_words(to, errors, archive, Words::NO_COPY);
+    status
 }
 
 /// Why an archive is refused, for a person.

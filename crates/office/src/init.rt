@@ -1,9 +1,15 @@
-use crate::causes::{stderr_is_terminal, tell_store, tell_unread, tell_with};
+use crate::causes::{Audience, stderr_is_terminal, tell_store, tell_unread, tell_with};
 use crate::history::may_be_made;
-use office_commands::{DONE, FAILED, NO_STORE, REFUSED, make_store as make_over, print};
-use office_setup::{MOST_PARTNERS, Setup};
-use office_setup_files::{SetupFault, WrongRecord, first_wrong, read_setup};
-use office_stream::Port;
+use crate::leaving::give_up;
+use crate::links::followed;
+use office_admission::{MOST_PARTNERS, Setup};
+use office_commands::{
+    DONE, FAILED, NO_STORE, REFUSED, leave_whole, make_store as make_over, print, tell_fault,
+};
+use office_explain::{
+    PartnerFault, SetupFault, WrongRecord, first_wrong, partner_fault, read_setup,
+};
+use office_replies::Port;
 use office_tables::TableFault;
 use sqlite::Unknown;
 use std::alloc::{AllocError, Global};
@@ -15,7 +21,8 @@ pub(crate) fn make_store(rt: &HostRuntime, path: &str, setup: &Setup) -> Result<
     if setup.partners.as_slice().len() > MOST_PARTNERS {
         return Err(TableFault::Store(NO_STORE));
     }
-    let _conn = make_over(rt, path, Unknown, setup)?;
+    let conn = make_over(rt, path, Unknown, setup)?;
+    give_up(leave_whole(conn));
     Ok(())
 }
 
@@ -46,17 +53,21 @@ pub(crate) fn init<W: Write, E: Write>(
             );
         }
     };
+    let Ok(store) = followed(rt, store) else {
+        return tell_fault(errors, &TableFault::Memory);
+    };
+    let store = store.as_str();
     if !may_be_made(rt, store, errors) {
         return FAILED;
     }
     match make_store(rt, store, &setup) {
         Ok(()) => print(writer, "ready\n", DONE),
-        Err(fault) => tell_store(rt, errors, store, &fault),
+        Err(fault) => tell_store(Audience::of(rt), errors, store, &fault),
     }
 }
 
-/// Tells the fault's name, and then to a person which record shows it. Each file comes with its path.
-fn refuse<E: Write>(
+/// Reports the fault's name, and then to a person which record shows it. Each file comes with its path.
+pub(crate) fn refuse<E: Write>(
     rt: &HostRuntime,
     fault: SetupFault,
     partners: (&str, &[u8]),
@@ -75,7 +86,7 @@ fn refuse<E: Write>(
     status
 }
 
-/// Which record shows a fault.
+/// Which record shows a fault, and what is wrong with it.
 fn place_of(
     alloc: Global,
     fault: SetupFault,
@@ -86,11 +97,61 @@ fn place_of(
     let (blocks_path, blocks) = blocks;
     match first_wrong(alloc, partners, blocks, fault)? {
         Some(WrongRecord::OfPartners(number)) => {
-            format!(in alloc; "{partners_path}, record {number}\n")
+            let words = words_of_partners(alloc, fault, partners, number)?;
+            format!(in alloc; "{partners_path}, record {number}: {words}\n")
         }
         Some(WrongRecord::OfBlocks(number)) => {
-            format!(in alloc; "{blocks_path}, record {number}\n")
+            let words = words_of_blocks(number);
+            format!(in alloc; "{blocks_path}, record {number}: {words}\n")
         }
         None => String::from_str(alloc, "a record is missing\n"),
+    }
+}
+
+/// What is wrong with a record of partners: of a partner what it is, of any other what is right.
+fn words_of_partners(
+    alloc: Global,
+    fault: SetupFault,
+    partners: &[u8],
+    number: usize,
+) -> Result<&'static str, AllocError> {
+    Ok(match fault {
+        SetupFault::Csv if number == 1 => "the header is what,name,value",
+        SetupFault::Csv => {
+            "a record has three fields, in UTF-8, of which the first is terminal, partner, code or limit"
+        }
+        SetupFault::Terminal => "there is one terminal,CODE, and nothing after the second comma",
+        SetupFault::Partner => words_of_partner(partner_fault(
+            alloc,
+            partners,
+            number.saturating_sub(1),
+        )?),
+        SetupFault::Code => {
+            "it is code,NAME,VALUE: each name once, of a document; VALUE 1 to 3 capitals or digits, no two alike for one type of message"
+        }
+        SetupFault::Limit => "there is one limit,visits,N at most, N 1 to 999999999",
+        SetupFault::Block | SetupFault::Memory => "the record is wrong",
+    })
+}
+
+/// What is wrong with a partner.
+fn words_of_partner(fault: Option<PartnerFault>) -> &'static str {
+    match fault {
+        Some(PartnerFault::Code) => {
+            "its code is not 1 to 35 letters, digits, hyphens, dots and underscores"
+        }
+        Some(PartnerFault::Kind) => "its kind is not gate, line, quay or yard",
+        Some(PartnerFault::Twice) => "its code is that of a partner before it",
+        Some(PartnerFault::Number) => "there are 999 partners before it, and may be no more",
+        None => "it is no partner",
+    }
+}
+
+/// What is right in a record of blocks.
+fn words_of_blocks(number: usize) -> &'static str {
+    match number {
+        1 => "the header is block,bays,rows,tiers",
+        _ =>
+            "a block is a capital, each once, 1 to 40 bays, 1 to 12 rows and 1 to 6 tiers; there are 20 at most",
     }
 }

@@ -1,6 +1,6 @@
 //! The office of a container terminal: `office init` makes a store, `office deliver` and `office serve` take
 //! interchanges, `office account` adds an account, `office report` looks things up, `office migrate` brings an older
-//! store to this version, `office explain` tells what is wrong with a file, and `office demo` takes interchanges from
+//! store to this version, `office explain` says what is wrong with a file, and `office demo` takes interchanges from
 //! standard input to tables in memory. Its texts and exit statuses are tested; what its commands are made of is proved.
 #![tactic(auto)]
 
@@ -9,13 +9,16 @@ mod command;
 mod explain;
 mod history;
 mod init;
+mod leaving;
+mod links;
+mod long_work;
 mod request_log;
 mod watch;
 
 use causes::tell_with;
 use command::run;
 use office_commands::{COMMAND_LINE, FAILED};
-use office_stream::Port;
+use office_replies::Port;
 use std::io::ErrorKind;
 use std::process::ExitCode;
 use std::{env, io};
@@ -42,7 +45,7 @@ fn run_words(rt: &HostRuntime) -> io::Result<u8> {
     Ok(run(rt, words.as_slice(), &mut input, &mut output, &mut errors))
 }
 
-/// Tells why the words could not be had: one is no text, or there was no memory for them.
+/// Reports why the words could not be had: one is no text, or there was no memory for them.
 fn tell_words(rt: &HostRuntime, kind: ErrorKind) -> u8 {
     let mut errors = Port::new(rt.stderr());
     match kind {

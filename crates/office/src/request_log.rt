@@ -3,14 +3,13 @@ use crate::watch::Became;
 use jiff::Timestamp;
 use office_commands::{AccountNote, DeliveryNote, Notes, Sender, WhyNotNow};
 use office_http::Seen;
-use office_replies::Worst;
-use office_stream::{Cut, StreamFault};
+use office_replies::{Cut, StreamFault, Worst};
 use std::alloc::Global;
 use std::cell::Cell;
 use std::time::{Duration, Instant, SystemTime, UNIX_EPOCH};
 use std::{fmt, str};
 
-/// A line for each request, on the standard error: what was done for it is noted first, and told when its connection is
+/// A line for each request, on the standard error: what was done for it is noted first, and written when its connection is
 /// done with.
 #[derive(Drop)]
 pub(crate) struct RequestLog<'a> {
@@ -46,7 +45,7 @@ impl<'a> RequestLog<'a> {
         }
     }
 
-    /// Tells why an answer is `not now`, if it is so for another cause than before.
+    /// Reports why an answer is `not now`, if it is so for another cause than before.
     fn tell_cause(&self, why: Option<&WhyNotNow<'_>>) {
         let mut causes = self.causes.get();
         let cause = causes.behind(self.rt, why);
@@ -175,7 +174,7 @@ impl fmt::Display for DeliveryWords<'_> {
 /// The most bytes of a partner's code.
 const MOST_BYTES: usize = 35;
 
-/// A code that was sent as a partner's: each byte that may stand in one as it is, any other as `%` and two hexadecimal
+/// A code that was sent as a partner's: each byte that may be in one as it is, any other as `%` and two hexadecimal
 /// digits. What is too long for one is cut off.
 #[derive(Clone, Copy)]
 struct Code<'a>(&'a [u8]);

@@ -1,33 +1,36 @@
 use crate::causes::Causes;
-use edi_cutter::CutFault;
+use edi_syntax::CutFault;
+use office_admission::{RefusedLines, RejectedMessages, Tally};
 use office_commands::{AccountNote, DeliveryNote, Notes, Sender};
 use office_http::Seen;
-use office_replies::Worst;
-use office_stream::{Cut, StreamFault};
-use office_taking::{RefusedLines, RejectedMessages, Tally};
+use office_replies::{Cut, StreamFault, Worst};
 use std::cell::Cell;
 use std::fmt;
+use std::io::IsTerminal;
 
-/// After how many interchanges a person is told how far it is.
+/// After how many interchanges a person is shown how far it is.
 const STEP: u64 = 1000;
 
-/// What a person is told who looks on while interchanges are delivered: how far it is, why an answer is `not now`, and in the
+/// What a person is shown who looks on while interchanges are delivered: how far it is, why an answer is `not now`, and in the
 /// end how they were answered, and where the stream is cut.
 #[derive(Drop)]
 pub(crate) struct DeliveryWatch<'a> {
     rt: &'a HostRuntime,
     is_on: bool,
+    shows_progress: bool,
     answers: Cell<Answers>,
     causes: Cell<Causes<'a>>,
     is_unread: Cell<bool>,
 }
 
 impl<'a> DeliveryWatch<'a> {
-    /// Of deliveries to the store at a path. It tells something only if it is on.
+    /// Of deliveries to the store at a path. It shows something only if it is on, and how far it is only if the answers, which
+    /// show that too, go elsewhere.
     pub(crate) fn new(rt: &'a HostRuntime, is_on: bool, path: &'a str) -> DeliveryWatch<'a> {
         DeliveryWatch {
             rt,
             is_on,
+            shows_progress: !rt.stdout().is_terminal(),
             answers: Cell::new(Answers::NONE),
             causes: Cell::new(Causes::new(path)),
             is_unread: Cell::new(false),
@@ -39,7 +42,7 @@ impl<'a> DeliveryWatch<'a> {
         self.is_unread.get()
     }
 
-    /// Tells why an answer is `not now`, if it is so for another cause than before.
+    /// Reports why an answer is `not now`, if it is so for another cause than before.
     fn tell_cause(&self, note: &DeliveryNote<'_>) {
         let mut causes = self.causes.get();
         let why = match note {
@@ -53,7 +56,7 @@ impl<'a> DeliveryWatch<'a> {
         }
     }
 
-    /// Tells how a stream was answered that came out so.
+    /// Reports how a stream was answered that came out so.
     fn tell_answers(&self, outcome: Result<Worst, StreamFault>, cut: Option<Cut>) {
         let answers = self.answers.get();
         match (outcome, cut) {
@@ -82,7 +85,7 @@ impl Notes for DeliveryWatch<'_> {
         answers.count(note);
         self.answers.set(answers);
         self.tell_cause(note);
-        if answers.all() % STEP == 0 {
+        if self.shows_progress && answers.all() % STEP == 0 {
             let _ = eprint!(self.rt; "{} interchanges\r", answers.all());
         }
     }
@@ -259,7 +262,7 @@ impl fmt::Display for Count {
 }
 
 /// The word for one, or for any other number.
-fn of_number(number: u64, one: &'static str, others: &'static str) -> &'static str {
+pub(crate) fn of_number(number: u64, one: &'static str, others: &'static str) -> &'static str {
     if number == 1 { one } else { others }
 }
 
@@ -276,7 +279,7 @@ fn write_counts<W: fmt::Write>(
     Ok(())
 }
 
-/// Writes those of which there is any, and answers what stands before the next.
+/// Writes those of which there is any, and answers what comes before the next.
 fn write_each<W: fmt::Write>(
     counts: &[Count],
     first: &'static str,

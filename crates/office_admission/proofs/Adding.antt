@@ -1,31 +1,103 @@
 -- One event more.
-use Rattle.std.proofs.Common.{◌≡◌, ℕ, zero, suc, ◌+◌, ◌<◌, inl, inr, List, [], ◌∷◌, ◌++◌, length, map, Bool, true, false, cond, Option, None, Some, Result, Ok, Err, refl, sym, ap, subst, ◌∙◌, arith}
-use Rattle.std.specs.Prelude.{◌==◌, ◌&&◌, ◌⊎◌, is_some, nat_lt, slice_get, IsTrue}
+use Rattle.std.proofs.Common.{◌≡◌, ℕ, ◌+◌, ◌<◌, ◌≤◌, List, [], ◌∷◌, ◌++◌, length, Bool, true, false, cond, Option, None, Some, Result, Ok, Err, refl, ap, ◌∙◌, arith, zero, suc, inl, inr, map, sym, subst, IfOk, IfErr}
 use Rattle.std.specs.Str.{bytes_eq}
+use Rattle.edi_syntax.specs.Text.{Content}
+use Rattle.edi_syntax.specs.Interchange.{segments_in, interchange_of}
+use Rattle.edi_syntax.specs.declared.interchange.SyntaxFault.{SyntaxFault}
+use Rattle.edi_syntax.specs.Envelope.{header_of}
+use Rattle.edi_syntax.specs.Faults.{fault_of}
+use Rattle.edi_syntax.specs.Header.{sender, recipient}
+use Rattle.office_replies.specs.declared.deliver.Fault.{Fault}
+use Rattle.office_replies.specs.declared.deliver.Fault.TheVariants.{WrongRecipient}
+use Rattle.office_admission.specs.Parties.{Parties, partner_from}
+use Rattle.office_admission.specs.Admission.{admission, by_header, by_recipient, sender_of, number_in, number_said}
+use Rattle.std.specs.Prelude.{◌==◌, ◌&&◌, ◌⊎◌, is_some, nat_lt, slice_get, IsTrue}
 use Rattle.std.proofs.lemmas.Bool.{eqb-true, ltb-true}
 use Rattle.std.proofs.lemmas.List.{map-append, length-map, length-append, append-nil}
 use Rattle.std.proofs.lemmas.List.Elements.{All-push}
 use Rattle.std.proofs.lemmas.Slice.Eq.{bytes_eq-Decides}
 use Rattle.edi_messages.specs.declared.codes.PartnerKind.{PartnerKind}
 use Rattle.edi_messages.specs.declared.codes.PartnerKind.TheVariants.{Gate, Line, Quay, Yard}
-use Rattle.edi_segments.specs.Interchange.{interchange_of}
 use Rattle.partner_core.specs.Deliveries.{Delivery, first_text, run}
-use Rattle.partner_core.proofs.Unbroken.{used_within_run}
+use Rattle.partner_core.proofs.Orders.{used_within_run}
 use Rattle.partner_core.specs.Numbered.{with_number}
 use Rattle.terminal_core.specs.declared.change.Version.{Version}
 use Rattle.office_replies.specs.Events.{Event, delivered, migrated, added}
-use Rattle.office_replies.specs.declared.deliver.Fault.{Fault}
 use Rattle.office_replies.specs.declared.accounts.AccountFault.TheVariants.{Partner, Accounts}
-use Rattle.office_setup.specs.Given.{IsGiven}
-use Rattle.office_setup.specs.Kinds.{kind_named}
-use Rattle.office_setup.specs.Parties.{partner_from}
-use Rattle.office_setup.specs.PartyCodes.{is_party_code}
-use Rattle.office_setup.specs.Setups.{SetupContent, parties_in}
+use Rattle.office_admission.specs.Given.{IsGiven}
+use Rattle.office_admission.specs.Kinds.{kind_named}
+use Rattle.office_admission.specs.PartyCodes.{is_party_code}
+use Rattle.office_admission.specs.Setups.{SetupContent, parties_in}
 use Rattle.office_admission.specs.Accounts.{AccountContent, AccountPair, added_as, known_as, refused_for, by_own_kind, by_number, by_kind, account_answer, with_answer, accounts_with, content_with, content_after}
-use Rattle.office_admission.specs.Admission.{admission}
 use Rattle.office_admission.specs.Deliveries.{with_delivery, deliveries_of}
 use Rattle.office_admission.specs.Laws.{IsAddedLast}
-use Rattle.office_admission.proofs.Growing.{with_party, admitted_still, admitted_told}
+use Rattle.terminal_core.proofs.Dropping.{both_true}
+pub use Rattle.office_admission.specs.Grown.{with_party}
+
+-- ==== Growing: What was admitted stays so with an account more.
+
+-- ---- a partner that is found
+
+found_still : (number : ℕ) (code : List ℕ) (partners others : List (List ℕ)) (p : ℕ) → partner_from number code partners ≡ Some p → partner_from number code (partners ++ others) ≡ Some p
+found_still number code [] others p e = cc
+found_still number code (partner ∷ partners) others p e = by (bytes_eq code partner) (found_still (number + 1) code partners others p) e
+  where
+    by : (b : Bool) → (partner_from (number + 1) code partners ≡ Some p → partner_from (number + 1) code (partners ++ others) ≡ Some p)
+        → cond b (Some number) (partner_from (number + 1) code partners) ≡ Some p → cond b (Some number) (partner_from (number + 1) code (partners ++ others)) ≡ Some p
+    by true rest e = e
+    by false rest e = rest e
+
+pub found_low : (number : ℕ) (code : List ℕ) (partners : List (List ℕ)) (p : ℕ) → partner_from number code partners ≡ Some p → (number ≤ p) × (p < number + length partners)
+found_low number code [] p e = cc
+found_low number code (partner ∷ partners) p e = by (bytes_eq code partner) (found_low (number + 1) code partners p) e
+  where
+    by : (b : Bool) → (partner_from (number + 1) code partners ≡ Some p → (number + 1 ≤ p) × (p < number + 1 + length partners))
+        → cond b (Some number) (partner_from (number + 1) code partners) ≡ Some p → (number ≤ p) × (p < number + length (partner ∷ partners))
+    by true rest e = let same : number ≡ p = cc in (omega arith, omega arith)
+    by false rest e = let is = rest e in (omega (arith, is.0), omega (arith, is.1))
+
+-- ---- what is admitted
+
+recipient_still : (P : Parties) (code : List ℕ) (header : Content) (o : Option ℕ) (found : ℕ × ℕ) → sender_of P header ≡ o → by_recipient P header o ≡ Ok found → by_recipient (with_party P code) header (sender_of (with_party P code) header) ≡ Ok found
+recipient_still P code header None found is e = cc
+recipient_still P code header (Some p) found is e = ap (by_recipient (with_party P code) header) (found_still 1 (sender header 1) P.partners (code ∷ []) p is) ∙ e
+
+header_still : (P : Parties) (code : List ℕ) (header : Content) (fault : Option SyntaxFault) (found : ℕ × ℕ) → by_header P header fault ≡ Ok found → by_header (with_party P code) header fault ≡ Ok found
+header_still P code header (Some fault) found e = cc
+header_still P code header None found e = recipient_still P code header (sender_of P header) found refl e
+
+pub admitted_still : (P : Parties) (code text : List ℕ) (found : ℕ × ℕ) → admission P text ≡ Ok found → admission (with_party P code) text ≡ Ok found
+admitted_still P code text found e = header_still P code (header_of (segments_in text)) (fault_of text) found e
+
+-- ---- whose it is, and under which number
+
+-- one of the partners, and the number that the header says
+abbrev pub IsTold : Parties → Content → ℕ × ℕ → Type 0
+IsTold P header found = (1 ≤ found.0) × (found.0 ≤ length P.partners) × (number_in header ≡ found.1)
+
+recipient_told : (P : Parties) (header : Content) (o : Option ℕ) (found : ℕ × ℕ) → sender_of P header ≡ o → by_recipient P header o ≡ Ok found → IsTold P header found
+recipient_told P header None found is e = cc
+recipient_told P header (Some p) found is e = by (bytes_eq (recipient header 1) P.terminal) e
+  where
+    by : (b : Bool) → ◌≡◌ {A = Result (ℕ × ℕ) Fault} (cond b (Ok (p, number_in header)) (Err WrongRecipient)) (Ok found) → IsTold P header found
+    by true e =
+        let pair : (p, number_in header) ≡ found = cc in
+        let own : p ≡ found.0 = ap (λ (q : ℕ × ℕ). q.0) pair in
+        let low = found_low 1 (sender header 1) P.partners p is in
+        (omega (arith, own, low.0), omega (arith, own, low.1), ap (λ (q : ℕ × ℕ). q.1) pair)
+    by false e = cc
+
+header_told : (P : Parties) (header : Content) (fault : Option SyntaxFault) (found : ℕ × ℕ) → by_header P header fault ≡ Ok found → IsTold P header found
+header_told P header (Some fault) found e = cc
+header_told P header None found e = recipient_told P header (sender_of P header) found refl e
+
+pub admitted_told : (P : Parties) (text : List ℕ) (found : ℕ × ℕ) → admission P text ≡ Ok found → IsTold P (header_of (segments_in text)) found
+admitted_told P text found e = header_told P (header_of (segments_in text)) (fault_of text) found e
+
+pub number_told : (P : Parties) (text : List ℕ) (found : ℕ × ℕ) → admission P text ≡ Ok found → number_said text ≡ found.1
+number_told P text found e = (admitted_told P text found e).2
+
+-- ==== Adding: One event more.
 
 -- ---- an account
 
@@ -87,9 +159,6 @@ module _ (accounts : List AccountPair) (code kind : List ℕ) (id : ℕ) where
 
   pub added_accounts : (own : PartnerKind) → kind_named kind ≡ Some own → account_answer accounts code kind ≡ added_as id → accounts_with accounts code kind ≡ accounts ++ (code, own) ∷ []
   added_accounts own named e = ap (λ o. with_answer accounts code o (account_answer accounts code kind)) named ∙ ap (with_answer accounts code (Some own)) e
-
-some_kind : (a b : PartnerKind) → Some a ≡ Some b → a ≡ b
-some_kind a b e = cc
 
 pub added_last : (content : SetupContent) (code kind : List ℕ) (id : ℕ) (own : PartnerKind) → kind_named kind ≡ Some own → account_answer content.partners code kind ≡ added_as id → IsAddedLast content code kind id own
 added_last content code kind id own named e =
@@ -195,11 +264,6 @@ refused_adds_none events later content sent fault is =
 
 -- ---- first texts
 
-both_true : (a b : Bool) → (a && b) ≡ true → (a ≡ true) × (b ≡ true)
-both_true true true e = (refl, refl)
-both_true true false e = cc
-both_true false b e = cc
-
 first_with : (text : List ℕ) (found : Result (ℕ × ℕ) Fault) (later : List Delivery) (p k : ℕ) (first : List ℕ) (Admits : List ℕ → ℕ × ℕ → Type 0)
     → ((is : ℕ × ℕ) → found ≡ Ok is → Admits text is) → (first_text later p k ≡ Some first → Admits first (p, k)) → first_text (with_delivery text found later) p k ≡ Some first → Admits first (p, k)
 first_with text (Err fault) later p k first Admits here rest e = rest e
@@ -297,3 +361,13 @@ given_after [] content given = given
 given_after (delivered text ∷ events) content given = given_after events content given
 given_after (migrated version ∷ events) content given = given_after events content given
 given_after (added code kind ∷ events) content given = given_after events (content_with content (added code kind)) (given_with content code kind (grows content.partners code kind) given)
+
+-- ==== Results: A fact of a result for a weaker one.
+
+pub ok_weaker : {T E : Type 0} (r : Result T E) (P Q : T → Type 0) → ((value : T) → P value → Q value) → IfOk r P → IfOk r Q
+ok_weaker (Ok value) P Q on holds = on value holds
+ok_weaker (Err error) P Q on holds = tt
+
+pub err_weaker : {T E : Type 0} (r : Result T E) (P Q : E → Type 0) → ((error : E) → P error → Q error) → IfErr r P → IfErr r Q
+err_weaker (Ok value) P Q on holds = tt
+err_weaker (Err error) P Q on holds = on error holds

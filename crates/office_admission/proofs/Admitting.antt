@@ -1,27 +1,34 @@
 -- What the head of a text, and its body, tell of its admission.
-use Rattle.std.proofs.Common.{◌≡◌, ℕ, ◌+◌, Bool, true, false, cond, List, [], ◌∷◌, ◌++◌, Option, Some, None, Ok, Err, ◌&&◌, refl, sym, ap, ◌∙◌}
+use Rattle.std.proofs.Common.{◌≡◌, ℕ, ◌+◌, Bool, true, false, cond, List, [], ◌∷◌, ◌++◌, Option, Some, None, Ok, Err, ◌&&◌, refl, sym, ap, ◌∙◌, inl, inr, ◌⊎◌, subst}
 use Rattle.std.specs.Option.{is_none}
 use Rattle.std.specs.List.{find, list_all}
 use Rattle.std.specs.Str.{bytes_eq}
-use Rattle.edi_segments.specs.Text.{Content}
-use Rattle.edi_segments.specs.Interchange.{segments_in}
-use Rattle.edi_segments.specs.declared.interchange.SyntaxFault.{SyntaxFault}
+use Rattle.edi_syntax.specs.Text.{Content}
+use Rattle.edi_syntax.specs.Interchange.{segments_in}
+use Rattle.edi_syntax.specs.declared.interchange.SyntaxFault.{SyntaxFault}
 use Rattle.edi_syntax.specs.Envelope.{header_of}
 use Rattle.edi_syntax.specs.Header.{sender, recipient}
-use Rattle.edi_syntax.proofs.FaultLemmas.{of_body}
+use Rattle.edi_syntax.proofs.BlockLemmas.{of_body}
 use Rattle.edi_syntax.specs.Faults.{applies, text_faults, header_faults, fault_of, head_fault_of, body_fault_of}
 use Rattle.edi_messages.specs.ErrorCodes.{interchange_error}
 use Rattle.office_replies.specs.declared.deliver.Fault.TheVariants.{Syntax, UnknownSender, WrongRecipient}
 use Rattle.partner_core.specs.Numbered.{with_number}
-use Rattle.partner_core.proofs.Numbered.{with_number-at}
+use Rattle.partner_core.proofs.Keepings.{with_number-at}
 use Rattle.std.specs.Prelude.{slice_get}
 use Rattle.std.proofs.lemmas.Option.{slice_get-map}
 use Rattle.edi_syntax.specs.Heads.{head_segments}
 use Rattle.edi_syntax.specs.declared.head.Head.{Head}
-use Rattle.office_setup.specs.declared.setup.Account.{Account}
-use Rattle.office_setup.specs.Parties.{Parties, partner_from, partner_kinds}
+use Rattle.office_admission.specs.declared.setup.Account.{Account}
+use Rattle.office_admission.specs.Parties.{Parties, partner_from, partner_kinds}
 use Rattle.office_admission.specs.Outcomes.{IsOpened}
 use Rattle.office_admission.specs.Admission.{admission, by_header, by_recipient, sender_of, number_in}
+use Rattle.office_replies.specs.declared.deliver.Fault.{Fault}
+use Rattle.office_replies.specs.declared.deliver.Response.{Response}
+use Rattle.office_replies.specs.Contents.{GivesOrNotNow}
+use Rattle.office_admission.specs.Refusals.{error_of, refusal_of, refusal_to, plain_refusal, rejection, RefusedSurely}
+use Rattle.office_replies.specs.declared.deliver.Response.TheVariants as response
+
+-- ==== Admitting: What the head of a text, and its body, tell of its admission.
 
 pub syntax_refused : (P : Parties) (text : List ℕ) (fault : SyntaxFault) → fault_of text ≡ Some fault → admission P text ≡ Err (Syntax fault)
 syntax_refused P text fault e = ap (by_header P (header_of (segments_in text))) e
@@ -82,3 +89,44 @@ pub text_admitted : (P : Parties) (text : List ℕ) (partner : ℕ) → fault_of
 text_admitted P text partner e some ours =
     ap (by_header P (header_of (segments_in text))) e ∙ ap (by_recipient P (header_of (segments_in text))) some
     ∙ ap (λ same. cond same (Ok (partner, number_in (header_of (segments_in text)))) (Err WrongRecipient)) ours
+
+-- ==== Refusing: Answers to what is refused.
+
+-- where there is none, or nobody to send it to
+pub plain : (header : Content) (fault : Fault) (sender error : Option ℕ) → (sender ≡ None) ⊎ (error ≡ None) → refusal_to header fault sender error ≡ plain_refusal fault
+plain header fault None error e = refl
+plain header fault (Some partner) None e = refl
+plain header fault (Some partner) (Some error) (inl e) = absurd cc
+plain header fault (Some partner) (Some error) (inr e) = absurd cc
+
+pub refused_plainly : (header : Content) (fault : Fault) (sender error : Option ℕ) → (sender ≡ None) ⊎ (error ≡ None) →
+    GivesOrNotNow (refusal_to header fault sender error) (response.Refused fault)
+refused_plainly header fault sender error e =
+    sym (plain header fault sender error e)
+
+-- a text is refused for one fault
+one_fault : (P : Parties) (text : List ℕ) (fault other : Fault) → admission P text ≡ Err fault → admission P text ≡ Err other → fault ≡ other
+one_fault P text fault other e e' = let same : Err fault ≡ Err other = sym e ∙ e' in cc
+
+-- a refusal without a CONTRL is the fixed one
+pub plainly_sure : (P : Parties) (text : List ℕ) (fault : Fault) → admission P text ≡ Err fault → RefusedSurely P text (response.Refused fault)
+plainly_sure P text fault refused other e none = ap response.Refused (one_fault P text fault other refused e)
+
+-- one that owes a CONTRL to a partner says so
+pub owed : (P : Parties) (text : List ℕ) (fault : Fault) (error partner : ℕ) (segments : List Content) (given : Response) →
+    error_of fault ≡ Some error → segments ≡ segments_in text → sender_of P (header_of (segments_in text)) ≡ Some partner →
+    GivesOrNotNow (rejection (header_of segments) fault error) given → GivesOrNotNow (refusal_of P (header_of (segments_in text)) fault) given
+owed P text fault error partner segments given has same some gives =
+    let here : GivesOrNotNow (rejection (header_of (segments_in text)) fault error) given = subst (λ others. GivesOrNotNow (rejection (header_of others) fault error) given) same gives in
+    subst (λ sender. GivesOrNotNow (refusal_to (header_of (segments_in text)) fault sender (error_of fault)) given) (sym some)
+    (subst (λ found. GivesOrNotNow (refusal_to (header_of (segments_in text)) fault (Some partner) found) given) (sym has) here)
+
+no_none : {A : Type 0} (o : Option A) (value : A) → o ≡ Some value → o ≡ None → ⊥
+no_none o value is none = absurd cc
+
+-- so it isn't refused without one
+pub owed_sure : (P : Parties) (text : List ℕ) (fault : Fault) (error partner : ℕ) (given : Response) → admission P text ≡ Err fault →
+    error_of fault ≡ Some error → sender_of P (header_of (segments_in text)) ≡ Some partner → RefusedSurely P text given
+owed_sure P text fault error partner given refused has some other e (inl none) = absurd (no_none (sender_of P (header_of (segments_in text))) partner some none)
+owed_sure P text fault error partner given refused has some other e (inr none) =
+    absurd (no_none (error_of fault) error has (ap error_of (one_fault P text fault other refused e) ∙ none))

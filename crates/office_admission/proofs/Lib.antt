@@ -1,5 +1,6 @@
-pub mod Growing
 pub mod Adding
 pub mod Admitting
-pub mod Refusing
-pub mod Results
+pub mod Contents
+pub mod Named
+pub mod Takings
+pub mod Forming

@@ -6,11 +6,11 @@ use Rattle.partner_core.specs.Numbered.{with_number}
 use Rattle.office_replies.specs.Events.{Event, delivered, migrated, added}
 use Rattle.office_replies.specs.declared.accounts.AccountFault.{AccountFault}
 use Rattle.office_replies.specs.declared.accounts.AccountFault.TheVariants.{Partner, Kind, Accounts}
-use Rattle.office_setup.specs.Kinds.{kind_named}
-use Rattle.office_setup.specs.Limits.{most_partners}
-use Rattle.office_setup.specs.Parties.{partner_from}
-use Rattle.office_setup.specs.PartyCodes.{is_party_code}
-use Rattle.office_setup.specs.Setups.{SetupContent}
+use Rattle.office_admission.specs.Kinds.{kind_named}
+use Rattle.office_admission.specs.Limits.{most_partners}
+use Rattle.office_admission.specs.Parties.{partner_from}
+use Rattle.office_admission.specs.PartyCodes.{is_party_code}
+use Rattle.office_admission.specs.Setups.{SetupContent}
 
 -- what is said of an account that is to be added: it is added under this number, it is known under this one, or it is
 -- refused

@@ -1,10 +1,10 @@
 -- Events, as the deliveries of partners.
 use Rattle.std.specs.Prelude.{ℕ, List, [], ◌∷◌, Result, Ok, Err}
-use Rattle.edi_segments.specs.Interchange.{interchange_of}
+use Rattle.edi_syntax.specs.Interchange.{interchange_of}
 use Rattle.partner_core.specs.Deliveries.{Delivery, delivery}
 use Rattle.office_replies.specs.Events.{Event, delivered, migrated, added}
 use Rattle.office_replies.specs.declared.deliver.Fault.{Fault}
-use Rattle.office_setup.specs.Setups.{SetupContent, parties_in}
+use Rattle.office_admission.specs.Setups.{SetupContent, parties_in}
 use Rattle.office_admission.specs.Accounts.{content_with}
 use Rattle.office_admission.specs.Admission.{admission}
 

@@ -1,6 +1,6 @@
 -- Parties with an account more.
 use Rattle.std.specs.Prelude.{◌≡◌, ℕ, List, [], ◌∷◌, ◌++◌, Ok}
-use Rattle.office_setup.specs.Parties.{Parties}
+use Rattle.office_admission.specs.Parties.{Parties}
 use Rattle.office_admission.specs.Admission.{admission}
 
 -- the parties, a partner of that code being the last

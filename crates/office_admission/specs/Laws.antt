@@ -1,15 +1,15 @@
 -- What one event more adds to the accounts and to what was delivered.
 use Rattle.std.specs.Prelude.{◌≡◌, ℕ, ◌+◌, ◌<◌, List, [], ◌∷◌, ◌++◌, length, Ok, Err, None, Some}
 use Rattle.edi_messages.specs.declared.codes.PartnerKind.{PartnerKind}
-use Rattle.edi_segments.specs.Interchange.{interchange_of}
+use Rattle.edi_syntax.specs.Interchange.{interchange_of}
 use Rattle.partner_core.specs.Deliveries.{first_text, run}
 use Rattle.office_replies.specs.Events.{Event, delivered, added}
 use Rattle.office_replies.specs.declared.deliver.Fault.{Fault}
-use Rattle.office_setup.specs.Given.{IsGiven}
-use Rattle.office_setup.specs.Kinds.{kind_named}
-use Rattle.office_setup.specs.Limits.{most_partners}
-use Rattle.office_setup.specs.Parties.{partner_from}
-use Rattle.office_setup.specs.Setups.{SetupContent, parties_in, setup_with_account}
+use Rattle.office_admission.specs.Given.{IsGiven}
+use Rattle.office_admission.specs.Kinds.{kind_named}
+use Rattle.office_admission.specs.Limits.{most_partners}
+use Rattle.office_admission.specs.Parties.{partner_from}
+use Rattle.office_admission.specs.Setups.{SetupContent, parties_in, setup_with_account}
 use Rattle.office_admission.specs.Accounts.{account_answer, added_as, content_with, content_after}
 use Rattle.office_admission.specs.Admission.{admission}
 use Rattle.office_admission.specs.Deliveries.{with_delivery, deliveries_of}

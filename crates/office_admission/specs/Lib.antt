@@ -5,3 +5,16 @@ pub mod Deliveries
 pub mod Laws
 pub mod Refusals
 pub mod Outcomes
+pub mod Kinds
+pub mod Limits
+pub mod Parties
+pub mod PartyCodes
+pub mod SetupAccounts
+pub mod Setups
+pub mod Given
+pub mod Readings
+pub mod Taking
+pub mod Tallies
+pub mod Growth
+pub mod States
+pub mod TakingLaws

@@ -1,6 +1,6 @@
 -- What is known of a text that was admitted, and of one that was refused.
 use Rattle.std.specs.Prelude.{◌≡◌, ℕ, ◌≤◌, List, length, None, Some, Ok, Err}
-use Rattle.edi_segments.specs.Interchange.{segments_in}
+use Rattle.edi_syntax.specs.Interchange.{segments_in}
 use Rattle.edi_syntax.specs.Envelope.{header_of}
 use Rattle.edi_syntax.specs.Envelopes.{envelope_segments}
 use Rattle.edi_syntax.specs.Faults.{head_fault_of}
@@ -8,8 +8,8 @@ use Rattle.edi_syntax.specs.declared.head.Head.{Head}
 use Rattle.edi_syntax.specs.Heads.{head_segments}
 use Rattle.partner_core.specs.Numbered.{with_number}
 use Rattle.office_replies.specs.declared.deliver.Fault.{Fault}
-use Rattle.office_setup.specs.Parties.{parties_of, partner_kinds}
-use Rattle.office_setup.specs.declared.setup.Setup.{Setup}
+use Rattle.office_admission.specs.Parties.{parties_of, partner_kinds}
+use Rattle.office_admission.specs.declared.setup.Setup.{Setup}
 use Rattle.office_admission.specs.Admission.{admission, number_in, sender_of}
 use Rattle.office_admission.specs.Refusals.{HasNoContrl, error_of}
 use Rattle.office_admission.specs.declared.admission.Admitted.{Admitted}

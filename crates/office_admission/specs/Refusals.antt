@@ -1,7 +1,7 @@
 -- How a text is answered that is not admitted.
 use Rattle.std.specs.Prelude.{◌≡◌, ◌⊎◌, ℕ, List, Option, None, Some, Err, encode_utf8_all}
-use Rattle.edi_segments.specs.Text.{Content}
-use Rattle.edi_segments.specs.Interchange.{segments_in}
+use Rattle.edi_syntax.specs.Text.{Content}
+use Rattle.edi_syntax.specs.Interchange.{segments_in}
 use Rattle.edi_syntax.specs.Envelope.{header_of}
 use Rattle.edi_messages.specs.Contrl.{rejection_text}
 use Rattle.edi_messages.specs.ErrorCodes.{interchange_error}
@@ -16,7 +16,7 @@ use Rattle.office_replies.specs.declared.deliver.Fault.TheVariants.{Syntax, Unkn
 use Rattle.office_replies.specs.declared.deliver.Response.{Response}
 use Rattle.office_replies.specs.declared.deliver.Response.TheVariants as response
 use Rattle.office_replies.specs.declared.deliver.Worst.TheVariants as worst
-use Rattle.office_setup.specs.Parties.{Parties}
+use Rattle.office_admission.specs.Parties.{Parties}
 use Rattle.office_admission.specs.Admission.{admission, sender_of}
 
 -- the error code (0085) of the CONTRL that a refusal carries, if it carries one

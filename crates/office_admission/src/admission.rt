@@ -1,19 +1,18 @@
 ghost use Rattle.std.specs.Prelude.{◌≡◌, ℕ, List, ◌+◌, ◌<◌, ◌≤◌, false, IfNone, IfSome, IfOk, IfErr, length};
-ghost use Rattle.edi_segments.specs.Interchange.{segments_in};
+ghost use Rattle.edi_syntax.specs.Interchange.{segments_in};
 ghost use Rattle.edi_syntax.specs.Envelope.{header_of};
 ghost use Rattle.office_admission.specs.Admission.{admission, is_for, sender_of};
 ghost use Rattle.office_admission.specs.Outcomes.{IsAdmitted, IsRefused, IsOpened};
 ghost use Rattle.office_replies.specs.declared.deliver.Fault.{Fault};
-ghost use Rattle.office_setup.specs.Limits.{most_partners};
-ghost use Rattle.office_setup.specs.Parties.{parties_of};
-ghost use Rattle.office_setup.specs.declared.setup.Setup.{Setup};
+ghost use Rattle.office_admission.specs.Limits.{most_partners};
+ghost use Rattle.office_admission.specs.Parties.{parties_of};
+ghost use Rattle.office_admission.specs.declared.setup.Setup.{Setup};
 
+use crate::Setup;
 use crate::refusal::Refusal;
 use edi_messages::{PartnerKind, WRONG_RECIPIENT, interchange_error};
-use edi_segments::SyntaxFault;
-use edi_syntax::{Envelope, Head};
+use edi_syntax::{Envelope, Head, SyntaxFault};
 use office_replies::Fault;
-use office_setup::Setup;
 
 /// An interchange that the office takes.
 #[derive(Clone, Copy)]

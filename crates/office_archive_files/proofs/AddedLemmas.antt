@@ -12,14 +12,14 @@ use Rattle.sqlite_rules.proofs.ListLemmas.{has_contained}
 use Rattle.terminal_core.specs.State.{side_code}
 use Rattle.terminal_core.proofs.Lined.{same_key, tied_self}
 use Rattle.office_rows.specs.Rows.{ListingContent}
-use Rattle.office_history.proofs.Shown.{head_in, tail_in}
-use Rattle.office_lists.specs.Bringing.{is_list}
-use Rattle.office_lists.specs.OwnLists.{ListName, list_name}
+use Rattle.office_history.proofs.Kept.{head_in, tail_in}
+use Rattle.office_parts.specs.Bringing.{is_list}
+use Rattle.office_parts.specs.OwnLists.{ListName, list_name}
 use Rattle.office_parts.specs.Archives.{Archive}
-use Rattle.office_register.specs.Changes.{unmarked}
-use Rattle.office_register.specs.Lists.{SettledListContent, comes_before, list_cmp, put_list, put_lists}
-use Rattle.office_register.specs.Register.{RegisterContent}
-use Rattle.office_register.specs.Sound.{are_rising, are_sound_archives, are_sound_lists, are_sound_segments, comes_after, is_sound_mark, may_be_list}
+use Rattle.office_closing.specs.Changes.{unmarked}
+use Rattle.office_closing.specs.Lists.{SettledListContent, comes_before, list_cmp, put_list, put_lists}
+use Rattle.office_closing.specs.Register.{RegisterContent}
+use Rattle.office_closing.specs.Sound.{are_rising, are_sound_archives, are_sound_lists, are_sound_segments, comes_after, is_sound_mark, may_be_list}
 use Rattle.office_closing.specs.Closes.{Closing, Held, IsClosing, closed_after, raised_register}
 use Rattle.office_closing.specs.Copies.{FileNames}
 use Rattle.office_closing.specs.Deleting.{is_one_of}

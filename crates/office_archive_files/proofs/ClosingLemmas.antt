@@ -16,36 +16,35 @@ use Rattle.terminal_core.specs.State.{AreNumbered, IsWhole, TerminalState, side_
 use Rattle.terminal_core.specs.declared.lines.Side.{Side}
 use Rattle.terminal_core.proofs.Lined.{same_key}
 use Rattle.office_replies.specs.Events.{Event}
-use Rattle.office_checks.proofs.Keyed.{side_is}
+use Rattle.office_loading.proofs.Keyed.{side_is}
 use Rattle.office_rows.specs.Effects.{is_pair}
 use Rattle.office_rows.specs.Rows.{Interchange, Partner, Rows}
 use Rattle.office_rows.specs.Stored.{StoresRows}
 use Rattle.office_rows.specs.Tables.{office_schema}
-use Rattle.office_setup.specs.Given.{IsGiven}
-use Rattle.office_setup.specs.Setups.{SetupContent}
+use Rattle.office_admission.specs.Given.{IsGiven}
+use Rattle.office_admission.specs.Setups.{SetupContent}
 use Rattle.office_admission.specs.Accounts.{content_after}
 use Rattle.office_admission.specs.Deliveries.{deliveries_of}
 use Rattle.office_history.specs.After.{AreKeptOnce, accounts_from, machine_after}
-use Rattle.office_history.proofs.Shown.{head_in, tail_in}
-use Rattle.office_lists.specs.Bringing.{is_list}
-use Rattle.office_lists.specs.OwnLists.{ListName, list_name, rows_without_lists, without_lists}
-use Rattle.office_lists.proofs.OfficeLemmas.{own_office_without}
+use Rattle.office_history.proofs.Kept.{head_in, tail_in, count_more}
+use Rattle.office_parts.specs.Bringing.{is_list}
+use Rattle.office_parts.specs.OwnLists.{ListName, list_name, rows_without_lists, without_lists}
+use Rattle.office_parts.proofs.Writings.{own_office_without}
 use Rattle.office_parts.specs.Archives.{Archive}
 use Rattle.office_parts.specs.Closing.{is_closed}
 use Rattle.office_parts.specs.LeftOver.{rows_beyond}
 use Rattle.office_parts.specs.OwnTerminal.{own_terminal, own_visits}
-use Rattle.office_parts.proofs.Splits.{count_more}
-use Rattle.office_register.specs.Changes.{unmarked}
-use Rattle.office_register.specs.Lists.{SettledListContent, is_of_list, lines_of_list}
-use Rattle.office_register.specs.Register.{RegisterContent, closed_by, newest_visit}
-use Rattle.office_register.specs.Sound.{IsSound}
+use Rattle.office_closing.specs.Changes.{unmarked}
+use Rattle.office_closing.specs.Lists.{SettledListContent, is_of_list, lines_of_list}
+use Rattle.office_closing.specs.Register.{RegisterContent, closed_by, newest_visit}
+use Rattle.office_closing.specs.Sound.{IsSound}
 use Rattle.office_closing.specs.Closes.{AreOrderly, Closing, Held, IsClosing, IsLeft, raised_register}
 use Rattle.office_closing.specs.Copies.{FileNames}
 use Rattle.office_closing.specs.Deleting.{is_one_of}
 use Rattle.office_closing.specs.PuttingAway.{AreNamedThen, ClosedStoresStand, HasLists as HasEachList, Stands}
 use Rattle.office_archives.specs.Shelves.{HasLists, IsKeptAs, IsOfCall, NamesAll}
 use Rattle.office_archives.specs.Together.{IsBesideAfter}
-use Rattle.office_archives.proofs.Resting.{of_whole}
+use Rattle.office_archives.proofs.Filled.{of_whole}
 use Rattle.office_archive_files.specs.ClosedStores.{ClosingsAreNoEvents, OpenedRowsAreOrderly, OpensAfter}
 use Rattle.office_archive_files.proofs.NamingLemmas.{closings_are_named}
 

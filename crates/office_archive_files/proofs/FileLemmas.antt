@@ -13,15 +13,15 @@ use Rattle.office_replies.specs.Events.{Event}
 use Rattle.office_rows.specs.Rows.{Rows}
 use Rattle.office_rows.specs.Stored.{HasRows, StoresRows}
 use Rattle.office_rows.specs.Tables.{office_schema}
-use Rattle.office_rows.proofs.StepLemmas.{stores}
-use Rattle.office_setup.specs.Setups.{SetupContent}
+use Rattle.office_rows.proofs.Creating.{stores}
+use Rattle.office_admission.specs.Setups.{SetupContent}
 use Rattle.office_history.specs.After.{AreKeptOnce}
 use Rattle.office_tables.specs.Opened.{AreMissing}
 use Rattle.office_parts.specs.Archives.{Archive}
-use Rattle.office_register.specs.Register.{RegisterContent}
-use Rattle.office_register.specs.Stored.{HasRegister, HasRegisterIn}
-use Rattle.office_register.specs.Tables.{Layout, older, whole, register_tables, schema_in}
-use Rattle.office_register.specs.Transactions.{IsSettled}
+use Rattle.office_closing.specs.Register.{RegisterContent}
+use Rattle.office_closing.specs.Stored.{HasRegister, HasRegisterIn}
+use Rattle.office_closing.specs.Tables.{Layout, older, whole, register_tables, schema_in}
+use Rattle.office_closing.specs.Transactions.{IsSettled}
 use Rattle.office_closing.specs.Closes.{Held}
 use Rattle.office_closing.specs.Files.{AreClean, Files, files}
 use Rattle.office_closing.specs.declared.faults.CloseFault.{CloseFault}

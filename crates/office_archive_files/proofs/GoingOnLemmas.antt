@@ -6,13 +6,13 @@ use Rattle.std.proofs.lemmas.Bool.{and_parts, leb-true}
 use Rattle.sqlite_rules.specs.Lists.{Has}
 use Rattle.sqlite_rules.proofs.ListLemmas.{contains_had, has_contained, some_from, some_has}
 use Rattle.edi_messages.specs.Texts.{is_name}
-use Rattle.office_lists.specs.Bringing.{is_list}
-use Rattle.office_lists.specs.OwnLists.{ListName}
+use Rattle.office_parts.specs.Bringing.{is_list}
+use Rattle.office_parts.specs.OwnLists.{ListName}
 use Rattle.office_parts.specs.Archives.{Archive}
-use Rattle.office_register.specs.Changes.{unmarked}
-use Rattle.office_register.specs.Lists.{SettledListContent, comes_before, put_list, put_lists}
-use Rattle.office_register.specs.Register.{ArchiveContent, RegisterContent, last_closed}
-use Rattle.office_register.specs.Sound.{IsSound, are_rising, are_sound_archives, are_sound_lists, are_sound_segments, is_sound_mark, may_be_list}
+use Rattle.office_closing.specs.Changes.{unmarked}
+use Rattle.office_closing.specs.Lists.{SettledListContent, comes_before, put_list, put_lists}
+use Rattle.office_closing.specs.Register.{ArchiveContent, RegisterContent, last_closed}
+use Rattle.office_closing.specs.Sound.{IsSound, are_rising, are_sound_archives, are_sound_lists, are_sound_segments, is_sound_mark, may_be_list}
 use Rattle.office_closing.specs.Closes.{Closing, Held, IsClosing, raised_register}
 use Rattle.office_closing.specs.Copies.{FileNames}
 use Rattle.office_closing.specs.Deleting.{is_one_of}

@@ -3,14 +3,14 @@ use Rattle.std.proofs.Common.{◌≡◌, ℕ, ◌+◌, List, [], ◌∷◌, leng
 use Rattle.std.specs.Prelude.{◌&&◌, filter}
 use Rattle.std.specs.List.{AllByRecursion}
 use Rattle.std.proofs.lemmas.Bool.{and_from, and_parts}
-use Rattle.office_register.specs.Changes.{unmarked}
-use Rattle.office_register.specs.Lists.{SettledListContent}
-use Rattle.office_register.specs.Sound.{are_sound_archives, are_sound_segments, are_sound_lists, is_sound, is_sound_mark}
-use Rattle.office_register.specs.declared.register.Segment.{Segment}
+use Rattle.office_closing.specs.Changes.{unmarked}
+use Rattle.office_closing.specs.Lists.{SettledListContent}
+use Rattle.office_closing.specs.Sound.{are_sound_archives, are_sound_segments, are_sound_lists, is_sound, is_sound_mark}
+use Rattle.office_closing.specs.declared.register.Segment.{Segment}
 use Rattle.office_closing.specs.declared.comparing.Numbers.{Numbers}
 use Rattle.office_closing.specs.Closes.{Held}
 use Rattle.office_closing.specs.Copies.{closes_some, segment_of}
-use Rattle.office_archives.proofs.Naming.{names_one_more}
+use Rattle.office_archives.proofs.Told.{names_one_more}
 use Rattle.office_archive_files.specs.Naming.{ClosingsAreNamed}
 
 all_placed : (place : ℕ) (numbers : List Numbers) → AllByRecursion (λ (segment : Segment). segment.archive ≡ place) (map (segment_of place) numbers)

@@ -9,19 +9,19 @@ use Rattle.sqlite.specs.State.{HasCleanDisk}
 use Rattle.sqlite.specs.declared.FileStore.{FileStore}
 use Rattle.sqlite_trees.specs.declared.store.Store.{Ghosts}
 use Rattle.office_replies.specs.Events.{Event}
-use Rattle.office_checks.specs.Closed.{closed_content}
+use Rattle.office_loading.specs.Closed.{closed_content}
 use Rattle.office_rows.specs.Stored.{StoresRows}
 use Rattle.office_rows.specs.Tables.{office_schema}
-use Rattle.office_rows.proofs.StepLemmas.{stores}
-use Rattle.office_setup.specs.Given.{IsGiven}
-use Rattle.office_setup.specs.Setups.{SetupContent}
+use Rattle.office_rows.proofs.Creating.{stores}
+use Rattle.office_admission.specs.Given.{IsGiven}
+use Rattle.office_admission.specs.Setups.{SetupContent}
 use Rattle.office_commands.specs.Opening.{ShowsHeld}
 use Rattle.office_desk.specs.Desks.{IsSound}
 use Rattle.office_desk.specs.declared.desk.Desk.{Desk}
 use Rattle.office_parts.specs.Archives.{Archive}
-use Rattle.office_lists.specs.OwnLists.{rows_without_lists}
+use Rattle.office_parts.specs.OwnLists.{rows_without_lists}
 use Rattle.office_archives.specs.Together.{IsBesideAfter}
-use Rattle.office_archives.proofs.Opening.{opened_beside}
+use Rattle.office_archives.proofs.Filled.{opened_beside}
 use Rattle.office_archive_files.specs.Opening.{IsOpenedOver, OpensFor, OpensOn}
 
 pub opens_for : {S : Type 0} (g : Ghosts S) (found : Held S) (desk : Desk S g) → IsOpenedOver g found desk → IsSound g desk → (list : List Archive) (content : SetupContent) (es : List Event) → IsGiven content →

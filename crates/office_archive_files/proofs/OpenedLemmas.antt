@@ -10,21 +10,21 @@ use Rattle.office_rows.specs.Effects.{is_pair}
 use Rattle.office_rows.specs.Rows.{Interchange, Rows}
 use Rattle.office_rows.specs.Stored.{StoresRows}
 use Rattle.office_rows.specs.Tables.{office_schema}
-use Rattle.office_setup.specs.Setups.{SetupContent}
+use Rattle.office_admission.specs.Setups.{SetupContent}
 use Rattle.office_history.specs.After.{AreAfter}
 use Rattle.office_history.proofs.Runs.{is_pair_at}
-use Rattle.office_history.proofs.Shown.{found_only, head_in, tail_in}
-use Rattle.office_history.proofs.Telling.{text_within}
-use Rattle.office_lists.specs.Away.{lists_after}
-use Rattle.office_lists.specs.Naming.{AreHere}
-use Rattle.office_lists.specs.OwnLists.{ListName, is_own_line, rows_without_lists}
-use Rattle.office_desk.proofs.OfficeAccounts.{own_once}
+use Rattle.office_history.proofs.Kept.{found_only, head_in, tail_in}
+use Rattle.office_history.proofs.Accounted.{text_within}
+use Rattle.office_parts.specs.Away.{lists_after}
+use Rattle.office_parts.specs.Naming.{AreHere}
+use Rattle.office_parts.specs.OwnLists.{ListName, is_own_line, rows_without_lists}
+use Rattle.office_desk.proofs.DeliverLemmas.{own_once}
 use Rattle.office_parts.specs.Closing.{is_beyond, is_closed}
 use Rattle.office_parts.specs.LeftOver.{rows_beyond}
 use Rattle.office_parts.specs.Parts.{nothing_archived}
-use Rattle.office_parts.proofs.Events.{rows_are_parts}
-use Rattle.office_register.specs.Changes.{empty_register}
-use Rattle.office_register.specs.Register.{closed_by}
+use Rattle.office_parts.proofs.Takings.{rows_are_parts}
+use Rattle.office_closing.specs.Changes.{empty_register}
+use Rattle.office_closing.specs.Register.{closed_by}
 use Rattle.office_archive_files.specs.ClosedStores.{LoadedStoresOpen, OpensAfter, UnclosedStoresOpen}
 
 -- ---- nothing was put away

@@ -11,12 +11,12 @@ use Rattle.office_replies.specs.declared.accounts.AccountAnswer.{AccountAnswer}
 use Rattle.office_replies.specs.declared.accounts.AccountAnswer.TheVariants as account_answer
 use Rattle.office_replies.specs.declared.deliver.Response.{Response}
 use Rattle.office_replies.specs.declared.deliver.Response.TheVariants as response
-use Rattle.office_queries.specs.Looking.{Look}
-use Rattle.office_queries.specs.declared.query.NotNow.{NotNow}
-use Rattle.office_checks.specs.Closed.{ClosedContent, closed_content}
-use Rattle.office_stream.specs.declared.port.Port.{Port}
-use Rattle.office_setup.specs.Given.{IsGiven}
-use Rattle.office_setup.specs.Setups.{SetupContent}
+use Rattle.office_reports.specs.Looking.{Look}
+use Rattle.office_reports.specs.declared.query.NotNow.{NotNow}
+use Rattle.office_loading.specs.Closed.{ClosedContent, closed_content}
+use Rattle.office_replies.specs.declared.port.Port.{Port}
+use Rattle.office_admission.specs.Given.{IsGiven}
+use Rattle.office_admission.specs.Setups.{SetupContent}
 use Rattle.office_history.specs.After.{SaysSame}
 use Rattle.office_http.specs.Served.{calls_of}
 use Rattle.office_http.specs.Steps.{Step, account, delivery, events_after, look, with_step, StepLeads, StepsLead}

@@ -6,14 +6,14 @@ use Rattle.sqlite_trees.specs.declared.store.Store.{Ghosts}
 use Rattle.office_replies.specs.Events.{Event}
 use Rattle.office_rows.specs.Rows.{Rows}
 use Rattle.office_rows.specs.Stored.{StoresRows}
-use Rattle.office_rows.proofs.StepLemmas.{stores}
-use Rattle.office_setup.specs.Setups.{SetupContent}
-use Rattle.office_lists.specs.OwnLists.{is_own_line}
+use Rattle.office_rows.proofs.Creating.{stores}
+use Rattle.office_admission.specs.Setups.{SetupContent}
+use Rattle.office_parts.specs.OwnLists.{is_own_line}
 use Rattle.office_parts.specs.Archives.{Archive}
 use Rattle.office_parts.specs.OwnTerminal.{is_own}
-use Rattle.office_register.specs.Register.{RegisterContent}
-use Rattle.office_register.specs.Stored.{HasRegister}
-use Rattle.office_register.specs.Tables.{whole}
+use Rattle.office_closing.specs.Register.{RegisterContent}
+use Rattle.office_closing.specs.Stored.{HasRegister}
+use Rattle.office_closing.specs.Tables.{whole}
 use Rattle.office_closing.specs.Closes.{Closes, Closing, Held, IsClosing, IsLeft, raised_register}
 use Rattle.office_closing.specs.Copies.{FileNames}
 use Rattle.office_closing.specs.Files.{Files, AreClean, files}

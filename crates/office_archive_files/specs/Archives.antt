@@ -9,13 +9,13 @@ use Rattle.office_rows.specs.Rows.{Rows}
 use Rattle.office_rows.specs.Shown.{AreNexts}
 use Rattle.office_rows.specs.Stored.{HasRows}
 use Rattle.office_rows.specs.Tables.{office_schema}
-use Rattle.office_checks.specs.Closed.{ClosedContent}
+use Rattle.office_loading.specs.Closed.{ClosedContent}
 use Rattle.office_loading.specs.Tables.{LoadsOwn}
-use Rattle.office_setup.specs.Setups.{SetupContent}
-use Rattle.office_register.specs.Lists.{SettledListContent}
-use Rattle.office_register.specs.Register.{ArchiveContent, RegisterContent, closed_by}
-use Rattle.office_register.specs.Sound.{is_sound}
-use Rattle.office_register.specs.declared.register.Segment.{Segment}
+use Rattle.office_admission.specs.Setups.{SetupContent}
+use Rattle.office_closing.specs.Lists.{SettledListContent}
+use Rattle.office_closing.specs.Register.{ArchiveContent, RegisterContent, closed_by}
+use Rattle.office_closing.specs.Sound.{is_sound}
+use Rattle.office_closing.specs.declared.register.Segment.{Segment}
 
 -- An archive's own register is that of the archive at a place of the store whose register names the archives: it is marked for
 -- the store in this file, and has the archives before that place, with their segments and lists.

@@ -6,15 +6,15 @@ use Rattle.office_replies.specs.Events.{Event}
 use Rattle.office_rows.specs.Rows.{Rows}
 use Rattle.office_rows.specs.Stored.{StoresRows}
 use Rattle.office_rows.specs.Tables.{office_schema}
-use Rattle.office_setup.specs.Given.{IsGiven}
-use Rattle.office_setup.specs.Setups.{SetupContent}
+use Rattle.office_admission.specs.Given.{IsGiven}
+use Rattle.office_admission.specs.Setups.{SetupContent}
 use Rattle.office_history.specs.After.{AreAfter, AreKeptOnce}
 use Rattle.office_loading.specs.Tables.{LoadsOwn}
-use Rattle.office_lists.specs.OwnLists.{rows_without_lists}
+use Rattle.office_parts.specs.OwnLists.{rows_without_lists}
 use Rattle.office_parts.specs.Archives.{Archive}
-use Rattle.office_register.specs.Changes.{empty_register, unmarked}
-use Rattle.office_register.specs.Register.{RegisterContent, closed_by}
-use Rattle.office_register.specs.Sound.{IsSound}
+use Rattle.office_closing.specs.Changes.{empty_register, unmarked}
+use Rattle.office_closing.specs.Register.{RegisterContent, closed_by}
+use Rattle.office_closing.specs.Sound.{IsSound}
 use Rattle.office_closing.specs.Closes.{AreOrderly, Closing, Held, IsClosing, IsLeft, raised_register}
 use Rattle.office_closing.specs.Copies.{FileNames}
 use Rattle.office_closing.specs.PuttingAway.{AreNamedThen}

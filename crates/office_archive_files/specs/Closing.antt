@@ -12,9 +12,9 @@ use Rattle.sqlite.specs.Tree.{Trees}
 use Rattle.office_rows.specs.Tables.{no_schema}
 use Rattle.office_tables.specs.Opened.{AreMissing}
 use Rattle.office_commands.specs.Opening.{HoldsNoTables}
-use Rattle.office_register.specs.Changes.{empty_register}
-use Rattle.office_register.specs.Tables.{register_tables}
-use Rattle.office_register.specs.Transactions.{IsSettled, Makes}
+use Rattle.office_closing.specs.Changes.{empty_register}
+use Rattle.office_closing.specs.Tables.{register_tables}
+use Rattle.office_closing.specs.Transactions.{IsSettled, Makes}
 use Rattle.office_closing.specs.Closes.{Closes}
 use Rattle.office_closing.specs.Copies.{FileNames}
 use Rattle.office_closing.specs.Files.{AreIdle, files}

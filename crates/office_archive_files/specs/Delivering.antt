@@ -7,8 +7,8 @@ use Rattle.sqlite_trees.specs.declared.store.Store.{Ghosts}
 use Rattle.office_replies.specs.Delivering.{LeadsOn, events_behind, with_answered}
 use Rattle.office_replies.specs.Events.{Event}
 use Rattle.office_replies.specs.declared.deliver.Response.{Response}
-use Rattle.office_checks.specs.Closed.{ClosedContent, closed_content}
-use Rattle.office_setup.specs.Setups.{SetupContent}
+use Rattle.office_loading.specs.Closed.{ClosedContent, closed_content}
+use Rattle.office_admission.specs.Setups.{SetupContent}
 use Rattle.office_desk.specs.Answers.{AnswersNext}
 use Rattle.office_desk.specs.Desks.{IsSound}
 use Rattle.office_desk.specs.declared.desk.Desk.{Desk}

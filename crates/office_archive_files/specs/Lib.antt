@@ -14,3 +14,4 @@ pub mod Naming
 pub mod ClosedStores
 pub mod Stops
 pub mod ClosedFiles
+pub mod Whole

@@ -1,9 +1,9 @@
 -- The lines that list a store's archives.
 use Rattle.std.specs.Prelude.{◌≡◌, ℕ, ◌==◌, false, cond, List, [], ◌∷◌, ◌++◌, length, codes, decimal, Option, None, Some, IfSome, is_some, IsTrue}
 use Rattle.office_reports.specs.Names.{line}
-use Rattle.office_register.specs.Register.{ArchiveContent, RegisterContent}
-use Rattle.office_register.specs.Sound.{is_sound}
-use Rattle.office_setup.specs.Setups.{SetupContent}
+use Rattle.office_closing.specs.Register.{ArchiveContent, RegisterContent}
+use Rattle.office_closing.specs.Sound.{is_sound}
+use Rattle.office_admission.specs.Setups.{SetupContent}
 use Rattle.office_archive_files.specs.Archives.{IsReadAt}
 use Rattle.office_archive_files.specs.declared.register.History.{History}
 use Rattle.office_archive_files.specs.declared.shelf.Found.{Found}

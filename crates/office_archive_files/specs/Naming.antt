@@ -1,8 +1,8 @@
 -- What a store's register names after a closing.
 use Rattle.std.specs.Prelude.{◌≡◌, ℕ, List, [], ◌∷◌, ◌++◌, IsTrue}
 use Rattle.office_parts.specs.Archives.{Archive}
-use Rattle.office_register.specs.Changes.{unmarked}
-use Rattle.office_register.specs.Sound.{is_sound}
+use Rattle.office_closing.specs.Changes.{unmarked}
+use Rattle.office_closing.specs.Sound.{is_sound}
 use Rattle.office_closing.specs.Closes.{Closing, Held, IsClosing, closed_after, raised_register}
 use Rattle.office_closing.specs.Copies.{FileNames}
 use Rattle.office_archives.specs.Shelves.{HasLists, NamesAll}

@@ -7,10 +7,10 @@ use Rattle.sqlite.specs.State.{HasCleanDisk}
 use Rattle.sqlite.specs.Tree.{Trees}
 use Rattle.sqlite_trees.specs.declared.store.Store.{Ghosts}
 use Rattle.office_replies.specs.Events.{Event}
-use Rattle.office_checks.specs.Closed.{ClosedContent, closed_content}
+use Rattle.office_loading.specs.Closed.{ClosedContent, closed_content}
 use Rattle.office_rows.specs.Tables.{office_schema}
-use Rattle.office_setup.specs.Given.{IsGiven}
-use Rattle.office_setup.specs.Setups.{SetupContent}
+use Rattle.office_admission.specs.Given.{IsGiven}
+use Rattle.office_admission.specs.Setups.{SetupContent}
 use Rattle.office_desk.specs.Desks.{IsSound}
 use Rattle.office_desk.specs.Offices.{OpensOffice}
 use Rattle.office_desk.specs.declared.desk.Desk.{Desk}

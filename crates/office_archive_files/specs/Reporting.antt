@@ -2,7 +2,7 @@
 use Rattle.std.specs.Prelude.{ℕ, List, Option}
 use Rattle.sqlite.specs.Recovery.{Image}
 use Rattle.sqlite_trees.specs.declared.store.Store.{Ghosts}
-use Rattle.office_queries.specs.declared.query.ReportKind.{ReportKind}
+use Rattle.office_reports.specs.declared.query.ReportKind.{ReportKind}
 use Rattle.office_desk.specs.Desks.{IsSound}
 use Rattle.office_desk.specs.declared.desk.Desk.{Desk}
 use Rattle.office_commands.specs.Reporting.{TellsKey}

@@ -8,10 +8,10 @@ use Rattle.office_replies.specs.Events.{Event}
 use Rattle.office_replies.specs.declared.accounts.AccountAnswer.{AccountAnswer}
 use Rattle.office_replies.specs.declared.accounts.AccountAnswer.TheVariants as account_answer
 use Rattle.office_replies.specs.declared.deliver.Response.TheVariants as response
-use Rattle.office_queries.specs.Looking.{Look, Tells}
-use Rattle.office_queries.specs.declared.query.NotNow.{NotNow}
-use Rattle.office_checks.specs.Closed.{ClosedContent, closed_content}
-use Rattle.office_setup.specs.Setups.{SetupContent}
+use Rattle.office_reports.specs.Looking.{Look, Tells}
+use Rattle.office_reports.specs.declared.query.NotNow.{NotNow}
+use Rattle.office_loading.specs.Closed.{ClosedContent, closed_content}
+use Rattle.office_admission.specs.Setups.{SetupContent}
 use Rattle.office_http.specs.Steps.{Step, StepsLead, account, delivery, events_after, look, with_step}
 use Rattle.office_desk.specs.Accounts.{AnswersAccount}
 use Rattle.office_desk.specs.Answers.{AnswersNext}

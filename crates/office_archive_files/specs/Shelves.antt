@@ -4,13 +4,13 @@ use Rattle.sqlite.specs.Files.{HoldsDatabase}
 use Rattle.sqlite.specs.Recovery.{Image}
 use Rattle.sqlite.specs.Tree.{Trees}
 use Rattle.sqlite_trees.specs.declared.store.Store.{Ghosts}
-use Rattle.office_checks.specs.Closed.{closed_content}
+use Rattle.office_loading.specs.Closed.{closed_content}
 use Rattle.office_rows.specs.Stored.{StoresRows}
 use Rattle.office_history.specs.After.{AreKeptOnce}
 use Rattle.office_desk.specs.declared.desk.Desk.{Desk}
 use Rattle.office_parts.specs.Archives.{Archive}
-use Rattle.office_register.specs.Register.{RegisterContent, closed_by}
-use Rattle.office_register.specs.Sound.{is_sound}
+use Rattle.office_closing.specs.Register.{RegisterContent, closed_by}
+use Rattle.office_closing.specs.Sound.{is_sound}
 use Rattle.office_archives.specs.Shelves.{NamesAll, archive_at}
 
 -- the files hold the rows of this archive, of which no interchange is kept twice

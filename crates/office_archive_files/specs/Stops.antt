@@ -5,13 +5,13 @@ use Rattle.sqlite.specs.Tree.{Trees}
 use Rattle.sqlite_trees.specs.declared.store.Store.{Ghosts}
 use Rattle.office_replies.specs.Events.{Event}
 use Rattle.office_rows.specs.Rows.{Rows}
-use Rattle.office_setup.specs.Given.{IsGiven}
-use Rattle.office_setup.specs.Setups.{SetupContent}
+use Rattle.office_admission.specs.Given.{IsGiven}
+use Rattle.office_admission.specs.Setups.{SetupContent}
 use Rattle.office_parts.specs.Archives.{Archive}
-use Rattle.office_register.specs.Register.{RegisterContent}
-use Rattle.office_register.specs.Stored.{HasRegisterIn}
-use Rattle.office_register.specs.Tables.{Layout, schema_in}
-use Rattle.office_register.specs.Transactions.{IsSettled}
+use Rattle.office_closing.specs.Register.{RegisterContent}
+use Rattle.office_closing.specs.Stored.{HasRegisterIn}
+use Rattle.office_closing.specs.Tables.{Layout, schema_in}
+use Rattle.office_closing.specs.Transactions.{IsSettled}
 use Rattle.office_closing.specs.Closes.{AreHeld, Closes, Closing, Held, IsClosing, raised_register}
 use Rattle.office_closing.specs.Copies.{FileNames}
 use Rattle.office_closing.specs.Files.{Files, AreClean, files}

@@ -6,10 +6,10 @@ use Rattle.sqlite.specs.Recovery.{Image}
 use Rattle.sqlite.specs.State.{State}
 use Rattle.sqlite_trees.specs.declared.store.Store.{Ghosts}
 use Rattle.office_tables.specs.declared.table_fault.TableFault.{TableFault}
-use Rattle.office_delivery.specs.Reading.{OnlyReads}
+use Rattle.office_tables.specs.DeliveryReading.{OnlyReads}
 use Rattle.office_desk.specs.declared.desk.Desk.{Desk}
 use Rattle.office_parts.specs.Archives.{Archive}
-use Rattle.office_register.specs.Register.{RegisterContent}
+use Rattle.office_closing.specs.Register.{RegisterContent}
 use Rattle.office_archives.specs.Texts.{IsJournalWritten}
 use Rattle.office_archive_files.specs.Opening.{OpensOn}
 use Rattle.office_archive_files.specs.Shelves.{IsBesideShelf}

@@ -1,17 +1,17 @@
 ghost use Rattle.std.specs.Prelude.{◌≡◌, ◌++◌, ◌∷◌, [], codes, map, IfOk, OnErr, OnOk, string_bytes};
 ghost use Rattle.office_archive_files.specs.Listing.{FollowIn, IsListed, archive_line, listing_status, listing_text, word_of};
 ghost use Rattle.office_commands.specs.Ending.{Prints};
-ghost use Rattle.office_register.specs.Register.{archive_content};
+ghost use Rattle.office_closing.specs.Register.{archive_content};
 ghost use Rattle.office_reports.specs.Names.{line};
-ghost use Rattle.office_setup.specs.Setups.{setup_content};
+ghost use Rattle.office_admission.specs.Setups.{setup_content};
 
 use crate::beside::InFiles;
 use crate::opening::{OpenFault, open_shelf};
 use crate::shelf::{ArchiveStart, FileShelf, Found};
+use office_closing::{Archive, Register};
 use office_commands::{DONE, REFUSED, print};
-use office_register::{Archive, Register};
+use office_replies::Port;
 use office_reports::texts::push_line;
-use office_stream::Port;
 use sqlite::Start;
 use std::alloc::{AllocError, Global};
 use std::io::Write;

@@ -1,13 +1,13 @@
 ghost use Rattle.std.specs.Prelude.{◌≡◌, List};
 ghost use Rattle.office_archives.specs.Shelves.{NamesAll};
 ghost use Rattle.office_parts.specs.Archives.{Archive};
-ghost use Rattle.office_register.specs.Register.{register_content};
+ghost use Rattle.office_closing.specs.Register.{register_content};
 
 use crate::file_archives::{FileArchives, UnknownShelf};
 use crate::shelf::{ArchiveStart, FileShelf};
+use office_admission::Setup;
 use office_archives::{Archives, ManyArchives, Shelf};
-use office_register::Register;
-use office_setup::Setup;
+use office_closing::Register;
 use sqlite::{Alter, FileFrom, FileStore, Start, Unknown};
 
 /// Where the shelf of a store's archives is.

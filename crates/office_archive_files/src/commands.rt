@@ -12,7 +12,7 @@ ghost use Rattle.office_commands.specs.Ending.{LeavesPorts, Prints, StreamEnds, 
 ghost use Rattle.office_commands.specs.Reporting.{Reports, TellsKey};
 ghost use Rattle.office_commands.specs.Serving.{EndsServing};
 ghost use Rattle.office_desk.specs.Desks.{IsSound};
-ghost use Rattle.office_stream.specs.Streams.{Streams, port_bytes};
+ghost use Rattle.office_replies.specs.Streams.{Streams, port_bytes};
 ghost use Rattle.sqlite.specs.Files.{over_files};
 ghost use Rattle.sqlite.specs.Recovery.{Image};
 ghost use Rattle.sqlite.specs.WalFiles.{image_at};
@@ -25,8 +25,8 @@ use office_commands::{
     DONE, FAILED, Named, Notes, REFUSED, Service, StoreFile, deliver_noted, in_lines,
     outcome_status, print, serve_named, tell, tell_fault,
 };
-use office_queries::{ReportKind, read_query};
-use office_stream::{Port, answer_account};
+use office_replies::{Port, answer_account};
+use office_reports::{ReportKind, read_query};
 use office_tables::TableFault;
 use sqlite::{Alter, Start};
 use std::alloc::Global;

@@ -3,7 +3,7 @@ ghost use Rattle.std.specs.Prelude.{◌≡◌};
 use crate::shelf::FileShelf;
 use edi_messages::Call;
 use office_archives::{Archives, ManyArchives, Shelf};
-use office_queries::Query;
+use office_reports::Query;
 use office_tables::{Kept, TableFault};
 use sqlite::{Connection, FileFrom, FileStore, Start, Unknown};
 use std::alloc::Global;

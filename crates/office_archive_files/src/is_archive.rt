@@ -1,17 +1,17 @@
 ghost use Rattle.std.specs.Prelude.{◌≡◌, ◌↔◌, ◌<◌, ◌+◌, ◌-◌, ◌++◌, ◌∷◌, [], true, IfSome, Some, filter, length, map, nat_lt, option_map, slice_get, string_bytes, take};
 ghost use Rattle.std.specs.List.{AllByRecursion};
 ghost use Rattle.office_archive_files.specs.Archives.{IsBelowNext, IsOfOffice, IsRegisterAt, Reaches};
-ghost use Rattle.office_register.specs.Lists.{SettledListContent, list_content};
-ghost use Rattle.office_register.specs.Register.{archive_content, register_content};
-ghost use Rattle.office_register.specs.declared.register.Segment.{Segment};
-ghost use Rattle.office_setup.specs.Accounts.{account_contents};
-ghost use Rattle.office_setup.specs.Setups.{setup_content};
+ghost use Rattle.office_closing.specs.Lists.{SettledListContent, list_content};
+ghost use Rattle.office_closing.specs.Register.{archive_content, register_content};
+ghost use Rattle.office_closing.specs.declared.register.Segment.{Segment};
+ghost use Rattle.office_admission.specs.SetupAccounts.{account_contents};
+ghost use Rattle.office_admission.specs.Setups.{setup_content};
 ghost use Rattle.terminal_core.specs.Rows.{visit_content};
 ghost use Rattle.terminal_core.specs.State.{last_number};
 
+use office_admission::{Account, Setup};
+use office_closing::{Archive, Register, Segment, SettledList, is_same_list};
 use office_desk::Beside;
-use office_register::{Archive, Register, Segment, SettledList, is_same_list};
-use office_setup::{Account, Setup};
 use terminal_core::Visit;
 
 /// The archive at a place, of those that a register names.

@@ -2,12 +2,13 @@ ghost use Rattle.std.specs.Prelude.{◌≡◌, IfOk, option_map, string_bytes};
 ghost use Rattle.office_archives.specs.Together.{OnlyLooksTogether, TellsBeside};
 ghost use Rattle.office_desk.specs.Desks.{IsSound};
 
+use office_admission::Tally;
 use office_archives::{ArchivedDesk, Archives};
 use office_commands::{Faults, HasTerminal, Tallied};
-use office_queries::{NotNow, Query, Report};
+use office_desk::Desk;
 use office_replies::{AccountAnswer, AddAccount, Deliver, Response};
+use office_reports::{NotNow, Query, Report};
 use office_tables::TableFault;
-use office_taking::Tally;
 use sqlite::Alter;
 use std::alloc::Global;
 
@@ -27,6 +28,14 @@ impl<S: Alter, A: Archives> Joined<S, A> {
 }
 
 impl<S: Alter + Drop, A: Archives + Drop> Joined<S, A> {
+    /// The desk over the store's own rows, without the archives.
+    pub fn into_desk(self) -> Desk<S>
+        ensures { result ≡ self.office.desk }
+    {
+        let Joined { office } = self;
+        office.into_desk()
+    }
+
     /// What store and archives tell at a query, if there is something. Nothing changes.
     pub fn find_report(
         &mut self,

@@ -14,6 +14,7 @@ mod opening;
 mod register;
 mod shelf;
 mod texts;
+mod whole;
 
 pub use archives::archives_over;
 pub use beside::{ArchivesBeside, InFiles, InUnknownFiles, ShelfBeside};
@@ -29,3 +30,4 @@ pub use register::{
 };
 pub use shelf::{ArchiveStart, FileShelf, Found, NO_ARCHIVE};
 pub use texts::texts_beside;
+pub use whole::{AlikeFiles, LeftFiles, leave_closed, leave_joined};

@@ -1,11 +1,11 @@
 ghost use Rattle.std.specs.Prelude.{◌≡◌, ◌++◌, codes, IfOk, IfSome, IsTrue, option_map, string_bytes};
 ghost use Rattle.office_archive_files.specs.Listing.{IsHistory, history_in};
 ghost use Rattle.office_archive_files.specs.Paths.{HasNoSlash, IsBeside, path_of};
-ghost use Rattle.office_register.specs.Register.{register_content};
-ghost use Rattle.office_register.specs.Sound.{is_sound};
+ghost use Rattle.office_closing.specs.Register.{register_content};
+ghost use Rattle.office_closing.specs.Sound.{is_sound};
 
+use office_closing::{Register, read_register};
 use office_commands::{NO_STORE, open_found};
-use office_register::{Register, read_register};
 use office_tables::TableFault;
 use sqlite::{Error, Unknown};
 use sqlite_resolve::CompileError;

@@ -19,26 +19,26 @@ use Rattle.office_replies.specs.Adding.{with_added}
 use Rattle.office_replies.specs.Events.{Event, added}
 use Rattle.office_replies.specs.declared.accounts.AccountAnswer.{AccountAnswer}
 use Rattle.office_replies.specs.declared.accounts.AccountAnswer.TheVariants.{Added, Known, Refused, NotNow}
-use Rattle.office_checks.specs.Closed.{closed_content}
-use Rattle.office_rows.specs.Rows.{Partner, Rows}
+use Rattle.office_loading.specs.Closed.{closed_content}
+use Rattle.office_rows.specs.Rows.{Rows}
 use Rattle.office_rows.specs.Effects.{with_partner}
 use Rattle.office_rows.specs.Shown.{AreNexts}
 use Rattle.office_rows.specs.Stored.{HasRows, StoresRows}
-use Rattle.office_setup.specs.Kinds.{kind_named}
-use Rattle.office_setup.specs.Setups.{SetupContent, setup_content, setup_with_account}
+use Rattle.office_admission.specs.Kinds.{kind_named}
+use Rattle.office_admission.specs.Setups.{SetupContent, setup_content, setup_with_account}
 use Rattle.office_admission.specs.Accounts.{AccountContent, added_as, known_as, refused_for, account_answer}
 use Rattle.office_loading.specs.Tables.{LoadsOwn}
-use Rattle.office_taking.specs.Taking.{MachineState}
+use Rattle.office_admission.specs.Taking.{MachineState}
 use Rattle.office_history.specs.After.{AreKeptOnce, accounts_from, content_after, deliveries_of, machine_after}
-use Rattle.office_history.proofs.Growing.{account_adds_row}
+use Rattle.office_history.proofs.Ground.{account_adds_row}
 use Rattle.office_parts.specs.Archives.{Archive}
 use Rattle.office_parts.specs.OwnTerminal.{own_terminal}
 use Rattle.office_parts.specs.Parts.{ArePartsAfter}
-use Rattle.office_parts.proofs.Events.{account_more}
-use Rattle.office_lists.specs.Away.{AreAway}
-use Rattle.office_lists.specs.OwnLists.{rows_without_lists, without_lists}
-use Rattle.office_lists.proofs.AwayLemmas.{with_account}
-use Rattle.office_lists.proofs.OfficeLemmas.{own_office_without}
+use Rattle.office_parts.proofs.Takings.{account_more}
+use Rattle.office_parts.specs.Away.{AreAway}
+use Rattle.office_parts.specs.OwnLists.{rows_without_lists, without_lists}
+use Rattle.office_parts.proofs.AwayLemmas.{with_account}
+use Rattle.office_parts.proofs.Writings.{own_office_without}
 use Rattle.office_desk.specs.Accounts.{AddsOver, AnswersAccount, IsLengthened, IsSameOrNone, LeavesAddedOver, Says}
 use Rattle.office_desk.specs.Beside.{IsOrNone, nexts_after}
 use Rattle.office_desk.specs.Calls.{Enrols}
@@ -46,12 +46,12 @@ use Rattle.office_desk.specs.Offices.{HoldsOffice}
 use Rattle.office_desk.specs.declared.beside.Beside.{Beside}
 use Rattle.office_desk.specs.declared.desk.Desk.{Desk}
 use Rattle.office_desk.proofs.AccountLemmas.{grown, nexts_grown}
-use Rattle.office_desk.proofs.CrashLemmas.{either_of}
-use Rattle.office_desk.proofs.NumberLemmas.{ids_from, nexts_loaded}
-use Rattle.office_desk.proofs.OfficeLemmas.{office_once, office_with}
+use Rattle.office_desk.proofs.HoldLemmas.{either_of, ids_from, nexts_loaded}
+use Rattle.office_desk.proofs.DeliverLemmas.{office_once, office_with}
 use Rattle.office_archives.specs.Standing.{IsOwnWithRest, KnowsClosed, StandsBeside}
 use Rattle.office_archives.specs.Together.{EnrolsTogether, IsBesideAfter, LeavesAccount, StandTogether}
-use Rattle.office_archives.proofs.Resting.{of_whole}
+use Rattle.office_archives.proofs.Filled.{of_whole}
+use Rattle.office_desk.proofs.KeptLemmas.{nexts_from}
 
 -- ---- the partners' numbers
 
@@ -64,10 +64,6 @@ ids_sorted a n k d low below =
     let one : get_or (range_with_len a n) (k + 1) d ≡ a + (k + 1) = get_or-range_with_len a n (k + 1) d (omega (arith, below, many)) in
     let other : get_or (range_with_len a n) k d ≡ a + k = get_or-range_with_len a n k d (omega (arith, below, many)) in
     ap₂ (λ x y. is_lt (nat_cmp x y)) one other ∙ ap is_lt (greater (a + (k + 1)) (a + k) (omega arith))
-
-nexts_from : (id : ℕ) (f : ℕ → ℕ) (accounts : List (List ℕ × PartnerKind)) → map (λ (p : Partner). p.next) (accounts_from id f accounts) ≡ map f (range_with_len id (length accounts))
-nexts_from id f [] = refl
-nexts_from id f (account ∷ accounts) = ap (λ l. f id ∷ l) (nexts_from (id + 1) f accounts)
 
 -- of accounts that stand by their ids
 nexts_in_order : (rows : Rows) (f : ℕ → ℕ) (accounts : List (List ℕ × PartnerKind)) (nexts : List ℕ) → rows.partners ≡ accounts_from 1 f accounts → nexts ≡ map f (range_with_len 1 (length accounts)) → AreNexts rows nexts

@@ -1,6 +1,6 @@
 -- Lists that are brought back into a store.
-use Rattle.std.proofs.Common.{◌≡◌, inl, inr, ℕ, List, [], ◌∷◌, ◌++◌, Bool, true, false, Option, None, Some, Result, Ok, Err, OnOk, refl, sym, ap, subst, ◌∙◌}
-use Rattle.std.specs.Prelude.{◌&&◌, not, IsTrue, IsPermutation}
+use Rattle.std.proofs.Common.{◌≡◌, inl, inr, ℕ, List, [], ◌∷◌, ◌++◌, Bool, true, false, Option, None, Some, Result, Ok, Err, OnOk, refl, sym, ap, subst, ◌∙◌, ◌-◌}
+use Rattle.std.specs.Prelude.{◌&&◌, not, IsTrue, IsPermutation, String, string_bytes}
 use Rattle.sqlite.specs.Effect.{Database}
 use Rattle.sqlite.specs.Held.{state}
 use Rattle.sqlite.specs.State.{HasCleanDisk}
@@ -11,41 +11,46 @@ use Rattle.edi_messages.specs.Purposes.{CallContent}
 use Rattle.terminal_core.specs.State.{TerminalState}
 use Rattle.terminal_core.specs.declared.lines.Side.{Side}
 use Rattle.office_replies.specs.Events.{Event}
-use Rattle.office_checks.specs.Closed.{closed_content}
+use Rattle.office_loading.specs.Closed.{closed_content}
 use Rattle.office_rows.specs.Opening.{with_lines}
 use Rattle.office_rows.specs.Rows.{ListingContent, Rows}
 use Rattle.office_rows.specs.Stored.{HasRows, StoresRows}
-use Rattle.office_setup.specs.Setups.{SetupContent, setup_content}
+use Rattle.office_admission.specs.Setups.{SetupContent, setup_content}
 use Rattle.office_history.specs.After.{AreKeptOnce, content_after, machine_after}
 use Rattle.office_tables.specs.declared.table_fault.TableFault.{TableFault}
 use Rattle.office_loading.specs.Tables.{LoadsOwn}
-use Rattle.office_delivery.specs.Writing.{Commits, WritesWhole}
-use Rattle.office_queries.specs.declared.query.Query.{Query}
-use Rattle.office_queries.specs.declared.query.Query.TheVariants as query
+use Rattle.office_tables.specs.Writing.{Commits, WritesWhole}
+use Rattle.office_reports.specs.declared.query.Query.{Query}
 use Rattle.office_desk.specs.Beside.{IsOrNone}
 use Rattle.office_desk.specs.Calls.{OnlyLooks}
 use Rattle.office_desk.specs.Desks.{IsSound}
 use Rattle.office_desk.specs.Offices.{HoldsOffice}
-use Rattle.office_desk.specs.Reports.{DeskTells, TellsOf}
+use Rattle.office_desk.specs.Reports.{DeskTells, TellsOf, partner_called}
 use Rattle.office_desk.specs.declared.desk.Desk.{Desk}
-use Rattle.office_desk.proofs.OfficeLemmas.{office_once, office_with}
+use Rattle.office_desk.proofs.DeliverLemmas.{office_once, office_with}
 use Rattle.office_parts.specs.Archives.{Archive}
 use Rattle.office_parts.specs.OwnTerminal.{own_terminal}
-use Rattle.office_lists.specs.Away.{AreAway, lines_away}
-use Rattle.office_lists.specs.Bringing.{BringsBack, all_but, is_list}
-use Rattle.office_lists.specs.Naming.{AreHere}
-use Rattle.office_lists.specs.OwnLists.{ListName, list_name, rows_without_lists, without_lists}
+use Rattle.office_parts.specs.Away.{AreAway, lines_away}
+use Rattle.office_parts.specs.Bringing.{BringsBack, all_but, is_list}
+use Rattle.office_parts.specs.Naming.{AreHere}
+use Rattle.office_parts.specs.OwnLists.{ListName, list_name, rows_without_lists, without_lists}
 use Rattle.terminal_core.proofs.Lined.{tied_self}
-use Rattle.office_lists.proofs.AwayLemmas.{came_back, none_away, others_stay}
-use Rattle.office_lists.proofs.BringingLemmas.{brought_back}
-use Rattle.office_lists.proofs.OfficeLemmas.{own_office_without}
+use Rattle.office_parts.proofs.AwayLemmas.{came_back, none_away, others_stay}
+use Rattle.office_parts.proofs.BringingLemmas.{brought_back}
+use Rattle.office_parts.proofs.Writings.{own_office_without}
 use Rattle.office_archives.specs.Bringing.{BringsTogether, StandsWith, lists_back}
 use Rattle.office_archives.specs.ListsAway.{AsksList, FindsIfAway}
 use Rattle.office_archives.specs.Standing.{IsOwnWithRest, KnowsClosed, StandsBeside}
-use Rattle.office_archives.specs.Together.{IsBesideAfter, LeavesBeside}
-use Rattle.office_archives.proofs.Filled.{no_list, some_list}
-use Rattle.office_archives.proofs.Looking.{looked_stands, rows_left}
-use Rattle.office_archives.proofs.Resting.{of_whole}
+use Rattle.office_archives.specs.Together.{IsBesideAfter, LeavesBeside, StandTogether, TellsOfOne}
+use Rattle.office_archives.proofs.Filled.{no_list, some_list, of_whole}
+use Rattle.office_archives.proofs.Together.{looked_stands, rows_left}
+use Rattle.std.specs.declared.alloc.Global.{Global}
+use Rattle.box6346.specs.declared.box_number.BoxNumber.{BoxNumber}
+use Rattle.office_archives.specs.Keeping.{IsReportIn}
+use Rattle.office_archives.specs.Telling.{IsOfContainer, IsOfNumber, IsPlace, TellsAsStore, TellsOwnNumber, with_archives}
+use Rattle.office_reports.specs.declared.query.Query.TheVariants as query
+
+-- ==== Brought: Lists that are brought back into a store.
 
 -- what was put away as these lines is a list of them
 pub kept_so : (archives : List Archive) (list : ListName) (kept back : List ListingContent) (lines : List ListingContent) → lines_away archives list ≡ Some kept → lines_away archives list ≡ Some back → IsPermutation lines kept → IsPermutation lines back
@@ -328,3 +333,46 @@ brings_failed g are old new a names others met result fault is brings = subst (�
 pub none_there : (away : ListName → Bool) (names : List ListName) → ((name : ListName) → away name ≡ false) → AreHere away names
 none_there away [] none = tt
 none_there away (name ∷ names) none = (none name, none_there away names none)
+
+-- ==== OfArchive: What one archive of a store tells, as the store that it was.
+
+pub container_as : (content : SetupContent) (list : List Archive) (place : ℕ) (asked : Query) (own found : Option (List ℕ)) → IsOfContainer asked → IsReportIn list place asked own → found ≡ with_archives (place - 1) own → TellsAsStore content list place asked found
+container_as content list place (query.Visits container) own found is told same = (own, told, same)
+container_as content list place (query.Container container) own found is told same = (own, told, same)
+container_as content list place other own found is told same = absurd is
+
+-- the code and the number are those of the query, and this is who has the code
+pub number_as : (content : SetupContent) (list : List Archive) (place : ℕ) (asked : Query) (code : List ℕ) (n : ℕ) (called : Option ℕ) (found : Option (List ℕ)) → IsOfNumber asked code n → partner_called content code ≡ called → TellsOwnNumber list place asked code n called found
+    → TellsAsStore content list place asked found
+number_as content list place (query.Reply partner k) code n called found is who told =
+    let own = query.Reply partner k in
+    subst (λ p. TellsOwnNumber list place own (string_bytes partner) k p found) (sym (ap (partner_called content) is.0 ∙ who))
+    (subst (λ m. TellsOwnNumber list place own (string_bytes partner) m called found) (sym is.1) (subst (λ c. TellsOwnNumber list place own c n called found) (sym is.0) told))
+number_as content list place (query.Contrl partner k) code n called found is who told =
+    let own = query.Contrl partner k in
+    subst (λ p. TellsOwnNumber list place own (string_bytes partner) k p found) (sym (ap (partner_called content) is.0 ∙ who))
+    (subst (λ m. TellsOwnNumber list place own (string_bytes partner) m called found) (sym is.1) (subst (λ c. TellsOwnNumber list place own c n called found) (sym is.0) told))
+number_as content list place (query.Ticket partner k) code n called found is who told =
+    let own = query.Ticket partner k in
+    subst (λ p. TellsOwnNumber list place own (string_bytes partner) k p found) (sym (ap (partner_called content) is.0 ∙ who))
+    (subst (λ m. TellsOwnNumber list place own (string_bytes partner) m called found) (sym is.1) (subst (λ c. TellsOwnNumber list place own c n called found) (sym is.0) told))
+number_as content list place other code n called found is who told = absurd is
+
+pub neither_as : (content : SetupContent) (list : List Archive) (place : ℕ) (asked : Query) (found : Option (List ℕ)) → ((container : BoxNumber) → asked ≡ query.Visits container → ⊥) → ((container : BoxNumber) → asked ≡ query.Container container → ⊥)
+    → ((code : String Global) (number : ℕ) → asked ≡ query.Reply code number → ⊥) → ((code : String Global) (number : ℕ) → asked ≡ query.Contrl code number → ⊥) → ((code : String Global) (number : ℕ) → asked ≡ query.Ticket code number → ⊥)
+    → IsReportIn list place asked found → TellsAsStore content list place asked found
+neither_as content list place (query.Visits container) found visits there reply contrl ticket told = absurd (visits container refl)
+neither_as content list place (query.Container container) found visits there reply contrl ticket told = absurd (there container refl)
+neither_as content list place (query.Reply code n) found visits there reply contrl ticket told = absurd (reply code n refl)
+neither_as content list place (query.Contrl code n) found visits there reply contrl ticket told = absurd (contrl code n refl)
+neither_as content list place (query.Ticket code n) found visits there reply contrl ticket told = absurd (ticket code n refl)
+neither_as content list place other found visits there reply contrl ticket told = told
+
+module _ {S A : Type 0} (g : Ghosts S) (are : List Archive → A → Type 0) (desk : Desk S g) (a : A) where
+  -- there is one at that place, and it tells so
+  pub told_there : (place : ℕ) (asked : Query) (found : Option (List ℕ)) → ((list : List Archive) → are list a → IsPlace list place)
+      → ((content : SetupContent) (es : List Event) (stand : StandTogether g are content es desk a) → TellsAsStore (content_after content es) stand.list place asked found) → TellsOfOne g are desk a place asked found
+  told_there place asked found there tells content es stand = record {
+    tells = λ is. tells content es stand;
+    nothing = λ none. absurd (none (there stand.list stand.these));
+  }

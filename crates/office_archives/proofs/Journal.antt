@@ -10,16 +10,16 @@ use Rattle.sqlite.specs.State.{State, HasCleanDisk}
 use Rattle.sqlite_trees.specs.declared.store.Store.{Ghosts}
 use Rattle.office_rows.specs.Rows.{Interchange, Rows}
 use Rattle.office_rows.specs.Stored.{HasRows}
-use Rattle.office_tables.proofs.ReadingLemmas.{clean_first}
+use Rattle.office_tables.proofs.MadeLemmas.{clean_first}
 use Rattle.office_tables.specs.Reading.{Reads}
 use Rattle.office_tables.specs.declared.table_fault.TableFault.{TableFault}
-use Rattle.office_texts.specs.Pages.{lines_of}
-use Rattle.office_texts.proofs.WriteLemmas.{appends_then}
+use Rattle.office_loading.specs.Pages.{lines_of}
+use Rattle.office_loading.proofs.TakenLemmas.{appends_then}
 use Rattle.office_parts.specs.Archives.{Archive}
-use Rattle.office_register.specs.Register.{ArchiveContent, RegisterContent, last_closed}
-use Rattle.office_archive_journal.specs.Journal.{carried_on, journal_beyond, texts_added}
-use Rattle.office_archive_texts.specs.Parts.{PartIsWritten, StandInOrder, WritesPart}
-use Rattle.office_archive_texts.specs.declared.passing.Rest.{Rest}
+use Rattle.office_closing.specs.Register.{ArchiveContent, RegisterContent, last_closed}
+use Rattle.office_parts.specs.ArchiveJournal.{carried_on, journal_beyond, texts_added}
+use Rattle.office_archives.specs.Parts.{PartIsWritten, StandInOrder, WritesPart}
+use Rattle.office_archives.specs.declared.passing.Rest.{Rest}
 use Rattle.office_archives.specs.Texts.{AreAdded, AreShownAs, HasInOrder, IsAdded, IsJournal, WrittenIsJournal, closed_before}
 
 -- ---- what is left of two lists, one after the other

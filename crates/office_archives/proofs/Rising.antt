@@ -1,10 +1,42 @@
 -- Lists that are put into a register: of each list the lines are those that were put there last.
-use Rattle.std.proofs.Common.{◌≡◌, ℕ, ◌≤◌, List, [], ◌∷◌, Bool, true, false, cond, Option, None, Some, refl, sym, ap, ◌∙◌, arith, Ordering, Less, Equal, Greater, is_gt}
-use Rattle.std.specs.Prelude.{◌&&◌, ◌==◌, fold, nat_le, nat_lt}
+use Rattle.std.proofs.Common.{◌≡◌, ℕ, ◌≤◌, List, true, Option, None, Some, is_some, option_map, string_bytes, String, refl, sym, ap, subst, ◌∙◌, [], ◌∷◌, ◌++◌, Bool, map, false, cond, arith, Ordering, Less, Equal, Greater, is_gt}
+use Rattle.std.specs.Prelude.{IsTrue, filter, ◌&&◌, ◌==◌, fold, nat_le, nat_lt}
+use Rattle.std.specs.Option.{option_and_then, option_or}
+use Rattle.std.specs.declared.alloc.Global.{Global}
+use Rattle.sqlite.specs.Held.{Held, state}
+use Rattle.sqlite.specs.State.{HasCleanDisk}
+use Rattle.sqlite_trees.specs.declared.store.Store.{Ghosts}
+use Rattle.office_rows.specs.Rows.{Rows}
+use Rattle.office_rows.specs.Stored.{HasRows}
+use Rattle.office_tables.specs.Answers.{IsKept, IsNextOf}
+use Rattle.office_tables.specs.declared.interchanges.Kept.{Kept}
+use Rattle.office_history.specs.After.{AreKeptOnce, reply_in, content_after, machine_after}
+use Rattle.office_parts.specs.Archives.{Archive, archive_of}
+use Rattle.office_closing.specs.Register.{register_content}
+use Rattle.office_closing.specs.declared.register.Register.{Register}
+use Rattle.office_desk.proofs.Faults.{reply_of_kept}
+use Rattle.office_archives.specs.Shelves.{AreShelved, IsOpenAt, IsOpenIfAny, NamesAll, archive_at}
+use Rattle.office_archives.specs.declared.opened.Opened.{Opened}
+use Rattle.box6346.specs.declared.box_number.BoxNumber.{BoxNumber}
+use Rattle.edi_messages.specs.Owned.{call_content}
+use Rattle.edi_messages.specs.declared.call.Call.{Call}
+use Rattle.terminal_core.specs.declared.lines.Side.{Side}
+use Rattle.terminal_core.specs.State.{LineContent, TerminalState, open_visit, side_code}
+use Rattle.office_admission.specs.Setups.{SetupContent}
+use Rattle.office_reports.specs.declared.query.Query.{Query}
+use Rattle.office_reports.specs.Listed.{AreListed}
+use Rattle.office_reports.specs.Yard.{StandsAt, slot_in}
+use Rattle.office_reports.specs.declared.yard.Standing.{Standing}
+use Rattle.office_reports.specs.Containers.{blocker_in}
+use Rattle.office_reports.specs.Work.{is_open_entry, jobs_of, jobs_text, standing_by, work_found, work_head}
+use Rattle.office_desk.specs.Reports.{TellsOf, TellsNext, partner_called}
+use Rattle.office_parts.specs.OwnTerminal.{own_terminal, MayStay}
+use Rattle.office_parts.proofs.Takings.{visits_same}
+use Rattle.office_parts.proofs.Splits.{open_kept}
+use Rattle.office_archives.specs.Reporting.{IsOfWhatStands, WhatStandsIsToldAlike}
 use Rattle.std.specs.List.{AllByRecursion, list_all}
 use Rattle.std.specs.Cmp.{IsTotalOrder}
 use Rattle.std.specs.Cmp.Lexicographic.{bytes_decides, slice_cmp}
-use Rattle.std.specs.Option.{option_or}
 use Rattle.std.specs.Ordering.{is_lt, nat_cmp, ordering_reverse, ordering_then}
 use Rattle.std.specs.Str.{bytes_eq}
 use Rattle.std.proofs.lemmas.Bool.{and_parts, eqb-true, leb-true}
@@ -12,18 +44,97 @@ use Rattle.std.proofs.lemmas.Bool.Decides.{nat_tests}
 use Rattle.std.proofs.lemmas.Cmp.{nat_cmp_total, nat_list_cmp_total, on_total, then_total, tied_itself, upto}
 use Rattle.edi_messages.specs.Purposes.{CallContent}
 use Rattle.edi_messages.specs.Texts.{is_name}
-use Rattle.terminal_core.specs.State.{side_code}
-use Rattle.terminal_core.specs.declared.lines.Side.{Side}
-use Rattle.office_register.specs.Lists.{SettledListContent, comes_before, is_of_list, lines_of_list, list_cmp, put_list, put_lists}
-use Rattle.office_register.specs.Sound.{are_rising, may_be_list}
+use Rattle.office_closing.specs.Lists.{SettledListContent, comes_before, is_of_list, lines_of_list, list_cmp, put_list, put_lists}
+use Rattle.office_closing.specs.Sound.{are_rising, may_be_list}
+use Rattle.office_closing.proofs.SoundLemmas.{list_total}
+use Rattle.office_closing.specs.Register as register
+use Rattle.office_reports.specs.declared.query.Query.TheVariants as query
+
+-- ==== Shelved: Archives on a shelf, of which one was asked.
+
+-- what is named and shelved stays so, with another open
+pub shelved_still : {S F : Type 0} (g : Ghosts S) (is_known : ℕ → Type 0) (holds : List Archive → F → Type 0) (list : List Archive) (shelf after : F) (names still : Register) (opened another : Option (Opened S g)) → AreShelved g is_known holds list shelf names opened → still ≡ names → holds list after
+    → IsOpenIfAny g is_known list another → AreShelved g is_known holds list after still another
+shelved_still g is_known holds list shelf after names still opened another are same on_shelf open_ = record {
+  on_shelf = on_shelf;
+  are_named = subst (λ r. NamesAll (register_content r) list) (sym same) are.are_named;
+  one_open = open_;
+}
+
+-- the place of a number's archive is where it stands
+pub archive_there : {S F : Type 0} (g : Ghosts S) (is_known : ℕ → Type 0) (holds : List Archive → F → Type 0) (list : List Archive) (shelf : F) (names : Register) (opened : Option (Opened S g)) (p n place : ℕ) (archive : Archive) → 1 ≤ n → AreShelved g is_known holds list shelf names opened
+    → register.archive_of (register_content names).segments p n ≡ Some place → archive_of list p n ≡ Some archive → archive_at list place ≡ Some archive
+archive_there g is_known holds list shelf names opened p n place archive low are at reached = sym (are.are_named.named p n low ∙ ap (option_and_then (archive_at list)) at) ∙ reached
+
+-- what was read of an archive stays that archive
+pub open_still : {S : Type 0} (g : Ghosts S) (list : List Archive) (place : ℕ) (before after : Held S) → (HasCleanDisk (state g after) → HasCleanDisk (state g before)) → (HasCleanDisk (state g after) → IsTrue (state g after).is_open → IsTrue (state g before).is_open) →
+    (HasCleanDisk (state g after) → IsTrue (state g after).is_open → (state g after).committed ≡ (state g before).committed) → IsOpenAt g list place before → IsOpenAt g list place after
+open_still g list place before after first was_open same is clean now_open archive at =
+    let there = is (first clean) (was_open clean now_open) archive at in
+    record { has = subst (HasRows archive.rows) (sym (same clean now_open)) there.has; kept_once = there.kept_once }
+
+some_mapped : (o : Option (String Global)) → is_some (option_map string_bytes o) ≡ is_some o
+some_mapped None = refl
+some_mapped (Some text) = refl
+
+-- what is kept and has a reply was taken
+pub taken_in : (rows : Rows) (p n : ℕ) (kept : Option Kept) → AreKeptOnce rows.interchanges → IsKept p n rows kept → is_some (option_and_then (λ (k : Kept). k.reply) kept) ≡ true → is_some (reply_in rows p n) ≡ true
+taken_in rows p n kept once is there = ap is_some (reply_of_kept rows p n once kept is) ∙ some_mapped (option_and_then (λ (k : Kept). k.reply) kept) ∙ there
+
+-- ==== Reporting: Reports of what stands, by the store's own rows and by the whole.
+
+module _ (stays : ℕ → Bool) (state : TerminalState) (may : MayStay stays state.visits) where
+  abbrev own : TerminalState
+  own = own_terminal stays state
+
+  open_same : (container : BoxNumber) → open_visit own container ≡ open_visit state container
+  open_same container = open_kept stays container state.visits may.over
+
+  stands_own : (text : List ℕ) (standing : Standing) → StandsAt state text standing → StandsAt own text standing
+  stands_own text standing at = record { visit = at.visit; is_open = open_same standing.container ∙ at.is_open; is_shown = at.is_shown; stands = at.stands; named = at.named }
+
+  stands_whole : (text : List ℕ) (standing : Standing) → StandsAt own text standing → StandsAt state text standing
+  stands_whole text standing at = record { visit = at.visit; is_open = sym (open_same standing.container) ∙ at.is_open; is_shown = at.is_shown; stands = at.stands; named = at.named }
+
+  listed_whole : (yard : List (List ℕ × Standing)) → AreListed (StandsAt own) yard → AreListed (StandsAt state) yard
+  listed_whole yard listed = record {
+    sorted = listed.sorted;
+    each = λ text standing at. listed.each text standing (stands_own text standing at);
+    only = λ text standing inside. stands_whole text standing (listed.only text standing inside);
+  }
+
+  jobs_same : (list : List (List ℕ × LineContent)) → jobs_of own list ≡ jobs_of state list
+  jobs_same list = λ i. map (λ entry. record { container = entry.0; port = entry.1.port; standing = standing_by entry.0 (open_same entry.0 i) (slot_in state entry.0); blocker = blocker_in state entry.0 }) (filter is_open_entry list)
+
+  work_same : (call : Call) (side : Side) (list : List (List ℕ × LineContent)) → work_found own (call_content call) side list ≡ work_found state (call_content call) side list
+  work_same call side [] = refl
+  work_same call side (entry ∷ list) = ap (λ jobs. Some (work_head (call_content call) side ++ jobs_text side jobs)) (jobs_same (entry ∷ list))
+
+next_whole : (rows whole : Rows) (id : Option ℕ) (found : Option (List ℕ)) → whole.partners ≡ rows.partners → TellsNext rows id found → TellsNext whole id found
+next_whole rows whole None found same told = told
+next_whole rows whole (Some id) found same told = (told.0, subst (λ partners. IsNextOf id (record whole { partners = partners }) told.0) (sym same) told.1, told.2)
+
+pub told_alike : WhatStandsIsToldAlike
+told_alike content es archived own whole asked found parts is told =
+    let state = (machine_after content es).terminal in
+    let may : MayStay archived.stays state.visits = subst (MayStay archived.stays) (visits_same content es whole parts.after) parts.stay in
+    at archived.stays state may own whole (content_after content es) asked found parts.parts.partners is told
+  where
+    at : (stays : ℕ → Bool) (state : TerminalState) (may : MayStay stays state.visits) (own whole : Rows) (now : SetupContent) (asked : Query) (found : Option (List ℕ)) → whole.partners ≡ own.partners → IsOfWhatStands asked →
+        TellsOf now (own_terminal stays state) own asked found → TellsOf now state whole asked found
+    at stays state may own whole now query.Yard found same is told = (told.0, told.1, record { yard = told.2.yard; listed = listed_whole stays state may told.2.yard told.2.listed; is = told.2.is })
+    at stays state may own whole now query.YardTable found same is told = (told.0, told.1, record { yard = told.2.yard; listed = listed_whole stays state may told.2.yard told.2.listed; is = told.2.is })
+    at stays state may own whole now query.Picture found same is told = (told.0, told.1, record { yard = told.2.yard; listed = listed_whole stays state may told.2.yard told.2.listed; is = told.2.is })
+    at stays state may own whole now query.Blocks found same is told = (told.0, told.1, record { yard = told.2.yard; listed = listed_whole stays state may told.2.yard told.2.listed; is = told.2.is })
+    at stays state may own whole now query.Calls found same is told = told
+    at stays state may own whole now (query.List call side) found same is told = record { list = told.list; listed = told.listed; is = told.is }
+    at stays state may own whole now (query.Work call side) found same is told = record { list = told.list; listed = told.listed; is = told.is ∙ work_same stays state may call side told.list }
+    at stays state may own whole now (query.Next code) found same is told = next_whole own whole (partner_called now (string_bytes code)) found same told
+    at stays state may own whole now other found same is told = absurd is
+
+-- ==== Rising: Lists that are put into a register: of each list the lines are those that were put there last.
 
 -- ---- their order
-
-list_total : IsTotalOrder list_cmp
-list_total =
-    then_total (on_total (λ (l : SettledListContent). l.call.vessel) nat_list_cmp_total)
-    (then_total (on_total (λ (l : SettledListContent). l.call.voyage) nat_list_cmp_total)
-    (then_total (on_total (λ (l : SettledListContent). side_code l.side) nat_cmp_total) (on_total (λ (l : SettledListContent). l.archive) nat_cmp_total)))
 
 -- the one comes no later than the other
 abbrev IsUpTo : SettledListContent → SettledListContent → Type 0

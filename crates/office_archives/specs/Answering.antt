@@ -1,11 +1,11 @@
 -- What a delivery is answered under a number that is closed.
 use Rattle.std.specs.Prelude.{◌≡◌, ℕ, ◌≤◌, List}
-use Rattle.edi_segments.specs.Interchange.{interchange_of}
+use Rattle.edi_syntax.specs.Interchange.{interchange_of}
 use Rattle.office_replies.specs.Contents.{content_of}
 use Rattle.office_replies.specs.Events.{Event}
 use Rattle.office_replies.specs.declared.deliver.Response.{Response}
 use Rattle.office_rows.specs.Rows.{Rows}
-use Rattle.office_setup.specs.Setups.{SetupContent}
+use Rattle.office_admission.specs.Setups.{SetupContent}
 use Rattle.office_history.specs.Laws.{IsFor, answer_model_of}
 use Rattle.office_desk.specs.Answers.{answer_by_model}
 use Rattle.office_parts.specs.Archives.{Archive, Hold}

@@ -4,15 +4,15 @@ use Rattle.sqlite.specs.Held.{state}
 use Rattle.sqlite.specs.State.{HasCleanDisk}
 use Rattle.sqlite_trees.specs.declared.store.Store.{Ghosts}
 use Rattle.terminal_core.specs.Versions.{newest}
-use Rattle.office_checks.specs.Closed.{closed_content}
+use Rattle.office_loading.specs.Closed.{closed_content}
 use Rattle.office_desk.specs.Desks.{IsSound}
 use Rattle.office_desk.specs.declared.desk.Desk.{Desk}
-use Rattle.office_lists.specs.Naming.{AreHere, interchange_lists}
-use Rattle.office_lists.specs.OwnLists.{ListName}
+use Rattle.office_parts.specs.Naming.{AreHere, interchange_lists}
+use Rattle.office_parts.specs.OwnLists.{ListName}
 use Rattle.office_parts.specs.Archives.{Archive}
 use Rattle.office_replies.specs.Events.{Event}
-use Rattle.office_setup.specs.Parties.{partner_kinds}
-use Rattle.office_setup.specs.Setups.{SetupContent}
+use Rattle.office_admission.specs.Parties.{partner_kinds}
+use Rattle.office_admission.specs.Setups.{SetupContent}
 use Rattle.office_tables.specs.declared.table_fault.TableFault.{TableFault}
 use Rattle.office_archives.specs.Standing.{StandsBeside}
 use Rattle.office_archives.specs.Together.{LeavesBeside}

@@ -5,11 +5,11 @@ use Rattle.sqlite.specs.Effect.{Database}
 use Rattle.terminal_core.specs.State.{TerminalState}
 use Rattle.office_rows.specs.Rows.{Rows}
 use Rattle.office_rows.specs.Stored.{HasRows}
-use Rattle.office_setup.specs.Setups.{SetupContent}
-use Rattle.office_checks.specs.Closed.{ClosedContent}
+use Rattle.office_admission.specs.Setups.{SetupContent}
+use Rattle.office_loading.specs.Closed.{ClosedContent}
 use Rattle.office_loading.specs.Tables.{LoadsOwn}
 use Rattle.office_history.specs.After.{reply_in}
-use Rattle.office_queries.specs.declared.query.Query.{Query}
+use Rattle.office_reports.specs.declared.query.Query.{Query}
 use Rattle.office_reports.specs.Tickets.{ticket_text}
 use Rattle.office_desk.specs.Reports.{TellsOf}
 use Rattle.office_tables.specs.declared.interchanges.Kept.{Kept}

@@ -9,3 +9,13 @@ pub mod ListsAway
 pub mod Opening
 pub mod Shelves
 pub mod Texts
+pub mod Passing
+pub mod Parts
+pub mod Visits
+pub mod Copies
+pub mod Closed
+pub mod Asked
+pub mod Beyond
+pub mod Stayed
+pub mod Counted
+pub mod Laws

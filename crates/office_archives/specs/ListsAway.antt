@@ -8,15 +8,15 @@ use Rattle.terminal_core.specs.declared.lines.Side.{Side}
 use Rattle.office_replies.specs.Events.{Event}
 use Rattle.office_rows.specs.ByKey.{AreListedOnce, lines_by}
 use Rattle.office_rows.specs.Rows.{ListingContent}
-use Rattle.office_setup.specs.Setups.{SetupContent}
-use Rattle.office_queries.specs.declared.query.Query.{Query}
-use Rattle.office_queries.specs.declared.query.Query.TheVariants as query
-use Rattle.office_lookups.specs.Work.{IsWorkReport}
+use Rattle.office_admission.specs.Setups.{SetupContent}
+use Rattle.office_reports.specs.declared.query.Query.{Query}
+use Rattle.office_reports.specs.declared.query.Query.TheVariants as query
+use Rattle.office_reports.specs.Work.{IsWorkReport}
 use Rattle.office_reports.specs.Lists.{IsListReport}
 use Rattle.office_desk.specs.declared.desk.Desk.{Desk}
 use Rattle.office_parts.specs.Archives.{Archive}
-use Rattle.office_lists.specs.Away.{lines_away}
-use Rattle.office_lists.specs.OwnLists.{ListName}
+use Rattle.office_parts.specs.Away.{lines_away}
+use Rattle.office_parts.specs.OwnLists.{ListName}
 use Rattle.office_archives.specs.Standing.{StandsBeside}
 
 -- it is asked for the list of that call

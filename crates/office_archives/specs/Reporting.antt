@@ -2,9 +2,9 @@
 use Rattle.std.specs.Prelude.{ℕ, List, Option}
 use Rattle.office_replies.specs.Events.{Event}
 use Rattle.office_rows.specs.Rows.{Rows}
-use Rattle.office_setup.specs.Setups.{SetupContent}
-use Rattle.office_queries.specs.declared.query.Query.{Query}
-use Rattle.office_queries.specs.declared.query.Query.TheVariants as query
+use Rattle.office_admission.specs.Setups.{SetupContent}
+use Rattle.office_reports.specs.declared.query.Query.{Query}
+use Rattle.office_reports.specs.declared.query.Query.TheVariants as query
 use Rattle.office_history.specs.After.{content_after, machine_after}
 use Rattle.office_desk.specs.Reports.{TellsOf}
 use Rattle.office_parts.specs.OwnTerminal.{own_terminal}

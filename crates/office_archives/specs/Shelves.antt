@@ -12,16 +12,16 @@ use Rattle.office_rows.specs.Rows.{ListingContent}
 use Rattle.office_rows.specs.Stored.{HasRows}
 use Rattle.office_history.specs.After.{AreKeptOnce}
 use Rattle.office_parts.specs.Archives.{Archive, archive_of}
-use Rattle.office_lists.specs.Away.{lines_away}
-use Rattle.office_lists.specs.OwnLists.{ListName, list_name}
-use Rattle.office_list_texts.specs.Texts.{IsTextOf}
-use Rattle.office_register.specs.Changes.{closed_with}
-use Rattle.office_register.specs.Lists.{SettledListContent, lines_of_list}
-use Rattle.office_register.specs.Register.{ArchiveContent, RegisterContent, last_closed, register_content}
-use Rattle.office_register.specs.Register as register
-use Rattle.office_register.specs.Sound.{is_sound}
-use Rattle.office_register.specs.declared.register.Register.{Register}
-use Rattle.office_register.specs.declared.register.Segment.{Segment}
+use Rattle.office_parts.specs.Away.{lines_away}
+use Rattle.office_parts.specs.OwnLists.{ListName, list_name}
+use Rattle.office_closing.specs.Texts.{IsTextOf}
+use Rattle.office_closing.specs.Changes.{closed_with}
+use Rattle.office_closing.specs.Lists.{SettledListContent, lines_of_list}
+use Rattle.office_closing.specs.Register.{ArchiveContent, RegisterContent, last_closed, register_content}
+use Rattle.office_closing.specs.Register as register
+use Rattle.office_closing.specs.Sound.{is_sound}
+use Rattle.office_closing.specs.declared.register.Register.{Register}
+use Rattle.office_closing.specs.declared.register.Segment.{Segment}
 use Rattle.office_archives.specs.declared.opened.Opened.{Opened}
 
 -- the archive at a place, the first at 1

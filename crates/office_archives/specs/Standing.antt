@@ -1,20 +1,20 @@
 -- Where a desk over the own rows of a store and the store's archives stand together.
 use Rattle.std.specs.Prelude.{◌≡◌, ℕ, ◌<◌, Bool, List, Contains, filter, Ok, None, true}
 use Rattle.sqlite_trees.specs.declared.store.Store.{Ghosts}
-use Rattle.edi_segments.specs.Interchange.{interchange_of}
+use Rattle.edi_syntax.specs.Interchange.{interchange_of}
 use Rattle.office_replies.specs.Delivering.{Delivers}
 use Rattle.office_replies.specs.Events.{Event}
 use Rattle.office_replies.specs.declared.deliver.Response.{Response}
-use Rattle.office_checks.specs.Closed.{ClosedContent, closed_content}
+use Rattle.office_loading.specs.Closed.{ClosedContent, closed_content}
 use Rattle.office_rows.specs.Rows.{Interchange, Rows}
-use Rattle.office_setup.specs.Given.{IsGiven}
-use Rattle.office_setup.specs.Parties.{parties_of}
-use Rattle.office_setup.specs.Setups.{SetupContent, setup_content}
+use Rattle.office_admission.specs.Given.{IsGiven}
+use Rattle.office_admission.specs.Parties.{parties_of}
+use Rattle.office_admission.specs.Setups.{SetupContent, setup_content}
 use Rattle.office_admission.specs.Admission.{admission}
 use Rattle.office_history.specs.After.{content_after, machine_after}
-use Rattle.office_lists.specs.Away.{AreAway, lists_after}
-use Rattle.office_lists.specs.Naming.{AreHere}
-use Rattle.office_lists.specs.OwnLists.{ListName, rows_without_lists, without_lists}
+use Rattle.office_parts.specs.Away.{AreAway, lists_after}
+use Rattle.office_parts.specs.Naming.{AreHere}
+use Rattle.office_parts.specs.OwnLists.{ListName, rows_without_lists, without_lists}
 use Rattle.office_desk.specs.Answers.{AnswersNext}
 use Rattle.office_desk.specs.Calls.{Leads}
 use Rattle.office_desk.specs.Desks.{IsSound}

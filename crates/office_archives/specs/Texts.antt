@@ -7,12 +7,12 @@ use Rattle.sqlite_trees.specs.declared.store.Store.{Ghosts}
 use Rattle.office_rows.specs.Rows.{Rows}
 use Rattle.office_rows.specs.Stored.{HasRows}
 use Rattle.office_rows.specs.Tables.{interchange_table}
-use Rattle.office_texts.specs.Pages.{lines_of}
+use Rattle.office_loading.specs.Pages.{lines_of}
 use Rattle.office_parts.specs.Archives.{Archive}
-use Rattle.office_register.specs.Register.{ArchiveContent, RegisterContent, last_closed}
-use Rattle.office_archive_journal.specs.Journal.{journal_of}
-use Rattle.office_archive_texts.specs.Parts.{PartIsWritten, StandInOrder}
-use Rattle.office_archive_texts.specs.declared.passing.Rest.{Rest}
+use Rattle.office_closing.specs.Register.{ArchiveContent, RegisterContent, last_closed}
+use Rattle.office_parts.specs.ArchiveJournal.{journal_of}
+use Rattle.office_archives.specs.Parts.{PartIsWritten, StandInOrder}
+use Rattle.office_archives.specs.declared.passing.Rest.{Rest}
 use Rattle.office_archives.specs.Shelves.{IsOpenAt, register_before}
 
 -- the last numbers that were closed before the archive at a place, as a register says

@@ -11,16 +11,16 @@ use Rattle.office_replies.specs.declared.accounts.AccountAnswer.{AccountAnswer}
 use Rattle.office_replies.specs.declared.accounts.AccountAnswer.TheVariants as account
 use Rattle.office_replies.specs.declared.deliver.Response.{Response}
 use Rattle.office_replies.specs.declared.deliver.Response.TheVariants as response
-use Rattle.office_queries.specs.Looking.{Look, Tells, of_archive, report, texts_after}
-use Rattle.office_queries.specs.declared.query.NotNow.{NotNow}
-use Rattle.office_queries.specs.declared.query.Query.{Query}
-use Rattle.office_checks.specs.Closed.{ClosedContent, closed_content}
+use Rattle.office_reports.specs.Looking.{Look, Tells, of_archive, report, texts_after}
+use Rattle.office_reports.specs.declared.query.NotNow.{NotNow}
+use Rattle.office_reports.specs.declared.query.Query.{Query}
+use Rattle.office_loading.specs.Closed.{ClosedContent, closed_content}
 use Rattle.office_rows.specs.Rows.{Rows}
 use Rattle.office_rows.specs.Stored.{StoresRows}
-use Rattle.office_setup.specs.Setups.{SetupContent}
+use Rattle.office_admission.specs.Setups.{SetupContent}
 use Rattle.office_history.specs.After.{SaysSame, content_after}
-use Rattle.office_lists.specs.Away.{AreAway}
-use Rattle.office_lists.specs.OwnLists.{ListName, rows_without_lists}
+use Rattle.office_parts.specs.Away.{AreAway}
+use Rattle.office_parts.specs.OwnLists.{ListName, rows_without_lists}
 use Rattle.office_desk.specs.Accounts.{AnswersAccount}
 use Rattle.office_desk.specs.Answers.{AnswersNext}
 use Rattle.office_desk.specs.Desks.{IsSound}

@@ -2,26 +2,26 @@ ghost use Rattle.std.specs.Option.{option_map};
 ghost use Rattle.std.specs.Prelude.{◌≡◌, ◌≤◌, ◌&&◌, ◌↔◌, ℕ, nat_le, IfOk, List, None, OnOk, Some, false, string_bytes, true};
 ghost use Rattle.std.specs.Result.{result_map_both};
 ghost use Rattle.edi_messages.specs.Owned.{call_content};
-ghost use Rattle.edi_segments.specs.Interchange.{interchange_of, segments_in};
+ghost use Rattle.edi_syntax.specs.Interchange.{interchange_of, segments_in};
 ghost use Rattle.edi_syntax.specs.Envelope.{header_of};
 ghost use Rattle.office_admission.specs.Admission.{number_in};
 ghost use Rattle.office_admission.specs.Outcomes.{IsAdmitted};
 ghost use Rattle.office_archives.specs.Keeping.{IsClosedBefore, IsNotClosedBefore};
 ghost use Rattle.office_archives.specs.Telling.{IsOfContainer, IsOfList, IsOfNumber, IsPlace, TellsAsStore};
 ghost use Rattle.office_archives.specs.Together.{EnrolsTogether, LeadsTogether, LooksTogether, OnlyLooksTogether, StandTogether, TellsBeside, TellsOfOne};
-ghost use Rattle.office_checks.specs.Closed.{last_closed};
+ghost use Rattle.office_loading.specs.Closed.{last_closed};
 ghost use Rattle.office_desk.specs.Calls.{OnlyLooks};
 ghost use Rattle.office_desk.specs.Desks.{IsSound};
 ghost use Rattle.office_desk.specs.Offices.{DeskHolds};
 ghost use Rattle.office_desk.specs.Reports.{IsOpenFor, partner_called};
 ghost use Rattle.office_history.specs.After.{content_after};
 ghost use Rattle.office_parts.specs.Archives.{Archive};
-ghost use Rattle.office_queries.specs.Looking.{of_archive, report, texts_after};
-ghost use Rattle.office_queries.specs.declared.query.Query.{Query};
-ghost use Rattle.office_queries.specs.declared.query.Query.TheVariants.{Calls};
+ghost use Rattle.office_reports.specs.Looking.{of_archive, report, texts_after};
+ghost use Rattle.office_reports.specs.declared.query.Query.{Query};
+ghost use Rattle.office_reports.specs.declared.query.Query.TheVariants.{Calls};
 ghost use Rattle.office_replies.specs.Events.{Event};
 ghost use Rattle.office_rows.specs.Rows.{Rows};
-ghost use Rattle.office_setup.specs.Setups.{SetupContent, setup_content};
+ghost use Rattle.office_admission.specs.Setups.{SetupContent, setup_content};
 ghost use Rattle.sqlite.specs.Held.{state};
 ghost use Rattle.sqlite.specs.State.{HasCleanDisk};
 ghost use Rattle.terminal_core.specs.State.{TerminalState};
@@ -30,11 +30,11 @@ use crate::archives::{Archives, answer_closed, partner_called, tell_closed, with
 use crate::bringing::bring_back_named;
 use crate::lists_away::{lines_if_away, report_by_lines};
 use edi_messages::Call;
-use edi_segments::interchange_text;
+use edi_syntax::interchange_text;
 use office_admission::Admitted;
 use office_desk::Desk;
-use office_queries::{NotNow, Query, Report};
 use office_replies::{AccountAnswer, AddAccount, Deliver, Response};
+use office_reports::{NotNow, Query, Report};
 use office_tables::TableFault;
 use sqlite::Alter;
 use std::alloc::Global;
@@ -66,6 +66,14 @@ impl<S: Alter, A: Archives> ArchivedDesk<S, A> {
 }
 
 impl<S: Alter + Drop, A: Archives + Drop> ArchivedDesk<S, A> {
+    /// The desk over the store's own rows, without the archives.
+    pub fn into_desk(self) -> Desk<S>
+        ensures { result ≡ self.desk }
+    {
+        let ArchivedDesk { desk, archives: _ } = self;
+        desk
+    }
+
     /// Delivers a text, and answers it.
     fn answer_text(&mut self, alloc: Global, delivered: &[u8]) -> Response
         ensures leads { LeadsTogether S.Store A.is_sound A.are self.old.desk self.old.archives delivered.now result
@@ -126,9 +134,9 @@ impl<S: Alter + Drop, A: Archives + Drop> ArchivedDesk<S, A> {
         }
     }
 
-    /// What store and archives tell at a query, if there is something: of a number that is closed its archive, else the
-    /// store's own rows; of a container and its visits these, and in a last line how many archives there are. Nothing
-    /// changes.
+    /// What store and archives report for a query, if there is something: of a number that is closed its archive, else
+    /// the store's own rows; of a container and its visits these, and in a last line how many archives there are.
+    /// Nothing changes.
     pub fn find_report(
         &mut self,
         alloc: Global,
@@ -154,7 +162,7 @@ impl<S: Alter + Drop, A: Archives + Drop> ArchivedDesk<S, A> {
         }
     }
 
-    /// What the store tells of a container, and how many archives were not looked at.
+    /// What the store reports of a container, and how many archives were not searched.
     fn find_container(&mut self, alloc: Global, query: &Query) -> Result<Option<String>, TableFault>
         requires { IsOfContainer query.now }
         ensures told { IsSound S.Store self.new.desk → A.is_sound self.new.archives → IfOk result (λ found.
@@ -169,7 +177,7 @@ impl<S: Alter + Drop, A: Archives + Drop> ArchivedDesk<S, A> {
         Ok(with_archives(alloc, told, self.archives.count())?)
     }
 
-    /// What the store tells of its lists, and how many archives there are, if lists were put away.
+    /// What the store reports of its lists, and how many archives there are, if lists were put away.
     fn find_calls(&mut self, alloc: Global, query: &Query) -> Result<Option<String>, TableFault>
         requires { query.now ≡ Calls }
         ensures told { IsSound S.Store self.new.desk → A.is_sound self.new.archives → IfOk result (λ found.
@@ -268,7 +276,7 @@ impl<S: Alter + Drop, A: Archives + Drop> ArchivedDesk<S, A> {
         }
     }
 
-    /// A page of the kept texts, if nothing was put away. NotNow otherwise: the order in which all came is not told yet.
+    /// A page of the kept texts, if nothing was put away. NotNow otherwise: a page would have to open archives.
     fn answer_texts(&mut self, alloc: Global, from: u32) -> Result<Option<Vec<u8>>, NotNow>
         ensures looks { LooksTogether S.Store A.is_sound A.are self.old.desk self.old.archives (texts_after from)
             (result_map_both (option_map (λ lines. lines.items)) (λ refusal. refusal) result) self.new.desk
@@ -281,7 +289,7 @@ impl<S: Alter + Drop, A: Archives + Drop> ArchivedDesk<S, A> {
         Err(NotNow)
     }
 
-    /// What the archive at a place tells at a query; NotNow, if it met a fault, which the desk keeps.
+    /// What the archive at a place reports for a query; NotNow, if it met a fault, which the desk keeps.
     fn answer_archive(
         &mut self,
         alloc: Global,
@@ -347,9 +355,9 @@ impl<S: Alter + Drop, A: Archives + Drop> Report for ArchivedDesk<S, A> {
     }
 }
 
-/// What the archive at a place tells at a query, as the store that it was: of a container also how many archives there were
-/// then, of a number that was closed before what that number's archive keeps. None if there is no such archive, or it tells
-/// nothing. No archive changes, and the desk only looks.
+/// What the archive at a place reports for a query, as the store that it was: of a container also how many archives
+/// there were then, of a number that was closed before what that number's archive keeps. None if there is no such
+/// archive, or it reports nothing. No archive changes, and the desk only looks.
 ///
 /// Damaged if nobody is found by the code that a number is asked of, and the store knows the code.
 pub(crate) fn tell_of_archive<S: Alter + Drop, A: Archives>(
@@ -390,7 +398,7 @@ fn has_place<A: Archives>(archives: &A, place: u16) -> bool
     1 <= place && usize::from(place) <= archives.count()
 }
 
-/// What the archive at a place tells of a container, and how many archives are before it: they were not looked at.
+/// What the archive at a place reports of a container, and how many archives are before it: they were not searched.
 fn tell_container<A: Archives>(
     alloc: Global,
     archives: &mut A,
@@ -462,7 +470,8 @@ fn closed_before<S: Alter, A: Archives>(
     }
 }
 
-/// Checks that no account has a code, by its next number. Damaged if one has.
+/// Checks that no account has a code: the desk has no next number for it. A report finds no partner for a key's code by
+/// way of admission; if an account has the code all the same, the answer is Damaged.
 fn check_nobody<S: Alter + Drop>(
     alloc: Global,
     desk: &mut Desk<S>,

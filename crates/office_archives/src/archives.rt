@@ -8,20 +8,19 @@ ghost use Rattle.office_archives.specs.Telling.{HasListAway, TellsClosed, archiv
 ghost use Rattle.office_desk.specs.Answers.{answer_by_model};
 ghost use Rattle.office_desk.specs.Noting.{IsNow};
 ghost use Rattle.office_desk.specs.Reports.{partner_called};
-ghost use Rattle.office_lists.specs.Away.{lines_away};
-ghost use Rattle.office_lists.specs.OwnLists.{ListName, list_name};
+ghost use Rattle.office_parts.specs.Away.{lines_away};
+ghost use Rattle.office_parts.specs.OwnLists.{ListName, list_name};
 ghost use Rattle.office_parts.specs.Archives.{Archive, archive_of, reply_by};
 ghost use Rattle.office_replies.specs.Contents.{content_of};
 ghost use Rattle.office_rows.specs.Rows.{listing_content};
-ghost use Rattle.office_setup.specs.Setups.{setup_content};
+ghost use Rattle.office_admission.specs.Setups.{setup_content};
 ghost use Rattle.partner_core.specs.Answers.{Clash, Repeat};
 
 use edi_messages::Call;
 use office_desk::Desk;
-use office_lookups::contrl_in;
-use office_queries::Query;
 use office_replies::{Response, clash_body, taken_body};
 use office_reports::texts::push_line;
+use office_reports::{Query, contrl_in};
 use office_tables::{Kept, TableFault};
 use sqlite::Alter;
 use std::alloc::{AllocError, Global};
@@ -29,8 +28,8 @@ use terminal_core::{Listing, Side};
 
 /// What the archives of a store keep.
 pub trait Archives {
-    /// What they are read from, as far as it is open, has told the truth. If it has not, nothing is said of what was told
-    /// last.
+    /// The disks from which they are read, as far as they are open, are clean. If not, nothing is said of what was
+    /// reported last.
     ghost is_sound: { Self → Type 0 };
 
     /// They are these, in the order in which they were closed.
@@ -61,8 +60,8 @@ pub trait Archives {
             IsTicketIn archives code.now partner number (string_bytes ticket)) }
         ensures same { (archives : List Archive) → are archives self.old → are archives self.new };
 
-    /// What the archive at that place tells at a query, the first at 1, opened as the store that it was: of numbers those
-    /// that its own rows have. It changes no archive.
+    /// What the archive at that place reports for a query, the first at 1, opened as the store that it was: of numbers
+    /// those that its own rows have. It changes no archive.
     ///
     /// Damaged if it has the rows of no office; Version if it is of another version; Store and Memory say nothing of what it
     /// keeps.
@@ -188,8 +187,8 @@ fn interchange_from(alloc: Global, sender: &str, recipient: &str) -> Result<Stri
     )
 }
 
-/// What the archives tell of a number that is closed, of the partner with a code: its CONTRL, its ticket, or its reply as
-/// that of a repeat.
+/// What the archives report of a number that is closed, of the partner with a code: its CONTRL, its ticket, or its
+/// reply as that of a repeat.
 pub(crate) fn tell_closed<A: Archives>(
     alloc: Global,
     archives: &mut A,
@@ -233,8 +232,8 @@ fn closed_reply<A: Archives>(
     }
 }
 
-/// What the store tells of a container, and in a last line `ARCHIVES k` how many archives it has, if it has any: they were
-/// not looked at.
+/// What the store reports of a container, and in a last line `ARCHIVES k` how many archives it has, if it has any: they
+/// were not looked at.
 pub(crate) fn with_archives(
     alloc: Global,
     told: Option<String>,

@@ -2,15 +2,15 @@ ghost use Rattle.std.specs.Prelude.{ℕ, List, [], ◌∷◌, map};
 ghost use Rattle.edi_messages.specs.Owned.{call_content};
 ghost use Rattle.office_admission.specs.Outcomes.{IsAdmitted};
 ghost use Rattle.office_archives.specs.Bringing.{BringsTogether, named_by};
-ghost use Rattle.office_lists.specs.Named.{named_list_content};
-ghost use Rattle.office_lists.specs.OwnLists.{list_name};
+ghost use Rattle.office_parts.specs.Named.{named_list_content};
+ghost use Rattle.office_parts.specs.OwnLists.{list_name};
 
 use crate::archives::Archives;
 use crate::lists_away::lines_if_away;
 use edi_messages::Call;
 use office_admission::Admitted;
 use office_desk::Desk;
-use office_lists::{NamedList, lists_named};
+use office_parts::{NamedList, lists_named};
 use office_tables::TableFault;
 use sqlite::Alter;
 use std::alloc::Global;
@@ -49,7 +49,7 @@ fn bring_back_all<S: Alter + Drop, A: Archives>(
     Ok(())
 }
 
-/// Brings back the list of a call, if it is away: its lines stand in the store again, as they were put away.
+/// Brings back the list of a call, if it is away: its lines are written into the store again, as they were put away.
 ///
 /// Damaged if it was put away without a line; the faults of desk and archives; Memory.
 fn bring_back<S: Alter + Drop, A: Archives>(

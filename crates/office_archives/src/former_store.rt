@@ -2,23 +2,21 @@ ghost use Rattle.std.specs.Option.{option_and_then, option_map};
 ghost use Rattle.std.specs.Prelude.{◌≡◌, ◌++◌, ◌∷◌, [], IfOk, is_some, string_bytes, nat_lt, filter, map, OnOk};
 ghost use Rattle.office_archives.specs.Keeping.{IsReportOf, IsTicketOf};
 ghost use Rattle.office_archives.specs.Shelves.{register_before};
-ghost use Rattle.office_checks.specs.Closed.{closed_content};
-ghost use Rattle.office_delivery.specs.Reading.{OnlyReads};
+ghost use Rattle.office_loading.specs.Closed.{closed_content};
+ghost use Rattle.office_tables.specs.DeliveryReading.{OnlyReads};
 ghost use Rattle.office_history.specs.After.{AreKeptOnce};
-ghost use Rattle.office_register.specs.Register.{ArchiveContent, archive_content, closed_by, register_content};
-ghost use Rattle.office_register.specs.declared.register.Segment.{Segment};
+ghost use Rattle.office_closing.specs.Register.{ArchiveContent, archive_content, closed_by, register_content};
+ghost use Rattle.office_closing.specs.declared.register.Segment.{Segment};
 ghost use Rattle.office_rows.specs.Rows.{Rows};
 ghost use Rattle.office_rows.specs.Stored.{HasRows};
 ghost use Rattle.office_tables.specs.Reading.{Reads};
 ghost use Rattle.sqlite.specs.Held.{state};
 ghost use Rattle.sqlite.specs.State.{HasCleanDisk};
 
-use office_checks::Closed;
+use office_closing::{Archive, Register, Segment, is_sound};
 use office_desk::tell;
-use office_loading::load_own;
-use office_queries::Query;
-use office_register::{Archive, Register, Segment, is_sound};
-use office_reports::ticket;
+use office_loading::{Closed, load_own};
+use office_reports::{Query, ticket};
 use office_tables::{Kept, TableFault, kept};
 use sqlite::{Alter, Connection};
 use std::alloc::{AllocError, Global};
@@ -47,7 +45,8 @@ pub(crate) fn ticket_by<S: Alter>(
     Ok(ticket(alloc, &terminal, code, partner, number)?)
 }
 
-/// What the rows of a store tell at a query, of which that is closed: of numbers those that it has. It changes nothing.
+/// What the rows of a store, of which that is closed, report for a query: of numbers those that it has. It changes
+/// nothing.
 ///
 /// Damaged if the rows are those of no office, or what is asked for can't be read; Version if no setting names this version;
 /// Store and Memory say nothing of the rows.

@@ -5,7 +5,7 @@ ghost use Rattle.office_archives.specs.ListsAway.{AsksList, FindsIfAway, TellsBy
 ghost use Rattle.office_archives.specs.Telling.{IsOfList};
 ghost use Rattle.office_desk.specs.Calls.{OnlyLooks};
 ghost use Rattle.office_desk.specs.Desks.{IsSound};
-ghost use Rattle.office_lists.specs.OwnLists.{list_name};
+ghost use Rattle.office_parts.specs.OwnLists.{list_name};
 ghost use Rattle.office_rows.specs.ByKey.{AreListedOnce, lines_by};
 ghost use Rattle.office_rows.specs.Rows.{listing_content};
 ghost use Rattle.sqlite.specs.Held.{state};
@@ -14,9 +14,7 @@ ghost use Rattle.sqlite.specs.State.{HasCleanDisk};
 use crate::archives::Archives;
 use edi_messages::Call;
 use office_desk::Desk;
-use office_lookups::work_report;
-use office_queries::Query;
-use office_reports::list_report;
+use office_reports::{Query, list_report, work_report};
 use office_tables::TableFault;
 use sqlite::Alter;
 use std::alloc::{AllocError, Global};
@@ -76,7 +74,7 @@ fn asked_of(alloc: Global, call: &Call, side: Side) -> Result<Query, AllocError>
 
 /// What is reported of the list of a call, or of what is left of it, by all its lines.
 ///
-/// Damaged if one stands twice; Memory.
+/// Damaged if one is there twice; Memory.
 pub(crate) fn report_by_lines(
     alloc: Global,
     query: &Query,
@@ -97,7 +95,7 @@ pub(crate) fn report_by_lines(
 
 /// A terminal that has these lines, and nothing else.
 ///
-/// Damaged if one stands twice; Memory.
+/// Damaged if one is there twice; Memory.
 fn terminal_of(alloc: Global, lines: Vec<Listing>) -> Result<Terminal, TableFault>
     ensures once { IfOk result (λ terminal. AreListedOnce (map listing_content lines.items)) }
     ensures lines { IfOk result (λ terminal. terminal.lines ≡ lines_by (map listing_content lines.items)) }

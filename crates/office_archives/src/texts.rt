@@ -1,25 +1,25 @@
 ghost use Rattle.std.specs.Prelude.{◌≡◌, false, map, IfOk, IfSome, IsTrue, List};
 ghost use Rattle.office_archives.specs.Texts.{AreAdded, FailsIfNone, IsAdded, IsJournalWritten, OpensOn};
-ghost use Rattle.office_delivery.specs.Reading.{OnlyReads};
+ghost use Rattle.office_tables.specs.DeliveryReading.{OnlyReads};
 ghost use Rattle.office_parts.specs.Archives.{Archive};
-ghost use Rattle.office_register.specs.Register.{archive_content, register_content};
-ghost use Rattle.office_register.specs.Sound.{is_sound};
+ghost use Rattle.office_closing.specs.Register.{archive_content, register_content};
+ghost use Rattle.office_closing.specs.Sound.{is_sound};
 ghost use Rattle.sqlite.specs.Held.{state};
 
 use crate::former_store::closed_before;
 use crate::many_archives::Shelf;
-use office_archive_texts::{Rest, write_part};
-use office_register::Register;
-use office_stream::Port;
+use crate::{Rest, write_part};
+use office_closing::Register;
+use office_replies::Port;
 use office_tables::TableFault;
 use sqlite::{Alter, Connection};
 use std::alloc::Global;
 use std::io::Write;
 
-/// Writes the texts that a store keeps together with its archives, without the first `from` of them, in the order in which
-/// they came, each once, an LF after each: first those of the archives, each of which is opened in turn, as the store's register
-/// names them. It answers how many of the `from` there are not, 0 if there are so many; None if the writer failed. No row
-/// changes.
+/// Writes the texts that a store keeps together with its archives, without the first `from` of them, in the order in
+/// which they came, each once, an LF after each: first those of the archives, each of which is opened in turn, as the
+/// store's register names them. It answers how many of the `from` there are not, 0 if there are that many; None if the
+/// writer failed. No row changes.
 ///
 /// After a fault a front of the texts may be written.
 pub fn write_journal<S: Alter, T: Alter + Drop, F: Shelf<T>, W: Write>(

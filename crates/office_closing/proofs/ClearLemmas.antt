@@ -1,20 +1,187 @@
 -- Transactions that delete, one after the other.
-use Rattle.std.proofs.Common.{◌≡◌, IsTrue, true, false, Result, Ok, Err, IfErr, OnErr, OnOk, refl, sym, subst, ◌∙◌, arith}
+use Rattle.std.proofs.Common.{◌≡◌, ℕ, List, [], ◌∷◌, Bool, true, false, ◌&&◌, ◌||◌, ◌==◌, not, Ok, IsTrue, codes, filter, refl, sym, ap₂, ◌∙◌, arith, Result, Err, IfErr, OnErr, OnOk, subst, ◌⊎◌, inl, inr, ◌++◌, ap, None, map}
+use Rattle.std.proofs.lemmas.Bool.Decides.{nat_tests}
+use Rattle.sqlite.specs.Collation.TheVariants.{Binary}
+use Rattle.sqlite.specs.Command.TheVariants.{Delete}
+use Rattle.sqlite.specs.Listing.{understood}
+use Rattle.sqlite.specs.Ops.{binary, is_true}
+use Rattle.sqlite.specs.Order.{Row, column}
+use Rattle.sqlite.specs.State.{State, HasCleanDisk, Executes, Shows, Survives, IsRolledBack, KeepsCommit}
+use Rattle.sqlite.specs.Term.{Term, col}
+use Rattle.sqlite.proofs.Callers.{IsPlain, command_of, statement_of, runs_as, survives_begin}
+use Rattle.sqlite_rules.specs.Calls.{ids_of}
+use Rattle.sqlite_rules.specs.declared.error.Rowids.TheVariants.{Given}
+use Rattle.sqlite_sql.specs.declared.ops.BinaryOp.TheVariants.{Compare}
+use Rattle.sqlite_sql.specs.declared.ops.CompareOp.TheVariants.{Eq}
+use Rattle.sqlite_tied.specs.Compute.{everything}
+use Rattle.edi_messages.specs.Purposes.{CallContent}
+use Rattle.sqlite.specs.declared.types.Value.TheVariants.{Text}
+use Rattle.terminal_core.specs.Rows.{VisitContent}
+use Rattle.terminal_core.specs.State.{side_code, AreNumbered, TerminalState}
+use Rattle.terminal_core.specs.declared.lines.Side.{Side}
+use Rattle.office_rows.specs.Effects.{is_pair}
+use Rattle.office_rows.specs.Rows.{ListingContent, Rows, listing_content}
+use Rattle.office_rows.specs.Stored.{HasRows}
+use Rattle.office_rows.specs.Tables.{interchange_table, listing_table, visit_table, office_schema}
+use Rattle.office_rows.specs.Values.{number_value, interchange_values, line_values, visit_values}
+use Rattle.office_rows.proofs.WriteLemmas.{holds_deleted, rows_of, deletes, equal_numbers, equal_texts}
+use Rattle.office_rows.proofs.Writing.{only_interchanges, only_lines, only_visits, equals}
+use Rattle.office_parts.specs.Bringing.{is_list}
+use Rattle.office_parts.specs.OwnLists.{is_own_line, list_name, rows_without_lists, ListName}
+use Rattle.office_closing.specs.Deleting.{Deletes, without_interchange, without_visits, Becomes}
+use Rattle.office_closing.proofs.FoundLemmas.{list_tied, listings_by}
+use Rattle.office_rows.proofs.Listed.{and_true}
 use Rattle.sqlite.specs.Held.{Held, state}
-use Rattle.sqlite.specs.State.{State, HasCleanDisk, IsRolledBack, KeepsCommit, Shows, Survives}
 use Rattle.sqlite.specs.Tree.{Trees}
-use Rattle.sqlite.proofs.Callers.{survives_begin}
 use Rattle.sqlite.proofs.StateLemmas.{survives_then, survives_weaker}
 use Rattle.sqlite_trees.specs.declared.store.Store.{Ghosts}
-use Rattle.office_rows.specs.Rows.{Rows}
-use Rattle.office_rows.specs.Stored.{HasRows}
-use Rattle.office_rows.proofs.StepLemmas.{keep_then, on_ok, quiet_then, stores}
+use Rattle.office_rows.proofs.Creating.{keep_then, on_ok, quiet_then, stores}
 use Rattle.office_tables.specs.Faults.{IsOfStore}
 use Rattle.office_tables.specs.declared.table_fault.TableFault.{TableFault}
 use Rattle.office_tables.proofs.WritesLemmas.{survives_here}
-use Rattle.office_delivery.specs.Writing.{IsUndone}
+use Rattle.office_tables.specs.Writing.{IsUndone}
 use Rattle.office_closing.specs.Clearing.{IsCleared, IsPartlyCleared, StoresLeft, Clears}
-use Rattle.office_closing.specs.Deleting.{Becomes, Deletes}
+use Rattle.office_tables.proofs.WriteLemmas.{on_failed}
+use Rattle.std.specs.Prelude.{◌↔◌, Contains, slice_get}
+use Rattle.std.proofs.lemmas.Option.{same_Some}
+use Rattle.terminal_core.proofs.Whole.{found_at, same_index}
+use Rattle.office_parts.proofs.Splits.{has_contained, contained_has, has_left, has_right, has_pushed}
+use Rattle.office_closing.specs.declared.visits.VisitFault.{VisitFault}
+use Rattle.office_closing.specs.declared.visits.VisitFault.TheVariants.{Differs}
+use Rattle.office_closing.specs.Visits.{AreAlike, GoesBelow, IsCauseOf, IsOtherwiseOver}
+use Rattle.terminal_core.specs.Listings.{lines_of}
+use Rattle.terminal_core.specs.Restoring.{AreOnce}
+use Rattle.terminal_core.specs.declared.lines.Listing.{Listing}
+use Rattle.office_closing.specs.Going.{AreDone}
+use Rattle.office_loading.proofs.Keyed.{listed_once}
+use Rattle.office_closing.specs.Changes.{unmarked}
+use Rattle.office_closing.specs.Lists.{SettledListContent}
+use Rattle.office_closing.specs.Register.{ArchiveContent, RegisterContent}
+use Rattle.office_closing.specs.declared.faults.CloseFault.{CloseFault}
+use Rattle.office_closing.specs.declared.planning.Stage.{Stage}
+use Rattle.office_closing.specs.Copies.{AreDoneIn, FileNames, HasCome, OfficeContent, archive_in, lists_at}
+use Rattle.office_closing.specs.Planning.{AreFor, IsRefused, IsRefusedWith}
+use Rattle.office_closing.specs.declared.faults.CloseFault.TheVariants as fault
+use Rattle.office_closing.specs.declared.faults.Refusal.TheVariants as refusal
+use Rattle.office_closing.specs.declared.planning.Stage.TheVariants as stage
+
+-- ==== DeleteLemmas: What the texts mean that delete, and what each makes of the rows.
+
+abbrev pub delete_interchange : List ℕ
+delete_interchange = codes "DELETE FROM interchange WHERE partner = ?1 AND number = ?2"
+
+abbrev pub delete_interchange_tests : List Term
+delete_interchange_tests = equals (col 1 1) (col 0 0) ∷ equals (col 1 2) (col 0 1) ∷ []
+
+abbrev pub delete_shown : List Term
+delete_shown = col 1 0 ∷ []
+
+pub delete_interchange_is : command_of (understood office_schema delete_interchange) ≡ Delete 1 (record { lets = []; body = rows_of 2 delete_interchange_tests delete_shown })
+unfolding understood everything
+delete_interchange_is = refl
+
+pub delete_interchange_plain : IsPlain (understood office_schema delete_interchange)
+unfolding understood everything
+delete_interchange_plain = (refl, refl)
+
+abbrev pub delete_list : List ℕ
+delete_list = codes "DELETE FROM listed WHERE vessel = ?1 AND voyage = ?2 AND side = ?3"
+
+abbrev pub delete_list_tests : List Term
+delete_list_tests = equals (col 1 1) (col 0 0) ∷ equals (col 1 2) (col 0 1) ∷ equals (col 1 3) (col 0 2) ∷ []
+
+pub delete_list_is : command_of (understood office_schema delete_list) ≡ Delete 4 (record { lets = []; body = rows_of 9 delete_list_tests delete_shown })
+unfolding understood everything
+delete_list_is = refl
+
+pub delete_list_plain : IsPlain (understood office_schema delete_list)
+unfolding understood everything
+delete_list_plain = (refl, refl)
+
+abbrev pub delete_visit : List ℕ
+delete_visit = codes "DELETE FROM visit WHERE visit = ?1"
+
+abbrev pub delete_visit_tests : List Term
+delete_visit_tests = equals (col 1 0) (col 0 0) ∷ []
+
+pub delete_visit_is : command_of (understood office_schema delete_visit) ≡ Delete 2 (record { lets = []; body = rows_of 4 delete_visit_tests delete_shown })
+unfolding understood everything
+delete_visit_is = refl
+
+pub delete_visit_plain : IsPlain (understood office_schema delete_visit)
+unfolding understood everything
+delete_visit_plain = (refl, refl)
+
+-- ---- the rows
+
+-- a column that is this number
+abbrev is_number : Row → ℕ → ℕ → Bool
+is_number c at n = is_true (binary (Compare Eq Binary) (column c at) (number_value n))
+
+-- a column that is this text
+abbrev is_text : Row → ℕ → List ℕ → Bool
+is_text c at s = is_true (binary (Compare Eq Binary) (column c at) (Text s))
+
+or_false : (b : Bool) → (b || false) ≡ b
+or_false true = refl
+or_false false = refl
+
+equal_back : (m n : ℕ) → (m == n) ≡ (n == m)
+equal_back m n = grind (arith, nat_tests)
+
+module _ (old new : State) (rows : Rows) (count : ℕ) (has : HasRows rows old.now) where
+  pub deleted_interchange : (partner number : ℕ) → Executes delete_interchange (number_value partner ∷ number_value number ∷ []) old new (Ok count) → HasRows (without_interchange partner number rows) new.now
+  deleted_interchange partner number h =
+      let params = number_value partner ∷ number_value number ∷ [] in
+      let text = statement_of delete_interchange (understood office_schema delete_interchange) in
+      let w = runs_as delete_interchange params old new office_schema has.schema (Delete 1 (record { lets = []; body = rows_of 2 delete_interchange_tests delete_shown })) delete_interchange_is delete_interchange_plain count h in
+      let it = deletes old new has.schema 1 interchange_table refl refl params text count delete_interchange_tests delete_shown (λ trees. refl) w in
+      only_interchanges rows old.now new.now has (ids_of it.answer) Given 0 [] (filter (λ i. not (is_pair partner number i)) rows.interchanges) it.edits
+      (holds_deleted interchange_table interchange_values rows.interchanges old.now new.now has.rows_are.interchanges params delete_interchange_tests delete_shown
+      (λ c. is_number c 0 partner && (is_number c 1 number && true)) (is_pair partner number)
+      (λ r. refl) (λ r. refl) (λ i. ap₂ ◌&&◌ (equal_numbers i.partner partner) (and_true _ ∙ equal_numbers i.number number)) it)
+
+  pub deleted_visit : (number : ℕ) → Executes delete_visit (number_value number ∷ []) old new (Ok count) → HasRows (without_visits (number ∷ []) rows) new.now
+  deleted_visit number h =
+      let params = number_value number ∷ [] in
+      let text = statement_of delete_visit (understood office_schema delete_visit) in
+      let w = runs_as delete_visit params old new office_schema has.schema (Delete 2 (record { lets = []; body = rows_of 4 delete_visit_tests delete_shown })) delete_visit_is delete_visit_plain count h in
+      let it = deletes old new has.schema 2 visit_table refl refl params text count delete_visit_tests delete_shown (λ trees. refl) w in
+      only_visits rows old.now new.now has (ids_of it.answer) Given 0 [] (filter (λ (v : VisitContent). not ((number == v.number) || false)) rows.visits) it.edits
+      (holds_deleted visit_table visit_values rows.visits old.now new.now has.rows_are.visits params delete_visit_tests delete_shown
+      (λ c. is_number c 0 number && true) (λ (v : VisitContent). (number == v.number) || false)
+      (λ r. refl) (λ r. refl) (λ v. and_true _ ∙ equal_numbers v.number number ∙ equal_back v.number number ∙ sym (or_false (number == v.number))) it)
+
+  pub deleted_list : (call : CallContent) (side : Side) → Executes delete_list (Text call.vessel ∷ Text call.voyage ∷ number_value (side_code side) ∷ []) old new (Ok count)
+      → HasRows (rows_without_lists (is_list (list_name call side)) rows) new.now
+  deleted_list call side h =
+      let params = Text call.vessel ∷ Text call.voyage ∷ number_value (side_code side) ∷ [] in
+      let text = statement_of delete_list (understood office_schema delete_list) in
+      let w = runs_as delete_list params old new office_schema has.schema (Delete 4 (record { lets = []; body = rows_of 9 delete_list_tests delete_shown })) delete_list_is delete_list_plain count h in
+      let it = deletes old new has.schema 4 listing_table refl refl params text count delete_list_tests delete_shown (λ trees. refl) w in
+      only_lines rows old.now new.now has (ids_of it.answer) Given 0 [] (filter (is_own_line (is_list (list_name call side))) rows.lines) it.edits
+      (holds_deleted listing_table line_values rows.lines old.now new.now has.rows_are.lines params delete_list_tests delete_shown
+      (λ c. is_text c 0 call.vessel && (is_text c 1 call.voyage && (is_number c 2 (side_code side) && true))) (λ (l : ListingContent). is_list (list_name call side) (list_name l.call l.side))
+      (λ r. refl) (λ r. refl)
+      (λ (l : ListingContent). ap₂ ◌&&◌ (equal_texts l.call.vessel call.vessel) (ap₂ ◌&&◌ (equal_texts l.call.voyage call.voyage) (and_true _ ∙ equal_numbers (side_code l.side) (side_code side))) ∙ sym (list_tied call side l)) it)
+
+-- a statement that was made
+pub deletes_of : {T : Type 0} (change : Rows → Rows) (old new : State) (value : T) → Survives old new (λ _. ⊥)
+    → (HasCleanDisk new → IsTrue old.in_transaction → Shows old new new.now old.committed true × ((rows : Rows) → HasRows rows old.now → HasRows (change rows) new.now))
+    → Deletes change old new (Ok value)
+deletes_of change old new value survives made = record {
+  becomes = λ clean inside. record {
+    rows = (made clean inside).1;
+    inside = (made clean inside).0.mode;
+    committed = (made clean inside).0.committed_is;
+    is_open = λ _. (made clean inside).0.is_open;
+  };
+  keeps = λ clean inside. record { was_open = λ _. (made clean inside).0.was_open; committed = λ _. (made clean inside).0.committed_is };
+  survives = survives;
+  fault = tt;
+}
+
+-- ==== ClearLemmas: Transactions that delete, one after the other.
 
 -- ---- in a transaction
 
@@ -54,10 +221,6 @@ deletes_same f g old new result same p = record {
 }
 
 -- ---- one transaction
-
-on_failed : {X E : Type 0} {P Q : Type 0} (r : Result X E) → (P → Q) → OnErr r P → OnErr r Q
-on_failed (Ok x) f is = is
-on_failed (Err e) f is = f is
 
 module _ {S : Type 0} (g : Ghosts S) (change : Rows → Rows) (MayBeLeft : Rows → Rows → Type 0) (all_may : (rows : Rows) → MayBeLeft rows rows)
     (old : Held S) (last end : State) (settles : IsTrue (state g old).is_open → (state g old).now ≡ (state g old).committed) where
@@ -182,3 +345,125 @@ clears_weaker change Left More old new result weaker p = record {
 -- at a fault it doesn't matter what was to come of it
 pub clears_failed : {T : Type 0} (f g : Rows → Rows) (MayBeLeft : Rows → Rows → Type 0) (old new : State) (fault : TableFault) → Clears {T = T} f MayBeLeft old new (Err fault) → Clears {T = T} g MayBeLeft old new (Err fault)
 clears_failed f g MayBeLeft old new fault p = record { ends = p.ends; ok = λ clean was. tt; err = p.err; crash = p.crash; fault = p.fault }
+
+-- ==== VisitLemmas: Which visits go, one after the other.
+
+-- no two visits have one number
+pub same_visit : (visits : List VisitContent) → AreNumbered 0 visits → (v w : VisitContent) → Contains visits v → Contains visits w → v.number ≡ w.number → v ≡ w
+same_visit visits are v w here there same =
+    let at = found_at visits v here in
+    let at' = found_at visits w there in
+    let index : here.0 ≡ there.0 = same_index 0 visits here.0 there.0 v w are at at' same in
+    same_Some v w (sym at ∙ ap (slice_get visits) index ∙ at')
+
+-- one that differs says why
+pub differs_told : (own copy : List VisitContent) (visit : VisitContent) (fault : VisitFault) → fault ≡ Differs visit.number → Contains own visit → IsOtherwiseOver copy visit → IsCauseOf own copy fault
+differs_told own copy visit fault is here otherwise = subst (IsCauseOf own copy) (sym is) (visit, refl, here, otherwise)
+
+-- the numbers of those of these visits that go
+abbrev pub AreGone : ℕ → List VisitContent → List VisitContent → List ℕ → Type 0
+AreGone newest copy done numbers =
+    (number : ℕ) → Contains numbers number ↔ ((visit : VisitContent) × (visit.number ≡ number) × Contains done visit × GoesBelow newest copy visit)
+
+pub none_gone : (newest : ℕ) (copy : List VisitContent) → AreGone newest copy [] []
+none_gone newest copy number = (λ here. absurd (has_contained [] number here), λ it. absurd (has_contained [] it.0 it.2))
+
+pub none_differs : (copy : List VisitContent) → AreAlike [] copy
+none_differs copy visit here = absurd (has_contained [] visit here)
+
+last_in : {A : Type 0} (xs : List A) (x : A) → Contains (xs ++ x ∷ []) x
+last_in xs x = contained_has (xs ++ x ∷ []) x (has_right xs (x ∷ []) x (inl refl))
+
+earlier_in : {A : Type 0} (xs : List A) (x y : A) → Contains xs y → Contains (xs ++ x ∷ []) y
+earlier_in xs x y here = contained_has (xs ++ x ∷ []) y (has_left xs (x ∷ []) y (has_contained xs y here))
+
+pushed_in : {A : Type 0} (xs : List A) (x y : A) → Contains (xs ++ x ∷ []) y → Contains xs y ⊎ (x ≡ y)
+pushed_in xs x y here = elim (has_pushed xs x y (has_contained (xs ++ x ∷ []) y here)) [
+  | inl earlier ↦ inl (contained_has xs y earlier)
+  | inr last ↦ inr last
+]
+
+module _ (newest : ℕ) (copy done after : List VisitContent) (v : VisitContent) (is : after ≡ done ++ v ∷ []) where
+  earlier_done : (w : VisitContent) → Contains done w → Contains after w
+  earlier_done w here = subst (λ l. Contains l w) (sym is) (earlier_in done v w here)
+
+  either_done : (w : VisitContent) → Contains after w → Contains done w ⊎ (v ≡ w)
+  either_done w here = pushed_in done v w (subst (λ l. Contains l w) is here)
+
+  -- one more that is alike
+  pub one_alike : ¬ IsOtherwiseOver copy v → AreAlike done copy → AreAlike after copy
+  one_alike alike are w here = elim (either_done w here) [
+    | inl earlier ↦ are w earlier
+    | inr last ↦ λ it. alike (subst (IsOtherwiseOver copy) (sym last) it)
+  ]
+
+  -- one more that stays
+  pub one_stays : (numbers : List ℕ) → ¬ GoesBelow newest copy v → AreGone newest copy done numbers → AreGone newest copy after numbers
+  one_stays numbers stays are number = (
+    λ here. let it = (are number).0 here in (it.0, it.1, earlier_done it.0 it.2, it.3),
+    λ it. elim (either_done it.0 it.2) [
+      | inl earlier ↦ (are number).1 (it.0, it.1, earlier, it.3)
+      | inr last ↦ absurd (stays (subst (GoesBelow newest copy) (sym last) it.3))
+    ],
+  )
+
+  -- one more that goes
+  pub one_goes : (numbers numbers' : List ℕ) → GoesBelow newest copy v → numbers' ≡ numbers ++ v.number ∷ [] → AreGone newest copy done numbers → AreGone newest copy after numbers'
+  one_goes numbers numbers' goes pushed are number = (
+    λ here. elim (pushed_in numbers v.number number (subst (λ l. Contains l number) pushed here)) [
+      | inl earlier ↦ (let it = (are number).0 earlier in (it.0, it.1, earlier_done it.0 it.2, it.3))
+      | inr last ↦ (v, last, subst (λ l. Contains l v) (sym is) (last_in done v), goes)
+    ],
+    λ it. subst (λ l. Contains l number) (sym pushed) (elim (either_done it.0 it.2) [
+      | inl earlier ↦ earlier_in numbers v.number number ((are number).1 (it.0, it.1, earlier, it.3))
+      | inr last ↦ subst (Contains (numbers ++ v.number ∷ [])) (ap (λ (w : VisitContent). w.number) last ∙ it.1) (last_in numbers v.number)
+    ]),
+  )
+
+-- ==== StageLemmas: How far a closing has come, and the lists that the store's register has with the archive then.
+
+-- a register with an archive more is another one
+pub one_longer : (archives : List ArchiveContent) (archive : ArchiveContent) → archives ++ archive ∷ [] ≡ archives → ⊥
+one_longer [] archive e = absurd cc
+one_longer (first ∷ rest) archive e = let same : rest ++ archive ∷ [] ≡ rest = cc in one_longer rest archive same
+
+module _ (own copy : OfficeContent) (names : FileNames) (place : ℕ) (done lists : List SettledListContent) (unclosed : own.register.closed_for ≡ None) (for : AreFor own copy place done lists) where
+  pub own_is : own.register ≡ unmarked own.register
+  own_is = λ i. record own.register { closed_for = unclosed i }
+
+  -- the lists at a stage that the closing has come to
+  pub lists_come : (with_ : List SettledListContent) (come : Stage) → HasCome own copy names with_ come → lists ≡ lists_at own place done come
+  lists_come with_ stage.New has = for.same (has.0 ∙ own_is)
+  lists_come with_ stage.Marked has = for.same (has.0 ∙ own_is)
+  lists_come with_ stage.Raised has =
+      for.other (λ same. one_longer copy.register.archives (archive_in names.archive copy) (ap (λ (c : RegisterContent). c.archives) has.0 ∙ sym (ap (λ (c : RegisterContent). c.archives) same)))
+
+-- ---- what a plan has of lists
+
+-- the registers are asked with lists in memory
+pub registers_for : (own copy : OfficeContent) (place : ℕ) (done lists : List SettledListContent) (given these : List SettledListContent) → given ≡ done → these ≡ lists → AreFor own copy place given lists → AreFor own copy place done these
+registers_for own copy place done lists given these same those for = record {
+  same = λ e. those ∙ for.same e ∙ same;
+  other = λ e. those ∙ for.other e;
+}
+
+-- Rust lines of the terminal, and what is found done among them
+pub done_in : (terminal : TerminalState) (named : List ListName) (place at : ℕ) (lines : List Listing) (done : List SettledListContent) → lines_of lines ≡ terminal.lines → AreOnce lines → place ≡ at → AreDone (map listing_content lines) named place done
+    → AreDoneIn terminal named at done
+done_in terminal named place at lines done told once here are = record {
+  lines = map listing_content lines;
+  once = listed_once lines once;
+  by_key = sym (listings_by lines) ∙ told;
+  are = subst (λ n. AreDone (map listing_content lines) named n done) here are;
+}
+
+pub refused_with : (own copy : OfficeContent) (names : FileNames) (named : List ListName) (done : List SettledListContent) → AreDoneIn own.terminal named (archive_in names.archive copy).place done → (why : CloseFault) → IsRefusedWith own copy names done why → IsRefused own copy names why
+refused_with own copy names named done are (fault.Archive refusal.Register) none = record { named = named; done = done; are_done = are; none = none }
+refused_with own copy names named done are (fault.Archive refusal.Closed) is = absurd is
+refused_with own copy names named done are (fault.Archive refusal.Office) is = absurd is
+refused_with own copy names named done are (fault.Archive refusal.Later) is = absurd is
+refused_with own copy names named done are (fault.Archive (refusal.Visit number)) is = absurd is
+refused_with own copy names named done are (fault.Archive (refusal.Interchange difference)) is = absurd is
+refused_with own copy names named done are (fault.File of) is = absurd is
+refused_with own copy names named done are (fault.Comparing of) is = absurd is
+refused_with own copy names named done are fault.Memory is = tt

@@ -1,27 +1,192 @@
 -- What a closing comes to, file by file: after all four were read, a step that changes a register, and a store that is cleared.
-use Rattle.std.proofs.Common.{◌≡◌, inl, inr, true, false, Bool, None, Some, Result, Ok, Err, IsTrue, OnErr, map, sym, ap, subst, ◌∙◌, arith}
-use Rattle.std.proofs.lemmas.Bool.{cases_Bool}
+use Rattle.std.proofs.Common.{◌≡◌, ◌⊎◌, inl, inr, ℕ, ◌<◌, ◌≤◌, List, [], ◌∷◌, ◌++◌, Bool, true, false, ◌&&◌, ◌||◌, ◌==◌, Option, None, Some, refl, sym, ap, subst, ◌∙◌, string_bytes, zero, suc, get_or, length, arith, Result, Ok, Err, IsTrue, OnErr, map}
+use Rattle.std.specs.Prelude.{nat_le, nat_lt, String, Contains}
+use Rattle.std.specs.Option.{option_map, option_and_then}
+use Rattle.std.proofs.lemmas.Bool.{eqb-true, eq-eqb, le-leb, leb-true, lt-ltb, ltb-true, cases_Bool}
+use Rattle.std.proofs.lemmas.List.Folds.{list_any-append}
+use Rattle.office_rows.specs.Rows.{Interchange, Rows}
+use Rattle.office_history.specs.After.{AreKeptOnce, reply_if_any, reply_in}
+use Rattle.office_history.specs.Cascade.{text_in}
+use Rattle.office_tables.specs.Answers.{IsKept, RepliesAs}
+use Rattle.office_tables.specs.Faults.{IsOfStoreOr}
+use Rattle.office_tables.specs.declared.interchanges.Kept.{Kept}
+use Rattle.office_tables.specs.declared.table_fault.TableFault.{TableFault}
+use Rattle.office_tables.specs.declared.table_fault.TableFault.TheVariants.{Store, Damaged, Version, Memory}
+use Rattle.office_tables.proofs.WriteLemmas.{none_kept, one_kept, no_text, text_kept}
+use Rattle.office_closing.specs.declared.faults.File.{File}
+use Rattle.office_closing.specs.declared.faults.FileFault.{FileFault}
+use Rattle.office_closing.specs.declared.comparing.Numbers.{Numbers}
+use Rattle.office_closing.specs.Comparing.{kept_text, kept_reply, IsSameKept, IsToldAlike, IsComparedAs, HasUnfitAmong, IsOfEither, IsOfFile}
+use Rattle.office_closing.specs.Deleting.{is_of, is_among, all_but, goes, is_one_of, with_visits_that, without_visits}
+use Rattle.std.proofs.lemmas.List.Elements.{Contains-append_cases, Contains-append_left, Contains-append_right}
+use Rattle.office_closing.specs.Lists.{SettledListContent, list_content}
+use Rattle.office_closing.specs.Planning.{AreInBoth}
 use Rattle.sqlite.specs.Effect.{Database}
 use Rattle.sqlite.specs.State.{State, HasCleanDisk, IsUnchanged, Survives}
 use Rattle.sqlite.specs.Tree.{Trees}
 use Rattle.sqlite.proofs.StateLemmas.{survives_then}
 use Rattle.office_rows.specs.Stored.{HasRows}
-use Rattle.office_tables.specs.declared.table_fault.TableFault.{TableFault}
-use Rattle.office_register.specs.Changes.{closed_with, marked_for, unchanged, unmarked}
-use Rattle.office_register.specs.Lists.{list_content}
-use Rattle.office_register.specs.Register.{RegisterContent, archive_content}
-use Rattle.office_register.specs.Stored.{HasRegister}
-use Rattle.office_register.specs.Transactions.{IsSettled}
+use Rattle.office_closing.specs.Changes.{closed_with, marked_for, unchanged, unmarked}
+use Rattle.office_closing.specs.Register.{RegisterContent, archive_content}
+use Rattle.office_closing.specs.Stored.{HasRegister}
+use Rattle.office_closing.specs.Transactions.{IsSettled}
 use Rattle.office_closing.specs.declared.faults.CloseFault.{CloseFault}
 use Rattle.office_closing.specs.declared.planning.Plan.{Plan}
 use Rattle.office_closing.specs.declared.planning.Stage.{Stage}
-use Rattle.office_closing.specs.declared.planning.Stage.TheVariants as stage
-use Rattle.office_closing.specs.Clearing.{Clears}
+use Rattle.office_closing.specs.Clearing.{Clears, IsWithoutSome, IsWithoutSomeLists, IsWithoutSomeVisits}
 use Rattle.office_closing.specs.Closes.{AreHeld, Closing, HasArchive, Held, IsLeft, StoresLeftRows, StoresMarked, StoresRaised, cleared, closing_content, raised_register}
 use Rattle.office_closing.specs.Copies.{FileNames}
 use Rattle.office_closing.specs.Files.{AreClean, AreRead, Files}
 use Rattle.office_closing.specs.Judging.{AreResting, IsAtStage, IsJudged, IsResting}
 use Rattle.office_closing.specs.Steps.{IsAsBefore, StepsIf, is_unmarked, is_unraised}
+use Rattle.office_parts.specs.LeftOver.{rows_without}
+use Rattle.office_parts.specs.OwnLists.{rows_without_lists}
+use Rattle.office_parts.proofs.BringingLemmas.{more_away}
+use Rattle.office_closing.proofs.ClearLemmas.{clears_failed, clears_then, clears_weaker}
+use Rattle.office_closing.proofs.NumberLemmas.{lists_none, and_both, deleted_none, deleted_twice, or_parts, whole_is_some, whole_is_some_visits, with_all, with_both}
+use Rattle.office_closing.specs.declared.faults.File.TheVariants as file
+use Rattle.office_closing.specs.declared.planning.Stage.TheVariants as stage
+
+-- ==== CompareLemmas: What is read of both, and whether it is told alike.
+
+-- ---- one number
+
+reply_is : {Z : Type 0} (reply : Option (String Z)) (text : List ℕ) → RepliesAs reply text → reply_if_any text ≡ option_map (λ (r : String Z). string_bytes r) reply
+reply_is None text is = ap reply_if_any is
+reply_is (Some reply) [] is = absurd (is.1 refl)
+reply_is (Some reply) (byte ∷ bytes) is = ap Some is.0
+
+text_is : (partner number : ℕ) (rows : Rows) (kept : Option Kept) → AreKeptOnce rows.interchanges → IsKept partner number rows kept → text_in rows partner number ≡ kept_text kept
+text_is partner number rows None once is = no_text partner number rows is
+text_is partner number rows (Some kept) once is = text_kept partner number rows kept once is
+
+told_reply : (partner number : ℕ) (rows : Rows) (kept : Option Kept) → AreKeptOnce rows.interchanges → IsKept partner number rows kept → reply_in rows partner number ≡ kept_reply kept
+told_reply partner number rows None once is = ap (option_and_then (λ (i : Interchange). reply_if_any i.reply)) (none_kept partner number rows is)
+told_reply partner number rows (Some kept) once is =
+    ap (option_and_then (λ (i : Interchange). reply_if_any i.reply)) (one_kept partner number rows is.0 once is.1) ∙ reply_is kept.reply is.0.reply is.3
+
+module _ (partner number : ℕ) (own copy : Rows) (here there : Option Kept) (own_once : AreKeptOnce own.interchanges) (copy_once : AreKeptOnce copy.interchanges)
+    (own_is : IsKept partner number own here) (copy_is : IsKept partner number copy there) where
+  pub told_alike : IsSameKept here there → IsToldAlike partner number own copy
+  told_alike same = record {
+    text = text_is partner number copy there copy_once copy_is ∙ same.text ∙ sym (text_is partner number own here own_once own_is);
+    reply = told_reply partner number copy there copy_once copy_is ∙ same.reply ∙ sym (told_reply partner number own here own_once own_is);
+  }
+
+  pub kept_same : IsToldAlike partner number own copy → IsSameKept here there
+  kept_same alike = record {
+    text = sym (text_is partner number copy there copy_once copy_is) ∙ alike.text ∙ text_is partner number own here own_once own_is;
+    reply = sym (told_reply partner number copy there copy_once copy_is) ∙ alike.reply ∙ told_reply partner number own here own_once own_is;
+  }
+
+-- ---- faults
+
+pub fault_of_more : {P Q : Type 0} → (P → Q) → (fault : TableFault) → IsOfStoreOr P fault → IsOfStoreOr Q fault
+fault_of_more f (Store e) is = tt
+fault_of_more f Memory is = tt
+fault_of_more f Damaged is = f is
+fault_of_more f Version is = is
+
+pub either_more : {P P' Q Q' : Type 0} → (P → P') → (Q → Q') → (at : File) (fault : TableFault) → IsOfFile P Q at fault → IsOfFile P' Q' at fault
+either_more f h file.Store fault is = fault_of_more f fault is
+either_more f h file.Archive fault is = fault_of_more h fault is
+either_more f h file.Register fault is = absurd is
+either_more f h file.ArchiveRegister fault is = absurd is
+
+pub of_own : (P Q : Type 0) (fault : FileFault) → fault.file ≡ file.Store → IsOfStoreOr P fault.fault → IsOfEither P Q fault
+of_own P Q fault e is = subst (λ f. IsOfFile P Q f fault.fault) (sym e) is
+
+pub of_copy : (P Q : Type 0) (fault : FileFault) → fault.file ≡ file.Archive → IsOfStoreOr Q fault.fault → IsOfEither P Q fault
+of_copy P Q fault e is = subst (λ f. IsOfFile P Q f fault.fault) (sym e) is
+
+-- ---- numbers
+
+-- which numbers were compared so far
+among_one : (numbers : Numbers) (partner number : ℕ) → is_among (numbers ∷ []) partner number ≡ is_of partner number numbers
+among_one numbers partner number = or_false (is_of partner number numbers)
+  where
+    or_false : (b : Bool) → (b || false) ≡ b
+    or_false true = refl
+    or_false false = refl
+
+and_true : (a b : Bool) → (a && b) ≡ true → (a ≡ true) × (b ≡ true)
+and_true true b e = (refl, e)
+and_true false b e = absurd cc
+
+pub among_parts : (numbers : Numbers) (partner number : ℕ) → is_among (numbers ∷ []) partner number ≡ true → (partner ≡ numbers.partner) × (numbers.from < number) × (number ≤ numbers.to)
+among_parts numbers partner number e =
+    let both = and_true (partner == numbers.partner) _ (sym (among_one numbers partner number) ∙ e) in
+    let within = and_true (nat_lt numbers.from number) (nat_le number numbers.to) both.1 in
+    (eqb-true partner numbers.partner both.0, ltb-true numbers.from number within.0, leb-true number numbers.to within.1)
+
+pub is_among_one : (numbers : Numbers) (number : ℕ) → numbers.from < number → number ≤ numbers.to → is_among (numbers ∷ []) numbers.partner number ≡ true
+is_among_one numbers number above within = among_one numbers numbers.partner number ∙ by (numbers.partner == numbers.partner) (eq-eqb numbers.partner numbers.partner refl) (nat_lt numbers.from number) (lt-ltb numbers.from number above) (le-leb number numbers.to within)
+  where
+    by : (a : Bool) → a ≡ true → (b : Bool) → b ≡ true → {c : Bool} → c ≡ true → (a && (b && c)) ≡ true
+    by a e b f {c} g = ap (λ x. x && (b && c)) e ∙ ap (λ x. x && c) f ∙ g
+
+or_true : (a b : Bool) → (a || b) ≡ true → (a ≡ true) ⊎ (b ≡ true)
+or_true true b e = inl refl
+or_true false b e = inr e
+
+or_right : (a b : Bool) → b ≡ true → (a || b) ≡ true
+or_right true b e = refl
+or_right false b e = e
+
+module _ (before : List Numbers) (one : Numbers) (after : List Numbers) (is : after ≡ before ++ one ∷ []) (partner number : ℕ) where
+  after_is : is_among after partner number ≡ (is_among before partner number || is_among (one ∷ []) partner number)
+  after_is = ap (λ l. is_among l partner number) is ∙ list_any-append (is_of partner number) before (one ∷ [])
+
+  -- one of the numbers so far, or of the next
+  pub among_either : is_among after partner number ≡ true → (is_among before partner number ≡ true) ⊎ (is_among (one ∷ []) partner number ≡ true)
+  among_either e = or_true (is_among before partner number) (is_among (one ∷ []) partner number) (sym after_is ∙ e)
+
+  pub among_all : (behind all : List Numbers) → all ≡ after ++ behind → is_among (one ∷ []) partner number ≡ true → is_among all partner number ≡ true
+  among_all behind all whole e =
+      ap (λ l. is_among l partner number) whole ∙ list_any-append (is_of partner number) after behind
+      ∙ ap (λ b. b || is_among behind partner number) (after_is ∙ or_right (is_among before partner number) (is_among (one ∷ []) partner number) e)
+
+pub unfit_of_all : (before : List Numbers) (one : Numbers) (after behind all : List Numbers) → after ≡ before ++ one ∷ [] → all ≡ after ++ behind → (rows : Rows) → HasUnfitAmong (one ∷ []) rows → HasUnfitAmong all rows
+unfit_of_all before one after behind all is whole rows it = record { partner = it.partner; number = it.number; among = among_all before one after is it.partner it.number behind all whole it.among; unfit = it.unfit }
+
+pub compared_more : (before : List Numbers) (one : Numbers) (after : List Numbers) → after ≡ before ++ one ∷ [] → (own copy : Rows) → IsComparedAs before own copy None → IsComparedAs (one ∷ []) own copy None → IsComparedAs after own copy None
+compared_more before one after is own copy first second partner number e = elim (among_either before one after is partner number e) [
+  | inl earlier ↦ first partner number earlier
+  | inr here ↦ second partner number here
+]
+
+-- ==== BothLemmas: Lists that two lists of them both have, found one after the other.
+
+only_one : (one list : SettledListContent) → Contains (one ∷ []) list → one ≡ list
+only_one one list inside = by inside.0 inside.1 inside.2
+  where
+    by : (k : ℕ) → k < length (one ∷ []) → get_or (one ∷ []) k list ≡ list → one ≡ list
+    by zero within is = is
+    by (suc k) within is = absurd (omega (arith, within))
+
+module _ (ones others both : List SettledListContent) (one : SettledListContent) (are : AreInBoth ones others both) where
+  pub both_pushed : Contains others one → AreInBoth (ones ++ one ∷ []) others (both ++ one ∷ [])
+  both_pushed there list = (
+    λ inside. elim (Contains-append_cases both (one ∷ []) list inside) [
+      | inl before ↦ (let it = (are list).0 before in (Contains-append_left ones (one ∷ []) list it.0, it.1))
+      | inr here ↦ (Contains-append_right ones (one ∷ []) list here, subst (Contains others) (only_one one list here) there)
+    ],
+    λ inside. elim (Contains-append_cases ones (one ∷ []) list inside.0) [
+      | inl before ↦ Contains-append_left both (one ∷ []) list ((are list).1 (before, inside.1))
+      | inr here ↦ Contains-append_right both (one ∷ []) list here
+    ],
+  )
+
+  pub both_passed : ¬ Contains others one → AreInBoth (ones ++ one ∷ []) others both
+  both_passed none list = (
+    λ inside. (let it = (are list).0 inside in (Contains-append_left ones (one ∷ []) list it.0, it.1)),
+    λ inside. elim (Contains-append_cases ones (one ∷ []) list inside.0) [
+      | inl before ↦ (are list).1 (before, inside.1)
+      | inr here ↦ absurd (none (subst (Contains others) (sym (only_one one list here)) inside.1))
+    ],
+  )
+
+-- ==== FileLemmas: What a closing comes to, file by file: after all four were read, a step that changes a register, and a store that is cleared.
 
 -- ---- one file
 
@@ -203,3 +368,93 @@ module _ (names : FileNames) (old mid : Files) (plan : Plan) (rests : AreResting
 
   pub is_judged : AreClean mid → (held : Held) → AreHeld held old → IsJudged held names plan
   is_judged = found
+
+-- ==== LeftLemmas: What is left of a store that is cleared of interchanges, then of visits, and then of lists.
+
+module _ (closing : Closing) where
+  left_of_numbers : (rows left : Rows) → IsWithoutSome (goes closing.numbers) rows left → IsLeft closing rows left
+  left_of_numbers rows left it = record {
+    deleted = it.deleted;
+    only = it.only;
+    kept = λ n. true;
+    stay = λ n e. refl;
+    away = λ list. false;
+    lists = λ list e. absurd cc;
+    is =
+        it.is
+        ∙ sym (with_all (λ n. true) (λ n. refl) (rows_without it.deleted rows))
+        ∙ sym (lists_none (λ list. false) (λ list. refl) (with_visits_that (λ n. true) (rows_without it.deleted rows)));
+  }
+
+  left_of_visits : (rows left : Rows) → IsWithoutSomeVisits (all_but closing.visits) rows left → IsLeft closing rows left
+  left_of_visits rows left it = record {
+    deleted = λ i. false;
+    only = λ i e. absurd cc;
+    kept = it.kept;
+    stay = it.only;
+    away = λ list. false;
+    lists = λ list e. absurd cc;
+    is =
+        it.is
+        ∙ ap (with_visits_that it.kept) (sym (deleted_none (λ i. false) (λ i. refl) rows))
+        ∙ sym (lists_none (λ list. false) (λ list. refl) (with_visits_that it.kept (rows_without (λ i. false) rows)));
+  }
+
+  left_of_lists : (rows left : Rows) → IsWithoutSomeLists (is_one_of closing.gone) rows left → IsLeft closing rows left
+  left_of_lists rows left it = record {
+    deleted = λ i. false;
+    only = λ i e. absurd cc;
+    kept = λ n. true;
+    stay = λ n e. refl;
+    away = it.deleted;
+    lists = it.only;
+    is = it.is ∙ ap (rows_without_lists it.deleted) (sym (with_all (λ n. true) (λ n. refl) (rows_without (λ i. false) rows) ∙ deleted_none (λ i. false) (λ i. refl) rows));
+  }
+
+  left_then : (a b c : Rows) → IsLeft closing a b → IsLeft closing b c → IsLeft closing a c
+  left_then a b c p q = record {
+    deleted = λ i. p.deleted i || q.deleted i;
+    only = λ i e. or_parts (goes closing.numbers i) (p.deleted i) (q.deleted i) (p.only i) (q.only i) e;
+    kept = λ n. p.kept n && q.kept n;
+    stay = λ n e. and_both (all_but closing.visits n) (p.kept n) (q.kept n) (p.stay n) (q.stay n) e;
+    away = λ list. p.away list || q.away list;
+    lists = λ list e. or_parts (is_one_of closing.gone list) (p.away list) (q.away list) (p.lists list) (q.lists list) e;
+    is =
+        q.is
+        ∙ ap (λ r. rows_without_lists q.away (with_visits_that q.kept (rows_without q.deleted r))) p.is
+        ∙ more_away p.away q.away (with_visits_that q.kept (with_visits_that p.kept (rows_without q.deleted (rows_without p.deleted a))))
+        ∙ ap (rows_without_lists (λ list. p.away list || q.away list))
+        (with_both p.kept q.kept (rows_without q.deleted (rows_without p.deleted a))
+        ∙ ap (with_visits_that (λ n. p.kept n && q.kept n)) (deleted_twice p.deleted q.deleted a));
+  }
+
+  abbrev cleared_two : Rows → Rows
+  cleared_two rows = without_visits closing.visits (rows_without (goes closing.numbers) rows)
+
+  -- the interchanges, and then the visits
+  cleared_both : {X Y : Type 0} (a b c : State) (x : X) (result : Result Y TableFault) → Clears (rows_without (goes closing.numbers)) (IsWithoutSome (goes closing.numbers)) a b (Ok x)
+      → Clears (without_visits closing.visits) (IsWithoutSomeVisits (all_but closing.visits)) b c result → Clears cleared_two (IsLeft closing) a c result
+  cleared_both a b c x result p q =
+      clears_then (IsLeft closing) left_then (rows_without (goes closing.numbers)) (without_visits closing.visits) (λ rows. left_of_numbers rows _ (whole_is_some (goes closing.numbers) rows)) a b c x result
+      (clears_weaker (rows_without (goes closing.numbers)) (IsWithoutSome (goes closing.numbers)) (IsLeft closing) a b (Ok x) left_of_numbers p)
+      (clears_weaker (without_visits closing.visits) (IsWithoutSomeVisits (all_but closing.visits)) (IsLeft closing) b c result left_of_visits q)
+
+  -- and then the lists
+  pub cleared_all : {X Y Z : Type 0} (a b c d : State) (x : X) (y : Y) (result : Result Z TableFault) → Clears (rows_without (goes closing.numbers)) (IsWithoutSome (goes closing.numbers)) a b (Ok x)
+      → Clears (without_visits closing.visits) (IsWithoutSomeVisits (all_but closing.visits)) b c (Ok y)
+      → Clears (rows_without_lists (is_one_of closing.gone)) (IsWithoutSomeLists (is_one_of closing.gone)) c d result → Clears (cleared closing) (IsLeft closing) a d result
+  cleared_all a b c d x y result p q r =
+      clears_then (IsLeft closing) left_then cleared_two (rows_without_lists (is_one_of closing.gone))
+      (λ rows. left_then rows (rows_without (goes closing.numbers) rows) (cleared_two rows) (left_of_numbers rows _ (whole_is_some (goes closing.numbers) rows))
+      (left_of_visits (rows_without (goes closing.numbers) rows) _ (whole_is_some_visits (all_but closing.visits) (rows_without (goes closing.numbers) rows))))
+      a c d y result (cleared_both a b c x (Ok y) p q)
+      (clears_weaker (rows_without_lists (is_one_of closing.gone)) (IsWithoutSomeLists (is_one_of closing.gone)) (IsLeft closing) c d result left_of_lists r)
+
+  pub cleared_more : {X Y : Type 0} (a b c : State) (x : X) (fault : TableFault) → Clears (rows_without (goes closing.numbers)) (IsWithoutSome (goes closing.numbers)) a b (Ok x)
+      → Clears {T = Y} (without_visits closing.visits) (IsWithoutSomeVisits (all_but closing.visits)) b c (Err fault) → Clears {T = Y} (cleared closing) (IsLeft closing) a c (Err fault)
+  cleared_more a b c x fault p q = clears_failed cleared_two (cleared closing) (IsLeft closing) a c fault (cleared_both a b c x (Err fault) p q)
+
+  pub cleared_some : {X : Type 0} (a b : State) (fault : TableFault) → Clears {T = X} (rows_without (goes closing.numbers)) (IsWithoutSome (goes closing.numbers)) a b (Err fault) → Clears {T = X} (cleared closing) (IsLeft closing) a b (Err fault)
+  cleared_some a b fault p =
+      clears_failed (rows_without (goes closing.numbers)) (cleared closing) (IsLeft closing) a b fault
+      (clears_weaker (rows_without (goes closing.numbers)) (IsWithoutSome (goes closing.numbers)) (IsLeft closing) a b (Err fault) left_of_numbers p)

@@ -1,22 +1,16 @@
-mod DeleteLemmas
-mod NumberLemmas
 mod ClearLemmas
-mod ListLemmas
-mod LoopLemmas
-mod CompareLemmas
-mod LawLemmas
-mod VisitLemmas
-mod PlanLemmas
-mod ShownLemmas
-mod StageLemmas
-mod BothLemmas
-mod JudgeLemmas
-mod RefuseLemmas
+mod NumberLemmas
 mod FileLemmas
+mod PlanLemmas
+mod JudgeLemmas
 mod ClosesLemmas
-mod ReadLemmas
-mod LeftLemmas
-mod CopyLemmas
-mod StepLemmas
-mod AwayLemmas
 mod StandLemmas
+pub mod WriteTexts
+pub mod Created
+pub mod Inserted
+pub mod Committing
+pub mod SoundLemmas
+pub mod FoundLemmas
+pub mod WaitingLemmas
+pub mod DoneAwayLemmas
+pub mod TextLemmas

@@ -7,8 +7,8 @@ use Rattle.office_rows.specs.Stored.{HasRows, StoresRows}
 use Rattle.office_tables.specs.Faults.{IsOfStore}
 use Rattle.office_tables.specs.declared.table_fault.TableFault.{TableFault}
 use Rattle.office_parts.specs.LeftOver.{rows_without}
-use Rattle.office_lists.specs.OwnLists.{ListName, rows_without_lists}
-use Rattle.office_delivery.specs.Writing.{EndsIdle}
+use Rattle.office_parts.specs.OwnLists.{ListName, rows_without_lists}
+use Rattle.office_tables.specs.Writing.{EndsIdle}
 use Rattle.office_closing.specs.Deleting.{with_visits_that}
 
 -- ---- what may be left

@@ -10,23 +10,23 @@ use Rattle.terminal_core.specs.State.{AreNumbered, TerminalState, last_number}
 use Rattle.office_rows.specs.Rows.{Interchange, Partner, Rows}
 use Rattle.office_rows.specs.Shown.{AreNexts}
 use Rattle.office_rows.specs.Stored.{HasRows, StoresRows}
-use Rattle.office_setup.specs.Setups.{SetupContent}
+use Rattle.office_admission.specs.Setups.{SetupContent}
 use Rattle.office_history.specs.After.{AreKeptOnce}
 use Rattle.office_loading.specs.Tables.{LoadsOwn}
-use Rattle.office_done_lists.specs.Going.{GoesAs, IsAmong, MayGo}
-use Rattle.office_lists.specs.OwnLists.{ListName, rows_without_lists}
+use Rattle.office_closing.specs.Going.{GoesAs, IsAmong, MayGo}
+use Rattle.office_parts.specs.OwnLists.{ListName, rows_without_lists}
 use Rattle.office_parts.specs.Archives.{HoldsWhatGoes}
 use Rattle.office_parts.specs.LeftOver.{rows_without}
 use Rattle.office_parts.specs.OwnTerminal.{MayStay}
 use Rattle.office_parts.specs.Parts.{Archived}
 use Rattle.office_tables.specs.Faults.{IsOfStore}
-use Rattle.office_register.specs.declared.register.Segment.{Segment}
-use Rattle.office_register.specs.Changes.{closed_with, marked_for, unmarked}
-use Rattle.office_register.specs.Lists.{SettledListContent, list_content}
-use Rattle.office_register.specs.Register.{ArchiveContent, RegisterContent, archive_content, closed_by, last_closed}
-use Rattle.office_register.specs.Sound.{IsSound}
-use Rattle.office_register.specs.Stored.{HasRegister, StoresRegister}
-use Rattle.office_register.specs.Transactions.{IsSettled}
+use Rattle.office_closing.specs.declared.register.Segment.{Segment}
+use Rattle.office_closing.specs.Changes.{closed_with, marked_for, unmarked}
+use Rattle.office_closing.specs.Lists.{SettledListContent, list_content}
+use Rattle.office_closing.specs.Register.{ArchiveContent, RegisterContent, archive_content, closed_by, last_closed}
+use Rattle.office_closing.specs.Sound.{IsSound}
+use Rattle.office_closing.specs.Stored.{HasRegister, StoresRegister}
+use Rattle.office_closing.specs.Transactions.{IsSettled}
 use Rattle.office_closing.specs.declared.faults.CloseFault.{CloseFault}
 use Rattle.office_closing.specs.declared.faults.CloseFault.TheVariants as fault
 use Rattle.office_closing.specs.declared.comparing.Numbers.{Numbers}

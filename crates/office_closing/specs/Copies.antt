@@ -2,22 +2,22 @@
 use Rattle.std.specs.Prelude.{◌≡◌, ◌≢◌, ℕ, ◌+◌, ◌-◌, ◌≤◌, ◌==◌, ◌++◌, Bool, nat_lt, List, [], ◌∷◌, length, map, filter, None, Some, IsTrue}
 use Rattle.sqlite.specs.Effect.{Database}
 use Rattle.terminal_core.specs.State.{TerminalState, last_number}
-use Rattle.office_setup.specs.Limits.{most_partners}
-use Rattle.office_setup.specs.Setups.{SetupContent, setup_content}
+use Rattle.office_admission.specs.Limits.{most_partners}
+use Rattle.office_admission.specs.Setups.{SetupContent, setup_content}
 use Rattle.office_rows.specs.ByKey.{AreListedOnce, lines_by}
 use Rattle.office_rows.specs.Rows.{ListingContent, Rows}
 use Rattle.office_rows.specs.Shown.{AreNexts}
 use Rattle.office_rows.specs.Stored.{HasRows}
 use Rattle.office_rows.specs.Tables.{office_schema}
 use Rattle.office_loading.specs.Tables.{LoadsOwn}
-use Rattle.office_done_lists.specs.Going.{AreDone}
-use Rattle.office_lists.specs.OwnLists.{ListName}
-use Rattle.office_register.specs.declared.register.Segment.{Segment}
-use Rattle.office_register.specs.Changes.{closed_with, unmarked}
-use Rattle.office_register.specs.Lists.{SettledListContent}
-use Rattle.office_register.specs.Register.{ArchiveContent, RegisterContent, register_content, last_closed, closed_by}
-use Rattle.office_register.specs.Sound.{is_sound, is_file_name, IsSound}
-use Rattle.office_register.specs.Stored.{HasRegister}
+use Rattle.office_closing.specs.Going.{AreDone}
+use Rattle.office_parts.specs.OwnLists.{ListName}
+use Rattle.office_closing.specs.declared.register.Segment.{Segment}
+use Rattle.office_closing.specs.Changes.{closed_with, unmarked}
+use Rattle.office_closing.specs.Lists.{SettledListContent}
+use Rattle.office_closing.specs.Register.{ArchiveContent, RegisterContent, register_content, last_closed, closed_by}
+use Rattle.office_closing.specs.Sound.{is_sound, is_file_name, IsSound}
+use Rattle.office_closing.specs.Stored.{HasRegister}
 use Rattle.office_closing.specs.declared.faults.Refusal.{Refusal}
 use Rattle.office_closing.specs.declared.faults.Refusal.TheVariants as refusal
 use Rattle.office_closing.specs.declared.comparing.Numbers.{Numbers}

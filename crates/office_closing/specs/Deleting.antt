@@ -5,10 +5,10 @@ use Rattle.sqlite.specs.State.{State, HasCleanDisk, KeepsCommit, Survives}
 use Rattle.office_rows.specs.Effects.{is_pair}
 use Rattle.office_rows.specs.Rows.{Interchange, Rows}
 use Rattle.office_rows.specs.Stored.{HasRows}
-use Rattle.office_done_lists.specs.Going.{name_of}
-use Rattle.office_lists.specs.Bringing.{is_list}
-use Rattle.office_lists.specs.OwnLists.{ListName}
-use Rattle.office_register.specs.Lists.{SettledListContent}
+use Rattle.office_closing.specs.Going.{name_of}
+use Rattle.office_parts.specs.Bringing.{is_list}
+use Rattle.office_parts.specs.OwnLists.{ListName}
+use Rattle.office_closing.specs.Lists.{SettledListContent}
 use Rattle.office_tables.specs.Faults.{IsOfStore}
 use Rattle.office_tables.specs.declared.table_fault.TableFault.{TableFault}
 use Rattle.office_parts.specs.LeftOver.{rows_without}

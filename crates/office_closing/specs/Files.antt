@@ -3,7 +3,7 @@ use Rattle.std.specs.Prelude.{◌≡◌, false, Result, IsTrue, OnOk}
 use Rattle.sqlite.specs.Held.{Held, state}
 use Rattle.sqlite.specs.State.{State, HasCleanDisk, IsUnchanged, KeepsCommit, Survives}
 use Rattle.sqlite_trees.specs.declared.store.Store.{Ghosts}
-use Rattle.office_delivery.specs.Reading.{IsSame}
+use Rattle.office_tables.specs.DeliveryReading.{IsSame}
 
 -- what the connections to the four show
 pub record Files : Type 1 where

@@ -2,7 +2,7 @@
 use Rattle.std.specs.Prelude.{◌≡◌, true, None, Some, IsTrue}
 use Rattle.sqlite.specs.State.{State}
 use Rattle.sqlite.specs.Tree.{Trees}
-use Rattle.office_register.specs.Changes.{unmarked}
+use Rattle.office_closing.specs.Changes.{unmarked}
 use Rattle.office_closing.specs.declared.planning.Plan.{Plan}
 use Rattle.office_closing.specs.declared.planning.Stage.{Stage}
 use Rattle.office_closing.specs.declared.planning.Stage.TheVariants as stage

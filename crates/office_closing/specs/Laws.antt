@@ -3,7 +3,7 @@ use Rattle.std.specs.Prelude.{◌≡◌, ℕ, ◌<◌, ◌≤◌, true, List, No
 use Rattle.terminal_core.specs.State.{AreNumbered}
 use Rattle.office_replies.specs.Events.{Event}
 use Rattle.office_rows.specs.Rows.{Rows}
-use Rattle.office_setup.specs.Setups.{SetupContent}
+use Rattle.office_admission.specs.Setups.{SetupContent}
 use Rattle.office_parts.specs.Archives.{HoldsWhatGoes}
 use Rattle.office_parts.specs.Closing.{carried}
 use Rattle.office_parts.specs.LeftOver.{rows_beyond, rows_without}

@@ -11,3 +11,16 @@ pub mod Steps
 pub mod Judging
 pub mod Laws
 pub mod PuttingAway
+pub mod Lists
+pub mod Register
+pub mod Sound
+pub mod Tables
+pub mod Stored
+pub mod Changes
+pub mod Transactions
+pub mod Reading
+pub mod Found
+pub mod Going
+pub mod DoneListLaws
+pub mod Waiting
+pub mod Texts

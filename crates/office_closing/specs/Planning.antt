@@ -1,9 +1,9 @@
 -- What a closing is to do, as the opened offices and their registers tell.
 use Rattle.std.specs.Prelude.{◌≡◌, ◌≢◌, ◌↔◌, ℕ, Bool, true, Option, None, Some, List, Contains, filter, map}
-use Rattle.office_lists.specs.OwnLists.{ListName}
-use Rattle.office_register.specs.Changes.{unmarked}
-use Rattle.office_register.specs.Lists.{SettledListContent, list_content}
-use Rattle.office_register.specs.Register.{archive_content}
+use Rattle.office_parts.specs.OwnLists.{ListName}
+use Rattle.office_closing.specs.Changes.{unmarked}
+use Rattle.office_closing.specs.Lists.{SettledListContent, list_content}
+use Rattle.office_closing.specs.Register.{archive_content}
 use Rattle.office_closing.specs.declared.faults.CloseFault.{CloseFault}
 use Rattle.office_closing.specs.declared.faults.CloseFault.TheVariants as fault
 use Rattle.office_closing.specs.declared.faults.Refusal.TheVariants as refusal

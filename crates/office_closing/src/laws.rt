@@ -1,15 +1,19 @@
 //! The laws of a closing. Each function has an empty body, and its contract is the law: a call brings it into the caller's
 //! proof.
-
+//! Laws of lists that are put away: each function has an empty body, and its contract is the law.
+//! The law of these texts. The function has an empty body, and its contract is the law: a call brings it into the
+//! caller's proof.
 ghost use Rattle.office_closing.specs.Laws.{ComparedIsHeld, ClearingLeavesTheRest, ClearedIsCarried};
 ghost use Rattle.office_closing.specs.PuttingAway.{ClosedStoresStand, ListsThatGoAreAway};
+ghost use Rattle.office_closing.specs.DoneListLaws.{AwayStaysWithClosing, PutAwayListsAreAway};
+ghost use Rattle.office_closing.specs.Texts.{OneTextOneList};
 
 /// What was compared is held, and the visits that go may go.
 pub fn compared_is_held()
     ensures { ComparedIsHeld }
 {}
 
-/// Whatever is deleted of what is closed, the store goes on with the same rows.
+/// With any of what is closed deleted, the store goes on with the same rows.
 pub fn clearing_leaves_the_rest()
     ensures { ClearingLeavesTheRest }
 {}
@@ -24,7 +28,23 @@ pub fn lists_that_go_are_away()
     ensures { ListsThatGoAreAway }
 {}
 
-/// A store that is closed, or of which some of what goes is deleted, stands beside its archives after the same events.
+/// A store that is closed, or of which some of what goes is deleted, is with its archives after the same events as
+/// before.
 pub fn closed_stores_stand()
     ensures { ClosedStoresStand }
+{}
+
+/// Lists that may go, of which archives keep the lines, are away with those that were, as far as they are deleted.
+pub fn put_away_lists_are_away()
+    ensures { PutAwayListsAreAway }
+{}
+
+/// What is away stays away when numbers are closed and visits put away.
+pub fn away_stays_with_closing()
+    ensures { AwayStaysWithClosing }
+{}
+
+/// A text is that of one list of lines at most.
+pub fn one_text_one_list()
+    ensures { OneTextOneList }
 {}

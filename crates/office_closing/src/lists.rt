@@ -1,10 +1,10 @@
 ghost use Rattle.std.specs.Prelude.{◌≡◌, ◌↔◌, true, Contains, IfOk, filter, map};
 ghost use Rattle.office_closing.specs.Copies.{is_put_away_with, office_content};
 ghost use Rattle.office_closing.specs.Planning.{AreFor, AreInBoth};
-ghost use Rattle.office_register.specs.Lists.{list_content};
+ghost use Rattle.office_closing.specs.Lists.{list_content};
 
 use crate::planning::{Opened, append};
-use office_register::{SettledList, copied_list, is_same_list};
+use crate::{SettledList, copied_list, is_same_list};
 use std::alloc::{AllocError, Global};
 
 /// The lists that the store's register is to get with an archive: those that are done. If it has other archives than the
@@ -55,7 +55,7 @@ fn lists_with(
     Ok(found)
 }
 
-/// Of these lists those that are among the others, word for word.
+/// Those of these lists that are among the others, word for word.
 pub(crate) fn lists_in_both(
     alloc: Global,
     lists: &[SettledList],

@@ -1,27 +1,26 @@
 ghost use Rattle.std.specs.Option.{option_map};
 ghost use Rattle.std.specs.Prelude.{◌≡◌, ◌↔◌, ◌≤◌, ◌++◌, ◌∷◌, [], true, IfOk, IfErr, IsTrue, MatchOption, OnOk, length, map, string_bytes};
-ghost use Rattle.office_checks.specs.Closed.{last_closed};
+ghost use Rattle.office_loading.specs.Closed.{last_closed};
 ghost use Rattle.office_closing.specs.Copies.{AreAtMost, AreDoneIn, AreFirst, ComesOn, ComesToNone, FileNames, IsNoLater, IsOfStore, IsReason, IsSameOffice, archive_in, lists_at, numbers_from, numbers_of, office_content, segments_of};
 ghost use Rattle.office_closing.specs.Planning.{AreFor, IsMarkedAs, IsPlan, IsRefused, IsRefusedWith, IsToldBy};
 ghost use Rattle.office_closing.specs.Steps.{is_unmarked, is_unraised};
 ghost use Rattle.office_closing.specs.Visits.{AreToGo};
 ghost use Rattle.office_closing.specs.declared.planning.Stage.{Stage};
-ghost use Rattle.office_lists.specs.Named.{named_list_content};
-ghost use Rattle.office_register.specs.Lists.{list_content};
-ghost use Rattle.office_register.specs.Register.{archive_content, register_content};
-ghost use Rattle.office_register.specs.Sound as sound;
-ghost use Rattle.office_setup.specs.Accounts.{account_contents};
-ghost use Rattle.office_setup.specs.Limits.{most_partners};
+ghost use Rattle.office_parts.specs.Named.{named_list_content};
+ghost use Rattle.office_closing.specs.Lists.{list_content};
+ghost use Rattle.office_closing.specs.Register.{archive_content, register_content};
+ghost use Rattle.office_closing.specs.Sound as sound;
+ghost use Rattle.office_admission.specs.SetupAccounts.{account_contents};
+ghost use Rattle.office_admission.specs.Limits.{most_partners};
 
 use crate::comparing::Numbers;
 use crate::faults::{CloseFault, Refusal};
 use crate::lists::{lists_in_both, lists_to_register};
 use crate::visits::{VisitFault, newest_number, visits_to_go};
-use office_checks::Closed;
-use office_done_lists::done_lists;
-use office_lists::NamedList;
-use office_register::{Archive, Register, Segment, SettledList, is_file_name, is_sound};
-use office_setup::{Account, MOST_PARTNERS, Setup};
+use crate::{Archive, Register, Segment, SettledList, done_lists, is_file_name, is_sound};
+use office_admission::{Account, MOST_PARTNERS, Setup};
+use office_loading::Closed;
+use office_parts::NamedList;
 use std::alloc::{AllocError, Global};
 use terminal_core::Terminal;
 
@@ -32,7 +31,7 @@ pub(crate) struct Opened {
     pub register: Register,
     /// The terminal's code and the accounts.
     pub setup: Setup,
-    /// The visits, and all else that stands.
+    /// The visits, and all else that stays.
     pub terminal: Terminal,
     /// The number of each account's next interchange, in the order of the ids: 1, 2 and so on.
     pub nexts: Vec<u32>,
@@ -316,7 +315,7 @@ fn stage_of(
     }
 }
 
-/// What the registers and the mark tell of it, if they agree.
+/// What the registers and the mark say of it, if they agree.
 fn come_so_far(is_same: bool, has_archive: bool, mark: Mark) -> Option<Stage>
     ensures { MatchOption result ((come : Stage) → ¬ IsToldBy is_same has_archive mark come)
         (IsToldBy is_same has_archive mark) }

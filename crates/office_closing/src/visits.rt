@@ -56,7 +56,7 @@ fn append(numbers: &mut Vec<u32>, number: u32) -> Result<(), AllocError>
     Ok(())
 }
 
-/// The numbers of visits, as they stand.
+/// The numbers of visits, in their order.
 fn numbers_of(alloc: Global, visits: &[Visit]) -> Result<Vec<u32>, AllocError>
     ensures { IfOk result (λ v. v.items ≡ numbers_of visits.now) }
 {
@@ -113,7 +113,7 @@ fn copied<'a>(copy: &'a [Visit], numbers: &[u32], number: u32) -> Option<&'a Vis
     Some(visit)
 }
 
-/// Where a number stands among those that rise.
+/// Index of a number in a rising list.
 fn index_of(numbers: &[u32], number: u32) -> Option<usize>
     requires { AreRising numbers.now }
     ensures { MatchOption result

@@ -9,9 +9,9 @@ use Rattle.edi_syntax.specs.Numbers.{number_of}
 use Rattle.office_command_line.specs.Commands.{office_app}
 use Rattle.office_command_line.specs.declared.command_reading.CommandFault.{CommandFault}
 use Rattle.office_command_line.specs.declared.command_reading.CommandFault.TheVariants.{Words, Values, Memory}
-use Rattle.office_queries.specs.Keys.{passed_of}
-use Rattle.office_queries.specs.declared.query.ReportKind.{ReportKind}
-use Rattle.office_queries.specs.declared.query.ReportKind.TheVariants.{Yard, YardTable, Visits, List as VesselList, Ticket, Reply, Container, Work, Partners, Partner, Blocks, Calls, Contrl, Picture, Health, Metrics}
+use Rattle.office_reports.specs.Keys.{passed_of}
+use Rattle.office_reports.specs.declared.query.ReportKind.{ReportKind}
+use Rattle.office_reports.specs.declared.query.ReportKind.TheVariants.{Yard, YardTable, Visits, List as VesselList, Ticket, Reply, Container, Work, Partners, Partner, Blocks, Calls, Contrl, Picture, Health, Metrics}
 use Rattle.office_command_line.specs.declared.command_reading.Request.{Request}
 use Rattle.office_command_line.specs.declared.command_reading.Request.TheVariants as request
 

@@ -4,7 +4,7 @@ ghost use Rattle.clap.specs.declared.builder.command.Command.TheViews.{out-Comma
 ghost use Rattle.office_command_line.specs.Commands.{word, word_if_any, flag, valued_option, init_app, deliver_app, serve_app, report_app, texts_app, account_app, migrate_app, close_app, explain_app, demo_app, office_app, with_daily_work, with_upkeep};
 
 use clap::{Arg, ArgAction, Command};
-use office_queries::program_version;
+use office_reports::program_version;
 use std::alloc::{AllocError, Global};
 
 /// The kinds of reports. Those from `container` on want a key.
@@ -273,16 +273,15 @@ fn with_daily_work<'a>(alloc: Global, office: Command<'a>) -> Result<Command<'a>
     ensures { IfOk result (λ command. app_of command ≡ with_daily_work (app_of office.entry)) }
 {
     let init = init_command(alloc)?;
+    let office = office.subcommand(init)?;
     let deliver = deliver_command(alloc)?;
+    let office = office.subcommand(deliver)?;
     let serve = serve_command(alloc)?;
+    let office = office.subcommand(serve)?;
     let report = report_command(alloc)?;
+    let office = office.subcommand(report)?;
     let texts = texts_command(alloc)?;
-    let office = office
-        .subcommand(init)?
-        .subcommand(deliver)?
-        .subcommand(serve)?
-        .subcommand(report)?
-        .subcommand(texts)?;
+    let office = office.subcommand(texts)?;
     Ok(office)
 }
 
@@ -291,15 +290,14 @@ fn with_upkeep<'a>(alloc: Global, office: Command<'a>) -> Result<Command<'a>, Al
     ensures { IfOk result (λ command. app_of command ≡ with_upkeep (app_of office.entry)) }
 {
     let account = account_command(alloc)?;
+    let office = office.subcommand(account)?;
     let migrate = migrate_command(alloc)?;
+    let office = office.subcommand(migrate)?;
     let close = close_command(alloc)?;
+    let office = office.subcommand(close)?;
     let explain = explain_command(alloc)?;
+    let office = office.subcommand(explain)?;
     let demo = demo_command(alloc);
-    let office = office
-        .subcommand(account)?
-        .subcommand(migrate)?
-        .subcommand(close)?
-        .subcommand(explain)?
-        .subcommand(demo)?;
+    let office = office.subcommand(demo)?;
     Ok(office)
 }

@@ -6,7 +6,7 @@ ghost use Rattle.office_command_line.specs.Requests.{request_content, init_reque
 use crate::builders::office_command;
 use clap::error::ErrorKind;
 use clap::{ArgMatches, Error};
-use office_queries::{ReportKind, number_of, passed_of};
+use office_reports::{ReportKind, number_of, passed_of};
 use std::alloc::Global;
 use std::fmt;
 
@@ -75,7 +75,7 @@ pub enum Request<'a> {
         /// The path of the file.
         file: &'a str,
     },
-    /// To serve so many connections at a port of this machine.
+    /// To serve that many connections at a port of this machine.
     Serve {
         /// The store's path.
         store: &'a str,
@@ -114,7 +114,7 @@ pub enum Request<'a> {
     Account {
         /// The store's path.
         store: &'a str,
-        /// The partner's code, of whatever form.
+        /// The partner's code, of any form.
         code: &'a str,
         /// The name of a kind, if it is one.
         kind: &'a str,
@@ -133,7 +133,7 @@ pub enum Request<'a> {
         /// The path of the archive, a copy of the store.
         archive: &'a str,
     },
-    /// To tell what is wrong with the interchanges of a file.
+    /// To say what is wrong with the interchanges of a file.
     Explain {
         /// The path of the file.
         file: &'a str,

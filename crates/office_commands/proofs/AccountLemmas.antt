@@ -8,12 +8,12 @@ use Rattle.office_admission.specs.Accounts.{account_answer}
 use Rattle.office_replies.specs.Events.{Event}
 use Rattle.office_replies.specs.declared.accounts.AccountAnswer.{AccountAnswer}
 use Rattle.office_replies.specs.declared.deliver.Worst.{Worst}
-use Rattle.office_setup.specs.Setups.{SetupContent}
+use Rattle.office_admission.specs.Setups.{SetupContent}
 use Rattle.office_history.specs.After.{SaysSame, content_after}
-use Rattle.office_stream.specs.Accounts.{AnsweredAccount, AccountCutShort}
-use Rattle.office_stream.specs.declared.port.Port.{Port}
-use Rattle.office_stream.specs.declared.stream.StreamFault.{StreamFault}
-use Rattle.office_stream.specs.declared.stream.StreamFault.TheVariants.{Write}
+use Rattle.office_replies.specs.Accounts.{AnsweredAccount, AccountCutShort}
+use Rattle.office_replies.specs.declared.port.Port.{Port}
+use Rattle.office_replies.specs.declared.stream.StreamFault.{StreamFault}
+use Rattle.office_replies.specs.declared.stream.StreamFault.TheVariants.{Write}
 use Rattle.office_desk.specs.Accounts.{AnswersAccount, Says}
 use Rattle.office_desk.specs.Calls.{Enrols}
 use Rattle.office_desk.specs.declared.desk.Desk.{Desk}

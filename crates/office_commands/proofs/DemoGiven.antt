@@ -7,10 +7,10 @@ use Rattle.edi_messages.specs.CodeText.{table_fault}
 use Rattle.edi_messages.specs.Codes.{table_texts}
 use Rattle.edi_messages.specs.declared.code.CodeTable.{CodeTable}
 use Rattle.edi_messages.specs.declared.codes.PartnerKind.{PartnerKind}
-use Rattle.terminal_core.proofs.Boxes.{same_self}
+use Rattle.terminal_core.proofs.Open.{same_self}
 use Rattle.yard_core.specs.Plan.{AreApart}
-use Rattle.office_setup.specs.Given.{IsGiven, AreDistinct}
-use Rattle.office_setup.specs.Setups.{SetupContent}
+use Rattle.office_admission.specs.Given.{IsGiven, AreDistinct}
+use Rattle.office_admission.specs.Setups.{SetupContent}
 use Rattle.office_commands.specs.Demo.{IsDemo, demo_content, demo_partners, demo_blocks}
 
 -- the name is that of none of these

@@ -12,13 +12,13 @@ use Rattle.sqlite.specs.Tree.{Trees, rowid}
 use Rattle.sqlite.specs.declared.types.Value.TheVariants.{Blob}
 use Rattle.office_rows.specs.Tables.{interchange_table}
 use Rattle.office_rows.specs.Values.{number_value}
-use Rattle.office_history.proofs.Sorting.{number_order}
-use Rattle.office_journal_rows.specs.Places.{ArePlaced}
-use Rattle.office_texts.specs.Pages.{lines_of}
-use Rattle.office_texts.specs.Texts.{AreTextsAfter, has_reached, is_after, is_from}
+use Rattle.office_history.proofs.Runs.{number_order}
+use Rattle.office_rows.specs.Places.{ArePlaced}
+use Rattle.office_loading.specs.Pages.{lines_of}
+use Rattle.office_loading.specs.Texts.{AreTextsAfter, has_reached, is_after, is_from}
 use Rattle.office_desk.specs.Rebuilding.{KeepsTexts}
 use Rattle.office_desk.proofs.PageLemmas.{handed_out}
-use Rattle.office_desk.proofs.RebuiltLemmas.{same_blobs}
+use Rattle.office_desk.proofs.KeptLemmas.{same_blobs}
 use Rattle.office_commands.specs.Printing.{PrintsKept, PrintsOf, PrintsTexts}
 use Rattle.office_commands.specs.Reporting.{office_database}
 

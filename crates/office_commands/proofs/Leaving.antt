@@ -6,18 +6,18 @@ use Rattle.sqlite.specs.State.{HasCleanDisk}
 use Rattle.sqlite.specs.Steps.{over_memory}
 use Rattle.sqlite.specs.declared.connection.Connection.{Connection}
 use Rattle.sqlite_trees.specs.declared.memory.MemStore.{MemStore}
-use Rattle.office_setup.specs.Setups.{setup_content}
+use Rattle.office_admission.specs.Setups.{setup_content}
 use Rattle.office_desk.specs.Answers.{AnswersNext}
 use Rattle.office_replies.specs.declared.deliver.Worst.{Worst}
 use Rattle.office_desk.specs.Calls.{Leads}
 use Rattle.office_desk.specs.Desks.{IsSound, StandsFor}
-use Rattle.office_desk.proofs.CallLemmas.{answered_all}
+use Rattle.office_desk.proofs.AccountLemmas.{answered_all}
 use Rattle.office_replies.specs.Delivering.{AreAnswered, LeadsOn}
-use Rattle.office_stream.specs.Streams.{PortBytes, Streams}
-use Rattle.office_stream.specs.Faults.{MatchFault}
-use Rattle.office_stream.specs.declared.stream.StreamFault.{StreamFault}
-use Rattle.office_stream.specs.declared.stream.StreamFault.TheVariants.{Read, Write, Turns}
-use Rattle.office_stream.proofs.StreamLemmas.{streams_as}
+use Rattle.office_replies.specs.Streams.{PortBytes, Streams}
+use Rattle.office_replies.specs.Faults.{MatchFault}
+use Rattle.office_replies.specs.declared.stream.StreamFault.{StreamFault}
+use Rattle.office_replies.specs.declared.stream.StreamFault.TheVariants.{Read, Write, Turns}
+use Rattle.office_replies.proofs.StreamLemmas.{streams_as}
 use Rattle.office_commands.specs.declared.demo.DemoFault.TheVariants.{Stream}
 use Rattle.office_commands.specs.Opening.{MemoryDesk}
 use Rattle.office_commands.specs.Demo.{OpensDemo, DemoLeft, IsOfPorts, port_failures}

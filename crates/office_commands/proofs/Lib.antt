@@ -10,3 +10,4 @@ mod ServingLemmas
 mod MigratingLemmas
 mod TextLemmas
 mod KeptTextLemmas
+mod WholeLemmas

@@ -13,19 +13,19 @@ use Rattle.sqlite.specs.Tree.{Trees}
 use Rattle.sqlite.specs.declared.FileStore.{FileStore}
 use Rattle.terminal_core.specs.declared.change.Version.{Version}
 use Rattle.office_replies.specs.Events.{Event}
-use Rattle.office_setup.specs.Setups.{SetupContent}
+use Rattle.office_admission.specs.Setups.{SetupContent}
 use Rattle.office_rows.specs.Bare.{HasBareRows}
 use Rattle.office_rows.specs.Layouts.{bare_schema}
 use Rattle.office_rows.specs.Rows.{Rows}
 use Rattle.office_rows.specs.Migrated.{migrated_rows}
 use Rattle.office_rows.specs.Stored.{HasRows, StoresRows}
 use Rattle.office_rows.specs.Tables.{interchange_table, no_schema}
-use Rattle.office_rows.proofs.StepLemmas.{stores}
+use Rattle.office_rows.proofs.Creating.{stores}
 use Rattle.office_tables.specs.declared.table_fault.TableFault.{TableFault}
-use Rattle.office_tables.proofs.ReadingLemmas.{clean_first}
-use Rattle.office_migration.specs.History.{HoldsAfter, IsOlderAfter, StoresAfter}
-use Rattle.office_migration.specs.Migration.{IsSettled, StandAlike}
-use Rattle.office_desk.proofs.CrashLemmas.{committed_leaves}
+use Rattle.office_tables.proofs.MadeLemmas.{clean_first}
+use Rattle.office_loading.specs.History.{HoldsAfter, IsOlderAfter, StoresAfter}
+use Rattle.office_loading.specs.Migration.{IsSettled, StandAlike}
+use Rattle.office_desk.proofs.HoldLemmas.{committed_leaves}
 use Rattle.office_desk.specs.Crashes.{IsAfter}
 use Rattle.office_commands.specs.Migrating.{CommitsOver, GoesOnFrom, HoldsBare, HoldsOlder, IsJudged, IsMigratedOver, MigratesBetween, TakesOver}
 use Rattle.office_commands.specs.Opening.{HoldsNoTables, ShowsHeld}

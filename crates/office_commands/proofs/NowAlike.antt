@@ -2,10 +2,10 @@
 use Rattle.std.proofs.Common.{◌≡◌, List, refl, sym, ap, subst, ◌∙◌}
 use Rattle.edi_messages.specs.Codes.{table_texts}
 use Rattle.office_replies.specs.Events.{Event}
-use Rattle.office_setup.specs.Setups.{SetupContent}
+use Rattle.office_admission.specs.Setups.{SetupContent}
 use Rattle.office_history.specs.After.{SaysSame, content_after}
 use Rattle.office_history.proofs.Alike.{now_with_codes, with_codes}
-use Rattle.office_desk.proofs.AlikeLemmas.{codes_after}
+use Rattle.office_desk.proofs.OwnNumbers.{codes_after}
 
 pub now_alike : (one other : SetupContent) → SaysSame one other → (es : List Event) → SaysSame (content_after one es) (content_after other es)
 now_alike one other says es =

@@ -8,27 +8,27 @@ use Rattle.sqlite.specs.Tree.{Trees}
 use Rattle.sqlite.specs.declared.FileStore.{FileStore}
 use Rattle.terminal_core.specs.State.{TerminalState}
 use Rattle.office_replies.specs.Events.{Event}
-use Rattle.office_setup.specs.Parties.{partner_from}
-use Rattle.office_setup.specs.Setups.{SetupContent, setup_content}
+use Rattle.office_admission.specs.Parties.{partner_from}
+use Rattle.office_admission.specs.Setups.{SetupContent, setup_content}
 use Rattle.office_rows.specs.Opening.{tables_version}
 use Rattle.office_rows.specs.Rows.{Rows}
 use Rattle.office_rows.specs.Stored.{HasRows}
-use Rattle.office_checks.specs.Closed.{closed_content, nothing_closed}
-use Rattle.office_checks.proofs.Alike.{whole_office}
+use Rattle.office_loading.specs.Closed.{closed_content, nothing_closed}
+use Rattle.office_loading.proofs.Offices.{whole_office}
 use Rattle.office_loading.specs.Tables.{Loads, LoadsOwn}
 use Rattle.office_history.specs.After.{SaysSame, content_after}
 use Rattle.office_history.proofs.Alike.{parties_same}
-use Rattle.office_queries.specs.Program.{program_version}
-use Rattle.office_queries.specs.declared.query.Query.{Query}
-use Rattle.office_queries.specs.declared.query.Query.TheVariants as query
-use Rattle.office_queries.specs.declared.query.ReportKind.{ReportKind}
+use Rattle.office_reports.specs.Program.{program_version}
+use Rattle.office_reports.specs.declared.query.Query.{Query}
+use Rattle.office_reports.specs.declared.query.Query.TheVariants as query
+use Rattle.office_reports.specs.declared.query.ReportKind.{ReportKind}
 use Rattle.office_reports.specs.Visits.{visit_report}
-use Rattle.office_lookups.specs.Containers.{container_report}
-use Rattle.office_lookups.specs.Metrics.{metrics_text}
-use Rattle.office_picture.specs.Picture.{IsPicture}
+use Rattle.office_reports.specs.Containers.{container_report}
+use Rattle.office_reports.specs.Metrics.{metrics_text}
+use Rattle.office_reports.specs.Picture.{IsPicture}
 use Rattle.office_desk.specs.Reports.{AreLookedUp, TellsOf, TellsAfter, TellsNext, TellsPartner, TellsPartners, TellsReplyOf, DeskTells, contrl_for_partner, ticket_of, partner_called}
 use Rattle.office_desk.specs.declared.desk.Desk.{Desk}
-use Rattle.office_desk.proofs.AlikeLemmas.{answers_alike}
+use Rattle.office_desk.proofs.OwnNumbers.{answers_alike}
 use Rattle.office_commands.proofs.NowAlike.{now_alike}
 use Rattle.office_commands.specs.Opening.{OpensOver}
 use Rattle.office_commands.specs.Reporting.{TellsKey, TellsOver, in_lines, report_text, report_status}

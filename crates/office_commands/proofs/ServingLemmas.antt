@@ -16,13 +16,13 @@ use Rattle.office_replies.specs.declared.accounts.AccountAnswer.{AccountAnswer}
 use Rattle.office_replies.specs.declared.accounts.AccountAnswer.TheVariants as account_answer
 use Rattle.office_replies.specs.declared.deliver.Response.{Response}
 use Rattle.office_replies.specs.declared.deliver.Response.TheVariants as response
-use Rattle.office_queries.specs.Looking.{Look, of_archive, report, texts_after, Tells}
-use Rattle.office_queries.specs.declared.query.NotNow.{NotNow}
-use Rattle.office_setup.specs.Setups.{SetupContent}
+use Rattle.office_reports.specs.Looking.{Look, of_archive, report, texts_after, Tells}
+use Rattle.office_reports.specs.declared.query.NotNow.{NotNow}
+use Rattle.office_admission.specs.Setups.{SetupContent}
 use Rattle.office_admission.specs.Accounts.{content_after, content_with}
 use Rattle.office_history.specs.After.{SaysSame}
-use Rattle.office_stream.specs.Fronts.{AppendsFront}
-use Rattle.office_stream.specs.declared.port.Port.{Port}
+use Rattle.office_replies.specs.Fronts.{AppendsFront}
+use Rattle.office_replies.specs.declared.port.Port.{Port}
 use Rattle.office_http.specs.Served.{AtMost, calls_of}
 use Rattle.office_http.specs.Steps.{Step, delivery, account, look, with_step, events_after, StepLeads, StepsLead}
 use Rattle.office_desk.specs.Answers.{AnswersNext}
@@ -32,7 +32,7 @@ use Rattle.office_desk.specs.Crashes.{IsAfter}
 use Rattle.office_desk.specs.Desks.{IsSound, StandsFor}
 use Rattle.office_desk.specs.Looking.{DeskShows, ShowsAfter}
 use Rattle.office_desk.specs.declared.desk.Desk.{Desk}
-use Rattle.office_desk.proofs.AlikeLemmas.{answers_alike}
+use Rattle.office_desk.proofs.OwnNumbers.{answers_alike}
 use Rattle.office_commands.specs.Delivering.{BeginsAt, OpensOn, StandsAlike}
 use Rattle.office_commands.specs.Ending.{Prints, Tells as TellsText}
 use Rattle.office_commands.specs.Serving.{EndsServing, listening_line, served_line, IsServed, AreServed, postponed_event, HasNoEvent, MayBeThere, HoldsServed, LeadsNamed, EnrolsNamed, LeadsWhile, EnrolsWhile, AreServedBy, IsServedOver}

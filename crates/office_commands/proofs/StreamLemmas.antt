@@ -4,25 +4,25 @@ use Rattle.sqlite_disk.specs.declared.Disk.{Ghosts}
 use Rattle.sqlite.specs.Files.{over_files}
 use Rattle.sqlite.specs.Recovery.{Image}
 use Rattle.sqlite.specs.declared.FileStore.{FileStore}
-use Rattle.edi_segments.specs.Interchange.{interchange_of}
+use Rattle.edi_syntax.specs.Interchange.{interchange_of}
 use Rattle.office_replies.specs.Delivering.{AreAnswered, AnswersEach, LeadsOn, with_answered, events_behind}
 use Rattle.office_replies.specs.Events.{Event}
 use Rattle.office_replies.specs.declared.deliver.Response.{Response}
 use Rattle.office_replies.specs.declared.deliver.Response.TheVariants.{Taken, Repeat, Waiting, Clash, Refused, RefusedWithContrl, NotNow}
 use Rattle.office_replies.specs.declared.deliver.Worst.{Worst}
 use Rattle.office_admission.specs.Refusals.{MayBeNotNow}
-use Rattle.office_setup.specs.Setups.{SetupContent}
+use Rattle.office_admission.specs.Setups.{SetupContent}
 use Rattle.office_history.specs.After.{SaysSame, content_after}
 use Rattle.office_history.proofs.Alike.{parties_same}
-use Rattle.office_stream.specs.Faults.{MatchFault}
-use Rattle.office_stream.specs.declared.stream.StreamFault.{StreamFault}
-use Rattle.office_stream.specs.declared.stream.StreamFault.TheVariants.{Read, Write, Turns}
+use Rattle.office_replies.specs.Faults.{MatchFault}
+use Rattle.office_replies.specs.declared.stream.StreamFault.{StreamFault}
+use Rattle.office_replies.specs.declared.stream.StreamFault.TheVariants.{Read, Write, Turns}
 use Rattle.office_desk.specs.Answers.{AnswersNext}
 use Rattle.office_desk.specs.Calls.{Leads}
 use Rattle.office_desk.specs.Desks.{StandsFor}
 use Rattle.office_desk.specs.declared.desk.Desk.{Desk}
-use Rattle.office_desk.proofs.AlikeLemmas.{answers_alike}
-use Rattle.office_desk.proofs.CallLemmas.{answered_all, leaves_all, sound_before}
+use Rattle.office_desk.proofs.OwnNumbers.{answers_alike}
+use Rattle.office_desk.proofs.AccountLemmas.{answered_all, leaves_all, sound_before}
 use Rattle.office_commands.proofs.NowAlike.{now_alike}
 use Rattle.office_commands.specs.Delivering.{AreDeliveredOver, OpensOn, StandsAlike}
 use Rattle.office_commands.specs.Ending.{Ports, LeavesPorts, most_turns}

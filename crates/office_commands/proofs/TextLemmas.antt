@@ -13,7 +13,7 @@ use Rattle.sqlite.specs.declared.FileStore.{FileStore}
 use Rattle.office_rows.specs.Rows.{Rows}
 use Rattle.office_rows.specs.Stored.{HasRows}
 use Rattle.office_rows.specs.Tables.{interchange_table}
-use Rattle.office_tables.proofs.ReadingLemmas.{clean_first}
+use Rattle.office_tables.proofs.MadeLemmas.{clean_first}
 use Rattle.office_tables.specs.Faults.{IsOfStore}
 use Rattle.office_tables.specs.Reading.{Reads}
 use Rattle.office_tables.specs.declared.table_fault.TableFault.{TableFault}

@@ -10,10 +10,10 @@ use Rattle.office_replies.specs.Adding.{Adds}
 use Rattle.office_replies.specs.Events.{Event}
 use Rattle.office_replies.specs.declared.accounts.AccountAnswer.{AccountAnswer}
 use Rattle.office_replies.specs.declared.deliver.Worst.{Worst}
-use Rattle.office_stream.specs.Accounts.{AnsweredAccount, AccountCutShort}
-use Rattle.office_stream.specs.declared.port.Port.{Port}
-use Rattle.office_stream.specs.declared.stream.StreamFault.{StreamFault}
-use Rattle.office_setup.specs.Setups.{SetupContent}
+use Rattle.office_replies.specs.Accounts.{AnsweredAccount, AccountCutShort}
+use Rattle.office_replies.specs.declared.port.Port.{Port}
+use Rattle.office_replies.specs.declared.stream.StreamFault.{StreamFault}
+use Rattle.office_admission.specs.Setups.{SetupContent}
 use Rattle.office_desk.specs.Accounts.{AnswersAccount, LeavesAdded}
 use Rattle.office_desk.specs.Calls.{Enrols}
 use Rattle.office_desk.specs.Desks.{IsSound}

@@ -3,7 +3,7 @@ use Rattle.std.specs.Prelude.{◌≡◌, ◌⊎◌, ℕ, List, []}
 use Rattle.office_replies.specs.declared.deliver.Worst.{Worst}
 use Rattle.office_commands.specs.declared.demo.DemoFault.{DemoFault}
 use Rattle.office_commands.specs.declared.demo.DemoFault.TheVariants.{Store, Stream}
-use Rattle.office_stream.specs.Streams.{PortBytes}
+use Rattle.office_replies.specs.Streams.{PortBytes}
 use Rattle.office_commands.specs.Ending.{status_of, store_text, stream_text}
 use Rattle.office_commands.specs.Demo.{DemoRuns, DemoLeft, PortFailures, IsOfPorts}
 

@@ -10,8 +10,8 @@ use Rattle.sqlite.specs.declared.FileStore.{FileStore}
 use Rattle.office_replies.specs.Delivering.{AreAnswered, LeadsOn}
 use Rattle.office_replies.specs.Events.{Event}
 use Rattle.office_replies.specs.declared.deliver.Response.{Response}
-use Rattle.office_setup.specs.Given.{IsGiven}
-use Rattle.office_setup.specs.Setups.{SetupContent}
+use Rattle.office_admission.specs.Given.{IsGiven}
+use Rattle.office_admission.specs.Setups.{SetupContent}
 use Rattle.office_desk.specs.Answers.{AnswersNext}
 use Rattle.office_desk.specs.Calls.{Leads}
 use Rattle.office_desk.specs.Crashes.{LeavesAll}

@@ -3,10 +3,10 @@ use Rattle.std.specs.Prelude.{◌≡◌, ◌≤◌, ◌⊎◌, ℕ, ◌+◌, ◌
 use Rattle.std.specs.Io.KnownBytes.{Appends}
 use Rattle.office_replies.specs.declared.deliver.Worst.{Worst}
 use Rattle.office_replies.specs.declared.deliver.Worst.TheVariants.{Fine, Refused, NotNow}
-use Rattle.office_stream.specs.Fronts.{AppendsFront}
-use Rattle.office_stream.specs.declared.port.Port.{Port}
-use Rattle.office_stream.specs.declared.stream.StreamFault.{StreamFault}
-use Rattle.office_stream.specs.declared.stream.StreamFault.TheVariants.{Read, Write, Turns}
+use Rattle.office_replies.specs.Fronts.{AppendsFront}
+use Rattle.office_replies.specs.declared.port.Port.{Port}
+use Rattle.office_replies.specs.declared.stream.StreamFault.{StreamFault}
+use Rattle.office_replies.specs.declared.stream.StreamFault.TheVariants.{Read, Write, Turns}
 use Rattle.office_tables.specs.declared.table_fault.TableFault.{TableFault}
 use Rattle.office_tables.specs.declared.table_fault.TableFault.TheVariants.{Store, Damaged, Version, Memory}
 

@@ -11,3 +11,4 @@ pub mod Serving
 pub mod Senders
 pub mod Migrating
 pub mod Printing
+pub mod Whole

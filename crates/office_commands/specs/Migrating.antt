@@ -11,7 +11,7 @@ use Rattle.sqlite.specs.Tree.{Trees}
 use Rattle.sqlite.specs.declared.FileStore.{FileStore}
 use Rattle.terminal_core.specs.declared.change.Version.{Version}
 use Rattle.office_replies.specs.Events.{Event, migrated}
-use Rattle.office_setup.specs.Setups.{SetupContent}
+use Rattle.office_admission.specs.Setups.{SetupContent}
 use Rattle.office_rows.specs.Bare.{HasBareRows}
 use Rattle.office_rows.specs.Layouts.{bare_schema}
 use Rattle.office_rows.specs.Migrated.{migrated_rows}
@@ -21,8 +21,8 @@ use Rattle.office_rows.specs.Tables.{interchange_table, no_schema}
 use Rattle.office_tables.specs.Faults.{IsOfStore}
 use Rattle.office_tables.specs.Reading.{Reads}
 use Rattle.office_tables.specs.declared.table_fault.TableFault.{TableFault}
-use Rattle.office_migration.specs.History.{HoldsAfter, IsOlderAfter, StoresAfter}
-use Rattle.office_migration.specs.Migration.{IsMigration, Migrates, StandAlike}
+use Rattle.office_loading.specs.History.{HoldsAfter, IsOlderAfter, StoresAfter}
+use Rattle.office_loading.specs.Migration.{IsMigration, Migrates, StandAlike}
 use Rattle.office_desk.specs.Crashes.{IsAfter, Leaves}
 use Rattle.office_commands.specs.Opening.{HoldsNoTables, ShowsHeld}
 use Rattle.office_commands.specs.Reporting.{office_database}

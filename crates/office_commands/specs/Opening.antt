@@ -11,7 +11,7 @@ use Rattle.sqlite.specs.Schema.{Schema}
 use Rattle.sqlite.specs.Steps.{over_memory}
 use Rattle.sqlite.specs.Tree.{Trees}
 use Rattle.sqlite.specs.declared.FileStore.{FileStore}
-use Rattle.office_setup.specs.Setups.{SetupContent, setup_content}
+use Rattle.office_admission.specs.Setups.{SetupContent, setup_content}
 use Rattle.office_replies.specs.Events.{Event}
 use Rattle.office_rows.specs.Tables.{office_schema, no_schema}
 use Rattle.office_history.specs.After.{SaysSame}

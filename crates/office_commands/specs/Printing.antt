@@ -13,13 +13,13 @@ use Rattle.office_replies.specs.Events.{Event}
 use Rattle.office_rows.specs.Rows.{Rows}
 use Rattle.office_rows.specs.Stored.{StoresRows}
 use Rattle.office_rows.specs.Tables.{interchange_table}
-use Rattle.office_setup.specs.Setups.{SetupContent}
+use Rattle.office_admission.specs.Setups.{SetupContent}
 use Rattle.office_tables.specs.Faults.{IsOfStore}
 use Rattle.office_tables.specs.Reading.{Reads}
 use Rattle.office_tables.specs.declared.table_fault.TableFault.{TableFault}
-use Rattle.office_texts.specs.Pages.{lines_of}
-use Rattle.office_texts.specs.Texts.{has_reached}
-use Rattle.office_texts.specs.Writing.{AreWritten}
+use Rattle.office_loading.specs.Pages.{lines_of}
+use Rattle.office_loading.specs.Texts.{has_reached}
+use Rattle.office_loading.specs.Writing.{AreWritten}
 use Rattle.office_desk.specs.Rebuilding.{KeepsTexts}
 use Rattle.office_desk.specs.declared.desk.Desk.{Desk}
 use Rattle.office_commands.specs.Delivering.{BeginsAt, LeavesAlike, OpensOn}

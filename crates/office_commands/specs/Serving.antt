@@ -13,11 +13,11 @@ use Rattle.office_replies.specs.declared.accounts.AccountAnswer.{AccountAnswer}
 use Rattle.office_replies.specs.declared.accounts.AccountAnswer.TheVariants as account_answer
 use Rattle.office_replies.specs.declared.deliver.Response.{Response}
 use Rattle.office_replies.specs.declared.deliver.Response.TheVariants as response
-use Rattle.office_queries.specs.Looking.{Look, Tells}
-use Rattle.office_queries.specs.declared.query.NotNow.{NotNow as Unreported}
-use Rattle.office_setup.specs.Setups.{SetupContent}
-use Rattle.office_stream.specs.Fronts.{AppendsFront}
-use Rattle.office_stream.specs.declared.port.Port.{Port}
+use Rattle.office_reports.specs.Looking.{Look, Tells}
+use Rattle.office_reports.specs.declared.query.NotNow.{NotNow as Unreported}
+use Rattle.office_admission.specs.Setups.{SetupContent}
+use Rattle.office_replies.specs.Fronts.{AppendsFront}
+use Rattle.office_replies.specs.declared.port.Port.{Port}
 use Rattle.office_http.specs.Served.{AtMost, calls_of}
 use Rattle.office_http.specs.Steps.{Step, delivery, account, look, with_step, events_after}
 use Rattle.office_desk.specs.Accounts.{AnswersAccount}

@@ -1,14 +1,15 @@
-ghost use Rattle.std.specs.Prelude.{◌≡◌, ◌≤◌, ◌+◌, false, IfOk, IfErr, OnErr, ℕ, List, Option, option_map, string_bytes};
+ghost use Rattle.std.specs.Prelude.{◌≡◌, ◌≤◌, ◌+◌, false, true, IfOk, IfErr, OnErr, OnOk, ℕ, List, Option, option_map, string_bytes};
 ghost use Rattle.office_commands.specs.Accounts.{AccountEnds, AnswersAsked, IsAskedOver, LeavesWriter};
 ghost use Rattle.office_commands.specs.Delivering.{AreDeliveredOver};
 ghost use Rattle.office_commands.specs.Ending.{Tells, StreamEnds, LeavesPorts, ports, store_text, most_turns, outcome_status, Prints};
 ghost use Rattle.office_commands.specs.Looking.{LooksOver};
 ghost use Rattle.office_commands.specs.Reporting.{Reports, TellsKey, TellsHeld, in_lines};
-ghost use Rattle.office_desk.specs.Calls.{OnlyLooks};
+ghost use Rattle.office_desk.specs.Calls.{Enrols, Leads, OnlyLooks};
 ghost use Rattle.office_desk.specs.Desks.{IsSound};
 ghost use Rattle.office_desk.specs.Reports.{DeskTells};
 ghost use Rattle.office_replies.specs.Delivering.{LeadsOn};
-ghost use Rattle.office_stream.specs.Streams.{Streams, port_bytes};
+ghost use Rattle.office_replies.specs.Accounts.{AccountCutShort, AnsweredAccount};
+ghost use Rattle.office_replies.specs.Streams.{Streams, port_bytes};
 ghost use Rattle.sqlite.specs.Files.{over_files};
 ghost use Rattle.sqlite.specs.WalFiles.{image_at};
 
@@ -18,9 +19,8 @@ use crate::telling::{
     DONE, FAILED, Faults, REFUSED, Tallied, print, status_of, tell_fault, tell_outcome,
 };
 use office_desk::Desk;
-use office_queries::{Report, ReportKind, read_query};
-use office_replies::{Deliver, Worst};
-use office_stream::{Port, StreamFault, answer_account, run_stream};
+use office_replies::{Deliver, Port, StreamFault, Worst, answer_account, run_stream};
+use office_reports::{Report, ReportKind, read_query};
 use office_tables::TableFault;
 use sqlite::{Alter, FileFrom, FileStore, Start};
 use std::alloc::{AllocError, Global};
@@ -80,6 +80,48 @@ pub fn deliver_noted<D: Report + Faults + Tallied, N: Notes, R: Read, W: Write, 
     (status, noted.into_desk())
 }
 
+/// As `deliver_noted`, for a desk over any store: what is shown of its own answers is shown here once for all stores.
+pub fn deliver_desk<S: Alter + Drop, N: Notes, R: Read, W: Write, E: Write>(
+    alloc: Global,
+    desk: Desk<S>,
+    notes: &N,
+    reader: &mut Port<R>,
+    writer: &mut Port<W>,
+    errors: &mut Port<E>,
+) -> (u8, Desk<S>)
+    ensures ends { StreamEnds (LeavesPorts (ports reader.old writer.old) (ports reader.new writer.new))
+        (Streams (λ texts responses. LeadsOn (Leads S.Store) desk texts responses result.1)
+        (port_bytes (R.remaining reader.old.inner) (R.remaining reader.new.inner)
+        (W.contents writer.old.inner) (W.contents writer.new.inner)))
+        (Tells errors.new.failed (E.contents errors.old.inner) (E.contents errors.new.inner)) result.0 }
+    ensures in_time { reader.old.ended ≡ false → reader.new.read_behind_end ≡ reader.old.read_behind_end }
+    ensures reads { reader.new.reads ≤ reader.old.reads + most_turns }
+{
+    deliver_noted(alloc, desk, notes, reader, writer, errors)
+}
+
+/// As `answer_account`, for a desk over any store.
+pub fn ask_desk<S: Alter + Drop, W: Write>(
+    alloc: Global,
+    code: &str,
+    kind: &str,
+    writer: &mut Port<W>,
+    desk: &mut Desk<S>,
+) -> Result<Worst, StreamFault>
+    ensures ok { IfOk result
+        (λ worst. AnsweredAccount (λ answer. Enrols S.Store desk.old code.now kind.now answer desk.new)
+        worst (W.contents writer.old.inner) (W.contents writer.new.inner)) }
+    ensures kept { OnOk result (writer.new.failed ≡ writer.old.failed) }
+    ensures flushed { OnOk result (writer.new.flushed ≡ true) }
+    ensures err { IfErr result
+        (λ fault. (fault ≡ StreamFault.Write) × (writer.new.failed ≡ true)) }
+    ensures added { OnErr result
+        (AccountCutShort (λ answer. Enrols S.Store desk.old code.now kind.now answer desk.new)
+        (W.contents writer.old.inner) (W.contents writer.new.inner)) }
+{
+    answer_account(alloc, code, kind, writer, desk)
+}
+
 /// Delivers the interchanges of a reader to the store in the file at a path, as `deliver_to` does, and answers the exit
 /// status. `notes` is told of each. The desk is given back as it was left, or the fault for which it did not open, which was
 /// told.
@@ -109,7 +151,7 @@ pub fn deliver_over<S: Start, N: Notes, R: Read, W: Write, E: Write>(
 {
     match open_store(rt, path, start) {
         Ok(desk) => {
-            let (status, desk) = deliver_noted(rt.alloc(), desk, notes, reader, writer, errors);
+            let (status, desk) = deliver_desk(rt.alloc(), desk, notes, reader, writer, errors);
             (status, Ok(desk))
         }
         Err(fault) => {
@@ -140,7 +182,7 @@ pub fn account_over<S: Start, W: Write>(
     ensures err { OnErr result (writer.new ≡ writer.old) }
 {
     let mut desk = open_store(rt, path, start)?;
-    let outcome = answer_account(rt.alloc(), code, kind, writer, &mut desk);
+    let outcome = ask_desk(rt.alloc(), code, kind, writer, &mut desk);
     Ok((outcome_status(outcome), desk))
 }
 

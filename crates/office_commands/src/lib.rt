@@ -12,6 +12,7 @@ pub mod opening;
 mod serving;
 mod telling;
 mod texts;
+mod whole;
 
 pub use deliver::{
     TURNS, account_over, deliver_noted, deliver_over, deliver_to, in_lines, outcome_status,
@@ -29,3 +30,4 @@ pub use telling::{
     tell_fault, tell_outcome,
 };
 pub use texts::{print_texts, texts_over};
+pub use whole::{Left, leave_desk, leave_whole};

@@ -1,14 +1,14 @@
 ghost use Rattle.std.specs.Prelude.{◌≡◌};
 
 use crate::telling::{Faults, Tallied};
-use edi_segments::interchange_text;
-use edi_syntax::Head;
+use edi_syntax::{Head, interchange_text};
+use office_admission::Tally;
 use office_http::{OfTerminal, Seen, Watch};
-use office_queries::{NotNow, Query, Report};
-use office_replies::{AccountAnswer, AccountFault, AddAccount, Deliver, Fault, Response, Worst};
-use office_stream::{Cut, StreamFault};
+use office_replies::{
+    AccountAnswer, AccountFault, AddAccount, Cut, Deliver, Fault, Response, StreamFault, Worst,
+};
+use office_reports::{NotNow, Query, Report};
 use office_tables::TableFault;
-use office_taking::Tally;
 use std::alloc::{AllocError, Global};
 
 /// What notes for a person what is done. It is told of each call of the desk, of each connection, and of a stream's end, and
@@ -86,7 +86,7 @@ pub struct Sender {
 
 impl Sender {
     ghost use Rattle.std.specs.Prelude.{IfOk, IfSome};
-    ghost use Rattle.edi_segments.specs.Interchange.{interchange_of, segments_in};
+    ghost use Rattle.edi_syntax.specs.Interchange.{interchange_of, segments_in};
     ghost use Rattle.edi_syntax.specs.Heads.{head_segments};
     ghost use Rattle.office_commands.specs.Senders.{IsSender};
 

@@ -1,14 +1,14 @@
 ghost use Rattle.std.specs.Prelude.{◌≡◌, ◌≤◌, ℕ, List, [], length, false, IfOk, not};
-ghost use Rattle.office_checks.specs.Closed.{closed_content, nothing_closed};
+ghost use Rattle.office_loading.specs.Closed.{closed_content, nothing_closed};
 ghost use Rattle.office_commands.specs.Opening.{HoldsAfter, HoldsNoTables, HoldsTables, OpensOver, ShowsHeld, OpensEmpty};
 ghost use Rattle.office_commands.specs.Serving.{EnrolsWhile, LeadsWhile};
 ghost use Rattle.office_desk.specs.Crashes.{Leaves};
 ghost use Rattle.office_desk.specs.Desks.{IsSound, OpensAt};
 ghost use Rattle.office_replies.specs.Events.{Event};
 ghost use Rattle.office_rows.specs.Tables.{no_schema};
-ghost use Rattle.office_setup.specs.Given.{IsGiven};
-ghost use Rattle.office_setup.specs.Limits.{most_partners};
-ghost use Rattle.office_setup.specs.Setups.{SetupContent, setup_content};
+ghost use Rattle.office_admission.specs.Given.{IsGiven};
+ghost use Rattle.office_admission.specs.Limits.{most_partners};
+ghost use Rattle.office_admission.specs.Setups.{SetupContent, setup_content};
 ghost use Rattle.sqlite.specs.Files.{file_state, over_files};
 ghost use Rattle.sqlite.specs.State.{HasCleanDisk, Opens};
 ghost use Rattle.sqlite.specs.Tree.{Trees};
@@ -16,14 +16,13 @@ ghost use Rattle.sqlite.specs.WalFiles.{image_at};
 
 use crate::first_page::begin_file;
 use crate::telling::{Faults, HasTerminal, Tallied};
-use office_checks::Closed;
+use office_admission::{Setup, Tally};
 use office_desk::Desk;
 use office_http::OfTerminal;
-use office_queries::{NotNow, Query, Report};
+use office_loading::Closed;
 use office_replies::{AccountAnswer, AddAccount, Deliver, Response};
-use office_setup::Setup;
+use office_reports::{NotNow, Query, Report};
 use office_tables::{TableFault, create};
-use office_taking::Tally;
 use sqlite::{Connection, Error, ErrorCode, FileFrom, FileStore, MemStore, Start};
 use std::alloc::Global;
 use std::fs;
@@ -217,6 +216,18 @@ impl<D: Deliver + Faults, F: Names> Named<D, F> {
             file,
             is_nameless: false,
         }
+    }
+
+    /// What works on the store, and the store's file, to be closed after it.
+    pub fn into_parts(self) -> (D, F)
+        ensures { result.0 ≡ self.desk }
+    {
+        let Named {
+            desk,
+            file,
+            is_nameless: _,
+        } = self;
+        (desk, file)
     }
 
     /// Whether the store's file has a name still.

@@ -2,6 +2,7 @@ ghost use Rattle.std.specs.Io.KnownBytes.{Appends};
 ghost use Rattle.std.specs.Prelude.{◌≡◌, IfOk, IfSome, OnErr, None, string_bytes};
 ghost use Rattle.office_commands.specs.Ending.{Tells};
 ghost use Rattle.office_commands.specs.Serving.{AreServedBy, EndsServing, IsServedOver, ServesNone, listening_line, served_line};
+ghost use Rattle.office_desk.specs.Calls.{Enrols, Leads, Looks};
 ghost use Rattle.office_http.specs.Served.{AtMost};
 ghost use Rattle.sqlite.specs.WalFiles.{image_at};
 
@@ -9,21 +10,20 @@ use crate::notes::{Noted, Notes, Watching};
 use crate::opening::{Named, StoreFile, open_store};
 use crate::telling::{DONE, FAILED, Faults, HasTerminal, Tallied, print, tell};
 use office_desk::Desk;
-use office_http::{OfTerminal, serve_on};
-use office_queries::Report;
-use office_replies::AddAccount;
-use office_stream::Port;
+use office_http::{Gate, OfTerminal, serve_on};
+use office_replies::{AddAccount, Port};
+use office_reports::Report;
 use office_tables::TableFault;
-use sqlite::{FileFrom, FileStore, Start};
+use sqlite::{Alter, FileFrom, FileStore, Start};
 use std::io::Write;
-use std::net::TcpListener;
+use std::net::{Ipv4Addr, SocketAddr};
 
 /// Where requests are taken, how many, and how early.
 #[derive(Clone, Copy)]
 pub struct Service {
     /// The port of this machine.
     pub port: u16,
-    /// How many connections are accepted, one after the other.
+    /// How many connections are accepted.
     pub count: u32,
     /// How far above its next number a partner's may be, by the path of that partner; none for no bound.
     pub ahead: Option<u32>,
@@ -53,7 +53,7 @@ pub fn serve_over<S: Start, N: Notes, W: Write, E: Write>(
     ensures err { OnErr result ((writer.new ≡ writer.old) × (errors.new ≡ errors.old)) }
 {
     let desk = open_store(rt, path, start)?;
-    Ok(serve_named(rt, path, desk, service, notes, writer, errors))
+    Ok(serve_desk(rt, path, desk, service, notes, writer, errors))
 }
 
 /// Serves what a desk over the store at a path answers, whatever desk it is, and gives it back as it was left.
@@ -82,6 +82,24 @@ pub fn serve_named<
     (status, noted.into_desk())
 }
 
+/// As `serve_named`, for a desk over any store.
+pub fn serve_desk<S: Alter + Drop, N: Notes, W: Write, E: Write>(
+    rt: &HostRuntime,
+    path: &str,
+    desk: Desk<S>,
+    service: Service,
+    notes: &N,
+    writer: &mut Port<W>,
+    errors: &mut Port<E>,
+) -> (u8, Named<Desk<S>, StoreFile>)
+    ensures { EndsServing service.port service.count writer.old writer.new
+        (W.contents writer.old.inner) (W.contents writer.new.inner)
+        (Tells errors.new.failed (E.contents errors.old.inner) (E.contents errors.new.inner))
+        (λ most. AreServedBy (Leads S.Store) (Enrols S.Store) (Looks S.Store) most desk result.1.desk) result.0 }
+{
+    serve_named(rt, path, desk, service, notes, writer, errors)
+}
+
 /// Listens at a port of this machine, and answers one request of each connection.
 fn serve_at<D: Report + AddAccount + OfTerminal, N: Notes, W: Write, E: Write>(
     rt: &HostRuntime,
@@ -97,12 +115,12 @@ fn serve_at<D: Report + AddAccount + OfTerminal, N: Notes, W: Write, E: Write>(
         (λ most. AtMost D.leads D.enrols D.looks most desk.old desk.new) result }
 {
     match listen(rt, service, writer, errors) {
-        Some((listener, served)) => {
+        Some((gate, served)) => {
             let mut watching = Watching::new(notes);
             serve_on(
                 rt.alloc(),
                 rt,
-                &listener,
+                gate,
                 service.count,
                 service.ahead,
                 desk,
@@ -114,14 +132,14 @@ fn serve_at<D: Report + AddAccount + OfTerminal, N: Notes, W: Write, E: Write>(
     }
 }
 
-/// Listens at a port of this machine, and prints that it does. The text is what is to be printed in the end. None if it
-/// can't listen, which is reported, or printing failed.
+/// Listens at a port of this machine, with all that it takes to wait there, and prints that it does. The text is what is to be
+/// printed in the end. None if it can't listen, which is reported, or printing failed.
 fn listen<W: Write, E: Write>(
     rt: &HostRuntime,
     service: Service,
     writer: &mut Port<W>,
     errors: &mut Port<E>,
-) -> Option<(TcpListener, String)>
+) -> Option<(Gate, String)>
     ensures listens { IfSome result (λ begun. (string_bytes begun.1 ≡ served_line service.count)
         × Appends (W.contents writer.old.inner) (W.contents writer.new.inner) (listening_line service.port)
         × (writer.new.failed ≡ writer.old.failed) × (errors.new ≡ errors.old)) }
@@ -135,20 +153,20 @@ fn listen<W: Write, E: Write>(
         count,
         ahead: _,
     } = service;
-    let (Ok(address), Ok(listening), Ok(served)) = (
-        format!(in alloc; "127.0.0.1:{port}"),
+    let (Ok(listening), Ok(served)) = (
         format!(in alloc; "listening 127.0.0.1:{port}\n"),
         format!(in alloc; "served {count}\n"),
     ) else {
         tell(errors, "store: Memory\n");
         return None;
     };
-    let Ok(listener) = TcpListener::bind(rt, address.as_str()) else {
+    let address = SocketAddr::from((Ipv4Addr::LOCALHOST, port));
+    let Ok(gate) = Gate::bind(alloc, rt, address) else {
         tell(errors, "cannot listen\n");
         return None;
     };
     if print(writer, listening.as_str(), DONE) == DONE {
-        Some((listener, served))
+        Some((gate, served))
     } else {
         None
     }

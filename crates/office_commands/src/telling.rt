@@ -3,15 +3,14 @@ ghost use Rattle.std.specs.Prelude.{◌≡◌, List, ℕ, true, OnOk, OnErr, str
 ghost use Rattle.office_commands.specs.Command.{DemoEnds};
 ghost use Rattle.office_commands.specs.Demo.{port_failures};
 ghost use Rattle.office_commands.specs.Ending.{Tells, Prints, status_of, store_text, stream_text, outcome_status, outcome_text};
-ghost use Rattle.office_stream.specs.Fronts.{AppendsFront};
-ghost use Rattle.office_stream.specs.Streams.{port_bytes};
+ghost use Rattle.office_replies.specs.Fronts.{AppendsFront};
+ghost use Rattle.office_replies.specs.Streams.{port_bytes};
 
 use crate::demo::run_demo;
+use office_admission::Tally;
 use office_desk::Desk;
-use office_replies::Worst;
-use office_stream::{Port, StreamFault};
+use office_replies::{Port, StreamFault, Worst};
 use office_tables::TableFault;
-use office_taking::Tally;
 use sqlite::Alter;
 use std::alloc::Global;
 use std::io::{self, Read, Write};

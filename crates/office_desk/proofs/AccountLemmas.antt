@@ -1,18 +1,18 @@
 -- What a desk answers to an account that is to be added, and what it holds after it.
-use Rattle.std.proofs.Common.{◌≡◌, ℕ, ◌+◌, ◌-◌, ◌<◌, Bool, true, false, cond, map, List, [], ◌∷◌, ◌++◌, length, Option, None, Some, get_or, option_map, inl, inr, refl, sym, ap, ap₂, subst, ◌∙◌, arith}
-use Rattle.std.proofs.lemmas.List.{length-append, map-append}
+use Rattle.std.proofs.Common.{◌≡◌, ℕ, ◌+◌, ◌-◌, ◌<◌, Bool, true, false, cond, map, List, [], ◌∷◌, ◌++◌, length, Option, None, Some, get_or, option_map, inl, inr, refl, sym, ap, ap₂, subst, ◌∙◌, arith, ◌≤◌, String, string_bytes, codes}
+use Rattle.std.proofs.lemmas.List.{length-append, map-append, length-map}
 use Rattle.std.proofs.lemmas.List.FromFn.{map-range_with_len_more}
 use Rattle.std.proofs.lemmas.Option.{slice_get-get_or, slice_get-map}
 use Rattle.std.proofs.lemmas.Simd.{map-map}
 use Rattle.std.specs.List.{range_with_len}
-use Rattle.std.specs.Prelude.{slice_get, OnErr, OnOk, Result, Ok, Err}
+use Rattle.std.specs.Prelude.{slice_get, OnErr, OnOk, Result, Ok, Err, slice_index_or, slice_set}
 use Rattle.sqlite.specs.Effect.{Database}
 use Rattle.sqlite.specs.Tree.{Trees}
 use Rattle.sqlite_trees.specs.declared.store.Store.{Ghosts}
 use Rattle.edi_messages.specs.declared.codes.PartnerKind.{PartnerKind}
-use Rattle.partner_core.specs.Deliveries.{run}
+use Rattle.partner_core.specs.Deliveries.{run, delivery}
 use Rattle.partner_core.specs.Numbered.{with_number}
-use Rattle.partner_core.proofs.Numbered.{with_number-below}
+use Rattle.partner_core.proofs.Keepings.{with_number-below}
 use Rattle.terminal_core.specs.State.{TerminalState}
 use Rattle.office_replies.specs.Events.{Event, added}
 use Rattle.office_replies.specs.declared.accounts.AccountAnswer.{AccountAnswer}
@@ -20,29 +20,49 @@ use Rattle.office_replies.specs.declared.accounts.AccountFault.TheVariants.{Part
 use Rattle.office_rows.specs.Effects.{with_partner}
 use Rattle.office_rows.specs.Rows.{Rows}
 use Rattle.office_rows.specs.Stored.{HasRows, StoresRows}
-use Rattle.office_setup.specs.Kinds.{kind_named}
-use Rattle.office_setup.specs.Accounts.{account_contents}
-use Rattle.office_setup.specs.Parties.{partner_codes, partner_from, partner_kinds}
-use Rattle.office_setup.specs.declared.setup.Account.{Account}
-use Rattle.office_setup.proofs.Named.{one_further}
-use Rattle.office_setup.specs.PartyCodes.{is_party_code}
-use Rattle.office_setup.specs.Setups.{SetupContent, setup_content, setup_with_account}
-use Rattle.office_setup.specs.Given.{IsGiven}
+use Rattle.office_admission.specs.Kinds.{kind_named}
+use Rattle.office_admission.specs.SetupAccounts.{account_contents}
+use Rattle.office_admission.specs.Parties.{partner_codes, partner_from, partner_kinds}
+use Rattle.office_admission.specs.declared.setup.Account.{Account}
+use Rattle.office_admission.proofs.Named.{one_further}
+use Rattle.office_admission.specs.PartyCodes.{is_party_code}
+use Rattle.office_admission.specs.Setups.{SetupContent, setup_content, setup_with_account}
+use Rattle.office_admission.specs.Given.{IsGiven}
 use Rattle.office_tables.specs.declared.table_fault.TableFault.{TableFault}
 use Rattle.office_admission.specs.Accounts.{AccountContent, AccountPair, account_answer, added_as, by_kind, by_number, content_after, refused_for}
 use Rattle.office_admission.specs.Deliveries.{deliveries_of}
 use Rattle.office_admission.proofs.Adding.{account_adds, added_last, content_on, given_after, no_run_beyond, parties_grown}
-use Rattle.office_taking.specs.Growth.{with_account}
+use Rattle.office_admission.specs.Growth.{with_account}
 use Rattle.office_history.specs.After.{AreAfter, machine_after, machine_with}
 use Rattle.office_history.specs.Laws.{AddsAccount}
-use Rattle.office_history.proofs.Growing.{account_adds_row}
+use Rattle.office_history.proofs.Ground.{account_adds_row}
 use Rattle.office_desk.specs.Accounts.{AnswersAccount, IsLengthened, IsSameOrNone, Says}
 use Rattle.office_desk.specs.Beside.{IsBeside, nexts_after}
-use Rattle.office_desk.specs.Crashes.{IsAfter}
-use Rattle.office_desk.specs.Telling.{Holds}
-use Rattle.office_desk.specs.Desks.{StandsFor}
+use Rattle.office_desk.specs.Crashes.{IsAfter, Leaves, LeavesAll, LeavesBehind}
+use Rattle.office_desk.specs.Telling.{Holds, TakesNext}
+use Rattle.office_desk.specs.Desks.{StandsFor, IsSound}
 use Rattle.office_desk.specs.declared.beside.Beside.{Beside}
 use Rattle.office_desk.specs.declared.desk.Desk.{Desk}
+use Rattle.std.specs.declared.alloc.Global.{Global}
+use Rattle.office_replies.specs.Bodies.{answer_text, waiting_text}
+use Rattle.office_replies.specs.Contents.{content_of}
+use Rattle.sqlite.specs.State.{State}
+use Rattle.office_admission.specs.declared.setup.Setup.{Setup}
+use Rattle.office_admission.specs.Taking.{machine_of}
+use Rattle.office_history.specs.Cascade.{AreTakenFrom, texts_with, with_run}
+use Rattle.office_tables.specs.DeliveryReading.{IsSame}
+use Rattle.office_tables.specs.Writing.{Commits}
+use Rattle.office_tables.specs.Taken.{taken_content, taken_contents}
+use Rattle.office_tables.specs.declared.running.Taken.{Taken}
+use Rattle.office_desk.specs.Answers.{answer_by_model, AnswersNext}
+use Rattle.sqlite.specs.Held.{state}
+use Rattle.office_replies.specs.Delivering.{AreAnswered, LeadsOn, with_answered}
+use Rattle.office_replies.specs.declared.deliver.Response.{Response}
+use Rattle.office_desk.specs.Calls.{Leads}
+use Rattle.partner_core.specs.Answers as told
+use Rattle.office_replies.specs.declared.deliver.Response.TheVariants as response
+
+-- ==== AccountLemmas: What a desk answers to an account that is to be added, and what it holds after it.
 
 -- ---- the answer
 
@@ -51,10 +71,6 @@ pub asked : (accounts : List AccountPair) (code kind : List ℕ) (own : PartnerK
     account_answer accounts code kind ≡ by_number accounts own (partner_from 1 code (map (λ (account : AccountPair). account.0) accounts))
 asked accounts code kind own coded named =
     ap (λ b. cond b (by_kind accounts code (kind_named kind)) (refused_for Partner)) coded ∙ ap (by_kind accounts code) named
-
--- what has no form of them is refused
-pub not_coded : (accounts : List AccountPair) (code kind : List ℕ) → is_party_code code ≡ false → account_answer accounts code kind ≡ refused_for Partner
-not_coded accounts code kind none = ap (λ b. cond b (by_kind accounts code (kind_named kind)) (refused_for Partner)) none
 
 pub not_named : (accounts : List AccountPair) (code kind : List ℕ) → kind_named kind ≡ None → account_answer accounts code kind ≡ refused_for Partner
 not_named accounts code kind none = by (is_party_code code)
@@ -195,3 +211,78 @@ pub given_left : {A S : Type 0} (met : Result A TableFault) (content : S → Set
     → IsGiven (content old) → IsGiven grown → IsGiven (content new)
 given_left (Ok body) content old new grown with_it same was is = subst IsGiven (sym with_it) is
 given_left (Err fault) content old new grown with_it same was is = subst IsGiven (sym (ap content same)) was
+
+-- ==== AnswerLemmas: The answers that responses are.
+
+pub taken_is : (body : String Global) (reply : List ℕ) (number : ℕ) (code : List ℕ) → string_bytes body ≡ answer_text (codes "taken") number code reply →
+    content_of (response.Taken body) ≡ answer_by_model code number (told.Taken (Some reply))
+taken_is body reply number code is = rw is refl
+
+pub waiting_is : (body : String Global) (next number : ℕ) (code : List ℕ) → string_bytes body ≡ waiting_text next number code →
+    content_of (response.Waiting body) ≡ answer_by_model code number (told.Waiting next)
+waiting_is body next number code is = rw is refl
+
+-- ---- a run
+
+split : (first : Taken) (items : List Taken) → 1 ≤ length items → first ≡ slice_index_or items 0 first → (later : List Taken) × (items ≡ first ∷ later)
+split first [] some is = absurd (omega (arith, some))
+split first (x ∷ items) some is = (items, ap (λ t. t ∷ items) (sym is))
+
+pub takes_next : (rows : Rows) (partner number : ℕ) (text code : List ℕ) (setup : Setup) (old new : Beside) (body : String Global) (first : Taken) (items : List Taken) (was mid end : State) →
+    1 ≤ length items → first ≡ slice_index_or items 0 first →
+    AreTakenFrom partner (texts_with rows partner number text) number (machine_of setup old.terminal) (taken_contents items) (machine_of setup new.terminal) →
+    new.nexts.items ≡ slice_set old.nexts.items (partner - 1) (number + length items) →
+    string_bytes body ≡ answer_text (codes "taken") number code (string_bytes first.reply) → HasRows rows was.now → was.now ≡ was.committed → IsSame was mid →
+    Commits (with_run partner number text (taken_contents items)) mid end → TakesNext rows (delivery partner number text) code setup old (response.Taken body) new end
+takes_next rows partner number text code setup old new body first items was mid end some is taken raised bytes has settled same wrote =
+    let parts = split first items some is in
+    let before : HasRows rows mid.committed = subst (HasRows rows) (settled ∙ sym same.committed) has in
+    record {
+      first = taken_content first;
+      later = taken_contents parts.0;
+      taken = subst (λ l. AreTakenFrom partner (texts_with rows partner number text) number (machine_of setup old.terminal) (taken_contents l) (machine_of setup new.terminal)) parts.1 taken;
+      raised = raised ∙ ap (λ n. slice_set old.nexts.items (partner - 1) (number + n)) (sym (length-map items taken_content) ∙ ap (λ l. length (taken_contents l)) parts.1);
+      answers = taken_is body (string_bytes first.reply) number code bytes;
+      has = subst (λ l. HasRows (with_run partner number text (taken_contents l) rows) end.committed) parts.1 (wrote.rows rows before);
+      is_open = wrote.is_open;
+      alone = wrote.alone;
+    }
+
+-- ==== CallLemmas: Deliveries, one after the other.
+
+module _ {S : Type 0} (g : Ghosts S) where
+  pub sound_before : (old new : Desk S g) (texts : List (List ℕ)) (responses : List Response) → LeadsOn (Leads g) old texts responses new → IsSound g new → IsSound g old
+  sound_before old new [] [] same sound = subst (IsSound g) same sound
+  sound_before old new [] (response ∷ responses) none sound = absurd none
+  sound_before old new (text ∷ texts) [] none sound = absurd none
+  sound_before old new (text ∷ texts) (response ∷ responses) (next, call, rest) sound = call.stays (sound_before next new texts responses rest sound)
+
+  pub answered_all : (old new : Desk S g) (texts : List (List ℕ)) (responses : List Response) → LeadsOn (Leads g) old texts responses new → IsSound g new →
+      (content : SetupContent) (es : List Event) → StandsFor g content es old → AreAnswered (StandsFor g content) (AnswersNext content) es new texts responses
+  answered_all old new [] [] same sound content es stands = record { each = tt; stands_now = subst (StandsFor g content es) (sym same) stands }
+  answered_all old new [] (response ∷ responses) none sound content es stands = absurd none
+  answered_all old new (text ∷ texts) [] none sound content es stands = absurd none
+  answered_all old new (text ∷ texts) (response ∷ responses) (next, call, rest) sound content es stands =
+      let one = call.delivers (sound_before next new texts responses rest sound) content es stands in
+      let others = answered_all next new texts responses rest sound content (with_answered es text response) one.1 in
+      record { each = (one.0, others.each); stands_now = others.stands_now }
+
+  leaves_some : (content : SetupContent) (es : List Event) (old new : Desk S g) (text : List ℕ) (texts : List (List ℕ)) (response : Response) (responses : List Response) →
+      LeadsOn (Leads g) old (text ∷ texts) (response ∷ responses) new → IsSound g new → StandsFor g content es old →
+      LeavesAll content es (text ∷ texts) (response ∷ responses) (state g new.conn)
+  leaves_some content es old new text [] response [] (next, call, same) sound stands =
+      let there : IsSound g next = subst (IsSound g) same sound in
+      subst (λ (desk : Desk S g). LeavesBehind content es text response (state g desk.conn)) (sym same) (call.crash (call.stays there) there.0 content es stands)
+  leaves_some content es old new text [] response (other ∷ responses) (next, call, none) sound stands = absurd none
+  leaves_some content es old new text (more ∷ texts) response [] (next, call, none) sound stands = absurd none
+  leaves_some content es old new text (more ∷ texts) response (other ∷ responses) (next, call, rest) sound stands =
+      let there = sound_before next new (more ∷ texts) (other ∷ responses) rest sound in
+      leaves_some content (with_answered es text response) next new more texts other responses rest sound (call.delivers there content es stands).1
+
+pub leaves_all : {S : Type 0} (g : Ghosts S) (old new : Desk S g) (texts : List (List ℕ)) (responses : List Response) → LeadsOn (Leads g) old texts responses new → IsSound g new →
+    (content : SetupContent) (es : List Event) → StandsFor g content es old → Leaves content es (state g old.conn) → LeavesAll content es texts responses (state g new.conn)
+leaves_all g old new [] [] same sound content es stands leaves = subst (λ (desk : Desk _ g). Leaves content es (state g desk.conn)) (sym same) leaves
+leaves_all g old new [] (response ∷ responses) none sound content es stands leaves = absurd none
+leaves_all g old new (text ∷ texts) [] none sound content es stands leaves = absurd none
+leaves_all g old new (text ∷ texts) (response ∷ responses) calls sound content es stands leaves =
+    leaves_some g content es old new text texts response responses calls sound stands

@@ -1,45 +1,261 @@
 -- What the desk holds after each delivery.
-use Rattle.std.proofs.Common.{◌≡◌, ℕ, ◌+◌, ◌-◌, ◌<◌, ◌≤◌, Bool, true, false, cond, map, List, [], ◌∷◌, ◌++◌, length, Option, None, Some, Result, Ok, Err, IfOk, OnOk, String, string_bytes, refl, sym, ap, ap₂, subst, ◌∙◌, arith}
-use Rattle.std.specs.Prelude.{slice_set}
+use Rattle.std.proofs.Common.{◌≡◌, ◌⊎◌, inl, inr, ℕ, ◌+◌, ◌<◌, List, [], ◌∷◌, ◌++◌, None, Some, Option, Err, IsTrue, sym, subst, ◌∙◌, arith, zero, suc, ◌-◌, ◌≤◌, length, map, Bool, cond, refl, ap, ap₂, true, false, String, string_bytes, Result, Ok, IfOk, OnOk, OnErr}
+use Rattle.sqlite.specs.State.{State, HasCleanDisk, Survives}
+use Rattle.sqlite.specs.Tree.{Trees}
+use Rattle.edi_syntax.specs.Interchange.{interchange_of}
+use Rattle.partner_core.specs.Deliveries.{delivery, run, Delivery}
+use Rattle.office_replies.specs.Events.{Event, delivered}
+use Rattle.office_replies.specs.declared.deliver.Fault.{Fault}
+use Rattle.office_replies.specs.declared.deliver.Response.{Response}
+use Rattle.office_rows.specs.Rows.{Rows, Partner, Interchange}
+use Rattle.office_rows.specs.Effects.{with_waiting}
+use Rattle.office_rows.specs.Stored.{HasRows, StoresRows}
+use Rattle.office_rows.proofs.Creating.{stores}
+use Rattle.office_admission.specs.Given.{IsGiven}
+use Rattle.office_admission.specs.Setups.{SetupContent, setup_content}
+use Rattle.office_admission.specs.Admission.{admission}
+use Rattle.office_history.specs.After.{AreAfter, content_after, deliveries_of, machine_after, machine_with, parties_in, accounts_from, AreKeptOnce, reply_in, reply_if_any}
+use Rattle.office_history.specs.Cascade.{AreTakenFrom, text_in, texts_with, with_run}
+use Rattle.office_history.specs.Laws.{IsFor, AddsRun, AnswersBy, answer_model_of}
+use Rattle.office_history.proofs.Lawful.{refused_adds, used_adds, early_adds, next_adds, now_same}
+use Rattle.office_desk.specs.Crashes.{IsAfter, Leaves, LeavesBehind, LeavesEither}
+use Rattle.office_desk.specs.Beside.{IsAt, nexts_after, IsBeside}
+use Rattle.office_desk.specs.Telling.{Comes, Holds, IsRunDone, Answers, TakesNext}
+use Rattle.office_desk.specs.declared.beside.Beside.{Beside}
+use Rattle.std.specs.Prelude.{◌==◌, count_by, Contains, IsSorted, slice_get, slice_set, slice_index_or}
 use Rattle.std.specs.List.{range_with_len}
+use Rattle.std.specs.List.Sorted.{IsPermutation, IsNonDecreasing}
+use Rattle.std.specs.Ordering.{nat_cmp}
+use Rattle.std.proofs.lemmas.Bool.{cases_order, eqb-true, eq-eqb}
+use Rattle.std.proofs.lemmas.Option.{slice_get_within}
+use Rattle.std.proofs.lemmas.List.Sorted.{Contains-permutation, IsNonDecreasingBy-from_sort, IsPermutation-map, IsPermutation-refl, IsPermutation-sym, IsPermutation-trans, sum_by-IsPermutation}
+use Rattle.edi_messages.specs.declared.codes.PartnerKind.{PartnerKind}
+use Rattle.partner_core.specs.Numbered.{with_number}
+use Rattle.terminal_core.proofs.Indexed.{one_place}
+use Rattle.terminal_core.proofs.Whole.{found_at}
+use Rattle.office_rows.specs.Shown.{AreNexts}
+use Rattle.office_admission.specs.Taking.{MachineState, interchange_taken, machine_of}
+use Rattle.office_history.proofs.Kept.{Rises, above, fewer, head_in, one_at, rising_same, tail_in}
+use Rattle.office_history.proofs.Accounted.{next_in, answers, text_within}
+use Rattle.office_tables.specs.Taken.{taken_contents}
+use Rattle.office_tables.specs.declared.running.Taken.{Taken}
 use Rattle.std.specs.declared.alloc.Global.{Global}
 use Rattle.std.specs.Option.{option_map, option_and_then}
 use Rattle.std.specs.Cmp.Lexicographic.{same_text, other_text}
 use Rattle.std.proofs.lemmas.Simd.{map-map}
 use Rattle.sqlite.specs.Effect.{Database}
-use Rattle.sqlite.specs.State.{State}
-use Rattle.edi_segments.specs.Interchange.{interchange_of}
 use Rattle.partner_core.specs.Answers.{AnswerModel, Waiting, answer_by}
-use Rattle.partner_core.specs.Deliveries.{delivery, run}
-use Rattle.partner_core.specs.Numbered.{with_number}
 use Rattle.partner_core.specs.Standings.{standing_of, is_same_text}
 use Rattle.partner_core.specs.declared.runs.Standing.TheVariants.{Known, Other}
 use Rattle.terminal_core.specs.State.{TerminalState}
-use Rattle.office_replies.specs.Events.{Event, delivered}
 use Rattle.office_replies.specs.Contents.{content_of}
-use Rattle.office_replies.specs.declared.deliver.Response.{Response}
-use Rattle.office_rows.specs.Rows.{Interchange, Rows}
-use Rattle.office_rows.specs.Effects.{with_waiting}
-use Rattle.office_rows.specs.Stored.{HasRows}
-use Rattle.office_setup.specs.Parties.{partner_kinds}
-use Rattle.office_setup.specs.Setups.{SetupContent, setup_content}
-use Rattle.office_setup.specs.declared.setup.Setup.{Setup}
+use Rattle.office_admission.specs.Parties.{partner_kinds}
+use Rattle.office_admission.specs.declared.setup.Setup.{Setup}
 use Rattle.office_tables.specs.Answers.{IsKept, RepliesAs}
 use Rattle.office_tables.specs.declared.interchanges.Kept.{Kept}
-use Rattle.office_taking.specs.Taking.{MachineState, machine_of}
-use Rattle.office_history.specs.Cascade.{AreTakenFrom, text_in, texts_with, with_run}
-use Rattle.office_history.specs.After.{AreAfter, AreKeptOnce, content_after, deliveries_of, machine_after, machine_with, parties_in, reply_in, reply_if_any}
-use Rattle.office_history.specs.Laws.{AddsRun, IsFor, AnswersBy, answer_model_of}
-use Rattle.office_history.proofs.Lawful.{early_adds, next_adds, now_same, used_adds}
-use Rattle.office_history.proofs.Telling.{answers, text_within}
-use Rattle.office_delivery.specs.Taking.{IsNumbered}
-use Rattle.office_delivery.specs.Writing.{Commits}
-use Rattle.office_delivery.proofs.ReadLemmas.{one_kept, text_kept}
+use Rattle.office_tables.specs.Taking.{IsNumbered}
+use Rattle.office_tables.specs.Writing.{Commits, IsWhole}
+use Rattle.office_tables.proofs.WriteLemmas.{one_kept, text_kept}
 use Rattle.office_desk.specs.Answers.{answer_by_model}
-use Rattle.office_desk.specs.Beside.{IsAt, IsBeside, nexts_after}
-use Rattle.office_desk.specs.Telling.{Answers, Comes, Holds, TakesNext}
-use Rattle.office_desk.specs.declared.beside.Beside.{Beside}
-use Rattle.office_desk.proofs.NumberLemmas.{map_alike, number_of, set_one}
+use Rattle.std.specs.Result.{IsErrAnd}
+use Rattle.office_tables.specs.declared.table_fault.TableFault.{TableFault}
+use Rattle.office_desk.specs.Taking.{AnswersOrHolds, LeavesTaken}
+use Rattle.office_replies.specs.declared.deliver.Response.TheVariants as response
+
+-- ==== CrashLemmas: What a crash leaves behind each delivery.
+
+-- ---- calls that only read
+
+or_never : {A : Type 0} → A ⊎ ⊥ → A
+or_never (inl x) = x
+or_never (inr never) = absurd never
+
+-- what only reads gives a crash nothing else to leave
+pub leaves_less : (old new : State) → HasCleanDisk new → Survives old new (λ _. ⊥) → (db : Trees) → new.may_leave db → old.may_leave db
+leaves_less old new clean survives db leaves = or_never (survives.crash clean db leaves)
+
+-- ---- one delivery more
+
+pub either_of : {A B C D : Type 0} → (A → C) → (B → D) → A ⊎ B → C ⊎ D
+either_of f g (inl x) = inl (f x)
+either_of f g (inr y) = inr (g y)
+
+module _ (content : SetupContent) (es : List Event) (sent : List ℕ) where
+  -- what is refused adds nothing
+  pub refused_leaves : (fault : Fault) (s : State) → admission (parties_in (content_after content es)) (interchange_of sent) ≡ Err fault → Leaves content es s → Leaves content (es ++ delivered sent ∷ []) s
+  refused_leaves fault s refused leaves db left =
+      let is = leaves db left in
+      record { rows = is.rows; are = is.are; after = (refused_adds content es is.rows sent fault is.after refused).rows_are }
+
+  -- nor does what is used
+  pub used_leaves : (rows : Rows) (partner number : ℕ) (kept : List ℕ) (old new : State) → AreAfter content es rows → IsFor content es sent partner number → text_in rows partner number ≡ Some kept →
+      ((db : Trees) → new.may_leave db → old.may_leave db) → Leaves content es old → Leaves content (es ++ delivered sent ∷ []) new
+  used_leaves rows partner number kept old new after is_for there less leaves db left =
+      let is = leaves db (less db left) in
+      let here : text_in is.rows partner number ≡ Some kept = is.after.texts partner number ∙ sym (after.texts partner number) ∙ there in
+      record { rows = is.rows; are = is.are; after = (used_adds content es is.rows sent partner number kept is.after is_for here).rows_are }
+
+  pub early_after : (rows : Rows) (text : List ℕ) (partner number next : ℕ) (db : Trees) → AreAfter content es rows → Comes content es sent (delivery partner number text) → text_in rows partner number ≡ None →
+      next ≡ run (deliveries_of content es) partner + 1 → next < number → StoresRows (with_waiting partner number text rows) db → IsAfter content (es ++ delivered sent ∷ []) db
+  early_after rows text partner number next db after comes free is later are = record {
+    rows = with_waiting partner number (interchange_of sent) rows;
+    are = subst (λ t. StoresRows (with_waiting partner number t rows) db) comes.text_is are;
+    after = (early_adds content es rows sent partner number after comes.is_for free (omega (arith, is, later))).rows_are;
+  }
+
+  pub run_after : (rows : Rows) (text : List ℕ) (partner number next : ℕ) (now : Beside) (db : Trees) → IsGiven content → AreAfter content es rows → IsAt content es now →
+      Comes content es sent (delivery partner number text) → text_in rows partner number ≡ None → next ≡ run (deliveries_of content es) partner + 1 → number ≡ next →
+      IsRunDone rows (delivery partner number text) (machine_with (content_after content es) now.terminal) db → IsAfter content (es ++ delivered sent ∷ []) db
+  run_after rows text partner number next now db given after at comes free is same done =
+      let own = interchange_of sent in
+      let here : AreTakenFrom partner (texts_with rows partner number own) number (machine_after content es) done.taken done.new =
+      subst (λ m. AreTakenFrom partner (texts_with rows partner number own) number m done.taken done.new) at.terminal
+      (subst (λ t. AreTakenFrom partner (texts_with rows partner number t) number (machine_with (content_after content es) now.terminal) done.taken done.new) comes.text_is done.are_taken) in
+      record {
+        rows = with_run partner number own done.taken rows;
+        are = subst (λ t. StoresRows (with_run partner number t done.taken rows) db) comes.text_is done.are;
+        after = (next_adds content es rows sent partner number done.taken done.new given after comes.is_for free (same ∙ is) here).rows_are;
+      }
+
+  -- what is reported of what a crash leaves, by the answer
+  pub answered_behind : (given : Response) (s : State) → Leaves content (es ++ delivered sent ∷ []) s → LeavesBehind content es sent given s
+  answered_behind response.NotNow s leaves = λ db left. inr (leaves db left)
+  answered_behind given s leaves = leaves
+
+-- a crash leaves what was committed
+pub committed_leaves : (content : SetupContent) (es : List Event) (s : State) (rows : Rows) → ((db : Trees) → s.may_leave db → db ≡ s.committed.trees) → HasRows rows s.committed → AreAfter content es rows → Leaves content es s
+committed_leaves content es s rows alone has after db left = record { rows = rows; are = subst (StoresRows rows) (sym (alone db left)) (stores rows s.committed has); after = after }
+
+-- while it is open, a crash leaves only what was committed, so the rows that are held
+pub held_leaves : (content : SetupContent) (es : List Event) (now : SetupContent) (s : State) (there : Option Beside) → IsTrue s.is_open → ((db : Trees) → s.may_leave db → db ≡ s.committed.trees) →
+    Holds content es now s.committed there → Leaves content es s
+held_leaves content es now s there is_open alone holds = committed_leaves content es s holds.rows alone holds.has holds.after
+
+-- ==== NumberLemmas: The partners' next numbers, in the order of their ids.
+
+-- ---- numbers by a function, in the order of the ids
+
+pub map_alike : (f f' : ℕ → ℕ) → ((q : ℕ) → f' q ≡ f q) → (xs : List ℕ) → map f' xs ≡ map f xs
+map_alike f f' same xs i = map (λ q. same q i) xs
+
+module _ (f f' : ℕ → ℕ) (p : ℕ) (same : (q : ℕ) → (q ≡ p → ⊥) → f' q ≡ f q) where
+  map_beyond : (a n : ℕ) → p < a → map f' (range_with_len a n) ≡ map f (range_with_len a n)
+  map_beyond a zero low = refl
+  map_beyond a (suc n) low = ap₂ ◌∷◌ (same a (λ e. absurd (omega (arith, e, low)))) (map_beyond (a + 1) n (omega (arith, low)))
+
+  set_from : (a n i : ℕ) → a + i ≡ p → slice_set (map f (range_with_len a n)) i (f' p) ≡ map f' (range_with_len a n)
+  set_from a zero i e = refl
+  set_from a (suc n) zero e =
+      let here : p ≡ a = omega (arith, e) in
+      ap₂ ◌∷◌ (ap f' here) (sym (map_beyond (a + 1) n (omega (arith, e))))
+  set_from a (suc n) (suc i) e = ap₂ ◌∷◌ (sym (same a (λ here. absurd (omega (arith, here, e))))) (set_from (a + 1) n i (omega (arith, e)))
+
+  -- one of them raised
+  pub set_one : (n : ℕ) → 1 ≤ p → slice_set (map f (range_with_len 1 n)) (p - 1) (f' p) ≡ map f' (range_with_len 1 n)
+  set_one n one = set_from 1 n (p - 1) (omega (arith, one))
+
+number_from : (f : ℕ → ℕ) (a n i next : ℕ) → slice_get (map f (range_with_len a n)) i ≡ Some next → next ≡ f (a + i)
+number_from f a zero i next e = cc
+number_from f a (suc n) zero next e = let is : f a ≡ next = cc in let here : a ≡ a + 0 = omega arith in sym is ∙ ap f here
+number_from f a (suc n) (suc i) next e = let here : a + 1 + i ≡ a + suc i = omega arith in number_from f (a + 1) n i next e ∙ ap f here
+
+pub number_of : (f : ℕ → ℕ) (n p next : ℕ) → with_number (map f (range_with_len 1 n)) p ≡ Some next → next ≡ f p
+number_of f n zero next e = cc
+number_of f n (suc i) next e = let here : 1 + i ≡ suc i = omega arith in number_from f 1 n i next e ∙ ap f here
+
+pub number_within : {A : Type 0} (xs : List A) (p : ℕ) (x : A) → with_number xs p ≡ Some x → p ≤ length xs
+number_within xs zero x e = omega arith
+number_within xs (suc i) x e = let rest = slice_get_within xs i x e in omega (arith, rest)
+
+-- ---- the ids, from the least up
+
+abbrev is_one : ℕ → ℕ → Bool
+is_one v x = x == v
+
+-- numbers in order, none of them twice, rise
+rise : (low : ℕ) (xs : List ℕ) → IsNonDecreasing xs → ((v : ℕ) → count_by (is_one v) xs ≤ 1) → ((x : ℕ) → Contains xs x → low < x) → Rises (λ x. x) low xs
+rise low [] up once above = tt
+rise low (x ∷ xs) up once above = (
+  above x (head_in x xs),
+  rise x xs (λ i j d before within. up (suc i) (suc j) d (omega (arith, before)) (omega (arith, within)))
+      (λ v. fewer (is_one v) x xs (once v))
+      (λ y inside. beyond y inside (subst (λ z. x ≤ z) inside.2 (up zero (suc inside.0) y (omega arith) (omega (arith, inside.1))))),
+)
+  where
+    beyond : (y : ℕ) → Contains xs y → x ≤ y → x < y
+    beyond y inside low = elim (cases_order x y) [
+      | inl same ↦
+          let bad : 0 ≡ suc inside.0 = one_place (is_one y) (x ∷ xs) 0 (suc inside.0) x y (once y) refl (found_at xs y inside) (eq-eqb x y same) (eq-eqb y y refl) in
+          absurd (omega (arith, bad))
+      | inr o ↦ elim o [ inl below ↦ below | inr above ↦ absurd (omega (arith, low, above)) ]
+    ]
+
+pub rises_from : (low a n : ℕ) → low < a → Rises (λ x. x) low (range_with_len a n)
+rises_from low a zero below = tt
+rises_from low a (suc n) below = (below, rises_from a (a + 1) n (omega arith))
+
+-- the ids in order are 1, 2 and so on
+pub in_range : (n : ℕ) (xs : List ℕ) → IsPermutation (range_with_len 1 n) xs → IsSorted nat_cmp xs → xs ≡ range_with_len 1 n
+in_range n xs same sorted =
+    let all = range_with_len 1 n in
+    sym (rising_same (λ x. x) 0 all xs (rises_from 0 1 n (omega arith))
+    (rise 0 xs (IsNonDecreasingBy-from_sort (λ x. x) xs sorted)
+    (λ v. subst (λ k. k ≤ 1) (sym (sum_by-IsPermutation (λ x. cond (x == v) 1 0) all xs same)) (one_at (λ x. x) (is_one v) v (λ x e. eqb-true x v e) 0 all (rises_from 0 1 n (omega arith))))
+    (λ x inside. above (λ x. x) 0 all x (rises_from 0 1 n (omega arith)) (Contains-permutation xs all x (IsPermutation-sym all xs same) inside)))
+    same)
+
+-- ---- the accounts
+
+abbrev pub id_of : Partner → ℕ
+id_of p = p.id
+
+pub ids_from : (id : ℕ) (f : ℕ → ℕ) (accounts : List (List ℕ × PartnerKind)) → map id_of (accounts_from id f accounts) ≡ range_with_len id (length accounts)
+ids_from id f [] = refl
+ids_from id f (account ∷ accounts) = ap (λ l. id ∷ l) (ids_from (id + 1) f accounts)
+
+nexts_by : (f : ℕ → ℕ) (ps : List Partner) → ((p : Partner) → Contains ps p → p.next ≡ f p.id) → map (λ (p : Partner). p.next) ps ≡ map f (map id_of ps)
+nexts_by f [] all = refl
+nexts_by f (p ∷ ps) all = ap₂ ◌∷◌ (all p (head_in p ps)) (nexts_by f ps (λ q inside. all q (tail_in p q ps inside)))
+
+-- the accounts are those of the set-up, each with the next number that f gives its id
+module _ (f : ℕ → ℕ) (accounts : List (List ℕ × PartnerKind)) (rows : Rows) (placed : IsPermutation rows.partners (accounts_from 1 f accounts)) where
+  pub next_by : (account : Partner) → Contains rows.partners account → account.next ≡ f account.id
+  next_by account inside =
+      let there = Contains-permutation rows.partners (accounts_from 1 f accounts) account placed inside in
+      next_in 1 f accounts account there.0 there.1 there.2
+
+  pub ids_are : (by_id : List Partner) → IsPermutation rows.partners by_id → IsSorted nat_cmp (map id_of by_id) → map id_of by_id ≡ range_with_len 1 (length accounts)
+  ids_are by_id same sorted =
+      let mine : IsPermutation (map id_of rows.partners) (map id_of by_id) = IsPermutation-map id_of rows.partners by_id same in
+      let theirs : IsPermutation (map id_of rows.partners) (range_with_len 1 (length accounts)) =
+      subst (IsPermutation (map id_of rows.partners)) (ids_from 1 f accounts) (IsPermutation-map id_of rows.partners (accounts_from 1 f accounts) placed) in
+      in_range (length accounts) (map id_of by_id) (IsPermutation-trans _ _ _ (IsPermutation-sym _ _ theirs) mine) sorted
+
+  -- the numbers that the rows have are in the order of the ids
+  pub nexts_are : (nexts : List ℕ) → AreNexts rows nexts → nexts ≡ map f (range_with_len 1 (length accounts))
+  nexts_are nexts are =
+      let by_id = are.0 in
+      are.3
+      ∙ nexts_by f by_id (λ p inside. next_by p (Contains-permutation by_id rows.partners p (IsPermutation-sym rows.partners by_id are.1) inside))
+      ∙ ap (map f) (ids_are by_id are.1 are.2)
+
+-- the numbers that the rows after events have are those after them
+pub nexts_loaded : (content : SetupContent) (es : List Event) (rows : Rows) (nexts : List ℕ) → AreAfter content es rows → AreNexts rows nexts → nexts ≡ nexts_after content es
+nexts_loaded content es rows nexts after are =
+    nexts_are (λ p. run (deliveries_of content es) p + 1) (content_after content es).partners rows (subst (IsPermutation rows.partners) after.partners (IsPermutation-refl rows.partners)) nexts are
+
+-- ---- a run
+
+-- its interchanges are numbered one after the other
+pub number_at : (partner : ℕ) (texts : ℕ → Option (List ℕ)) (number : ℕ) (old new : MachineState) (items : List Taken) (k : ℕ) (d : Taken) → AreTakenFrom partner texts number old (taken_contents items) new → k < length items →
+    (slice_index_or items k d).number ≡ number + k
+number_at partner texts number old new [] k d taken low = absurd (omega (arith, low))
+number_at partner texts number old new (x ∷ items) zero d taken low = let here : number ≡ number + 0 = omega arith in taken.2 ∙ here
+number_at partner texts number old new (x ∷ items) (suc k) d taken low =
+    let here : number + 1 + k ≡ number + suc k = omega arith in
+    number_at partner texts (number + 1) (interchange_taken old partner taken.0).0 new items k d taken.5 (omega (arith, low)) ∙ here
+
+-- ==== HoldLemmas: What the desk holds after each delivery.
 
 -- ---- what the rows tell
 
@@ -197,8 +413,36 @@ next_answers setup content es sent text partner number next code response now le
       };
     }
 
--- ---- results
+-- ==== TakingLemmas: Deliveries that were taken in, and calls that failed.
 
-pub if_on : {X E : Type 0} {P Q : X → Type 0} {C : Type 0} (r : Result X E) → ((x : X) → P x → C → Q x) → IfOk r P → OnOk r C → IfOk r Q
-if_on (Ok x) f is on = f x is on
-if_on (Err e) f is on = is
+module _ (content : SetupContent) (es : List Event) where
+  -- ---- calls that failed
+
+  pub failed_holds : (Q : TableFault → Type 0) (d : Delivery) (code : List ℕ) (r : Result Response TableFault) (now : SetupContent) (db : Database) (there : Option Beside) → IsErrAnd r Q → Holds content es now db there →
+      AnswersOrHolds content es d code r now db there
+  failed_holds Q d code (Ok response) now db there is holds = absurd is
+  failed_holds Q d code (Err fault) now db there is holds = holds
+
+  pub failed_leaves : (Q : TableFault → Type 0) (sent : List ℕ) (r : Result Response TableFault) (s : State) → IsErrAnd r Q → LeavesEither content es sent s → LeavesTaken content es sent r s
+  failed_leaves Q sent (Ok response) s is leaves = absurd is
+  failed_leaves Q sent (Err fault) s is leaves = leaves
+
+  -- ---- early ones
+
+  module _ (d : Delivery) (code : List ℕ) (now : SetupContent) (old new : State) (there : Option Beside) (next : ℕ) (holds : Holds content es now old.committed there) (free : text_in holds.rows d.partner d.number ≡ None)
+      (is : next ≡ run (deliveries_of content es) d.partner + 1) (later : next < d.number) where
+    pub early_events : (r : Result Response TableFault) → IfOk r (λ response. content_of response ≡ answer_by_model code d.number (Waiting next)) → OnOk r (Commits (with_waiting d.partner d.number d.text) old new) →
+        OnErr r (new.committed ≡ old.committed) → AnswersOrHolds content es d code r now new.committed there
+    early_events (Ok response) told wrote same = λ sent comes. early_answers content es sent d.text d.partner d.number next code response now old new there holds comes free is later told wrote
+    early_events (Err fault) told wrote same = held_with holds new.committed there (subst (HasRows holds.rows) (sym same) holds.has) holds.beside
+
+    pub early_leaves : (sent : List ℕ) (r : Result Response TableFault) → Comes content es sent d → Leaves content es old → IfOk r (λ response. content_of response ≡ answer_by_model code d.number (Waiting next)) →
+        OnOk r (Commits (with_waiting d.partner d.number d.text) old new) → ((db : Trees) → new.may_leave db → old.may_leave db ⊎ IsWhole (with_waiting d.partner d.number d.text) old db) →
+        LeavesTaken content es sent r new
+    early_leaves sent (Ok response) comes leaves told wrote crash =
+        let after = (early_answers content es sent d.text d.partner d.number next code response now old new there holds comes free is later told wrote).holds in
+        committed_leaves content (es ++ delivered sent ∷ []) new after.rows wrote.alone after.has after.after
+    early_leaves sent (Err fault) comes leaves told wrote crash = λ db left.
+        either_of (λ before. leaves db before)
+        (λ whole. early_after content es sent holds.rows d.text d.partner d.number next db holds.after comes free is later (whole holds.rows holds.has))
+        (crash db left)

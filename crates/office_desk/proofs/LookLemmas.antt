@@ -7,10 +7,10 @@ use Rattle.sqlite.specs.State.{HasCleanDisk}
 use Rattle.sqlite_trees.specs.declared.store.Store.{Ghosts}
 use Rattle.terminal_core.specs.State.{TerminalState}
 use Rattle.office_rows.specs.Rows.{Rows}
-use Rattle.office_setup.specs.Given.{IsGiven}
-use Rattle.office_setup.specs.Setups.{setup_content}
-use Rattle.office_queries.specs.Looking.{Look}
-use Rattle.office_queries.specs.declared.query.NotNow.{NotNow}
+use Rattle.office_admission.specs.Given.{IsGiven}
+use Rattle.office_admission.specs.Setups.{setup_content}
+use Rattle.office_reports.specs.Looking.{Look}
+use Rattle.office_reports.specs.declared.query.NotNow.{NotNow}
 use Rattle.office_tables.specs.declared.table_fault.TableFault.{TableFault}
 use Rattle.office_tables.specs.Faults.{IsOfStoreOr}
 use Rattle.office_desk.specs.Calls.{Looks, OnlyLooks}

@@ -5,19 +5,19 @@ use Rattle.sqlite.specs.Effect.{Database}
 use Rattle.sqlite.specs.State.{State}
 use Rattle.partner_core.specs.Deliveries.{Delivery, run}
 use Rattle.partner_core.specs.Numbered.{with_number}
-use Rattle.partner_core.proofs.Unbroken.{free_after_run}
+use Rattle.partner_core.proofs.Orders.{free_after_run}
 use Rattle.terminal_core.specs.State.{TerminalState}
 use Rattle.office_replies.specs.Events.{Event}
 use Rattle.office_rows.specs.Rows.{Interchange, Rows}
 use Rattle.office_rows.specs.Stored.{HasRows}
-use Rattle.office_setup.specs.Setups.{SetupContent}
-use Rattle.office_checks.specs.Closed.{ClosedContent}
+use Rattle.office_admission.specs.Setups.{SetupContent}
+use Rattle.office_loading.specs.Closed.{ClosedContent}
 use Rattle.office_tables.specs.Answers.{IsKept, pair_of}
 use Rattle.office_tables.specs.declared.interchanges.Kept.{Kept}
 use Rattle.office_history.specs.After.{AreKeptOnce, deliveries_of}
 use Rattle.office_history.specs.Cascade.{text_in}
-use Rattle.office_history.proofs.Shown.{head_in}
-use Rattle.office_delivery.proofs.ReadLemmas.{no_text, one_kept}
+use Rattle.office_history.proofs.Kept.{head_in}
+use Rattle.office_tables.proofs.WriteLemmas.{no_text, one_kept}
 use Rattle.office_desk.specs.Finding.{KeepsBeside}
 use Rattle.office_desk.specs.Kept.{Office}
 use Rattle.office_desk.specs.Offices.{HoldsOffice}
@@ -26,7 +26,7 @@ use Rattle.office_desk.specs.Telling.{Holds}
 use Rattle.office_desk.specs.declared.beside.Beside.{Beside}
 use Rattle.office_desk.proofs.HoldLemmas.{next_is}
 use Rattle.office_desk.proofs.KeptLemmas.{next_found}
-use Rattle.office_desk.proofs.OfficeAccounts.{keeps_accounts, next_follows}
+use Rattle.office_desk.proofs.DeliverLemmas.{keeps_accounts, next_follows}
 
 -- a number with no text has no interchange
 none_in : (partner number : ℕ) (rows : Rows) → AreKeptOnce rows.interchanges → text_in rows partner number ≡ None → IsKept partner number rows None

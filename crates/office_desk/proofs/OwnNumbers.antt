@@ -1,30 +1,163 @@
 -- What a store keeps of its partners' interchanges, of which some were put away: by number, and by what its tables show.
-use Rattle.std.proofs.Common.{◌≡◌, ◌⊎◌, ℕ, zero, suc, ◌+◌, ◌-◌, ◌<◌, ◌≤◌, inl, inr, List, [], ◌∷◌, ◌++◌, length, map, All, Option, None, Some, is_some, true, refl, sym, ap, subst, ◌∙◌, arith}
-use Rattle.std.specs.Prelude.{find, filter, Contains}
+use Rattle.std.proofs.Common.{◌≡◌, ℕ, ◌-◌, ◌≤◌, List, [], Ok, Err, Some, refl, sym, ap, subst, ◌∙◌, string_bytes, ◌+◌, ◌∷◌, ◌++◌, Result, ap₂, ◌⊎◌, zero, suc, ◌<◌, inl, inr, length, map, All, Option, None, is_some, true, arith}
+use Rattle.std.specs.Prelude.{slice_get, nat_le, if◌then◌else◌, find, filter, Contains}
+use Rattle.std.specs.Option.{unwrap_or, option_map, option_and_then}
+use Rattle.std.proofs.lemmas.Option.{slice_get-map}
+use Rattle.edi_syntax.specs.Text.{Content}
+use Rattle.edi_syntax.specs.Interchange.{interchange_of, segments_in}
+use Rattle.edi_syntax.specs.Envelope.{header_of}
+use Rattle.edi_syntax.specs.Header.{control_number}
+use Rattle.partner_core.specs.Numbered.{with_number}
+use Rattle.partner_core.proofs.Keepings.{with_number-below}
+use Rattle.office_replies.specs.Contents.{GivesOrNotNow}
+use Rattle.office_replies.specs.declared.deliver.Fault.{Fault}
+use Rattle.office_replies.specs.declared.deliver.Response.{Response}
+use Rattle.office_admission.specs.Parties.{Parties, parties_of, partner_codes}
+use Rattle.office_admission.specs.declared.setup.Account.{Account}
+use Rattle.office_admission.specs.declared.setup.Setup.{Setup}
+use Rattle.office_admission.specs.Admission.{admission, number_in}
+use Rattle.office_admission.specs.Outcomes.{IsRefused, fault_in}
+use Rattle.office_admission.specs.Refusals.{RefusedSurely, refusal_of}
+use Rattle.office_admission.specs.declared.refusal.Refusal.{Refusal}
+use Rattle.office_admission.specs.declared.refusal.Refusal.TheVariants.{Plain, WithContrl}
+use Rattle.edi_messages.specs.Codes.{table_texts}
+use Rattle.edi_messages.specs.declared.code.CodeTable.{CodeTable}
+use Rattle.partner_core.specs.Deliveries.{Delivery, delivery, first_text, run}
+use Rattle.partner_core.specs.Order.{state}
+use Rattle.partner_core.specs.Answers.{AnswerModel, Taken, Repeat, Waiting, Clash, is_other, answer_of}
+use Rattle.terminal_core.specs.Versions.{newest}
+use Rattle.office_replies.specs.Events.{Event}
+use Rattle.office_admission.specs.Setups.{SetupContent, parties_in}
+use Rattle.office_history.specs.After.{SaysSame, content_after, deliveries_of, machine_after, opening_of, taking_in, AreKeptOnce, accounts_from, reply_if_any, reply_in}
+use Rattle.office_history.specs.Laws.{answer_model_of}
+use Rattle.office_history.proofs.Alike.{after_with_codes, delivered_with_codes, now_with_codes, opening_like, reply_like, state_like, taking_with_codes, with_codes}
+use Rattle.office_parts.specs.Kept.{kept}
+use Rattle.office_desk.specs.Answers.{code_of, answer_by_model, answer_at, answer_to}
+use Rattle.office_desk.specs.Alike.{AnswersAlike}
 use Rattle.std.specs.List.{range_with_len, AllByRecursion}
 use Rattle.std.specs.List.Sorted.{IsPermutation}
-use Rattle.std.specs.Option.{option_map, option_and_then}
 use Rattle.std.proofs.lemmas.Bool.{cases_order}
 use Rattle.std.proofs.lemmas.List.Elements.{All-contains}
 use Rattle.std.proofs.lemmas.List.Sorted.{IsPermutation-sym, Contains-permutation}
 use Rattle.edi_messages.specs.declared.codes.PartnerKind.{PartnerKind}
-use Rattle.partner_core.proofs.Firsts.{none_of}
+use Rattle.partner_core.proofs.Orders.{none_of}
 use Rattle.office_rows.specs.Rows.{Partner, Interchange, Rows}
 use Rattle.office_rows.specs.Effects.{is_pair}
 use Rattle.office_rows.specs.Opened.{NumberKept, number_kept}
 use Rattle.office_rows.specs.Office.{AreWaiting}
-use Rattle.office_checks.specs.Checks.{AreKeptBeyond, taken_beyond}
-use Rattle.office_checks.specs.OwnOffice.{AreInOrder, AreOwnNumbers, IsClosedBelow}
-use Rattle.office_history.specs.After.{AreKeptOnce, accounts_from, reply_if_any, reply_in}
+use Rattle.office_loading.specs.Checks.{AreKeptBeyond, taken_beyond}
+use Rattle.office_loading.specs.OwnOffice.{AreInOrder, AreOwnNumbers, IsClosedBelow}
 use Rattle.office_history.specs.Cascade.{text_in}
-use Rattle.office_history.proofs.Kept.{Has, taken_by}
+use Rattle.office_history.proofs.Kept.{Has, taken_by, found_only, head_in, tail_in}
 use Rattle.office_history.proofs.KeptNumbers.{HaveRuns, found_pair, has_in, has_left, has_right, has_taken, replies, within_at}
 use Rattle.office_history.proofs.Runs.{is_pair_at}
-use Rattle.office_history.proofs.Shown.{found_only, head_in, tail_in}
 use Rattle.office_parts.specs.Closing.{is_beyond}
-use Rattle.office_parts.proofs.Beyond.{IsBeyond}
-use Rattle.office_parts.proofs.InOrder.{beyond_numbered}
+use Rattle.office_parts.proofs.Opening.{IsBeyond}
+use Rattle.office_parts.proofs.Orders.{beyond_numbered}
 use Rattle.office_parts.proofs.OwnOffices.{KeepsOwn, beyond_in, in_beyond}
+pub use Rattle.office_history.proofs.Alike.{codes_after}
+
+-- ==== Admitted: What is known of a text that was admitted, or refused.
+
+-- why a text is refused
+pub refused_for : (setup : Setup) (text : List ℕ) (refusal : Refusal) → IsRefused setup text refusal → admission (parties_of setup) text ≡ Err (fault_in refusal)
+refused_for setup text (Plain fault) is = is.0
+refused_for setup text (WithContrl fault error head) is = is.0
+
+-- what is admitted isn't refused
+pub admitted_surely : (P : Parties) (delivered text : List ℕ) (place : ℕ × ℕ) (given : Response) → text ≡ interchange_of delivered → admission P text ≡ Ok place →
+    RefusedSurely P (interchange_of delivered) given
+admitted_surely P delivered text place given is admits =
+    let here : admission P (interchange_of delivered) ≡ Ok place = subst (λ other. admission P other ≡ Ok place) is admits in
+    λ other e none. let never : Ok place ≡ Err other = sym here ∙ e in absurd cc
+
+-- the number that the header of its envelope writes
+pub numbered : (P : Parties) (text : List ℕ) (segments : List Content) (partner number : ℕ) → segments ≡ segments_in text → control_number (header_of segments) ≡ Some number →
+    admission P text ≡ Ok (partner, number_in (header_of (segments_in text))) → admission P text ≡ Ok (partner, number)
+numbered P text segments partner number same is admits =
+    admits ∙ ap (λ found. Ok (partner, unwrap_or found 0)) (subst (λ others. control_number (header_of others) ≡ Some number) same is)
+
+-- the code of a partner, counted from 1
+pub code_at : (accounts : List Account) (partner : ℕ) (account : Account) → 1 ≤ partner → slice_get accounts (partner - 1) ≡ Some account →
+    unwrap_or (with_number (partner_codes accounts) partner) [] ≡ string_bytes account.code
+code_at accounts partner account positive e = rw (with_number-below (partner_codes accounts) partner positive, slice_get-map (λ other. string_bytes other.code) accounts (partner - 1), e) refl
+
+-- a refusal is that of the fault for which the text is refused
+pub refused_so : (setup : Setup) (delivered text : List ℕ) (refusal : Refusal) (fault : Fault) (given : Response) → text ≡ interchange_of delivered → IsRefused setup text refusal →
+    admission (parties_of setup) (interchange_of delivered) ≡ Err fault → GivesOrNotNow (refusal_of (parties_of setup) (header_of (segments_in text)) (fault_in refusal)) given →
+    GivesOrNotNow (refusal_of (parties_of setup) (header_of (segments_in (interchange_of delivered))) fault) given
+refused_so setup delivered text refusal fault given is refused e gives =
+    let P = parties_of setup in
+    let both : Err (fault_in refusal) ≡ Err fault = sym (refused_for setup text refusal refused) ∙ ap (admission P) is ∙ e in
+    let same : fault_in refusal ≡ fault = cc in
+    subst (λ f. GivesOrNotNow (refusal_of P (header_of (segments_in (interchange_of delivered))) f) given) same
+    (subst (λ other. GivesOrNotNow (refusal_of P (header_of (segments_in other)) (fault_in refusal)) given) is gives)
+
+-- what is admitted is never refused
+pub never_refused : (P : Parties) (delivered text : List ℕ) (place : ℕ × ℕ) (fault : Fault) → text ≡ interchange_of delivered → admission P text ≡ Ok place → admission P (interchange_of delivered) ≡ Err fault → ⊥
+never_refused P delivered text place fault is admits e = let never : Ok place ≡ Err fault = sym admits ∙ ap (admission P) is ∙ e in absurd cc
+
+-- ==== AlikeLemmas: Set-ups that say the same answer alike.
+
+module _ (content : SetupContent) (table : CodeTable) (same : table_texts table ≡ table_texts content.codes) (es : List Event) where
+  abbrev now : SetupContent
+  now = content_after content es
+
+  abbrev other : SetupContent
+  other = with_codes table content
+
+  abbrev D : List Delivery
+  D = deliveries_of content es
+
+  says_now : SaysSame (with_codes table now) now
+  says_now = record { terminal = refl; codes = same ∙ ap table_texts (sym (codes_after es content)); partners = refl; blocks = refl; limit = refl }
+
+  by_codes : (d : Delivery) → answer_of (taking_in newest content es) (opening_of (with_codes table now)) D d ≡ answer_of (taking_in newest content es) (opening_of now) D d
+  unfolding answer_of
+  by_codes d =
+      let like = opening_like (with_codes table now) now says_now in
+      ap₂ (λ before after. if is_other (first_text D d.partner d.number) d.text then Clash
+      else if nat_le d.number (run D d.partner) then Repeat before
+      else if nat_le d.number (run (D ++ d ∷ []) d.partner) then Taken after
+      else Waiting (run D d.partner + 1))
+      (reply_like newest content es (opening_of (with_codes table now)) (opening_of now) D d.partner d.number like)
+      (reply_like newest content es (opening_of (with_codes table now)) (opening_of now) (D ++ d ∷ []) d.partner d.number like)
+
+  told_same : (partner number : ℕ) (sent : List ℕ) → answer_model_of other es partner number sent ≡ answer_model_of content es partner number sent
+  told_same partner number sent =
+      (λ i. answer_of (taking_with_codes newest content es table i) (opening_of (now_with_codes es content table i)) (delivered_with_codes es content table i) (delivery partner number (interchange_of sent)))
+      ∙ by_codes (delivery partner number (interchange_of sent))
+
+  at_same : (sent : List ℕ) (place : Result (ℕ × ℕ) Fault) → answer_at other es sent place ≡ answer_at content es sent place
+  at_same sent (Err fault) = ap (λ (k : SetupContent). refusal_of (parties_in k) (header_of (segments_in (interchange_of sent))) fault) (now_with_codes es content table)
+  at_same sent (Ok place) =
+      ap₂ (λ (k : SetupContent) (told : AnswerModel). answer_by_model (code_of (parties_in k) place.0) place.1 told) (now_with_codes es content table) (told_same place.0 place.1 sent)
+
+  answers_same : (sent : List ℕ) → answer_to other es sent ≡ answer_to content es sent
+  answers_same sent =
+      at_same sent (admission (parties_in (content_after other es)) (interchange_of sent))
+      ∙ ap (λ (k : SetupContent). answer_at content es sent (admission (parties_in k) (interchange_of sent))) (now_with_codes es content table)
+
+  terminal_same : (machine_after other es).terminal ≡ (machine_after content es).terminal
+  terminal_same =
+      (λ i. (state (taking_with_codes newest content es table i) (opening_of (now_with_codes es content table i)) (delivered_with_codes es content table i)).terminal)
+      ∙ state_like newest content es (opening_of (with_codes table now)) (opening_of now) D (opening_like (with_codes table now) now says_now)
+
+  alike_but_codes : AnswersAlike other content es
+  alike_but_codes = record {
+    answers = answers_same;
+    terminal = terminal_same;
+    rows = λ rows are. after_with_codes newest other es rows content.codes (sym same ∙ ap table_texts (sym (codes_after es other))) are;
+    order = λ rows are. are ∙ ap kept (delivered_with_codes es content table);
+  }
+
+-- set-ups that say the same differ in codes that say the same
+pub answers_alike : (one other : SetupContent) → SaysSame one other → (es : List Event) → AnswersAlike one other es
+answers_alike one other says es =
+    let but_codes : one ≡ with_codes one.codes other = λ i. record { terminal = says.terminal i; codes = one.codes; partners = says.partners i; blocks = says.blocks i; visit_limit = says.limit i } in
+    subst (λ k. AnswersAlike k other es) (sym but_codes) (alike_but_codes other one.codes says.codes es)
+
+-- ==== OwnNumbers: What a store keeps of its partners' interchanges, of which some were put away: by number, and by what its tables show.
 
 -- Beyond what is closed each number up to its partner's run was taken; the next is not there, and those beyond it wait.
 pub record KeepsBeyond (closed : ℕ → ℕ) (count : ℕ) (runs : ℕ → ℕ) (rows : Rows) : Type 0 where

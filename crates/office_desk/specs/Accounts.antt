@@ -13,8 +13,8 @@ use Rattle.office_replies.specs.declared.accounts.AccountAnswer.TheVariants.{Add
 use Rattle.office_rows.specs.Effects.{with_partner}
 use Rattle.office_rows.specs.Rows.{Rows}
 use Rattle.office_rows.specs.Stored.{HasRows, StoresRows}
-use Rattle.office_setup.specs.Kinds.{kind_named}
-use Rattle.office_setup.specs.Setups.{SetupContent, setup_content, setup_with_account}
+use Rattle.office_admission.specs.Kinds.{kind_named}
+use Rattle.office_admission.specs.Setups.{SetupContent, setup_content, setup_with_account}
 use Rattle.office_desk.specs.Crashes.{IsAfter, Leaves}
 use Rattle.office_desk.specs.Leaving.{LeavesRows}
 use Rattle.office_desk.specs.declared.accounts.AccountStanding.{AccountStanding}

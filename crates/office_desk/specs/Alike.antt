@@ -1,10 +1,10 @@
 -- Set-ups that say the same.
 use Rattle.std.specs.Prelude.{◌≡◌, ℕ, List}
 use Rattle.office_replies.specs.Events.{Event}
-use Rattle.office_setup.specs.Setups.{SetupContent}
+use Rattle.office_admission.specs.Setups.{SetupContent}
 use Rattle.office_rows.specs.Rows.{Rows}
 use Rattle.office_history.specs.After.{SaysSame, machine_after, AreAfter}
-use Rattle.office_journal.specs.InOrder.{AreInOrder}
+use Rattle.office_parts.specs.InOrder.{AreInOrder}
 use Rattle.office_desk.specs.Answers.{answer_to}
 
 -- after those events both answer every text alike, and have the same terminal, the same rows and the same order of arrival

@@ -1,7 +1,7 @@
 -- What a delivery is answered.
 use Rattle.std.specs.Prelude.{◌≡◌, ℕ, List, [], Result, Ok, Err, codes}
 use Rattle.std.specs.Option.{unwrap_or}
-use Rattle.edi_segments.specs.Interchange.{interchange_of, segments_in}
+use Rattle.edi_syntax.specs.Interchange.{interchange_of, segments_in}
 use Rattle.edi_syntax.specs.Envelope.{header_of}
 use Rattle.partner_core.specs.Answers.{AnswerModel}
 use Rattle.partner_core.specs.Answers as told
@@ -14,8 +14,8 @@ use Rattle.office_replies.specs.declared.deliver.Fault.{Fault}
 use Rattle.office_replies.specs.declared.deliver.Response.{Response}
 use Rattle.office_replies.specs.declared.deliver.Response.TheVariants as response
 use Rattle.office_replies.specs.declared.deliver.Worst.TheVariants as worst
-use Rattle.office_setup.specs.Parties.{Parties}
-use Rattle.office_setup.specs.Setups.{SetupContent, parties_in}
+use Rattle.office_admission.specs.Parties.{Parties}
+use Rattle.office_admission.specs.Setups.{SetupContent, parties_in}
 use Rattle.office_admission.specs.Admission.{admission}
 use Rattle.office_admission.specs.Accounts.{content_after}
 use Rattle.office_admission.specs.Refusals.{refusal_of, MayBeNotNow}

@@ -4,17 +4,17 @@ use Rattle.std.specs.Prelude.{◌≡◌, ℕ, List, Ok, Option, Result, OnOk}
 use Rattle.sqlite.specs.Held.{state}
 use Rattle.sqlite.specs.State.{HasCleanDisk}
 use Rattle.sqlite_trees.specs.declared.store.Store.{Ghosts}
-use Rattle.edi_segments.specs.Interchange.{interchange_of}
+use Rattle.edi_syntax.specs.Interchange.{interchange_of}
 use Rattle.terminal_core.specs.State.{TerminalState}
 use Rattle.office_replies.specs.Adding.{Adds}
 use Rattle.office_replies.specs.Delivering.{AreAnswered, Delivers, LeadsOn}
 use Rattle.office_replies.specs.Events.{Event}
 use Rattle.office_replies.specs.declared.accounts.AccountAnswer.{AccountAnswer}
 use Rattle.office_replies.specs.declared.deliver.Response.{Response}
-use Rattle.office_queries.specs.Looking.{Look, Tells}
-use Rattle.office_queries.specs.declared.query.NotNow.{NotNow}
-use Rattle.office_setup.specs.Parties.{parties_of}
-use Rattle.office_setup.specs.Setups.{SetupContent, setup_content}
+use Rattle.office_reports.specs.Looking.{Look, Tells}
+use Rattle.office_reports.specs.declared.query.NotNow.{NotNow}
+use Rattle.office_admission.specs.Parties.{parties_of}
+use Rattle.office_admission.specs.Setups.{SetupContent, setup_content}
 use Rattle.office_admission.specs.Accounts.{account_answer}
 use Rattle.office_admission.specs.Admission.{admission}
 use Rattle.office_admission.specs.Refusals.{RefusedSurely}

@@ -3,14 +3,14 @@ use Rattle.std.specs.Prelude.{◌≡◌, ℕ, List, Err, IsTrue}
 use Rattle.sqlite.specs.Held.{state}
 use Rattle.sqlite.specs.State.{HasCleanDisk}
 use Rattle.sqlite_trees.specs.declared.store.Store.{Ghosts}
-use Rattle.edi_segments.specs.Interchange.{interchange_of, segments_in}
+use Rattle.edi_syntax.specs.Interchange.{interchange_of, segments_in}
 use Rattle.edi_syntax.specs.Envelope.{header_of}
 use Rattle.office_replies.specs.Events.{Event}
 use Rattle.office_replies.specs.Contents.{GivesOrNotNow}
 use Rattle.office_replies.specs.declared.deliver.Fault.{Fault}
 use Rattle.office_replies.specs.declared.deliver.Response.{Response}
-use Rattle.office_setup.specs.Parties.{parties_of}
-use Rattle.office_setup.specs.Setups.{SetupContent, setup_content}
+use Rattle.office_admission.specs.Parties.{parties_of}
+use Rattle.office_admission.specs.Setups.{SetupContent, setup_content}
 use Rattle.office_admission.specs.Admission.{admission}
 use Rattle.office_admission.specs.Refusals.{refusal_of}
 use Rattle.office_history.specs.After.{SaysSame, content_after}

@@ -5,13 +5,13 @@ use Rattle.sqlite.specs.Held.{state}
 use Rattle.sqlite.specs.State.{State}
 use Rattle.sqlite_trees.specs.declared.store.Store.{Ghosts}
 use Rattle.office_replies.specs.Events.{Event}
-use Rattle.office_setup.specs.Setups.{SetupContent}
+use Rattle.office_admission.specs.Setups.{SetupContent}
 use Rattle.office_rows.specs.Rows.{Rows}
 use Rattle.office_rows.specs.Stored.{HasRows}
 use Rattle.office_rows.specs.Tables.{interchange_table}
 use Rattle.office_history.specs.After.{AreAfter}
-use Rattle.office_queries.specs.Looking.{Look, of_archive, report, texts_after}
-use Rattle.office_texts.specs.Pages.{TellsLines, most_page_bytes}
+use Rattle.office_reports.specs.Looking.{Look, of_archive, report, texts_after}
+use Rattle.office_loading.specs.Pages.{TellsLines, most_page_bytes}
 use Rattle.office_desk.specs.Causes.{AsksUnfitReply}
 use Rattle.office_desk.specs.Reports.{DeskTells, IsOpenFor, TellsAfter}
 use Rattle.office_desk.specs.declared.desk.Desk.{Desk}

@@ -15,13 +15,13 @@ use Rattle.office_replies.specs.declared.deliver.Response.{Response}
 use Rattle.office_replies.specs.declared.deliver.Response.TheVariants as response
 use Rattle.office_rows.specs.Rows.{Rows}
 use Rattle.office_rows.specs.Tables.{office_schema}
-use Rattle.office_setup.specs.Setups.{SetupContent}
-use Rattle.office_setup.specs.declared.setup.Setup.{Setup}
-use Rattle.office_taking.specs.Taking.{MachineState, machine_of}
+use Rattle.office_admission.specs.Setups.{SetupContent}
+use Rattle.office_admission.specs.declared.setup.Setup.{Setup}
+use Rattle.office_admission.specs.Taking.{MachineState, machine_of}
 use Rattle.office_tables.specs.Order.{HasRowsInOrder}
 use Rattle.office_tables.specs.declared.table_fault.TableFault.{TableFault}
 use Rattle.office_history.specs.Cascade.{TakenContent, AreTakenFrom, texts_with, with_run}
-use Rattle.office_journal.specs.InOrder.{AreAfterInOrder}
+use Rattle.office_parts.specs.InOrder.{AreAfterInOrder}
 use Rattle.office_desk.specs.Desks.{IsSound, StandsFor}
 use Rattle.office_desk.specs.Taking.{HasNumbered}
 use Rattle.office_desk.specs.Telling.{Comes, Holds}

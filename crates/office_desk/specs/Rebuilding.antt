@@ -12,12 +12,12 @@ use Rattle.office_replies.specs.declared.deliver.Response.{Response}
 use Rattle.office_rows.specs.Opening.{opening_rows}
 use Rattle.office_rows.specs.Stored.{HasRows}
 use Rattle.office_rows.specs.Tables.{interchange_table}
-use Rattle.office_setup.specs.Setups.{SetupContent}
+use Rattle.office_admission.specs.Setups.{SetupContent}
 use Rattle.office_history.specs.After.{content_after}
 use Rattle.office_history.specs.Laws.{HasNoMigration}
-use Rattle.office_journal_rows.specs.Places.{ArePlaced}
-use Rattle.office_journal.specs.Journal.{kept_texts}
-use Rattle.office_texts.specs.Pages.{IsPage, lines_of, most_page_bytes}
+use Rattle.office_rows.specs.Places.{ArePlaced}
+use Rattle.office_parts.specs.Journal.{kept_texts}
+use Rattle.office_loading.specs.Pages.{IsPage, lines_of, most_page_bytes}
 use Rattle.office_desk.specs.Answers.{AnswersNext}
 use Rattle.office_desk.specs.Calls.{Leads, OnlyLooks}
 use Rattle.office_desk.specs.Desks.{IsSound, OpensAt}

@@ -12,23 +12,23 @@ use Rattle.office_replies.specs.Events.{Event}
 use Rattle.office_replies.specs.Bodies.{answer_text, waiting_text}
 use Rattle.office_rows.specs.Opening.{tables_version}
 use Rattle.office_rows.specs.Rows.{Rows}
-use Rattle.office_setup.specs.Parties.{partner_from}
-use Rattle.office_setup.specs.Setups.{SetupContent, setup_content}
+use Rattle.office_admission.specs.Parties.{partner_from}
+use Rattle.office_admission.specs.Setups.{SetupContent, setup_content}
 use Rattle.office_tables.specs.Answers.{IsNextOf}
 use Rattle.office_loading.specs.Waiting.{waiting_numbers}
 use Rattle.office_history.specs.After.{AreAfter, content_after, machine_after, parties_in, reply_in}
 use Rattle.office_history.specs.Cascade.{text_in}
-use Rattle.office_queries.specs.Program.{program_version}
-use Rattle.office_queries.specs.declared.query.Query.{Query}
-use Rattle.office_queries.specs.declared.query.Query.TheVariants as query
-use Rattle.office_lookups.specs.Blocks.{IsBlocksReport}
-use Rattle.office_lookups.specs.Calls.{calls_text}
-use Rattle.office_lookups.specs.Containers.{container_report}
-use Rattle.office_lookups.specs.Contrls.{contrl_in}
-use Rattle.office_lookups.specs.Metrics.{metrics_text, ready_text}
-use Rattle.office_lookups.specs.Partners.{PartnerContent, partner_line, partners_text}
-use Rattle.office_lookups.specs.Work.{IsWorkReport}
-use Rattle.office_picture.specs.Picture.{IsPicture}
+use Rattle.office_reports.specs.Program.{program_version}
+use Rattle.office_reports.specs.declared.query.Query.{Query}
+use Rattle.office_reports.specs.declared.query.Query.TheVariants as query
+use Rattle.office_reports.specs.Blocks.{IsBlocksReport}
+use Rattle.office_reports.specs.Calls.{calls_text}
+use Rattle.office_reports.specs.Containers.{container_report}
+use Rattle.office_reports.specs.Contrls.{contrl_in}
+use Rattle.office_reports.specs.Metrics.{metrics_text, ready_text}
+use Rattle.office_reports.specs.Partners.{PartnerContent, partner_line, partners_text}
+use Rattle.office_reports.specs.Work.{IsWorkReport}
+use Rattle.office_reports.specs.Picture.{IsPicture}
 use Rattle.office_reports.specs.Export.{IsYardExport}
 use Rattle.office_reports.specs.Lists.{IsListReport}
 use Rattle.office_reports.specs.Tickets.{ticket_text}

@@ -7,17 +7,17 @@ use Rattle.edi_syntax.specs.Numbers.{last_number}
 use Rattle.partner_core.specs.Deliveries.{Delivery}
 use Rattle.office_replies.specs.Events.{Event, delivered}
 use Rattle.office_replies.specs.declared.deliver.Response.{Response}
-use Rattle.office_checks.specs.Closed.{ClosedContent}
+use Rattle.office_loading.specs.Closed.{ClosedContent}
 use Rattle.office_rows.specs.Rows.{Rows}
 use Rattle.office_rows.specs.Stored.{HasRows}
-use Rattle.office_setup.specs.Setups.{SetupContent}
-use Rattle.office_setup.specs.declared.setup.Setup.{Setup}
+use Rattle.office_admission.specs.Setups.{SetupContent}
+use Rattle.office_admission.specs.declared.setup.Setup.{Setup}
 use Rattle.office_admission.specs.Outcomes.{IsAdmitted}
 use Rattle.office_tables.specs.Faults.{IsOfStoreOr}
 use Rattle.office_tables.specs.declared.table_fault.TableFault.{TableFault}
-use Rattle.office_taking.specs.Taking.{machine_of}
-use Rattle.office_delivery.specs.Reading.{HasUnfitBehind}
-use Rattle.office_delivery.specs.Taking.{IsNumbered}
+use Rattle.office_admission.specs.Taking.{machine_of}
+use Rattle.office_tables.specs.DeliveryReading.{HasUnfitBehind}
+use Rattle.office_tables.specs.Taking.{IsNumbered}
 use Rattle.office_desk.specs.Crashes.{Leaves, LeavesEither}
 use Rattle.office_desk.specs.Finding.{KeepsBeside}
 use Rattle.office_desk.specs.Kept.{AnswersOrStays, Office}

@@ -3,7 +3,7 @@ use Rattle.std.specs.Prelude.{◌≡◌, ℕ, ◌+◌, ◌-◌, List, [], ◌∷
 use Rattle.sqlite.specs.Effect.{Database}
 use Rattle.sqlite.specs.State.{State}
 use Rattle.sqlite.specs.Tree.{Trees}
-use Rattle.edi_segments.specs.Interchange.{interchange_of}
+use Rattle.edi_syntax.specs.Interchange.{interchange_of}
 use Rattle.partner_core.specs.Answers.{Taken}
 use Rattle.partner_core.specs.Deliveries.{Delivery, delivery}
 use Rattle.office_replies.specs.Events.{Event, delivered}
@@ -11,10 +11,10 @@ use Rattle.office_replies.specs.Contents.{content_of}
 use Rattle.office_replies.specs.declared.deliver.Response.{Response}
 use Rattle.office_rows.specs.Rows.{Rows}
 use Rattle.office_rows.specs.Stored.{HasRows, StoresRows}
-use Rattle.office_setup.specs.Given.{IsGiven}
-use Rattle.office_setup.specs.Setups.{SetupContent}
-use Rattle.office_setup.specs.declared.setup.Setup.{Setup}
-use Rattle.office_taking.specs.Taking.{MachineState, machine_of}
+use Rattle.office_admission.specs.Given.{IsGiven}
+use Rattle.office_admission.specs.Setups.{SetupContent}
+use Rattle.office_admission.specs.declared.setup.Setup.{Setup}
+use Rattle.office_admission.specs.Taking.{MachineState, machine_of}
 use Rattle.office_history.specs.After.{AreAfter, content_after}
 use Rattle.office_history.specs.Cascade.{TakenContent, AreTakenFrom, texts_with, with_run}
 use Rattle.office_history.specs.Laws.{IsFor, answer_model_of}

@@ -1,17 +1,17 @@
 ghost use Rattle.std.specs.Prelude.{◌≡◌, ◌<◌, false, length, string_bytes, IfOk, OnOk, OnErr, IsTrue, ◌≤◌, ◌++◌, [], ◌∷◌, Some, IfErr, map, option_map};
-ghost use Rattle.office_delivery.specs.Reading.{OnlyReads};
-ghost use Rattle.office_delivery.specs.Writing.{IsWholeInOrder, WritesWhole};
+ghost use Rattle.office_tables.specs.DeliveryReading.{OnlyReads};
+ghost use Rattle.office_tables.specs.Writing.{IsWholeInOrder, WritesWhole};
 ghost use Rattle.office_desk.specs.Accounts.{IsLengthened, IsSameOrNone};
 ghost use Rattle.office_desk.specs.Causes.{LacksNumbers, LacksSome};
 ghost use Rattle.office_desk.specs.Reports.{AreLookedUp, IsLookedUp, TellsPartners, TellsNext, TellsPartner, partner_called};
-ghost use Rattle.office_lookups.specs.Partners.{partner_content};
+ghost use Rattle.office_reports.specs.Partners.{partner_content};
 ghost use Rattle.office_replies.specs.AccountAnswers.{account_added_text};
 ghost use Rattle.office_rows.specs.Effects.{with_partner};
 ghost use Rattle.office_rows.specs.Rows.{Rows};
 ghost use Rattle.office_rows.specs.Stored.{HasRows};
-ghost use Rattle.office_setup.specs.Limits.{most_partners};
-ghost use Rattle.office_setup.specs.PartyCodes.{is_party_code};
-ghost use Rattle.office_setup.specs.Setups.{setup_content, setup_with_account, account_contents};
+ghost use Rattle.office_admission.specs.Limits.{most_partners};
+ghost use Rattle.office_admission.specs.PartyCodes.{is_party_code};
+ghost use Rattle.office_admission.specs.Setups.{setup_content, setup_with_account, account_contents};
 ghost use Rattle.office_tables.specs.Faults.{IsOfStoreOr};
 ghost use Rattle.office_tables.specs.Reading.{Reads};
 ghost use Rattle.sqlite.specs.Held.{state};
@@ -19,16 +19,15 @@ ghost use Rattle.sqlite.specs.State.{HasCleanDisk, Survives};
 
 use crate::beside::Beside;
 use edi_messages::PartnerKind;
-use office_delivery::write_account;
+use office_admission::{Account, Setup};
 use office_loading::waiting_numbers;
-use office_lookups::{Partner, partner_report, partners_report};
 use office_replies::{AccountFault, account_added};
-use office_setup::{Account, Setup};
-use office_tables::{TableFault, next_of};
+use office_reports::{Partner, partner_report, partners_report};
+use office_tables::{TableFault, next_of, write_account};
 use sqlite::{Alter, Connection};
 use std::alloc::{AllocError, Global};
 
-/// How an account that is to be added stands to those that there are.
+/// Whether an account that is to be added is new, known or refused, by those that there are.
 #[derive(Drop)]
 pub enum AccountStanding {
     /// Its code is new, and there is room: it gets this id.
@@ -73,7 +72,7 @@ pub(crate) fn add_new<S: Alter>(
     Ok(body)
 }
 
-/// What stands beside the tables, with the number of a partner more, which has sent nothing; none if there is none.
+/// What is kept in memory, with the number of a partner more, which has sent nothing; none if there is none.
 fn with_new_account(beside: Option<Beside>) -> Result<Option<Beside>, AllocError>
     ensures { IfOk result (IsLengthened beside) }
 {

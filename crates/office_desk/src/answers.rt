@@ -1,19 +1,19 @@
 ghost use Rattle.std.specs.Option.{option_map, option_and_then};
 ghost use Rattle.std.specs.Prelude.{◌≡◌, None, Some, IfOk, string_bytes, ◌≤◌, ◌⊎◌, IfErr, is_some, length, OnOk};
-ghost use Rattle.office_delivery.specs.Reading.{OnlyReads};
+ghost use Rattle.office_tables.specs.DeliveryReading.{OnlyReads};
 ghost use Rattle.office_desk.specs.Answers.{answer_by_model};
 ghost use Rattle.office_desk.specs.Causes.{AsksUnreadable};
 ghost use Rattle.office_desk.specs.Noting.{Notes, NotesMemory};
 ghost use Rattle.office_desk.specs.Reports.{TellsOf, TellsReply, reply_text, ticket_if_taken, IsOpenFor};
 ghost use Rattle.office_history.specs.After.{AreKeptOnce, reply_in};
 ghost use Rattle.office_history.specs.Cascade.{text_in};
-ghost use Rattle.office_lookups.specs.Contrls.{contrl_in};
-ghost use Rattle.office_picture.specs.Picture.{IsPicture};
+ghost use Rattle.office_reports.specs.Contrls.{contrl_in};
+ghost use Rattle.office_reports.specs.Picture.{IsPicture};
 ghost use Rattle.office_replies.specs.Contents.{content_of};
 ghost use Rattle.office_rows.specs.Rows.{Rows};
 ghost use Rattle.office_rows.specs.Stored.{HasRows};
-ghost use Rattle.office_setup.specs.Limits.{most_partners};
-ghost use Rattle.office_setup.specs.Setups.{setup_content};
+ghost use Rattle.office_admission.specs.Limits.{most_partners};
+ghost use Rattle.office_admission.specs.Setups.{setup_content};
 ghost use Rattle.office_tables.specs.Answers.{HasUnfitReply, LacksNext};
 ghost use Rattle.office_tables.specs.Faults.{IsOfStoreOr};
 ghost use Rattle.office_tables.specs.Reading.{Reads};
@@ -26,12 +26,12 @@ ghost use Rattle.sqlite.specs.State.{HasCleanDisk};
 use crate::accounts::{tell_next, tell_partner, tell_partners};
 use crate::beside::{tell_health, tell_metrics};
 use crate::taking::Delivery;
-use office_lookups::{blocks_report, calls_report, container_report, contrl_in, work_report};
-use office_picture::picture;
-use office_queries::{NotNow, Query};
+use office_admission::Setup;
 use office_replies::{Response, clash_body, taken_body, waiting_body};
-use office_reports::{list_report, ticket, visit_report, yard_csv, yard_report};
-use office_setup::Setup;
+use office_reports::{
+    NotNow, Query, blocks_report, calls_report, container_report, contrl_in, list_report, picture,
+    ticket, visit_report, work_report, yard_csv, yard_report,
+};
 use office_tables::{Kept, TableFault, kept, next_of};
 use partner_core::{Standing, judge};
 use sqlite::{Alter, Connection};
@@ -104,7 +104,7 @@ pub(crate) fn answer_waiting(
     Ok(Response::Waiting(body))
 }
 
-/// What a call answered, for who is not told of its fault: that is kept.
+/// What a call answered, without its fault: that is kept.
 pub(crate) fn noted<T>(
     last_fault: &mut Option<TableFault>,
     met: Result<T, TableFault>,
@@ -129,8 +129,8 @@ pub(crate) fn note_memory(last_fault: &mut Option<TableFault>, answer: &Response
     }
 }
 
-/// What the rows tell at a query, and the terminal that stands beside them. It changes nothing.
-#[tactic(auto, using(office_delivery::proofs::ReadLemmas::nothing_read, office_delivery::proofs::ReadLemmas::one_read))]
+/// What the rows report for a query, and the terminal that is kept in memory. It changes nothing.
+#[tactic(auto, using(office_tables::proofs::WriteLemmas::nothing_read, office_tables::proofs::WriteLemmas::one_read))]
 pub fn tell<S: Alter>(
     alloc: Global,
     conn: &mut Connection<S>,

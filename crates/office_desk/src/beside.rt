@@ -1,19 +1,19 @@
 ghost use Rattle.std.specs.Prelude.{◌≡◌, ◌≤◌, ◌-◌, length, slice_set, Some, IfOk, IfErr, option_map, string_bytes};
-ghost use Rattle.office_checks.specs.Closed.{closed_content};
-ghost use Rattle.office_delivery.specs.Reading.{OnlyReads};
+ghost use Rattle.office_loading.specs.Closed.{closed_content};
+ghost use Rattle.office_tables.specs.DeliveryReading.{OnlyReads};
 ghost use Rattle.office_desk.specs.Causes.{LacksSome};
 ghost use Rattle.office_desk.specs.Finding.{StaysBeside};
 ghost use Rattle.office_desk.specs.Offices.{FailsToOpen, HoldsOffice};
 ghost use Rattle.office_desk.specs.Reports.{TellsMetrics};
 ghost use Rattle.office_loading.specs.Tables.{LoadsOwn};
-ghost use Rattle.office_lookups.specs.Metrics.{ready_text};
+ghost use Rattle.office_reports.specs.Metrics.{ready_text};
 ghost use Rattle.office_rows.specs.Rows.{Rows};
 ghost use Rattle.office_rows.specs.Shown.{AreNexts};
 ghost use Rattle.office_rows.specs.Stored.{HasRows};
 ghost use Rattle.office_rows.specs.Tables.{office_schema};
-ghost use Rattle.office_setup.specs.Given.{IsGiven};
-ghost use Rattle.office_setup.specs.Limits.{most_partners};
-ghost use Rattle.office_setup.specs.Setups.{SetupContent, setup_content};
+ghost use Rattle.office_admission.specs.Given.{IsGiven};
+ghost use Rattle.office_admission.specs.Limits.{most_partners};
+ghost use Rattle.office_admission.specs.Setups.{SetupContent, setup_content};
 ghost use Rattle.office_tables.specs.Answers.{LacksNext};
 ghost use Rattle.office_tables.specs.Faults.{IsOfStore, IsOfStoreOr};
 ghost use Rattle.office_tables.specs.Reading.{Reads};
@@ -23,17 +23,15 @@ ghost use Rattle.sqlite.specs.State.{HasCleanDisk};
 ghost use Rattle.terminal_core.specs.State.{TerminalState};
 
 use crate::accounts::look_all_up;
-use office_checks::Closed;
-use office_loading::{load_own, nexts};
-use office_lookups::{Versions, metrics_report, ready};
-use office_queries::program_version;
-use office_setup::Setup;
+use office_admission::Setup;
+use office_loading::{Closed, load_own, nexts};
+use office_reports::{Versions, metrics_report, program_version, ready};
 use office_tables::{TableFault, next_of};
 use sqlite::{Alter, Connection};
 use std::alloc::Global;
 use terminal_core::Terminal;
 
-/// What stands in memory beside the tables, so that a delivery reads no more of them than the interchanges that it
+/// What is kept in memory beside the tables, so that a delivery reads no more of them than the interchanges that it
 /// needs.
 #[derive(Drop)]
 pub struct Beside {
@@ -63,8 +61,8 @@ impl Beside {
     }
 }
 
-/// The set-up that the tables of a store hold, of which that is closed, and what stands beside them: all that opening a
-/// desk does with its connection. It changes nothing.
+/// The set-up that the tables of a store hold, of which that is closed, and what is kept in memory beside them: all
+/// that opening a desk does with its connection. It changes nothing.
 ///
 /// Version if no setting names this version; Damaged if the rows are those of no office; Store and Memory say
 /// nothing of the rows.
@@ -88,7 +86,7 @@ pub fn load_beside<S: Alter>(
     Ok((setup, Beside { terminal, nexts }))
 }
 
-/// What stands beside the rows: what is there, or else loaded from them.
+/// What is kept in memory: what is there, or else loaded from the rows.
 pub(crate) fn beside_of<S: Alter>(
     alloc: Global,
     conn: &mut Connection<S>,

@@ -1,31 +1,28 @@
 ghost use Rattle.std.specs.Prelude.{◌≡◌, ◌≤◌, List, None, Some, false, IfErr, IfOk, length, nat_le, option_map, OnOk, string_bytes};
-ghost use Rattle.office_checks.specs.Closed.{last_closed};
+ghost use Rattle.office_loading.specs.Closed.{last_closed};
 ghost use Rattle.office_desk.specs.Answers.{code_of};
 ghost use Rattle.office_replies.specs.Events.{Event};
-ghost use Rattle.office_setup.specs.Given.{IsGiven};
-ghost use Rattle.office_setup.specs.Parties.{parties_of};
-ghost use Rattle.office_setup.specs.Setups.{SetupContent, setup_content};
+ghost use Rattle.office_admission.specs.Given.{IsGiven};
+ghost use Rattle.office_admission.specs.Parties.{parties_of};
+ghost use Rattle.office_admission.specs.Setups.{SetupContent, setup_content};
 
 use crate::accounts::{AccountStanding, add_new};
 use crate::answers::{note_memory, noted, tell};
 use crate::beside::{Beside, beside_of, load_beside};
 use crate::taking::{Delivery, account_from, judge_account, take_in};
 use crate::texts::lines_from;
-use edi_segments::interchange_text;
-use office_admission::{Admitted, Refusal, admit};
-use office_checks::Closed;
-use office_queries::{NotNow, Query, Report};
+use edi_syntax::interchange_text;
+use office_admission::{Admitted, Refusal, Setup, Tally, admit};
+use office_loading::Closed;
 use office_replies::{AccountAnswer, AccountFault, AddAccount, Deliver, Response, account_known};
-use office_returns::write_lines;
-use office_setup::Setup;
-use office_tables::TableFault;
-use office_taking::Tally;
+use office_reports::{NotNow, Query, Report};
+use office_tables::{TableFault, write_lines};
 use sqlite::{Alter, Connection};
 use std::alloc::Global;
 use terminal_core::Listing;
 
 /// The terminal's desk over a store: its records are the rows of the tables, and the terminal and the partners' next
-/// numbers stand beside them in memory.
+/// numbers are kept in memory.
 #[derive(Drop)]
 pub struct Desk<S: Alter> {
     conn: Connection<S>,
@@ -43,7 +40,7 @@ pub struct Desk<S: Alter> {
 }
 
 impl<S: Alter> Desk<S> {
-    /// A desk over tables that were opened, with what is closed of them and what stands beside them.
+    /// A desk over tables that were opened, with what is closed of them and what is kept in memory.
     pub fn new(conn: Connection<S>, setup: Setup, closed: Closed, beside: Beside) -> Desk<S>
         requires idle { conn.in_transaction ≡ false }
         requires given { IsGiven (setup_content setup) }
@@ -97,7 +94,7 @@ impl<S: Alter> Desk<S> {
         accounts[place].code.as_str()
     }
 
-    /// Keeps the fault for which what stands beside it answered NotNow.
+    /// Keeps the fault for which the archives beside it answered NotNow.
     pub fn note(&mut self, fault: TableFault)
         ensures conn { self.new.conn ≡ self.old.conn }
         ensures setup { self.new.setup ≡ self.old.setup }
@@ -140,20 +137,20 @@ impl<S: Alter> Desk<S> {
 
 impl<S: Alter + Drop> Desk<S> {
     ghost use Rattle.std.specs.Prelude.{ℕ, IsTrue, map, string_bytes};
-    ghost use Rattle.edi_segments.specs.Interchange.{interchange_of};
+    ghost use Rattle.edi_syntax.specs.Interchange.{interchange_of};
     ghost use Rattle.office_admission.specs.Outcomes.{IsAdmitted, IsRefused};
-    ghost use Rattle.office_delivery.specs.Writing.{IsWholeInOrder, WritesWhole};
+    ghost use Rattle.office_tables.specs.Writing.{IsWholeInOrder, WritesWhole};
     ghost use Rattle.std.specs.Option.{option_map};
     ghost use Rattle.std.specs.Result.{result_map_both};
     ghost use Rattle.sqlite.specs.Held.{state};
     ghost use Rattle.sqlite.specs.State.{HasCleanDisk, Survives};
-    ghost use Rattle.office_checks.specs.Closed.{closed_content};
+    ghost use Rattle.office_loading.specs.Closed.{closed_content};
     ghost use Rattle.office_rows.specs.Opening.{with_lines};
     ghost use Rattle.office_rows.specs.Rows.{Rows, listing_content};
     ghost use Rattle.office_rows.specs.Stored.{HasRows};
     ghost use Rattle.office_rows.specs.Tables.{office_schema};
     ghost use Rattle.office_history.specs.After.{AreAfter};
-    ghost use Rattle.office_queries.specs.Looking.{report, texts_after};
+    ghost use Rattle.office_reports.specs.Looking.{report, texts_after};
     ghost use Rattle.office_tables.specs.Faults.{IsOfStore, IsOfStoreOr};
     ghost use Rattle.terminal_core.specs.State.{TerminalState};
     ghost use Rattle.office_desk.specs.Calls.{Enrols, Leads, Looks, OnlyLooks};
@@ -189,7 +186,7 @@ impl<S: Alter + Drop> Desk<S> {
         Ok(Desk::new(conn, setup, closed, beside))
     }
 
-    /// What the rows tell at a query, if there is something. No row changes.
+    /// What the rows report for a query, if there is something. No row changes.
     pub fn find_report(
         &mut self,
         alloc: Global,
@@ -215,7 +212,7 @@ impl<S: Alter + Drop> Desk<S> {
         found
     }
 
-    /// What the rows tell at a query, if there is something; NotNow, if it met a fault, which it keeps.
+    /// What the rows report for a query, if there is something; NotNow, if it met a fault, which it keeps.
     fn answer_query(&mut self, alloc: Global, query: &Query) -> Result<Option<String>, NotNow>
         ensures looks { Looks S.Store self.old (report query.now)
             (result_map_both (option_map string_bytes) (λ refusal. refusal) result) self.new }
@@ -310,7 +307,7 @@ impl<S: Alter + Drop> Desk<S> {
     }
 
     /// Writes lines of lists back that were put away, each in its state, all or none of them; there is a line at least.
-    /// What stands beside the rows is given up, so the next call loads it anew.
+    /// What is kept in memory is given up, so the next call loads it anew.
     ///
     /// Store and Memory say nothing of the rows.
     pub fn bring_back(&mut self, lines: &[Listing]) -> Result<(), TableFault>

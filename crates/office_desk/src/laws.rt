@@ -7,14 +7,14 @@ ghost use Rattle.office_desk.specs.Rebuilding.{DesksKeepJournals, DesksHandOutJo
 
 use sqlite::Alter;
 
-/// Set-ups that say the same answer every text alike, after whatever events, and their terminals and rows are the
+/// Set-ups that say the same answer every text alike, after any events, and their terminals and rows are the
 /// same. So a desk that was opened on the rows of a set-up answers as one of that set-up.
 pub fn same_set_ups_answer_alike()
     ensures { SameSetupsAnswerAlike }
 {}
 
-/// Each of any number of deliveries to a desk that is sound in the end is answered at its place, from whatever events the
-/// desk stood at, and after them it stands at those that were answered.
+/// Each of any number of deliveries to a desk that is sound in the end is answered at its place, from any events the
+/// desk was at, and after them it is at those that were answered.
 pub fn deliveries_are_answered<S: Alter>()
     ensures { DeliveriesAreAnswered S.Store }
 {}
@@ -25,27 +25,27 @@ pub fn deliveries_outlast_crashes<S: Alter>()
     ensures { DeliveriesOutlastCrashes S.Store }
 {}
 
-/// The rows of a new store stand in the order of arrival: there is no interchange.
+/// The rows of a new store are in the order of arrival: there is no interchange.
 pub fn new_stores_are_in_order()
     ensures { NewStoresAreInOrder }
 {}
 
-/// A desk that is opened on rows in the order of arrival stands in it.
+/// A desk that is opened on rows in the order of arrival is in it.
 pub fn opened_stand_in_order<S: Alter>()
     ensures { OpenedStandInOrder S.Store }
 {}
 
-/// A desk that stands in the order of arrival does so after a look.
+/// A desk in the order of arrival is so after a look.
 pub fn looks_stay_in_order<S: Alter>()
     ensures { LooksStayInOrder S.Store }
 {}
 
-/// After any number of deliveries a desk stands in the order of arrival, if it did before.
+/// After any number of deliveries a desk is in the order of arrival, if it was before.
 pub fn deliveries_stay_in_order<S: Alter>()
     ensures { DeliveriesStayInOrder S.Store }
 {}
 
-/// A desk that stands in the order of arrival has the journal in its table, in the order of the rowids.
+/// A desk in the order of arrival has the journal in its table, in the order of the rowids.
 pub fn desks_keep_journals<S: Alter>()
     ensures { DesksKeepJournals S.Store }
 {}

@@ -1,8 +1,8 @@
 ghost use Rattle.std.specs.Prelude.{◌≡◌, None, Some, false, IfOk, IsTrue, OnOk, ◌≤◌, IfErr, ◌+◌, List, MatchOption, length, map, nat_lt, if◌then◌else◌};
 ghost use Rattle.office_admission.specs.Accounts.{AccountPair, account_answer, added_as, by_number, by_own_kind, refused_for};
-ghost use Rattle.office_checks.specs.Closed.{ClosedContent, closed_content};
-ghost use Rattle.office_delivery.specs.Reading.{OnlyReads};
-ghost use Rattle.office_delivery.specs.Writing.{EndsIdle, IsWholeInOrder, WritesWhole};
+ghost use Rattle.office_loading.specs.Closed.{ClosedContent, closed_content};
+ghost use Rattle.office_tables.specs.DeliveryReading.{OnlyReads};
+ghost use Rattle.office_tables.specs.Writing.{EndsIdle, IsWholeInOrder, WritesWhole};
 ghost use Rattle.office_desk.specs.Accounts.{standing_content};
 ghost use Rattle.office_desk.specs.Answers.{answer_by_model};
 ghost use Rattle.office_desk.specs.Finding.{IsFound, IsNotFound, IsOpenIfKept};
@@ -12,12 +12,12 @@ ghost use Rattle.office_desk.specs.Taking.{IsDelivered, IsNew, TakesDelivery, Ta
 ghost use Rattle.office_desk.specs.Telling.{delivery_of};
 ghost use Rattle.office_replies.specs.Contents.{content_of};
 ghost use Rattle.office_rows.specs.Effects.{with_waiting};
-ghost use Rattle.office_setup.specs.Given.{IsGiven};
-ghost use Rattle.office_setup.specs.Kinds.{kind_named};
-ghost use Rattle.office_setup.specs.Limits.{most_partners};
-ghost use Rattle.office_setup.specs.Parties.{partner_from};
-ghost use Rattle.office_setup.specs.PartyCodes.{is_party_code};
-ghost use Rattle.office_setup.specs.Setups.{setup_content};
+ghost use Rattle.office_admission.specs.Given.{IsGiven};
+ghost use Rattle.office_admission.specs.Kinds.{kind_named};
+ghost use Rattle.office_admission.specs.Limits.{most_partners};
+ghost use Rattle.office_admission.specs.Parties.{partner_from};
+ghost use Rattle.office_admission.specs.PartyCodes.{is_party_code};
+ghost use Rattle.office_admission.specs.Setups.{setup_content};
 ghost use Rattle.partner_core.specs.Answers.{Waiting};
 ghost use Rattle.partner_core.specs.Numbered.{with_number};
 ghost use Rattle.sqlite.specs.Held.{state};
@@ -28,13 +28,10 @@ use crate::accounts::AccountStanding;
 use crate::answers::{answer_used, answer_waiting};
 use crate::beside::{Beside, beside_of};
 use edi_messages::PartnerKind;
-use office_admission::Admitted;
-use office_checks::Closed;
-use office_delivery::{take_run, write_early, write_run};
+use office_admission::{Admitted, MOST_PARTNERS, Setup, Tally, kind_named, party_code};
+use office_loading::Closed;
 use office_replies::{AccountFault, Response, taken_body};
-use office_setup::{MOST_PARTNERS, Setup, kind_named, party_code};
-use office_tables::{Kept, TableFault, kept};
-use office_taking::Tally;
+use office_tables::{Kept, TableFault, kept, take_run, write_early, write_run};
 use sqlite::{Alter, Connection};
 use std::alloc::Global;
 
@@ -51,8 +48,8 @@ pub(crate) struct Delivery<'a> {
     pub(crate) text: &'a [u8],
 }
 
-/// Answers a partner's text by what is kept, and keeps and takes it if it is new. If it is taken, `last_taken` tells what
-/// became of it and of those that had waited for it.
+/// Answers a partner's text by what is kept, and keeps and takes it if it is new. If it is taken, `last_taken` says
+/// what became of it and of those that had waited for it.
 pub(crate) fn take_in<S: Alter>(
     alloc: Global,
     conn: &mut Connection<S>,
@@ -134,14 +131,15 @@ pub struct Found {
     pub kept: Option<Kept>,
     /// The number of its partner's next interchange.
     pub next: u32,
-    /// What stands beside the tables.
+    /// What is kept in memory beside the tables.
     pub there: Beside,
 }
 
-/// Looks up a partner's number, and takes out what stands beside the tables: loaded, if there is none. It changes no
-/// row.
+/// Finds what a delivery is answered by: what the tables keep under its number, its partner's next number, and the
+/// terminal and next numbers in memory (`Beside`), which it takes out of `beside`, or loads if there are none. It
+/// changes no row.
 ///
-/// The number that is next is not looked up: an office keeps nothing under it. If another program wrote a text there
+/// A number that is next is not looked up: an office keeps nothing under it. If another program wrote a text there
 /// since the opening, the table's key refuses the delivered one: the answer is NotNow, and nothing changes.
 pub(crate) fn look<S: Alter>(
     alloc: Global,
@@ -194,7 +192,7 @@ pub(crate) fn account_from<'a>(code: &'a [u8], kind: &[u8]) -> Option<(&'a str, 
     Some((code, kind))
 }
 
-/// How an account stands to those of a set-up, by a code and a kind of a partner's form.
+/// Whether an account is new, known or refused, by those of a set-up, a code and a kind of a partner's form.
 pub(crate) fn judge_account(setup: &Setup, code: &str, kind: PartnerKind) -> AccountStanding
     requires { length setup.now.partners.items ≤ most_partners }
     ensures { standing_content result ≡ by_number (setup_content setup.now).partners kind
@@ -254,8 +252,8 @@ pub(crate) fn keep_early<S: Alter>(
     Ok(answer)
 }
 
-/// Takes a partner's next interchange and those that become next by it, and answers what they leave to stand beside the
-/// tables. Once they are written, `last_taken` tells what became of them.
+/// Takes a partner's next interchange and those that become next by it, and answers what they leave in memory beside
+/// the tables. Once they are written, `last_taken` says what became of them.
 pub(crate) fn take_next<S: Alter>(
     alloc: Global,
     conn: &mut Connection<S>,

@@ -7,8 +7,8 @@ ghost use Rattle.sqlite.specs.Held.{state};
 ghost use Rattle.sqlite.specs.State.{HasCleanDisk};
 ghost use Rattle.std.specs.Prelude.{IfErr, IfOk, option_map};
 
+use office_loading::{MOST_PAGE_BYTES, TextsPage, texts_from};
 use office_tables::TableFault;
-use office_texts::{MOST_PAGE_BYTES, TextsPage, texts_from};
 use sqlite::{Alter, Connection};
 use std::alloc::Global;
 

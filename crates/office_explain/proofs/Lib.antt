@@ -1,1 +1,4 @@
-mod SendingLemmas
+pub mod SendingLemmas
+pub mod SenderLemmas
+pub mod Givens
+pub mod Wrong

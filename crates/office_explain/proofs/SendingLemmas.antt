@@ -1,11 +1,10 @@
--- A message names no order of a sender's codes exactly if the fault that it is rejected for is of its type, its BGM or its
--- code.
-use Rattle.std.proofs.Common.{◌≡◌, Bool, true, false, cond, not, [], ◌∷◌, Option, None, Some, Result, Ok, Err, refl, sym, ap, subst, ◌∙◌}
+-- A message names no order of a sender's codes exactly if the fault that it is rejected for is of its type, its BGM or its code.
+use Rattle.std.proofs.Common.{◌≡◌, Bool, true, false, cond, not, [], ◌∷◌, Option, None, Some, Result, Ok, Err, refl, sym, ap, subst, ◌∙◌, ℕ, ◌+◌, ◌-◌, ◌<◌, ◌≤◌, List, ◌++◌, length, take, drop, slice_range, append_assoc, arith}
 use Rattle.std.specs.Prelude.{MatchResult, IfOk, IfErr, is_some, is_none}
 use Rattle.std.specs.List.{find}
 use Rattle.std.specs.Option.{option_and_then, option_map_or}
 use Rattle.std.specs.Result.{result_err}
-use Rattle.edi_moments.specs.Moments.{CivilMoment}
+use Rattle.edi_syntax.specs.Moments.{CivilMoment}
 use Rattle.edi_syntax.specs.Messages.{Message}
 use Rattle.edi_messages.specs.Faults.{beginning, order_kind_of, purpose_of, applies, fault_of}
 use Rattle.edi_messages.specs.Message.{MessageContent, judged_message, message_of, reading}
@@ -13,8 +12,17 @@ use Rattle.edi_messages.specs.Types.{message_type_of}
 use Rattle.edi_messages.specs.declared.codes.Codes.{Codes}
 use Rattle.edi_messages.specs.declared.message.MessageFault.{MessageFault}
 use Rattle.edi_messages.specs.declared.message.MessageFault.TheVariants.{OtherType, NoBgm, Code, Function, NoTransport, NoEquipment, EquipmentCount, TooMany, Memory}
-use Rattle.edi_messages.proofs.PurposeLemmas.{purpose_there}
+use Rattle.edi_messages.proofs.SurveyLemmas.{purpose_there}
 use Rattle.office_explain.specs.Kinds.{is_of_order, may_send}
+use Rattle.std.proofs.lemmas.List.{take_all, length-drop, length-append, append-nil, drop_all}
+use Rattle.office_explain.specs.Blocks.{AreBlocks, HasOnlyBreaks, IsBlock, IsToldFirst}
+use Rattle.office_explain.specs.Told.{Explains}
+use Rattle.office_explain.specs.declared.explaining.Block.{Block}
+use Rattle.office_explain.specs.declared.explaining.Told.{Told}
+use Rattle.office_explain.specs.declared.partners.Partners.{Partners}
+use Rattle.office_explain.specs.InOrder.{InOrder}
+
+-- ==== SendingLemmas: A message names no order of a sender's codes exactly if the fault that it is rejected for is of its type, its BGM or its code.
 
 abbrev is_order_fault : Option MessageFault → Bool
 is_order_fault fault = option_map_or is_of_order fault false
@@ -117,3 +125,73 @@ pub sent_if_answered : {M : Type 0} (content : M → MessageContent) (codes : Co
     → may_send codes message ≡ sent_by (result_err answer)
 sent_if_answered content codes opened message (Ok read) ok err = sent_if_read codes opened message (content read) ok
 sent_if_answered content codes opened message (Err fault) ok err = sent_if_rejected codes opened message fault err
+
+-- ==== BlockLemmas: The blocks of a file, one after the other, and the bytes that they are of.
+
+-- ---- the bytes of a block
+
+rest_is : (file : List ℕ) (before : ℕ) → take (length file - before) (drop before file) ≡ drop before file
+rest_is file before = take_all (length file - before) (drop before file) (omega (arith, length-drop before file))
+
+-- the front of what stands from a place on
+bytes_at : (file : List ℕ) (before len end : ℕ) → end ≡ before + len
+    → take len (take (length file - before) (drop before file)) ≡ slice_range file before end
+bytes_at file before len end is =
+    ap (λ (t : List ℕ). take len t) (rest_is file before) ∙ ap (λ (n : ℕ). take n (drop before file)) (omega (arith, is))
+
+pub told_at : (partners : Partners) (file : List ℕ) (before len end : ℕ) (told : Told) → end ≡ before + len
+    → IsToldFirst partners (take (length file - before) (drop before file)) len told
+    → Explains partners (slice_range file before end) told
+told_at partners file before len end told is first =
+    subst (λ (text : List ℕ). Explains partners text told) (bytes_at file before len end is) first.2
+
+-- ---- block after block
+
+-- The blocks are those of a file up to a place: with those from there on they are all.
+abbrev pub GoUpTo : Partners → List ℕ → ℕ → List Block → Type 0
+GoUpTo partners file from blocks =
+    (rest : List Block) → AreBlocks partners file from (length blocks + 1) rest → AreBlocks partners file 0 1 (blocks ++ rest)
+
+pub goes_on : (partners : Partners) (file : List ℕ) (from : ℕ) (blocks : List Block) (block : Block)
+    → GoUpTo partners file from blocks → IsBlock partners file from (length blocks + 1) block
+    → GoUpTo partners file block.end (blocks ++ block ∷ [])
+goes_on partners file from blocks block goes is rest are =
+    let counted : length (blocks ++ block ∷ []) + 1 ≡ length blocks + 1 + 1 =
+    ap (λ (n : ℕ). n + 1) (length-append blocks (block ∷ [])) in
+    subst (AreBlocks partners file 0 1) (sym (append_assoc blocks (block ∷ []) rest))
+    (goes (block ∷ rest) (is, subst (λ (n : ℕ). AreBlocks partners file block.end n rest) counted are))
+
+pub are_all : (partners : Partners) (file : List ℕ) (from : ℕ) (blocks : List Block) → GoUpTo partners file from blocks
+    → HasOnlyBreaks file from → AreBlocks partners file 0 1 blocks
+are_all partners file from blocks goes none =
+    subst (AreBlocks partners file 0 1) (append-nil blocks) (goes [] none)
+
+-- ==== OrderLemmas: One more is told of things in order.
+
+-- What is told is of all things up to those that are left.
+abbrev pub UpTo : {A B : Type 0} → (ℕ → A → B → Type 0) → List A → List A → List B → Type 0
+UpTo {A} {B} Is all left told =
+    (rest : List B) → InOrder Is (length told + 1) left rest → InOrder Is 1 all (told ++ rest)
+
+pub none_yet : {A B : Type 0} (Is : ℕ → A → B → Type 0) (all left : List A) → left ≡ all → UpTo Is all left []
+none_yet Is all left is rest are = subst (λ things. InOrder Is 1 things rest) is are
+
+pub one_more : {A B : Type 0} (Is : ℕ → A → B → Type 0) (all before left : List A) (thing : A) (told : List B) (one : B)
+    → before ≡ thing ∷ left → UpTo Is all before told → Is (length told + 1) thing one
+    → UpTo Is all left (told ++ one ∷ [])
+one_more Is all before left thing told one first up is rest are =
+    let counted : length (told ++ one ∷ []) + 1 ≡ length told + 1 + 1 =
+    ap (λ (n : ℕ). n + 1) (length-append told (one ∷ [])) in
+    subst (InOrder Is 1 all) (sym (append_assoc told (one ∷ []) rest))
+    (up (one ∷ rest) (subst (λ things. InOrder Is (length told + 1) things (one ∷ rest)) (sym first)
+    (is, subst (λ (n : ℕ). InOrder Is n left rest) counted are)))
+
+pub all_told : {A B : Type 0} (Is : ℕ → A → B → Type 0) (all left : List A) (told : List B) → left ≡ []
+    → UpTo Is all left told → InOrder Is 1 all told
+all_told Is all left told none up =
+    subst (InOrder Is 1 all) (append-nil told)
+    (up [] (subst (λ things. InOrder Is (length told + 1) things []) (sym none) tt))
+
+pub all_passed : {A B : Type 0} (Is : ℕ → A → B → Type 0) (all : List A) (told : List B) (i : ℕ) → length all ≤ i
+    → UpTo Is all (drop i all) told → InOrder Is 1 all told
+all_passed Is all told i past up = all_told Is all (drop i all) told (drop_all i all past) up

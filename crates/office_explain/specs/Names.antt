@@ -1,7 +1,7 @@
 -- The names of the faults of lines, as replies give them, and of what cuts a file.
 use Rattle.std.specs.Prelude.{ℕ, List, codes, Option, None, Some}
-use Rattle.edi_cutter.specs.declared.cutter.CutFault.{CutFault}
-use Rattle.edi_cutter.specs.declared.cutter.CutFault.TheVariants as cut
+use Rattle.edi_syntax.specs.declared.cutter.CutFault.{CutFault}
+use Rattle.edi_syntax.specs.declared.cutter.CutFault.TheVariants as cut
 use Rattle.edi_messages.specs.declared.line.LineFault.{LineFault}
 use Rattle.edi_messages.specs.declared.line.LineFault.TheVariants.{Form, CheckDigit, Size, Moment, SlotText}
 use Rattle.office_replies.specs.Names.{fault_name, message_fault_name}

@@ -2,13 +2,12 @@
 ghost use Rattle.std.specs.Prelude.{◌≡◌, ◌<◌};
 ghost use Rattle.office_replies.specs.Names.{message_fault_name};
 ghost use Rattle.office_explain.specs.Names.{cut_name, line_fault_name};
-ghost use Rattle.office_explain.specs.Told.{IsWithin};
+ghost use Rattle.office_explain.specs.Findings.{IsFound};
 
 use crate::segments::{PlacedSegment, Span};
-use edi_cutter::CutFault;
 use edi_messages::{CodeTable, Codes, LineFault, MessageFault, PartnerKind};
-use edi_segments::Component;
-use edi_segments::characters::is_printable;
+use edi_syntax::characters::is_printable;
+use edi_syntax::{Component, CutFault};
 use office_replies::Fault;
 use std::fmt;
 
@@ -91,9 +90,7 @@ pub(crate) fn wrong_at(segment: Option<PlacedSegment<'_>>, expected: Expected) -
 
 /// The finding of a fault that shows so in a text.
 pub(crate) fn finding_of(text: &[u8], subject: Subject, contrl: Option<u8>, wrong: Wrong) -> Finding
-    ensures subject { result.subject ≡ subject }
-    ensures contrl { result.contrl ≡ contrl }
-    ensures within { IsWithin text.now result.span }
+    ensures { IsFound text.now subject contrl result }
 {
     Finding {
         subject,

@@ -1,18 +1,16 @@
 //! Where the fault stands for which an interchange is cut or refused, and what is expected there.
 ghost use Rattle.std.specs.Prelude.{◌≡◌};
-ghost use Rattle.office_explain.specs.Told.{IsWithin};
+ghost use Rattle.office_explain.specs.Findings.{IsFound};
 
 use crate::finding::{Expected, Finding, Refused, ShortText, Subject, Wrong, finding_of, wrong_at};
 use crate::segments::{Front, PlacedSegment, Span, Wanted, bytes_of, first_with_tag, front_of};
-use edi_cutter::CutFault;
-use edi_segments::{MOST_BYTES, Service, SyntaxFault};
 use edi_syntax::head::is_count;
+use edi_syntax::{CutFault, MOST_BYTES, Service, SyntaxFault};
 use office_replies::Fault;
 
 /// The finding of what can't be told apart as an interchange, which would begin with the text.
 pub(crate) fn cut_finding(text: &[u8], fault: Option<CutFault>) -> Finding
-    ensures subject { result.subject ≡ Subject.Cut fault }
-    ensures within { IsWithin text.now result.span }
+    ensures { IsFound text.now (Subject.Cut fault) None result }
 {
     let wrong = match fault {
         Some(CutFault::TooLong) => too_long(text),
@@ -116,9 +114,7 @@ pub(crate) fn refusal(
     terminal: &str,
     refused: Refused,
 ) -> Finding
-    ensures subject { result.subject ≡ Subject.Interchange refused.fault }
-    ensures contrl { result.contrl ≡ refused.contrl }
-    ensures within { IsWithin text.now result.span }
+    ensures { IsFound text.now (Subject.Interchange refused.fault) refused.contrl result }
 {
     let wrong = match refused.fault {
         Fault::Syntax(fault) => wrong_syntax(text, placed, fault),

@@ -1,7 +1,7 @@
 //! Where the faults of messages and of their lines stand, and what is expected there.
 ghost use Rattle.std.specs.Prelude.{◌≡◌, ◌≤◌, length};
 ghost use Rattle.edi_messages.specs.ErrorCodes.{message_error};
-ghost use Rattle.office_explain.specs.Told.{IsWithin};
+ghost use Rattle.office_explain.specs.Findings.{IsFound};
 
 use crate::finding::{CodesOfKind, Expected, Finding, Subject, finding_of, wrong_at};
 use crate::segments::{PlacedSegment, first_qualified, first_with_tag, heading};
@@ -19,9 +19,7 @@ pub(crate) fn rejection(
     codes: &Codes,
     fault: MessageFault,
 ) -> Finding
-    ensures subject { result.subject ≡ Subject.Message number fault }
-    ensures contrl { result.contrl ≡ message_error fault }
-    ensures within { IsWithin text.now result.span }
+    ensures { IsFound text.now (Subject.Message number fault) (message_error fault) result }
 {
     let expected = expected_for_message(message, codes, fault);
     let wrong = wrong_at(message_segment_with(message, fault), expected);
@@ -118,8 +116,7 @@ pub(crate) fn refused_line(
     group: &[PlacedSegment<'_>],
     fault: LineFault,
 ) -> Finding
-    ensures subject { result.subject ≡ Subject.Line message line fault }
-    ensures within { IsWithin text.now result.span }
+    ensures { IsFound text.now (Subject.Line message line fault) None result }
 {
     let wrong = wrong_at(
         line_segment_with(group, fault),
@@ -144,8 +141,8 @@ fn line_segment_with<'a>(
     }
 }
 
-/// The first segment that states a moment of one of the two formats.
-fn first_moment<'a>(group: &[PlacedSegment<'a>]) -> Option<PlacedSegment<'a>> {
+/// The first segment of a line that states a moment of one of the two formats.
+pub(crate) fn first_moment<'a>(group: &[PlacedSegment<'a>]) -> Option<PlacedSegment<'a>> {
     for segment in group {
         let format = segment.segment.component(1, 3);
         if segment.has_tag(b"DTM") && (format.equals(b"203") || format.equals(b"102")) {

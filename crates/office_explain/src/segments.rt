@@ -1,10 +1,10 @@
 //! Stretches of a text, its segments where they stand, and how far it goes on as segments.
 ghost use Rattle.std.specs.Prelude.{◌≤◌, ◌<◌, IfSome, length};
-ghost use Rattle.office_explain.specs.Told.{IsWithin};
+ghost use Rattle.office_explain.specs.Findings.{IsWithin};
 
-use edi_segments::characters::{is_break, is_tag_byte};
-use edi_segments::token::Token;
-use edi_segments::{Segment, Segments, Service};
+use edi_syntax::characters::{is_break, is_tag_byte};
+use edi_syntax::token::Token;
+use edi_syntax::{Segment, Segments, Service};
 use std::alloc::{AllocError, Global};
 
 /// A stretch of a text: from one byte, counted from 0, up to another.
@@ -102,7 +102,7 @@ fn advised(text: &[u8]) -> (Service, &[u8]) {
 }
 
 /// What stands after the CR and LF at the front.
-pub(crate) fn behind_breaks(text: &[u8]) -> &[u8]
+fn behind_breaks(text: &[u8]) -> &[u8]
     ensures { length result.now ≤ length text.now }
 {
     for (i, byte) in text.iter().enumerate() {

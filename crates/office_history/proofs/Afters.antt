@@ -15,21 +15,19 @@ use Rattle.partner_core.specs.Standings.{standing_of}
 use Rattle.partner_core.specs.Keeping.{Holdings, Keeps, TakesRun}
 use Rattle.partner_core.specs.Cascade.{TakesTexts, for_each_partner}
 use Rattle.partner_core.specs.Growth.{AddsNothing}
-use Rattle.partner_core.proofs.Cascades.{takes_none}
-use Rattle.partner_core.proofs.Firsts.{none_of}
-use Rattle.partner_core.proofs.Growths.{adds_nothing, adds_text}
-use Rattle.partner_core.proofs.OnceEach.{replied_within}
-use Rattle.partner_core.proofs.Answering.{answer-kept}
+use Rattle.partner_core.proofs.Keepings.{takes_none, answer-kept}
+use Rattle.partner_core.proofs.Orders.{none_of}
+use Rattle.partner_core.proofs.OnceEach.{adds_nothing, adds_text, replied_within}
 use Rattle.terminal_core.specs.Changes.{rows_of}
 use Rattle.terminal_core.specs.State.{IsWhole}
-use Rattle.terminal_core.proofs.Keeping.{empty_whole}
-use Rattle.terminal_core.proofs.Forming.{empty_formed}
+use Rattle.terminal_core.proofs.Removed.{empty_whole}
+use Rattle.terminal_core.proofs.Applying.{empty_formed}
 use Rattle.terminal_core.specs.declared.change.Version.{Version}
-use Rattle.office_setup.specs.Setups.{SetupContent}
-use Rattle.office_setup.specs.Given.{IsGiven}
-use Rattle.office_taking.specs.Taking.{MachineState, interchange_taken}
-use Rattle.office_taking.specs.Laws.{IsSoundMachine, KeepsSound}
-use Rattle.office_taking.proofs.Reaching.{runs_sound}
+use Rattle.office_admission.specs.Setups.{SetupContent}
+use Rattle.office_admission.specs.Given.{IsGiven}
+use Rattle.office_admission.specs.Taking.{MachineState, interchange_taken}
+use Rattle.office_admission.specs.TakingLaws.{IsSoundMachine, KeepsSound}
+use Rattle.office_admission.proofs.Forming.{runs_sound}
 use Rattle.office_rows.specs.Rows.{Interchange, Rows}
 use Rattle.office_rows.specs.Effects.{is_pair, with_waiting}
 use Rattle.office_history.specs.After.{opening_of, empty_yard, accounts_from, reply_if_any, reply_in, AreKeptOnce, AreRowsOf}

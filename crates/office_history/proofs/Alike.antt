@@ -1,13 +1,13 @@
 -- Set-ups that say the same take interchanges alike, whatever memory holds their codes.
 use Rattle.std.proofs.Common.{◌≡◌, ℕ, List, [], ◌∷◌, map, Bool, true, false, cond, Option, None, Some, is_none, Ok, Err, refl, sym, ap, subst, ◌∙◌}
-use Rattle.std.specs.Prelude.{◌&&◌, ◌||◌, not, nat_le, if◌then◌else◌}
+use Rattle.std.specs.Prelude.{◌&&◌, ◌||◌, not, nat_le, if◌then◌else◌, codes, decimal}
 use Rattle.std.specs.Option.{option_map, option_and_then, option_map_or}
 use Rattle.std.specs.List.{find}
 use Rattle.std.specs.Str.{bytes_eq}
 use Rattle.sqlite.specs.Effect.{Database}
-use Rattle.edi_moments.specs.Moments.{CivilMoment}
-use Rattle.edi_segments.specs.Text.{Content}
-use Rattle.edi_segments.specs.Interchange.{interchange_of, segments_in}
+use Rattle.edi_syntax.specs.Moments.{CivilMoment}
+use Rattle.edi_syntax.specs.Text.{Content}
+use Rattle.edi_syntax.specs.Interchange.{interchange_of, segments_in}
 use Rattle.edi_syntax.specs.Envelope.{header_of, messages_of}
 use Rattle.edi_syntax.specs.Header.{preparation}
 use Rattle.edi_syntax.specs.Messages.{Message}
@@ -20,11 +20,9 @@ use Rattle.edi_messages.specs.Message.{message_of, judged_message, reading}
 use Rattle.edi_messages.specs.declared.code.CodeTable.{CodeTable}
 use Rattle.edi_messages.specs.declared.codes.Codes.{Codes}
 use Rattle.edi_messages.specs.declared.message.MessageFault.{MessageFault}
-use Rattle.edi_messages.specs.declared.message.MessageFault.TheVariants as fault
 use Rattle.edi_messages.specs.declared.message.MessageType.{MessageType}
 use Rattle.edi_messages.specs.declared.message.MessageType.TheVariants.{Codeco, Coprar, Coarri}
 use Rattle.edi_messages.specs.declared.order.OrderKind.{OrderKind}
-use Rattle.edi_messages.specs.declared.order.OrderKind.TheVariants as order
 use Rattle.edi_messages.specs.declared.codes.PartnerKind.{PartnerKind}
 use Rattle.edi_messages.specs.declared.codes.PartnerKind.TheVariants.{Gate, Line, Quay, Yard}
 use Rattle.partner_core.specs.ByPlace.{taken_by_place}
@@ -40,26 +38,26 @@ use Rattle.terminal_core.specs.declared.change.Version.{Version}
 use Rattle.terminal_core.specs.declared.change.Version.TheVariants.{First, Second, Third}
 use Rattle.office_admission.specs.Accounts.{content_with, content_after}
 use Rattle.office_admission.specs.Deliveries.{with_delivery, deliveries_of}
-use Rattle.std.specs.FinMap as finite_map
 use Rattle.office_admission.specs.Admission.{admission, is_for, number_said}
 use Rattle.office_replies.specs.Events.{Event, delivered, migrated, added}
 use Rattle.office_replies.specs.Messages.{ReportContent}
-use Rattle.office_setup.specs.Given.{IsGiven}
-use Rattle.office_setup.specs.Setups.{SetupContent, parties_in}
-use Rattle.office_taking.specs.Laws.{ChangesTerminalAlone}
-use Rattle.office_taking.specs.Taking.{MachineState, verdict_on_by, report_on, before_message, messages_taken_by, codes_for, source_in, nothing_taken, reply_to, taken_at_by, taken_of_by, interchange_taken_by}
-use Rattle.office_taking.specs.Readings.{unweighed_reading, reading_by}
+use Rattle.office_admission.specs.Given.{IsGiven}
+use Rattle.office_admission.specs.Setups.{SetupContent, parties_in}
+use Rattle.office_admission.specs.TakingLaws.{ChangesTerminalAlone}
+use Rattle.office_admission.specs.Taking.{MachineState, verdict_on_by, report_on, before_message, messages_taken_by, codes_for, source_in, nothing_taken, reply_to, taken_at_by, taken_of_by, interchange_taken_by}
+use Rattle.office_admission.specs.Readings.{unweighed_reading, reading_by}
 use Rattle.office_rows.specs.Rows.{Rows}
 use Rattle.office_rows.specs.Opened.{OpenedRows, Shows}
 use Rattle.office_rows.specs.Stored.{HasRows}
 use Rattle.office_rows.specs.Opening.{setting_row, settings_in, version_text, code_names, settings_named}
-use Rattle.std.specs.Prelude.{codes, decimal}
 use Rattle.office_history.specs.After.{SaysSame, migration_in, taking_by, taking_in, opening_of, AreRowsOf, AreAfterBy, AreAfter}
 use Rattle.office_history.specs.Laws.{Reopens}
 use Rattle.office_history.proofs.Loads.{ShowsSetupAndTerminal}
 use Rattle.office_history.proofs.Offices.{says_same}
-use Rattle.office_history.proofs.Likeness.{TakesAlike as RunsAlike, reply_alike, state_alike}
-use Rattle.office_history.proofs.Places.{alone_in, in_force, moved}
+use Rattle.office_history.proofs.Places.{TakesAlike as RunsAlike, reply_alike, state_alike, alone_in, in_force, moved}
+use Rattle.edi_messages.specs.declared.message.MessageFault.TheVariants as fault
+use Rattle.edi_messages.specs.declared.order.OrderKind.TheVariants as order
+use Rattle.std.specs.FinMap as finite_map
 
 -- ---- codes
 

@@ -4,7 +4,6 @@ use Rattle.std.specs.Prelude.{find, filter, ◌&&◌, not, ◌==◌, count_by}
 use Rattle.std.specs.Option.{option_map}
 use Rattle.std.specs.Str.{bytes_eq}
 use Rattle.std.specs.Map.{update}
-use Rattle.std.specs.FinMap as finite_map
 use Rattle.std.specs.Ordering.{nat_cmp, eq_by_cmp, is_eq, ordering_then}
 use Rattle.std.specs.declared.cmp.Ordering.{Ordering}
 use Rattle.std.specs.declared.cmp.Ordering.TheVariants.{Less, Equal, Greater}
@@ -22,16 +21,16 @@ use Rattle.terminal_core.specs.declared.lines.Side.TheVariants.{Load, Discharge}
 use Rattle.terminal_core.specs.Rows.{ChangeContent, visit_opened, visit_closed, placed_at, moved_to, removed_from, listed_on, line_done, unlisted}
 use Rattle.terminal_core.specs.State.{LineContent, LineKey, Lines, line_key, side_code}
 use Rattle.terminal_core.specs.Changes.{Standing, standing_in, standing_elsewhere, TerminalRows, with_line_done, rows_with, rows_with_all, IsApplicable, AreApplicable}
-use Rattle.terminal_core.proofs.Boxes.{same_bytes}
-use Rattle.terminal_core.proofs.Counted.{counted_more, none_if, one_if}
-use Rattle.terminal_core.proofs.Open.{none_counted}
+use Rattle.terminal_core.proofs.Open.{same_bytes, none_counted}
+use Rattle.terminal_core.proofs.Indexed.{counted_more, none_if, one_if}
 use Rattle.terminal_core.proofs.Lined.{order, keys_total, keys_apart, same_key}
 use Rattle.office_rows.specs.Rows.{PlaceContent, ListingContent, Rows}
 use Rattle.office_rows.specs.Effects.{stands_for, is_line, with_change}
 use Rattle.office_rows.specs.ByKey.{standing_by, line_entry, lines_by, terminal_rows, ArePlacedOnce, AreListedOnce}
 use Rattle.office_history.specs.Cascade.{with_changes}
 use Rattle.office_history.specs.Laws.{AreRowsByKey}
-use Rattle.office_history.proofs.Shown.{count_more}
+use Rattle.office_history.proofs.Kept.{count_more}
+use Rattle.std.specs.FinMap as finite_map
 
 -- ---- places
 
@@ -168,7 +167,7 @@ both Less b = refl
 both Equal b = refl
 both Greater b = refl
 
-sides : (a b : Side) → is_eq (slice_cmp nat_cmp (side_code a ∷ []) (side_code b ∷ [])) ≡ (side_code b == side_code a)
+pub sides : (a b : Side) → is_eq (slice_cmp nat_cmp (side_code a ∷ []) (side_code b ∷ [])) ≡ (side_code b == side_code a)
 sides Load Load = refl
 sides Load Discharge = refl
 sides Discharge Load = refl

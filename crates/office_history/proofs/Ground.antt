@@ -1,26 +1,47 @@
 -- The plan of the yard and the limit of visits, which no delivery changes.
-use Rattle.std.proofs.Common.{◌≡◌, ◌&&◌, not, Bool, ℕ, List, [], ◌∷◌, Option, None, Some, is_some, Result, Ok, Err, refl, ◌∙◌}
-use Rattle.std.specs.FinMap as finite_map
+use Rattle.std.proofs.Common.{◌≡◌, ℕ, ◌+◌, List, [], ◌∷◌, ◌++◌, length, Bool, true, false, cond, Some, Ok, refl, sym, ap, subst, ◌∙◌, arith, ◌&&◌, not, Option, None, is_some, Result, Err}
+use Rattle.std.specs.Prelude.{nat_le}
+use Rattle.std.proofs.lemmas.List.{map-append, length-map}
+use Rattle.edi_messages.specs.declared.codes.PartnerKind.{PartnerKind}
+use Rattle.partner_core.specs.ByPlace.{taken_by_place}
+use Rattle.partner_core.specs.Deliveries.{Delivery, first_text, run}
+use Rattle.partner_core.specs.Machine.{Taking}
+use Rattle.partner_core.specs.Order.{state, order}
+use Rattle.terminal_core.specs.Changes.{rows_of}
+use Rattle.terminal_core.specs.Versions.{newest, spares_empty}
+use Rattle.terminal_core.specs.declared.change.Version.{Version}
+use Rattle.office_replies.specs.Events.{Event, added}
+use Rattle.office_admission.specs.Kinds.{kind_named}
+use Rattle.office_admission.specs.Setups.{SetupContent, parties_in, setup_with_account}
+use Rattle.office_admission.specs.Accounts.{content_after, account_answer, added_as}
+use Rattle.office_admission.specs.Admission.{admission, number_said, is_for}
+use Rattle.office_admission.specs.Deliveries.{deliveries_of}
+use Rattle.office_admission.proofs.Adding.{added_last, parties_grown, content_on, account_adds, first_admitted, no_run_beyond}
+use Rattle.office_admission.specs.Growth.{with_account}
+use Rattle.office_admission.specs.TakingLaws.{ChangesTerminalAlone}
+use Rattle.office_admission.specs.Taking.{MachineState, interchange_taken_by, clearing_of, clearing_for, list_replaced, line_taken_by, lines_taken_by, verdict_on_by, messages_taken_by, codes_for, source_in, nothing_taken, taken_at_by, taken_of_by}
+use Rattle.office_admission.proofs.Takings.{taken_with_account}
+use Rattle.office_rows.specs.Rows.{Rows}
+use Rattle.office_rows.specs.Effects.{with_partner}
+use Rattle.office_history.specs.After.{opening_of, taking_in, accounts_from, AreRowsOf, AreAfter}
+use Rattle.office_history.specs.Laws.{AddsAccount, AccountAddsRow}
+use Rattle.office_history.proofs.Places.{TakesAlike, state_alike, reply_alike, alone_in, in_force, taking_added, moved, kept_over, placed}
 use Rattle.box6346.specs.SizeCode.{length_of}
 use Rattle.box6346.specs.declared.box_number.BoxNumber.{BoxNumber}
 use Rattle.box6346.specs.declared.size_type.Length.{Length}
 use Rattle.box6346.specs.declared.slot.Slot.{Slot}
-use Rattle.edi_moments.specs.Moments.{CivilMoment}
+use Rattle.edi_syntax.specs.Moments.{CivilMoment}
 use Rattle.edi_messages.specs.declared.codes.Codes.{Codes}
 use Rattle.edi_messages.specs.declared.message.MessageFault.{MessageFault}
-use Rattle.edi_messages.specs.declared.codes.PartnerKind.{PartnerKind}
 use Rattle.edi_messages.specs.Message.{LineContent as ReadLine, ordered, refused as refused_line, MessageContent}
 use Rattle.edi_messages.specs.Orders.{EntryContent, OrderContent, gate_in, gate_out, move, list_discharge, list_load, discharge, load}
 use Rattle.edi_messages.specs.Purposes.{CallContent}
-use Rattle.edi_segments.specs.Text.{Content}
-use Rattle.edi_segments.specs.Interchange.{segments_in}
+use Rattle.edi_syntax.specs.Text.{Content}
+use Rattle.edi_syntax.specs.Interchange.{segments_in}
 use Rattle.edi_syntax.specs.Envelope.{header_of, messages_of}
 use Rattle.edi_syntax.specs.Header.{preparation}
 use Rattle.edi_syntax.specs.Messages.{Message}
-use Rattle.partner_core.specs.Deliveries.{Delivery}
 use Rattle.partner_core.specs.Numbered.{with_number}
-use Rattle.partner_core.specs.Machine.{Taking}
-use Rattle.partner_core.specs.Order.{state, order}
 use Rattle.yard_core.specs.declared.placements.Placement.{Placement}
 use Rattle.yard_core.specs.declared.placements.Stowed.{Stowed}
 use Rattle.yard_core.specs.Decisions.{Refusal, present, is_same_slot, misfit_of, first_fit, blocker_of, unless_buried, with_misfit, with_slot as with_first_slot, yard_with, yard_without, yard_without_at, yard_with_move, yard_with_move_at}
@@ -38,17 +59,131 @@ use Rattle.terminal_core.specs.declared.visits.Way.{Way}
 use Rattle.terminal_core.specs.declared.visits.Way.TheVariants.{Gate, Ship}
 use Rattle.terminal_core.specs.State.{TerminalState, LineContent, line_of, is_in}
 use Rattle.terminal_core.specs.Step.{StepResult, with_refusal, step_by, yard_with_entry, yard_with_entry_in, with_slot, is_full, after_entry, after_entry_at, after_departure, after_departure_at, departure_by, after_move_at, after_listing_at, then_line_done_at, by_line, by_state}
-use Rattle.terminal_core.specs.Versions.{spares_empty}
-use Rattle.terminal_core.specs.declared.change.Version.{Version}
 use Rattle.terminal_core.proofs.Changing.{either}
-use Rattle.office_admission.specs.Admission.{admission, is_for}
-use Rattle.office_replies.specs.Events.{Event}
-use Rattle.office_setup.specs.Setups.{SetupContent}
-use Rattle.office_history.specs.After.{taking_in}
-use Rattle.office_history.proofs.Likeness.{kept_over}
-use Rattle.office_history.proofs.Places.{placed, in_force}
-use Rattle.office_taking.specs.Taking.{MachineState, clearing_of, clearing_for, list_replaced, line_taken_by, lines_taken_by, verdict_on_by, messages_taken_by, codes_for, source_in, nothing_taken, taken_at_by, taken_of_by, interchange_taken_by}
-use Rattle.office_taking.specs.Readings.{reading_by}
+use Rattle.office_admission.specs.Readings.{reading_by}
+use Rattle.std.specs.FinMap as finite_map
+
+-- ==== Growing: The rows after an account more.
+
+-- ---- accounts
+
+accounts_pushed : (id : ℕ) (next : ℕ → ℕ) (accounts : List (List ℕ × PartnerKind)) (code : List ℕ) (kind : PartnerKind) (last : ℕ) → last ≡ id + length accounts
+    → accounts_from id next (accounts ++ (code, kind) ∷ []) ≡ accounts_from id next accounts ++ (record { id = last; code = code; kind = kind; next = next last }) ∷ []
+accounts_pushed id next [] code kind last is =
+    let own : id ≡ last = omega (arith, is) in
+    λ i. (record { id = own i; code = code; kind = kind; next = next (own i) }) ∷ []
+accounts_pushed id next (account ∷ accounts) code kind last is =
+    ap (λ l. (record { id = id; code = account.0; kind = account.1; next = next id }) ∷ l) (accounts_pushed (id + 1) next accounts code kind last (omega (arith, is)))
+
+-- ---- what was admitted is taken as before
+
+module _ (parties_are : SetupContent) (code : List ℕ) (kind : PartnerKind) where
+  -- the machine has the partners of the set-up
+  record IsOf (machine : MachineState) : Type 0 where
+    parties : machine.parties ≡ parties_in parties_are
+    even : length machine.kinds ≡ length machine.parties.partners
+
+  abbrev grown : MachineState × List ℕ → MachineState × List ℕ
+  grown taken = (with_account code kind taken.0, taken.1)
+
+  abbrev TakesGrown : Taking MachineState → Type 0
+  TakesGrown taking = (machine : MachineState) (p k : ℕ) (text : List ℕ) → IsOf machine → admission (parties_in parties_are) text ≡ Ok (p, k) → taking (with_account code kind machine) p text ≡ grown (taking machine p text)
+
+  each_grown : (version : Version) → TakesGrown (interchange_taken_by version)
+  each_grown version machine p k text is admitted = taken_with_account version machine code kind p k text is.even (ap (λ parties. admission parties text) is.parties ∙ admitted)
+
+  either_grown : (before : List Delivery) (old new : Taking MachineState) → TakesGrown old → TakesGrown new → TakesGrown (taken_by_place number_said before old new)
+  either_grown before old new one two machine p k text is admitted = by (nat_le (number_said text) (run before p))
+    where
+      by : (is_old : Bool) → cond is_old (old (with_account code kind machine) p text) (new (with_account code kind machine) p text) ≡ grown (cond is_old (old machine p text) (new machine p text))
+      by true = one machine p k text is admitted
+      by false = two machine p k text is admitted
+
+  -- one machine is the other with the account
+  abbrev Like : MachineState → MachineState → Type 0
+  Like one other = (one ≡ with_account code kind other) × IsOf other
+
+  still_of : (taking : Taking MachineState) (machine : MachineState) (p : ℕ) (text : List ℕ) → ChangesTerminalAlone taking → IsOf machine → IsOf (taking machine p text).0
+  still_of taking machine p text alone is = subst IsOf (sym (alone machine p text)) (record { parties = is.parties; even = is.even })
+
+  grown_alike : (taking : Taking MachineState) (D : List Delivery) → TakesGrown taking → ChangesTerminalAlone taking → ((p k : ℕ) (text : List ℕ) → first_text D p k ≡ Some text → admission (parties_in parties_are) text ≡ Ok (p, k))
+      → TakesAlike taking Like D
+  grown_alike taking D takes alone admitted one other p k text like first =
+      let step = ap (λ machine. taking machine p text) like.0 ∙ takes other p k text like.1 (admitted p k text first) in
+      ((ap (λ (taken : MachineState × List ℕ). taken.0) step, still_of taking other p text alone like.1), ap (λ (taken : MachineState × List ℕ). taken.1) step)
+
+  opening_grown : opening_of (setup_with_account parties_are code kind) ≡ with_account code kind (opening_of parties_are)
+  opening_grown i = record (opening_of parties_are) {
+    parties = parties_grown parties_are code kind i;
+    kinds = map-append (λ (account : List ℕ × PartnerKind). account.1) parties_are.partners ((code, kind) ∷ []) i;
+  }
+
+  opening_is : Like (opening_of (setup_with_account parties_are code kind)) (opening_of parties_are)
+  opening_is = (opening_grown, record { parties = refl; even = length-map parties_are.partners _ ∙ sym (length-map parties_are.partners _) })
+
+-- ---- an account more
+
+module _ (content : SetupContent) (es : List Event) (rows : Rows) (code kind : List ℕ) (own : PartnerKind) (id : ℕ)
+    (are : AreAfter content es rows) (named : kind_named kind ≡ Some own) (answered : account_answer (content_after content es).partners code kind ≡ added_as id) where
+  abbrev now : SetupContent
+  now = content_after content es
+
+  abbrev D : List Delivery
+  D = deliveries_of content es
+
+  abbrev taking : Taking MachineState
+  taking = taking_in newest content es
+
+  abbrev more : List Event
+  more = es ++ added code kind ∷ []
+
+  takes : TakesAlike taking (Like now code own) D
+  takes = grown_alike now code own taking D
+      (in_force (TakesGrown now code own) (each_grown now code own) (either_grown now code own) newest content es)
+      (alone_in newest content es)
+      (λ p k text first. first_admitted es content p k text first)
+
+  now_more : content_after content more ≡ setup_with_account now code own
+  now_more = content_on es (added code kind ∷ []) content ∙ (added_last now code kind id own named answered).content_is
+
+  machine_grown : state taking (opening_of (setup_with_account now code own)) D ≡ with_account code own (state taking (opening_of now) D)
+  machine_grown = (state_alike taking (Like now code own) D takes (opening_of (setup_with_account now code own)) (opening_of now) (opening_is now code own)).0
+
+  last_next : run D id + 1 ≡ 1
+  last_next = ap (λ n. run D n + 1) (added_last now code kind id own named answered).id_is ∙ ap (λ n. n + 1) (no_run_beyond es content)
+
+  partners_grown : rows.partners ++ (record { id = id; code = code; kind = own; next = 1 }) ∷ [] ≡ accounts_from 1 (λ p. run D p + 1) (now.partners ++ (code, own) ∷ [])
+  partners_grown =
+      let last = (added_last now code kind id own named answered).id_is in
+      ap (λ l. l ++ (record { id = id; code = code; kind = own; next = 1 }) ∷ []) are.partners
+      ∙ (λ i. accounts_from 1 (λ p. run D p + 1) now.partners ++ (record { id = id; code = code; kind = own; next = sym last_next i }) ∷ [])
+      ∙ sym (accounts_pushed 1 (λ p. run D p + 1) now.partners code own id (omega (arith, last)))
+
+  rows_grown : AreRowsOf newest taking (setup_with_account now code own) D (with_partner id code own rows)
+  rows_grown = record {
+    partners = partners_grown;
+    texts = are.texts;
+    replies = λ p k. are.replies p k ∙ sym (reply_alike taking (Like now code own) D takes (opening_of (setup_with_account now code own)) (opening_of now) p k (opening_is now code own));
+    kept_once = are.kept_once;
+    terminal = are.terminal ∙ ap (λ (m : MachineState). rows_of m.terminal) (sym machine_grown);
+    placed_once = are.placed_once;
+    listed_once = are.listed_once;
+    settings = are.settings;
+    blocks = are.blocks;
+  }
+
+  account_row : AddsAccount content es code kind own (with_partner id code own rows)
+  account_row = record {
+    rows_are = moved newest taking (taking_in newest content more) (setup_with_account now code own) (content_after content more) D (deliveries_of content more) (with_partner id code own rows)
+        (taking_added newest content es code kind) now_more (account_adds es content code kind) rows_grown;
+    machine = (λ i. state (taking_added newest content es code kind i) (opening_of (now_more i)) (account_adds es content code kind i)) ∙ machine_grown;
+    deliveries = account_adds es content code kind;
+  }
+
+pub account_adds_row : AccountAddsRow
+account_adds_row content es rows code kind own id are named answered = account_row content es rows code kind own id are named answered
+
+-- ==== Ground: The plan of the yard and the limit of visits, which no delivery changes.
 
 -- ---- plan and limit
 

@@ -1,5 +1,29 @@
 -- What an office keeps for its partners: each number below a partner's next was taken, and those beyond it wait.
-use Rattle.std.proofs.Common.{◌≡◌, ◌⊎◌, ℕ, zero, suc, ◌+◌, ◌-◌, ◌<◌, ◌≤◌, inl, inr, List, [], ◌∷◌, ◌++◌, length, map, Bool, true, false, cond, Option, None, Some, is_some, refl, sym, ap, ap₂, subst, ◌∙◌, arith, Less, Equal, is_lt}
+use Rattle.std.proofs.Common.{◌≡◌, ℕ, List, [], ◌∷◌, ◌++◌, None, refl, sym, ap, subst, ◌∙◌, ◌⊎◌, zero, suc, ◌+◌, ◌-◌, ◌<◌, ◌≤◌, inl, inr, length, map, Bool, true, false, cond, Option, Some, is_some, ap₂, arith, Less, Equal, is_lt}
+use Rattle.std.proofs.lemmas.List.{append-nil}
+use Rattle.partner_core.specs.ByPlace.{taken_by_place, AreNumbered, FoldsByPlace}
+use Rattle.partner_core.specs.Deliveries.{Delivery}
+use Rattle.partner_core.specs.Machine.{Taking}
+use Rattle.partner_core.specs.Order.{state, reply_of}
+use Rattle.partner_core.proofs.ByPlace.{rules_by_place}
+use Rattle.partner_core.proofs.Orders.{option_or-none, none_of}
+use Rattle.terminal_core.specs.Changes.{rows_of}
+use Rattle.terminal_core.specs.Versions.{newest}
+use Rattle.terminal_core.specs.declared.change.Version.{Version}
+use Rattle.terminal_core.specs.declared.change.Version.TheVariants.{First, Second, Third}
+use Rattle.office_replies.specs.Events.{Event, migrated}
+use Rattle.office_admission.specs.Setups.{SetupContent}
+use Rattle.office_admission.specs.Accounts.{content_after}
+use Rattle.office_admission.specs.Admission.{number_said}
+use Rattle.office_admission.specs.Deliveries.{deliveries_of}
+use Rattle.office_admission.proofs.Adding.{content_on, migration_adds}
+use Rattle.office_admission.specs.Taking.{MachineState, interchange_taken_by}
+use Rattle.office_rows.specs.Rows.{Rows, Partner, Interchange}
+use Rattle.office_rows.specs.Migrated.{migrated_settings, migrated_rows}
+use Rattle.office_rows.specs.Opening.{settings_in}
+use Rattle.office_history.specs.After.{opening_of, migration_in, taking_in, AreRowsOf, AreAfterBy, AreAfter, AreKeptOnce, accounts_from, reply_if_any, reply_in}
+use Rattle.office_history.specs.Laws.{MigrationGoesOn}
+use Rattle.office_history.proofs.Places.{numbered, taking_unmigrated, taking_migrated, moved}
 use Rattle.std.specs.Prelude.{◌==◌, not, find, count_by, Contains, slice_index_or}
 use Rattle.std.specs.List.{range_with_len, AllByRecursion}
 use Rattle.std.specs.List.Sorted.{IsPermutation}
@@ -10,20 +34,76 @@ use Rattle.std.proofs.lemmas.Bool.Decides.{nat_tests}
 use Rattle.std.proofs.lemmas.List.Sorted.{IsPermutation-sym, Contains-permutation, sum_by-IsPermutation}
 use Rattle.sqlite_value.specs.Order.{value_cmp}
 use Rattle.edi_messages.specs.declared.codes.PartnerKind.{PartnerKind}
-use Rattle.partner_core.proofs.Firsts.{none_of}
-use Rattle.terminal_core.proofs.Counted.{found_is, one_place}
-use Rattle.terminal_core.proofs.Numbered.{contained}
-use Rattle.office_rows.specs.Rows.{Partner, Interchange, Rows}
+use Rattle.terminal_core.proofs.Indexed.{found_is, one_place}
+use Rattle.terminal_core.proofs.Whole.{contained}
 use Rattle.office_rows.specs.Values.{number_value, interchange_values}
 use Rattle.office_rows.specs.Effects.{is_pair}
 use Rattle.office_rows.specs.Opened.{NumberKept, number_kept}
 use Rattle.office_rows.specs.Office.{AreAccounts, AreWaiting, AreKept}
-use Rattle.office_history.specs.After.{AreKeptOnce, accounts_from, reply_if_any, reply_in}
 use Rattle.office_history.specs.Cascade.{text_in}
-use Rattle.office_history.proofs.Kept.{taken_by, Rise, Has, IsWithinRuns, IsComplete, all_kept}
-use Rattle.office_history.proofs.Runs.{is_pair_at, pair_of}
-use Rattle.office_history.proofs.Shown.{fewer, found_only, head_in, tail_in}
-use Rattle.office_history.proofs.Sorting.{InTurn, is_before, number_order}
+use Rattle.office_history.proofs.Kept.{taken_by, Rise, Has, IsWithinRuns, IsComplete, all_kept, fewer, found_only, head_in, tail_in}
+use Rattle.office_history.proofs.Runs.{is_pair_at, pair_of, InTurn, is_before, number_order}
+
+-- ==== Migrating: The rows after a migration.
+
+settings_migrated : (version : Version) (content : SetupContent) → migrated_settings (settings_in version content) ≡ settings_in newest content
+settings_migrated First content = refl
+settings_migrated Second content = refl
+settings_migrated Third content = refl
+
+module _ (content : SetupContent) (version : Version) (es : List Event) (rows : Rows) (none : migration_in es ≡ None) (are : AreAfterBy version content es rows) where
+  abbrev now : SetupContent
+  now = content_after content es
+
+  abbrev D : List Delivery
+  D = deliveries_of content es
+
+  abbrev more : List Event
+  more = es ++ migrated version ∷ []
+
+  abbrev old : Taking MachineState
+  old = interchange_taken_by version
+
+  abbrev by_place : Taking MachineState
+  by_place = taken_by_place number_said D old (interchange_taken_by newest)
+
+  end : D ++ [] ≡ D
+  end = append-nil D
+
+  folds : FoldsByPlace number_said old (interchange_taken_by newest) (opening_of now) D []
+  folds = rules_by_place number_said old (interchange_taken_by newest) (opening_of now) D [] (subst (AreNumbered number_said) (sym end) (numbered content es))
+
+  state_same : state by_place (opening_of now) D ≡ state old (opening_of now) D
+  state_same = ap (state by_place (opening_of now)) (sym end) ∙ folds.state_is
+
+  reply_same : (p k : ℕ) → reply_of by_place (opening_of now) D p k ≡ reply_of old (opening_of now) D p k
+  reply_same p k = ap (λ E. reply_of by_place (opening_of now) E p k) (sym end) ∙ folds.replies p k ∙ option_or-none (reply_of old (opening_of now) D p k)
+
+  rows_by_old : AreRowsOf version old now D rows
+  rows_by_old = subst (λ taking. AreRowsOf version taking now D rows) (taking_unmigrated version content es none) are
+
+  rows_by_place : AreRowsOf newest by_place now D (migrated_rows rows)
+  rows_by_place = record {
+    partners = rows_by_old.partners;
+    texts = rows_by_old.texts;
+    replies = λ p k. rows_by_old.replies p k ∙ sym (reply_same p k);
+    kept_once = rows_by_old.kept_once;
+    terminal = rows_by_old.terminal ∙ ap (λ (m : MachineState). rows_of m.terminal) (sym state_same);
+    placed_once = rows_by_old.placed_once;
+    listed_once = rows_by_old.listed_once;
+    settings = ap migrated_settings rows_by_old.settings ∙ settings_migrated version now;
+    blocks = rows_by_old.blocks;
+  }
+
+  goes_on_behind : AreAfter content more (migrated_rows rows)
+  goes_on_behind =
+      moved newest by_place (taking_in newest content more) now (content_after content more) D (deliveries_of content more) (migrated_rows rows)
+      (taking_migrated newest version content es none) (content_on es (migrated version ∷ []) content) (migration_adds es content version) rows_by_place
+
+pub migration_goes_on : MigrationGoesOn
+migration_goes_on content version es rows none are = goes_on_behind content version es rows none are
+
+-- ==== KeptNumbers: What an office keeps for its partners: each number below a partner's next was taken, and those beyond it wait.
 
 -- ---- the accounts
 
@@ -244,38 +324,16 @@ module _ (count : ℕ) (runs : ℕ → ℕ) (rows : Rows) (zs : List Interchange
     waits = λ p k far. none_yet p k (find (is_pair p k) rows.interchanges) refl far;
   }
 
--- the accounts and what is kept for them, in order
-pub kept_numbers : (partners : List Partner) (accounts : List (List ℕ × PartnerKind)) (rows : Rows) (zs : List Interchange) (its : HaveRuns 1 partners accounts) → IsPermutation rows.interchanges zs → AreKeptOnce rows.interchanges →
-    AreKept partners (map number_kept zs) → KeepsNumbers (length accounts) its.runs rows
-kept_numbers partners accounts rows zs its same once kept =
-    let runs = its.runs in
-    let here : AreKept (accounts_from 1 (λ p. runs p + 1) accounts) (map number_kept zs) = subst (λ l. AreKept l (map number_kept zs)) its.are kept in
-    keeps_numbers (length accounts) runs rows zs same once
-    (kept_within (length accounts) runs its.high 1 accounts (map number_kept zs) (omega arith) (omega arith) here)
-    (λ p k one within. elim (cases_order p 0) [
-      | inl none ↦ absurd (omega (arith, one, within, its.below p (omega (arith, none))))
-      | inr o ↦ elim o [
-        | inl less ↦ absurd (omega (arith, less))
-        | inr some ↦ elim (cases_order p (1 + length accounts)) [
-          | inl last ↦ absurd (omega (arith, one, within, its.beyond p (omega (arith, last))))
-          | inr far ↦ elim far [
-            | inl inside ↦ kept_has (length accounts) runs its.high 1 accounts (map number_kept zs) p k here (omega (arith, some)) inside one within
-            | inr past ↦ absurd (omega (arith, one, within, its.beyond p (omega (arith, past))))
-          ]
-        ]
-      ]
-    ])
-
 -- ---- in the order of partners and numbers
 
-less_first : (m n : ℕ) → m < n → nat_cmp m n ≡ Less
+pub less_first : (m n : ℕ) → m < n → nat_cmp m n ≡ Less
 less_first m n below = grind (arith, nat_tests)
 
-same_number : (m n : ℕ) → m ≡ n → nat_cmp m n ≡ Equal
+pub same_number : (m n : ℕ) → m ≡ n → nat_cmp m n ≡ Equal
 same_number m n same = grind (arith, nat_tests)
 
 -- of two pairs in order the second isn't before the first
-pair_order : (p k q j : ℕ) → is_lt (ordering_then (value_cmp (number_value q) (number_value p)) (ordering_then (value_cmp (number_value j) (number_value k)) Equal)) ≡ false → (p < q) ⊎ ((q ≡ p) × (k ≤ j))
+pub pair_order : (p k q j : ℕ) → is_lt (ordering_then (value_cmp (number_value q) (number_value p)) (ordering_then (value_cmp (number_value j) (number_value k)) Equal)) ≡ false → (p < q) ⊎ ((q ≡ p) × (k ≤ j))
 pair_order p k q j after =
     let whole : is_lt (ordering_then (nat_cmp q p) (ordering_then (nat_cmp j k) Equal)) ≡ false =
     sym (ap₂ (λ a b. is_lt (ordering_then a (ordering_then b Equal))) (number_order q p) (number_order j k)) ∙ after in
@@ -301,7 +359,7 @@ abbrev pair_values : Interchange → Interchange → Bool
 pair_values = is_before (0 ∷ 1 ∷ []) interchange_values
 
 -- no two of them have one number
-apart : (p k : ℕ) (i j : Interchange) (zs : List Interchange) → count_by (is_pair p k) (i ∷ j ∷ zs) ≤ 1 → is_pair p k i ≡ true → is_pair p k j ≡ true → ⊥
+pub apart : (p k : ℕ) (i j : Interchange) (zs : List Interchange) → count_by (is_pair p k) (i ∷ j ∷ zs) ≤ 1 → is_pair p k i ≡ true → is_pair p k j ≡ true → ⊥
 apart p k i j zs once one two = let bad : ◌≡◌ {A = ℕ} 0 1 = one_place (is_pair p k) (i ∷ j ∷ zs) 0 1 i j once refl refl one two in absurd (omega arith)
 
 -- in order they rise
@@ -317,12 +375,12 @@ rise_of (i ∷ j ∷ zs) turn once = (starts (pair_order i.partner i.number j.pa
       | inr o ↦ elim o [ inl below ↦ inr (near.0, below) | inr above ↦ absurd (omega (arith, near.1, above)) ]
     ]
 
-has_at : (zs : List Interchange) (i : Interchange) (k : ℕ) → k < length zs → slice_index_or zs k i ≡ i → Has i.partner i.number (map number_kept zs)
+pub has_at : (zs : List Interchange) (i : Interchange) (k : ℕ) → k < length zs → slice_index_or zs k i ≡ i → Has i.partner i.number (map number_kept zs)
 has_at [] i k below is = absurd (omega arith)
 has_at (z ∷ zs) i zero below is = inl (ap (λ (x : Interchange). x.partner) is, ap (λ (x : Interchange). x.number) is)
 has_at (z ∷ zs) i (suc k) below is = inr (has_at zs i k (omega arith) is)
 
-all_numbered : (P : NumberKept → Type 0) (zs : List Interchange) → ((i : Interchange) → Contains zs i → P (number_kept i)) → AllByRecursion P (map number_kept zs)
+pub all_numbered : (P : NumberKept → Type 0) (zs : List Interchange) → ((i : Interchange) → Contains zs i → P (number_kept i)) → AllByRecursion P (map number_kept zs)
 all_numbered P [] each = tt
 all_numbered P (z ∷ zs) each = (each z (head_in z zs), all_numbered P zs (λ i inside. each i (tail_in z i zs inside)))
 

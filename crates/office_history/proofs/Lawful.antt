@@ -3,15 +3,14 @@ use Rattle.std.proofs.Common.{Option, ◌≡◌, ℕ, ◌+◌, ◌<◌, List, []
 use Rattle.std.specs.Prelude.{is_some}
 use Rattle.std.specs.Cmp.Lexicographic.{slice_cmp}
 use Rattle.std.specs.Ordering.{nat_cmp}
-use Rattle.std.specs.FinMap as finite_map
 use Rattle.std.specs.Option.{option_map}
 use Rattle.edi_messages.specs.declared.codes.PartnerKind.{PartnerKind}
-use Rattle.edi_segments.specs.Interchange.{interchange_of}
+use Rattle.edi_syntax.specs.Interchange.{interchange_of}
 use Rattle.partner_core.specs.Deliveries.{Delivery, delivery, run}
 use Rattle.partner_core.specs.Machine.{Taking}
 use Rattle.partner_core.specs.Order.{state, order, reply_of}
-use Rattle.partner_core.proofs.Growths.{adds_nothing, adds_text, other_run-stays}
-use Rattle.partner_core.proofs.OnePartner.{run_of_none}
+use Rattle.partner_core.proofs.OnceEach.{adds_nothing, adds_text, other_run-stays}
+use Rattle.partner_core.proofs.Orders.{run_of_none}
 use Rattle.yard_core.specs.declared.placements.Stowed.{Stowed}
 use Rattle.yard_core.specs.YardMap.{placement_if_any}
 use Rattle.terminal_core.specs.Changes.{standing_in, rows_of}
@@ -28,14 +27,15 @@ use Rattle.office_replies.specs.declared.deliver.Fault.{Fault}
 use Rattle.office_rows.specs.Rows.{Rows}
 use Rattle.office_rows.specs.Effects.{with_waiting}
 use Rattle.office_rows.specs.Opening.{partners_from, opening_rows}
-use Rattle.office_setup.specs.Given.{IsGiven}
-use Rattle.office_setup.specs.Setups.{SetupContent, parties_in}
-use Rattle.office_taking.specs.Taking.{MachineState}
+use Rattle.office_admission.specs.Given.{IsGiven}
+use Rattle.office_admission.specs.Setups.{SetupContent, parties_in}
+use Rattle.office_admission.specs.Taking.{MachineState}
 use Rattle.office_history.specs.After.{opening_of, taking_in, machine_after, accounts_from, AreRowsOf, AreAfter}
 use Rattle.office_history.specs.Cascade.{text_in, TakenContent, texts_with, with_run, AreTakenFrom}
 use Rattle.office_history.specs.Laws.{IsFor, AddsNoRow, AddsWaiting, AddsRun, RefusedAddsNoRow, UsedAddsNoRow, EarlyAddsWaiting, NextAddsRun}
 use Rattle.office_history.proofs.Afters.{known_adds, early_keeps, run_more}
 use Rattle.office_history.proofs.Places.{admitted_more, refused_more, numbered_more, sound_in, goes_on, taking_delivered, moved}
+use Rattle.std.specs.FinMap as finite_map
 
 -- ---- nothing delivered
 

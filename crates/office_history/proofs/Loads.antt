@@ -3,7 +3,6 @@ use Rattle.std.proofs.Common.{◌≡◌, ℕ, suc, ◌+◌, ◌<◌, ◌≤◌, 
 use Rattle.std.specs.Prelude.{find, count_by, Contains, IsTrue, codes, decimal}
 use Rattle.std.specs.Option.{option_map}
 use Rattle.std.specs.List.Sorted.{IsPermutation, IsNonDecreasingBy}
-use Rattle.std.specs.FinMap as finite_map
 use Rattle.std.specs.Ordering.{eq_by_cmp}
 use Rattle.std.proofs.lemmas.Bool.{cases_order}
 use Rattle.std.proofs.lemmas.Fmt.{decimal_injective}
@@ -16,8 +15,8 @@ use Rattle.sqlite.specs.Table.{Table}
 use Rattle.box6346.specs.declared.slot.Slot.{Slot}
 use Rattle.box6346.specs.SlotName.{IsNamed, slot_of, slot_text}
 use Rattle.box6346.proofs.SlotNames.{names_are_read_again_lem}
-use Rattle.edi_moments.specs.Moments.{CivilMoment, is_moment, moment_of, moment_digits}
-use Rattle.edi_moments.proofs.DigitLemmas.{read_back}
+use Rattle.edi_syntax.specs.Moments.{CivilMoment, is_moment, moment_of, moment_digits}
+use Rattle.edi_syntax.proofs.DigitLemmas.{read_back}
 use Rattle.edi_messages.specs.declared.codes.PartnerKind.{PartnerKind}
 use Rattle.edi_messages.specs.declared.codes.PartnerKind.TheVariants.{Gate, Line, Quay, Yard}
 use Rattle.edi_messages.specs.Codes.{table_texts}
@@ -31,18 +30,17 @@ use Rattle.terminal_core.specs.declared.lines.LineState.TheVariants.{Pending, Do
 use Rattle.terminal_core.specs.declared.lines.Side.{Side}
 use Rattle.terminal_core.specs.declared.lines.Side.TheVariants.{Load, Discharge}
 use Rattle.terminal_core.specs.declared.visits.Way.{Way}
-use Rattle.terminal_core.specs.declared.visits.Way.TheVariants as way
 use Rattle.terminal_core.specs.Changes.{Standing, standing_in, standing_of, TerminalRows, rows_of}
 use Rattle.terminal_core.specs.Forms.{IsFormedVisit, IsFormedExit, IsWellFormed}
 use Rattle.terminal_core.specs.Rows.{VisitContent}
 use Rattle.terminal_core.specs.State.{TerminalState, LineKey, AreNumbered, IsWhole, side_code, open_visit}
 use Rattle.terminal_core.specs.Step.{number_of_visit}
-use Rattle.terminal_core.proofs.Boxes.{same_self}
-use Rattle.terminal_core.proofs.Counted.{found_is}
+use Rattle.terminal_core.proofs.Open.{same_self}
+use Rattle.terminal_core.proofs.Indexed.{found_is}
 use Rattle.terminal_core.proofs.Formed.{state_of_rows}
 use Rattle.terminal_core.proofs.Lined.{order, keys_total, keys_apart, same_key}
-use Rattle.office_setup.specs.Given.{IsGiven}
-use Rattle.office_setup.specs.Setups.{SetupContent}
+use Rattle.office_admission.specs.Given.{IsGiven}
+use Rattle.office_admission.specs.Setups.{SetupContent}
 use Rattle.std.specs.Str.{bytes_eq}
 use Rattle.office_rows.specs.Rows.{Partner, PlaceContent, ListingContent, Setting}
 use Rattle.office_rows.specs.Values.{number_value, kind_code, partner_values, way_code, laden_code, state_code, out_by, out_partner, out_number, out_at, visit_values, place_values, line_values, setting_values, block_values}
@@ -56,7 +54,9 @@ use Rattle.office_rows.specs.Office.{settings_by_name, AreAccounts, IsOffice, op
 use Rattle.office_rows.specs.Tables.{partner_table, visit_table, place_table, listing_table, block_table, setting_table as settings_table}
 use Rattle.office_history.specs.After.{SaysSame, accounts_from}
 use Rattle.office_history.proofs.ByKeys.{key_of, said, finds, line_tied, none_found}
-use Rattle.office_history.proofs.Shown.{found_same, found_only, Rises, rising_same, same_records}
+use Rattle.office_history.proofs.Kept.{found_same, found_only, Rises, rising_same, same_records}
+use Rattle.std.specs.FinMap as finite_map
+use Rattle.terminal_core.specs.declared.visits.Way.TheVariants as way
 
 -- ---- columns
 
@@ -66,26 +66,26 @@ number_one m n e = cc
 pub text_one : (s t : List ℕ) → ◌≡◌ {A = Value} (Text s) (Text t) → s ≡ t
 text_one s t e = cc
 
-at : (k : ℕ) (a b : Row) → a ≡ b → column a k ≡ column b k
+pub at : (k : ℕ) (a b : Row) → a ≡ b → column a k ≡ column b k
 at k a b e = ap (λ r. column r k) e
 
-moment_one : (m n : CivilMoment) → IsTrue (is_moment m) → IsTrue (is_moment n) → moment_digits m ≡ moment_digits n → m ≡ n
+pub moment_one : (m n : CivilMoment) → IsTrue (is_moment m) → IsTrue (is_moment n) → moment_digits m ≡ moment_digits n → m ≡ n
 moment_one m n a b e = let both : Some m ≡ Some n = sym (read_back m a) ∙ ap moment_of e ∙ read_back n b in cc
 
-slot_one : (s t : Slot) → IsNamed s → IsNamed t → slot_text s ≡ slot_text t → s ≡ t
+pub slot_one : (s t : Slot) → IsNamed s → IsNamed t → slot_text s ≡ slot_text t → s ≡ t
 slot_one s t a b e = let both : Some s ≡ Some t = sym (names_are_read_again_lem s a) ∙ ap slot_of e ∙ names_are_read_again_lem t b in cc
 
-way_one : (a b : Way) → way_code a ≡ way_code b → a ≡ b
+pub way_one : (a b : Way) → way_code a ≡ way_code b → a ≡ b
 way_one way.Gate way.Gate e = refl
 way_one way.Ship way.Ship e = refl
 way_one a b e = absurd (omega (arith, e))
 
-laden_one : (a b : Bool) → laden_code a ≡ laden_code b → a ≡ b
+pub laden_one : (a b : Bool) → laden_code a ≡ laden_code b → a ≡ b
 laden_one true true e = refl
 laden_one false false e = refl
 laden_one a b e = absurd (omega (arith, e))
 
-side_one : (a b : Side) → side_code a ≡ side_code b → a ≡ b
+pub side_one : (a b : Side) → side_code a ≡ side_code b → a ≡ b
 side_one Load Load e = refl
 side_one Discharge Discharge e = refl
 side_one a b e = absurd (omega (arith, e))
@@ -95,11 +95,11 @@ done_one Pending Pending e = refl
 done_one Done Done e = refl
 done_one a b e = absurd (omega (arith, e))
 
-by_way : (w : Way) → way_code w ≡ 0 → ⊥
+pub by_way : (w : Way) → way_code w ≡ 0 → ⊥
 by_way way.Gate e = absurd (omega (arith, e))
 by_way way.Ship e = absurd (omega (arith, e))
 
-exit_one : (a b : Option Departure) → IsFormedExit a → IsFormedExit b → out_by a ≡ out_by b → out_partner a ≡ out_partner b → out_number a ≡ out_number b → out_at a ≡ out_at b → a ≡ b
+pub exit_one : (a b : Option Departure) → IsFormedExit a → IsFormedExit b → out_by a ≡ out_by b → out_partner a ≡ out_partner b → out_number a ≡ out_number b → out_at a ≡ out_at b → a ≡ b
 exit_one None None fa fb by partner number_ moment = refl
 exit_one None (Some b) fa fb by partner number_ moment = absurd (by_way b.way (sym by))
 exit_one (Some a) None fa fb by partner number_ moment = absurd (by_way a.way by)
@@ -108,7 +108,7 @@ exit_one (Some a) (Some b) fa fb by partner number_ moment =
     let when = moment_one a.moment b.moment fa.moment fb.moment moment in
     λ i. Some (record { way = way i; source = record { partner = partner i; number = number_ i }; moment = when i })
 
-visit_one : (a b : VisitContent) → IsFormedVisit a → IsFormedVisit b → visit_values a ≡ visit_values b → a ≡ b
+pub visit_one : (a b : VisitContent) → IsFormedVisit a → IsFormedVisit b → visit_values a ≡ visit_values b → a ≡ b
 visit_one a b fa fb e =
     let ra = visit_values a in
     let rb = visit_values b in
@@ -142,7 +142,7 @@ place_one a b fa fb e =
     let slot = slot_one a.slot b.slot fa fb (text_one _ _ (at 2 (place_values a) (place_values b) e)) in
     λ i. record { container = container i; visit = n i; slot = slot i }
 
-line_one : (a b : ListingContent) → Unit {0} → Unit {0} → line_values a ≡ line_values b → a ≡ b
+pub line_one : (a b : ListingContent) → Unit {0} → Unit {0} → line_values a ≡ line_values b → a ≡ b
 line_one a b fa fb e =
     let ra = line_values a in
     let rb = line_values b in

@@ -11,17 +11,16 @@ use Rattle.sqlite.specs.Effect.{Database}
 use Rattle.sqlite.specs.declared.types.Value.TheVariants.{Text}
 use Rattle.sqlite_value.specs.Order.{value_cmp}
 use Rattle.partner_core.specs.Deliveries.{Delivery, first_text, run}
-use Rattle.partner_core.proofs.Firsts.{some_of}
+use Rattle.partner_core.proofs.Orders.{some_of, used_within_run, free_after_run}
 use Rattle.partner_core.proofs.OnceEach.{within_replied}
-use Rattle.partner_core.proofs.Unbroken.{used_within_run, free_after_run}
 use Rattle.terminal_core.specs.Changes.{TerminalRows, rows_of}
 use Rattle.terminal_core.specs.Forms.{IsWellFormed}
 use Rattle.terminal_core.specs.OneByOne.{GoOneByOne}
 use Rattle.terminal_core.specs.Rows.{VisitContent}
 use Rattle.terminal_core.specs.State.{TerminalState, IsWhole}
 use Rattle.office_replies.specs.Events.{Event}
-use Rattle.office_setup.specs.Given.{IsGiven}
-use Rattle.office_setup.specs.Setups.{SetupContent}
+use Rattle.office_admission.specs.Given.{IsGiven}
+use Rattle.office_admission.specs.Setups.{SetupContent}
 use Rattle.office_rows.specs.Rows.{Partner, Interchange, PlaceContent, ListingContent, Setting, Rows}
 use Rattle.office_rows.specs.Values.{number_value, partner_values, interchange_values, visit_values, place_values, line_values, setting_values, block_values}
 use Rattle.office_rows.specs.Stored.{AreRows, HasRows}
@@ -31,7 +30,7 @@ use Rattle.office_rows.specs.Office.{settings_by_name, AreAccounts, AreKept, Has
 use Rattle.office_rows.specs.Opening.{version_text, settings_in}
 use Rattle.office_rows.specs.Migrated.{migrated_settings}
 use Rattle.office_rows.specs.Tables.{partner_table, interchange_table, visit_table, place_table, listing_table, block_table, setting_table as settings_table}
-use Rattle.office_taking.specs.Taking.{MachineState}
+use Rattle.office_admission.specs.Taking.{MachineState}
 use Rattle.partner_core.specs.Machine.{Taking}
 use Rattle.terminal_core.specs.Versions.{newest}
 use Rattle.terminal_core.specs.declared.change.Version.{Version}
@@ -44,37 +43,35 @@ use Rattle.office_admission.proofs.Adding.{given_after}
 use Rattle.office_history.proofs.Places.{sound_in}
 use Rattle.office_history.specs.After.{SaysSame, accounts_from, machine_after, opening_of, taking_in, AreAfter, AreAfterBy}
 use Rattle.office_history.specs.Laws.{AreRowsByKey, RowsAreAnOffice, OlderRowsAreAnOffice}
-use Rattle.office_history.proofs.Accounted.{state_accounted}
+use Rattle.office_history.proofs.Accounted.{state_accounted, delivered_within}
 use Rattle.office_history.proofs.Afters.{state_sound, unreplied}
 use Rattle.office_history.proofs.Ground.{state_on_ground}
-use Rattle.office_history.proofs.Kept.{accounts_are}
+use Rattle.office_history.proofs.Kept.{accounts_are, Rises}
 use Rattle.office_history.proofs.KeptNumbers.{KeepsNumbers, numbers_kept}
 use Rattle.office_history.proofs.Loads.{accounts_rise, numbered_rise, letter_key, blocks_rise, any_head, places_same, lines_same, one_terminal, one_setup, ShowsSetupAndTerminal, shown_by_office}
-use Rattle.office_history.proofs.Shown.{Rises}
-use Rattle.office_history.proofs.Sorting.{InTurn, is_before, number_order, text_order, shows_records, by_keys}
-use Rattle.office_history.proofs.Telling.{delivered_within}
+use Rattle.office_history.proofs.Runs.{InTurn, is_before, number_order, text_order, shows_records, by_keys}
 
 -- ---- keys in order
 
-greater_first : (m n : ℕ) → n < m → nat_cmp m n ≡ Greater
+pub greater_first : (m n : ℕ) → n < m → nat_cmp m n ≡ Greater
 greater_first m n below = grind (arith, nat_tests)
 
 -- a greater number isn't before
-not_before : (m n : ℕ) (rest : Ordering) → n < m → is_lt (ordering_then (value_cmp (number_value m) (number_value n)) rest) ≡ false
+pub not_before : (m n : ℕ) (rest : Ordering) → n < m → is_lt (ordering_then (value_cmp (number_value m) (number_value n)) rest) ≡ false
 not_before m n rest below = ap (λ o. is_lt (ordering_then o rest)) (number_order m n ∙ greater_first m n below)
 
 -- nor a text of a greater byte
-not_before_byte : (m n : ℕ) (rest : Ordering) → n < m → is_lt (ordering_then (value_cmp (Text (m ∷ [])) (Text (n ∷ []))) rest) ≡ false
+pub not_before_byte : (m n : ℕ) (rest : Ordering) → n < m → is_lt (ordering_then (value_cmp (Text (m ∷ [])) (Text (n ∷ []))) rest) ≡ false
 not_before_byte m n rest below = ap (λ o. is_lt (ordering_then o rest)) (text_order (m ∷ []) (n ∷ []) ∙ ap (λ o. ordering_then o Equal) (greater_first m n below))
 
-rising_in_turn : {A : Type 0} (key : A → ℕ) (lt : A → A → Bool) → ((x y : A) → key x < key y → lt y x ≡ false) → (low : ℕ) (xs : List A) → Rises key low xs → InTurn lt xs
+pub rising_in_turn : {A : Type 0} (key : A → ℕ) (lt : A → A → Bool) → ((x y : A) → key x < key y → lt y x ≡ false) → (low : ℕ) (xs : List A) → Rises key low xs → InTurn lt xs
 rising_in_turn key lt after low [] rises = tt
 rising_in_turn key lt after low (x ∷ []) rises = (tt, tt)
 rising_in_turn key lt after low (x ∷ y ∷ xs) rises = (after x y rises.1.0, rising_in_turn key lt after (key x) (y ∷ xs) rises.1)
 
 -- ---- settings
 
-text_after : (s t : List ℕ) → is_lt (ordering_then (slice_cmp nat_cmp s t) Equal) ≡ false → is_lt (ordering_then (value_cmp (Text s) (Text t)) Equal) ≡ false
+pub text_after : (s t : List ℕ) → is_lt (ordering_then (slice_cmp nat_cmp s t) Equal) ≡ false → is_lt (ordering_then (value_cmp (Text s) (Text t)) Equal) ≡ false
 text_after s t after = ap (λ o. is_lt (ordering_then o Equal)) (text_order s t) ∙ after
 
 -- the setting with that version for the one of the tables
@@ -88,9 +85,6 @@ settings_shown version content = map (aged_setting version) (settings_by_name co
 newest_shown : (content : SetupContent) → settings_shown newest content ≡ settings_by_name content
 unfolding settings_shown aged_setting
 newest_shown content = refl
-
-pub named_shown : (content : SetupContent) (settings : List Setting) → settings ≡ settings_by_name content → IsPermutation settings (settings_shown newest content)
-named_shown content settings named = subst (IsPermutation settings) (named ∙ sym (newest_shown content)) (IsPermutation-refl settings)
 
 migrated_shown : (version : Version) (content : SetupContent) → migrated_settings (settings_shown version content) ≡ settings_by_name content
 unfolding settings_shown aged_setting

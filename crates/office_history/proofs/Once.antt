@@ -7,7 +7,7 @@ use Rattle.sqlite.specs.Order.{column}
 use Rattle.sqlite.specs.Effect.{Database}
 use Rattle.edi_messages.specs.declared.codes.PartnerKind.{PartnerKind}
 use Rattle.terminal_core.specs.State.{TerminalState}
-use Rattle.office_setup.specs.Setups.{SetupContent}
+use Rattle.office_admission.specs.Setups.{SetupContent}
 use Rattle.office_rows.specs.Rows.{Partner, Interchange, Rows}
 use Rattle.office_rows.specs.Values.{interchange_values}
 use Rattle.office_rows.specs.Stored.{HasRows}
@@ -17,10 +17,9 @@ use Rattle.office_rows.specs.Office.{AreAccounts, AreWaiting, AreKept, IsOffice}
 use Rattle.office_rows.specs.Shown.{columns_at}
 use Rattle.office_rows.proofs.Listed.{unmapped}
 use Rattle.office_history.specs.After.{AreKeptOnce}
-use Rattle.office_history.proofs.Kept.{taken_by}
+use Rattle.office_history.proofs.Kept.{taken_by, Rises, one_at}
 use Rattle.office_history.proofs.Loads.{number_one, text_one}
 use Rattle.office_history.proofs.Runs.{pair_of}
-use Rattle.office_history.proofs.Shown.{Rises, one_at}
 
 -- ---- rising lists
 

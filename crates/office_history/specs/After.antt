@@ -13,7 +13,7 @@ use Rattle.terminal_core.specs.State.{TerminalState, empty_state}
 use Rattle.terminal_core.specs.Changes.{rows_of}
 use Rattle.terminal_core.specs.Versions.{newest}
 use Rattle.terminal_core.specs.declared.change.Version.{Version}
-pub use Rattle.office_setup.specs.Setups.{SetupContent, parties_in}
+pub use Rattle.office_admission.specs.Setups.{SetupContent, parties_in}
 use Rattle.office_replies.specs.Events.{Event, delivered, migrated, added}
 pub use Rattle.office_admission.specs.Accounts.{content_after}
 use Rattle.office_admission.specs.Admission.{number_said}
@@ -22,7 +22,7 @@ use Rattle.office_rows.specs.Rows.{Partner, Interchange, Rows}
 use Rattle.office_rows.specs.Effects.{is_pair}
 use Rattle.office_rows.specs.Opening.{settings_in}
 use Rattle.office_rows.specs.ByKey.{terminal_rows, ArePlacedOnce, AreListedOnce}
-use Rattle.office_taking.specs.Taking.{MachineState, interchange_taken_by}
+use Rattle.office_admission.specs.Taking.{MachineState, interchange_taken_by}
 use Rattle.office_history.specs.Cascade.{text_in}
 
 -- ---- the machine of a set-up

@@ -5,7 +5,7 @@ use Rattle.std.specs.Option.{option_map}
 use Rattle.terminal_core.specs.Rows.{ChangeContent}
 use Rattle.office_rows.specs.Rows.{Interchange, Rows}
 use Rattle.office_rows.specs.Effects.{is_pair, with_waiting, with_taken, with_change}
-use Rattle.office_taking.specs.Taking.{MachineState, interchange_taken, interchange_changes}
+use Rattle.office_admission.specs.Taking.{MachineState, interchange_taken, interchange_changes}
 
 -- the text that is kept under a partner's number
 abbrev pub text_in : Rows → ℕ → ℕ → Option (List ℕ)

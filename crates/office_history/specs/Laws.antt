@@ -1,7 +1,7 @@
 -- What the rows are after events: the laws.
 use Rattle.std.specs.Prelude.{◌≡◌, ℕ, ◌+◌, ◌<◌, ◌≤◌, List, [], ◌∷◌, ◌++◌, length, Contains, None, Some, Ok, Err}
 use Rattle.edi_messages.specs.declared.codes.PartnerKind.{PartnerKind}
-use Rattle.edi_segments.specs.Interchange.{interchange_of}
+use Rattle.edi_syntax.specs.Interchange.{interchange_of}
 use Rattle.edi_syntax.specs.Numbers.{last_number}
 use Rattle.partner_core.specs.Deliveries.{delivery, run}
 use Rattle.partner_core.specs.Answers.{AnswerModel, answer_of, Taken, Repeat, Waiting, Clash}
@@ -24,12 +24,12 @@ use Rattle.office_rows.specs.Effects.{with_waiting, with_partner}
 use Rattle.office_rows.specs.Opening.{opening_rows}
 use Rattle.office_rows.specs.Migrated.{migrated_settings, migrated_rows}
 use Rattle.office_rows.specs.ByKey.{terminal_rows, ArePlacedOnce, AreListedOnce}
-use Rattle.office_setup.specs.Kinds.{kind_named}
-use Rattle.office_setup.specs.Setups.{SetupContent, parties_in}
-use Rattle.office_setup.specs.Given.{IsGiven}
-use Rattle.office_taking.specs.Taking.{MachineState}
-use Rattle.office_taking.specs.Laws.{IsSoundMachine}
-use Rattle.office_taking.specs.Growth.{with_account}
+use Rattle.office_admission.specs.Kinds.{kind_named}
+use Rattle.office_admission.specs.Setups.{SetupContent, parties_in}
+use Rattle.office_admission.specs.Given.{IsGiven}
+use Rattle.office_admission.specs.Taking.{MachineState}
+use Rattle.office_admission.specs.TakingLaws.{IsSoundMachine}
+use Rattle.office_admission.specs.Growth.{with_account}
 use Rattle.office_history.specs.Cascade.{text_in, TakenContent, with_changes, texts_with, with_run, AreTakenFrom}
 use Rattle.office_history.specs.After.{opening_of, taking_in, migration_in, machine_after, reply_in, SaysSame, AreAfterBy, AreAfter}
 

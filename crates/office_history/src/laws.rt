@@ -1,4 +1,4 @@
-//! What follows from the definitions of rows and events alone. Each function has an empty body, and its contract is
+//! What follows only from the definitions of rows and events. Each function has an empty body, and its contract is
 //! the law: a call brings it into the caller's proof.
 
 ghost use Rattle.office_history.specs.Laws.{ChangesAgree, OpeningIsAfterNone, DeliveriesLeaveSound, NumbersAreWithin, NextFollowsRun};
@@ -15,7 +15,7 @@ pub fn opening_is_after_none()
     ensures { OpeningIsAfterNone }
 {}
 
-/// Whatever is delivered, the terminal stays whole, and each of its values in its form.
+/// After any deliveries the terminal is whole, and each of its values in its form.
 pub fn deliveries_leave_sound()
     ensures { DeliveriesLeaveSound }
 {}
@@ -60,28 +60,28 @@ pub fn migration_goes_on()
     ensures { MigrationGoesOn }
 {}
 
-/// The rows tell how a delivery is answered.
+/// The rows decide how a delivery is answered.
 pub fn rows_answer()
     ensures { RowsAnswer }
 {}
 
-/// A store that is opened again, after whatever events, gives the terminal that they left.
+/// A store that is opened again, after any events, gives the terminal that they left.
 pub fn loading_gives_state()
     ensures { LoadingGivesState }
 {}
 
-/// It gives a set-up that says the same as the opening one with the accounts so far, and the rows are those after the
-/// same events at the opening one with its codes.
+/// A store that is opened again gives a set-up that says the same as the opening one with the accounts so far, and the
+/// rows are those after the same events at the opening one with its codes.
 pub fn loading_gives_setup()
     ensures { LoadingGivesSetup }
 {}
 
-/// Whatever comes, the rows that are left are those of an office: no check finds them damaged.
+/// After any events, the rows that are left are those of an office: no check finds them damaged.
 pub fn rows_are_an_office()
     ensures { RowsAreAnOffice }
 {}
 
-/// The same holds of a store of an older version, its version changed: no check of a migration finds it damaged.
+/// The rows of an older store, with only the version changed, are those of an office: no migration finds them damaged.
 pub fn older_rows_are_an_office()
     ensures { OlderRowsAreAnOffice }
 {}

@@ -1,8 +1,13 @@
-//! One request of HTTP and its response, over any reader and writer, and a server that answers one after the other.
+//! One request of HTTP and its response, over any reader and writer, and a server whose connections wait side by side.
 #![tactic(auto)]
 
+mod deadline;
+mod gate;
 mod head;
+mod held;
 pub mod laws;
+mod line;
+mod lines;
 mod overheard;
 mod pages;
 mod requests;
@@ -11,6 +16,9 @@ mod routes;
 mod serve;
 mod server;
 mod targets;
+mod told;
+mod wanted;
 
+pub use gate::Gate;
 pub use serve::{OfTerminal, Seen, ServeFault, Watch, serve_one};
 pub use server::serve_on;

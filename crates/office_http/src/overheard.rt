@@ -3,7 +3,7 @@ ghost use Rattle.std.specs.Io.{ReadsAtMost, WritesAtMost};
 ghost use Rattle.std.specs.Io.KnownBytes.{Keeps, ReadConsumes, WriteAppends};
 
 use arrayvec::ArrayVec;
-use office_stream::{Sink, Source};
+use office_replies::{Sink, Source};
 use std::io::{Read, Result, Write};
 
 /// A reader or a writer that keeps the front of what goes through it, and counts its bytes.
@@ -25,8 +25,8 @@ impl<T> Overheard<T> {
     }
 
     /// What it went through.
-    pub(crate) fn inner(&self) -> &T {
-        &self.inner
+    pub(crate) fn into_inner(self) -> T {
+        self.inner
     }
 
     /// The first bytes that went through, 256 at most.

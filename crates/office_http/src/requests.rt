@@ -1,6 +1,6 @@
 ghost use Rattle.std.specs.Option.{ok_or, option_and_then};
 ghost use Rattle.std.specs.Prelude.{◌≡◌, ◌⊎◌, ◌≤◌, ◌+◌, ◌-◌, ◌++◌, length, take, drop, map, IfOk, IfSome, IsTrue, ◌↔◌, Ok};
-ghost use Rattle.edi_segments.specs.Interchange.{most_bytes};
+ghost use Rattle.edi_syntax.specs.Interchange.{most_bytes};
 ghost use Rattle.httparse.specs.Grammar.{RequestHead};
 ghost use Rattle.httparse.specs.Spans.{header_bytes, IsRequestAt, IsRequestWithin, IsSectionWithin};
 ghost use Rattle.office_http.specs.Deciding.{body_size, EndsWhenDecided, wanted_bytes_after};
@@ -14,8 +14,8 @@ ghost use Rattle.office_http.specs.declared.requests.Request.TheVariants.{Refuse
 ghost use Rattle.office_http.specs.declared.response.Refusal.TheVariants.{NotNow};
 ghost use Rattle.office_pages.specs.Typed.{typed};
 ghost use Rattle.office_pages.specs.declared.notices.Notice.TheVariants.{NotHere};
-ghost use Rattle.office_queries.specs.AccountKeys.{account_in, sender_in};
-ghost use Rattle.office_queries.specs.Keys.{query_of};
+ghost use Rattle.office_reports.specs.AccountKeys.{account_in, sender_in};
+ghost use Rattle.office_reports.specs.Keys.{query_of};
 
 use crate::head::{FoundHead, MOST_FIELDS, MOST_HEAD_BYTES, OwnText, content_length, read_head};
 use crate::response::Refusal;
@@ -23,10 +23,10 @@ use crate::routes::{Endpoint, direct, key_in, partner_key_in, passed_in, posted_
 use crate::targets::{View, path_of, typed_in, view_of};
 use httparse::spans::{EMPTY_HEADER_SPAN, HeaderSpan};
 use office_pages::{Notice, typed_number};
-use office_queries::{
+use office_replies::Port;
+use office_reports::{
     AccountKey, Query, ReportKind, read_account_key, read_query, read_sender_key,
 };
-use office_stream::Port;
 use std::alloc::Global;
 use std::cmp::min;
 use std::io::{Read, Result};
@@ -67,7 +67,7 @@ pub(crate) fn read_request<R: Read>(alloc: Global, reader: &mut Port<R>) -> Resu
 }
 
 /// Reads what stands after a head, if it is wanted.
-fn read_asked<R: Read>(
+pub(crate) fn read_asked<R: Read>(
     alloc: Global,
     reader: &mut Port<R>,
     buffer: &[u8],

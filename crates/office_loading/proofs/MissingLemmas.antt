@@ -1,12 +1,10 @@
 -- A query of a table that is not there.
 use Rattle.std.proofs.Common.{◌≡◌, ℕ, negsuc, List, [], ◌∷◌, None, Ok, Err, refl}
 use Rattle.sqlite_ast.specs.declared.Statement.{Statement}
-use Rattle.sqlite_ast.specs.declared.Statement.TheVariants as written
 use Rattle.sqlite_ast.specs.declared.Select.{Select, out-Select}
 use Rattle.sqlite_ast.specs.declared.Core.{Core, out-Core}
 use Rattle.sqlite_ast.specs.declared.Sort.{Sort}
 use Rattle.sqlite_ast.specs.declared.Source.{Source, out-Source}
-use Rattle.sqlite_ast.specs.declared.Origin.TheVariants as origin
 use Rattle.sqlite_syntax.specs.declared.statement.Parsed.{Parsed}
 use Rattle.sqlite_value.specs.declared.value.Value.TheVariants.{Int}
 use Rattle.sqlite_sql.specs.Term.{Term, lit}
@@ -23,7 +21,9 @@ use Rattle.sqlite_resolve.specs.Select.{parts, named, paging, constant_or}
 use Rattle.sqlite_resolve.specs.Program.{source, sources, viewing, single, alone, whole, level, with, query_to, query}
 use Rattle.sqlite_resolve.specs.Compile.{first, read, planned, meaning, returning, command, timed, compiled, with_command}
 use Rattle.sqlite.specs.Listing.{understood, listing_schema}
-use Rattle.office_tables.proofs.TextLemmas.{plan_by}
+use Rattle.office_tables.proofs.WritesLemmas.{plan_by}
+use Rattle.sqlite_ast.specs.declared.Statement.TheVariants as written
+use Rattle.sqlite_ast.specs.declared.Origin.TheVariants as origin
 
 -- a SELECT from only one table, with no WITH and no LIMIT
 pub record IsOfOne (name : Name) (s : Select) : Type 0 where

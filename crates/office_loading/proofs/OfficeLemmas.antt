@@ -1,41 +1,129 @@
 -- The rows of an office can be read, and in one way.
-use Rattle.std.proofs.Common.{◌≡◌, ℕ, suc, ◌+◌, ◌<◌, ◌≤◌, ◌^◌, List, [], ◌∷◌, map, length, Contains, refl, sym, ap, ap₂, subst, ◌∙◌, arith, Equal}
-use Rattle.std.specs.List.{AllByRecursion}
+use Rattle.std.proofs.Common.{◌≡◌, ℕ, ◌<◌, ◌^◌, true, List, [], ◌∷◌, map, None, decimal, inl, inr, refl, ◌∙◌, arith, Less, Equal, suc, ◌+◌, ◌≤◌, length, Contains, sym, ap, ap₂, subst}
+use Rattle.std.specs.Prelude.{IsUtf8}
+use Rattle.std.specs.List.{AllByRecursion, list_all}
+use Rattle.std.specs.Ordering.{nat_cmp, ordering_then}
+use Rattle.sqlite_value.specs.Order.{value_cmp}
+use Rattle.std.specs.Cmp.Lexicographic.{slice_cmp}
+use Rattle.std.proofs.lemmas.Bool.{and_parts, cases_Bool}
+use Rattle.std.proofs.lemmas.Bool.Decides.{nat_tests}
+use Rattle.std.proofs.lemmas.Str.{IsUtf8-from_ascii}
+use Rattle.std.proofs.lemmas.Fmt.{IsAscii-decimal}
+use Rattle.edi_syntax.specs.Characters.{is_printable, is_tag_byte}
+use Rattle.edi_messages.specs.CodeText.{is_code, table_fault}
+use Rattle.edi_messages.specs.Codes.{table_texts}
+use Rattle.sqlite.specs.declared.types.Value.TheVariants.{Text}
+use Rattle.sqlite_value.proofs.OrderLemmas.{value_cmp-Text, then-Equal}
+use Rattle.sqlite_trees.specs.Tree.{IsAscending}
+use Rattle.sqlite_rules.specs.Lists.{Has}
+use Rattle.office_admission.specs.Setups.{SetupContent}
+use Rattle.office_admission.specs.Given.{IsGiven}
+use Rattle.terminal_core.specs.declared.change.Version.{Version}
+use Rattle.terminal_core.specs.declared.change.Version.TheVariants.{First, Second, Third}
+use Rattle.office_rows.specs.Rows.{Setting, Partner, Interchange}
+use Rattle.office_rows.specs.Opening.{version_text, setting_row, tables_version}
+use Rattle.office_rows.specs.Values.{setting_values, partner_values, visit_values, place_values, line_values, block_values}
+use Rattle.office_rows.specs.Office.{settings_by_name, AreAccounts}
+use Rattle.office_loading.specs.Fits.{FitsSetting, FitsPartner, FitsVisit, FitsPlace, FitsLine, FitsBlock}
+use Rattle.office_loading.proofs.LackingLemmas.{rising_ties, all_in, all_from, interchanges_differ}
+use Rattle.office_loading.proofs.VersionLemmas.{keys_cmp, keys_total, mapped_has, fails_weaker, number_tied, text_tied, one_showing, one_reading}
+use Rattle.office_loading.proofs.RowLemmas.{utf8_from, printable_small, party_text, partners_fit, numbers_fit, blocks_fit, visits_fit, one_partner, one_visit, one_place, one_line, one_setting, one_block, ids_differ, visits_differ, blocks_differ}
 use Rattle.box6346.specs.declared.box_number.BoxNumber.{BoxNumber}
 use Rattle.edi_messages.specs.declared.codes.PartnerKind.{PartnerKind}
 use Rattle.sqlite.specs.Effect.{Database}
-use Rattle.sqlite_rules.specs.Lists.{Has}
 use Rattle.sqlite_rules.proofs.ListLemmas.{has_contained, contains_had}
 use Rattle.terminal_core.specs.Changes.{TerminalRows, standing_of}
 use Rattle.terminal_core.specs.Forms.{IsFormedVisit}
 use Rattle.terminal_core.specs.Rows.{VisitContent}
 use Rattle.terminal_core.specs.State.{TerminalState, last_from}
 use Rattle.terminal_core.specs.declared.restoring.RestoreFault.{RestoreFault}
-use Rattle.terminal_core.specs.declared.restoring.RestoreFault.TheVariants as restoring
-use Rattle.office_setup.specs.Setups.{SetupContent}
-use Rattle.office_rows.specs.Tables as table
-use Rattle.office_rows.specs.Rows.{Partner, Interchange}
-use Rattle.office_rows.specs.Values.{partner_values, visit_values, place_values, line_values, setting_values, block_values}
 use Rattle.office_rows.specs.ByKey.{standing_by, lines_by}
 use Rattle.office_rows.specs.Opened.{number_kept, reply_values, OpenedRows, Shows}
-use Rattle.office_rows.specs.Office.{AreAccounts}
-use Rattle.office_checks.specs.Closed.{ClosedContent, nothing_closed}
-use Rattle.office_checks.specs.OwnOffice.{IsOwnOffice}
-use Rattle.office_checks.specs.Refusals.{RefusesTables}
-use Rattle.office_checks.proofs.Alike.{own_office, whole_office}
-use Rattle.office_loading.specs.Fits.{FitsPartner, FitsVisit, FitsPlace, FitsLine, FitsSetting, FitsBlock}
+use Rattle.office_loading.specs.Closed.{ClosedContent, nothing_closed}
+use Rattle.office_loading.specs.OwnOffice.{IsOwnOffice}
+use Rattle.office_loading.specs.Refusals.{RefusesTables}
+use Rattle.office_loading.proofs.Offices.{own_office, whole_office}
 use Rattle.office_tables.specs.declared.table_fault.TableFault.{TableFault}
 use Rattle.office_tables.specs.Faults.{IsOfStoreOr}
 use Rattle.office_loading.specs.Tables.{FitsRows, FailsTables, FailsToLoad, FailsToLoadOwn, Loads, LoadsOwn, ShowsNoOffice, ShowsNoOwnOffice, ShowsUnfit, HasVersion, fault_of_restoring}
-use Rattle.office_loading.proofs.OrderLemmas.{all_in}
-use Rattle.office_loading.proofs.VersionLemmas.{fails_weaker}
-use Rattle.office_loading.proofs.KeyLemmas.{number_tied, text_tied, one_showing, one_reading}
-use Rattle.office_loading.proofs.FitLemmas.{partners_fit, numbers_fit, blocks_fit, visits_fit}
-use Rattle.office_loading.proofs.RowLemmas.{one_partner, one_visit, one_place, one_line, one_setting, one_block, ids_differ, visits_differ, blocks_differ}
-use Rattle.office_loading.proofs.SettingLemmas.{settings_fit, settings_tied}
-use Rattle.office_loading.proofs.NumberLemmas.{all_from, interchanges_differ}
-use Rattle.office_loading.proofs.PlaceLemmas.{place_fits, places_differ}
-use Rattle.office_loading.proofs.LineLemmas.{line_fits, lines_differ}
+use Rattle.office_loading.proofs.WaitingQuery.{place_fits, places_differ, line_fits, lines_differ}
+use Rattle.terminal_core.specs.declared.restoring.RestoreFault.TheVariants as restoring
+use Rattle.office_rows.specs.Tables as table
+
+-- ==== SettingLemmas: The settings of an office.
+
+tag_small : (c : ℕ) → is_tag_byte c ≡ true → c < 128
+tag_small c h = grind (arith, nat_tests)
+
+code_text : (text : List ℕ) → is_code text ≡ true → IsUtf8 text
+code_text text h = utf8_from is_tag_byte tag_small text (and_parts _ _ h).1
+
+coded : (texts : List (List ℕ)) → table_fault texts ≡ None → list_all is_code texts ≡ true
+coded texts h = elim (cases_Bool (list_all is_code texts)) [
+  | inl all ↦ all
+  | inr some ↦ absurd (let e = rw some at h in cc)
+]
+
+named : (name value : List ℕ) → list_all is_printable name ≡ true → IsUtf8 value → FitsSetting (setting_row name value)
+named name value plain is = record { name = utf8_from is_printable printable_small name plain; value = is }
+
+pub settings_fit : (content : SetupContent) → IsGiven content → AllByRecursion FitsSetting (settings_by_name content)
+settings_fit content given =
+    let a = and_parts _ _ (coded (table_texts content.codes) given.codes) in
+    let b = and_parts _ _ a.1 in
+    let d = and_parts _ _ b.1 in
+    let e = and_parts _ _ d.1 in
+    let f = and_parts _ _ e.1 in
+    let h = and_parts _ _ f.1 in
+    let k = and_parts _ _ h.1 in
+    let limit : content.visit_limit < 2 ^ 64 = omega (arith, given.limit.1) in (
+      named _ _ refl (code_text _ e.0),
+      (
+        named _ _ refl (code_text _ h.0),
+        (
+          named _ _ refl (code_text _ a.0),
+          (
+            named _ _ refl (code_text _ b.0),
+            (
+              named _ _ refl (code_text _ f.0),
+              (
+                named _ _ refl (code_text _ k.0),
+                (
+                  named _ _ refl (party_text content.terminal given.terminal),
+                  (
+                    named _ _ refl (utf8_from is_printable printable_small tables_version refl),
+                    (
+                      named _ _ refl (IsUtf8-from_ascii (decimal content.visit_limit) (IsAscii-decimal content.visit_limit limit)),
+                      (
+                        named _ _ refl (code_text _ d.0),
+                        tt,
+                      ),
+                    ),
+                  ),
+                ),
+              ),
+            ),
+          ),
+        ),
+      ),
+    )
+
+name_below : (s t : List ℕ) → slice_cmp nat_cmp s t ≡ Less → ordering_then (value_cmp (Text s) (Text t)) Equal ≡ Less
+name_below s t less = then-Equal _ ∙ value_cmp-Text s t ∙ less
+
+rising : (content : SetupContent) → IsAscending (λ a b. keys_cmp (0 ∷ []) a b ≡ Less) (map setting_values (settings_by_name content))
+rising content = ((name_below _ _ refl, (name_below _ _ refl, (name_below _ _ refl, (name_below _ _ refl, (name_below _ _ refl, (name_below _ _ refl, (name_below _ _ refl, (name_below _ _ refl, (name_below _ _ refl, tt))))))))), ((name_below _ _ refl, (name_below _ _ refl, (name_below _ _ refl, (name_below _ _ refl, (name_below _ _ refl, (name_below _ _ refl, (name_below _ _ refl, (name_below _ _ refl, tt)))))))), ((name_below _ _ refl, (name_below _ _ refl, (name_below _ _ refl, (name_below _ _ refl, (name_below _ _ refl, (name_below _ _ refl, (name_below _ _ refl, tt))))))), ((name_below _ _ refl, (name_below _ _ refl, (name_below _ _ refl, (name_below _ _ refl, (name_below _ _ refl, (name_below _ _ refl, tt)))))), ((name_below _ _ refl, (name_below _ _ refl, (name_below _ _ refl, (name_below _ _ refl, (name_below _ _ refl, tt))))), ((name_below _ _ refl, (name_below _ _ refl, (name_below _ _ refl, (name_below _ _ refl, tt)))), ((name_below _ _ refl, (name_below _ _ refl, (name_below _ _ refl, tt))), ((name_below _ _ refl, (name_below _ _ refl, tt)), ((name_below _ _ refl, tt), (tt, tt))))))))))
+
+pub settings_tied : (content : SetupContent) (x y : Setting) → Has (settings_by_name content) x → Has (settings_by_name content) y → keys_cmp (0 ∷ []) (setting_values x) (setting_values y) ≡ Equal → setting_values x ≡ setting_values y
+settings_tied content x y p q = rising_ties (keys_cmp (0 ∷ [])) (keys_total (0 ∷ [])) (map setting_values (settings_by_name content)) (rising content) (setting_values x) (setting_values y)
+    (mapped_has setting_values (settings_by_name content) x p) (mapped_has setting_values (settings_by_name content) y q)
+
+pub version_utf8 : (version : Version) → IsUtf8 (version_text version)
+version_utf8 First = utf8_from is_printable printable_small (version_text First) refl
+version_utf8 Second = utf8_from is_printable printable_small (version_text Second) refl
+version_utf8 Third = utf8_from is_printable printable_small (version_text Third) refl
+
+-- ==== OfficeLemmas: The rows of an office can be read, and in one way.
 
 pub replies_same : (is js : List Interchange) → map reply_values is ≡ map reply_values js → map number_kept is ≡ map number_kept js
 replies_same [] [] same = refl

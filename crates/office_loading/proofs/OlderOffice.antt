@@ -1,10 +1,10 @@
 -- The rows of an office of version 1 or 2 can be read, and in one way.
-use Rattle.std.proofs.Common.{◌≡◌, ℕ, Bool, true, false, ◌&&◌, ◌||◌, List, [], ◌∷◌, map, codes, IsUtf8, if◌then◌else◌, ◌==◌, refl, sym, ap, ap₂, subst, ◌∙◌}
+use Rattle.std.proofs.Common.{◌≡◌, ℕ, Bool, true, false, ◌&&◌, ◌||◌, List, [], ◌∷◌, map, codes, IsUtf8, if◌then◌else◌, ◌==◌, refl, sym, ap, ap₂, subst, ◌∙◌, ◌^◌, Contains}
 use Rattle.std.specs.List.{AllByRecursion}
 use Rattle.std.specs.List.Sorted.{IsPermutation}
 use Rattle.std.specs.Str.{bytes_eq}
 use Rattle.std.proofs.lemmas.Slice.Eq.{bytes_eq-Decides}
-use Rattle.std.proofs.lemmas.List.Sorted.{IsPermutation-map}
+use Rattle.std.proofs.lemmas.List.Sorted.{IsPermutation-map, IsPermutation-sym, Contains-permutation}
 use Rattle.sqlite_exec.proofs.RowsLemmas.{IsSorted-map}
 use Rattle.sqlite.specs.declared.types.Value.{Value}
 use Rattle.sqlite.specs.declared.types.Value.TheVariants.{Null, Int, Real, Text, Blob}
@@ -14,12 +14,11 @@ use Rattle.sqlite.specs.Effect.{Database}
 use Rattle.sqlite_trees.proofs.ListLemmas.{map-map}
 use Rattle.terminal_core.specs.State.{TerminalState}
 use Rattle.terminal_core.specs.declared.restoring.RestoreFault.{RestoreFault}
-use Rattle.terminal_core.specs.declared.restoring.RestoreFault.TheVariants as restoring
 use Rattle.terminal_core.specs.declared.change.Version.TheVariants.{First, Second, Third}
-use Rattle.office_setup.specs.Setups.{SetupContent}
+use Rattle.office_admission.specs.Setups.{SetupContent}
 use Rattle.office_rows.specs.Tables.{setting_table}
-use Rattle.office_rows.specs.Rows.{Setting}
-use Rattle.office_rows.specs.Values.{setting_values}
+use Rattle.office_rows.specs.Rows.{Setting, Interchange, Rows}
+use Rattle.office_rows.specs.Values.{setting_values, number_value}
 use Rattle.office_rows.specs.Opening.{version_text, tables_version}
 use Rattle.office_rows.specs.Stored.{columns_of}
 use Rattle.office_rows.specs.Shown.{columns_at, ShowsTable}
@@ -27,17 +26,27 @@ use Rattle.office_rows.specs.Opened.{OpenedRows, Shows}
 use Rattle.office_rows.specs.Bare.{with_weights}
 use Rattle.office_rows.specs.Migrated.{migrated_settings, migrated_opened}
 use Rattle.office_rows.specs.Office.{IsOffice}
-use Rattle.office_checks.specs.Closed.{nothing_closed}
-use Rattle.office_checks.specs.Refusals.{RefusesTables}
-use Rattle.office_checks.proofs.Alike.{own_office}
+use Rattle.office_loading.specs.Closed.{nothing_closed}
+use Rattle.office_loading.specs.Refusals.{RefusesTables}
+use Rattle.office_loading.proofs.Offices.{own_office}
 use Rattle.office_tables.specs.declared.table_fault.TableFault.{TableFault}
 use Rattle.office_loading.specs.Fits.{FitsSetting}
 use Rattle.office_loading.specs.Tables.{FitsRows, ShowsUnfit, fault_of_restoring}
 use Rattle.office_loading.specs.Older.{FailsOlderTables, FailsToLoadOlder, HasOlder, ShowsNoOlder}
-use Rattle.office_loading.proofs.ShownLemmas.{keys_cmp}
-use Rattle.office_loading.proofs.VersionLemmas.{fails_weaker}
-use Rattle.office_loading.proofs.SettingLemmas.{version_utf8}
-use Rattle.office_loading.proofs.OfficeLemmas.{office_fits, office_one}
+use Rattle.office_loading.proofs.VersionLemmas.{keys_cmp, fails_weaker, mapped_has}
+use Rattle.office_loading.proofs.OfficeLemmas.{version_utf8, office_fits, office_one}
+use Rattle.sqlite_rules.specs.Lists.{Has}
+use Rattle.sqlite_rules.proofs.ListLemmas.{has_contained, contains_had}
+use Rattle.office_rows.proofs.Listed.{unmapped, numbers_same}
+use Rattle.office_tables.specs.declared.table_fault.TableFault.TheVariants.{Store, Damaged, Version, Memory}
+use Rattle.office_tables.specs.Faults.{IsOfStoreOr}
+use Rattle.office_loading.specs.Waiting.{HasHighWaiting, waiting_in, waiting_numbers, waiting_values}
+use Rattle.office_loading.specs.Decoded.{IsSaid, FailsOne}
+use Rattle.office_loading.specs.Columns.{SaysNumber}
+use Rattle.office_rows.proofs.Creating.{has_mapped}
+use Rattle.terminal_core.specs.declared.restoring.RestoreFault.TheVariants as restoring
+
+-- ==== OlderOffice: The rows of an office of version 1 or 2 can be read, and in one way.
 
 abbrev is_older : List ℕ → Bool
 is_older value = bytes_eq value (version_text First) || bytes_eq value (version_text Second)
@@ -155,3 +164,36 @@ none_older db other that fits none rows content state shown = λ office. none co
 pub older_restoring_fails : (db : Database) (other : OpenedRows) → HasOlder db → Shows (with_weights db) other → FitsRows other → (fault : RestoreFault) → RefusesTables nothing_closed (migrated_opened other) fault → FailsToLoadOlder db (fault_of_restoring fault)
 older_restoring_fails db other older that fits restoring.Unsound refuses = (older, none_older db other that fits (λ content state office. refuses content state (own_office (migrated_opened other) content state office)))
 older_restoring_fails db other older that fits restoring.Memory refuses = tt
+
+-- ==== WaitingLemmas: The numbers that the query of what waits shows.
+
+abbrev number_of : Interchange → ℕ
+number_of i = i.number
+
+first_column : (is : List Interchange) → map (λ (r : Row). column r 0) (map waiting_values is) ≡ map number_value (map number_of is)
+first_column [] = refl
+first_column (i ∷ is) = ap (λ l. number_value i.number ∷ l) (first_column is)
+
+abbrev pub IsRead : Row → Type 0
+IsRead row = IsSaid (SaysNumber (2 ^ 32)) (column row 0)
+
+module _ (partner next : ℕ) (rows : Rows) (answer : List Row) (shown : IsPermutation (map waiting_values (waiting_in partner next rows)) answer) where
+  pub numbers_shown : (numbers : List ℕ) → map number_value numbers ≡ map (λ r. column r 0) answer → IsPermutation (waiting_numbers partner next rows) numbers
+  numbers_shown numbers read =
+      let placed = unmapped waiting_values (waiting_in partner next rows) answer shown in
+      let is : numbers ≡ map number_of placed.0 = numbers_same _ _ (read ∙ ap (map (λ (r : Row). column r 0)) placed.2 ∙ first_column placed.0) in
+      subst (IsPermutation (waiting_numbers partner next rows)) (sym is) (IsPermutation-map number_of (waiting_in partner next rows) placed.0 placed.1)
+
+  number_there : (row : Row) → Contains answer row → (n : ℕ) × Contains (waiting_numbers partner next rows) n × (column row 0 ≡ number_value n)
+  number_there row there =
+      let placed = unmapped waiting_values (waiting_in partner next rows) answer shown in
+      let i = has_mapped waiting_values placed.0 row (subst (λ l. Has l row) placed.2 (has_contained answer row there)) in
+      let moved = Contains-permutation _ _ i.0 (IsPermutation-sym _ _ placed.1) (contains_had placed.0 i.0 i.1) in
+      let had = mapped_has number_of (waiting_in partner next rows) i.0 (has_contained (waiting_in partner next rows) i.0 moved) in
+      (i.0.number, contains_had (waiting_numbers partner next rows) i.0.number had, ap (λ (r : Row). column r 0) i.2)
+
+  pub high_waiting : (fault : TableFault) → FailsOne IsRead answer fault → IsOfStoreOr (HasHighWaiting partner next rows) fault
+  high_waiting Damaged h = let n = number_there h.0 h.1 in (n.0, n.1, λ fits. h.2 (n.0, (n.2, fits)))
+  high_waiting Memory h = h
+  high_waiting Version h = h
+  high_waiting (Store error) h = absurd h

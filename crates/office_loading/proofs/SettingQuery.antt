@@ -11,7 +11,6 @@ use Rattle.sqlite_ast.specs.declared.Select.{Select, out-Select}
 use Rattle.sqlite_ast.specs.declared.Core.{Core, out-Core}
 use Rattle.sqlite_ast.specs.declared.Sort.{Sort, out-Sort}
 use Rattle.sqlite_ast.specs.declared.Source.{Source, out-Source}
-use Rattle.sqlite_ast.specs.declared.Origin.TheVariants as origin
 use Rattle.sqlite_sql.specs.Term.{Term, lit, col}
 use Rattle.sqlite_schema.specs.declared.schema.Kind.TheVariants.{Text}
 use Rattle.sqlite_schema.specs.declared.schema.Schema.{Schema}
@@ -22,7 +21,6 @@ use Rattle.sqlite_resolve.specs.declared.state.State.{State}
 use Rattle.sqlite_resolve.specs.declared.state.Carried.{Carried}
 use Rattle.sqlite_resolve.specs.declared.scope.Bound.{Bound}
 use Rattle.sqlite_resolve.specs.declared.scope.Output.{Output}
-use Rattle.sqlite_resolve.specs.declared.scope.Found.TheVariants as found
 use Rattle.sqlite_resolve.specs.Lowering.{Checked, and_then, fresh, max_budget, take_slot, nothing, alone, spend, begin, finish}
 use Rattle.sqlite_resolve.specs.Scope.{Name, Context, find, column_in, hit, only, in_level, is_among, term_of, column_at, column}
 use Rattle.sqlite_resolve.specs.Body.{table_in, bound, bounds, outputs, shown, heading, declared, is_column, result, tests, join, joins, inner_join, shared, matching, body}
@@ -38,7 +36,6 @@ use Rattle.sqlite_resolve.specs.Select.{outermost, having, parts, ungrouped, ass
 use Rattle.sqlite_resolve.specs.Program.{viewing, single, alone as alone_of, whole as whole_of, level, with, query_to, query, program}
 use Rattle.sqlite_resolve.specs.Compile.{first, read, planned, meaning, returning, command, timed, compiled, with_command}
 use Rattle.sqlite_ast.specs.declared.Statement.{Statement}
-use Rattle.sqlite_ast.specs.declared.Statement.TheVariants as written
 use Rattle.sqlite_syntax.specs.declared.statement.Parsed.{Parsed}
 use Rattle.sqlite_schema.specs.declared.program.Table.{Table as Let}
 use Rattle.sqlite_schema.specs.declared.command.Command.{Command}
@@ -49,8 +46,11 @@ use Rattle.sqlite_sql.specs.Query.{Query}
 use Rattle.sqlite_draft.specs.Query.{query_of}
 use Rattle.sqlite_typing.specs.Types.{accepts_program}
 use Rattle.sqlite.specs.Listing.{understood, reads_listing, misses_table}
-use Rattle.office_tables.proofs.TextLemmas.{Plan, plan_by}
+use Rattle.office_tables.proofs.WritesLemmas.{Plan, plan_by}
 use Rattle.office_loading.proofs.MissingLemmas.{Selects, IsOfOne, sourced, page, paged}
+use Rattle.sqlite_ast.specs.declared.Origin.TheVariants as origin
+use Rattle.sqlite_resolve.specs.declared.scope.Found.TheVariants as found
+use Rattle.sqlite_ast.specs.declared.Statement.TheVariants as written
 
 abbrev text_column : Name → Column
 text_column name = record { name = name; kind = Text; is_strict = true; not_null = true; default = Null; collation = Binary }

@@ -10,7 +10,6 @@ use Rattle.sqlite.specs.Given.{Returns, HasGiven, HasBegun, Advances}
 use Rattle.sqlite.specs.Listing.{understood, reads_listing, IsSourceOf}
 use Rattle.sqlite.specs.State.{State, IsUnchanged, Shown, ShowsRows, Begins}
 use Rattle.sqlite.proofs.Callers.{given_begin, unchanged_then}
-use Rattle.sqlite_trees.specs.declared.store.Store as store
 use Rattle.sqlite_resolve.specs.declared.compiled.Compiled.{Compiled}
 use Rattle.sqlite_resolve.specs.declared.error.CompileError.{CompileError}
 use Rattle.sqlite_rules.specs.Lists.{Has}
@@ -20,7 +19,8 @@ use Rattle.office_tables.specs.declared.table_fault.TableFault.TheVariants.{Stor
 use Rattle.office_tables.specs.Faults.{IsOfStoreOr}
 use Rattle.office_tables.specs.Reading.{OnlyShows}
 use Rattle.office_loading.specs.Decoded.{Fails, ShowsUnsaid, ReadsShown}
-use Rattle.office_loading.proofs.DecodeLemmas.{zip_push}
+use Rattle.office_loading.proofs.LackingLemmas.{zip_push}
+use Rattle.sqlite_trees.specs.declared.store.Store as store
 
 -- ---- what a query leaves
 

@@ -5,7 +5,7 @@ use Rattle.box6346.specs.NumberText.{is_number}
 use Rattle.box6346.specs.SizeText.{is_size}
 use Rattle.box6346.specs.SlotName.{slot_text}
 use Rattle.box6346.specs.declared.slot.Slot.{Slot}
-use Rattle.edi_moments.specs.Moments.{CivilMoment, moment_digits}
+use Rattle.edi_syntax.specs.Moments.{CivilMoment, moment_digits}
 use Rattle.edi_messages.specs.declared.codes.PartnerKind.{PartnerKind}
 use Rattle.sqlite.specs.declared.types.Value.{Value}
 use Rattle.sqlite.specs.declared.types.Value.TheVariants.{Text}

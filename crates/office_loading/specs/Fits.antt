@@ -4,7 +4,7 @@ use Rattle.box6346.specs.NumberText.{is_number}
 use Rattle.box6346.specs.SizeText.{is_size}
 use Rattle.box6346.specs.SlotName.{slot_of, slot_text}
 use Rattle.box6346.specs.declared.slot.Slot.{Slot}
-use Rattle.edi_moments.specs.Moments.{CivilMoment, moment_of, moment_digits}
+use Rattle.edi_syntax.specs.Moments.{CivilMoment, moment_of, moment_digits}
 use Rattle.terminal_core.specs.declared.visits.Arrival.{Arrival}
 use Rattle.terminal_core.specs.declared.visits.Departure.{Departure}
 use Rattle.terminal_core.specs.declared.change.Source.{Source}

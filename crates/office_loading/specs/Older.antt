@@ -5,7 +5,7 @@ use Rattle.sqlite.specs.Order.{Row}
 use Rattle.sqlite.specs.Effect.{Database}
 use Rattle.terminal_core.specs.State.{TerminalState}
 use Rattle.terminal_core.specs.declared.change.Version.TheVariants.{First, Second}
-use Rattle.office_setup.specs.Setups.{SetupContent}
+use Rattle.office_admission.specs.Setups.{SetupContent}
 use Rattle.office_rows.specs.Tables as table
 use Rattle.office_rows.specs.Rows.{Setting}
 use Rattle.office_rows.specs.Opening.{version_text}
@@ -13,8 +13,8 @@ use Rattle.office_rows.specs.Opened.{OpenedRows, Shows}
 use Rattle.office_rows.specs.Bare.{with_weights}
 use Rattle.office_rows.specs.Migrated.{migrated_settings, migrated_opened}
 use Rattle.office_rows.specs.Office.{IsOffice}
-use Rattle.office_checks.specs.Contents.{opened_rows}
-use Rattle.office_checks.specs.declared.restoring.OpenedTables.{OpenedTables}
+use Rattle.office_loading.specs.Contents.{opened_rows}
+use Rattle.office_loading.specs.declared.restoring.OpenedTables.{OpenedTables}
 use Rattle.office_tables.specs.declared.table_fault.TableFault.{TableFault}
 use Rattle.office_tables.specs.declared.table_fault.TableFault.TheVariants.{Damaged}
 use Rattle.office_loading.specs.Fits.{FitsSetting}

@@ -8,7 +8,7 @@ use Rattle.terminal_core.specs.State.{TerminalState}
 use Rattle.terminal_core.specs.declared.restoring.RestoreFault.{RestoreFault}
 use Rattle.terminal_core.specs.declared.restoring.RestoreFault.TheVariants as restoring
 use Rattle.yard_core.specs.declared.plan.Block.{Block}
-use Rattle.office_setup.specs.Setups.{SetupContent}
+use Rattle.office_admission.specs.Setups.{SetupContent}
 use Rattle.office_rows.specs.Tables as table
 use Rattle.office_rows.specs.Rows.{Partner, PlaceContent, ListingContent, Setting}
 use Rattle.office_rows.specs.Values.{partner_values, visit_values, place_values, line_values, setting_values, block_values}
@@ -19,10 +19,10 @@ use Rattle.office_rows.specs.Stored.{columns_of}
 use Rattle.office_rows.specs.Shown.{ShowsTable}
 use Rattle.office_rows.specs.Opened.{OpenedRows, Shows}
 use Rattle.office_rows.specs.Office.{IsOffice}
-use Rattle.office_checks.specs.Closed.{ClosedContent}
-use Rattle.office_checks.specs.Contents.{opened_rows, setting_content}
-use Rattle.office_checks.specs.OwnOffice.{IsOwnOffice}
-use Rattle.office_checks.specs.declared.restoring.OpenedTables.{OpenedTables}
+use Rattle.office_loading.specs.Closed.{ClosedContent}
+use Rattle.office_loading.specs.Contents.{opened_rows, setting_content}
+use Rattle.office_loading.specs.OwnOffice.{IsOwnOffice}
+use Rattle.office_loading.specs.declared.restoring.OpenedTables.{OpenedTables}
 use Rattle.office_tables.specs.declared.table_fault.TableFault.{TableFault}
 use Rattle.office_tables.specs.declared.table_fault.TableFault.TheVariants.{Store, Damaged, Version, Memory}
 use Rattle.office_tables.specs.Faults.{IsOfStoreOr}

@@ -5,7 +5,7 @@ ghost use Rattle.sqlite.specs.Order.{column};
 
 use box6346::{BoxNumber, SizeType, Slot};
 use edi_messages::PartnerKind;
-use edi_moments::Moment;
+use edi_syntax::Moment;
 use office_tables::TableFault;
 use sqlite::types::ValueRef;
 use sqlite::{Error, ErrorCode, Row};

@@ -1,6 +1,6 @@
 ghost use Rattle.std.specs.List.Sorted.{IsPermutation};
 ghost use Rattle.std.specs.Prelude.{◌≡◌, OnOk, ◌++◌, [], ◌∷◌, ◌^◌, ⊤, IfOk, IfErr, map};
-ghost use Rattle.office_checks.specs.Contents.{setting_content, partner_content, number_content, place_content};
+ghost use Rattle.office_loading.specs.Contents.{setting_content, partner_content, number_content, place_content};
 ghost use Rattle.office_loading.specs.Columns.{SaysSetting, SaysBlock, SaysPartner, SaysNumbered, SaysVisit, SaysPlace, SaysLine, SaysNumber};
 ghost use Rattle.office_loading.specs.Decoded.{Decodes, DecodesAll, IsSaid, FailsOne};
 ghost use Rattle.office_loading.specs.Waiting.{HasHighWaiting, waiting_numbers};
@@ -20,8 +20,8 @@ use crate::columns::{
 };
 use crate::loading::{read_arrival, read_exit};
 use crate::selecting::select_waiting;
+use crate::{NumberRow, PartnerRow, Setting};
 use edi_messages::Call;
-use office_checks::{NumberRow, PartnerRow, Setting};
 use office_tables::TableFault;
 use sqlite::{Alter, Connection, Row};
 use std::alloc::{AllocError, Global};

@@ -1,5 +1,5 @@
 ghost use Rattle.std.specs.Prelude.{◌≡◌, ⊤, IfErr, [], map};
-ghost use Rattle.office_checks.specs.Contents.{partner_content, number_content, place_content, setting_content};
+ghost use Rattle.office_loading.specs.Contents.{partner_content, number_content, place_content, setting_content};
 ghost use Rattle.office_loading.specs.Decoded.{itself, ReadsShown};
 ghost use Rattle.office_loading.specs.Fits.{FitsPartner, FitsNumber, FitsVisit, FitsPlace, FitsLine, FitsBlock};
 ghost use Rattle.office_loading.specs.Tables.{layout_with, ReadsOthers, ReadsTable, ShowsPartners, ShowsVisits, ShowsPlaces, ShowsLines, ShowsBlocks};
@@ -16,7 +16,7 @@ ghost use Rattle.terminal_core.specs.Rows.{visit_content};
 
 use crate::rows::{Record, append, read_all};
 use crate::selecting::{select_blocks, select_partners, select_places};
-use office_checks::{NumberRow, OpenedTables, PartnerRow, Setting};
+use crate::{NumberRow, OpenedTables, PartnerRow, Setting};
 use office_tables::TableFault;
 use sqlite::{Alter, Connection};
 use std::alloc::Global;
@@ -186,7 +186,7 @@ fn read_blocks<S: Alter>(alloc: Global, conn: &mut Connection<S>) -> Result<Vec<
     read_all(alloc, &rows)
 }
 
-/// The records of all rows that a query shows. Each row is read as it comes, so that no two stand in memory side by side.
+/// The records of all rows that a query shows. Each row is read as it comes, so that no two are in memory at a time.
 ///
 /// Damaged if a row is no record; Store and Memory say nothing of the rows.
 fn read_shown<S: Alter, T: Record>(

@@ -1,8 +1,3 @@
-mod Growing
-mod Naming
-pub mod Plain
-mod Shown
+pub mod Shown
 mod Splitting
-mod Standing
 mod Titled
-mod Typing

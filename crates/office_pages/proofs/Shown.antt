@@ -1,18 +1,181 @@
 -- What a browser makes of the parts of a report.
-use Rattle.std.proofs.Common.{◌≡◌, ℕ, zero, suc, ◌+◌, ◌==◌, true, false, ◌&&◌, List, [], ◌∷◌, ◌++◌, codes, length, get_or, refl, sym, ap, subst, ◌∙◌, inl, inr, flat_map, append_assoc, Option, None, Some, arith}
-use Rattle.std.specs.List.{list_all, range_with_len, join_by, join_with_byte}
-use Rattle.std.specs.Prelude.{if◌then◌else◌}
-use Rattle.std.proofs.lemmas.Bool.{cases_Bool, and_parts, false≢true, ne_eqb}
+use Rattle.std.proofs.Common.{◌≡◌, ℕ, zero, suc, ◌+◌, List, ◌++◌, flat_map, sym, ap, ◌∙◌, append_assoc, arith, ◌==◌, nat_lt, true, [], ◌∷◌, refl, inl, inr, ◌||◌, false, All, length, get_or, codes, ◌&&◌, subst, Option, None, Some, nat_eq, Bool, ◌⊎◌, drop}
+use Rattle.std.specs.Prelude.{Result, Ok, Err, OnOk, is_ok, if◌then◌else◌, ◌↔◌}
+use Rattle.std.specs.List.{range_with_len, list_all, join_by, join_with_byte, starts_with}
 use Rattle.std.proofs.lemmas.List.{append-nil}
+use Rattle.std.proofs.lemmas.Bool.{and_parts, cases_Bool, false≢true, agree_below, agree_below_at, and_from, ne_eqb}
+use Rattle.office_reports.specs.Fields.{character_text, field_text}
+use Rattle.office_reports.specs.Markup.{is_plain, Place, Between, Tag, SingleQuoted, DoubleQuoted, place_after, place_after_all, tags, Shows, nothing, plain, reference}
+use Rattle.std.proofs.lemmas.Bool.Decides.{nat_tests, Decides-eqb}
+use Rattle.std.proofs.lemmas.List.Elements.{All-head, All-tail}
+use Rattle.percent_encoding.specs.declared.ascii_set.TheConstants.{NON_ALPHANUMERIC}
+use Rattle.percent_encoding.specs.AsciiSet.{contains, should_percent_encode}
+use Rattle.percent_encoding.proofs.AsciiSetLemmas.{ascii_from_kept, outside_from_kept}
+use Rattle.percent_encoding.proofs.PercentLemmas.{All-percent_encode, IsEscapeByte}
+use Rattle.box6346.specs.ContainerNumber.{number_of as box_of}
+use Rattle.office_reports.specs.declared.query.Query.{Query}
+use Rattle.office_pages.specs.Addresses.{container_address, part}
+use Rattle.office_pages.specs.Links.{container_link, leads_by_place, link_at}
+use Rattle.office_pages.specs.Pages.{gap, line_view, link, linked, named_view, word_view, body_bytes}
+use Rattle.office_pages.specs.Words.{word_at, words, lines, without_front}
 use Rattle.std.proofs.lemmas.List.Splits.{join_with_byte-slice_split}
-use Rattle.office_picture.specs.Fields.{field_text}
-use Rattle.office_picture.specs.Markup.{Place, Between, Tag, SingleQuoted, DoubleQuoted, place_after, place_after_all, tags, Shows, nothing, plain, reference}
-use Rattle.office_picture.proofs.Markup.{is_quiet, quiet_stays, quiet_has_none, field_is_quiet, field_is_shown}
-use Rattle.office_queries.specs.declared.query.Query.{Query}
+use Rattle.office_reports.proofs.Markup.{is_quiet, quiet_stays, quiet_has_none, field_is_quiet, field_is_shown}
 use Rattle.office_pages.specs.Laws.{between_tags, line_tags, link_tags}
-use Rattle.office_pages.specs.Links.{link_at}
-use Rattle.office_pages.specs.Pages.{body_bytes, gap, line_view, link, linked, word_view}
-use Rattle.office_pages.specs.Words.{lines, word_at, words}
+use Rattle.std.specs.Borrow.{Bor}
+use Rattle.std.specs.Option.{MatchOption, option_map}
+use Rattle.std.specs.Str.Iter.{HasSubslice}
+use Rattle.std.specs.Str.Pattern.{FindsTextPrefix, StripsPrefix}
+use Rattle.std.proofs.lemmas.Slice.Eq.{starts_is}
+use Rattle.office_pages.specs.Meanings.{stands_in}
+use Rattle.office_reports.specs.declared.query.Query.TheVariants as query
+
+-- ==== Growing: Texts that grow by parts.
+
+-- one part more
+pub onto : (front before part text now : List ℕ) → text ≡ front ++ before → now ≡ text ++ part → now ≡ front ++ (before ++ part)
+onto front before part text now e is = is ∙ ap (λ t. t ++ part) e ∙ append_assoc front before part
+
+-- three parts
+pub three : (front a b d one two now : List ℕ) → one ≡ front ++ a → two ≡ one ++ b → now ≡ two ++ d → now ≡ front ++ (a ++ b ++ d)
+three front a b d one two now e f g = onto front (a ++ b) d two now (onto front a b one two e f) g
+
+-- one part more, of a text from its first byte
+pub behind : (before part text now : List ℕ) → text ≡ before → now ≡ text ++ part → now ≡ before ++ part
+behind before part text now e is = is ∙ ap (λ t. t ++ part) e
+
+-- one part more, if there was memory
+pub if_pushed : {A E : Type 0} (r : Result A E) (text pushed before : List ℕ) → text ≡ (if is_ok r then pushed else before) → OnOk r (text ≡ pushed)
+if_pushed (Ok v) text pushed before e = e
+if_pushed (Err f) text pushed before e = tt
+
+-- counted parts
+module _ (f : ℕ → List ℕ) where
+  -- one part more
+  from : (a n m : ℕ) → a + n ≡ m → flat_map f (range_with_len a (suc n)) ≡ flat_map f (range_with_len a n) ++ f m
+  from a zero m e = append-nil (f a) ∙ ap f (omega arith)
+  from a (suc n) m e = ap (λ rest. f a ++ rest) (from (a + 1) n m (omega arith)) ∙ sym (append_assoc (f a) (flat_map f (range_with_len (a + 1) n)) (f m))
+
+  pub next : (n : ℕ) (before text now : List ℕ) → text ≡ before ++ flat_map f (range_with_len 0 n) → now ≡ text ++ f n → now ≡ before ++ flat_map f (range_with_len 0 (n + 1))
+  next n before text now e is =
+      let more : n + 1 ≡ suc n = omega arith in
+      is ∙ ap (λ t. t ++ f n) e ∙ append_assoc before (flat_map f (range_with_len 0 n)) (f n)
+      ∙ ap (λ t. before ++ t) (sym (ap (λ k. flat_map f (range_with_len 0 k)) more ∙ from 0 n n (omega arith)))
+
+-- ==== Plain: Texts of plain characters only stand as they are.
+
+plain_character : (c : ℕ) → is_plain c ≡ true → character_text c ≡ c ∷ []
+plain_character c bare = elim (cases_Bool (nat_lt c 128)) [
+  | inr high ↦ absurd (false≢true (rw high at bare))
+  | inl low ↦ elim (cases_Bool (c == 38)) [
+    | inl e ↦ absurd (false≢true (rw (low, e) at bare))
+    | inr a ↦ elim (cases_Bool (c == 60)) [
+      | inl e ↦ absurd (false≢true (rw (low, a, e) at bare))
+      | inr l ↦ elim (cases_Bool (c == 62)) [
+        | inl e ↦ absurd (false≢true (rw (low, a, l, e) at bare))
+        | inr g ↦ elim (cases_Bool (c == 34)) [
+          | inl e ↦ absurd (false≢true (rw (low, a, l, g, e) at bare))
+          | inr q ↦ elim (cases_Bool (c == 39)) [
+            | inl e ↦ absurd (false≢true (rw (low, a, l, g, q, e) at bare))
+            | inr p ↦ rw (a, l, g, q, p, low) refl
+          ]
+        ]
+      ]
+    ]
+  ]
+]
+
+pub plain_field : (bytes : List ℕ) → list_all is_plain bytes ≡ true → field_text bytes ≡ bytes
+plain_field [] all = refl
+plain_field (c ∷ bytes) all =
+    let parts = and_parts (is_plain c) (list_all is_plain bytes) all in
+    λ i. plain_character c parts.0 i ++ plain_field bytes parts.1 i
+
+-- ==== Naming: Words that lead by what they name.
+
+-- ---- addresses have plain characters only
+
+-- a byte that stands for itself in an address
+outside_or_plain : agree_below (λ b. contains NON_ALPHANUMERIC b || is_plain b) (λ b. true) 128 ≡ true
+outside_or_plain = refl
+
+kept_is_plain : (b : ℕ) → should_percent_encode NON_ALPHANUMERIC b ≡ false → is_plain b ≡ true
+kept_is_plain b kept =
+    let one = agree_below_at (λ c. contains NON_ALPHANUMERIC c || is_plain c) (λ c. true) 128 b outside_or_plain (ascii_from_kept NON_ALPHANUMERIC b kept) in
+    rw (outside_from_kept NON_ALPHANUMERIC b kept) at one
+
+escape_is_plain : (b : ℕ) → IsEscapeByte b → is_plain b ≡ true
+escape_is_plain b is = grind (arith, nat_tests)
+
+all_plain : (bytes : List ℕ) → All (λ b. is_plain b ≡ true) bytes → list_all is_plain bytes ≡ true
+all_plain [] all = refl
+all_plain (b ∷ bytes) all =
+    and_from (is_plain b) (list_all is_plain bytes) (All-head (λ c. is_plain c ≡ true) b bytes all) (all_plain bytes (All-tail (λ c. is_plain c ≡ true) b bytes all))
+
+part_is_plain : (name : List ℕ) → list_all is_plain (part name) ≡ true
+part_is_plain name = all_plain (part name) (All-percent_encode (λ b. is_plain b ≡ true) NON_ALPHANUMERIC name kept_is_plain escape_is_plain)
+
+-- so they stand in a page as they are
+pub address_field : (name : List ℕ) → field_text (container_address name) ≡ container_address name
+address_field name = plain_field (container_address name) (part_is_plain name)
+
+-- a container number, with the link around it
+pub named_number : (word : List ℕ) → is_ok (box_of word) ≡ true →
+    named_view word ≡ codes "<a href='/pages/containers/" ++ part word ++ codes "'>" ++ field_text word ++ codes "</a>"
+unfolding link
+named_number word is =
+    rw is (ap (λ address. codes "<a href='" ++ address ++ codes "'>" ++ field_text word ++ codes "</a>") (address_field word))
+
+-- ---- lines of which no word leads by its place
+
+by_name : (asked : Query) (ws : List (List ℕ)) (place : ℕ) → leads_by_place asked ≡ false → link_at asked ws place ≡ container_link (word_at ws place)
+by_name query.Yard ws place by = refl
+by_name query.YardTable ws place by = refl
+by_name (query.Visits number) ws place by = absurd (false≢true (sym by))
+by_name (query.List call side) ws place by = refl
+by_name (query.Ticket partner number) ws place by = absurd (false≢true (sym by))
+by_name (query.Reply partner number) ws place by = refl
+by_name (query.Container number) ws place by = absurd (false≢true (sym by))
+by_name (query.Work call side) ws place by = refl
+by_name query.Partners ws place by = absurd (false≢true (sym by))
+by_name query.Blocks ws place by = absurd (false≢true (sym by))
+by_name query.Calls ws place by = absurd (false≢true (sym by))
+by_name (query.Contrl partner number) ws place by = refl
+by_name query.Picture ws place by = refl
+by_name (query.Partner code) ws place by = refl
+by_name (query.Next code) ws place by = refl
+by_name query.Health ws place by = refl
+by_name query.Metrics ws place by = refl
+
+-- a word, and what stands before it
+placed_as_named : (asked : Query) (ws : List (List ℕ)) (place : ℕ) → leads_by_place asked ≡ false → word_view asked ws place ≡ gap place ++ named_view (word_at ws place)
+placed_as_named asked ws place by = ap (λ where_to. gap place ++ linked where_to (word_at ws place)) (by_name asked ws place by)
+
+-- the words after the first
+rest_named : (asked : Query) → leads_by_place asked ≡ false → (ws rest : List (List ℕ)) (k : ℕ) → ((i : ℕ) → get_or ws (suc k + i) [] ≡ get_or rest i []) →
+    flat_map (word_view asked ws) (range_with_len (suc k) (length rest)) ≡ flat_map (λ w. codes " " ++ named_view w) rest
+rest_named asked by ws [] k same = refl
+rest_named asked by ws (w ∷ rest) k same =
+    let none : suc k + 0 ≡ suc k = omega arith in
+    let here : get_or ws (suc k) [] ≡ w = sym (ap (λ n. get_or ws n []) none) ∙ same 0 in
+    let gapped : gap (suc k) ≡ codes " " = ap (λ b. if b then [] else codes " ") (ne_eqb (suc k) 0 (λ (e : suc k ≡ 0). omega (arith, e))) in
+    let next : suc k + 1 ≡ suc (suc k) = omega arith in
+    let others : (i : ℕ) → get_or ws (suc (suc k) + i) [] ≡ get_or rest i [] =
+    λ i. (let moved : suc (suc k) + i ≡ suc k + suc i = omega arith in ap (λ n. get_or ws n []) moved ∙ same (suc i)) in
+    (λ j. (placed_as_named asked ws (suc k) by ∙ (λ h. gapped h ++ named_view (here h))) j ++ flat_map (word_view asked ws) (range_with_len (next j) (length rest)))
+    ∙ ap (λ t. (codes " " ++ named_view w) ++ t) (rest_named asked by ws rest (suc k) others)
+
+words_named : (asked : Query) → leads_by_place asked ≡ false → (ws : List (List ℕ)) →
+    flat_map (word_view asked ws) (range_with_len 0 (length ws)) ≡ join_by named_view (codes " ") ws
+words_named asked by [] = refl
+words_named asked by (w ∷ rest) =
+    let same : (i : ℕ) → get_or (w ∷ rest) (suc 0 + i) [] ≡ get_or rest i [] =
+    λ i. (let moved : suc 0 + i ≡ suc i = omega arith in ap (λ n. get_or (w ∷ rest) n []) moved) in
+    λ j. placed_as_named asked (w ∷ rest) 0 by j ++ rest_named asked by (w ∷ rest) rest 0 same j
+
+pub named_line : (asked : Query) (line : List ℕ) → leads_by_place asked ≡ false → line_view asked line ≡ join_by named_view (codes " ") (words line)
+named_line asked line by = words_named asked by (words line)
+
+-- ==== Shown: What a browser makes of the parts of a report.
 
 -- ---- parts one after the other
 
@@ -227,3 +390,56 @@ lines_part asked (line ∷ ls) =
 
 pub body_part : (asked : Query) (text : List ℕ) → Part (body_bytes asked text) text (flat_map (line_tags asked) (lines text))
 body_part asked text = same_part _ _ _ _ _ _ refl (join_with_byte-slice_split 10 text) refl (lines_part asked (lines text))
+
+-- ==== Standing: A part of a text, at its front or further on.
+
+-- it begins with the part
+front_of : (part text rest : List ℕ) → text ≡ part ++ rest → starts_with nat_eq text part ≡ true
+front_of part text rest is = (starts_is Decides-eqb text part (starts_with nat_eq text part) refl).1 rest is
+
+-- so it has it
+begins : (part text : List ℕ) → starts_with nat_eq text part ≡ true → stands_in part text ≡ true
+begins part [] is = is
+begins part (c ∷ text) is = rw is refl
+
+or_right : (a b : Bool) → b ≡ true → a || b ≡ true
+or_right true b is = refl
+or_right false b is = is
+
+or_parts : (a b : Bool) → a || b ≡ true → (a ≡ true) ⊎ (b ≡ true)
+or_parts true b is = inl refl
+or_parts false b is = inr is
+
+stands : (part before rest text : List ℕ) → text ≡ before ++ (part ++ rest) → stands_in part text ≡ true
+stands part [] rest text is = begins part text (front_of part text rest is)
+stands part (c ∷ before) rest [] is = cc
+stands part (c ∷ before) rest (d ∷ text) is =
+    let same : text ≡ before ++ (part ++ rest) = cc in
+    or_right (starts_with nat_eq (d ∷ text) part) (stands_in part text) (stands part before rest text same)
+
+stood : (part text : List ℕ) → stands_in part text ≡ true → HasSubslice text part
+stood part [] is = ([], drop (length part) [], (starts_is Decides-eqb [] part (starts_with nat_eq [] part) refl).0 is)
+stood part (c ∷ text) is = elim (or_parts (starts_with nat_eq (c ∷ text) part) (stands_in part text) is) [
+  | inl front ↦ ([], drop (length part) (c ∷ text), (starts_is Decides-eqb (c ∷ text) part (starts_with nat_eq (c ∷ text) part) refl).0 front)
+  | inr behind ↦ let more = stood part text behind in (c ∷ more.0, more.1, ap (λ t. c ∷ t) more.2)
+]
+
+-- so a test that decides it is it
+pub decided : (part text : List ℕ) (r : Bool) → (r ≡ true) ↔ HasSubslice text part → r ≡ stands_in part text
+decided part text true tells = let has = tells.0 refl in sym (stands part has.0 has.1 text has.2)
+decided part text false tells = elim (cases_Bool (stands_in part text)) [
+  | inl here ↦ tells.1 (stood part text here) ∙ sym here
+  | inr none ↦ sym none
+]
+
+-- what stands after a front
+pub stripped : (front text : List ℕ) (r : Option (Bor (List ℕ))) →
+    MatchOption r (FindsTextPrefix front text None) (λ x. StripsPrefix (FindsTextPrefix front) text x.now) →
+    option_map (λ x. x.now) r ≡ without_front front text
+stripped front text None lacks = elim (cases_Bool (starts_with nat_eq text front)) [
+  | inl begins ↦ absurd (lacks (drop (length front) text) ((starts_is Decides-eqb text front (starts_with nat_eq text front) refl).0 begins))
+  | inr other ↦ rw other refl
+]
+stripped front text (Some x) (n, found, rest, ends) =
+    let begins = (starts_is Decides-eqb text front (starts_with nat_eq text front) refl).1 (drop n text) found.1 in
+    rw begins (ap Some (rest ∙ ap (λ k. drop k text) found.0))

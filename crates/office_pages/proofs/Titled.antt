@@ -1,7 +1,7 @@
 -- Pages with other titles have the same tags.
 use Rattle.std.proofs.Common.{◌≡◌, ℕ, false, List, ◌++◌, codes, flat_map, refl, sym, ap, ◌∙◌}
-use Rattle.office_picture.specs.Fields.{field_text}
-use Rattle.office_picture.specs.Markup.{Between, place_after_all, tags}
+use Rattle.office_reports.specs.Fields.{field_text}
+use Rattle.office_reports.specs.Markup.{Between, place_after_all, tags}
 use Rattle.office_pages.specs.Fixed.{foot, head, top}
 use Rattle.office_pages.specs.Laws.{NamesBringNoMarkup}
 use Rattle.office_pages.specs.Pages.{again, count_view, page_head}

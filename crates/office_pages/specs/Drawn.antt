@@ -2,7 +2,7 @@
 use Rattle.std.specs.Prelude.{ℕ, ◌==◌, Bool, List, ◌++◌, codes, nat_eq, Option, None, Some, if◌then◌else◌}
 use Rattle.std.specs.List.{join_by, slice_split, starts_with}
 use Rattle.std.specs.Str.{bytes_eq}
-use Rattle.office_picture.specs.Fields.{field_text}
+use Rattle.office_reports.specs.Fields.{field_text}
 use Rattle.office_pages.specs.Links.{container_link}
 use Rattle.office_pages.specs.Words.{lines, word_at, words}
 

@@ -5,9 +5,9 @@ use Rattle.std.specs.Str.{bytes_eq}
 use Rattle.edi_messages.specs.declared.call.Call.{Call}
 use Rattle.edi_syntax.specs.Numbers.{number_of}
 use Rattle.terminal_core.specs.declared.lines.Side.{Side}
-use Rattle.office_picture.specs.Fields.{field_text}
-use Rattle.office_queries.specs.declared.query.Query.{Query}
-use Rattle.office_queries.specs.declared.query.Query.TheVariants as query
+use Rattle.office_reports.specs.Fields.{field_text}
+use Rattle.office_reports.specs.declared.query.Query.{Query}
+use Rattle.office_reports.specs.declared.query.Query.TheVariants as query
 use Rattle.office_pages.specs.Addresses.{address_of_two, container_address, list_address, partner_address, reply_address, visits_address, work_address}
 use Rattle.office_pages.specs.Drawn.{picture_view}
 use Rattle.office_pages.specs.Fixed.{foot, head, top}

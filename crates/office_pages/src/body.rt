@@ -1,15 +1,14 @@
 //! A report's own text, shown.
 ghost use Rattle.std.specs.List.{join_by, list_all};
 ghost use Rattle.std.specs.Prelude.{◌≡◌, ◌++◌, OnOk, codes, string_bytes};
-ghost use Rattle.office_picture.specs.Fields.{field_text};
-ghost use Rattle.office_picture.specs.Markup.{is_plain};
+ghost use Rattle.office_reports.specs.Fields.{field_text};
+ghost use Rattle.office_reports.specs.Markup.{is_plain};
 ghost use Rattle.office_pages.specs.Pages.{body_bytes, gap, line_view, link, named_view, word_view};
 ghost use Rattle.office_pages.specs.Words.{texts_of, words};
 
 use crate::links::{leads_by_place, link_at, push_part, word_at, words_of};
 use box6346::BoxNumber;
-use office_picture::field_text;
-use office_queries::Query;
+use office_reports::{Query, field_text};
 use std::alloc::{AllocError, Global};
 
 /// Appends the lines of a report, with a link around each word that names something.
@@ -31,7 +30,7 @@ pub(crate) fn push_body(
 }
 
 /// Appends a line.
-#[tactic(auto, using(crate::proofs::Naming::named_line))]
+#[tactic(auto, using(crate::proofs::Shown::named_line))]
 fn push_line(alloc: Global, page: &mut String, query: &Query, line: &str) -> Result<(), AllocError>
     ensures { OnOk result (string_bytes page.new ≡ string_bytes page.old ++ line_view query.now line.now) }
 {
@@ -146,7 +145,7 @@ pub(crate) fn push_number_link(
 }
 
 /// Appends a text, written so that no markup comes of it; one of plain characters only is appended as it is.
-#[tactic(auto, using(crate::proofs::Plain::plain_field))]
+#[tactic(auto, using(crate::proofs::Shown::plain_field))]
 pub(crate) fn push_text(alloc: Global, page: &mut String, text: &str) -> Result<(), AllocError>
     ensures { OnOk result (string_bytes page.new ≡ string_bytes page.old ++ field_text text.now) }
 {

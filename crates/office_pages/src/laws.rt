@@ -13,12 +13,12 @@ pub fn reports_stay_in_place()
     ensures { ReportsStayInPlace }
 {}
 
-/// Whatever the report says, a page has of it the tags of its links, and no others.
+/// For any text of a report a page has of it the tags of its links, and no others.
 pub fn reports_bring_no_markup()
     ensures { ReportsBringNoMarkup }
 {}
 
-/// Whatever the terminal's name is, the start page has the same tags.
+/// For any name of the terminal the start page has the same tags.
 pub fn names_bring_no_markup()
     ensures { NamesBringNoMarkup }
 {}

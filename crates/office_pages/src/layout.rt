@@ -6,11 +6,11 @@ ghost use Rattle.office_pages.specs.Titles.{call_title, interchange_title, list_
 
 use crate::body::push_field;
 use edi_messages::Call;
-use office_queries::Query;
+use office_reports::Query;
 use std::alloc::{AllocError, Global};
 use terminal_core::Side;
 
-/// Appends what stands before a report: the title, and links to the reports without a key.
+/// Appends what comes before a report: the title, and links to the reports without a key.
 #[tactic(auto, unfolding(crate::specs::Pages::page_head))]
 pub(crate) fn push_head(
     alloc: Global,

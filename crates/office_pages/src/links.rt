@@ -6,7 +6,7 @@ ghost use Rattle.office_pages.specs.Links.{block_link, call_link, container_link
 ghost use Rattle.office_pages.specs.Words.{is_at, texts_of, word_at, words};
 
 use box6346::BoxNumber;
-use office_queries::{Query, number_of};
+use office_reports::{Query, number_of};
 use percent_encoding::{NON_ALPHANUMERIC, percent_encode};
 use std::alloc::{AllocError, Global};
 use terminal_core::Side;
@@ -114,7 +114,7 @@ fn passage_link(alloc: Global, words: &[&str], place: usize) -> Result<Option<St
     }
 }
 
-/// Whether `GATE` or `SHIP` stands there.
+/// Whether it is `GATE` or `SHIP`.
 fn is_way_at(words: &[&str], place: usize) -> bool
     ensures { result ≡ is_way_at (texts_of words.now) place }
 {
@@ -207,7 +207,7 @@ fn block_link(alloc: Global, words: &[&str], place: usize) -> Result<Option<Stri
     }
 }
 
-/// Appends a part of a path: letters and digits stand for themselves, another byte is written as `%` and two digits.
+/// Appends a part of a path: letters and digits as they are, another byte is written as `%` and two digits.
 pub(crate) fn push_part(text: &mut String, bytes: &[u8]) -> Result<(), AllocError>
     ensures { OnOk result (string_bytes text.new ≡ string_bytes text.old ++ part bytes.now) }
 {
@@ -278,7 +278,7 @@ fn side_path(side: Side) -> &'static str
     }
 }
 
-/// The words of a line, which stand between spaces.
+/// The words of a line, between spaces.
 pub(crate) fn words_of<'a>(alloc: Global, line: &'a str) -> Result<Vec<&'a str>, AllocError>
     ensures { IfOk result (λ found. texts_of found.items ≡ words line.now) }
 {
@@ -295,7 +295,7 @@ pub(crate) fn word_at<'a>(words: &[&'a str], place: usize) -> &'a str
     }
 }
 
-/// Whether that word stands there.
+/// Whether that word is there.
 pub(crate) fn is_at(words: &[&str], place: usize, word: &str) -> bool
     ensures { result ≡ is_at (texts_of words.now) place word.now }
 {

@@ -1,4 +1,4 @@
-//! What a person types for a container's number, and what a page tells in place of a report.
+//! What a person types for a container's number, and what a page says in place of a report.
 ghost use Rattle.std.specs.Prelude.{◌≡◌, ◌++◌, IfOk, IsTrue, OnOk, string_bytes};
 ghost use Rattle.box6346.specs.ContainerNumber.{number_of};
 ghost use Rattle.box6346.specs.NumberText.{has_form};
@@ -13,7 +13,7 @@ use box6346::{BoxNumber, NumberFault, check_digit};
 use percent_encoding::percent_decode;
 use std::alloc::{AllocError, Global};
 
-/// What a page tells in place of a report.
+/// What a page says in place of a report.
 #[derive(Clone, Copy, PartialEq, Eq, Debug)]
 pub enum Notice {
     /// There is nothing under this address.
@@ -24,7 +24,7 @@ pub enum Notice {
     CheckDigit(BoxNumber),
 }
 
-/// The page that tells a person why there is no report.
+/// The page that says why there is no report.
 pub fn notice_page(alloc: Global, notice: &Notice) -> Result<String, AllocError>
     ensures { IfOk result (λ page. string_bytes page ≡ notice_bytes notice.now) }
 {
@@ -66,9 +66,9 @@ fn notice_title(notice: &Notice) -> &'static str
     }
 }
 
-/// The container number that a person typed, from the value as it stands in the address after `?container=`: `%` and
-/// two hexadecimal digits stand for a byte, and another `%` for itself. Small letters stand for capitals; spaces, also
-/// as `+`, and hyphens are left out. Else the notice that tells what is wrong: another form, or another check digit,
+/// The container number that a person typed, from the value in the address after `?container=`: `%` and
+/// two hexadecimal digits write a byte, another `%` itself. Small letters count as capitals; spaces, also
+/// as `+`, and hyphens are left out. Else the notice that says what is wrong: another form, or another check digit,
 /// and then the number with the right one.
 pub fn typed_number(alloc: Global, value: &[u8]) -> Result<Result<BoxNumber, Notice>, AllocError>
     ensures { IfOk result (λ found. found ≡ typed value.now) }

@@ -9,7 +9,7 @@ use crate::body::{push_body, push_text};
 use crate::layout::{foot, push_head, start_title, title};
 use crate::links::{container_link, word_at, words_of};
 use crate::related::{push_below, push_beside, push_second};
-use office_queries::Query;
+use office_reports::Query;
 use std::alloc::{AllocError, Global};
 
 /// Whether what is asked for is shown as a page of its own. The table of the yard is for programs, and so are health,
@@ -27,7 +27,7 @@ pub fn has_page(query: &Query) -> bool
 }
 
 /// The page of a report: what was asked for, its text, and below it what the names in a reply mean, or links to the
-/// replies to a partner's last interchanges; then the text of the report that `second_of` names, if that tells something.
+/// replies to a partner's last interchanges; then the text of the report that `second_of` names, if that has something.
 /// That of the picture is the picture, with a link from each container to its page.
 pub fn page(
     alloc: Global,
@@ -206,7 +206,7 @@ fn draws_container(line: &str) -> bool
     line.starts_with("<g transform='translate(")
 }
 
-/// What of a line stands between `>`.
+/// What of a line is between `>`.
 fn tag_ends<'a>(alloc: Global, line: &'a str) -> Result<Vec<&'a str>, AllocError>
     ensures { IfOk result (λ found. texts_of found.items ≡ tag_ends line.now) }
 {

@@ -1,4 +1,4 @@
-//! What a page shows besides its report: links to other pages on the same thing, and what stands below.
+//! What a page shows besides its report: links to other pages on the same thing, and what is below.
 ghost use Rattle.std.specs.List.{before_first};
 ghost use Rattle.std.specs.Prelude.{◌≡◌, ◌++◌, ◌==◌, IfOk, OnOk, Some, option_map, string_bytes};
 ghost use Rattle.office_pages.specs.Addresses.{address_of_one};
@@ -11,7 +11,7 @@ use crate::links::{
 };
 use crate::meanings::{push_framed, push_meanings};
 use edi_messages::Call;
-use office_queries::{Query, number_of};
+use office_reports::{Query, number_of};
 use std::alloc::{AllocError, Global};
 use terminal_core::Side;
 

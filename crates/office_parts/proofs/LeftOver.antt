@@ -10,8 +10,8 @@ use Rattle.office_history.specs.Cascade.{TakenContent, with_changes, with_interc
 use Rattle.office_history.proofs.Runs.{pair_of}
 use Rattle.office_parts.specs.Closing.{is_closed, is_beyond}
 use Rattle.office_parts.specs.LeftOver.{rows_beyond, LeftOverTellNothing, LeftOverStayApart, LeftOverMayGo, RaisingCloses}
-use Rattle.office_parts.proofs.Events.{all_own}
-use Rattle.office_parts.proofs.Lookups.{body_there, reply_there}
+use Rattle.office_parts.proofs.Takings.{all_own}
+use Rattle.office_parts.proofs.Orders.{body_there, reply_there}
 
 -- a number that is beyond is not closed
 pub far_beyond : (last_closed : ℕ → ℕ) (i : Interchange) (b : Bool) → nat_le i.number (last_closed i.partner) ≡ b → last_closed i.partner < i.number → not b ≡ true

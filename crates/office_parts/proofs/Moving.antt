@@ -9,16 +9,14 @@ use Rattle.terminal_core.specs.declared.visits.Departure.{Departure}
 use Rattle.terminal_core.specs.Rows.{VisitContent, ChangeContent, visit_opened, visit_closed, placed_at, moved_to, removed_from, listed_on, line_done, unlisted}
 use Rattle.terminal_core.specs.State.{IsWhole}
 use Rattle.terminal_core.specs.Changes.{TerminalRows, visit_with_departure, rows_of}
-use Rattle.office_taking.specs.Taking.{MachineState, interchange_taken, interchange_changes}
-use Rattle.office_taking.proofs.Turning.{interchange_leads}
+use Rattle.office_admission.specs.Taking.{MachineState, interchange_taken, interchange_changes}
+use Rattle.office_admission.proofs.Takings.{interchange_leads}
 use Rattle.office_rows.specs.Rows.{Partner, Interchange, Rows}
 use Rattle.office_rows.specs.Effects.{is_pair, with_waiting, with_partner, with_taken, with_change}
 use Rattle.office_history.specs.Cascade.{TakenContent, with_changes, with_interchange, with_interchanges, AreTakenFrom}
 use Rattle.office_parts.specs.OwnTerminal.{IsOfOwn, MayStay}
-use Rattle.office_parts.proofs.Lists.{kept_pushed, kept_mapped, as_keeps}
-use Rattle.office_parts.proofs.Spared.{changes_spared}
+use Rattle.office_parts.proofs.Splits.{kept_pushed, kept_mapped, as_keeps, changes_spared, Has, has_contained, contained_has, has_left, has_pushed, has_mapped, has_image}
 use Rattle.office_parts.specs.Parts.{Archived, AreClosed, AreParts}
-use Rattle.office_parts.proofs.Splits.{Has, has_contained, contained_has, has_left, has_pushed, has_mapped, has_image}
 
 -- ---- a text more, an account more
 

@@ -10,54 +10,36 @@ use Rattle.std.proofs.lemmas.Bool.Decides.{nat_tests}
 use Rattle.std.proofs.lemmas.List.Elements.{All-cons, All-nil}
 use Rattle.std.proofs.lemmas.List.Sorted.{IsPermutation-refl, IsPermutation-sym, Contains-permutation, sum_by-IsPermutation}
 use Rattle.sqlite.specs.Effect.{Database}
-use Rattle.sqlite.specs.declared.types.Value.TheVariants.{Text}
-use Rattle.sqlite_value.specs.Order.{value_cmp}
 use Rattle.edi_messages.specs.declared.codes.PartnerKind.{PartnerKind}
 use Rattle.terminal_core.specs.Changes.{TerminalRows, rows_of}
 use Rattle.terminal_core.specs.Forms.{IsWellFormed}
 use Rattle.terminal_core.specs.Rows.{VisitContent}
 use Rattle.terminal_core.specs.State.{TerminalState, IsWhole}
-use Rattle.office_setup.specs.Given.{IsGiven}
-use Rattle.office_setup.specs.Setups.{SetupContent}
+use Rattle.office_admission.specs.Given.{IsGiven}
+use Rattle.office_admission.specs.Setups.{SetupContent}
 use Rattle.office_rows.specs.Rows.{Partner, Interchange, Rows}
-use Rattle.office_rows.specs.Values.{number_value, partner_values, interchange_values, visit_values, place_values, line_values, setting_values, block_values}
+use Rattle.office_rows.specs.Values.{partner_values, interchange_values, visit_values, place_values, line_values, setting_values, block_values}
 use Rattle.office_rows.specs.Stored.{AreRows}
 use Rattle.office_rows.specs.Effects.{stands_for, is_line, is_pair}
 use Rattle.office_rows.specs.Opened.{NumberKept, number_kept, reply_values, OpenedRows, Shows}
 use Rattle.office_rows.specs.Office.{settings_by_name, AreAccounts, HasAccounts}
 use Rattle.office_rows.specs.Tables.{partner_table, interchange_table, visit_table, place_table, listing_table, block_table, setting_table as settings_table}
-use Rattle.office_checks.specs.Checks.{numbers_beyond, AreKeptBeyond, AreOwnVisits}
-use Rattle.office_checks.specs.Closed.{ClosedContent}
-use Rattle.office_checks.specs.OwnOffice.{ComesAfter, AreInOrder, IsClosedBelow, AreOwnNumbers, IsOwnOffice}
+use Rattle.office_loading.specs.Checks.{numbers_beyond, AreKeptBeyond, AreOwnVisits}
+use Rattle.office_loading.specs.Closed.{ClosedContent}
+use Rattle.office_loading.specs.OwnOffice.{ComesAfter, AreInOrder, IsClosedBelow, AreOwnNumbers, IsOwnOffice}
 use Rattle.office_history.specs.After.{AreKeptOnce, accounts_from}
 use Rattle.office_history.specs.Laws.{AreRowsByKey}
-use Rattle.office_history.proofs.Kept.{Starts, Rise, Has, accounts_are}
+use Rattle.office_history.proofs.Kept.{Starts, Rise, Has, accounts_are, Rises, count_more}
 use Rattle.office_history.proofs.Loads.{accounts_rise, numbered_rise, letter_key, blocks_rise, any_head, places_same, lines_same}
-use Rattle.office_history.proofs.Shown.{Rises}
-use Rattle.office_history.proofs.Sorting.{InTurn, is_before, number_order, text_order, shows_records, by_keys}
+use Rattle.office_history.proofs.Runs.{InTurn, is_before, shows_records, by_keys}
 use Rattle.office_parts.specs.Closing.{is_beyond}
-use Rattle.office_parts.proofs.Beyond.{IsBeyond, IsComplete, all_kept}
-use Rattle.office_parts.proofs.InOrder.{in_order, order_filtered, rise_of, has_at, all_numbered, beyond_numbered}
-use Rattle.office_parts.proofs.Splits.{Has as HasElement, has_contained, contained_has, count_more}
+use Rattle.office_parts.proofs.Opening.{IsBeyond, IsComplete, all_kept}
+use Rattle.office_parts.proofs.Orders.{in_order, order_filtered, rise_of, beyond_numbered}
+use Rattle.office_parts.proofs.Splits.{Has as HasElement, has_contained, contained_has}
+use Rattle.office_history.proofs.KeptNumbers.{all_numbered, has_at}
+use Rattle.office_history.proofs.Offices.{not_before, not_before_byte, rising_in_turn, text_after}
 
 -- ---- keys in order
-
-greater_first : (m n : ℕ) → n < m → nat_cmp m n ≡ Greater
-greater_first m n below = grind (arith, nat_tests)
-
-not_before : (m n : ℕ) (rest : Ordering) → n < m → is_lt (ordering_then (value_cmp (number_value m) (number_value n)) rest) ≡ false
-not_before m n rest below = ap (λ o. is_lt (ordering_then o rest)) (number_order m n ∙ greater_first m n below)
-
-not_before_byte : (m n : ℕ) (rest : Ordering) → n < m → is_lt (ordering_then (value_cmp (Text (m ∷ [])) (Text (n ∷ []))) rest) ≡ false
-not_before_byte m n rest below = ap (λ o. is_lt (ordering_then o rest)) (text_order (m ∷ []) (n ∷ []) ∙ ap (λ o. ordering_then o Equal) (greater_first m n below))
-
-rising_in_turn : {A : Type 0} (key : A → ℕ) (lt : A → A → Bool) → ((x y : A) → key x < key y → lt y x ≡ false) → (low : ℕ) (xs : List A) → Rises key low xs → InTurn lt xs
-rising_in_turn key lt after low [] rises = tt
-rising_in_turn key lt after low (x ∷ []) rises = (tt, tt)
-rising_in_turn key lt after low (x ∷ y ∷ xs) rises = (after x y rises.1.0, rising_in_turn key lt after (key x) (y ∷ xs) rises.1)
-
-text_after : (s t : List ℕ) → is_lt (ordering_then (slice_cmp nat_cmp s t) Equal) ≡ false → is_lt (ordering_then (value_cmp (Text s) (Text t)) Equal) ≡ false
-text_after s t after = ap (λ o. is_lt (ordering_then o Equal)) (text_order s t) ∙ after
 
 settings_in_turn : (content : SetupContent) → InTurn (is_before (0 ∷ []) setting_values) (settings_by_name content)
 settings_in_turn content = (

@@ -5,7 +5,7 @@ use Rattle.terminal_core.specs.Rows.{VisitContent}
 use Rattle.office_admission.specs.Deliveries.{deliveries_of}
 use Rattle.office_replies.specs.Events.{Event}
 use Rattle.office_rows.specs.Rows.{Interchange, Rows}
-use Rattle.office_setup.specs.Setups.{SetupContent}
+use Rattle.office_admission.specs.Setups.{SetupContent}
 use Rattle.office_parts.specs.OwnTerminal.{own_visits, MayStay}
 use Rattle.office_parts.specs.Parts.{Archived}
 

@@ -4,7 +4,7 @@ use Rattle.std.specs.List.{AllByRecursion}
 use Rattle.sqlite.specs.Effect.{Database}
 use Rattle.edi_messages.specs.Orders.{OrderContent}
 use Rattle.edi_messages.specs.declared.codes.PartnerKind.{PartnerKind}
-use Rattle.edi_segments.specs.Interchange.{interchange_of}
+use Rattle.edi_syntax.specs.Interchange.{interchange_of}
 use Rattle.partner_core.specs.Deliveries.{first_text, run}
 use Rattle.partner_core.specs.Answers.{Repeat, Clash}
 use Rattle.partner_core.specs.Order.{reply_of}
@@ -24,10 +24,10 @@ use Rattle.office_rows.specs.Effects.{with_waiting, with_partner}
 use Rattle.office_rows.specs.Opened.{NumberKept, ShowsNumbers, OpenedRows, Shows}
 use Rattle.office_rows.specs.Rows.{Interchange, ListingContent, Rows}
 use Rattle.office_rows.specs.Stored.{HasRows}
-use Rattle.office_setup.specs.Given.{IsGiven}
-use Rattle.office_setup.specs.Kinds.{kind_named}
-use Rattle.office_setup.specs.Setups.{SetupContent}
-use Rattle.office_taking.specs.Taking.{MachineState, interchange_taken_by, interchange_changes_by}
+use Rattle.office_admission.specs.Given.{IsGiven}
+use Rattle.office_admission.specs.Kinds.{kind_named}
+use Rattle.office_admission.specs.Setups.{SetupContent}
+use Rattle.office_admission.specs.Taking.{MachineState, interchange_taken_by, interchange_changes_by}
 use Rattle.office_history.specs.After.{opening_of, taking_in, machine_after, reply_in, AreAfter, AreKeptOnce}
 use Rattle.office_history.specs.Cascade.{text_in, TakenContent, texts_with, with_run, AreTakenFrom}
 use Rattle.office_history.specs.Laws.{IsFor, answer_model_of, AddsRun}
@@ -35,8 +35,8 @@ use Rattle.office_parts.specs.OwnTerminal.{own_terminal, own_step, own_machine, 
 use Rattle.office_parts.specs.Parts.{Archived, nothing_archived, rows_of_archives, ArePartsAfter}
 use Rattle.office_parts.specs.Closing.{carried, archived_with, whole_with, MayClose}
 use Rattle.office_parts.specs.Archives.{Archive, text_by, reply_by, Hold, HoldsWhatGoes}
-use Rattle.office_checks.specs.Checks.{numbers_beyond, AreKeptBeyond, AreOwnVisits}
-use Rattle.office_checks.specs.OwnOffice.{IsOwnOffice}
+use Rattle.office_loading.specs.Checks.{numbers_beyond, AreKeptBeyond, AreOwnVisits}
+use Rattle.office_loading.specs.OwnOffice.{IsOwnOffice}
 use Rattle.office_parts.specs.LeftOver.{rows_beyond}
 
 -- ---- the terminal

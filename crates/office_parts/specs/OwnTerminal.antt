@@ -4,7 +4,7 @@ use Rattle.std.specs.List.{AllByRecursion}
 use Rattle.terminal_core.specs.Rows.{VisitContent, ChangeContent, visit_opened, visit_closed, placed_at, moved_to, removed_from, listed_on, line_done, unlisted}
 use Rattle.terminal_core.specs.State.{TerminalState, last_number}
 use Rattle.terminal_core.specs.Step.{StepResult, step_with}
-use Rattle.office_taking.specs.Taking.{MachineState}
+use Rattle.office_admission.specs.Taking.{MachineState}
 
 -- the number of the visit stays in the store
 abbrev pub is_own : (stays : ℕ → Bool) → VisitContent → Bool

@@ -1,15 +1,30 @@
 -- A reply has no float, so its text is known.
-use Rattle.std.proofs.Common.{◌≡◌, ℕ, ◌+◌, List, [], ◌∷◌, false, Option, Some, None, refl, map}
+use Rattle.std.proofs.Common.{◌≡◌, ℕ, List, append_assoc, ◌+◌, [], ◌∷◌, false, Option, Some, None, refl, map, suc, length, option_map, codes, ap, arith}
+use Rattle.serde_json.specs.Data.{Data, Members, no_members}
+use Rattle.serde_json.specs.Written.{compact_text, has_float, items_have_float, members_have_float}
+use Rattle.serde_json.proofs.OnLiterals.{serde_json_on_literals}
+use Rattle.office_replies.specs.Bodies.{joined_head, answer_text, answer_data}
 use Rattle.serde_json.specs.View.{items_of}
-use Rattle.serde_json.specs.Written.{has_float, items_have_float, members_have_float}
 use Rattle.terminal_core.specs.declared.change.Outcome.{Outcome}
 use Rattle.terminal_core.specs.declared.change.Outcome.TheVariants.{Done, Gone, Listed, Refused}
 use Rattle.terminal_core.specs.declared.change.Reason.{Reason}
 use Rattle.terminal_core.specs.declared.change.Reason.TheVariants.{Form, CheckDigit, Size, Moment, SlotText, AlreadyIn, NotIn, AlreadyListed, NotListed, ListLineDone, Buried, NoSlot, SlotKind, Taken, OnAir, OnEmpty, NoRoom, VisitLimit}
 use Rattle.office_replies.specs.declared.message_report.LineReport.{LineReport}
-use Rattle.office_replies.specs.Members.{refused_members}
+use Rattle.office_replies.specs.Members.{refused_members, optional_member}
 use Rattle.office_replies.specs.Lines.{written_line, refusal_members, outcome_members, lines_from}
-use Rattle.office_replies.specs.Messages.{VerdictContent, accepted, rejected, ReportContent, verdict_data, report_data, reply_data}
+use Rattle.office_replies.specs.Messages.{VerdictContent, accepted, rejected, ReportContent, verdict_data, report_data, reply_data, report_content}
+use Rattle.serde_json.specs.Events.{items_len, members_len}
+use Rattle.office_replies.specs.declared.message_report.LineMembers.{LineMembers}
+use Rattle.office_replies.specs.declared.message_report.MessageReport.{MessageReport}
+use Rattle.office_replies.specs.Sent.{optional_count, slot_members, number_members, box_members, members_told}
+
+-- ==== Joined: A reply joined into an answer as text is the JSON of the whole.
+
+pub answer_text-data : (answer : List ℕ) (n : ℕ) (partner : List ℕ) (d : Data) → answer_text answer n partner (compact_text d) ≡ compact_text (answer_data answer n partner d)
+unfolding joined_head serde_json_on_literals
+answer_text-data answer n partner d = simp append_assoc
+
+-- ==== Floats: A reply has no float, so its text is known.
 
 refused_has_no_float : (blocker name : Option (List ℕ)) (line : ℕ) (reason : List ℕ) → members_have_float (refused_members blocker name line reason) ≡ false
 refused_has_no_float None None line reason = refl
@@ -61,3 +76,25 @@ reports_have_no_float (report ∷ reports) = rw (verdict_has_no_float report.ref
 
 pub reply_has_no_float : (contrl : List ℕ) (reports : List ReportContent) → has_float (reply_data contrl reports) ≡ false
 reply_has_no_float contrl reports = rw (reports_have_no_float reports) refl
+
+-- ==== Counts: How many members and items are sent.
+
+optional_len : (key : List ℕ) (text : Option (List ℕ)) (rest : Members) → members_len (optional_member key text rest) ≡ optional_count text + members_len rest
+optional_len key None rest = omega arith
+optional_len key (Some text) rest = omega arith
+
+pub told_len : (told : LineMembers) → members_len (members_told told) ≡ 2 + optional_count (option_map (λ text. text.now) told.blocker) + optional_count (option_map (λ text. text.now) told.name) + optional_count (option_map (λ text. text.now) told.reason) + optional_count (option_map (λ text. text.now) told.slot)
+told_len told =
+    let blocker = optional_len (codes "blocker") (option_map (λ text. text.now) told.blocker) (box_members told) in
+    let name = optional_len (codes "box") (option_map (λ text. text.now) told.name) (number_members told) in
+    let reason = optional_len (codes "reason") (option_map (λ text. text.now) told.reason) (slot_members told) in
+    let slot = optional_len (codes "slot") (option_map (λ text. text.now) told.slot) no_members in
+    grind (arith, blocker, name, reason, slot)
+
+pub lines_len : (line : ℕ) (reports : List LineReport) → items_len (items_of (lines_from line reports)) ≡ length reports
+lines_len line [] = refl
+lines_len line (report ∷ reports) = ap suc (lines_len (line + 1) reports)
+
+pub reports_len : (reports : List MessageReport) → items_len (items_of (map report_data (map report_content reports))) ≡ length reports
+reports_len [] = refl
+reports_len (report ∷ reports) = ap suc (reports_len reports)

@@ -1,4 +1,7 @@
-pub mod Joined
 pub mod Floats
 pub mod Ready
-pub mod Counts
+pub mod PartLemmas
+pub mod PieceLemmas
+pub mod StreamLemmas
+pub mod OneCut
+pub mod PlaceLemmas

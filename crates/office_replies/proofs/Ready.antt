@@ -2,17 +2,17 @@
 use Rattle.std.proofs.Common.{◌≡◌, ◌≢◌, ℕ, List, ◌∷◌, [], refl}
 use Rattle.serde_json.specs.Written.{compact_text}
 use Rattle.serde_json.proofs.OnLiterals.{serde_json_on_literals}
-use Rattle.edi_segments.specs.declared.interchange.SyntaxFault.TheVariants as syntax
 use Rattle.office_replies.specs.declared.deliver.Fault.{Fault}
-use Rattle.office_replies.specs.declared.deliver.Fault.TheVariants as fault
 use Rattle.office_replies.specs.declared.deliver.Response.TheVariants.{Refused, NotNow}
 use Rattle.office_replies.specs.declared.accounts.AccountFault.{AccountFault}
-use Rattle.office_replies.specs.declared.accounts.AccountFault.TheVariants as account
 use Rattle.office_replies.specs.AccountAnswers.{account_refusal_text, account_refusal_data}
 use Rattle.office_replies.specs.Bodies.{not_now_data}
 use Rattle.office_replies.specs.Refusals.{refusal_text, refusal_data}
 use Rattle.office_replies.specs.Responses.{body_of}
 use Rattle.office_replies.specs.Messages.{ReportContent, reply_content_text}
+use Rattle.edi_syntax.specs.declared.interchange.SyntaxFault.TheVariants as syntax
+use Rattle.office_replies.specs.declared.deliver.Fault.TheVariants as fault
+use Rattle.office_replies.specs.declared.accounts.AccountFault.TheVariants as account
 
 pub refusal_text-data : (fault : Fault) → refusal_text fault ≡ compact_text (refusal_data fault)
 unfolding serde_json_on_literals

@@ -12,3 +12,11 @@ pub mod Delivering
 pub mod AccountAnswers
 pub mod Adding
 pub mod Sent
+pub mod Fronts
+pub mod StreamLines
+pub mod Streams
+pub mod Pieces
+pub mod Faults
+pub mod Writes
+pub mod Accounts
+pub mod Places

@@ -1,7 +1,7 @@
 -- Answers to deliveries: their status, their body, and how bad they are.
 use Rattle.std.specs.Prelude.{ℕ, List, codes, string_bytes}
-use Rattle.edi_segments.specs.declared.interchange.SyntaxFault.{SyntaxFault}
-use Rattle.edi_segments.specs.declared.interchange.SyntaxFault.TheVariants as syntax
+use Rattle.edi_syntax.specs.declared.interchange.SyntaxFault.{SyntaxFault}
+use Rattle.edi_syntax.specs.declared.interchange.SyntaxFault.TheVariants as syntax
 use Rattle.office_replies.specs.Refusals.{refusal_text}
 use Rattle.office_replies.specs.declared.deliver.Fault.{Fault}
 use Rattle.office_replies.specs.declared.deliver.Fault.TheVariants as fault

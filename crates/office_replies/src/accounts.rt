@@ -100,7 +100,7 @@ impl AccountFault {
         }
     }
 
-    /// The body that tells it: a text that stands ready, so that it takes no memory.
+    /// The body of it: a fixed text, so that it takes no memory.
     pub(crate) fn body(self) -> &'static str
         ensures { result.now ≡ account_refusal_text self }
     {

@@ -14,7 +14,7 @@ ghost use Rattle.serde_json.specs.Written.{compact_text};
 
 use crate::deliver::Fault;
 use crate::message_report::{MessageReport, send_messages};
-use edi_segments::SyntaxFault;
+use edi_syntax::SyntaxFault;
 use serde::{Described, Serialize, Serializer};
 use serde_json::{Value, json, to_string};
 use std::alloc::{AllocError, Global};
@@ -117,7 +117,7 @@ fn send_reply<S: Serializer>(
     out.end_map()
 }
 
-/// The body of a refusal without a CONTRL: a text that stands ready, so that it takes no memory.
+/// The body of a refusal without a CONTRL: a fixed text, so that it takes no memory.
 pub(crate) fn refusal_body(fault: Fault) -> &'static str
     ensures { result.now ≡ refusal_text fault }
 {

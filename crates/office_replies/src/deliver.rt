@@ -4,7 +4,7 @@ ghost use Rattle.office_replies.specs.Responses.{syntax_status};
 ghost use Rattle.office_replies.specs.declared.deliver.Response.{Response};
 
 use crate::body::refusal_body;
-use edi_segments::SyntaxFault;
+use edi_syntax::SyntaxFault;
 use std::alloc::Global;
 use thiserror::Error;
 

@@ -1,20 +1,20 @@
 //! Laws of the definitions. Each function has an empty body, and its contract is the law: a call
 //! brings it into the caller's proof.
 //!
-//! They speak of the bodies that stand ready as texts: each is the JSON of a value too; and of the replies that are
+//! They speak of the bodies that are fixed texts: each is the JSON of a value too; and of the replies that are
 //! kept.
-
 ghost use Rattle.std.specs.Prelude.{◌≡◌, ◌≢◌, ℕ, List, []};
 ghost use Rattle.serde_json.specs.Written.{compact_text};
 ghost use Rattle.office_replies.specs.declared.deliver.Fault.{Fault};
-ghost use Rattle.office_replies.specs.declared.deliver.Response.TheVariants as response;
-ghost use Rattle.office_replies.specs.declared.accounts.AccountAnswer.TheVariants as account;
 ghost use Rattle.office_replies.specs.declared.accounts.AccountFault.{AccountFault};
 ghost use Rattle.office_replies.specs.AccountAnswers.{account_body, account_refusal_data};
 ghost use Rattle.office_replies.specs.Bodies.{not_now_data};
 ghost use Rattle.office_replies.specs.Messages.{ReportContent, reply_content_text};
 ghost use Rattle.office_replies.specs.Refusals.{refusal_text, refusal_data};
 ghost use Rattle.office_replies.specs.Responses.{body_of};
+ghost use Rattle.office_replies.specs.Streams.{CutsAreOne};
+ghost use Rattle.office_replies.specs.declared.deliver.Response.TheVariants as response;
+ghost use Rattle.office_replies.specs.declared.accounts.AccountAnswer.TheVariants as account;
 
 /// A refusal without a CONTRL is an object: its `answer` is "refused", and its `fault` the fault's
 /// name.
@@ -33,7 +33,12 @@ pub fn not_now_is_json()
     ensures { body_of response.NotNow ≡ compact_text not_now_data }
 {}
 
-/// A reply that is kept is never empty, so an empty one can stand for an interchange that waits.
+/// A reply that is kept is never empty, so an empty one marks an interchange that waits.
 pub fn replies_are_not_empty()
     ensures { (contrl : List ℕ) (reports : List ReportContent) → reply_content_text contrl reports ≢ [] }
+{}
+
+/// A stream has one list of interchanges and one end, unless memory runs out.
+pub fn cuts_are_one()
+    ensures { CutsAreOne }
 {}

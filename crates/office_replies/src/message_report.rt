@@ -262,7 +262,7 @@ fn send_refusal<S: Serializer>(
     }
 }
 
-/// Sends a refusal, with the container that stands on the line's, if one does.
+/// Sends a refusal, with the container on the line's, if there is one.
 fn send_refused<'a, S: Serializer>(
     blocker: Option<&'a str>,
     name: Option<&'a str>,
@@ -316,7 +316,7 @@ pub(crate) fn send_members<S: Serializer>(
 }
 
 /// How many members these are.
-#[tactic(auto, using(crate::proofs::Counts::told_len))]
+#[tactic(auto, using(crate::proofs::Floats::told_len))]
 fn member_count(told: &LineMembers<'_>) -> usize
     ensures { result ≡ members_len (members_told told.now) }
 {

@@ -1,8 +1,7 @@
-pub mod Ascii
-pub mod Found
-pub mod Listing
-pub mod Once
-pub mod Partners
-pub mod Phrases
-pub mod Rows
 pub mod Standings
+pub mod Listing
+pub mod Parting
+pub mod CallLemmas
+pub mod Waits
+pub mod Markup
+mod Pages

@@ -1,8 +1,6 @@
 -- The lines of a call's list, by their containers.
 use Rattle.std.proofs.Common.{◌≡◌, ℕ, ◌+◌, ◌<◌, ◌≤◌, List, [], ◌∷◌, ◌++◌, length, map, take, Bool, true, false, cond, Option, None, Some, refl, sym, ap, ◌∙◌, arith, subst, get_or, option_map, count_by, slice_get, filter, not, ◌-◌}
 use Rattle.std.specs.Prelude.{◌&&◌, string_bytes}
-use Rattle.std.specs.FinMap as finite_map
-use Rattle.std.specs.FinMap.Entries as entries
 use Rattle.std.specs.BTreeMap.{BTreeMap, get, is_at}
 use Rattle.std.specs.Map.{lookup, keys_of}
 use Rattle.std.specs.Ordering.{nat_cmp, eq_by_cmp}
@@ -24,13 +22,15 @@ use Rattle.terminal_core.specs.State.{TerminalState, LineContent, LineKey, line_
 use Rattle.terminal_core.specs.Listings.{key_of, line_content, line_entry, lines_of, is_line, is_side}
 use Rattle.terminal_core.specs.Restoring.{AreOnce}
 use Rattle.terminal_core.proofs.Lined.{order, keys_total, same_key, line_tied, found_none}
-use Rattle.terminal_core.proofs.Counted.{none_before_one, some_counted}
-use Rattle.terminal_core.proofs.Boxes.{same_self}
-use Rattle.terminal_core.proofs.Numbered.{contained}
+use Rattle.terminal_core.proofs.Indexed.{none_before_one, some_counted}
+use Rattle.terminal_core.proofs.Open.{same_self}
+use Rattle.terminal_core.proofs.Whole.{contained}
 use Rattle.office_reports.specs.declared.lists.ListedLine.{ListedLine}
 use Rattle.office_reports.specs.Listed.{AreListed}
 use Rattle.office_reports.specs.Lists.{HasLine, is_on, is_done_line, shown_line, list_contents}
 use Rattle.office_reports.proofs.Standings.{same_text}
+use Rattle.std.specs.FinMap as finite_map
+use Rattle.std.specs.FinMap.Entries as entries
 
 -- ---- what look-ups tell
 

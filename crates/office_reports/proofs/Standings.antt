@@ -1,44 +1,164 @@
 -- The containers in a yard, by the texts of their slots.
-use Rattle.std.proofs.Common.{◌≡◌, Bor, ℕ, ◌+◌, ◌-◌, ◌%◌, ◌≤◌, ◌<◌, List, [], ◌∷◌, ◌++◌, length, map, Bool, true, false, cond, Option, None, Some, is_none, IsTrue, nat_le, refl, sym, ap, ◌∙◌, arith, subst, inl, inr, Contains, option_map, find, count_by, ◌⊎◌, get_or, take, drop}
-use Rattle.std.specs.Prelude.{◌&&◌}
-use Rattle.std.specs.Char.{is_ascii_uppercase}
+use Rattle.std.proofs.Common.{◌≡◌, ℕ, ◌+◌, ◌-◌, ◌/◌, ◌%◌, ◌<◌, List, [], ◌∷◌, length, take, drop, Bool, true, ◌∙◌, arith, subst, IsTrue, inl, inr, ◌++◌, map, false, cond, None, Some, refl, sym, ap, codes, Bor, ◌≤◌, Option, is_none, nat_le, Contains, option_map, find, count_by, ◌⊎◌, get_or, T, zero, suc, string_bytes, slice_get, slice_index_or, flat_map, filter, append_assoc}
+use Rattle.std.specs.Prelude.{◌&&◌, ◌==◌, slice_index, encode_utf8_all, ◌||◌}
+use Rattle.std.specs.Char.{is_ascii_uppercase, is_ascii_digit}
+use Rattle.std.specs.List.{list_all, list_any, AllByRecursion, join_by}
+use Rattle.std.specs.Str.{IsAscii, bytes_eq}
+use Rattle.std.proofs.lemmas.List.{get_or-take, get_or-drop, map-append, take_more, take_all, take-append-drop, append-nil}
+use Rattle.std.proofs.lemmas.Bool.{and_parts, eqb-true, le-leb}
+use Rattle.std.proofs.lemmas.Bool.Decides.{nat_tests, leb_tells}
+use Rattle.std.proofs.lemmas.Str.Ascii.{IsAscii-from_reads, IsAscii-cons, IsAscii-nil, encodes-IsAscii}
+use Rattle.box6346.specs.SlotName.{IsNamed, slot_text, slot_of}
+use Rattle.box6346.specs.declared.slot.Slot.{Slot}
+use Rattle.box6346.specs.declared.box_number.BoxNumber.{BoxNumber}
+use Rattle.terminal_core.specs.declared.visits.Visit.{Visit}
+use Rattle.terminal_core.specs.Rows.{VisitContent, visit_content}
+use Rattle.terminal_core.specs.State.{TerminalState, is_visit_of, AreOpenOf, is_open_visit, open_visit, IsWhole}
+use Rattle.office_admission.specs.Setups.{SetupContent, account_contents, setup_content}
+use Rattle.terminal_core.specs.declared.change.Source.{Source}
+use Rattle.office_reports.specs.Names.{line}
+use Rattle.office_reports.specs.Tickets.{is_told_by, entry_lines, exit_lines, ticket_lines}
+use Rattle.office_reports.specs.Visits.{visits_text, visit_report, code_of}
 use Rattle.std.specs.BTreeMap.{BTreeMap, get, is_at}
 use Rattle.std.specs.Map.{lookup, keys_of}
-use Rattle.std.specs.Ordering.{nat_cmp, is_eq}
+use Rattle.std.specs.Ordering.{nat_cmp, is_eq, eq_by_cmp, is_lt}
 use Rattle.std.proofs.lemmas.Cmp.{nat_list_cmp_total, tied_itself, eq_by_cmp_equiv}
 use Rattle.std.specs.Cmp.{Equal-is}
 use Rattle.std.specs.Cmp.Lexicographic.{slice_cmp}
 use Rattle.std.specs.List.Sorted.{IsStrictlySortedBy}
-use Rattle.std.specs.Str.{bytes_eq}
-use Rattle.std.proofs.lemmas.Bool.{le-leb, and_parts}
 use Rattle.std.proofs.lemmas.Option.{same_Some, none-some}
 use Rattle.std.proofs.lemmas.Map.Lookups.{exact_bytes}
-use Rattle.std.proofs.lemmas.List.Elements.{Contains-push_cases, Contains-append_left, Contains-append_right}
-use Rattle.std.proofs.lemmas.List.{map-append, take_more, take_all, take-append-drop}
-use Rattle.std.proofs.lemmas.Map.Keys.{IsDistinct-from_sorted}
+use Rattle.std.proofs.lemmas.List.Elements.{Contains-push_cases, Contains-append_left, Contains-append_right, filter-append}
+use Rattle.std.proofs.lemmas.Map.Keys.{IsDistinct-from_sorted, sorted_head, sorted_tail}
 use Rattle.std.proofs.lemmas.Map.Views.{Contains-from_lookup, lookup-from_Contains}
 use Rattle.std.proofs.lemmas.List.Sums.{length-filter}
-use Rattle.box6346.specs.SlotName.{slot_of, slot_text, IsNamed}
 use Rattle.box6346.proofs.SlotNames.{names_are_read_again_lem}
-use Rattle.box6346.specs.declared.box_number.BoxNumber.{BoxNumber}
 use Rattle.box6346.specs.declared.size_type.Length.{Length}
 use Rattle.box6346.specs.declared.size_type.Length.TheVariants.{Twenty, Forty}
-use Rattle.box6346.specs.declared.slot.Slot.{Slot}
 use Rattle.yard_core.specs.declared.plan.Block.{Block}
 use Rattle.yard_core.specs.declared.placements.Placement.{Placement}
 use Rattle.yard_core.specs.Plan.{IsPlan, InPlan}
 use Rattle.yard_core.specs.YardMap.{placement_of, in_bay, CoversAt, IsKind}
 use Rattle.yard_core.proofs.Exact.{numbered}
 use Rattle.terminal_core.specs.declared.visits.Departure.{Departure}
-use Rattle.terminal_core.specs.declared.visits.Visit.{Visit}
-use Rattle.terminal_core.specs.Rows.{VisitContent, visit_content}
-use Rattle.terminal_core.specs.State.{AreOpenOf, TerminalState, is_open_visit, open_visit, IsWhole}
-use Rattle.terminal_core.proofs.Boxes.{same_self, same_bytes}
-use Rattle.terminal_core.proofs.Numbered.{contained, found_at}
-use Rattle.terminal_core.proofs.Counted.{some_of, is_found, found_is, one_passes}
+use Rattle.terminal_core.proofs.Open.{same_self, same_bytes}
+use Rattle.terminal_core.proofs.Whole.{contained, found_at}
+use Rattle.terminal_core.proofs.Indexed.{some_of, is_found, found_is, one_passes}
 use Rattle.office_reports.specs.declared.yard.Standing.{Standing}
 use Rattle.office_reports.specs.Listed.{AreListed}
 use Rattle.office_reports.specs.Yard.{shown_standing, slot_in, StandsAt, standing_if_here, standing_of}
+use Rattle.std.specs.declared.cmp.Ordering.TheVariants.{Less}
+use Rattle.office_admission.specs.declared.setup.Account.{Account}
+use Rattle.office_admission.specs.declared.setup.Setup.{Setup}
+use Rattle.std.proofs.lemmas.Grind.{flat_map-append}
+use Rattle.box6346.specs.NumberText as number
+use Rattle.box6346.specs.SizeText as size
+use Rattle.std.specs.FinMap.Entries as entries
+
+-- ==== Ascii: Names that are ASCII.
+
+capital_low : (c : ℕ) → is_ascii_uppercase c ≡ true → c < 128
+capital_low c e = grind (arith, nat_tests)
+
+digit_low : (c : ℕ) → is_ascii_digit c ≡ true → c < 128
+digit_low c e = grind (arith, nat_tests)
+
+character_low : (c : ℕ) → size.is_code_character c ≡ true → c < 128
+character_low c e = grind (arith, nat_tests)
+
+category_low : (c : ℕ) → number.is_category c ≡ true → c < 128
+category_low c e = grind (arith, nat_tests)
+
+all_low : (p : ℕ → Bool) → ((c : ℕ) → p c ≡ true → c < 128) → (bs : List ℕ) → list_all p bs ≡ true → IsAscii bs
+all_low p low [] e = IsAscii-nil
+all_low p low (b ∷ bs) e = let parts = and_parts (p b) (list_all p bs) e in IsAscii-cons b bs (low b parts.0) (all_low p low bs parts.1)
+
+-- what a part of a text has at a place, the text has
+module _ (t : List ℕ) where
+  in_first : (n k : ℕ) → k < n → IsAscii (take n t) → slice_index t k < 128
+  in_first n k below low = let same = get_or-take n t k 0 below in subst (λ c. c < 128) same (low k)
+
+  in_middle : (n m k : ℕ) → k < m → IsAscii (take m (drop n t)) → slice_index t (n + k) < 128
+  in_middle n m k below low = let same = get_or-take m (drop n t) k 0 below ∙ get_or-drop n t k 0 in subst (λ c. c < 128) same (low k)
+
+  -- owner code, equipment category and serial number
+  named_low : number.names_container t ≡ true → (k : ℕ) → k < 10 → slice_index t k < 128
+  named_low names k below =
+      let parts = and_parts (list_all is_ascii_uppercase (take 3 t) && number.is_category (slice_index t 3)) (list_all is_ascii_digit (take 6 (drop 4 t))) names in
+      let owner = and_parts (list_all is_ascii_uppercase (take 3 t)) (number.is_category (slice_index t 3)) parts.0 in
+      elim (leb_tells 3 k) [
+        | inr a ↦ in_first 3 k a.1 (all_low is_ascii_uppercase capital_low (take 3 t) owner.0)
+        | inl a ↦ elim (leb_tells 4 k) [
+          | inr b ↦ (let is : 3 ≡ k = omega arith in subst (λ n. slice_index t n < 128) is (category_low (slice_index t 3) owner.1))
+          | inl b ↦ (let is : 4 + (k - 4) ≡ k = omega arith in subst (λ n. slice_index t n < 128) is (in_middle 4 6 (k - 4) (omega arith) (all_low is_ascii_digit digit_low (take 6 (drop 4 t)) parts.1)))
+        ]
+      ]
+
+-- the characters of a container's number
+number_low : (t : List ℕ) → number.has_form t ≡ true → IsAscii t
+number_low t form =
+    let parts = and_parts (length t == 11 && number.names_container (take 10 t)) (is_ascii_digit (slice_index t 10)) form in
+    let names = and_parts (length t == 11) (number.names_container (take 10 t)) parts.0 in
+    let long : length t ≡ 11 = eqb-true (length t) 11 names.0 in
+    IsAscii-from_reads t 11 (omega arith) (λ k below. elim (leb_tells 10 k) [
+      | inr low ↦ subst (λ c. c < 128) (get_or-take 10 t k 0 low.1) (named_low (take 10 t) names.1 k low.1)
+      | inl high ↦ (let is : 10 ≡ k = omega arith in subst (λ n. slice_index t n < 128) is (digit_low (slice_index t 10) parts.1))
+    ])
+
+pub number_same : (t : List ℕ) → IsTrue (number.is_number t) → encode_utf8_all t ≡ t
+unfolding number.is_number
+number_same t is = encodes-IsAscii t (number_low t (and_parts (number.has_form t) (number.is_checked t) is).0)
+
+pub size_same : (t : List ℕ) → IsTrue (size.is_size t) → encode_utf8_all t ≡ t
+unfolding size.is_size
+size_same t is =
+    let form = (and_parts (size.has_form t) (size.has_length t) is).0 in
+    encodes-IsAscii t (all_low size.is_code_character character_low t (and_parts (length t == 4) (list_all size.is_code_character t) form).1)
+
+five_low : (b c d e f : ℕ) → b < 128 → c < 128 → d < 128 → e < 128 → f < 128 → IsAscii (b ∷ c ∷ d ∷ e ∷ f ∷ [])
+five_low b c d e f p q r s t = IsAscii-cons b (c ∷ d ∷ e ∷ f ∷ []) p (IsAscii-cons c (d ∷ e ∷ f ∷ []) q (IsAscii-cons d (e ∷ f ∷ []) r (IsAscii-cons e (f ∷ []) s (IsAscii-cons f [] t IsAscii-nil))))
+
+pub slot_same : (slot : Slot) → IsNamed slot → encode_utf8_all (slot_text slot) ≡ slot_text slot
+slot_same slot named =
+    let a : 48 + slot.bay / 100 % 10 < 128 = omega arith in
+    let b : 48 + slot.bay / 10 % 10 < 128 = omega arith in
+    let c : 48 + slot.bay % 10 < 128 = omega arith in
+    let d : 48 + slot.row / 10 % 10 < 128 = omega arith in
+    let e : 48 + slot.row % 10 < 128 = omega arith in
+    let f : 48 + slot.tier % 10 < 128 = omega arith in
+    let rest : List ℕ = (48 + slot.bay / 10 % 10) ∷ (48 + slot.bay % 10) ∷ (48 + slot.row / 10 % 10) ∷ (48 + slot.row % 10) ∷ (48 + slot.tier % 10) ∷ [] in
+    encodes-IsAscii (slot_text slot)
+    (IsAscii-cons slot.block ((48 + slot.bay / 100 % 10) ∷ rest) (capital_low slot.block named.block) (IsAscii-cons (48 + slot.bay / 100 % 10) rest a (five_low (48 + slot.bay / 10 % 10) (48 + slot.bay % 10) (48 + slot.row / 10 % 10) (48 + slot.row % 10) (48 + slot.tier % 10) b c d e f)))
+
+-- ==== Found: Whether anything is found.
+
+-- what rows have, their contents have
+pub any_content : (p : VisitContent → Bool) (rows : List Visit) → list_any (λ visit. p (visit_content visit)) rows ≡ list_any p (map visit_content rows)
+any_content p [] = refl
+any_content p (row ∷ rows) = ap (λ b. p (visit_content row) || b) (any_content p rows)
+
+module _ (setup : SetupContent) (state : TerminalState) (container : BoxNumber) (rows : List Visit) (told : map visit_content rows ≡ state.visits) where
+  any_told : (b : Bool) → b ≡ list_any (λ visit. is_visit_of container (visit_content visit)) rows → list_any (is_visit_of container) state.visits ≡ b
+  any_told b e = sym (e ∙ any_content (is_visit_of container) rows ∙ ap (list_any (is_visit_of container)) told)
+
+  pub none_reported : false ≡ list_any (λ visit. is_visit_of container (visit_content visit)) rows → None ≡ visit_report setup state container
+  none_reported e = sym (ap (λ b. cond b (Some (visits_text setup container state.visits)) None) (any_told false e))
+
+  pub some_reported : (text : List ℕ) → true ≡ list_any (λ visit. is_visit_of container (visit_content visit)) rows → text ≡ visits_text setup container (map visit_content rows) → Some text ≡ visit_report setup state container
+  some_reported text e is = ap Some (is ∙ ap (visits_text setup container) told) ∙ sym (ap (λ b. cond b (Some (visits_text setup container state.visits)) None) (any_told true e))
+
+module _ (source : Source) (rows : List Visit) where
+  told_by : (b : Bool) → b ≡ list_any (λ visit. is_told_by source (visit_content visit)) rows
+      → cond b (entry_lines source (map visit_content rows) ++ exit_lines source (map visit_content rows)) (line (codes "NOTHING" ∷ [])) ≡ ticket_lines source (map visit_content rows)
+  told_by b e = ap (λ v. cond v (entry_lines source (map visit_content rows) ++ exit_lines source (map visit_content rows)) (line (codes "NOTHING" ∷ []))) (e ∙ any_content (is_told_by source) rows)
+
+  pub nothing_told : false ≡ list_any (λ visit. is_told_by source (visit_content visit)) rows → line (codes "NOTHING" ∷ []) ≡ ticket_lines source (map visit_content rows)
+  nothing_told e = told_by false e
+
+  pub something_told : true ≡ list_any (λ visit. is_told_by source (visit_content visit)) rows → entry_lines source (map visit_content rows) ++ exit_lines source (map visit_content rows) ≡ ticket_lines source (map visit_content rows)
+  something_told e = told_by true e
+
+-- ==== Standings: The containers in a yard, by the texts of their slots.
 
 -- two containers of one slot have a cell in common
 common_cell : (a b : Length) (s t : Slot) → s ≡ t → IsKind a s → IsKind b t → (cell : Slot) × CoversAt a s cell × CoversAt b t cell
@@ -234,3 +354,94 @@ module _ (state : TerminalState) (whole : IsWhole state) (rows : List (Bor Visit
         only = λ text standing inside. holds.only text standing
             (lookup-from_Contains (eq_by_cmp_equiv nat_list_cmp_total) text standing entries (IsDistinct-from_sorted (slice_cmp nat_cmp) (keys_of entries) holds.sorted) inside);
       }
+
+-- ==== Once: What is listed is one list.
+
+pub both : (a b : Bool) → T a → T b → T (a && b)
+both true b p q = q
+both false b p q = p
+
+module _ {X : Type 0} where
+  found : (q : List ℕ) (list : List (List ℕ × X)) → entries.find (slice_cmp nat_cmp) q list ≡ lookup (eq_by_cmp (slice_cmp nat_cmp) q) list
+  found q [] = refl
+  found q (e ∷ list) = ap (cond (eq_by_cmp (slice_cmp nat_cmp) q e.0) (Some e.1)) (found q list)
+
+  below : (x : List ℕ) (list : List (List ℕ × X)) → AllByRecursion (λ y. slice_cmp nat_cmp x y ≡ Less) (keys_of list) → T (entries.below_all (slice_cmp nat_cmp) x list)
+  below x [] h = tt
+  below x (e ∷ list) h = both _ _ (subst (λ r. T (is_lt r)) (sym h.0) tt) (below x list h.1)
+
+  in_order : (list : List (List ℕ × X)) → IsStrictlySortedBy (slice_cmp nat_cmp) (keys_of list) → T (entries.is_sorted (slice_cmp nat_cmp) list)
+  in_order [] sorted = tt
+  in_order (e ∷ list) sorted = both _ _ (below e.0 list (sorted_head (slice_cmp nat_cmp) e.0 (keys_of list) sorted)) (in_order list (sorted_tail (slice_cmp nat_cmp) e.0 (keys_of list) sorted))
+
+  module _ (GoesUnder : List ℕ → X → Type 0) where
+    looked : (list : List (List ℕ × X)) → AreListed GoesUnder list → (q : List ℕ) (x : X) → GoesUnder q x → lookup (eq_by_cmp (slice_cmp nat_cmp) q) list ≡ Some x
+    looked list listed q x at = lookup-from_Contains (eq_by_cmp_equiv nat_list_cmp_total) q x list (IsDistinct-from_sorted (slice_cmp nat_cmp) (keys_of list) listed.sorted) (listed.each q x at)
+
+    goes : (list : List (List ℕ × X)) → AreListed GoesUnder list → (q : List ℕ) (x : X) → lookup (eq_by_cmp (slice_cmp nat_cmp) q) list ≡ Some x → GoesUnder q x
+    goes list listed q x e = listed.only q x (Contains-from_lookup same_text q x list e)
+
+    same_at : (a b : List (List ℕ × X)) → AreListed GoesUnder a → AreListed GoesUnder b → (q : List ℕ) (o p : Option X) → lookup (eq_by_cmp (slice_cmp nat_cmp) q) a ≡ o → lookup (eq_by_cmp (slice_cmp nat_cmp) q) b ≡ p → o ≡ p
+    same_at a b la lb q (Some x) p e f = sym (looked b lb q x (goes a la q x e)) ∙ f
+    same_at a b la lb q None (Some y) e f = sym e ∙ looked a la q y (goes b lb q y f)
+    same_at a b la lb q None None e f = refl
+
+    -- two lists of the same things are one
+    pub one_list : (a b : List (List ℕ × X)) → AreListed GoesUnder a → AreListed GoesUnder b → a ≡ b
+    one_list a b la lb = entries.same_entries (slice_cmp nat_cmp) nat_list_cmp_total exact_bytes a b (in_order a la.sorted) (in_order b lb.sorted) (λ q. found q a ∙ same_at a b la lb q _ _ refl refl ∙ sym (found q b))
+
+-- ==== Partners: The codes of partners.
+
+at_place : (accounts : List Account) (place : ℕ) (account : Account) → slice_get accounts place ≡ Some account → slice_index_or (map (λ partner. partner.0) (account_contents accounts)) place [] ≡ string_bytes account.code
+at_place [] place account e = absurd (none-some account e)
+at_place (a ∷ accounts) zero account e = ap (λ (x : Account). string_bytes x.code) (same_Some a account e)
+at_place (a ∷ accounts) (suc place) account e = at_place accounts place account e
+
+-- the account of a number has its code
+pub code_found : (setup : Setup) (number place : ℕ) (account : Account) → number ≡ suc place → slice_get setup.partners.items place ≡ Some account → code_of (setup_content setup) number ≡ string_bytes account.code
+code_found setup number place account e at = ap (code_of (setup_content setup)) e ∙ at_place setup.partners.items place account at
+
+-- ==== Phrases: Words of references.
+
+flat : {X : Type 0} (f : X → List ℕ) (sep : List ℕ) (xs : List X) → flat_map (λ x. sep ++ f x) xs ≡ flat_map (λ word. sep ++ word) (map f xs)
+flat f sep [] = refl
+flat f sep (x ∷ xs) = ap (λ rest. (sep ++ f x) ++ rest) (flat f sep xs)
+
+-- what joins things by their words joins the words
+pub joined : {X : Type 0} (f : X → List ℕ) (sep : List ℕ) (xs : List X) → join_by f sep xs ≡ join_by (λ word. word) sep (map f xs)
+joined f sep [] = refl
+joined f sep (x ∷ xs) = ap (λ rest. f x ++ rest) (flat f sep xs)
+
+-- ==== Rows: Lines of some rows, one row after the other.
+
+module _ {Y : Type 0} (p : Y → Bool) (f : Y → List ℕ) where
+  last : (b : Bool) (y : Y) → flat_map f (cond b (y ∷ []) []) ≡ cond b (f y) []
+  last true y = append-nil (f y)
+  last false y = refl
+
+  -- the lines of one row more
+  pub one_more : (ys : List Y) (y : Y) → flat_map f (filter p (ys ++ y ∷ [])) ≡ flat_map f (filter p ys) ++ cond (p y) (f y) []
+  one_more ys y =
+      ap (flat_map f) (filter-append p ys (y ∷ [])) ∙ flat_map-append f (filter p ys) (filter p (y ∷ [])) ∙ ap (λ more. flat_map f (filter p ys) ++ more) (last (p y) y)
+
+  module _ {X : Type 0} (g : X → Y) (before : List ℕ) (xs : List X) where
+    -- a text with the lines of the first rows
+    pub record HasLines (i : ℕ) (text : List ℕ) : Type 0 where
+      pub is : text ≡ before ++ flat_map f (filter p (map g (take i xs)))
+
+    pub none_yet : HasLines 0 before
+    none_yet = record { is = sym (append-nil before) }
+
+    chosen : (b : Bool) (text now more : List ℕ) (line : List ℕ) → text ≡ before ++ more → (b ≡ true → now ≡ text ++ line) → (b ≡ false → now ≡ text) → now ≡ before ++ (more ++ cond b line [])
+    chosen true text now more line e yes_ no_ = yes_ refl ∙ ap (λ t. t ++ line) e ∙ append_assoc before more line
+    chosen false text now more line e yes_ no_ = no_ refl ∙ e ∙ ap (λ t. before ++ t) (sym (append-nil more))
+
+    pub next_row : (i : ℕ) (x : X) (text now : List ℕ) → i < length xs → x ≡ get_or xs i x → HasLines i text → (p (g x) ≡ true → now ≡ text ++ f (g x)) → (p (g x) ≡ false → now ≡ text) → HasLines (i + 1) now
+    next_row i x text now low at has yes_ no_ = record {
+      is = chosen (p (g x)) text now (flat_map f (filter p (map g (take i xs)))) (f (g x)) has.is yes_ no_
+          ∙ ap (λ t. before ++ t) (sym (one_more (map g (take i xs)) (g x))
+          ∙ ap (λ ys. flat_map f (filter p ys)) (sym (ap (map g) (take_more xs i x low ∙ ap (λ (y : X). take i xs ++ y ∷ []) (sym at)) ∙ map-append g (take i xs) (x ∷ []))));
+    }
+
+    pub all_rows : (i : ℕ) (text : List ℕ) → length xs ≤ i → HasLines i text → text ≡ before ++ flat_map f (filter p (map g xs))
+    all_rows i text all has = has.is ∙ ap (λ ys. before ++ flat_map f (filter p (map g ys))) (take_all i xs all)

@@ -1,7 +1,7 @@
 -- The ticket of an interchange (our own).
 use Rattle.std.specs.Prelude.{ℕ, Bool, List, [], ◌∷◌, ◌++◌, filter, if◌then◌else◌, ◌==◌, ◌&&◌, ◌||◌, codes, decimal, is_some, Option, None, Some}
 use Rattle.std.specs.List.{flat_map, list_any}
-use Rattle.edi_moments.specs.Moments.{CivilMoment, moment_text}
+use Rattle.edi_syntax.specs.Moments.{CivilMoment, moment_text}
 use Rattle.terminal_core.specs.declared.visits.Departure.{Departure}
 use Rattle.terminal_core.specs.declared.change.Source.{Source}
 use Rattle.terminal_core.specs.Rows.{VisitContent}

@@ -3,14 +3,14 @@ use Rattle.std.specs.Prelude.{ℕ, zero, suc, ◌==◌, List, [], ◌∷◌, ◌
 use Rattle.std.specs.Fmt.{signed_decimal}
 use Rattle.std.specs.List.{flat_map, list_any}
 use Rattle.box6346.specs.declared.box_number.BoxNumber.{BoxNumber}
-use Rattle.edi_moments.specs.Moments.{CivilMoment, day_number, moment_text}
+use Rattle.edi_syntax.specs.Moments.{CivilMoment, day_number, moment_text}
 use Rattle.terminal_core.specs.declared.visits.Departure.{Departure}
 use Rattle.terminal_core.specs.declared.change.Source.{Source}
 use Rattle.terminal_core.specs.declared.visits.Way.{Way}
 use Rattle.terminal_core.specs.declared.visits.Way.TheVariants.{Gate, Ship}
 use Rattle.terminal_core.specs.Rows.{VisitContent}
 use Rattle.terminal_core.specs.State.{TerminalState, is_visit_of}
-use Rattle.office_setup.specs.Setups.{SetupContent}
+use Rattle.office_admission.specs.Setups.{SetupContent}
 use Rattle.office_reports.specs.Names.{load_name, slot_name, phrase, line}
 
 abbrev pub way_name : Way → List ℕ

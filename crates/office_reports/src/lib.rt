@@ -1,15 +1,46 @@
 //! The texts of the office's reports: the yard, its export, a container's visits, a vessel's lists and a partner's
 //! tickets.
+//!
+//! What can be asked of the office besides deliveries, and the keys by which it is asked, accounts that are to be
+//! added and partners that deliver among them; and the number that digits write.
+//!
+//! The texts of what people look up: where a container is, how far the vessels' lists are and what is left to do of one,
+//! which numbers are expected of the partners, how full the blocks of the yard are, and the CONTRL of a reply; and of what
+//! watches over the office: whether it can be asked, and how much there is of what.
+//!
+//! The picture of the yard: one page of HTML, with a side view of each row of each block.
 #![tactic(auto)]
 
+mod blocks;
+mod calls;
+mod containers;
+mod drawing;
+mod drawn_containers;
+mod fixed;
+mod grids;
+mod keys;
 pub mod laws;
 mod lists;
+mod metrics;
+mod partners;
+mod query;
 pub mod texts;
 mod tickets;
 mod visits;
+mod work;
 pub mod yard;
 
+pub use blocks::blocks_report;
+pub use calls::calls_report;
+pub use containers::container_report;
+pub use drawing::picture;
+pub use fixed::field_text;
+pub use keys::{AccountKey, number_of, passed_of, read_account_key, read_query, read_sender_key};
 pub use lists::{ListedLine, lines_on, list_name, list_report};
+pub use metrics::{Versions, metrics_report, ready};
+pub use partners::{Partner, contrl_in, partner_report, partners_report};
+pub use query::{NotNow, Query, Report, ReportKind, program_version};
 pub use tickets::ticket;
 pub use visits::{passage_text, push_stay, visit_report};
+pub use work::work_report;
 pub use yard::{Standing, standings as yard_standings, yard_csv, yard_report};

@@ -1,11 +1,11 @@
-//! How reports write lines, numbers, slots, moments and loads. What allocates fails for want of memory alone.
+//! How reports write lines, numbers, slots, moments and loads. What allocates fails only for want of memory.
 
 ghost use Rattle.std.specs.Prelude.{◌≡◌, ◌++◌, map, IfOk, OnOk, string_bytes};
-ghost use Rattle.edi_moments.specs.Moments.{moment_text};
+ghost use Rattle.edi_syntax.specs.Moments.{moment_text};
 ghost use Rattle.office_reports.specs.Names.{slot_name, load_name, phrase, line};
 
 use box6346::{BoxNumber, SizeType, Slot};
-use edi_moments::Moment;
+use edi_syntax::Moment;
 use office_replies::text_of;
 use std::alloc::{AllocError, Global};
 

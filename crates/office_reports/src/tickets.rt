@@ -5,7 +5,7 @@ ghost use Rattle.office_reports.specs.Tickets.{is_told_by, is_opened_by, exit_mo
 ghost use Rattle.office_reports.specs.Tickets.{entry_line, entry_lines, exit_line, exit_lines};
 
 use crate::texts::{load_name, moment_text, number_text, push_line, size_text, slot_text};
-use edi_moments::Moment;
+use edi_syntax::Moment;
 use std::alloc::{AllocError, Global};
 use terminal_core::{Source, Terminal, Visit};
 

@@ -2,7 +2,7 @@ ghost use Rattle.std.specs.Prelude.{◌≡◌, ◌++◌, map, IfOk, OnOk, string
 ghost use Rattle.std.specs.List.{list_any};
 ghost use Rattle.std.specs.Option.{option_map};
 ghost use Rattle.terminal_core.specs.Rows.{visit_content};
-ghost use Rattle.office_setup.specs.Setups.{setup_content};
+ghost use Rattle.office_admission.specs.Setups.{setup_content};
 ghost use Rattle.office_reports.specs.Names.{phrase};
 ghost use Rattle.terminal_core.specs.State.{is_visit_of};
 ghost use Rattle.office_reports.specs.Visits.{way_name, code_of, passage_words, arrival_words, departure_words, stay_line};
@@ -10,8 +10,8 @@ ghost use Rattle.office_reports.specs.Visits.{visit_line, visit_lines, visit_rep
 
 use crate::texts::{load_name, moment_text, number_text, phrase, push_line, size_text, slot_text};
 use box6346::BoxNumber;
-use edi_moments::Moment;
-use office_setup::Setup;
+use edi_syntax::Moment;
+use office_admission::Setup;
 use std::alloc::{AllocError, Global};
 use terminal_core::{Departure, Source, Terminal, Visit, Way};
 
@@ -77,7 +77,7 @@ fn push_visit(
     push_stay(alloc, text, visit, arrival.as_str(), departure.as_str())
 }
 
-/// Appends a line of what it begins with, `BOOKING B` and `GROSS W` if the visit has them, and what stands after.
+/// Appends a line of what it begins with, `BOOKING B` and `GROSS W` if the visit has them, and what follows.
 pub fn push_stay(
     alloc: Global,
     text: &mut String,

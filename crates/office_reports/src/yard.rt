@@ -18,7 +18,7 @@ use terminal_core::{Terminal, Visit};
 /// A container in the yard, as reports show it.
 #[derive(Clone, Copy)]
 pub struct Standing {
-    /// Where it stands.
+    /// Where it is.
     pub slot: Slot,
     /// Its number (ISO 6346).
     pub container: BoxNumber,
@@ -28,7 +28,7 @@ pub struct Standing {
     pub is_laden: bool,
 }
 
-/// The containers in the yard, by the text of the slot that each stands in: `YARD`, a line `SLOT BOX SIZE FULL` or
+/// The containers in the yard, by the text of each one's slot: `YARD`, a line `SLOT BOX SIZE FULL` or
 /// `SLOT BOX SIZE EMPTY` for each, and `n CONTAINERS`. Each line ends with LF.
 pub fn yard_report(alloc: Global, terminal: &Terminal) -> Result<String, AllocError>
     ensures { IfOk result (λ text. IsYardReport terminal.now (string_bytes text)) }
@@ -92,7 +92,7 @@ pub fn standings(
     Ok(yard)
 }
 
-/// Where the container of a visit stands, unless it left.
+/// Where the container of a visit is, unless it left.
 fn standing_of(terminal: &Terminal, visit: &Visit) -> Option<Standing>
     ensures { result ≡ standing_of terminal.now (visit_content visit.now) }
 {
@@ -108,7 +108,7 @@ fn standing_of(terminal: &Terminal, visit: &Visit) -> Option<Standing>
     })
 }
 
-/// The containers in the yard as CSV, by the text of the slot that each stands in: under the header
+/// The containers in the yard as CSV, by the text of each one's slot: under the header
 /// `slot,box,size,load` a record for each, with `full` or `empty`. Each record ends with LF.
 pub fn yard_csv(alloc: Global, terminal: &Terminal) -> Result<String, AllocError>
     ensures { IfOk result (λ text. IsYardExport terminal.now (string_bytes text)) }

@@ -1,35 +1,86 @@
 -- What each query of all rows of a table shows.
-use Rattle.std.proofs.Common.{◌≡◌, ℕ, zero, suc, ◌+◌, ◌<◌, IsSorted, List, [], ◌∷◌, Bool, false, map, filter, length, set, slice_index_or, refl, sym, ap, subst, ◌∙◌, arith}
-use Rattle.std.specs.List.{swap}
-use Rattle.std.specs.Ordering.{is_lt, on}
+use Rattle.std.proofs.Common.{◌≡◌, ℕ, ◌==◌, ◌&&◌, List, [], ◌∷◌, Bool, true, false, map, filter, refl, ap₂, ◌∙◌, zero, suc, ◌+◌, ◌<◌, IsSorted, length, set, slice_index_or, sym, ap, subst, arith, pos}
 use Rattle.std.specs.List.Sorted.{IsPermutation, IsSortedBy}
-use Rattle.std.proofs.lemmas.List.{length-map, map-set}
-use Rattle.std.proofs.lemmas.List.Sorted.{IsPermutation-refl, IsPermutation-trans, IsPermutation-map, IsPermutation-swap, IsPermutation-keeps}
+use Rattle.std.proofs.lemmas.List.Sorted.{IsPermutation-trans, IsPermutation-refl, IsPermutation-map, IsPermutation-swap, IsPermutation-keeps}
 use Rattle.sqlite.specs.declared.types.Value.TheVariants.{Null}
+use Rattle.sqlite.specs.Order.{Row, column}
 use Rattle.sqlite.specs.Collation.TheVariants.{Binary}
-use Rattle.sqlite.specs.Order.{Row}
+use Rattle.sqlite.specs.Ops.{binary, is_true}
+use Rattle.sqlite_sql.specs.declared.ops.BinaryOp.TheVariants.{Compare}
+use Rattle.sqlite_sql.specs.declared.ops.CompareOp.TheVariants.{Eq}
+use Rattle.sqlite.specs.Command.TheVariants.{Select}
+use Rattle.sqlite.specs.State.{State, Shown}
+use Rattle.sqlite.specs.Listing.{understood, reads_listing}
+use Rattle.sqlite.proofs.Callers.{IsPlain, command_of, reads_as}
+use Rattle.office_rows.specs.Tables.{partner_table, interchange_table, office_schema, visit_table, place_table, listing_table, setting_table, block_table}
+use Rattle.office_rows.specs.Rows.{Interchange, Rows, Partner}
+use Rattle.office_rows.specs.Values.{number_value, partner_values, interchange_values, kept_values, next_values}
+use Rattle.office_rows.specs.Stored.{Holds, HasRows, columns_of}
+use Rattle.office_rows.specs.Layouts.{Layout, bare, weighed, schema_in, bare_schema}
+use Rattle.office_rows.specs.Effects.{is_pair}
+use Rattle.office_rows.proofs.WriteLemmas.{equal_numbers, rows_of, answer_is, holds_read, passes, answer_in_order}
+use Rattle.std.specs.List.{swap}
+use Rattle.std.specs.Ordering.{is_lt, on, nat_cmp, int_cmp}
+use Rattle.std.proofs.lemmas.List.{length-map, map-set}
 use Rattle.sqlite.specs.Table.{Table}
 use Rattle.sqlite.specs.Term.{Term, eval_all}
 use Rattle.sqlite.specs.Query.{Output, key_cmp}
 use Rattle.sqlite.specs.Program.{overlay}
 use Rattle.sqlite.specs.Tree.{Trees}
 use Rattle.sqlite.specs.Effect.{Database}
-use Rattle.sqlite.specs.Command.TheVariants.{Select}
-use Rattle.sqlite.specs.Listing.{understood, reads_listing}
-use Rattle.sqlite.specs.State.{State, Shown}
-use Rattle.sqlite.proofs.Callers.{IsPlain, command_of, reads_as}
 use Rattle.sqlite_trees.proofs.ListLemmas.{map-map, filter_all, all_of}
 use Rattle.sqlite_value.specs.Keys.{ascending}
 use Rattle.sqlite_value.specs.declared.keys.Key.{Key}
-use Rattle.office_rows.specs.Tables.{partner_table, interchange_table, visit_table, place_table, listing_table, setting_table, block_table, office_schema}
-use Rattle.office_rows.specs.Layouts.{Layout, bare, weighed, bare_schema, schema_in}
 use Rattle.office_rows.specs.Bare.{weighed_row, with_weights, weighed_in}
-use Rattle.office_rows.specs.Stored.{columns_of}
-use Rattle.office_rows.specs.Shown.{columns_at, ShowsTable}
+use Rattle.office_rows.specs.Shown.{columns_at, ShowsTable, AreNexts}
+use Rattle.sqlite.specs.Schema.{Schema}
+use Rattle.std.proofs.lemmas.Int.{ints}
+use Rattle.std.proofs.lemmas.Bool.Decides.{nat_tests}
+use Rattle.sqlite_value.proofs.OrderLemmas.{value_cmp-Int, then-Equal}
 use Rattle.office_rows.proofs.Reading as texts
 use Rattle.office_rows.proofs.BareReading as bare_texts
-use Rattle.sqlite.specs.Schema.{Schema}
-use Rattle.office_rows.proofs.WriteLemmas.{rows_of, passes, answer_in_order}
+
+-- ==== Found: What a query of one row finds.
+
+pub and_true : (b : Bool) → (b && true) ≡ b
+and_true true = refl
+and_true false = refl
+
+abbrev equals : Row → ℕ → ℕ → Bool
+equals c at n = is_true (binary (Compare Eq Binary) (column c at) (number_value n))
+
+kept_is : (layout : Layout) → (command_of (understood (schema_in layout) texts.select_kept) ≡ Select (record { lets = []; body = rows_of 2 texts.select_kept_tests texts.select_kept_shown }) texts.select_kept_names) × (reads_listing (schema_in layout) texts.select_kept ≡ false)
+kept_is bare = bare_texts.select_kept_is
+kept_is weighed = texts.select_kept_is
+
+pub kept_plain : (layout : Layout) → IsPlain (understood (schema_in layout) texts.select_kept)
+kept_plain bare = bare_texts.select_kept_plain
+kept_plain weighed = texts.select_kept_plain
+
+-- where the tables are those of some version, the interchanges of a pair are found
+pub finds_pair : (old new : State) (answer : List Row) (layout : Layout) → old.now.schema ≡ schema_in layout → (interchanges : List Interchange) → Holds interchange_table interchange_values interchanges (old.now.trees 2) → (p n : ℕ) → Shown texts.select_kept (number_value p ∷ number_value n ∷ []) old new answer → IsPermutation (map kept_values (filter (is_pair p n) interchanges)) answer
+finds_pair old new answer layout is interchanges held p n h =
+    let params = number_value p ∷ number_value n ∷ [] in
+    let read = reads_as texts.select_kept params old new (schema_in layout) is (Select (record { lets = []; body = rows_of 2 texts.select_kept_tests texts.select_kept_shown }) texts.select_kept_names) (kept_is layout).0 (kept_plain layout) (kept_is layout).1 answer h in
+    IsPermutation-trans _ _ _ (holds_read interchange_table interchange_values interchanges (old.now.trees 2) held params texts.select_kept_tests texts.select_kept_shown
+    (λ c. equals c 0 p && (equals c 1 n && true)) (λ c. column c 2 ∷ column c 3 ∷ []) (is_pair p n) kept_values
+    (λ r. refl) (λ r. refl) (λ i. ap₂ ◌&&◌ (equal_numbers i.partner p) (and_true _ ∙ equal_numbers i.number n)) (λ i. refl))
+    (answer_is params texts.select_kept_tests 2 texts.select_kept_shown old.now.trees answer refl (read.answer Null))
+
+module _ (old new : State) (rows : Rows) (answer : List Row) (has : HasRows rows old.now) where
+  pub finds_kept : (p n : ℕ) → Shown texts.select_kept (number_value p ∷ number_value n ∷ []) old new answer → IsPermutation (map kept_values (filter (is_pair p n) rows.interchanges)) answer
+  finds_kept p n h = finds_pair old new answer weighed has.schema rows.interchanges has.rows_are.interchanges p n h
+
+  pub finds_next : (id : ℕ) → Shown texts.select_next (number_value id ∷ []) old new answer → IsPermutation (map next_values (filter (λ p. p.id == id) rows.partners)) answer
+  finds_next id h =
+      let params = number_value id ∷ [] in
+      let read = reads_as texts.select_next params old new office_schema has.schema (Select (record { lets = []; body = rows_of 0 texts.select_next_tests texts.select_next_shown }) texts.select_next_names) texts.select_next_is.0 texts.select_next_plain texts.select_next_is.1 answer h in
+      IsPermutation-trans _ _ _ (holds_read partner_table partner_values rows.partners (old.now.trees 0) has.rows_are.partners params texts.select_next_tests texts.select_next_shown
+      (λ c. equals c 0 id && true) (λ c. column c 3 ∷ []) (λ p. p.id == id) next_values
+      (λ r. refl) (λ r. refl) (λ p. and_true _ ∙ equal_numbers p.id id) (λ p. refl))
+      (answer_is params texts.select_next_tests 0 texts.select_next_shown old.now.trees answer refl (read.answer Null))
+
+-- ==== Listed: What each query of all rows of a table shows.
 
 -- ---- lists
 
@@ -166,3 +217,33 @@ module _ (old new : State) (answer : List Row) where
         ordered = s.ordered;
         is = s.is;
       }
+
+-- ==== NextLemmas: The next numbers that the accounts show.
+
+pub numbers_same : (xs ys : List ℕ) → map number_value xs ≡ map number_value ys → xs ≡ ys
+numbers_same [] [] same = refl
+numbers_same [] (y ∷ ys) same = absurd cc
+numbers_same (x ∷ xs) [] same = absurd cc
+numbers_same (x ∷ xs) (y ∷ ys) same = let first : x ≡ y = cc in let rest : map number_value xs ≡ map number_value ys = cc in let more = numbers_same xs ys rest in cc
+
+naturals : (m n : ℕ) → is_lt (nat_cmp m n) ≡ is_lt (int_cmp (pos m) (pos n))
+naturals m n = grind (arith, ints, nat_tests)
+
+-- the order of two keys of one number each
+by_number : (m n : ℕ) → is_lt (nat_cmp m n) ≡ is_lt (key_cmp 0 (ascending Binary ∷ []) (number_value m ∷ []) (number_value n ∷ []))
+by_number m n = rw (value_cmp-Int, then-Equal) (naturals m n)
+
+pub nexts_listed : (rows : Rows) (db : Database) (answer : List Row) (nexts : List ℕ) → HasRows rows db → ShowsTable partner_table (0 ∷ 1 ∷ 2 ∷ 3 ∷ []) (0 ∷ []) db answer
+    → map number_value nexts ≡ map (λ r. column r 3) answer → AreNexts rows nexts
+nexts_listed rows db answer nexts has it read =
+    let placed = unmapped partner_values rows.partners it.by_key (IsPermutation-trans _ _ _ has.rows_are.partners.same it.same) in
+    let lt : Row → Row → Bool = λ x y. is_lt (key_cmp 0 (ascending Binary ∷ []) (columns_at (0 ∷ []) x) (columns_at (0 ∷ []) y)) in
+    let less : ℕ → ℕ → Bool = λ x y. is_lt (nat_cmp x y) in
+    let sorted : IsSortedBy lt (map partner_values placed.0) = subst (IsSortedBy lt) placed.2 it.ordered in
+    let shown : map (λ (r : Row). column r 3) answer ≡ map number_value (map (λ (p : Partner). p.next) placed.0) =
+    ap (map (λ (r : Row). column r 3)) (it.is ∙ ap (map (columns_at (0 ∷ 1 ∷ 2 ∷ 3 ∷ []))) placed.2) ∙ thrice placed.0 in
+    (placed.0, placed.1, sorted_as partner_values (λ (p : Partner). p.id) lt less (λ x y. by_number x.id y.id) placed.0 sorted, numbers_same _ _ (read ∙ shown))
+  where
+    thrice : (ps : List Partner) → map (λ (r : Row). column r 3) (map (columns_at (0 ∷ 1 ∷ 2 ∷ 3 ∷ [])) (map partner_values ps)) ≡ map number_value (map (λ (p : Partner). p.next) ps)
+    thrice [] = refl
+    thrice (p ∷ ps) = ap (λ l. number_value p.next ∷ l) (thrice ps)

@@ -3,7 +3,7 @@ use Rattle.std.proofs.Common.{◌≡◌, ℕ, List, [], ◌∷◌, ◌++◌, Boo
 use Rattle.box6346.specs.declared.box_number.BoxNumber.{BoxNumber}
 use Rattle.box6346.specs.declared.slot.Slot.{Slot}
 use Rattle.box6346.specs.SlotName.{slot_text}
-use Rattle.edi_moments.specs.Moments.{moment_digits}
+use Rattle.edi_syntax.specs.Moments.{moment_digits}
 use Rattle.edi_messages.specs.Purposes.{CallContent}
 use Rattle.yard_core.specs.declared.plan.Block.{Block}
 use Rattle.terminal_core.specs.declared.visits.Departure.{Departure}
@@ -14,7 +14,6 @@ use Rattle.terminal_core.specs.State.{side_code}
 use Rattle.sqlite.specs.declared.types.Value.TheVariants.{Null, Text, Blob}
 use Rattle.sqlite.specs.Order.{Row, column}
 use Rattle.sqlite.specs.Collation.TheVariants.{Binary}
-use Rattle.sqlite.specs.Kind.TheVariants as kind
 use Rattle.sqlite.specs.Ops.{binary, is_true}
 use Rattle.sqlite_sql.specs.declared.ops.BinaryOp.TheVariants.{Compare}
 use Rattle.sqlite_sql.specs.declared.ops.CompareOp.TheVariants.{Eq}
@@ -31,10 +30,10 @@ use Rattle.office_rows.specs.Rows.{Partner, Interchange, PlaceContent, ListingCo
 use Rattle.office_rows.specs.Values.{number_value, way_code, partner_values, interchange_values, visit_values, place_values, line_values, setting_values, block_values}
 use Rattle.office_rows.specs.Stored.{HasRows}
 use Rattle.office_rows.specs.Effects.{is_pair, stands_for, is_line, with_waiting, with_reply, with_next, with_change}
+use Rattle.office_rows.proofs.WriteLemmas.{cast_null, cast_int, equal_numbers, equal_texts, inserts, updates, deletes, rows_of, holds_inserted, holds_updated, holds_deleted}
+use Rattle.office_rows.proofs.Writing.{only_partners, only_interchanges, only_visits, only_places, only_lines, only_settings, only_blocks}
+use Rattle.sqlite.specs.Kind.TheVariants as kind
 use Rattle.office_rows.proofs.Writing as texts
-use Rattle.office_rows.proofs.WriteLemmas.{cast_null, cast_int, equal_numbers, equal_texts, inserts, updates, deletes, rows_of}
-use Rattle.office_rows.proofs.HoldLemmas.{holds_inserted, holds_updated, holds_deleted}
-use Rattle.office_rows.proofs.TableLemmas.{only_partners, only_interchanges, only_visits, only_places, only_lines, only_settings, only_blocks}
 
 and_true : (b : Bool) → (b && true) ≡ b
 and_true true = refl

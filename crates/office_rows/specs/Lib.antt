@@ -12,3 +12,5 @@ pub mod Opened
 pub mod Bare
 pub mod Migrated
 pub mod Office
+pub mod Places
+pub mod InPlace

@@ -10,8 +10,8 @@ use Rattle.terminal_core.specs.Changes.{TerminalRows, rows_of}
 use Rattle.terminal_core.specs.Forms.{IsWellFormed}
 use Rattle.terminal_core.specs.OneByOne.{GoOneByOne}
 use Rattle.terminal_core.specs.State.{TerminalState, IsWhole}
-use Rattle.office_setup.specs.Setups.{SetupContent}
-use Rattle.office_setup.specs.Given.{IsGiven}
+use Rattle.office_admission.specs.Setups.{SetupContent}
+use Rattle.office_admission.specs.Given.{IsGiven}
 use Rattle.office_rows.specs.Rows.{Partner, Setting}
 use Rattle.office_rows.specs.Opening.{setting_row, tables_version}
 use Rattle.office_rows.specs.Opened.{NumberKept, OpenedRows}

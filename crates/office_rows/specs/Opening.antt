@@ -12,7 +12,7 @@ use Rattle.terminal_core.specs.declared.change.Version.{Version}
 use Rattle.terminal_core.specs.declared.change.Version.TheVariants.{First, Second, Third}
 use Rattle.terminal_core.specs.Versions.{newest}
 use Rattle.terminal_core.specs.Rows.{VisitContent}
-use Rattle.office_setup.specs.Setups.{SetupContent}
+use Rattle.office_admission.specs.Setups.{SetupContent}
 use Rattle.office_rows.specs.Rows.{Partner, Interchange, PlaceContent, ListingContent, Setting, Rows, no_rows}
 
 -- the accounts by id, from this one on; each waits for its partner's first interchange

@@ -1,7 +1,7 @@
 -- The columns of rows: what SQL shows of what they say.
 use Rattle.std.specs.Prelude.{ℕ, pos, Bool, true, false, List, [], ◌∷◌, Option, None, Some}
 use Rattle.box6346.specs.SlotName.{slot_text}
-use Rattle.edi_moments.specs.Moments.{moment_digits}
+use Rattle.edi_syntax.specs.Moments.{moment_digits}
 use Rattle.edi_messages.specs.declared.codes.PartnerKind.{PartnerKind}
 use Rattle.edi_messages.specs.declared.codes.PartnerKind.TheVariants.{Gate, Line, Quay, Yard}
 use Rattle.yard_core.specs.declared.plan.Block.{Block}

@@ -6,7 +6,6 @@ use Rattle.std.proofs.lemmas.Bool.{cases_Bool, and_parts, and_from, not-true, bo
 use Rattle.sqlite_value.specs.declared.value.Value.{Value}
 use Rattle.sqlite_value.specs.declared.value.Value.TheVariants.{Null, Int, Real, Text, Blob}
 use Rattle.sqlite_value.specs.Order.{Row, value_cmp}
-use Rattle.sqlite_trees.specs.declared.store.Shape.TheVariants as shape
 use Rattle.sqlite_trees.specs.Tree.{Trees, rowid}
 use Rattle.sqlite_trees.specs.View.{IsShaped, is_int}
 use Rattle.sqlite_sql.specs.Ops.{binary, is_null}
@@ -23,6 +22,7 @@ use Rattle.sqlite_rules.specs.Edit.{with_rowid, is_taken, edit_of, Applies}
 use Rattle.sqlite_rules.proofs.ListLemmas.{all_has, test_has, some_has, some_from}
 use Rattle.sqlite_rules.proofs.RuleLemmas.{keeps_at}
 use Rattle.sqlite_rules.proofs.TableLemmas.{put_all_keeps, put_all_adds}
+use Rattle.sqlite_trees.specs.declared.store.Shape.TheVariants as shape
 
 never_null : (v : Value) → is_int v ≡ true → is_null v ≡ false
 never_null Null h = sym h

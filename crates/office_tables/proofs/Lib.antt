@@ -1,12 +1,5 @@
-pub mod OpenedLemmas
-pub mod FaultLemmas
-pub mod TextLemmas
+pub mod WritesLemmas
 pub mod MadeLemmas
-pub mod CreatesLemmas
-pub mod MadeTexts
-pub mod QueryTexts
-pub mod ReadingLemmas
 pub mod KeyLemmas
 pub mod PairLemmas
-pub mod OrderLemmas
-pub mod WritesLemmas
+pub mod WriteLemmas

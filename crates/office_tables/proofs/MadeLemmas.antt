@@ -1,9 +1,8 @@
 -- A text that makes a table, run on a database of any schema: the table was not there.
-use Rattle.std.proofs.Common.{◌≡◌, ℕ, ◌+◌, Bool, true, false, not, ◌==◌, length, ◌&&◌, if◌then◌else◌, List, [], ◌∷◌, ◌++◌, slice_range, Option, None, is_some, Result, Ok, Err, OnOk, inl, inr, refl, sym, ap, subst, ◌∙◌}
+use Rattle.std.proofs.Common.{◌≡◌, ℕ, ◌+◌, Bool, true, false, not, ◌==◌, length, ◌&&◌, if◌then◌else◌, List, [], ◌∷◌, ◌++◌, slice_range, Option, None, is_some, Result, Ok, Err, OnOk, inl, inr, refl, sym, ap, subst, ◌∙◌, IsTrue, take, arith, IsErr}
 use Rattle.std.specs.List.{AllByRecursion, position_from}
 use Rattle.std.proofs.lemmas.Bool.{cases_Bool, or_parts, or_from}
 use Rattle.sqlite_ast.specs.declared.Statement.{Statement}
-use Rattle.sqlite_ast.specs.declared.Statement.TheVariants as written
 use Rattle.sqlite_ast.specs.declared.CreateTable.{CreateTable as Definition}
 use Rattle.sqlite_syntax.specs.declared.statement.Parsed.{Parsed}
 use Rattle.sqlite_schema.specs.declared.schema.Schema.{Schema}
@@ -16,18 +15,35 @@ use Rattle.sqlite_resolve.specs.declared.error.CompileError.TheVariants.{Exists,
 use Rattle.sqlite_resolve.specs.Lowering.{Checked, and_then}
 use Rattle.sqlite_resolve.specs.Scope.{Name}
 use Rattle.sqlite_resolve.specs.Compile.{first, planned, create_table, creates, is_attached, is_reserved, compiled, with_command, table_defined_by}
-use Rattle.sqlite_resolve.specs.Define as define
 use Rattle.std.specs.Option.{option_or}
 use Rattle.sqlite_schema.specs.Names.{table_named, index_named, view_named}
 use Rattle.sqlite_catalog.specs.Change.{created, is_used}
 use Rattle.sqlite.specs.Listing.{understood, reads_listing, listing_schema, if_select, is_select}
 use Rattle.sqlite.specs.Does.{Tally, lacks_sequence}
 use Rattle.sqlite.specs.Effect.{Database}
-use Rattle.sqlite.specs.State.{State, Executes, ExecutesIn, Writes, text_of}
-use Rattle.sqlite.proofs.Callers.{IsPlain, command_of, statement_of, runs_as}
+use Rattle.sqlite.specs.State.{State, Executes, ExecutesIn, Writes, text_of, HasCleanDisk, Shows, Survives, IsUnchanged, KeepsCommit, Shown, ShowsRows, FailsToQuery, FailsToShow, IsNotRun, CommitsShowing}
+use Rattle.sqlite.proofs.Callers.{IsPlain, command_of, statement_of, runs_as, unchanged_then}
 use Rattle.office_rows.proofs.WriteLemmas.{went, same_value}
 use Rattle.office_tables.specs.Opened.{MakesTables}
-use Rattle.office_tables.proofs.TextLemmas.{and_then_ok, Plan, plan_by, as_planned}
+use Rattle.office_tables.proofs.WritesLemmas.{and_then_ok, Plan, plan_by, as_planned}
+use Rattle.office_rows.proofs.Creating.{turns_on, turns_then, steps_turn, keep_then, quiet_then, on_ok, stops_keep}
+use Rattle.office_rows.specs.Rows.{Rows}
+use Rattle.office_rows.specs.Stored.{HasEmpty, HasRows}
+use Rattle.office_rows.specs.Tables.{office_tables}
+use Rattle.office_tables.specs.declared.table_fault.TableFault.{TableFault}
+use Rattle.office_tables.specs.Writes.{Creates, MakesOffice, WritesIfOpen}
+use Rattle.sqlite_tied.specs.Compute.{everything}
+use Rattle.sqlite.specs.Order.{Row}
+use Rattle.sqlite.specs.Tree.{Trees}
+use Rattle.sqlite.specs.Clock.{timed}
+use Rattle.sqlite.specs.declared.error.Error.{Error}
+use Rattle.sqlite.proofs.StateLemmas.{survives_weaker}
+use Rattle.office_tables.specs.Reading.{Reads, ReadsIfOpen, OnlyShows}
+use Rattle.sqlite_ast.specs.declared.Statement.TheVariants as written
+use Rattle.sqlite_resolve.specs.Define as define
+use Rattle.office_rows.proofs.Creating as texts
+
+-- ==== MadeLemmas: A text that makes a table, run on a database of any schema: the table was not there.
 
 -- ---- the text
 
@@ -193,3 +209,190 @@ makes_then xs ys a b c p q = record {
 pub on_ok_from : {X E : Type 0} {P : Type 0} (r : Result X E) → P → OnOk r P
 on_ok_from (Ok x) p = p
 on_ok_from (Err e) p = tt
+
+-- ==== CreatesLemmas: Calls that make tables, one after the other.
+
+-- a statement that was made
+pub creates_of : {T : Type 0} (tables : List Table) (from to : Database → Type 0) (old new : State) (value : T) → Survives old new (λ _. ⊥)
+    → (HasCleanDisk new → IsTrue old.in_transaction → Shows old new new.now old.committed true × (from old.now → to new.now) × MakesTables tables old.now.schema new.now.schema)
+    → Creates tables from to old new (Ok value)
+creates_of tables from to old new value survives made = record {
+  turns = λ clean inside. let does = made clean inside in turns_on from to old new does.0 does.1;
+  makes = λ clean inside. (made clean inside).2;
+  keeps = λ clean inside. record { was_open = λ _. (made clean inside).0.was_open; committed = λ _. (made clean inside).0.committed_is };
+  survives = survives;
+  fault = tt;
+}
+
+-- one call, and then another
+pub creates_then : {X Y : Type 0} (xs ys : List Table) (from over to : Database → Type 0) (a b c : State) (x : X) (result : Result Y TableFault)
+    → Creates xs from over a b (Ok x) → Creates ys over to b c result → Creates (xs ++ ys) from to a c result
+creates_then xs ys from over to a b c x result p q = record {
+  turns = λ clean inside.
+      let early : HasCleanDisk b = omega (arith, q.survives.clean) in
+      let first = p.turns early inside in
+      on_ok result (turns_then from over to a b c first) (q.turns clean first.inside);
+  makes = λ clean inside.
+      let early : HasCleanDisk b = omega (arith, q.survives.clean) in
+      let first = p.turns early inside in
+      on_ok result (makes_then xs ys a.now.schema b.now.schema c.now.schema (p.makes early inside)) (q.makes clean first.inside);
+  keeps = λ clean inside.
+      let early : HasCleanDisk b = omega (arith, q.survives.clean) in
+      keep_then a b c (p.keeps early inside) (q.keeps clean (p.turns early inside).inside);
+  survives = quiet_then a b c p.survives q.survives;
+  fault = q.fault;
+}
+
+-- all tables, and no row yet
+pub makes_empty : {X : Type 0} (rows : Rows) (a b : State) (result : Result X TableFault) → Creates office_tables (HasEmpty (take 0 office_tables)) (HasRows rows) a b result
+    → MakesOffice rows a b result
+makes_empty rows a b result p = record {
+  turns = p.turns;
+  missing = λ clean inside. on_ok result (λ (made : MakesTables office_tables a.now.schema b.now.schema). made.missing) (p.makes clean inside);
+  keeps = p.keeps;
+  survives = p.survives;
+  fault = p.fault;
+}
+
+-- rows that are written into them
+pub makes_with : {X Y : Type 0} (rows : Rows) (change : Rows → Rows) (a b c : State) (x : X) (result : Result Y TableFault)
+    → MakesOffice rows a b (Ok x) → WritesIfOpen change b c result → MakesOffice (change rows) a c result
+makes_with rows change a b c x result p q = record {
+  turns = λ clean inside.
+      let early : HasCleanDisk b = omega (arith, q.survives.clean) in
+      let first = p.turns early inside in
+      on_ok result (steps_turn (HasEmpty (take 0 office_tables)) rows change a b c first) (q.steps clean first.inside first.is_open);
+  missing = λ clean inside.
+      let early : HasCleanDisk b = omega (arith, q.survives.clean) in
+      on_ok_from result (p.missing early inside);
+  keeps = λ clean inside.
+      let early : HasCleanDisk b = omega (arith, q.survives.clean) in
+      let first = p.turns early inside in
+      keep_then a b c (p.keeps early inside) (q.keeps clean first.inside first.is_open);
+  survives = quiet_then a b c p.survives q.survives;
+  fault = q.fault;
+}
+
+-- ==== MadeTexts: The texts that make the tables say nothing of a table that is there.
+
+-- a table is made only where there is none, and its own text is kept
+abbrev pub MakesAnew : List ℕ → Type 0
+MakesAnew text = (makes_new (first text) ≡ true) × (stated text (first text) ≡ text)
+
+pub partner_anew : MakesAnew texts.create_partner
+unfolding everything
+partner_anew = (refl, refl)
+
+pub interchange_anew : MakesAnew texts.create_interchange
+unfolding everything
+interchange_anew = (refl, refl)
+
+pub visit_anew : MakesAnew texts.create_visit
+unfolding everything
+visit_anew = (refl, refl)
+
+pub place_anew : MakesAnew texts.create_place
+unfolding everything
+place_anew = (refl, refl)
+
+pub listed_anew : MakesAnew texts.create_listed
+unfolding everything
+listed_anew = (refl, refl)
+
+pub setting_anew : MakesAnew texts.create_setting
+unfolding everything
+setting_anew = (refl, refl)
+
+pub block_anew : MakesAnew texts.create_block
+unfolding everything
+block_anew = (refl, refl)
+
+-- ==== ReadingLemmas: A query only reads, and so does a call that works on what it shows.
+
+-- where nothing has changed
+pub reads_same : {T : Type 0} (old new : State) (value : T) → (HasCleanDisk new → IsUnchanged old new) → (old.in_transaction ≡ false → new.in_transaction ≡ false) → Survives old new (λ _. ⊥) → Reads old new (Ok value)
+reads_same old new value same mode s = record { unchanged = same; keeps = λ clean. stops_keep old new (inl (same clean)); mode = mode; survives = s }
+
+-- ---- one query
+
+module _ (sql : List ℕ) (params : Row) (old new : State) (shows : OnlyShows sql) where
+  pub shown_unchanged : (rows : List Row) → Shown sql params old new rows → IsUnchanged old new
+  unfolding Shown
+  shown_unchanged rows h = (subst (ShowsRows old new sql h.0 (timed params h.0.formats h.1.now) rows) (shows old.now.schema h.0 h.1.is) h.2).3
+
+  failed_commits_nothing : (e : Error) → FailsToQuery sql params old new e → KeepsCommit old new
+  unfolding FailsToQuery IsNotRun
+  failed_commits_nothing e (inl (inl stopped)) = stops_keep old new (inl stopped.1)
+  failed_commits_nothing e (inl (inr failed)) = stops_keep old new (inr failed.3)
+  failed_commits_nothing e (inr h) = stops_keep old new (inl (subst (FailsToShow old new sql h.0 (timed params h.0.formats h.1.now) e) (shows old.now.schema h.0 h.1.is) h.2).3)
+
+  never_commits : (db : Trees) → ¬ CommitsShowing sql params old db
+  unfolding CommitsShowing
+  never_commits db made = absurd (let none = shows old.now.schema made.0 made.1.is in let e = rw none at made.2 in cc)
+
+  pub query_survives : Survives old new (CommitsShowing sql params old) → Survives old new (λ _. ⊥)
+  query_survives s = survives_weaker old new _ _ (λ clean. never_commits) s
+
+  pub reads_shown : {T : Type 0} (rows : List Row) (value : T) → (HasCleanDisk new → Shown sql params old new rows) → (old.in_transaction ≡ false → new.in_transaction ≡ false)
+      → Survives old new (CommitsShowing sql params old) → Reads old new (Ok value)
+  reads_shown rows value shown mode s = reads_same old new value (λ clean. shown_unchanged rows (shown clean)) mode (query_survives s)
+
+  pub reads_failed : {T : Type 0} (e : Error) (result : Result T TableFault) → IsErr result → (HasCleanDisk new → FailsToQuery sql params old new e) → (old.in_transaction ≡ false → new.in_transaction ≡ false)
+      → Survives old new (CommitsShowing sql params old) → Reads old new result
+  reads_failed e (Ok value) err fails mode s = absurd cc
+  reads_failed e (Err fault) err fails mode s = record { unchanged = λ clean. tt; keeps = λ clean. failed_commits_nothing e (fails clean); mode = mode; survives = query_survives s }
+
+-- ---- what is done with its answer
+
+-- whatever comes of what was read
+pub reads_on : {X Y : Type 0} {old new : State} {x : X} (result : Result Y TableFault) → Reads old new (Ok x) → Reads old new result
+reads_on (Ok y) reads = record { unchanged = reads.unchanged; keeps = reads.keeps; mode = reads.mode; survives = reads.survives }
+reads_on (Err fault) reads = record { unchanged = λ clean. tt; keeps = reads.keeps; mode = reads.mode; survives = reads.survives }
+
+-- the fault of a call that it made
+pub reads_stopped : {X Y : Type 0} {old new : State} {inner : Result X TableFault} (result : Result Y TableFault) → IsErr result → Reads old new inner → Reads old new result
+reads_stopped (Ok y) err reads = absurd cc
+reads_stopped (Err fault) err reads = record { unchanged = λ clean. tt; keeps = reads.keeps; mode = reads.mode; survives = reads.survives }
+
+-- ---- one read after the other
+
+pub clean_first : {X : Type 0} {b c : State} {result : Result X TableFault} → Reads b c result → HasCleanDisk c → HasCleanDisk b
+clean_first q clean = omega (arith, q.survives.clean)
+
+infixr 10 ◌then◌
+pub ◌then◌ : {X Y : Type 0} {a b c : State} {x : X} {result : Result Y TableFault} → Reads a b (Ok x) → Reads b c result → Reads a c result
+◌then◌ {a} {b} {c} {result} p q = record {
+  unchanged = λ clean. on_ok result (unchanged_then a b c (p.unchanged (clean_first q clean))) (q.unchanged clean);
+  keeps = λ clean. keep_then a b c (p.keeps (clean_first q clean)) (q.keeps clean);
+  mode = λ outside. q.mode (p.mode outside);
+  survives = quiet_then a b c p.survives q.survives;
+}
+
+-- ---- of a call that may have nothing to read
+
+pub if_open_then : {X Y : Type 0} {a b c : State} {x : X} {result : Result Y TableFault} → ReadsIfOpen a b (Ok x) → Reads b c result → ReadsIfOpen a c result
+if_open_then {a} {b} {c} {result} p q = record {
+  unchanged = λ clean was. on_ok result (unchanged_then a b c (p.unchanged (clean_first q clean) was)) (q.unchanged clean);
+  keeps = λ clean. keep_then a b c (p.keeps (clean_first q clean)) (q.keeps clean);
+  mode = λ outside. q.mode (p.mode outside);
+  survives = quiet_then a b c p.survives q.survives;
+}
+
+pub then_if_open : {X Y : Type 0} {a b c : State} {x : X} {result : Result Y TableFault} → Reads a b (Ok x) → ReadsIfOpen b c result → Reads a c result
+then_if_open {a} {b} {c} {result} p q = record {
+  unchanged = λ clean.
+      let early : HasCleanDisk b = omega (arith, q.survives.clean) in
+      let first = p.unchanged early in
+      on_ok result (unchanged_then a b c first) (q.unchanged clean first.0.is_open);
+  keeps = λ clean. let early : HasCleanDisk b = omega (arith, q.survives.clean) in keep_then a b c (p.keeps early) (q.keeps clean);
+  mode = λ outside. q.mode (p.mode outside);
+  survives = quiet_then a b c p.survives q.survives;
+}
+
+pub if_open_stopped : {X Y : Type 0} {old new : State} {inner : Result X TableFault} (result : Result Y TableFault) → IsErr result → ReadsIfOpen old new inner → ReadsIfOpen old new result
+if_open_stopped (Ok y) err reads = absurd cc
+if_open_stopped (Err fault) err reads = record { unchanged = λ clean was. tt; keeps = reads.keeps; mode = reads.mode; survives = reads.survives }
+
+pub if_open_on : {X Y : Type 0} {old new : State} {x : X} (result : Result Y TableFault) → ReadsIfOpen old new (Ok x) → ReadsIfOpen old new result
+if_open_on (Ok y) reads = record { unchanged = reads.unchanged; keeps = reads.keeps; mode = reads.mode; survives = reads.survives }
+if_open_on (Err fault) reads = record { unchanged = λ clean was. tt; keeps = reads.keeps; mode = reads.mode; survives = reads.survives }

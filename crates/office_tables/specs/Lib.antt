@@ -5,3 +5,7 @@ pub mod Kept
 pub mod Order
 pub mod Writes
 pub mod Reading
+pub mod Taken
+pub mod Taking
+pub mod DeliveryReading
+pub mod Writing

@@ -3,8 +3,8 @@ ghost use Rattle.office_rows.specs.Opening.{opening_rows};
 ghost use Rattle.office_rows.specs.Rows.{no_rows};
 ghost use Rattle.office_rows.specs.Stored.{HasRows, HasEmpty};
 ghost use Rattle.office_rows.specs.Tables.{office_tables, partner_table, interchange_table, visit_table, place_table, listing_table, setting_table, block_table};
-ghost use Rattle.office_setup.specs.Limits.{most_partners};
-ghost use Rattle.office_setup.specs.Setups.{setup_content};
+ghost use Rattle.office_admission.specs.Limits.{most_partners};
+ghost use Rattle.office_admission.specs.Setups.{setup_content};
 ghost use Rattle.office_tables.specs.Faults.{IsOfStore};
 ghost use Rattle.office_tables.specs.Opened.{Opens, IsOpening, AreMissing};
 ghost use Rattle.office_tables.specs.Writes.{Creates, MakesOffice};
@@ -13,7 +13,7 @@ ghost use Rattle.sqlite.specs.State.{HasCleanDisk, Survives};
 
 use crate::settings::{insert_blocks, insert_partners, insert_settings};
 use crate::table_fault::TableFault;
-use office_setup::Setup;
+use office_admission::Setup;
 use sqlite::{Alter, Connection, Transaction};
 
 /// Makes the tables of an empty database. It fails where anything has the name of one of them.

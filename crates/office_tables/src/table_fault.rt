@@ -9,7 +9,7 @@ use thiserror::Error;
 /// Why the tables did not do what was asked.
 #[derive(Debug, Drop, Error)]
 pub enum TableFault {
-    /// The store failed or refused, as SQL tells it.
+    /// The store failed or refused, as SQL reports it.
     #[error("the store failed")]
     Store(Error),
     /// The rows are those of no office.

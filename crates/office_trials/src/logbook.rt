@@ -1,8 +1,7 @@
 ghost use Rattle.std.specs.Prelude.{◌≡◌};
 ghost use Rattle.office_trials.specs.Books.{Enters};
 
-use office_replies::{Deliver, Fault, Response};
-use office_stream::Port;
+use office_replies::{Deliver, Fault, Port, Response};
 use std::alloc::Global;
 use std::io::Write;
 

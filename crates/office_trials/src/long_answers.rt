@@ -8,7 +8,7 @@ pub struct LongAnswers {
     pub size: usize,
 }
 
-/// So many bytes of a text; None without memory for them.
+/// The given count of bytes of a text; None without memory for them.
 fn long_text(alloc: Global, size: usize) -> Option<String> {
     let mut text = String::new(alloc);
     for _ in 0..size {

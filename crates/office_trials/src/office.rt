@@ -1,12 +1,9 @@
-//! Streams and runs, by the bytes that come in and those that are answered.
+//! Streams, by the bytes that come in and those that are answered.
 
-mod accounts;
 mod books;
 pub(crate) mod failing_reader;
 pub(crate) mod failing_writer;
 pub(crate) mod faltering_reader;
 pub(crate) mod late_writer;
-mod machine;
 pub(crate) mod pieces;
 mod ports;
-mod runs;

@@ -9,11 +9,8 @@ use Rattle.partner_core.specs.Deliveries.{Delivery, first_text, is_under, is_use
 use Rattle.partner_core.specs.Order.{numbers_above, numbers_made_next, order_after, order, text_under, state_after, reply_among, state, reply_of}
 use Rattle.partner_core.specs.Cascade.{TakesTexts, for_each_partner}
 use Rattle.partner_core.specs.Keeping.{Holdings, Keeps, TakesRun}
-use Rattle.partner_core.proofs.Firsts.{some_of}
-use Rattle.partner_core.proofs.Unbroken.{used_within_run, free_after_run}
-use Rattle.partner_core.proofs.Growths.{first-added}
-use Rattle.partner_core.proofs.Orders.{AllUsed-order, state_after-append, reply_among-append, state_after-texts, reply_among-texts}
-use Rattle.partner_core.proofs.OnePartner.{run_grows}
+use Rattle.partner_core.proofs.Orders.{some_of, used_within_run, free_after_run, AllUsed-order, state_after-append, reply_among-append, state_after-texts, reply_among-texts, run_grows}
+use Rattle.partner_core.proofs.OnceEach.{first-added}
 use Rattle.partner_core.proofs.Keepings.{keeps_run}
 use Rattle.partner_core.specs.ByPlace.{taken_by_place, AreNumbered, FoldsByPlace, RulesByPlace, GoesOnByNew}
 

@@ -1,16 +1,198 @@
 -- Order has each partner's run once each, in number order.
-use Rattle.std.proofs.Common.{◌≡◌, ◌≢◌, ℕ, zero, suc, ◌+◌, ◌-◌, ◌<◌, ◌≤◌, inl, inr, Bool, true, false, cond, ◌&&◌, ◌||◌, List, [], ◌∷◌, ◌++◌, refl, sym, ◌∙◌, ap, arith, append_assoc}
-use Rattle.std.specs.Prelude.{Some, ◌==◌, is_some, All, AllPairs, filter}
-use Rattle.std.specs.List.{list_any}
+use Rattle.std.proofs.Common.{◌≡◌, ◌≢◌, ℕ, ◌+◌, ◌-◌, ◌<◌, ◌≤◌, inl, inr, Bool, true, false, cond, List, [], ◌∷◌, ◌++◌, refl, sym, ◌∙◌, ap, arith, zero, suc, ◌&&◌, ◌||◌, append_assoc}
+use Rattle.std.specs.Prelude.{Option, None, Some, ◌==◌, is_some, All, AllPairs, filter}
 use Rattle.std.proofs.lemmas.List.{append-nil}
+use Rattle.std.proofs.lemmas.Bool.{cases_Bool, cases_order, cond-false, cond-true, eqb-true, eq-eqb, ne_eqb, and_parts, and_from, and_left, and_right, false_from_ne_true, cases_eq, or_cases, or_left, or_right}
+use Rattle.std.specs.Option.{option_or}
+use Rattle.partner_core.specs.Machine.{Taking}
+use Rattle.partner_core.specs.Deliveries.{Delivery, first_text, is_under, is_used, run}
+use Rattle.partner_core.specs.Order.{numbers_above, numbers_made_next, order, text_under, state_after, reply_among, state, reply_of, is_of, order_after}
+use Rattle.partner_core.specs.Growth.{AddsNothing, AddsText, AddsRun, EndsRun}
+use Rattle.partner_core.proofs.Orders.{first-used, first-new, used-kept, none_of, used_within_run, free_after_run, run_reaches, run_is, option_or-none, order-append, state-append, reply_of-append, run_grows, run_of_none, numbers_above-join}
+use Rattle.std.specs.List.{list_any}
 use Rattle.std.proofs.lemmas.List.Elements.{All-nil, All-cons, All-append, All-weaker, filter-append}
 use Rattle.std.proofs.lemmas.List.Kept.{AllPairs-cons}
-use Rattle.std.proofs.lemmas.Bool.{cases_eq, cond-false, cond-true, eq-eqb, eqb-true, ne_eqb, or_cases, or_left, or_right}
-use Rattle.partner_core.specs.Machine.{Taking}
-use Rattle.partner_core.specs.Deliveries.{Delivery, run}
-use Rattle.partner_core.specs.Order.{is_of, numbers_above, numbers_made_next, order_after, order, text_under, reply_among, reply_of}
-use Rattle.partner_core.proofs.OnePartner.{run_grows, run_of_none, numbers_above-join}
-use Rattle.partner_core.proofs.Growths.{other_run-stays}
+
+-- ==== Growths: What a delivery adds, by how it stands to those before it.
+
+under_parts : (d : Delivery) (q j : ℕ) → is_under d q j ≡ true → (d.partner ≡ q) × (d.number ≡ j)
+under_parts d q j h = let parts = and_parts (d.partner == q) (d.number == j) h in (eqb-true d.partner q parts.0, eqb-true d.number j parts.1)
+
+pub under_self : (d : Delivery) → is_under d d.partner d.number ≡ true
+under_self d = and_from (d.partner == d.partner) (d.number == d.number) (eq-eqb d.partner d.partner refl) (eq-eqb d.number d.number refl)
+
+cond_any : {A : Type 0} (b : Bool) (x y z : A) → b ≡ true → cond b x y ≡ cond b x z
+cond_any b x y z h = cond-true b x y h ∙ sym (cond-true b x z h)
+
+-- a free number's delivery adds its text
+pub first-added : (ds : List Delivery) (d : Delivery) → is_used ds d.partner d.number ≡ false → (q j : ℕ) →
+    first_text (ds ++ d ∷ []) q j ≡ cond (is_under d q j) (Some d.text) (first_text ds q j)
+first-added ds d free q j =
+    elim (cases_Bool (is_under d q j)) [
+      | inl u ↦
+          let parts = under_parts d q j u in
+          let e : first_text ds q j ≡ None = none_of (first_text ds q j) (ap (λ p. is_used ds p j) (sym parts.0) ∙ ap (is_used ds d.partner) (sym parts.1) ∙ free) in
+          first-new ds (d ∷ []) q j e ∙ cond_any (is_under d q j) (Some d.text) None (first_text ds q j) u
+      | inr n ↦
+          elim (cases_Bool (is_used ds q j)) [
+            | inl h ↦ first-used ds (d ∷ []) q j h ∙ sym (cond-false (is_under d q j) (Some d.text) (first_text ds q j) n)
+            | inr h ↦
+                let e : first_text ds q j ≡ None = none_of (first_text ds q j) h in
+                first-new ds (d ∷ []) q j e ∙ cond-false (is_under d q j) (Some d.text) None n ∙ sym e ∙ sym (cond-false (is_under d q j) (Some d.text) (first_text ds q j) n)
+          ]
+    ]
+
+-- and its number is used from then on
+pub used-added : (ds : List Delivery) (d : Delivery) → is_used ds d.partner d.number ≡ false → is_used (ds ++ d ∷ []) d.partner d.number ≡ true
+used-added ds d free =
+    ap is_some (first-added ds d free d.partner d.number ∙ cond-true (is_under d d.partner d.number) (Some d.text) (first_text ds d.partner d.number) (under_self d))
+
+-- a used number's delivery adds no text
+pub first-repeated : (ds : List Delivery) (d : Delivery) → is_used ds d.partner d.number ≡ true → (q j : ℕ) → first_text (ds ++ d ∷ []) q j ≡ first_text ds q j
+first-repeated ds d used q j =
+    elim (cases_Bool (is_used ds q j)) [
+      | inl h ↦ first-used ds (d ∷ []) q j h
+      | inr h ↦
+          let e : first_text ds q j ≡ None = none_of (first_text ds q j) h in
+          first-new ds (d ∷ []) q j e
+          ∙ cond-false (is_under d q j) (Some d.text) None (false_from_ne_true (is_under d q j) (λ u.
+          let parts = under_parts d q j u in
+          let g : is_used ds q j ≡ true = ap (λ p. is_used ds p j) (sym parts.0) ∙ ap (is_used ds d.partner) (sym parts.1) ∙ used in
+          cc))
+          ∙ sym e
+    ]
+
+-- the run stays unless the number after it comes
+pub run-stays : (ds : List Delivery) (d : Delivery) (q : ℕ) → is_under d q (run ds q + 1) ≡ false → run (ds ++ d ∷ []) q ≡ run ds q
+run-stays ds d q h =
+    run_is (ds ++ d ∷ []) q (run ds q) (λ k a b. used-kept ds (d ∷ []) q k (used_within_run ds q k a b))
+    (first-new ds (d ∷ []) q (run ds q + 1) (free_after_run ds q) ∙ cond-false (is_under d q (run ds q + 1)) (Some d.text) None h)
+
+other_partner : (ds : List Delivery) (d : Delivery) (q : ℕ) → q ≢ d.partner → is_under d q (run ds q + 1) ≡ false
+other_partner ds d q h = and_left (d.partner == q) (d.number == run ds q + 1) (ne_eqb d.partner q (λ e. h (sym e)))
+
+-- another partner's delivery leaves a run as it is
+pub other_run-stays : (ds : List Delivery) (d : Delivery) (q : ℕ) → q ≢ d.partner → run (ds ++ d ∷ []) q ≡ run ds q
+other_run-stays ds d q h = run-stays ds d q (other_partner ds d q h)
+
+other_number : (ds : List Delivery) (d : Delivery) → d.number ≢ run ds d.partner + 1 → (q : ℕ) → is_under d q (run ds q + 1) ≡ false
+other_number ds d h q = false_from_ne_true (is_under d q (run ds q + 1)) (λ u.
+    let parts = under_parts d q (run ds q + 1) u in h (parts.1 ∙ ap (λ p. run ds p + 1) (sym parts.0)))
+
+-- the next number is within the run once it is delivered
+pub next-reached : (ds : List Delivery) (d : Delivery) → is_used ds d.partner d.number ≡ false → d.number ≡ run ds d.partner + 1 → d.number ≤ run (ds ++ d ∷ []) d.partner
+next-reached ds d free next =
+    run_reaches (ds ++ d ∷ []) d.partner d.number (λ k a b. elim (cases_order k d.number) [
+      | inl same ↦ ap (is_used (ds ++ d ∷ []) d.partner) same ∙ used-added ds d free
+      | inr o ↦ elim o [
+        | inl below ↦ used-kept ds (d ∷ []) d.partner k (used_within_run ds d.partner k a (omega arith))
+        | inr above ↦ absurd (omega arith)
+      ]
+    ])
+
+added-other_number : (ds : List Delivery) (d : Delivery) (k : ℕ) → is_used ds d.partner d.number ≡ false → d.number ≢ k → first_text (ds ++ d ∷ []) d.partner k ≡ first_text ds d.partner k
+added-other_number ds d k free ne =
+    first-added ds d free d.partner k
+    ∙ cond-false (is_under d d.partner k) (Some d.text) (first_text ds d.partner k) (and_right (d.partner == d.partner) (d.number == k) (ne_eqb d.number k ne))
+
+-- the next number's delivery ends its run where the run is then
+pub ends_at_run : (ds : List Delivery) (d : Delivery) → is_used ds d.partner d.number ≡ false → d.number ≡ run ds d.partner + 1 → EndsRun ds d (run (ds ++ d ∷ []) d.partner)
+ends_at_run ds d free next =
+    let reached : d.number ≤ run (ds ++ d ∷ []) d.partner = next-reached ds d free next in
+    record {
+      is_next = next;
+      reaches = reached;
+      used = λ k a b. ap is_some (sym (added-other_number ds d k free (λ e. omega arith))) ∙ used_within_run (ds ++ d ∷ []) d.partner k (omega arith) b;
+      ends = sym (added-other_number ds d (run (ds ++ d ∷ []) d.partner + 1) free (λ e. omega arith)) ∙ free_after_run (ds ++ d ∷ []) d.partner;
+    }
+
+pub numbers_made_next-to : (ds : List Delivery) (d : Delivery) (last : ℕ) → run (ds ++ d ∷ []) d.partner ≡ last → numbers_made_next ds d ≡ numbers_above d.partner (run ds d.partner) (last - run ds d.partner)
+unfolding numbers_made_next
+numbers_made_next-to ds d last h = ap (λ n. numbers_above d.partner (run ds d.partner) (n - run ds d.partner)) h
+
+numbers_made_next-nothing : (ds : List Delivery) (d : Delivery) → run (ds ++ d ∷ []) d.partner ≡ run ds d.partner → numbers_made_next ds d ≡ []
+numbers_made_next-nothing ds d h =
+    let none : run ds d.partner - run ds d.partner ≡ 0 = omega arith in
+    numbers_made_next-to ds d (run ds d.partner) h ∙ ap (numbers_above d.partner (run ds d.partner)) none
+
+cond_none : {A : Type 0} (b : Bool) (x : A) (o : Option A) → b ≡ true → cond b (Some x) o ≡ None → ⊥
+cond_none b x o h e = cc
+
+module _ {S : Type 0} (taken : Taking S) (opening : S) (ds : List Delivery) (d : Delivery) where
+  order-stays : run (ds ++ d ∷ []) d.partner ≡ run ds d.partner → order (ds ++ d ∷ []) ≡ order ds
+  order-stays h = order-append ds d ∙ ap (λ m. order ds ++ m) (numbers_made_next-nothing ds d h) ∙ append-nil (order ds)
+
+  state-stays : run (ds ++ d ∷ []) d.partner ≡ run ds d.partner → state taken opening (ds ++ d ∷ []) ≡ state taken opening ds
+  state-stays h = state-append taken opening ds d ∙ ap (λ m. state_after taken (text_under (ds ++ d ∷ [])) m (state taken opening ds)) (numbers_made_next-nothing ds d h)
+
+  reply_of-stays : run (ds ++ d ∷ []) d.partner ≡ run ds d.partner → (q j : ℕ) → reply_of taken opening (ds ++ d ∷ []) q j ≡ reply_of taken opening ds q j
+  reply_of-stays h q j =
+      reply_of-append taken opening ds d q j
+      ∙ ap (λ m. option_or (reply_of taken opening ds q j) (reply_among taken (text_under (ds ++ d ∷ [])) m (state taken opening ds) q j)) (numbers_made_next-nothing ds d h)
+      ∙ option_or-none (reply_of taken opening ds q j)
+
+  pub adds_nothing : is_used ds d.partner d.number ≡ true → AddsNothing taken opening ds d
+  adds_nothing used =
+      let free : is_used ds d.partner (run ds d.partner + 1) ≡ false = ap is_some (free_after_run ds d.partner) in
+      let ne : d.number ≢ run ds d.partner + 1 = λ e. let g : is_used ds d.partner d.number ≡ is_used ds d.partner (run ds d.partner + 1) = ap (is_used ds d.partner) e in cc in
+      let stays : (q : ℕ) → run (ds ++ d ∷ []) q ≡ run ds q = λ q. run-stays ds d q (other_number ds d ne q) in
+      record {
+        first = first-repeated ds d used;
+        runs = stays;
+        in_order = order-stays (stays d.partner);
+        state_is = state-stays (stays d.partner);
+        replies = reply_of-stays (stays d.partner);
+      }
+
+  pub adds_text : is_used ds d.partner d.number ≡ false → run ds d.partner + 1 < d.number → AddsText taken opening ds d
+  adds_text free early =
+      let ne : d.number ≢ run ds d.partner + 1 = λ e. omega arith in
+      let stays : (q : ℕ) → run (ds ++ d ∷ []) q ≡ run ds q = λ q. run-stays ds d q (other_number ds d ne q) in
+      record {
+        first = first-added ds d free;
+        runs = stays;
+        in_order = order-stays (stays d.partner);
+        state_is = state-stays (stays d.partner);
+        replies = reply_of-stays (stays d.partner);
+      }
+
+  next_is_free : (last : ℕ) → EndsRun ds d last → is_used ds d.partner d.number ≡ false
+  next_is_free last h = ap (is_used ds d.partner) h.is_next ∙ ap is_some (free_after_run ds d.partner)
+
+  used_to_last : (last : ℕ) → EndsRun ds d last → (k : ℕ) → 1 ≤ k → k ≤ last → is_used (ds ++ d ∷ []) d.partner k ≡ true
+  used_to_last last h k a b =
+      let e : d.number ≡ run ds d.partner + 1 = h.is_next in
+      elim (cases_order k d.number) [
+        | inl same ↦
+            ap (is_used (ds ++ d ∷ []) d.partner) same
+            ∙ used-added ds d (next_is_free last h)
+        | inr o ↦ elim o [
+          | inl below ↦ used-kept ds (d ∷ []) d.partner k (used_within_run ds d.partner k a (omega arith))
+          | inr above ↦ used-kept ds (d ∷ []) d.partner k (h.used k above b)
+        ]
+      ]
+
+  run_to_last : (last : ℕ) → EndsRun ds d last → run (ds ++ d ∷ []) d.partner ≡ last
+  run_to_last last h =
+      let reaches : d.number ≤ last = h.reaches in
+      run_is (ds ++ d ∷ []) d.partner last (used_to_last last h)
+      (first-new ds (d ∷ []) d.partner (last + 1) h.ends
+      ∙ cond-false (is_under d d.partner (last + 1)) (Some d.text) None (false_from_ne_true (is_under d d.partner (last + 1)) (λ u.
+      let e : d.number ≡ last + 1 = (under_parts d d.partner (last + 1) u).1 in omega arith)))
+
+  pub adds_run : (last : ℕ) → EndsRun ds d last → AddsRun taken opening ds d last
+  adds_run last h =
+      let e = numbers_made_next-to ds d last (run_to_last last h) in
+      record {
+        first = first-added ds d (next_is_free last h);
+        run_is_last = run_to_last last h;
+        other_runs = other_run-stays ds d;
+        in_order = order-append ds d ∙ ap (λ m. order ds ++ m) e;
+        state_is = state-append taken opening ds d ∙ ap (λ m. state_after taken (text_under (ds ++ d ∷ [])) m (state taken opening ds)) e;
+        replies = λ q j. reply_of-append taken opening ds d q j ∙ ap (λ m. option_or (reply_of taken opening ds q j) (reply_among taken (text_under (ds ++ d ∷ [])) m (state taken opening ds) q j)) e;
+      }
+
+-- ==== OnceEach: Order has each partner's run once each, in number order.
 
 -- the partner's, with a number above `low` and at most `high`
 record IsAmong (p low high : ℕ) (e : ℕ × ℕ) : Type 0 where

@@ -1,7 +1,7 @@
 //! Laws of the definitions. Each function has an empty body, and its contract is the law: a call
 //! brings it into the caller's proof.
 //!
-//! The first speak of lists of deliveries alone: what each delivery adds, by how it stands to those
+//! The first speak of lists of deliveries only: what each delivery adds, by how it relates to those
 //! before it. Those from `stands_as_kept` on speak of what is kept after a list of deliveries,
 //! wherever it is kept: `Runs` goes by them, and so can tables.
 
@@ -80,14 +80,14 @@ pub fn replied<M: Machine>()
         IsSome (reply_of M.taken opening ds p k) ↔ ((1 ≤ k) × (k ≤ run ds p)) }
 {}
 
-/// Texts of one partner come to the same in whatever order and however often they come, if each
+/// Texts of one partner come to the same in any order and repeated at will, if each
 /// number's first text is the same.
 pub fn one_partner<M: Machine>()
     ensures { (opening : M) (p : ℕ) (ds es : List Delivery) →
         IsAllOf p ds → IsAllOf p es → HasSameFirsts p ds es → ComesToSame M.taken opening ds es }
 {}
 
-/// What is kept tells how a delivery stands.
+/// What is kept decides whether a delivery is known, other, early or next.
 pub fn stands_as_kept<M: Machine>()
     ensures { StandsAsKept M.taken }
 {}
@@ -113,7 +113,7 @@ pub fn cascade<M: Machine>()
     ensures goes_on { TakesOneMore M.taken }
 {}
 
-/// What is kept before a delivery and after it tells the answer.
+/// What is kept before a delivery and after it gives the answer.
 pub fn answers_as_kept<M: Machine>()
     ensures { AnswersAsKept M.taken }
 {}

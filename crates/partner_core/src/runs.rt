@@ -46,7 +46,7 @@ pub enum Answer {
     Clash,
 }
 
-/// How a delivery stands to what is kept for its partner.
+/// How a delivery relates to what is kept for its partner.
 #[derive(Clone, Copy, Debug, PartialEq, Eq)]
 pub enum Standing {
     /// This text is kept under the number.
@@ -59,7 +59,7 @@ pub enum Standing {
     Next,
 }
 
-/// How a text under a number stands to the partner's next number and to the text that is kept
+/// How a text under a number relates to the partner's next number and to the text that is kept
 /// under its own, if any.
 pub fn judge(next: u32, number: u32, kept: Option<&[u8]>, text: &[u8]) -> Standing
     requires { IsTrue (is_none kept) → next ≤ number }
@@ -76,7 +76,7 @@ pub fn judge(next: u32, number: u32, kept: Option<&[u8]>, text: &[u8]) -> Standi
 /// What is kept of each partner, and a machine that takes each partner's unbroken run of texts, once
 /// each, in number order, as each becomes next.
 ///
-/// A value stands at a list of deliveries, from an opening state on, if its texts, replies, next
+/// A value is at a list of deliveries, from an opening state on, if its texts, replies, next
 /// numbers and machine are those of the definitions over that list (`specs/Runs.antt`).
 #[derive(Drop)]
 pub struct Runs<M> {
@@ -98,8 +98,8 @@ impl<M: Machine> Runs<M> {
         Ok(Runs { machine, ledgers })
     }
 
-    /// One partner more, with the number after the others', which is the answer. The value stands at
-    /// whatever list it stood at, where nothing was delivered under that number, so the partner's
+    /// One partner more, with the number after the others', which is the answer. The value is at
+    /// the list that it was at, where nothing was delivered under that number, so the partner's
     /// next number is 1. A refusal for lack of memory changes nothing.
     pub fn add(&mut self, alloc: Global) -> Result<PartnerId, AllocError>
         requires few { partner_count self.old < MOST_PARTNERS }
@@ -118,8 +118,8 @@ impl<M: Machine> Runs<M> {
 
     /// Answers a delivery, and takes it and each kept text that becomes next by it.
     ///
-    /// At whatever list of deliveries the value stands, the answer is that of the definitions, and
-    /// it stands at the list with this one then. A refusal for lack of memory leaves it at the list,
+    /// At any list of deliveries that the value is at, the answer is that of the definitions, and
+    /// it is at the list with this one then. A refusal for lack of memory leaves it at the list,
     /// also in the midst of a cascade. A clash, and a text that waits already, are never refused so.
     pub fn deliver(
         &mut self,

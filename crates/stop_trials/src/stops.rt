@@ -34,7 +34,7 @@ struct Start {
     stage: usize,
 }
 
-/// The calls at which a file stops, one after the other: the first, and each so many further on.
+/// The calls at which a file stops, one after the other: the first, and each at the given distance after it.
 #[derive(Clone, Copy)]
 struct Stops {
     file: StoreFile,
@@ -93,8 +93,8 @@ fn left_after(
     Ok(Some((left_of(alloc, files)?, before, after)))
 }
 
-/// Sends all requests to an office whose files stop so, and opens again whatever a crash leaves of them. Whether neither
-/// has stopped.
+/// Sends all requests to an office whose files stop so, and opens again all that a crash may leave of them. Whether
+/// neither has stopped.
 fn assert_stop(
     rt: &impl Abort,
     alloc: Global,
@@ -191,7 +191,8 @@ fn assert_again(
     Ok(is_whole)
 }
 
-/// Stops one file of a new office at each call, as the program reads a crash, and then one a second time, so many calls apart.
+/// Stops one file of a new office at each call, as the program reads a crash, and then one a second time, the given
+/// count of calls later.
 fn assert_twice(
     rt: &impl Abort,
     alloc: Global,

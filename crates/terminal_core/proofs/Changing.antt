@@ -1,20 +1,19 @@
 -- What the changes of a step make of the rows.
-use Rattle.std.proofs.Common.{◌≡◌, ℕ, ◌+◌, ◌≤◌, ◌<◌, List, [], ◌∷◌, ◌++◌, length, map, Bool, true, false, cond, Option, None, Some, Result, Ok, Err, is_some, is_none, refl, sym, ap, ◌∙◌, arith}
+use Rattle.std.proofs.Common.{◌≡◌, ℕ, ◌+◌, ◌≤◌, ◌<◌, List, [], ◌∷◌, ◌++◌, length, map, Bool, true, false, cond, Option, None, Some, Result, Ok, Err, is_some, is_none, refl, sym, ap, ◌∙◌, arith, ◌≢◌, ◌-◌, ◌%◌, inl}
 use Rattle.std.specs.Prelude.{find, filter, ◌&&◌, not, ◌==◌}
 use Rattle.std.proofs.lemmas.Bool.{eq-eqb, ne_eqb}
 use Rattle.std.specs.Option.{option_map}
 use Rattle.std.specs.Str.{bytes_eq}
 use Rattle.std.specs.Map.{update}
-use Rattle.std.specs.FinMap as finite_map
 use Rattle.box6346.specs.SizeCode.{length_of}
 use Rattle.box6346.specs.declared.box_number.BoxNumber.{BoxNumber}
 use Rattle.box6346.specs.declared.size_type.Length.{Length}
 use Rattle.box6346.specs.declared.slot.Slot.{Slot}
-use Rattle.edi_moments.specs.Moments.{CivilMoment}
+use Rattle.edi_syntax.specs.Moments.{CivilMoment}
 use Rattle.edi_messages.specs.Purposes.{CallContent}
 use Rattle.edi_messages.specs.Orders.{EntryContent, OrderContent, gate_in, gate_out, move, list_discharge, list_load, discharge, load}
 use Rattle.yard_core.specs.declared.plan.Block.{Block}
-use Rattle.yard_core.specs.YardMap.{Boxes, YardMap, yard_map, placement, placement_of, placement_if_any, stowed}
+use Rattle.yard_core.specs.YardMap.{Boxes, YardMap, yard_map, placement, placement_of, placement_if_any, stowed, in_bay, CoversAt, IsKind}
 use Rattle.yard_core.specs.Decisions.{Refusal, present, yard_without, yard_without_at, yard_with_move, yard_with_move_at, unless_buried, with_misfit, with_slot as with_first_slot, misfit_of, first_fit, every_slot, blocker_of, is_same_slot}
 use Rattle.yard_core.specs.declared.placements.Placement.{Placement}
 use Rattle.yard_core.specs.declared.placements.Stowed.{Stowed}
@@ -34,12 +33,17 @@ use Rattle.terminal_core.specs.Rows.{VisitContent, ChangeContent, line_done}
 use Rattle.terminal_core.specs.State.{last_number, TerminalState, LineContent, Lines, line_key, line_of, is_in, is_open_visit, open_visit, AreNumbered, IsWhole}
 use Rattle.terminal_core.specs.Versions.{spares_empty}
 use Rattle.terminal_core.specs.Step.{StepResult, with_refusal, step_by, yard_with_entry, yard_with_entry_in, with_slot, is_full, visit_of, after_entry, after_entry_at, closed_visit, close_visit, number_of_visit, after_departure, after_departure_at, departure_by, after_move_at, after_listing_at, then_line_done_at, by_line, by_state}
-use Rattle.terminal_core.specs.Changes.{Standing, TerminalRows, standing_in, standing_of, rows_of, visit_with_departure, standing_elsewhere, with_line_done, rows_with, rows_with_all}
-use Rattle.terminal_core.proofs.Boxes.{same_bytes, in_placed_map, in_removed_map, there_placed}
-use Rattle.terminal_core.proofs.Told.{moved_as}
-use Rattle.terminal_core.proofs.Open.{and_true, closed_open, find_last, find_new}
-use Rattle.terminal_core.proofs.Counted.{found_is}
-use Rattle.terminal_core.proofs.Counting.{count_keeps, count_skips, find_skips, find_meets}
+use Rattle.terminal_core.specs.Changes.{Standing, TerminalRows, standing_in, standing_of, rows_of, visit_with_departure, standing_elsewhere, with_line_done, rows_with, rows_with_all, IsNewPlace, IsNewSlot}
+use Rattle.terminal_core.proofs.Open.{same_bytes, in_placed_map, in_removed_map, there_placed, moved_as, and_true, closed_open, find_last, find_new, open_of}
+use Rattle.terminal_core.proofs.Indexed.{found_is, count_keeps, count_skips, find_skips, find_meets, some_of, none_there}
+use Rattle.std.proofs.lemmas.Option.{slice_get_within}
+use Rattle.box6346.specs.declared.size_type.Length.TheVariants.{Twenty, Forty}
+use Rattle.yard_core.specs.Plan.{IsPlan}
+use Rattle.yard_core.specs.FitsAndFree.{IsOpen}
+use Rattle.terminal_core.proofs.Whole.{below_last}
+use Rattle.std.specs.FinMap as finite_map
+
+-- ==== Changing: What the changes of a step make of the rows.
 
 -- ---- what the yard decides
 
@@ -334,3 +338,60 @@ turned_step version state source (load call b moment) whole =
     either (Turns state) (is_in state b) (by_line state call Load b (line_of state call Load b) (after_departure state Ship source b moment)) (with_refusal state NotIn)
     (turned_by_line state call Load b (line_of state call Load b) (after_departure state Ship source b moment) (turned_departed state Ship source b moment whole)
     (departed_keeps state b (departure_by Ship source moment) (yard_without state.yard b)) refl) refl
+
+-- ==== Shared: No two containers share a slot or a visit.
+
+-- two containers of one slot have a cell in common
+common_cell : (a b : Length) (s t : Slot) → s ≡ t → IsKind a s → IsKind b t → (cell : Slot) × CoversAt a s cell × CoversAt b t cell
+common_cell Twenty Twenty s t e k j = (s, refl, e)
+common_cell Forty Forty s t e k j = (in_bay (s.bay - 1) s, inl refl, inl (ap (λ (x : Slot). in_bay (x.bay - 1) x) e))
+common_cell Twenty Forty s t e k j = let odd : s.bay % 2 ≡ 1 = k in let even : s.bay % 2 ≡ 0 = ap (λ (x : Slot). x.bay % 2) e ∙ j in absurd (omega arith)
+common_cell Forty Twenty s t e k j = let even : s.bay % 2 ≡ 0 = k in let odd : s.bay % 2 ≡ 1 = ap (λ (x : Slot). x.bay % 2) e ∙ j in absurd (omega arith)
+
+-- none stands where a container fits
+not_there : (is_wary : Bool) (plan : List Block) (boxes : Boxes) (s t : Placement) (other : BoxNumber) → IsPlan plan → misfit_of is_wary plan boxes s ≡ None → placement_of boxes other ≡ Some t → IsKind t.length t.slot → t.slot ≢ s.slot
+not_there is_wary plan boxes s t other valid fits at kind same =
+    let open_ : IsOpen plan (placement_of boxes) s = open_of is_wary plan boxes s valid fits in
+    let cell = common_cell t.length s.length t.slot s.slot same kind open_.of_kind in
+    open_.not_taken (other, t, cell.0, at, cell.1, cell.2)
+
+-- a standing is that of a placement
+pub stands_of : (o : Option Placement) (visit : Option VisitContent) (standing : Standing) → placed_by visit o ≡ Some standing → (t : Placement) × (o ≡ Some t) × (standing.slot ≡ t.slot) × (standing.visit ≡ number_of_visit visit)
+stands_of None visit standing e = absurd (cc)
+stands_of (Some t) visit standing e =
+    let same : standing_in (number_of_visit visit) t.slot ≡ standing = cc in
+    (t, refl, ap (λ (s : Standing). s.slot) (sym same), ap (λ (s : Standing). s.visit) (sym same))
+
+number_below : (state : TerminalState) (other : BoxNumber) → IsWhole state → is_some (finite_map.get state.yard.boxes other) ≡ true → number_of_visit (open_visit state other) ≤ last_number state.visits
+number_below state other whole there =
+    let visit = some_of (open_visit state other) (sym (whole.here other) ∙ there) in
+    let found = found_is (is_open_visit other) state.visits visit.0 visit.1 in
+    let low : visit.0.number ≤ last_number state.visits = below_last 0 state.visits found.0 visit.0 whole.numbered found.1 in
+    let its : number_of_visit (open_visit state other) ≡ visit.0.number = ap number_of_visit visit.1 in
+    omega arith
+
+pub new_place : (is_wary : Bool) (state : TerminalState) (container : BoxNumber) (s : Placement) → IsWhole state → is_some (finite_map.get state.yard.boxes container) ≡ false → misfit_of is_wary state.yard.plan state.yard.boxes s ≡ None
+    → IsNewPlace container (last_number state.visits + 1) s.slot (standing_of state)
+new_place is_wary state container s whole absent fits = record {
+  absent = ap (λ o. placed_by (open_visit state container) (placement_if_any o)) (none_there (finite_map.get state.yard.boxes container) absent);
+  slot_free = λ other standing e same. (let t = stands_of (placement_of state.yard.boxes other) (open_visit state other) standing e in
+      not_there is_wary state.yard.plan state.yard.boxes s t.0 other whole.plan fits t.1 (whole.sound.of_kind other t.0 t.1) (sym t.2 ∙ same));
+  visit_free = λ other standing e same. (let t = stands_of (placement_of state.yard.boxes other) (open_visit state other) standing e in
+      let few : number_of_visit (open_visit state other) ≤ last_number state.visits = number_below state other whole (there_placed state.yard.boxes other t.0 t.1) in
+      let its : standing.visit ≡ number_of_visit (open_visit state other) = t.3 in
+      absurd (omega arith));
+}
+
+kept_elsewhere : (boxes : Boxes) (b other : BoxNumber) (t : Placement) (is : Bool) → other ≢ b → bytes_eq b other ≡ is → placement_of boxes other ≡ Some t → placement_if_any (cond is None (finite_map.get boxes other)) ≡ Some t
+kept_elsewhere boxes b other t true apart e at = absurd (apart (same_bytes b other e))
+kept_elsewhere boxes b other t false apart e at = at
+
+pub new_slot : (is_wary : Bool) (state : TerminalState) (container : BoxNumber) (w : Stowed) (slot : Slot) → IsWhole state → finite_map.get state.yard.boxes container ≡ Some w
+    → misfit_of is_wary state.yard.plan (finite_map.remove state.yard.boxes container) (placement w.placement.length slot) ≡ None → IsNewSlot container slot (standing_of state)
+new_slot is_wary state container w slot whole stood fits = record {
+  there = ap (λ o. is_some (placed_by (open_visit state container) (placement_if_any o))) stood;
+  slot_free = λ other standing apart e same. (let t = stands_of (placement_of state.yard.boxes other) (open_visit state other) standing e in
+      not_there is_wary state.yard.plan (finite_map.remove state.yard.boxes container) (placement w.placement.length slot) t.0 other whole.plan fits
+      (ap placement_if_any (in_removed_map state.yard.boxes (finite_map.remove state.yard.boxes container) container other refl) ∙ kept_elsewhere state.yard.boxes container other t.0 (bytes_eq container other) apart refl t.1)
+      (whole.sound.of_kind other t.0 t.1) (sym t.2 ∙ same));
+}

@@ -1,7 +1,6 @@
 -- The rows of a state as lists, and by their keys.
 use Rattle.std.proofs.Common.{◌≡◌, ℕ, ◌≤◌, List, map, Bool, true, false, Option, None, Some, is_some, refl, sym, ap, ◌∙◌, arith}
-use Rattle.std.specs.Prelude.{Contains, find, count_by}
-use Rattle.std.specs.FinMap as finite_map
+use Rattle.std.specs.Prelude.{Contains, find, count_by, filter, length}
 use Rattle.std.specs.Option.{option_map}
 use Rattle.std.specs.Str.{bytes_eq}
 use Rattle.std.specs.Cmp.Lexicographic.{nat_list_cmp_total}
@@ -11,7 +10,7 @@ use Rattle.yard_core.specs.declared.plan.Block.{Block}
 use Rattle.yard_core.specs.declared.placements.Placement.{Placement}
 use Rattle.yard_core.specs.declared.placements.Stowed.{Stowed}
 use Rattle.yard_core.specs.YardMap.{placement_of, placement_if_any}
-use Rattle.yard_core.proofs.Boxes.{found_placed}
+use Rattle.yard_core.proofs.Cells.{found_placed}
 use Rattle.terminal_core.specs.declared.lines.Listing.{Listing}
 use Rattle.terminal_core.specs.declared.change.Place.{Place}
 use Rattle.terminal_core.specs.declared.visits.Visit.{Visit}
@@ -22,13 +21,12 @@ use Rattle.terminal_core.specs.Listings.{lines_of}
 use Rattle.terminal_core.specs.Restoring.{Stands, ArePlacesOf, AreOnce, AreRowsOf}
 use Rattle.terminal_core.specs.Changes.{standing_in, standing_of, TerminalRows, rows_of}
 use Rattle.terminal_core.specs.RowForms.{standing_by, rows_by_key, ArePlacedOnce}
-use Rattle.terminal_core.proofs.Boxes.{same_bytes, same_self}
-use Rattle.terminal_core.proofs.Numbered.{contained, found_at}
-use Rattle.terminal_core.proofs.Counted.{found_is, is_found, some_of, one_passes, some_or_none}
-use Rattle.terminal_core.proofs.Changing.{placed_by}
-use Rattle.terminal_core.proofs.Shared.{stands_of}
+use Rattle.terminal_core.proofs.Open.{same_bytes, same_self}
+use Rattle.terminal_core.proofs.Whole.{contained, found_at}
+use Rattle.terminal_core.proofs.Indexed.{found_is, is_found, some_of, one_passes, some_or_none}
+use Rattle.terminal_core.proofs.Changing.{placed_by, stands_of}
 use Rattle.std.proofs.lemmas.List.Sums.{length-filter}
-use Rattle.std.specs.Prelude.{filter, length}
+use Rattle.std.specs.FinMap as finite_map
 
 abbrev at_place : BoxNumber → Place → Bool
 at_place container place = bytes_eq place.container container

@@ -1,14 +1,15 @@
 -- The places of open visits, by their containers.
-use Rattle.std.proofs.Common.{◌≡◌, ℕ, ◌+◌, ◌<◌, ◌≤◌, zero, suc, List, [], ◌∷◌, ◌++◌, length, map, take, Bool, true, false, cond, Option, None, Some, Result, Ok, Err, is_some, is_none, refl, sym, ap, ◌∙◌, arith, subst, get_or, ◌⊎◌, inl, inr}
-use Rattle.std.specs.Prelude.{IsOk, OnOk, slice_get, slice_set, find, filter, count_by, ◌&&◌, not}
+use Rattle.std.proofs.Common.{◌≡◌, ℕ, ◌+◌, ◌<◌, ◌≤◌, zero, suc, List, [], ◌∷◌, ◌++◌, length, take, Bool, true, false, cond, Option, None, Some, is_some, refl, sym, ap, ◌∙◌, arith, get_or, map, Result, Ok, Err, is_none, subst, ◌⊎◌, inl, inr, ◌-◌}
+use Rattle.std.specs.Prelude.{slice_get, Contains, find, count_by, IsOk, OnOk, slice_set, filter, ◌&&◌, not}
+use Rattle.std.proofs.lemmas.Option.{same_Some, none-some, slice_get-get_or, slice_get_within}
+use Rattle.std.proofs.lemmas.List.Sums.{sum_by-cons, sum_by_push, sum_by_more_le, get_or-le-sum_by}
+use Rattle.terminal_core.proofs.Whole.{contained, found_at, closes, finds, row_at}
 use Rattle.std.specs.List.{AllZip, each_same}
 use Rattle.std.specs.Array.{AllZipBelow}
 use Rattle.std.specs.Str.{bytes_eq}
 use Rattle.std.specs.Map.{lookup}
 use Rattle.std.proofs.lemmas.Bool.{and_parts}
-use Rattle.std.proofs.lemmas.Option.{same_Some, none-some, slice_get-get_or, slice_get_within}
 use Rattle.std.proofs.lemmas.List.{take_more, map-append, length-map, length-take-le}
-use Rattle.std.proofs.lemmas.List.Sums.{sum_by-cons}
 use Rattle.box6346.specs.declared.box_number.BoxNumber.{BoxNumber}
 use Rattle.terminal_core.specs.declared.visits.Departure.{Departure}
 use Rattle.terminal_core.specs.declared.visits.Visit.{Visit}
@@ -17,11 +18,137 @@ use Rattle.terminal_core.specs.State.{is_open_visit}
 use Rattle.terminal_core.specs.Step.{closed_visit, number_of_visit}
 use Rattle.terminal_core.specs.Calls.{HasOneVisit}
 use Rattle.terminal_core.specs.Index.{AreIndexed}
-use Rattle.terminal_core.proofs.Boxes.{same_bytes, same_self}
-use Rattle.terminal_core.proofs.Open.{closed_open}
-use Rattle.terminal_core.proofs.Closing.{closes, finds}
-use Rattle.terminal_core.proofs.Numbered.{contained, row_at}
-use Rattle.terminal_core.proofs.Counted.{is_found, found_is, some_of, some_counted, none_before_one, counts}
+use Rattle.terminal_core.proofs.Open.{same_bytes, same_self, closed_open, tied, in_removed, and_true, and_turned}
+use Rattle.std.specs.Cmp.{eq_by_cmp_equiv}
+use Rattle.std.specs.Cmp.Lexicographic.{nat_list_cmp_total}
+use Rattle.yard_core.specs.YardMap.{Box, Boxes}
+use Rattle.terminal_core.specs.Counts.{is_closed}
+use Rattle.std.specs.FinMap as finite_map
+
+-- ==== Counted: How many of a list pass a test.
+
+abbrev pub counts : Bool → ℕ
+counts v = cond v 1 0
+
+pub one_if : (v : Bool) → v ≡ true → counts v ≡ 1
+one_if true e = refl
+one_if false e = cc
+
+pub none_if : (v : Bool) → v ≡ false → counts v ≡ 0
+none_if true e = cc
+none_if false e = refl
+
+pub same_tests : (a b : Bool) → (a ≡ true → b ≡ true) → (b ≡ true → a ≡ true) → a ≡ b
+same_tests true b h g = sym (h refl)
+same_tests false true h g = g refl
+same_tests false false h g = refl
+
+pub some_or_none : {A : Type 0} (o : Option A) → ((x : A) → o ≡ Some x → ⊥) → o ≡ None
+some_or_none None h = refl
+some_or_none (Some x) h = absurd (h x refl)
+
+pub some_of : {A : Type 0} (o : Option A) → is_some o ≡ true → (x : A) × (o ≡ Some x)
+some_of None e = absurd (cc)
+some_of (Some x) e = (x, refl)
+
+module _ {A : Type 0} (p : A → Bool) where
+  pub counted_more : (xs : List A) (x : A) → count_by p (xs ++ x ∷ []) ≡ count_by p xs + counts (p x)
+  counted_more xs x = sum_by_push (λ y. counts (p y)) xs x
+
+  counted_first : (x : A) (xs : List A) → count_by p (x ∷ xs) ≡ counts (p x) + count_by p xs
+  counted_first x xs = sum_by-cons (λ y. counts (p y)) x xs
+
+  pub some_counted : (xs : List A) (x : A) → Contains xs x → p x ≡ true → 1 ≤ count_by p xs
+  some_counted xs x (k, low, at) is =
+      let e : counts (p (get_or xs k x)) ≡ 1 = one_if (p (get_or xs k x)) (ap p at ∙ is) in
+      let f : counts (p (get_or xs k x)) ≤ count_by p xs = get_or-le-sum_by (λ y. counts (p y)) xs k x low in
+      omega arith
+
+  -- where one counts at most, none comes before it
+  pub none_before_one : (xs : List A) (i : ℕ) (x : A) → count_by p xs ≤ 1 → i < length xs → x ≡ get_or xs i x → p x ≡ true → count_by p (take i xs) ≡ 0
+  none_before_one xs i x few low at is =
+      let e : counts (p (get_or xs i x)) ≡ 1 = one_if (p (get_or xs i x)) (ap p (sym at) ∙ is) in
+      let f : count_by p (take i xs) + counts (p (get_or xs i x)) ≤ count_by p xs = sum_by_more_le (λ y. counts (p y)) xs i x low in
+      omega arith
+
+  pub none_counted : (xs : List A) → ((k : ℕ) (x : A) → slice_get xs k ≡ Some x → p x ≡ false) → count_by p xs ≡ 0
+  none_counted [] h = refl
+  none_counted (x ∷ xs) h =
+      let e : count_by p (x ∷ xs) ≡ counts (p x) + count_by p xs = counted_first x xs in
+      let f : counts (p x) ≡ 0 = none_if (p x) (h 0 x refl) in
+      let g : count_by p xs ≡ 0 = none_counted xs (λ k y at. h (suc k) y at) in
+      omega arith
+
+  pub one_place : (xs : List A) (j k : ℕ) (x y : A) → count_by p xs ≤ 1 → slice_get xs j ≡ Some x → slice_get xs k ≡ Some y → p x ≡ true → p y ≡ true → j ≡ k
+  one_place [] j k x y few at also is too = cc
+  one_place (z ∷ xs) zero zero x y few at also is too = refl
+  one_place (z ∷ xs) zero (suc k) x y few at also is too =
+      let e : count_by p (z ∷ xs) ≡ counts (p z) + count_by p xs = counted_first z xs in
+      let f : counts (p z) ≡ 1 = one_if (p z) (ap p (same_Some z x at) ∙ is) in
+      let g : 1 ≤ count_by p xs = some_counted xs y (contained xs k y also) too in
+      absurd (omega arith)
+  one_place (z ∷ xs) (suc j) zero x y few at also is too =
+      let e : count_by p (z ∷ xs) ≡ counts (p z) + count_by p xs = counted_first z xs in
+      let f : counts (p z) ≡ 1 = one_if (p z) (ap p (same_Some z y also) ∙ too) in
+      let g : 1 ≤ count_by p xs = some_counted xs x (contained xs j x at) is in
+      absurd (omega arith)
+  one_place (z ∷ xs) (suc j) (suc k) x y few at also is too =
+      let e : count_by p (z ∷ xs) ≡ counts (p z) + count_by p xs = counted_first z xs in
+      let g : count_by p xs ≤ 1 = omega arith in
+      ap suc (one_place xs j k x y g at also is too)
+
+  pub one_passes : (xs : List A) (x y : A) → count_by p xs ≤ 1 → Contains xs x → Contains xs y → p x ≡ true → p y ≡ true → x ≡ y
+  one_passes xs x y few inside within is too =
+      let same : inside.0 ≡ within.0 = one_place xs inside.0 within.0 x y few (found_at xs x inside) (found_at xs y within) is too in
+      same_Some x y (sym (found_at xs x inside) ∙ ap (slice_get xs) same ∙ found_at xs y within)
+
+  pub at_most_one : (xs : List A) → ((j k : ℕ) (x y : A) → slice_get xs j ≡ Some x → slice_get xs k ≡ Some y → p x ≡ true → p y ≡ true → j ≡ k) → count_by p xs ≤ 1
+  at_most_one [] h = omega arith
+  at_most_one (x ∷ xs) h =
+      let e : count_by p (x ∷ xs) ≡ counts (p x) + count_by p xs = counted_first x xs in
+      elim (p x) as (λ v. p x ≡ v → count_by p (x ∷ xs) ≤ 1) [
+        | true ↦ λ is.
+            let f : counts (p x) ≡ 1 = one_if (p x) is in
+            let g : count_by p xs ≡ 0 = none_counted xs (λ k y at.
+            elim (p y) as (λ v. p y ≡ v → v ≡ false) [
+              | true ↦ λ too. (let bad : 0 ≡ suc k = h 0 (suc k) x y refl at is too in absurd (omega arith))
+              | false ↦ λ not. refl
+            ] refl) in
+            omega arith
+        | false ↦ λ isnt.
+            let f : counts (p x) ≡ 0 = none_if (p x) isnt in
+            let g : count_by p xs ≤ 1 = at_most_one xs (λ j k y z at also is too. (let s : suc j ≡ suc k = h (suc j) (suc k) y z at also is too in omega arith)) in
+            omega arith
+      ] refl
+
+  -- ---- the first that passes
+
+  found_when : (v : Bool) (x : A) (o : Option A) → v ≡ true → is_some (cond v (Some x) o) ≡ true
+  found_when true x o e = refl
+  found_when false x o e = cc
+
+  found_then : (v : Bool) (x : A) (o : Option A) → is_some o ≡ true → is_some (cond v (Some x) o) ≡ true
+  found_then true x o e = refl
+  found_then false x o e = e
+
+  pub is_found : (xs : List A) (k : ℕ) (x : A) → slice_get xs k ≡ Some x → p x ≡ true → is_some (find p xs) ≡ true
+  is_found [] k x at is = cc
+  is_found (y ∷ xs) zero x at is = found_when (p y) y (find p xs) (ap p (same_Some y x at) ∙ is)
+  is_found (y ∷ xs) (suc k) x at is = found_then (p y) y (find p xs) (is_found xs k x at is)
+
+  pub found_is : (xs : List A) (x : A) → find p xs ≡ Some x → (k : ℕ) × (slice_get xs k ≡ Some x) × (p x ≡ true)
+  found_is [] x e = absurd (cc)
+  found_is (y ∷ xs) x e =
+      elim (p y) as (λ v. p y ≡ v → cond v (Some y) (find p xs) ≡ Some x → (k : ℕ) × (slice_get (y ∷ xs) k ≡ Some x) × (p x ≡ true)) [
+        | true ↦ λ is f. (zero, f, ap p (sym (same_Some y x f)) ∙ is)
+        | false ↦ λ isnt f. (let rest = found_is xs x f in (suc rest.0, rest.1, rest.2))
+      ] refl e
+
+pub none_of : {A : Type 0} (o : Option A) → is_some o ≡ false → o ≡ None
+none_of None e = refl
+none_of (Some x) e = cc
+
+-- ==== Indexed: The places of open visits, by their containers.
 
 -- a fact of what succeeded
 pub at_ok : {A E : Type 0} {P : Type 0} (r : Result A E) → IsOk r → OnOk r P → P
@@ -204,3 +331,101 @@ clones_same [] [] h = refl
 clones_same [] (f ∷ fs) h = absurd h
 clones_same (e ∷ es) [] h = absurd h
 clones_same (e ∷ es) (f ∷ fs) h = λ i. (each_same e.0 f.0 h.0.0.whole i, h.0.1 i) ∷ clones_same es fs h.1 i
+
+-- ==== Counting: The containers in the yard, by the visits.
+
+-- ---- lists
+
+module _ {A : Type 0} (p : A → Bool) (x : A) (xs : List A) where
+  pub count_skips : p x ≡ false → length (filter p (x ∷ xs)) ≡ length (filter p xs)
+  count_skips e = ap (λ v. length (cond v (x ∷ filter p xs) (filter p xs))) e
+
+  pub count_keeps : p x ≡ true → length (filter p (x ∷ xs)) ≡ length (filter p xs) + 1
+  count_keeps e = ap (λ v. length (cond v (x ∷ filter p xs) (filter p xs))) e ∙ omega arith
+
+  pub find_skips : p x ≡ false → find p (x ∷ xs) ≡ find p xs
+  find_skips e = ap (λ v. cond v (Some x) (find p xs)) e
+
+  pub find_meets : p x ≡ true → find p (x ∷ xs) ≡ Some x
+  find_meets e = ap (λ v. cond v (Some x) (find p xs)) e
+
+no_longer : {A : Type 0} (v : Bool) (x : A) (xs : List A) → length xs ≤ length (cond v (x ∷ xs) xs)
+no_longer true x xs = omega arith
+no_longer false x xs = omega arith
+
+pub count_rest : {A : Type 0} (p : A → Bool) (x : A) (xs : List A) → length (filter p xs) ≤ length (filter p (x ∷ xs))
+count_rest p x xs = no_longer (p x) x (filter p xs)
+
+none_kept : {A : Type 0} (v : Bool) (x : A) (xs : List A) (o : Option A) → length (cond v (x ∷ xs) xs) ≡ 0 → (length xs ≡ 0 → is_some o ≡ false) → is_some (cond v (Some x) o) ≡ false
+none_kept true x xs o e h = absurd (omega arith)
+none_kept false x xs o e h = h e
+
+pub none_found : {A : Type 0} (p : A → Bool) (xs : List A) → length (filter p xs) ≡ 0 → is_some (find p xs) ≡ false
+none_found p [] e = refl
+none_found p (x ∷ xs) e = none_kept (p x) x (filter p xs) (find p xs) e (none_found p xs)
+
+-- ---- the map
+
+pub none_there : {A : Type 0} (o : Option A) → is_some o ≡ false → o ≡ None
+none_there None e = refl
+none_there (Some x) e = cc
+
+empty_counts : (m : Boxes) → ((q : Box) → is_some (finite_map.get m q) ≡ false) → finite_map.len m ≡ 0
+empty_counts m none =
+    ap finite_map.len (finite_map.same_map nat_list_cmp_total (finite_map.slice_cmp-IsAntisymmetric finite_map.nat_cmp-IsAntisymmetric) m finite_map.empty (λ q. none_there (finite_map.get m q) (none q) ∙ sym (finite_map.get-empty _ q)))
+    ∙ finite_map.len-empty _ _
+
+some_counts : (m : Boxes) (b : Box) → is_some (finite_map.get m b) ≡ true → 1 ≤ finite_map.len m
+some_counts m b e =
+    elim (finite_map.len m) as (λ n. finite_map.len m ≡ n → 1 ≤ n) [
+      | zero ↦ λ none.
+          let gone : is_some (finite_map.get m b) ≡ false = ap (λ (n : Boxes). is_some (finite_map.get n b)) (finite_map.empty_of_len m none) ∙ ap is_some (finite_map.get-empty _ b) in
+          let bad : true ≡ false = sym e ∙ gone in
+          cc
+      | suc n ↦ λ some. omega arith
+    ] refl
+
+less_counts : (m : Boxes) (b : Box) → is_some (finite_map.get m b) ≡ true → finite_map.len m ≡ finite_map.len (finite_map.remove m b) + 1
+less_counts m b e =
+    let less : finite_map.len (finite_map.remove m b) ≡ finite_map.len m - 1 = finite_map.len-remove nat_list_cmp_total m b ∙ ap (λ v. cond v (finite_map.len m - 1) (finite_map.len m)) e in
+    let some : 1 ≤ finite_map.len m = some_counts m b e in
+    omega arith
+
+-- ---- the count
+
+pub itself : (b : Box) → bytes_eq b b ≡ true
+itself b = sym (tied b b) ∙ (eq_by_cmp_equiv nat_list_cmp_total).refl b
+
+-- one container less, and its visit
+without : (m : Boxes) (v : VisitContent) (visits : List VisitContent) (q : Box) (is : Bool) → bytes_eq v.container q ≡ is → is_open_visit q v ≡ bytes_eq v.container q
+    → length (filter (is_open_visit q) (v ∷ visits)) ≤ 1 → is_some (finite_map.get m q) ≡ is_some (find (is_open_visit q) (v ∷ visits))
+    → (is_some (finite_map.get m q) && not is) ≡ is_some (find (is_open_visit q) visits)
+without m v visits q true e open_ one here =
+    let more : length (filter (is_open_visit q) (v ∷ visits)) ≡ length (filter (is_open_visit q) visits) + 1 = count_keeps (is_open_visit q) v visits (open_ ∙ e) in
+    and_turned (is_some (finite_map.get m q)) false ∙ sym (none_found (is_open_visit q) visits (omega arith))
+without m v visits q false e open_ one here = and_true (is_some (finite_map.get m q)) ∙ here ∙ ap is_some (find_skips (is_open_visit q) v visits (open_ ∙ e))
+
+pub counted : (visits : List VisitContent) (m : Boxes) → ((q : Box) → length (filter (is_open_visit q) visits) ≤ 1) → ((q : Box) → is_some (finite_map.get m q) ≡ is_some (find (is_open_visit q) visits))
+    → finite_map.len m + length (filter is_closed visits) ≡ length visits
+counted [] m one here = let none : finite_map.len m ≡ 0 = empty_counts m here in omega arith
+counted (v ∷ visits) m one here =
+    elim v.departure as (λ d. v.departure ≡ d → finite_map.len m + length (filter is_closed (v ∷ visits)) ≡ length (v ∷ visits)) [
+      | None ↦ λ e.
+          let open_ : (q : Box) → is_open_visit q v ≡ bytes_eq v.container q = λ q. ap (λ d. bytes_eq v.container q && is_none d) e ∙ and_true _ in
+          let less : finite_map.len m ≡ finite_map.len (finite_map.remove m v.container) + 1 =
+          less_counts m v.container (here v.container ∙ ap is_some (find_meets (is_open_visit v.container) v visits (open_ v.container ∙ itself v.container))) in
+          let same : length (filter is_closed (v ∷ visits)) ≡ length (filter is_closed visits) = count_skips is_closed v visits (ap is_some e) in
+          let rest : finite_map.len (finite_map.remove m v.container) + length (filter is_closed visits) ≡ length visits =
+          counted visits (finite_map.remove m v.container)
+          (λ q. let few : length (filter (is_open_visit q) (v ∷ visits)) ≤ 1 = one q in let fewer : length (filter (is_open_visit q) visits) ≤ length (filter (is_open_visit q) (v ∷ visits)) = count_rest (is_open_visit q) v visits in omega arith)
+          (λ q. in_removed m v.container q ∙ without m v visits q (bytes_eq v.container q) refl (open_ q) (one q) (here q)) in
+          omega arith
+      | Some d ↦ λ e.
+          let shut : (q : Box) → is_open_visit q v ≡ false = λ q. ap (λ d. bytes_eq v.container q && is_none d) e ∙ and_turned (bytes_eq v.container q) false in
+          let more : length (filter is_closed (v ∷ visits)) ≡ length (filter is_closed visits) + 1 = count_keeps is_closed v visits (ap is_some e) in
+          let rest : finite_map.len m + length (filter is_closed visits) ≡ length visits =
+          counted visits m
+          (λ q. let few : length (filter (is_open_visit q) (v ∷ visits)) ≤ 1 = one q in let fewer : length (filter (is_open_visit q) visits) ≤ length (filter (is_open_visit q) (v ∷ visits)) = count_rest (is_open_visit q) v visits in omega arith)
+          (λ q. here q ∙ ap is_some (find_skips (is_open_visit q) v visits (shut q))) in
+          omega arith
+    ] refl

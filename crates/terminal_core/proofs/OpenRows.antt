@@ -4,7 +4,6 @@ use Rattle.std.specs.Prelude.{filter, ◌&&◌, ◌||◌, T, IsSorted, count_by,
 use Rattle.std.specs.List.{list_any}
 use Rattle.std.specs.Option.{option_map_or}
 use Rattle.std.specs.Str.{bytes_eq}
-use Rattle.std.specs.FinMap as finite_map
 use Rattle.std.specs.FinMap.Entries.{below_all}
 use Rattle.std.specs.Ordering.{nat_cmp, eq_by_cmp, is_eq, is_lt, ordering_reverse}
 use Rattle.std.specs.declared.cmp.Ordering.{Ordering}
@@ -24,12 +23,10 @@ use Rattle.terminal_core.specs.Drop.{is_pending, is_open_row, open_rows_of, open
 use Rattle.terminal_core.specs.Restoring.{AreOnce}
 use Rattle.terminal_core.proofs.Lined.{order, keys_total, line_tied}
 use Rattle.terminal_core.proofs.Rising.{one_list, open_are}
+use Rattle.std.specs.FinMap as finite_map
 
 abbrev by_text : List ℕ → List ℕ → Ordering
 by_text = slice_cmp nat_cmp
-
-one_or_none : Bool → ℕ
-one_or_none b = cond b 1 0
 
 count_cons : {A : Type 0} (p : A → Bool) (x : A) (xs : List A) → count_by p (x ∷ xs) ≡ cond (p x) 1 0 + count_by p xs
 count_cons p x xs = sum_by-cons (λ y. cond (p y) 1 0) x xs

@@ -4,7 +4,6 @@ use Rattle.std.specs.Prelude.{filter, ◌&&◌, ◌||◌, T}
 use Rattle.std.specs.List.{list_any}
 use Rattle.std.specs.Option.{option_map_or}
 use Rattle.std.specs.Str.{bytes_eq}
-use Rattle.std.specs.FinMap as finite_map
 use Rattle.std.specs.FinMap.Entries.{below_all, same_entries}
 use Rattle.std.specs.Ordering.{nat_cmp, eq_by_cmp, is_eq, is_lt, ordering_then}
 use Rattle.std.specs.declared.cmp.Ordering.{Ordering}
@@ -18,6 +17,7 @@ use Rattle.terminal_core.specs.State.{LineContent, LineKey, Lines, line_key, sid
 use Rattle.terminal_core.specs.Drop.{is_pending, is_on, container_in, is_open_on, open_containers, AreOpenContainers}
 use Rattle.terminal_core.proofs.Lined.{order, same_key}
 use Rattle.terminal_core.proofs.Dropping.{both_true, key_on}
+use Rattle.std.specs.FinMap as finite_map
 
 abbrev by_text : List ℕ → List ℕ → Ordering
 by_text = slice_cmp nat_cmp

@@ -5,7 +5,7 @@ use Rattle.box6346.specs.NumberText.{is_number}
 use Rattle.box6346.specs.SizeText.{is_size}
 use Rattle.box6346.specs.SlotName.{IsNamed}
 use Rattle.box6346.specs.declared.box_number.BoxNumber.{BoxNumber}
-use Rattle.edi_moments.specs.Moments.{is_moment}
+use Rattle.edi_syntax.specs.Moments.{is_moment}
 use Rattle.edi_syntax.specs.Numbers.{last_number}
 use Rattle.edi_messages.specs.Purposes.{CallContent}
 use Rattle.edi_messages.specs.Forms.{is_name_if_any, IsFormedCall, IsFormedOrder}

@@ -48,14 +48,14 @@ impl PartialEq for Source {
     }
 }
 
-/// Where a container stands, and the visit by which it is here: a row of the yard's list.
+/// Where a container is, and the visit by which it is here: a row of the yard's list.
 #[derive(Clone, Copy, Debug)]
 pub struct Place {
     /// The container's number (ISO 6346).
     pub container: BoxNumber,
     /// The number of its open visit.
     pub visit: u32,
-    /// Where it stands.
+    /// Where it is.
     pub slot: Slot,
 }
 
@@ -75,7 +75,7 @@ pub enum Change {
         visit: u32,
         slot: Slot,
     },
-    /// A container stands in this slot now.
+    /// A container is in this slot now.
     Moved {
         container: BoxNumber,
         slot: Slot,
@@ -128,7 +128,7 @@ pub enum Reason {
     NotListed,
     /// The container's line of the list is done.
     ListLineDone,
-    /// This container stands above it.
+    /// This container is above it.
     Buried(BoxNumber),
     /// The yard has no such slot.
     NoSlot,
@@ -142,14 +142,14 @@ pub enum Reason {
     OnEmpty,
     /// No slot fits.
     NoRoom,
-    /// As many visits stand as the set-up allows.
+    /// There are as many visits as the set-up allows.
     VisitLimit,
 }
 
 /// What became of an order.
 #[derive(Clone, Copy, PartialEq, Eq, Debug)]
 pub enum Outcome {
-    /// The container stands in this slot.
+    /// The container is in this slot.
     Done(Slot),
     /// The container has left.
     Gone,

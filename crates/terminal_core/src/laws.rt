@@ -1,4 +1,4 @@
-//! What follows from the definitions of a terminal's states and steps alone.
+//! What follows only from the definitions of a terminal's states and steps.
 
 ghost use Rattle.terminal_core.specs.Counts.{EntriesLessExitsStand};
 ghost use Rattle.terminal_core.specs.Changes.{ChangesTurnRows, ChangesAreApplicable, ChangesAreAppended, AreApplicableAppended};
@@ -8,7 +8,7 @@ ghost use Rattle.terminal_core.specs.OneByOne.{ChangesGoOneByOne, StepsGoOneByOn
 ghost use Rattle.terminal_core.specs.RowForms.{ListsAreRowsByKey, RowsByKeyAreLists, RowsGiveState, ListsGiveState};
 ghost use Rattle.terminal_core.specs.Wholeness.{EmptyIsWhole, StepsKeepWhole};
 
-/// As many containers stand in the yard as came and did not go.
+/// As many containers are in the yard as came and did not go.
 pub fn entries_less_exits()
     ensures { EntriesLessExitsStand }
 {}
@@ -69,7 +69,7 @@ pub fn empty_is_whole()
     ensures { EmptyIsWhole }
 {}
 
-/// What an order leaves of a whole terminal is whole, whatever the order says.
+/// What an order leaves of a whole terminal is whole, for any order.
 pub fn steps_keep_whole()
     ensures { StepsKeepWhole }
 {}
@@ -79,7 +79,7 @@ pub fn changes_go_one_by_one()
     ensures { ChangesGoOneByOne }
 {}
 
-/// So does an order, by the rules of any version.
+/// An order leaves the numbers of visits one by one from 1, where they were so, by the rules of any version.
 pub fn steps_go_one_by_one()
     ensures { StepsGoOneByOne }
 {}
@@ -89,7 +89,7 @@ pub fn drops_open_alone()
     ensures { DropsOpenAlone }
 {}
 
-/// Its changes turn the rows of the old state into those of the new.
+/// The changes of a drop turn the rows of the old state into those of the new.
 pub fn drop_turns_rows()
     ensures { DropTurnsRows }
 {}

@@ -49,7 +49,7 @@ impl Lists {
         }
     }
 
-    /// The lists of rows: Unsound if a line stands twice, and Memory.
+    /// The lists of rows: Unsound if a line is there twice, and Memory.
     pub(crate) fn restore(alloc: Global, rows: Vec<Listing>) -> Result<Lists, RestoreFault>
         ensures { MatchResult result (λ l. AreOnce rows.items × (l ≡ lines_of rows.items)) (RefusesLines rows.items) }
     {
@@ -154,7 +154,7 @@ impl Lists {
     }
 }
 
-/// The containers of the open lines of a call's list, as their rows stand.
+/// The containers of the open lines of a call's list, in the order of their rows.
 fn open_rows_of(
     alloc: Global,
     rows: &[Listing],
@@ -201,7 +201,7 @@ fn remove_at(rows: &mut Vec<Listing>, indexes: &mut LineIndexes, row_index: usiz
     }
 }
 
-/// Where each line stands: Unsound if one stands twice, and Memory.
+/// Index of each line: Unsound if one is there twice, and Memory.
 fn noted_lines(alloc: Global, rows: &[Listing]) -> Result<LineIndexes, RestoreFault>
     ensures { MatchResult result (λ indexes. AreOnce rows.now × AreNoted rows.now indexes) (RefusesLines rows.now) }
 {
@@ -215,7 +215,7 @@ fn noted_lines(alloc: Global, rows: &[Listing]) -> Result<LineIndexes, RestoreFa
     Ok(indexes)
 }
 
-/// Where the line stands: where it is said to, if that row is the line.
+/// Index of the line: the one that the map gives, if that row is the line.
 fn index_of(
     rows: &[Listing],
     indexes: &LineIndexes,

@@ -82,14 +82,14 @@ fn are_numbered(visits: &[Visit]) -> bool
     true
 }
 
-/// The numbers of visits, as they stand.
+/// The numbers of visits, in their order.
 fn numbers_of(alloc: Global, visits: &[Visit]) -> Result<Vec<u32>, AllocError>
     ensures { IfOk result (λ v. v.items ≡ numbers_of visits.now) }
 {
     visits.iter().map(|visit| visit.number).collect(alloc)
 }
 
-/// Where a number stands among those that rise.
+/// Index of a number in a rising list.
 fn index_of(numbers: &[u32], number: u32) -> Option<usize>
     requires { AreRising numbers.now }
     ensures { MatchOption result
@@ -133,7 +133,7 @@ fn settled_yard(
     Ok(yard)
 }
 
-/// One container more, put back as the visit that its place names tells.
+/// One container more, put back as the visit that its place names says.
 fn put(
     yard: &mut Yard,
     visits: &[Visit],

@@ -92,7 +92,7 @@ impl Terminal {
         })
     }
 
-    /// Where a container stands, if it is in the yard.
+    /// Where a container is, if it is in the yard.
     pub fn slot_of(&self, container: BoxNumber) -> Option<Slot>
         ensures told { result ≡ option_map (λ s. s.slot) (placement_of self.now.yard.boxes container) }
         ensures whole { IsWhole self.now }
@@ -108,7 +108,7 @@ impl Terminal {
         self.yard.blocks()
     }
 
-    /// The container that stands on one, if that one is in the yard and one stands on it.
+    /// The container on another, if that one is in the yard and has one on it.
     pub fn blocker_on(&self, container: BoxNumber) -> Option<BoxNumber>
         ensures told { result ≡ blocker_on self.now.yard.boxes (placement_of self.now.yard.boxes container) }
         ensures whole { IsWhole self.now }

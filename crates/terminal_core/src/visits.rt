@@ -12,7 +12,7 @@ use crate::change::{Change, Source};
 use crate::restoring::append;
 use box6346::{BoxNumber, SizeType, Slot};
 use edi_messages::Entry;
-use edi_moments::Moment;
+use edi_syntax::Moment;
 use std::alloc::{AllocError, Global};
 use std::collections::HashMap;
 use std::marker::Model;
@@ -225,7 +225,7 @@ impl Visits {
         append(&mut self.rows, visit);
     }
 
-    /// Closes the container's open visit, and tells its number.
+    /// Closes the container's open visit, and answers its number.
     pub(crate) fn close(
         &mut self,
         container: BoxNumber,
@@ -274,7 +274,7 @@ pub(crate) fn last_of(rows: &[Visit]) -> u32
     }
 }
 
-/// Where each open visit stands, by its container.
+/// Index of each open visit, by its container.
 fn indexed(alloc: Global, rows: &[Visit]) -> Result<HashMap<[u8; 11], usize>, AllocError>
     requires { (container : BoxNumber) →
         length (filter (is_open_visit container) (map visit_content rows.now)) ≤ 1 }
@@ -289,7 +289,7 @@ fn indexed(alloc: Global, rows: &[Visit]) -> Result<HashMap<[u8; 11], usize>, Al
     Ok(open_indexes)
 }
 
-/// Where each container's last visit stands.
+/// Index of each container's last visit.
 fn last_indexed(alloc: Global, rows: &[Visit]) -> Result<HashMap<[u8; 11], u32>, AllocError>
     requires { length rows.now < 2 ^ 32 }
     ensures { IfOk result

@@ -1,7 +1,13 @@
-//! Orders at a terminal, by the worked rows of its rules.
+//! Texts by their bytes; orders at a terminal where memory is refused, and rows that are none of a terminal.
 #![tactic(auto)]
 
 #[cfg(test)]
-mod terminal;
+mod cutter;
 #[cfg(test)]
-mod yard;
+mod moments;
+#[cfg(test)]
+mod segments;
+#[cfg(test)]
+mod syntax;
+#[cfg(test)]
+mod terminal;

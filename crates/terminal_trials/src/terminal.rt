@@ -1,20 +1,16 @@
-//! Orders at a terminal where memory is refused, and rows that are none of a terminal. The worked rows go through the
-//! program: `make beside`.
+//! Orders at a terminal where memory is refused, and rows that are none of a terminal. What orders come to goes through
+//! the program: the model's cases, and its crowded yard.
 
 mod answer;
 mod ask;
-mod dropping;
-mod last_visits;
-mod many;
 mod memory;
-mod resting;
 mod restoring;
 
 use answer::Answer;
 use ask::Ask;
 use box6346::{BoxNumber, SizeType, Slot};
 use edi_messages::{Call, Entry};
-use edi_moments::Moment;
+use edi_syntax::Moment;
 use std::alloc::{AllocError, Global};
 use std::process::Abort;
 use terminal_core::Terminal;
@@ -28,9 +24,7 @@ const FIRST: &str = "ABCU0000017";
 
 const SECOND: &str = "ABCU0000022";
 
-const THIRD: &str = "ABCU0000038";
-
-/// The gross weight of a full container in kilograms. An empty one has none.
+/// The gross weight of a container in kilograms.
 const KILOS: u32 = 24_000;
 
 const A: Block = Block {
@@ -70,25 +64,21 @@ fn call(alloc: Global) -> Result<Call, AllocError> {
     Ok(Call { vessel, voyage })
 }
 
-fn kilos(is_laden: bool) -> u32 {
-    if is_laden { KILOS } else { 0 }
-}
-
+/// A full container that comes in.
 fn entry(
     rt: &impl Abort,
     alloc: Global,
     text: &str,
-    is_laden: bool,
     slot: Option<Slot>,
 ) -> Result<Entry, AllocError> {
     let booking = String::from_str(alloc, "A+B")?;
     Ok(Entry {
         number: number(rt, text),
         size_type: size_type(rt),
-        is_laden,
+        is_laden: true,
         booking,
         moment: moment(rt),
         slot,
-        kilos: kilos(is_laden),
+        kilos: KILOS,
     })
 }

@@ -1,7 +1,7 @@
 -- The least heights of the blocks' columns, and that no slot below them is open.
-use Rattle.std.proofs.Common.{◌≡◌, ◌≢◌, ◌⊎◌, inl, inr, ℕ, ◌+◌, ◌-◌, ◌*◌, ◌/◌, ◌<◌, ◌≤◌, ◌==◌, ◌&&◌, true, List, [], ◌∷◌, ◌++◌, length, take, drop, map, replicate, refl, sym, ap, subst, ◌∙◌, Option, Some, None, arith, slice_get, get_or, set, get_or-set_same, get_or-set_other, All}
+use Rattle.std.proofs.Common.{◌≡◌, ◌≢◌, ◌⊎◌, inl, inr, ℕ, ◌+◌, ◌-◌, ◌*◌, ◌/◌, ◌<◌, ◌≤◌, ◌==◌, ◌&&◌, true, List, [], ◌∷◌, ◌++◌, length, take, drop, map, replicate, refl, sym, ap, subst, ◌∙◌, Option, Some, None, arith, slice_get, get_or, set, get_or-set_same, get_or-set_other, All, Bool, false, not, IsTrue, zero, suc, cond}
 use Rattle.std.specs.Option.{IsSomeAnd, option_map}
-use Rattle.std.proofs.lemmas.Bool.Decides.{nat_tests}
+use Rattle.std.proofs.lemmas.Bool.Decides.{nat_tests, eqb_tells}
 use Rattle.std.proofs.lemmas.List.{length-append, get_or-take, get_or-drop, length-take-le, length-drop, length-replicate, length-map, length-set}
 use Rattle.std.proofs.lemmas.List.Elements.{All-from_get_or, All-get_or, All-map, All-set}
 use Rattle.std.proofs.lemmas.Option.{get_or_from_slice_get, slice_get_within, slice_get_read, slice_get-map, none-some, same_Some}
@@ -11,7 +11,7 @@ use Rattle.box6346.specs.declared.slot.Slot.{Slot}
 use Rattle.yard_core.specs.declared.plan.Block.{Block}
 use Rattle.yard_core.specs.declared.columns.LeastHeight.{LeastHeight}
 use Rattle.yard_core.specs.declared.placements.Placement.{Placement}
-use Rattle.yard_core.specs.Plan.{block_of, InBlock, IsSized}
+use Rattle.yard_core.specs.Plan.{block_of, InBlock, IsSized, AreLettered, AreApart}
 use Rattle.yard_core.specs.YardMap.{Box, placement}
 use Rattle.yard_core.specs.FitsAndFree.{IsOpen}
 use Rattle.yard_core.specs.Search.{IsInBlock}
@@ -19,6 +19,17 @@ use Rattle.yard_core.specs.Columns.{column_at, column_of, first_cell, IsKept}
 use Rattle.yard_core.specs.LeastHeights.{AreAtLeast, AreLeastHeights, ground_height}
 use Rattle.yard_core.proofs.Cells.{place, bounds, first_in_plan}
 use Rattle.yard_core.proofs.Decides.{IsReady-open}
+use Rattle.std.specs.Char.{is_ascii_uppercase}
+use Rattle.std.proofs.lemmas.List.Folds.{find_at}
+use Rattle.std.proofs.lemmas.List.Sums.{position_or_len_is, prefix_len_passes, prefix_len_stops, prefix_len-le-length}
+use Rattle.std.proofs.lemmas.Bool.{eq-eqb, eqb-true, cases_Bool}
+use Rattle.std.specs.Prelude.{find, flat_map}
+use Rattle.std.specs.List.{range_with_len}
+use Rattle.std.proofs.Math.Nat.{eq-or-lt_of_le}
+use Rattle.yard_core.specs.FirstFit.{IsBefore}
+use Rattle.yard_core.specs.Decisions.{slot_at, slots_in_bay, slots_in_block, slots_in_tier, every_slot}
+
+-- ==== LeastHeights: The least heights of the blocks' columns, and that no slot below them is open.
 
 on_ground : (plan : List Block) (position : ℕ) (h : LeastHeight) → slice_get (map ground_height plan) position ≡ Some h → h.height ≡ 0
 on_ground plan position h here =
@@ -171,3 +182,140 @@ none_open plan columns at kept block corner here high size slot (tier, letter) o
     subst (λ i. corner.tier ≤ length (column_at columns i)) (sym column) (high (cell.bay / 2) (cell.row - 1) (omega (arith, inside.1)) (omega (arith, inside.2, inside.3))) in
     let low = (bounds plan slot kept.valid.sized open_.in_plan).tier_low in
     omega (arith, over, ready, tier, low)
+
+-- ==== PlanLemmas: Where a block of a letter stands in a plan.
+
+other_letter : (a b : ℕ) → ¬ (a ≡ b) → (a == b) ≡ false
+other_letter a b apart = elim (eqb_tells a b) [ inl h ↦ absurd (apart h.1) | inr h ↦ h.0 ]
+
+not_true : (v : Bool) → v ≡ false → IsTrue v → ⊥
+not_true true e h = cc
+not_true false e h = cc
+
+-- what is no capital is no block's letter
+pub place-missing : (plan : List Block) (letter : ℕ) → AreLettered plan → is_ascii_uppercase letter ≡ false → place plan letter ≡ length plan
+place-missing plan letter lettered small =
+    position_or_len_is (λ (b : Block). b.letter == letter) plan (length plan) (record { letter = 0; bays = 0; rows = 0; tiers = 0 }) (omega arith)
+    (λ k h. other_letter _ letter (λ e. not_true (is_ascii_uppercase letter) small (subst (λ n. IsTrue (is_ascii_uppercase n)) e (lettered k _ h))))
+    (λ h. absurd (omega arith))
+
+pub place-le : (plan : List Block) (letter : ℕ) → place plan letter ≤ length plan
+place-le plan letter = prefix_len-le-length (λ (b : Block). not (b.letter == letter)) plan
+
+-- no block of the letter stands before its place
+pub place-least : (plan : List Block) (letter j : ℕ) (b : Block) → slice_get plan j ≡ Some b → b.letter ≡ letter → place plan letter ≤ j
+place-least plan letter j b there same = elim (cases j (place plan letter)) [
+  | inl before ↦ (let p : not (b.letter == letter) ≡ true = subst (λ (x : Block). not (x.letter == letter) ≡ true) (get_or_from_slice_get plan j b b there) (prefix_len_passes (λ (x : Block). not (x.letter == letter)) plan j b before) in
+      let q : (b.letter == letter) ≡ true = eq-eqb b.letter letter same in absurd (clash (b.letter == letter) q p))
+  | inr h ↦ h
+] where
+  cases : (a n : ℕ) → (a < n) ⊎ (n ≤ a)
+  cases a n = grind arith
+
+  clash : (v : Bool) → v ≡ true → not v ≡ true → ⊥
+  clash true e f = cc
+  clash false e f = cc
+
+pub place-has : (plan : List Block) (letter : ℕ) (d : Block) → place plan letter < length plan → (get_or plan (place plan letter) d).letter ≡ letter
+place-has plan letter d h = eqb-true _ letter (turned _ (prefix_len_stops (λ (x : Block). not (x.letter == letter)) plan d h)) where
+  turned : (v : Bool) → not v ≡ false → v ≡ true
+  turned true e = refl
+  turned false e = cc
+
+pub AreApart-by_place : (plan : List Block) → ((k : ℕ) (a : Block) → slice_get plan k ≡ Some a → k ≤ place plan a.letter) → AreApart plan
+AreApart-by_place plan each i j a b e f same =
+    let h : i ≤ place plan a.letter = each i a e in
+    let g : place plan a.letter ≤ j = place-least plan a.letter j b f (sym same) in
+    let m : j ≤ place plan b.letter = each j b f in
+    let n : place plan b.letter ≤ i = place-least plan b.letter i a e same in
+    omega arith
+
+pub block_of-place : (plan : List Block) (letter : ℕ) → block_of plan letter ≡ slice_get plan (place plan letter)
+block_of-place plan letter = find_at (λ (b : Block). b.letter == letter) plan
+
+-- ==== FirstSlots: The first slot that passes a test, in the order of tier, block letter, bay and row.
+
+-- ---- searches in parts
+
+none_is : (v : Bool) (x : Slot) (others : Option Slot) → v ≡ true → cond v (Some x) others ≡ None → ⊥
+none_is v x others holds e = let here : ◌≡◌ {A = Option Slot} (Some x) None = rw holds at e in cc
+
+rest_is : (v : Bool) (x : Slot) (others found : Option Slot) → v ≡ false → cond v (Some x) others ≡ found → others ≡ found
+rest_is v x others found other e = rw other at e
+
+behind_none : (p : Slot → Bool) (xs ys : List Slot) → find p xs ≡ None → find p (xs ++ ys) ≡ find p ys
+behind_none p [] ys e = refl
+behind_none p (x ∷ xs) ys e = elim (cases_Bool (p x)) [
+  | inl holds ↦ absurd (none_is (p x) x (find p xs) holds e)
+  | inr other ↦ rw other (behind_none p xs ys (rest_is (p x) x (find p xs) None other e))
+]
+
+within_some : (p : Slot → Bool) (xs ys : List Slot) (slot : Slot) → find p xs ≡ Some slot → find p (xs ++ ys) ≡ Some slot
+within_some p [] ys slot e = cc
+within_some p (x ∷ xs) ys slot e = elim (cases_Bool (p x)) [
+  | inl holds ↦ rw holds (rw holds at e)
+  | inr other ↦ rw other (within_some p xs ys slot (rest_is (p x) x (find p xs) (Some slot) other e))
+]
+
+-- no slot passes in any part
+pub none_in_parts : (p : Slot → Bool) (part : ℕ → List Slot) → ((n : ℕ) → find p (part n) ≡ None) → (ns : List ℕ) → find p (flat_map part ns) ≡ None
+none_in_parts p part none [] = refl
+none_in_parts p part none (n ∷ ns) = behind_none p (part n) (flat_map part ns) (none n) ∙ none_in_parts p part none ns
+
+none_mapped : (p : Slot → Bool) (slot_at : ℕ → Slot) → ((n : ℕ) → p (slot_at n) ≡ false) → (ns : List ℕ) → find p (map slot_at ns) ≡ None
+none_mapped p slot_at fails [] = refl
+none_mapped p slot_at fails (n ∷ ns) = rw (fails n) (none_mapped p slot_at fails ns)
+
+-- the first part in which one passes
+first_part : (p : Slot → Bool) (part : ℕ → List Slot) (k : ℕ) (slot : Slot) → find p (part k) ≡ Some slot → (count from : ℕ) → from ≤ k → k < from + count →
+    ((n : ℕ) → n < k → find p (part n) ≡ None) → find p (flat_map part (range_with_len from count)) ≡ Some slot
+first_part p part k slot here zero from low high before = absurd (omega arith)
+first_part p part k slot here (suc count) from low high before = elim (eq-or-lt_of_le {n = from} {m = k} low) [
+  | inl same ↦ within_some p (part from) (flat_map part (range_with_len (from + 1) count)) slot (subst (λ n. find p (part n) ≡ Some slot) (sym same) here)
+  | inr later ↦ behind_none p (part from) (flat_map part (range_with_len (from + 1) count)) (before from later)
+      ∙ first_part p part k slot here count (from + 1) (omega arith) (omega arith) before
+]
+
+first_mapped : (p : Slot → Bool) (slot_at : ℕ → Slot) (k : ℕ) → p (slot_at k) ≡ true → (count from : ℕ) → from ≤ k → k < from + count →
+    ((n : ℕ) → n < k → p (slot_at n) ≡ false) → find p (map slot_at (range_with_len from count)) ≡ Some (slot_at k)
+first_mapped p slot_at k here zero from low high before = absurd (omega arith)
+first_mapped p slot_at k here (suc count) from low high before = elim (eq-or-lt_of_le {n = from} {m = k} low) [
+  | inl same ↦ let passes : p (slot_at from) ≡ true = subst (λ n. p (slot_at n) ≡ true) (sym same) here in rw passes (ap (λ n. Some (slot_at n)) same)
+  | inr later ↦ rw (before from later) (first_mapped p slot_at k here count (from + 1) (omega arith) (omega arith) before)
+]
+
+-- ---- all slots
+
+-- the slot's numbers are among those that plans have
+pub record IsNumbered (slot : Slot) : Type 0 where
+  pub tier_low : 1 ≤ slot.tier
+  pub tier_high : slot.tier < 7
+  pub letter_low : 65 ≤ slot.block
+  pub letter_high : slot.block < 91
+  pub bay_low : 1 ≤ slot.bay
+  pub bay_high : slot.bay < 80
+  pub row_low : 1 ≤ slot.row
+  pub row_high : slot.row < 13
+
+pub first_of_all : (p : Slot → Bool) (slot : Slot) → IsNumbered slot → p slot ≡ true → ((other : Slot) → IsBefore other slot → p other ≡ false) → find p every_slot ≡ Some slot
+unfolding every_slot
+first_of_all p slot numbered passes before =
+    let row_found : find p (slots_in_bay slot.tier slot.block slot.bay) ≡ Some slot =
+    first_mapped p (slot_at slot.tier slot.block slot.bay) slot.row passes 12 1 numbered.row_low numbered.row_high
+    (λ row less. before (slot_at slot.tier slot.block slot.bay row) (inr (refl, inr (refl, inr (refl, less))))) in
+    let bay_found : find p (slots_in_block slot.tier slot.block) ≡ Some slot =
+    first_part p (slots_in_bay slot.tier slot.block) slot.bay slot row_found 79 1 numbered.bay_low numbered.bay_high
+    (λ bay less. none_mapped p (slot_at slot.tier slot.block bay) (λ row. before (slot_at slot.tier slot.block bay row) (inr (refl, inr (refl, inl less)))) (range_with_len 1 12)) in
+    let letter_found : find p (slots_in_tier slot.tier) ≡ Some slot =
+    first_part p (slots_in_block slot.tier) slot.block slot bay_found 26 65 numbered.letter_low numbered.letter_high
+    (λ letter less. none_in_parts p (slots_in_bay slot.tier letter)
+    (λ bay. none_mapped p (slot_at slot.tier letter bay) (λ row. before (slot_at slot.tier letter bay row) (inr (refl, inl less))) (range_with_len 1 12)) (range_with_len 1 79)) in
+    first_part p slots_in_tier slot.tier slot letter_found 6 1 numbered.tier_low numbered.tier_high
+    (λ tier less. none_in_parts p (slots_in_block tier) (λ letter. none_in_parts p (slots_in_bay tier letter)
+    (λ bay. none_mapped p (slot_at tier letter bay) (λ row. before (slot_at tier letter bay row) (inl less)) (range_with_len 1 12)) (range_with_len 1 79)) (range_with_len 65 26))
+
+pub none_of_all : (p : Slot → Bool) → ((slot : Slot) → p slot ≡ false) → find p every_slot ≡ None
+unfolding every_slot
+none_of_all p fails =
+    none_in_parts p slots_in_tier (λ tier. none_in_parts p (slots_in_block tier) (λ letter. none_in_parts p (slots_in_bay tier letter)
+    (λ bay. none_mapped p (slot_at tier letter bay) (λ row. fails (slot_at tier letter bay row)) (range_with_len 1 12)) (range_with_len 1 79)) (range_with_len 65 26)) (range_with_len 1 6)

@@ -1,4 +1,4 @@
-//! What follows from the definitions alone, and says that the answers of a yard's calls are exact.
+//! What follows only from the definitions, and says that the answers of a yard's calls are exact.
 ghost use Rattle.yard_core.specs.Exact.{PlaceIsDecided, PutBackIsDecided, PlaceFirstIsDecided, RemoveIsDecided, ShiftIsDecided};
 ghost use Rattle.yard_core.specs.Laws.{MisfitsDoNotFit, FreeBoxFitsAtHome, BelowCarries, OneBlocker, OneFirstFit, PlaceHasOneAnswer, PutBackHasOneAnswer, PlaceFirstHasOneAnswer, RemoveHasOneAnswer, ShiftHasOneAnswer};
 
@@ -33,7 +33,7 @@ pub fn place_has_one_answer()
     ensures { PlaceHasOneAnswer }
 {}
 
-/// No two answers of `put_back` hold of one yard, but for Memory if the container may stand there.
+/// No two answers of `put_back` hold of one yard, but for Memory if the container may be there.
 pub fn put_back_has_one_answer()
     ensures { PutBackHasOneAnswer }
 {}

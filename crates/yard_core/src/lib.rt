@@ -1,4 +1,4 @@
-//! The yard of a container terminal: which container stands in which slot. No container stands on air,
+//! The yard of a container terminal: which container is in which slot. No container is on air,
 //! two never share a cell, none moves or leaves from under another, and no full one is put onto an empty one.
 #![tactic(auto)]
 

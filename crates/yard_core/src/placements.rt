@@ -12,7 +12,7 @@ use std::alloc::{AllocError, Global};
 use std::collections::HashMap;
 use std::marker::Model;
 
-/// How long a container is and in which slot it stands.
+/// How long a container is and in which slot.
 #[derive(Clone, Copy, PartialEq, Eq, Debug)]
 pub struct Placement {
     /// Twenty or forty foot.
@@ -30,7 +30,7 @@ pub struct Stowed {
     pub is_laden: bool,
 }
 
-/// How each container of a yard stands, seen as the map.
+/// The containers of a yard by their numbers, seen as the map to length, slot and load.
 #[derive(Drop)]
 pub(crate) struct Placements {
     by_text: HashMap<[u8; 11], Stowed>,
@@ -77,7 +77,7 @@ impl Placements {
         self.by_text.remove(&number.text());
     }
 
-    /// Has a container that is there stand elsewhere.
+    /// Puts a container that is there elsewhere.
     pub(crate) fn replace(&mut self, number: BoxNumber, stowed: Stowed)
         requires { IsSome (finite_map.get self.old number) }
         ensures { self.new ≡ finite_map.insert self.old number stowed }
@@ -128,7 +128,7 @@ pub(crate) fn site_of(plan: &Plan, placement: Placement) -> Site
     }
 }
 
-/// A twenty stands in an odd bay, a forty in an even one.
+/// A twenty is placed in an odd bay, a forty in an even one.
 pub(crate) fn is_kind(length: Length, slot: Slot) -> bool
     ensures { IsTrue result ↔ IsKind length slot }
 {

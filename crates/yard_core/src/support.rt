@@ -85,7 +85,7 @@ fn bears(placement: Placement, near: Option<Stowed>, far: Option<Stowed>) -> boo
     }
 }
 
-/// Why a container that is carried does not stand on these two, if it does not.
+/// Why these two do not carry a container, if they do not.
 fn weighed(is_wary: bool, near: Option<Stowed>, far: Option<Stowed>) -> Option<YardFault>
     ensures { MatchOption result (is_wary ≡ true → (is_empty near || is_empty far) ≡ false)
         (λ f. (f ≡ YardFault.OnEmpty) × (is_wary ≡ true) × ((is_empty near || is_empty far) ≡ true)) }
@@ -162,7 +162,7 @@ pub(crate) fn lift(
     Ok((stowed, site))
 }
 
-/// The box that stands on another, if that one is in the yard and one stands on it.
+/// The box on another, if that one is in the yard and has one on it.
 pub(crate) fn blocker_on(
     plan: &Plan,
     columns: &Columns,
@@ -179,7 +179,7 @@ pub(crate) fn blocker_on(
     blocker(columns, site)
 }
 
-/// The box that stands on one of the ends.
+/// The box on one of the ends.
 fn blocker(columns: &Columns, site: Site) -> Option<BoxNumber>
     requires near { site.near < length columns.now }
     requires far { site.far < length columns.now }

@@ -14,7 +14,7 @@ use thiserror::Error;
 /// Why a call on a yard was refused. The first that applies, in this order, is the answer.
 #[derive(Clone, Copy, PartialEq, Eq, Debug, Error)]
 pub enum YardFault {
-    /// The container stands in the yard already.
+    /// The container is in the yard already.
     #[error("the container stands in the yard already")]
     Present,
     /// The container isn't in the yard.
@@ -32,10 +32,10 @@ pub enum YardFault {
     /// A container covers a cell of the slot.
     #[error("a container covers a cell of the slot")]
     Taken,
-    /// Nothing that may carry the container stands below the slot.
+    /// Nothing that may carry the container is below the slot.
     #[error("nothing that may carry the container stands below the slot")]
     OnAir,
-    /// The container is full, and an empty one stands below the slot.
+    /// The container is full, and an empty one is below the slot.
     #[error("the container is full, and an empty one stands below the slot")]
     OnEmpty,
     /// No slot of the plan fits.
@@ -97,7 +97,7 @@ impl Yard {
         })
     }
 
-    /// Where a container stands, if it is in the yard.
+    /// Where a container is, if it is in the yard.
     pub fn slot_of(&self, number: BoxNumber) -> Option<Slot>
         ensures told { result ≡ option_map (λ s. s.slot) (placement_of self.now.boxes number) }
         ensures sound { IsSound self.now.plan (placement_of self.now.boxes) }
@@ -116,7 +116,7 @@ impl Yard {
         self.plan.blocks()
     }
 
-    /// The container that stands on one, if that one is in the yard and one stands on it.
+    /// The container on another, if that one is in the yard and has one on it.
     pub fn blocker_on(&self, number: BoxNumber) -> Option<BoxNumber>
         ensures { result ≡ blocker_on self.now.boxes (placement_of self.now.boxes number) }
     {

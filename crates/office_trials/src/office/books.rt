@@ -1,9 +1,8 @@
-//! A stream over a desk that stands on records which may cease to tell the truth.
+//! A stream over a desk whose records may cease to be true.
 
 use super::failing_writer::FailingWriter;
 use crate::logbook::Logbook;
-use office_replies::Worst;
-use office_stream::{Port, run_stream};
+use office_replies::{Port, Worst, run_stream};
 use std::alloc::Global;
 use std::process::Abort;
 use std::test::Fail;
@@ -11,7 +10,7 @@ use std::test::Fail;
 /// Two texts that are interchanges to a cutter.
 const STREAM: &[u8] = b"AAA+1'UNZ'BBB'UNZ'";
 
-/// Streams both over a book that takes so many writes, and holds the worst answer to that expected.
+/// Streams both over a book that takes the given count of writes, and holds the worst answer to that expected.
 fn assert_worst(
     rt: &impl Abort,
     alloc: Global,

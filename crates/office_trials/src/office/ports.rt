@@ -1,5 +1,5 @@
-//! A stream whose reader or writer fails, and one that is left: what was answered before stands. Streams in pieces go to
-//! the program: the model's cases.
+//! A stream whose reader or writer fails, and one that is left: what was answered before is in effect. Streams in
+//! pieces go to the program: the model's cases.
 
 use super::failing_reader::FailingReader;
 use super::failing_writer::FailingWriter;
@@ -8,8 +8,7 @@ use super::late_writer::LateWriter;
 use super::pieces::Pieces;
 use crate::logbook::Logbook;
 use crate::long_answers::LongAnswers;
-use office_replies::Worst;
-use office_stream::{Cut, Port, StreamFault, run_stream};
+use office_replies::{Cut, Port, StreamFault, Worst, run_stream};
 use std::alloc::Global;
 use std::io::{Read, Write};
 use std::process::Abort;
@@ -51,12 +50,12 @@ fn texts(count: usize) -> &'static [u8] {
     TEXTS.split_at(end.min(TEXTS.len())).0
 }
 
-/// How many of the interchanges end within so many bytes.
+/// How many of the interchanges end within the given count of bytes.
 fn ended_within(count: usize) -> usize {
     ENDS.iter().filter(|end| **end <= count).count()
 }
 
-/// Where its front of so many bytes is cut.
+/// Where its front of that length is cut.
 fn cut_within(count: usize) -> Option<Cut> {
     let whole = ended_within(count);
     match STARTS.get(whole) {
@@ -250,7 +249,7 @@ fn a_write_that_timed_out_is_not_made_again(rt: HostRuntime) -> Result<(), Fail>
     Ok(())
 }
 
-/// The stream is left after so many reads, and no read more is made.
+/// The stream is left after that many reads, and no read more is made.
 #[test]
 fn a_stream_is_left_after_so_many_reads(rt: HostRuntime) -> Result<(), Fail> {
     for reads in [0, 1, 9, 10, 20, 28] {

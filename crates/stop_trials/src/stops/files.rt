@@ -35,7 +35,7 @@ pub(crate) const NO_STOP: Stop = Stop {
     db: u64::MAX,
 };
 
-/// One file stops after so many calls, and the other goes on.
+/// One file stops after that many calls, and the other goes on.
 pub(crate) fn stop_after(file: StoreFile, calls: u64) -> Stop {
     match file {
         StoreFile::Log => Stop {
@@ -49,7 +49,7 @@ pub(crate) fn stop_after(file: StoreFile, calls: u64) -> Stop {
     }
 }
 
-/// A file that holds these bytes, synced, and stops after so many calls.
+/// A file that holds these bytes, synced, and stops after that many calls.
 fn file(alloc: Global, mixes: bool, bytes: &[u8], calls: u64) -> Result<Fuse<TrialFile>, Fail> {
     let mut file = TrialFile::new(alloc, mixes);
     file.write_at(0, bytes)?;

@@ -6,11 +6,11 @@ ghost use Rattle.std.specs.Prelude.{◌≡◌, ◌≤◌, false, IfOk, length, s
 use crate::stops::files::{Held, NO_STOP, empty, files_with, left_of};
 use crate::stops::worked_rows::Request;
 use edi_messages::{CodeTable, PartnerKind};
-use office_checks::Closed;
+use office_admission::{Account, Accounts, Setup};
 use office_desk::Desk;
-use office_queries::{ReportKind, read_query};
+use office_loading::Closed;
 use office_replies::AddAccount;
-use office_setup::{Account, Accounts, Setup};
+use office_reports::{ReportKind, read_query};
 use office_tables::create;
 use sqlite::{Alter, Connection, Error, FileStore, Files, Options};
 use sqlite_disk::Disk;
@@ -53,7 +53,7 @@ pub(crate) enum Progress<D: Disk> {
     Unopened(Files<D>),
     /// The desk could not be opened. It gives up the store, which it has only read.
     Unloaded,
-    /// So many requests were answered, before the first that was not now.
+    /// How many requests were answered, before the first that was not now.
     Answered(usize, Files<D>),
 }
 
@@ -163,7 +163,7 @@ fn rows<S: Alter>(alloc: Global, conn: &mut Connection<S>) -> Result<String, Err
     Ok(text)
 }
 
-/// What a desk tells under a key; nothing if it can't.
+/// What a desk reports under a key; nothing if it can't.
 fn told<S: Alter + Drop>(
     alloc: Global,
     desk: &mut Desk<S>,

@@ -10,7 +10,7 @@ use crate::stops::files::{
 use crate::stops::office::connected;
 use crate::stops::worked_rows::{DONE_1_17, IN_1_17, IN_3_38, MIGRATED};
 use crate::stops::{BOTH, MOST_CALLS, assert_end};
-use office_migration::migrate;
+use office_loading::migrate;
 use sqlite::types::ValueRef;
 use sqlite::{Alter, Connection, Error, Files};
 use sqlite_disk::Disk;

@@ -1,4 +1,4 @@
-//! A file in memory that reads a crash as it is told to. `Memory` of `sqlite_disk` supposes that a torn write leaves any
+//! A file in memory that reads a crash as it is set to. `Memory` of `sqlite_disk` supposes that a torn write leaves any
 //! bytes, and over it a commit syncs twice. The program supposes that each byte is old or new, and syncs once.
 
 ghost use Rattle.std.specs.Prelude.{◌≡◌, ◌⊎◌, [], length, true, false, refl, is_ok, IsTrue, OnOk, OnErr};

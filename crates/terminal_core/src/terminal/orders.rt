@@ -15,7 +15,7 @@ use crate::terminal::Terminal;
 use crate::visits::{Way, opened_visit, visit_closed};
 use box6346::{BoxNumber, Slot};
 use edi_messages::{Call, Entry, Order};
-use edi_moments::Moment;
+use edi_syntax::Moment;
 use std::alloc::{AllocError, Global};
 
 impl Terminal {

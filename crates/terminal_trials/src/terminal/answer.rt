@@ -4,11 +4,11 @@ use terminal_core::{Outcome, Reason};
 
 /// What a terminal answers.
 pub(super) enum Answer {
-    /// The container stands in the slot of this name.
+    /// The container is in the slot of this name.
     Done(&'static str),
     Gone,
     Listed,
-    /// The container of this number stands above it.
+    /// The container of this number is above it.
     Buried(&'static str),
     Refused(Reason),
 }

@@ -9,9 +9,6 @@ pub(super) enum Ask {
     Comes,
     /// It comes into the slot of this name.
     ComesTo(&'static str),
-    ComesEmpty,
-    /// It comes empty into the slot of this name.
-    ComesEmptyTo(&'static str),
     Goes,
     /// It moves to the slot of this name.
     Moves(&'static str),
@@ -19,8 +16,6 @@ pub(super) enum Ask {
     ListsToDischarge,
     Loads,
     Discharges,
-    /// It is discharged into the slot of this name.
-    DischargesTo(&'static str),
 }
 
 impl Ask {
@@ -32,34 +27,25 @@ impl Ask {
         text: &str,
     ) -> Result<Order, AllocError> {
         match self {
-            Ask::Comes => comes(rt, alloc, text, true),
-            Ask::ComesTo(name) => comes_to(rt, alloc, text, true, name),
-            Ask::ComesEmpty => comes(rt, alloc, text, false),
-            Ask::ComesEmptyTo(name) => comes_to(rt, alloc, text, false, name),
+            Ask::Comes => comes(rt, alloc, text, None),
+            Ask::ComesTo(name) => comes(rt, alloc, text, Some(slot(rt, name))),
             Ask::Goes => Ok(goes(rt, text)),
             Ask::Moves(name) => Ok(moves(rt, text, name)),
             Ask::ListsToLoad => lists_to_load(rt, alloc, text),
             Ask::ListsToDischarge => lists_to_discharge(rt, alloc, text),
             Ask::Loads => loads(rt, alloc, text),
-            Ask::Discharges => discharges(rt, alloc, text, None),
-            Ask::DischargesTo(name) => discharges(rt, alloc, text, Some(slot(rt, name))),
+            Ask::Discharges => discharges(rt, alloc, text),
         }
     }
 }
 
-fn comes(rt: &impl Abort, alloc: Global, text: &str, is_laden: bool) -> Result<Order, AllocError> {
-    let entry = entry(rt, alloc, text, is_laden, None)?;
-    Ok(Order::GateIn(entry))
-}
-
-fn comes_to(
+fn comes(
     rt: &impl Abort,
     alloc: Global,
     text: &str,
-    is_laden: bool,
-    name: &str,
+    slot: Option<Slot>,
 ) -> Result<Order, AllocError> {
-    let entry = entry(rt, alloc, text, is_laden, Some(slot(rt, name)))?;
+    let entry = entry(rt, alloc, text, slot)?;
     Ok(Order::GateIn(entry))
 }
 
@@ -104,13 +90,8 @@ fn loads(rt: &impl Abort, alloc: Global, text: &str) -> Result<Order, AllocError
     })
 }
 
-fn discharges(
-    rt: &impl Abort,
-    alloc: Global,
-    text: &str,
-    slot: Option<Slot>,
-) -> Result<Order, AllocError> {
+fn discharges(rt: &impl Abort, alloc: Global, text: &str) -> Result<Order, AllocError> {
     let call = call(alloc)?;
-    let entry = entry(rt, alloc, text, true, slot)?;
+    let entry = entry(rt, alloc, text, None)?;
     Ok(Order::Discharge { call, entry })
 }

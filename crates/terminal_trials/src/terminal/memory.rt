@@ -35,22 +35,6 @@ const ORDERS: [Row; 8] = [
     (QUAY, FIRST, Ask::Discharges, Answer::Done("A001011"), 12),
 ];
 
-/// What is made, once more where memory is refused.
-fn again<T: Drop, F: Fn() -> Result<T, AllocError>>(
-    refused: &mut bool,
-    make: F,
-) -> Result<T, AllocError>
-    requires { F.IsAlwaysCallable make }
-{
-    match make() {
-        Ok(made) => Ok(made),
-        Err(AllocError) => {
-            *refused = true;
-            make()
-        }
-    }
-}
-
 /// What shows of a terminal and the changes so far.
 #[derive(PartialEq, Debug, Drop)]
 struct Shown {
@@ -75,10 +59,9 @@ struct Trial {
 }
 
 impl Trial {
-    fn new(rt: &impl Abort, alloc: Global) -> Result<Trial, AllocError> {
-        let mut refused = false;
-        let terminal = again(&mut refused, || empty_terminal(rt, alloc, 1_000))?;
-        let call = again(&mut refused, || call(alloc))?;
+    fn start(rt: &impl Abort, alloc: Global, refused: bool) -> Result<Trial, AllocError> {
+        let terminal = empty_terminal(rt, alloc, 1_000)?;
+        let call = call(alloc)?;
         Ok(Trial {
             terminal,
             call,
@@ -87,15 +70,41 @@ impl Trial {
         })
     }
 
+    /// Started once more where memory is refused.
+    fn new(rt: &impl Abort, alloc: Global) -> Result<Trial, AllocError> {
+        match Trial::start(rt, alloc, false) {
+            Ok(trial) => Ok(trial),
+            Err(AllocError) => Trial::start(rt, alloc, true),
+        }
+    }
+
+    /// The order for the container of this number, made once more where memory is refused.
+    fn order(
+        &mut self,
+        rt: &impl Abort,
+        alloc: Global,
+        ask: &Ask,
+        text: &str,
+    ) -> Result<Order, AllocError> {
+        match ask.order(rt, alloc, text) {
+            Ok(order) => Ok(order),
+            Err(AllocError) => {
+                self.refused = true;
+                ask.order(rt, alloc, text)
+            }
+        }
+    }
+
     fn shown(&self, rt: &impl Abort) -> Shown {
         let visits = self.terminal.visits();
         let first = number(rt, FIRST);
         let second = number(rt, SECOND);
         Shown {
             visits: visits.len(),
-            last: visits
-                .last()
-                .map(|visit| (visit.number, visit.departure.is_some())),
+            last: match visits.last() {
+                Some(visit) => Some((visit.number, visit.departure.is_some())),
+                None => None,
+            },
             first: self.terminal.slot_of(first),
             second: self.terminal.slot_of(second),
             to_load: self.terminal.line_state(&self.call, Side::Load, second),
@@ -146,7 +155,7 @@ impl Trial {
     fn takes(&mut self, rt: &impl Abort, alloc: Global, rows: &[Row]) -> Result<(), AllocError> {
         for row in rows {
             let (partner, text, ask, answer, changes) = row;
-            let order = again(&mut self.refused, || ask.order(rt, alloc, text))?;
+            let order = self.order(rt, alloc, ask, text)?;
             self.assert_taken(rt, alloc, *partner, &order, answer, *changes)?;
         }
         Ok(())
@@ -162,17 +171,14 @@ impl Trial {
 
     /// The second container goes onto a vessel, and not twice.
     fn loads_once(&mut self, rt: &impl Abort, alloc: Global) -> Result<(), AllocError> {
-        let goes = again(&mut self.refused, || Ask::Loads.order(rt, alloc, SECOND))?;
+        let goes = self.order(rt, alloc, &Ask::Loads, SECOND)?;
         self.assert_taken(rt, alloc, QUAY, &goes, &Answer::Gone, 15)?;
         self.assert_taken(rt, alloc, QUAY, &goes, &Answer::Refused(Reason::NotIn), 15)
     }
 
     /// The first container is listed to be loaded, and its line is dropped, once.
     fn drops_once(&mut self, rt: &impl Abort, alloc: Global) -> Result<(), AllocError> {
-        let listed = again(
-            &mut self.refused,
-            || Ask::ListsToLoad.order(rt, alloc, FIRST),
-        )?;
+        let listed = self.order(rt, alloc, &Ask::ListsToLoad, FIRST)?;
         self.assert_taken(rt, alloc, QUAY, &listed, &Answer::Listed, 16)?;
         self.assert_dropped(rt, alloc, 1, 17)?;
         self.assert_dropped(rt, alloc, 0, 17)
@@ -237,7 +243,7 @@ fn refused_orders_are_taken_once_more(rt: HostRuntime) -> Result<(), Fail> {
     Ok(())
 }
 
-/// This one fails where an allocation is refused, and so tells when there is none left to refuse.
+/// This one fails where an allocation is refused, and so shows when there is none left to refuse.
 #[test]
 fn no_memory_is_refused(rt: HostRuntime) -> Result<(), Fail> {
     assert!(rt; !takes_every_kind(&rt, rt.alloc())?);

@@ -15,12 +15,7 @@ const BY_GATE: Source = Source {
     number: 1,
 };
 
-pub(super) fn open(
-    rt: &impl Abort,
-    alloc: Global,
-    visit: u32,
-    text: &str,
-) -> Result<Visit, AllocError> {
+fn open(rt: &impl Abort, alloc: Global, visit: u32, text: &str) -> Result<Visit, AllocError> {
     let booking = String::from_str(alloc, "A+B")?;
     Ok(Visit {
         number: visit,
@@ -39,12 +34,7 @@ pub(super) fn open(
     })
 }
 
-pub(super) fn closed(
-    rt: &impl Abort,
-    alloc: Global,
-    visit: u32,
-    text: &str,
-) -> Result<Visit, AllocError> {
+fn closed(rt: &impl Abort, alloc: Global, visit: u32, text: &str) -> Result<Visit, AllocError> {
     let mut visit = open(rt, alloc, visit, text)?;
     visit.departure = Some(Departure {
         way: Way::Gate,
@@ -54,7 +44,7 @@ pub(super) fn closed(
     Ok(visit)
 }
 
-pub(super) fn place(rt: &impl Abort, text: &str, visit: u32, name: &str) -> Place {
+fn place(rt: &impl Abort, text: &str, visit: u32, name: &str) -> Place {
     Place {
         container: number(rt, text),
         visit,
@@ -80,7 +70,7 @@ fn line(
     })
 }
 
-pub(super) fn restored(
+fn restored(
     rt: &impl Abort,
     alloc: Global,
     limit: u32,
@@ -129,7 +119,7 @@ fn whole_terminal(rt: &impl Abort, alloc: Global) -> Result<Terminal, Fail> {
     Ok(restored(rt, alloc, 3, visits, places, lines).expect(rt, "a state"))
 }
 
-/// The first container stands below the second, and the lines are as far as their rows say.
+/// The first container is below the second, and the lines are as far as their rows say.
 fn assert_whole(rt: &impl Abort, terminal: &Terminal, call: &Call) {
     let first = number(rt, FIRST);
     let second = number(rt, SECOND);
@@ -217,7 +207,7 @@ fn no_other_place_is_taken_for_an_open_visit(rt: HostRuntime) -> Result<(), Fail
     Ok(())
 }
 
-/// The answer on visits where the first container stands, with the first visit.
+/// The answer on visits with the first container in the yard, in the first visit.
 fn assert_visits_fault(
     rt: &impl Abort,
     alloc: Global,
@@ -264,7 +254,7 @@ fn no_container_has_two_open_visits(rt: HostRuntime) -> Result<(), Fail> {
     assert_visits_fault(&rt, alloc, 2, visits, Some(RestoreFault::Unsound))
 }
 
-/// Three lines, of which the last stands already.
+/// Three lines, of which the last is there already.
 fn three_lines(rt: &impl Abort, alloc: Global) -> Result<Vec<Listing>, AllocError> {
     let lines = vec![in alloc;
         line(rt, alloc, Side::Load, FIRST, LineState::Pending)?,
@@ -280,5 +270,40 @@ fn no_line_is_given_twice(rt: HostRuntime) -> Result<(), Fail> {
     let lines = three_lines(&rt, alloc)?;
     let terminal = restored(&rt, alloc, 3, Vec::new(alloc), Vec::new(alloc), lines);
     assert!(rt; terminal.err() == Some(RestoreFault::Unsound));
+    Ok(())
+}
+
+/// The terminal where the first container is in the yard by its first visit, after which another is over.
+fn with_one_over(
+    rt: &impl Abort,
+    alloc: Global,
+    number: u32,
+    text: &str,
+) -> Result<Terminal, AllocError> {
+    let visits = vec![in alloc;
+        open(rt, alloc, 1, FIRST)?,
+        closed(rt, alloc, number, text)?,
+    ]?;
+    let places = vec![in alloc; place(rt, FIRST, 1, "A001011")]?;
+    let terminal = restored(rt, alloc, 5, visits, places, Vec::new(alloc));
+    Ok(terminal.expect(rt, "a state"))
+}
+
+/// The number of the container's last visit.
+fn last(rt: &impl Abort, terminal: &Terminal, text: &str) -> Option<u32> {
+    match terminal.last_visit(number(rt, text)) {
+        Some(visit) => Some(visit.number),
+        None => None,
+    }
+}
+
+/// Rows that no orders leave.
+#[test]
+fn the_last_visit_need_not_be_the_open_one(rt: HostRuntime) -> Result<(), Fail> {
+    let terminal = with_one_over(&rt, rt.alloc(), 2, FIRST)?;
+    let open = terminal.open_visit(number(&rt, FIRST));
+    assert!(&rt; matches!(open, Some(visit) if visit.number == 1));
+    assert!(&rt; last(&rt, &terminal, FIRST) == Some(2));
+    assert!(&rt; last(&rt, &terminal, SECOND).is_none());
     Ok(())
 }

@@ -1,8 +1,8 @@
 -- Where no message is left, no verdict is written.
 use Rattle.std.proofs.Common.{◌≡◌, List, [], ◌∷◌, map, refl, sym, ap, ◌∙◌, drop}
 use Rattle.std.specs.Prelude.{zip}
-use Rattle.edi_segments.specs.Text.{Content}
-use Rattle.edi_segments.specs.Written.{with_segments}
+use Rattle.edi_syntax.specs.Text.{Content}
+use Rattle.edi_syntax.specs.Written.{with_segments}
 use Rattle.edi_syntax.specs.Messages.{Message}
 use Rattle.edi_syntax.specs.Frames.{messages_left}
 use Rattle.edi_messages.specs.Contrl.{ucm}

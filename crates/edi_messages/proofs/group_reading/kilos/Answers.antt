@@ -1,7 +1,7 @@
 -- Six digits fit.
 use Rattle.std.proofs.Common.{sym, ◌∙◌, arith}
-use Rattle.edi_segments.specs.Segment.{value}
-use Rattle.edi_messages.proofs.Weights.{number_short}
+use Rattle.edi_syntax.specs.Segment.{value}
+use Rattle.edi_messages.proofs.SameSegments.{number_short}
 use Rattle.edi_messages.proofs.group_reading.kilos.Goals as goal
 
 pub overflow_cast-result : goal.overflow_cast-result

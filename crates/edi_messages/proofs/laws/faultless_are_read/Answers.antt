@@ -1,5 +1,5 @@
 use Rattle.std.proofs.Common.{refl}
-use Rattle.edi_messages.proofs.PurposeLemmas.{purpose_there}
+use Rattle.edi_messages.proofs.SurveyLemmas.{purpose_there}
 use Rattle.edi_messages.proofs.laws.faultless_are_read.Goals as goal
 
 pub returns : goal.returns

@@ -1,7 +1,7 @@
 -- One segment more of the message.
 use Rattle.std.proofs.Common.{◌≡◌, ◌&&◌, ◌+◌, ◌≤◌, not, ap, ◌∙◌, refl, arith, codes, length}
-use Rattle.edi_segments.specs.Text.{has_tag}
-use Rattle.edi_segments.specs.Segment.{content, segments_left}
+use Rattle.edi_syntax.specs.Text.{has_tag}
+use Rattle.edi_syntax.specs.Segment.{content, segments_left}
 use Rattle.edi_syntax.specs.Frames.{message, message_segments_left}
 use Rattle.edi_messages.specs.Faults.{is_container}
 use Rattle.edi_messages.specs.Parts.{is_equipment, is_qualified}

@@ -1,7 +1,7 @@
 use Rattle.std.proofs.Common.{◌≡◌, ◌+◌, ◌≤◌, length, count_by, codes}
 use Rattle.std.specs.Option.{option_map}
-use Rattle.edi_segments.specs.Text.{has_tag}
-use Rattle.edi_segments.specs.Segment.{content}
+use Rattle.edi_syntax.specs.Text.{has_tag}
+use Rattle.edi_syntax.specs.Segment.{content}
 use Rattle.edi_syntax.specs.Frames.{message, message_segments_left}
 use Rattle.edi_messages.specs.Faults.{beginning, transport, control, is_container}
 use Rattle.edi_messages.specs.Parts.{is_equipment, is_qualified}

@@ -1,7 +1,7 @@
 use Rattle.std.proofs.Common.{◌≡◌, ◌++◌, IsTrue, string_bytes}
 use Rattle.std.specs.List.{list_all}
-use Rattle.edi_segments.specs.Segment.{value, bytes_left}
-use Rattle.edi_segments.specs.Characters.{is_printable}
+use Rattle.edi_syntax.specs.Segment.{value, bytes_left}
+use Rattle.edi_syntax.specs.Characters.{is_printable}
 use Rattle.edi_messages.proofs.part.own_text_by_bytes.Given as goal
 
 abbrev pub invariant-loop-byte : goal.invariant-loop-byte

@@ -3,7 +3,7 @@ use Rattle.std.proofs.Common.{◌≡◌, ℕ, List, ◌∷◌, [], true, false, 
 use Rattle.std.specs.List.{list_all}
 use Rattle.std.specs.Str.{bytes_eq}
 use Rattle.std.proofs.lemmas.Bool.{not-true, not-false}
-use Rattle.edi_segments.specs.Segment.{content, segments_left}
+use Rattle.edi_syntax.specs.Segment.{content, segments_left}
 use Rattle.edi_syntax.specs.Header.{test_indicator}
 use Rattle.edi_syntax.specs.Messages.{are_messages, messages_in, is_counted, is_referenced}
 use Rattle.edi_syntax.proofs.TallyLemmas.{tally_none, tally_some}

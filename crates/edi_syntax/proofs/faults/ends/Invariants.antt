@@ -1,6 +1,6 @@
 use Rattle.std.proofs.Common.{◌≡◌, ◌∷◌, ◌||◌}
 use Rattle.std.specs.List.{list_any}
-use Rattle.edi_segments.specs.Segment.{content, segments_left}
+use Rattle.edi_syntax.specs.Segment.{content, segments_left}
 use Rattle.edi_syntax.specs.Envelope.{last_of, is_of_functional_group}
 use Rattle.edi_syntax.proofs.faults.ends.Given as goal
 

@@ -3,8 +3,8 @@ use Rattle.std.proofs.Common.{◌||◌, ◌&&◌, Bool, List, length, sym, ap, �
 use Rattle.std.specs.List.{list_all, list_any}
 use Rattle.std.proofs.lemmas.Bool.{eqb-true}
 use Rattle.std.proofs.lemmas.List.{nil_from_length}
-use Rattle.edi_segments.specs.Segment.{content}
-use Rattle.edi_segments.specs.Checks.{checked_left}
+use Rattle.edi_syntax.specs.Segment.{content}
+use Rattle.edi_syntax.specs.Checks.{checked_left}
 use Rattle.edi_syntax.specs.Messages.{Message, is_counted, is_referenced}
 use Rattle.edi_syntax.specs.Envelope.{is_of_functional_group}
 use Rattle.edi_syntax.proofs.TallyLemmas.{at_end, and_true, or_false}

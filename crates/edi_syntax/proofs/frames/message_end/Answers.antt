@@ -1,8 +1,8 @@
 -- One segment more, which is the trailer or stands before it.
 use Rattle.std.proofs.Common.{◌≡◌, ◌||◌, Bool, length, sym, ap, ◌∙◌, refl, arith, true}
 use Rattle.std.specs.List.{list_any}
-use Rattle.edi_segments.specs.Segment.{content}
-use Rattle.edi_segments.specs.Checks.{checked_left}
+use Rattle.edi_syntax.specs.Segment.{content}
+use Rattle.edi_syntax.specs.Checks.{checked_left}
 use Rattle.edi_syntax.specs.Messages.{ends_message, is_inner}
 use Rattle.edi_syntax.specs.Envelope.{is_of_functional_group}
 use Rattle.edi_syntax.proofs.TallyLemmas.{at_trailer, within}

@@ -1,6 +1,6 @@
 -- The bytes of the arrays, one by one.
 use Rattle.std.proofs.Common.{◌≡◌, ℕ, List, [], ◌∷◌, ◌++◌, length, get_or, refl, ap, ◌∙◌, arith}
-use Rattle.edi_moments.specs.Moments.{moment_of}
+use Rattle.edi_syntax.specs.Moments.{moment_of}
 use Rattle.edi_syntax.proofs.head.moment_in_century.Goals as goal
 
 abbrev first_four : List ℕ → List ℕ

@@ -1,10 +1,10 @@
 -- Six and four digits, or no moment.
 use Rattle.std.proofs.Common.{◌≡◌, ◌++◌, ◌&&◌, ℕ, List, Bool, true, false, None, cond, codes, length, nat_eq, sym, ap, ◌∙◌, refl}
 use Rattle.std.proofs.lemmas.Bool.{and_left, and_right, and_from}
-use Rattle.edi_moments.specs.Moments.{moment_of}
-use Rattle.edi_segments.specs.Segment.{content, value_of_length}
+use Rattle.edi_syntax.specs.Moments.{moment_of}
+use Rattle.edi_syntax.specs.Segment.{content, value_of_length}
 use Rattle.edi_syntax.specs.Header.{preparation_date, preparation_time}
-use Rattle.edi_syntax.proofs.FaultLemmas.{no_array, array_is}
+use Rattle.edi_syntax.proofs.BlockLemmas.{no_array, array_is}
 use Rattle.edi_syntax.proofs.head.preparation.Goals as goal
 
 pub returns-in_err-date : goal.returns-in_err-date

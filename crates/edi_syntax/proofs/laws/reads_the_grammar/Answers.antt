@@ -1,4 +1,4 @@
-use Rattle.edi_segments.proofs.AdviceLemmas.{interchange_sound, interchange_complete}
+use Rattle.edi_syntax.proofs.AdviceLemmas.{interchange_sound, interchange_complete}
 use Rattle.edi_syntax.proofs.laws.reads_the_grammar.Goals as goal
 
 pub returns : goal.returns

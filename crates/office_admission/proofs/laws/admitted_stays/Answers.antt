@@ -1,4 +1,4 @@
-use Rattle.office_admission.proofs.Growing.{admitted_still}
+use Rattle.office_admission.proofs.Adding.{admitted_still}
 use Rattle.office_admission.proofs.laws.admitted_stays.Goals as goal
 
 pub returns : goal.returns

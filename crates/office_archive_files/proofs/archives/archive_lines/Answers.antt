@@ -1,7 +1,7 @@
 use Rattle.std.proofs.Common.{◌≡◌, ◌+◌, ◌<◌, ◌∷◌, length, drop, map, get_or, string_bytes, rules, sym, ap, subst, ◌∙◌}
 use Rattle.std.proofs.lemmas.List.{drop_more}
-use Rattle.office_register.specs.Register.{archive_content}
-use Rattle.office_setup.specs.Setups.{setup_content}
+use Rattle.office_closing.specs.Register.{archive_content}
+use Rattle.office_admission.specs.Setups.{setup_content}
 use Rattle.office_archive_files.specs.Listing.{FollowIn}
 use Rattle.office_archive_files.proofs.archives.archive_lines.Goals as goal
 

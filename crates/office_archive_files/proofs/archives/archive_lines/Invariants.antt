@@ -1,7 +1,7 @@
 use Rattle.std.proofs.Common.{ℕ, List, [], drop, map}
 use Rattle.std.specs.Prelude.{string_bytes}
-use Rattle.office_register.specs.Register.{archive_content}
-use Rattle.office_setup.specs.Setups.{setup_content}
+use Rattle.office_closing.specs.Register.{archive_content}
+use Rattle.office_admission.specs.Setups.{setup_content}
 use Rattle.office_archive_files.specs.Listing.{FollowIn}
 use Rattle.office_archive_files.proofs.archives.archive_lines.Given as goal
 

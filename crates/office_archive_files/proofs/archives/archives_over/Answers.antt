@@ -1,8 +1,8 @@
 use Rattle.std.proofs.Common.{◌≡◌, ℕ, List, length, map, rules, string_bytes, sym, subst, ◌∙◌}
 use Rattle.std.proofs.lemmas.List.{length-map}
 use Rattle.office_commands.specs.Ending.{Prints}
-use Rattle.office_register.specs.Register.{archive_content, register_content}
-use Rattle.office_setup.specs.Setups.{setup_content}
+use Rattle.office_closing.specs.Register.{archive_content, register_content}
+use Rattle.office_admission.specs.Setups.{setup_content}
 use Rattle.office_archive_files.specs.Listing.{listing_status, listing_text}
 use Rattle.office_archive_files.proofs.archives.archives_over.Goals as goal
 

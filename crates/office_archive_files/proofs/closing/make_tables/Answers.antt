@@ -3,7 +3,7 @@ use Rattle.sqlite.specs.Effect.{Database}
 use Rattle.sqlite.specs.Held.{state}
 use Rattle.sqlite.specs.State.{HasCleanDisk}
 use Rattle.office_tables.specs.Opened.{AreMissing}
-use Rattle.office_register.specs.Tables.{register_tables}
+use Rattle.office_closing.specs.Tables.{register_tables}
 use Rattle.office_archive_files.proofs.closing.make_tables.Goals as goal
 
 -- It was only read: it has tables.

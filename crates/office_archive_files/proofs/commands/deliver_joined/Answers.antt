@@ -1,4 +1,4 @@
-use Rattle.office_stream.proofs.StreamLemmas.{streams_as}
+use Rattle.office_replies.proofs.StreamLemmas.{streams_as}
 use Rattle.office_archive_files.specs.Delivering.{Leads}
 use Rattle.office_archive_files.proofs.Alike.{inner_leads}
 use Rattle.office_archive_files.proofs.DeliverLemmas.{delivered_beside}

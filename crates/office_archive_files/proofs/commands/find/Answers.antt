@@ -1,8 +1,8 @@
 use Rattle.std.proofs.Common.{◌≡◌, inr, Some, Result, Ok, Err, IfOk, option_map, sym, ap, ◌∙◌}
 use Rattle.std.proofs.lemmas.Result.{IfOk-weaker}
-use Rattle.office_queries.specs.Keys.{query_content, query_of}
+use Rattle.office_reports.specs.Keys.{query_content, query_of}
 use Rattle.office_desk.proofs.LookLemmas.{looks_nowhere}
-use Rattle.office_archives.proofs.Looking.{looks_on}
+use Rattle.office_archives.proofs.Together.{looks_on}
 use Rattle.office_archive_files.proofs.commands.find.Goals as goal
 
 -- what is supposed before the answer is known may be supposed after it

@@ -1,5 +1,5 @@
 use Rattle.std.proofs.Common.{◌≡◌, map, take}
-use Rattle.office_register.specs.Register.{archive_content}
+use Rattle.office_closing.specs.Register.{archive_content}
 use Rattle.office_archive_files.proofs.is_archive.are_first_archives.Given as goal
 
 abbrev pub invariant-loop-index : goal.invariant-loop-index

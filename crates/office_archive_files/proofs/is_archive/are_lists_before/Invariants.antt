@@ -1,5 +1,5 @@
 use Rattle.std.proofs.Common.{◌≡◌, ◌≤◌, filter, length, map, nat_lt, take}
-use Rattle.office_register.specs.Lists.{SettledListContent, list_content}
+use Rattle.office_closing.specs.Lists.{SettledListContent, list_content}
 use Rattle.office_archive_files.proofs.is_archive.are_lists_before.Given as goal
 
 abbrev pub invariant-loop-other : goal.invariant-loop-other

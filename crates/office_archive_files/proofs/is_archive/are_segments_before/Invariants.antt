@@ -1,5 +1,5 @@
 use Rattle.std.proofs.Common.{◌≡◌, filter, nat_lt, take}
-use Rattle.office_register.specs.declared.register.Segment.{Segment}
+use Rattle.office_closing.specs.declared.register.Segment.{Segment}
 use Rattle.office_archive_files.proofs.is_archive.are_segments_before.Given as goal
 
 abbrev pub invariant-loop-index : goal.invariant-loop-index

@@ -1,7 +1,7 @@
 use Rattle.std.proofs.Common.{refl, sym, ap, subst, ◌∙◌}
-use Rattle.office_checks.specs.Closed.{closed_content}
+use Rattle.office_loading.specs.Closed.{closed_content}
 use Rattle.office_desk.specs.declared.desk.Desk.{Desk}
-use Rattle.office_register.specs.Register.{register_content}
+use Rattle.office_closing.specs.Register.{register_content}
 use Rattle.office_archive_files.specs.Opening.{IsOpenedOver}
 use Rattle.office_archive_files.proofs.opening.join.Goals as goal
 

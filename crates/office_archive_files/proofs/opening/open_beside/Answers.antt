@@ -1,8 +1,8 @@
 use Rattle.std.proofs.Common.{string_bytes, sym, ap, ◌∙◌}
 use Rattle.std.specs.Option.{option_map}
 use Rattle.std.proofs.lemmas.Result.{IfOk-weaker}
-use Rattle.partner_core.proofs.Firsts.{none_of}
-use Rattle.office_register.specs.Register.{RegisterContent}
+use Rattle.partner_core.proofs.Orders.{none_of}
+use Rattle.office_closing.specs.Register.{RegisterContent}
 use Rattle.office_archive_files.proofs.OpenLemmas.{opens_on}
 use Rattle.office_archive_files.proofs.opening.open_beside.Goals as goal
 

@@ -1,15 +1,15 @@
 use Rattle.std.proofs.Common.{◌≡◌, None, not, refl, sym, ap, subst, ◌∙◌, IsTrue}
 use Rattle.sqlite.specs.Held.{state}
 use Rattle.sqlite.specs.State.{HasCleanDisk, IsUnchanged}
-use Rattle.office_checks.specs.Closed.{closed_content}
+use Rattle.office_loading.specs.Closed.{closed_content}
 use Rattle.office_rows.specs.Stored.{HasRows}
 use Rattle.office_rows.specs.Tables.{office_schema}
-use Rattle.office_setup.specs.Setups.{setup_content}
+use Rattle.office_admission.specs.Setups.{setup_content}
 use Rattle.office_loading.specs.Tables.{LoadsOwn}
-use Rattle.office_tables.proofs.ReadingLemmas.{clean_first}
+use Rattle.office_tables.proofs.MadeLemmas.{clean_first}
 use Rattle.office_desk.specs.Beside.{IsOrNone}
 use Rattle.office_desk.specs.Offices.{HoldsOffice}
-use Rattle.office_desk.proofs.OfficeLemmas.{office_with}
+use Rattle.office_desk.proofs.DeliverLemmas.{office_with}
 use Rattle.office_archive_files.proofs.opening.open_desk.Goals as goal
 
 -- The desk is the one that an opening makes of what was loaded.

@@ -1,5 +1,5 @@
 use Rattle.std.proofs.Common.{ap, ◌∙◌}
-use Rattle.office_checks.specs.Closed.{closed_content}
+use Rattle.office_loading.specs.Closed.{closed_content}
 use Rattle.office_archive_files.proofs.OpenLemmas.{opens_on}
 use Rattle.office_archive_files.proofs.opening.open_shelf.Goals as goal
 

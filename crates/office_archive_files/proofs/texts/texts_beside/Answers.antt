@@ -1,4 +1,4 @@
-use Rattle.office_register.specs.Register.{register_content}
+use Rattle.office_closing.specs.Register.{register_content}
 use Rattle.office_archive_files.proofs.texts.texts_beside.Goals as goal
 
 pub returns-clause-printed : goal.returns-clause-printed

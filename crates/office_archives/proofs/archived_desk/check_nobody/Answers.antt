@@ -1,5 +1,5 @@
 use Rattle.std.proofs.Common.{option_map, string_bytes, subst}
-use Rattle.office_queries.specs.declared.query.Query.TheVariants as query
+use Rattle.office_reports.specs.declared.query.Query.TheVariants as query
 use Rattle.office_desk.specs.Reports.{DeskTells}
 use Rattle.office_desk.proofs.LookLemmas.{looks_nowhere}
 use Rattle.office_archives.proofs.Beside.{nobody_has}

@@ -5,7 +5,7 @@ use Rattle.partner_core.specs.Standings.{is_same_text}
 use Rattle.office_desk.specs.Answers.{answer_by_model}
 use Rattle.office_tables.specs.declared.interchanges.Kept.{Kept}
 use Rattle.office_desk.proofs.DeliverLemmas.{is_now}
-use Rattle.office_archives.proofs.Telling.{clash_answers, repeat_answers, same_text, other_text}
+use Rattle.office_archives.proofs.Filled.{clash_answers, repeat_answers, same_text, other_text}
 use Rattle.office_archives.proofs.archives.answer_closed.Goals as goal
 
 pub returns-then-ne-clause-answers : goal.returns-then-ne-clause-answers

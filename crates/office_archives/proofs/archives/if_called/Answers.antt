@@ -1,6 +1,6 @@
 use Rattle.std.proofs.Common.{sym, ◌∙◌}
 use Rattle.std.specs.Cmp.Lexicographic.{bytes_decides}
-use Rattle.office_archives.proofs.Looking.{called_by_code}
+use Rattle.office_archives.proofs.Together.{called_by_code}
 use Rattle.office_archives.proofs.archives.if_called.Goals as goal
 
 pub returns-then-eq : goal.returns-then-eq

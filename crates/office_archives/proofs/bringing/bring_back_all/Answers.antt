@@ -2,7 +2,7 @@ use Rattle.std.proofs.Common.{Ok, Err, [], ◌∷◌, map, take, sym, subst, ref
 use Rattle.std.proofs.lemmas.Result.{err_from_is_err_and}
 use Rattle.office_tables.proofs.WritesLemmas.{taken_more}
 use Rattle.office_desk.proofs.LookLemmas.{looks_nowhere}
-use Rattle.office_lists.specs.Named.{named_list_content}
+use Rattle.office_parts.specs.Named.{named_list_content}
 use Rattle.office_archives.specs.Bringing.{BringsTogether}
 use Rattle.office_archives.proofs.Brought.{brings_failed, brings_more, brings_nothing}
 use Rattle.office_archives.proofs.bringing.bring_back_all.Goals as goal

@@ -1,6 +1,6 @@
 use Rattle.std.proofs.Common.{Ok, map, take}
 use Rattle.office_archives.specs.Bringing.{BringsTogether}
-use Rattle.office_lists.specs.Named.{named_list_content}
+use Rattle.office_parts.specs.Named.{named_list_content}
 use Rattle.office_archives.proofs.bringing.bring_back_all.Given as goal
 
 abbrev pub invariant-loop-list : goal.invariant-loop-list

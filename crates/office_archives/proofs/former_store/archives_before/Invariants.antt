@@ -1,5 +1,5 @@
 use Rattle.std.proofs.Common.{◌≡◌, ◌++◌, nat_lt, filter, map, drop}
-use Rattle.office_register.specs.Register.{ArchiveContent, archive_content}
+use Rattle.office_closing.specs.Register.{ArchiveContent, archive_content}
 use Rattle.office_archives.proofs.former_store.archives_before.Given as goal
 
 abbrev pub invariant-loop-archive : goal.invariant-loop-archive

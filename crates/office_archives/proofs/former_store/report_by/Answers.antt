@@ -1,10 +1,10 @@
 use Rattle.std.proofs.Common.{sym, subst}
 use Rattle.sqlite.specs.Held.{state}
 use Rattle.office_rows.specs.Stored.{HasRows}
-use Rattle.office_rows.proofs.StepLemmas.{if_ok}
-use Rattle.office_checks.specs.Closed.{closed_content}
-use Rattle.office_setup.specs.Setups.{setup_content}
-use Rattle.office_delivery.proofs.ReadLemmas.{one_read, only_then, was_clean}
+use Rattle.office_rows.proofs.Creating.{if_ok}
+use Rattle.office_loading.specs.Closed.{closed_content}
+use Rattle.office_admission.specs.Setups.{setup_content}
+use Rattle.office_tables.proofs.WriteLemmas.{one_read, only_then, was_clean}
 use Rattle.office_archives.proofs.former_store.report_by.Goals as goal
 
 -- It is reported by what was loaded.

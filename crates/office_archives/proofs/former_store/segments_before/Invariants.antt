@@ -1,5 +1,5 @@
 use Rattle.std.proofs.Common.{◌≡◌, ◌++◌, nat_lt, filter, drop}
-use Rattle.office_register.specs.declared.register.Segment.{Segment}
+use Rattle.office_closing.specs.declared.register.Segment.{Segment}
 use Rattle.office_archives.proofs.former_store.segments_before.Given as goal
 
 abbrev pub invariant-loop-segment : goal.invariant-loop-segment

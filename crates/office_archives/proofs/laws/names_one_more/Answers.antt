@@ -1,4 +1,4 @@
-use Rattle.office_archives.proofs.Naming.{names_one_more}
+use Rattle.office_archives.proofs.Told.{names_one_more}
 use Rattle.office_archives.proofs.laws.names_one_more.Goals as goal
 
 pub returns : goal.returns

@@ -1,4 +1,4 @@
-use Rattle.office_archives.proofs.Opening.{opened_beside}
+use Rattle.office_archives.proofs.Filled.{opened_beside}
 use Rattle.office_archives.proofs.laws.opened_stand_beside.Goals as goal
 
 pub returns : goal.returns

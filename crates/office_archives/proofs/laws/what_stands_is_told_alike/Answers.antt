@@ -1,4 +1,4 @@
-use Rattle.office_archives.proofs.Reporting.{told_alike}
+use Rattle.office_archives.proofs.Rising.{told_alike}
 use Rattle.office_archives.proofs.laws.what_stands_is_told_alike.Goals as goal
 
 pub returns : goal.returns

@@ -5,7 +5,7 @@ use Rattle.edi_messages.specs.Owned.{call_content}
 use Rattle.office_rows.specs.Rows.{listing_content}
 use Rattle.office_desk.specs.Reports.{DeskTells}
 use Rattle.office_desk.proofs.LookLemmas.{looks_nowhere}
-use Rattle.office_lists.specs.OwnLists.{list_name}
+use Rattle.office_parts.specs.OwnLists.{list_name}
 use Rattle.office_archives.proofs.Brought.{line_gone, never_away, some_there}
 use Rattle.office_archives.proofs.lists_away.lines_if_away.Goals as goal
 

@@ -4,9 +4,9 @@ use Rattle.edi_messages.specs.Purposes.{CallContent}
 use Rattle.edi_messages.specs.declared.call.Call.{Call}
 use Rattle.terminal_core.specs.State.{TerminalState}
 use Rattle.terminal_core.specs.declared.lines.Side.{Side}
-use Rattle.office_lookups.specs.Work.{IsWorkReport}
-use Rattle.office_queries.specs.declared.query.Query.{Query}
-use Rattle.office_queries.specs.declared.query.Query.TheVariants as query
+use Rattle.office_reports.specs.Work.{IsWorkReport}
+use Rattle.office_reports.specs.declared.query.Query.{Query}
+use Rattle.office_reports.specs.declared.query.Query.TheVariants as query
 use Rattle.office_reports.specs.Lists.{IsListReport}
 use Rattle.office_archives.specs.ListsAway.{TellsList}
 use Rattle.office_archives.specs.Telling.{IsOfList}

@@ -5,8 +5,7 @@ use Rattle.office_parts.specs.LeftOver.{rows_without}
 use Rattle.office_closing.specs.Clearing.{IsWithoutSome}
 use Rattle.office_closing.specs.Deleting.{goes}
 use Rattle.office_closing.proofs.ClearLemmas.{clears_none}
-use Rattle.office_closing.proofs.LoopLemmas.{more_cleared, more_failed}
-use Rattle.office_closing.proofs.NumberLemmas.{deleted_none}
+use Rattle.office_closing.proofs.NumberLemmas.{more_cleared, more_failed, deleted_none}
 use Rattle.office_closing.proofs.closing.clear.Goals as goal
 
 pub loop-numbers-init : goal.loop-numbers-init

@@ -4,8 +4,7 @@ use Rattle.office_parts.specs.LeftOver.{rows_without}
 use Rattle.office_closing.specs.Clearing.{IsWithoutSome}
 use Rattle.office_closing.specs.Deleting.{goes}
 use Rattle.office_closing.proofs.ClearLemmas.{clears_none}
-use Rattle.office_closing.proofs.LoopLemmas.{batch_cleared, batch_failed, numbers_cleared}
-use Rattle.office_closing.proofs.NumberLemmas.{numbers_to, deleted_none, goes_none}
+use Rattle.office_closing.proofs.NumberLemmas.{batch_cleared, batch_failed, numbers_cleared, numbers_to, deleted_none, goes_none}
 use Rattle.office_closing.proofs.closing.clear_numbers.Goals as goal
 
 pub loop-from-init : goal.loop-from-init

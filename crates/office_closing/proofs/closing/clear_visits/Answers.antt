@@ -4,8 +4,7 @@ use Rattle.std.proofs.lemmas.Result.{err_from_is_err_and}
 use Rattle.office_closing.specs.Clearing.{IsWithoutSomeVisits}
 use Rattle.office_closing.specs.Deleting.{all_but, without_visits}
 use Rattle.office_closing.proofs.ClearLemmas.{clears_none}
-use Rattle.office_closing.proofs.LoopLemmas.{visits_cleared, visits_failed}
-use Rattle.office_closing.proofs.NumberLemmas.{without_none}
+use Rattle.office_closing.proofs.NumberLemmas.{visits_cleared, visits_failed, without_none}
 use Rattle.office_closing.proofs.closing.clear_visits.Goals as goal
 
 pub loop-rest-init : goal.loop-rest-init

@@ -3,7 +3,7 @@ use Rattle.sqlite.specs.Held.{state}
 use Rattle.sqlite.specs.State.{Executes}
 use Rattle.office_rows.specs.Values.{number_value}
 use Rattle.office_closing.specs.Deleting.{without_interchange}
-use Rattle.office_closing.proofs.DeleteLemmas as lemma
+use Rattle.office_closing.proofs.ClearLemmas as lemma
 use Rattle.office_closing.proofs.closing.delete_interchange.Goals as goal
 
 pub returns-clause-deletes : goal.returns-clause-deletes

@@ -4,10 +4,10 @@ use Rattle.sqlite.specs.Held.{state}
 use Rattle.sqlite.specs.State.{Executes}
 use Rattle.edi_messages.specs.Owned.{call_content}
 use Rattle.terminal_core.specs.State.{side_code}
-use Rattle.office_lists.specs.Bringing.{is_list}
-use Rattle.office_lists.specs.OwnLists.{list_name, rows_without_lists}
+use Rattle.office_parts.specs.Bringing.{is_list}
+use Rattle.office_parts.specs.OwnLists.{list_name, rows_without_lists}
 use Rattle.office_rows.specs.Values.{number_value}
-use Rattle.office_closing.proofs.DeleteLemmas as lemma
+use Rattle.office_closing.proofs.ClearLemmas as lemma
 use Rattle.office_closing.proofs.closing.delete_list.Goals as goal
 
 pub returns-clause-deletes : goal.returns-clause-deletes

@@ -1,6 +1,6 @@
 use Rattle.std.proofs.Common.{inl, inr, refl, rules, arith}
 use Rattle.sqlite.specs.Held.{state}
-use Rattle.office_closing.proofs.LoopLemmas.{no_number_deleted, number_deleted, numbers_deleted}
+use Rattle.office_closing.proofs.NumberLemmas.{no_number_deleted, number_deleted, numbers_deleted}
 use Rattle.office_closing.proofs.closing.delete_numbers.Goals as goal
 
 pub loop-number-init : goal.loop-number-init

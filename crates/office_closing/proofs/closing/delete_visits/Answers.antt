@@ -3,8 +3,7 @@ use Rattle.std.proofs.lemmas.List.{take_more}
 use Rattle.sqlite.specs.Held.{state}
 use Rattle.office_closing.specs.Deleting.{without_visits}
 use Rattle.office_closing.proofs.ClearLemmas.{deletes_none}
-use Rattle.office_closing.proofs.LoopLemmas.{visit_deleted}
-use Rattle.office_closing.proofs.NumberLemmas.{without_none}
+use Rattle.office_closing.proofs.NumberLemmas.{visit_deleted, without_none}
 use Rattle.office_closing.proofs.closing.delete_visits.Goals as goal
 
 pub loop-visit-init : goal.loop-visit-init

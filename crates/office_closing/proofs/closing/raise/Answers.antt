@@ -1,10 +1,10 @@
 use Rattle.std.proofs.Common.{◌≡◌, Ok, true, false, map, sym, subst, ◌∙◌, rules}
 use Rattle.sqlite.specs.Held.{state}
-use Rattle.office_register.specs.Changes.{closed_with, unchanged}
-use Rattle.office_register.specs.Lists.{list_content}
-use Rattle.office_register.specs.Register.{archive_content}
+use Rattle.office_closing.specs.Changes.{closed_with, unchanged}
+use Rattle.office_closing.specs.Lists.{list_content}
+use Rattle.office_closing.specs.Register.{archive_content}
 use Rattle.office_closing.specs.Steps.{StepsIf, is_unraised}
-use Rattle.office_closing.proofs.StepLemmas.{not_due}
+use Rattle.office_closing.proofs.PlanLemmas.{not_due}
 use Rattle.office_closing.proofs.closing.raise.Goals as goal
 
 pub returns-then-is_due : goal.returns-then-is_due

@@ -1,4 +1,4 @@
-use Rattle.office_closing.proofs.ReadLemmas.{read_err, read_ok}
+use Rattle.office_closing.proofs.JudgeLemmas.{read_err, read_ok}
 use Rattle.office_closing.proofs.comparing.kept_in.Goals as goal
 
 pub returns-in-Ok-clause-reads : goal.returns-in-Ok-clause-reads

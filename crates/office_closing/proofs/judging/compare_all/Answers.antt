@@ -9,7 +9,7 @@ use Rattle.office_closing.specs.declared.planning.Plan.{Plan}
 use Rattle.office_closing.specs.Closes.{Held}
 use Rattle.office_closing.specs.Comparing.{IsComparedAs}
 use Rattle.office_closing.specs.Judging.{IsComparedIf}
-use Rattle.office_closing.proofs.ReadLemmas.{none_read}
+use Rattle.office_closing.proofs.JudgeLemmas.{none_read}
 use Rattle.office_closing.proofs.judging.compare_all.Goals as goal
 
 -- what is said of any rows, of those that are held

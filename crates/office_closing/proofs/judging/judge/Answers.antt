@@ -2,15 +2,14 @@ use Rattle.std.proofs.Common.{map, sym, subst, arith}
 use Rattle.std.proofs.lemmas.Result.{err_from_is_err_and}
 use Rattle.sqlite.specs.Held.{state}
 use Rattle.sqlite.specs.State.{HasCleanDisk}
-use Rattle.office_done_lists.specs.Waiting.{AreWaitedFor}
-use Rattle.office_lists.specs.Named.{named_list_content}
+use Rattle.office_closing.specs.Waiting.{AreWaitedFor}
+use Rattle.office_parts.specs.Named.{named_list_content}
 use Rattle.office_rows.specs.Stored.{HasRows}
 use Rattle.office_closing.specs.declared.faults.CloseFault.{CloseFault}
 use Rattle.office_closing.specs.Copies.{FileNames, office_content}
 use Rattle.office_closing.specs.Files.{files}
-use Rattle.office_closing.proofs.JudgeLemmas.{plan_judged}
-use Rattle.office_closing.proofs.ReadLemmas.{failed, passed, then_if_open, then_if_open_failed, untouched_err}
-use Rattle.office_closing.proofs.RefuseLemmas.{compared_tells, file_tells, plan_tells}
+use Rattle.office_closing.proofs.JudgeLemmas.{plan_judged, failed, passed, then_if_open, then_if_open_failed, untouched_err}
+use Rattle.office_closing.proofs.PlanLemmas.{compared_tells, file_tells, plan_tells}
 use Rattle.office_closing.proofs.judging.judge.Goals as goal
 
 pub returns-in_err-own-clause-read : goal.returns-in_err-own-clause-read

@@ -1,4 +1,4 @@
-use Rattle.office_closing.proofs.ReadLemmas.{read_err, read_ok}
+use Rattle.office_closing.proofs.JudgeLemmas.{read_err, read_ok}
 use Rattle.office_closing.proofs.judging.nexts_of.Goals as goal
 
 pub returns-in-Ok-clause-read : goal.returns-in-Ok-clause-read

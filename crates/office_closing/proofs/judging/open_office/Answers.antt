@@ -4,8 +4,8 @@ use Rattle.sqlite.specs.Held.{state}
 use Rattle.sqlite.specs.State.{HasCleanDisk}
 use Rattle.office_loading.specs.Tables.{LoadsOwn}
 use Rattle.office_rows.specs.Stored.{HasRows}
-use Rattle.office_setup.specs.Setups.{setup_content}
-use Rattle.office_closing.proofs.ReadLemmas.{failed, passed, then_failed}
+use Rattle.office_admission.specs.Setups.{setup_content}
+use Rattle.office_closing.proofs.JudgeLemmas.{failed, passed, then_failed}
 use Rattle.office_closing.proofs.judging.open_office.Goals as goal
 
 pub returns-in_err-nexts-clause-rows_read : goal.returns-in_err-nexts-clause-rows_read

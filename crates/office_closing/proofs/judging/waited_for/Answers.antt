@@ -1,6 +1,6 @@
 use Rattle.std.proofs.Common.{sym, subst}
-use Rattle.office_done_lists.specs.Waiting.{HaveNexts}
-use Rattle.office_closing.proofs.ReadLemmas.{if_open_err, if_open_ok}
+use Rattle.office_closing.specs.Waiting.{HaveNexts}
+use Rattle.office_closing.proofs.JudgeLemmas.{if_open_err, if_open_ok}
 use Rattle.office_closing.proofs.judging.waited_for.Goals as goal
 
 pub returns-in-Ok-clause-named : goal.returns-in-Ok-clause-named

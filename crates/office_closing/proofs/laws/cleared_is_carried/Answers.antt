@@ -1,4 +1,4 @@
-use Rattle.office_closing.proofs.LawLemmas.{carried_on}
+use Rattle.office_closing.proofs.PlanLemmas.{carried_on}
 use Rattle.office_closing.proofs.laws.cleared_is_carried.Goals as goal
 
 pub returns : goal.returns

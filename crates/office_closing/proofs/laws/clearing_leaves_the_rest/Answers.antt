@@ -1,4 +1,4 @@
-use Rattle.office_closing.proofs.LawLemmas.{the_rest}
+use Rattle.office_closing.proofs.PlanLemmas.{the_rest}
 use Rattle.office_closing.proofs.laws.clearing_leaves_the_rest.Goals as goal
 
 pub returns : goal.returns

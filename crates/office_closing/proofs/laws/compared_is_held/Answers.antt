@@ -1,4 +1,4 @@
-use Rattle.office_closing.proofs.LawLemmas.{compared}
+use Rattle.office_closing.proofs.PlanLemmas.{compared}
 use Rattle.office_closing.proofs.laws.compared_is_held.Goals as goal
 
 pub returns : goal.returns

@@ -1,5 +1,5 @@
 use Rattle.std.proofs.Common.{◌≡◌, map, take}
-use Rattle.office_register.specs.Lists.{list_content}
+use Rattle.office_closing.specs.Lists.{list_content}
 use Rattle.office_closing.proofs.lists.copied_lists.Given as goal
 
 abbrev pub invariant-loop-list : goal.invariant-loop-list

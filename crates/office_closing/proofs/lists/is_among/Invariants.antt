@@ -1,6 +1,6 @@
 use Rattle.std.proofs.Common.{map, take}
 use Rattle.std.specs.Prelude.{Contains}
-use Rattle.office_register.specs.Lists.{list_content}
+use Rattle.office_closing.specs.Lists.{list_content}
 use Rattle.office_closing.proofs.lists.is_among.Given as goal
 
 abbrev pub invariant-loop-other : goal.invariant-loop-other

@@ -1,5 +1,5 @@
 use Rattle.std.proofs.Common.{arith}
-use Rattle.office_closing.proofs.CopyLemmas.{most_no_more}
+use Rattle.office_closing.proofs.PlanLemmas.{most_no_more}
 use Rattle.office_closing.proofs.planning.are_at_most.Goals as goal
 
 pub returns-then-numbers-others : goal.returns-then-numbers-others

@@ -1,8 +1,8 @@
 use Rattle.std.proofs.Common.{◌≡◌, List, ℕ, false, true, refl, ap, arith, rules}
 use Rattle.std.specs.Prelude.{string_bytes}
 use Rattle.edi_messages.specs.declared.codes.PartnerKind.{PartnerKind}
-use Rattle.office_setup.specs.declared.setup.Account.{Account}
-use Rattle.office_closing.proofs.CopyLemmas.{are_the_first, first_no_more, first_same}
+use Rattle.office_admission.specs.declared.setup.Account.{Account}
+use Rattle.office_closing.proofs.PlanLemmas.{are_the_first, first_no_more, first_same}
 use Rattle.office_closing.proofs.planning.are_first.Goals as goal
 
 abbrev said : Account → List ℕ × PartnerKind

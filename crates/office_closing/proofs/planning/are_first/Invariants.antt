@@ -1,5 +1,5 @@
 use Rattle.std.proofs.Common.{◌≡◌, take}
-use Rattle.office_setup.specs.Accounts.{account_contents}
+use Rattle.office_admission.specs.SetupAccounts.{account_contents}
 use Rattle.office_closing.proofs.planning.are_first.Given as goal
 
 abbrev pub invariant-loop-index : goal.invariant-loop-index

@@ -1,13 +1,13 @@
 use Rattle.std.proofs.Common.{◌≡◌, map, refl, sym, ap, subst, ◌∙◌}
 use Rattle.std.proofs.lemmas.Result.{err_from_is_err_and}
-use Rattle.office_checks.specs.Closed.{ClosedContent}
-use Rattle.office_checks.specs.Closed as closed
-use Rattle.office_lists.specs.Named.{named_list_content}
-use Rattle.office_register.specs.Lists.{list_content}
-use Rattle.office_register.specs.Register.{ArchiveContent, last_closed}
+use Rattle.office_loading.specs.Closed.{ClosedContent}
+use Rattle.office_loading.specs.Closed as closed
+use Rattle.office_parts.specs.Named.{named_list_content}
+use Rattle.office_closing.specs.Lists.{list_content}
+use Rattle.office_closing.specs.Register.{ArchiveContent, last_closed}
 use Rattle.office_closing.specs.Copies.{ComesOn, FileNames, archive_in, lists_at, numbers_from, numbers_of, office_content, segments_of}
 use Rattle.office_closing.specs.Planning.{AreInBoth}
-use Rattle.office_closing.proofs.StageLemmas.{done_in, lists_come, refused_with, registers_for}
+use Rattle.office_closing.proofs.ClearLemmas.{done_in, lists_come, refused_with, registers_for}
 use Rattle.office_closing.proofs.planning.make_plan.Goals as goal
 
 pub returns-in_err-check_office-clause-err : goal.returns-in_err-check_office-clause-err

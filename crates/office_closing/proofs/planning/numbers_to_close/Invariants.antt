@@ -1,5 +1,5 @@
 use Rattle.std.proofs.Common.{◌≡◌, ◌+◌, ◌++◌, drop}
-use Rattle.office_checks.specs.Closed.{last_closed}
+use Rattle.office_loading.specs.Closed.{last_closed}
 use Rattle.office_closing.specs.Copies.{numbers_from}
 use Rattle.office_closing.proofs.planning.numbers_to_close.Given as goal
 

@@ -5,7 +5,7 @@ use Rattle.std.proofs.lemmas.Option.{slice_get_read, slice_get_within}
 use Rattle.terminal_core.specs.declared.visits.Visit.{Visit}
 use Rattle.terminal_core.specs.Restoring.{numbers_of}
 use Rattle.terminal_core.specs.Rows.{visit_content, VisitContent}
-use Rattle.terminal_core.proofs.Numbered.{contained, found_at, row_at, content_at, number_read, numbers_rise}
+use Rattle.terminal_core.proofs.Whole.{contained, found_at, row_at, content_at, number_read, numbers_rise}
 use Rattle.office_closing.proofs.visits.copied.Goals as goal
 
 pub index_of-requires : goal.index_of-requires

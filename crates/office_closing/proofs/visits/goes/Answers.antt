@@ -1,7 +1,7 @@
 use Rattle.std.proofs.Common.{◌≡◌, true, false, not, ap, refl, sym, subst, ◌∙◌}
 use Rattle.std.specs.Prelude.{is_some, map}
 use Rattle.terminal_core.specs.Rows.{VisitContent, visit_content}
-use Rattle.office_closing.proofs.VisitLemmas.{same_visit}
+use Rattle.office_closing.proofs.ClearLemmas.{same_visit}
 use Rattle.office_closing.proofs.visits.goes.Goals as goal
 
 pub returns-in_default-clause-ok : goal.returns-in_default-clause-ok

@@ -4,8 +4,8 @@ use Rattle.sqlite.specs.Files.{over_files}
 use Rattle.sqlite.specs.WalFiles.{image_at}
 use Rattle.office_replies.specs.declared.accounts.AccountAnswer.{AccountAnswer}
 use Rattle.office_replies.specs.declared.deliver.Worst.{Worst}
-use Rattle.office_stream.specs.Accounts.{AnsweredAccount, AccountCutShort}
-use Rattle.office_stream.specs.declared.stream.StreamFault.{StreamFault}
+use Rattle.office_replies.specs.Accounts.{AnsweredAccount, AccountCutShort}
+use Rattle.office_replies.specs.declared.stream.StreamFault.{StreamFault}
 use Rattle.office_desk.specs.Calls.{Enrols}
 use Rattle.office_commands.specs.Accounts.{AnswersAsked, IsAskedOver, LeavesWriter}
 use Rattle.office_commands.specs.Delivering.{OpensOn}
@@ -21,12 +21,12 @@ as_said Done written written' outcome answered cut Other on = asked_as Done Othe
 pub returns-clause-ok : goal.returns-clause-ok
 returns-clause-ok g c =
     let image = image_at g.S.Start in
-    let outcome = c.answer_account-outcome.result in
-    let said = c.answer_account-outcome.ensures in
+    let outcome = c.ask_desk-outcome.result in
+    let said = c.ask_desk-outcome.ensures in
     let old = c.args.writer.now in
-    let new = c.answer_account-outcome.new.writer in
+    let new = c.ask_desk-outcome.new.writer in
     let opened = c.in_ok-desk.desk in
-    let desk = c.answer_account-outcome.new.desk in
+    let desk = c.ask_desk-outcome.new.desk in
     let code = c.args.code.now in
     let kind = c.args.kind.now in
     let opens : OpensOn image opened = record { events = λ sound content es begins. c.in_ok-desk.ensures.opens sound content es begins.0 begins.1; office = c.in_ok-desk.ensures.office } in

@@ -1,4 +1,4 @@
-use Rattle.office_stream.proofs.StreamLemmas.{streams_as}
+use Rattle.office_replies.proofs.StreamLemmas.{streams_as}
 use Rattle.office_commands.proofs.StreamLemmas.{delivered_by}
 use Rattle.office_commands.proofs.deliver.deliver_noted.Goals as goal
 

@@ -1,5 +1,5 @@
-use Rattle.office_rows.proofs.StepLemmas.{if_ok}
-use Rattle.office_setup.specs.Setups.{setup_content}
+use Rattle.office_rows.proofs.Creating.{if_ok}
+use Rattle.office_admission.specs.Setups.{setup_content}
 use Rattle.office_commands.proofs.DemoGiven.{demo_given}
 use Rattle.office_commands.proofs.demo.open_demo.Goals as goal
 

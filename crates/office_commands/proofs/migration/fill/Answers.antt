@@ -1,5 +1,5 @@
 use Rattle.std.proofs.lemmas.Result.{err_from_is_err_and}
-use Rattle.office_tables.proofs.ReadingLemmas.{reads_on, reads_stopped}
+use Rattle.office_tables.proofs.MadeLemmas.{reads_on, reads_stopped}
 use Rattle.office_commands.proofs.migration.fill.Goals as goal
 
 -- the fault is that of the migration

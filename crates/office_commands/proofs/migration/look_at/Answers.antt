@@ -1,5 +1,5 @@
 use Rattle.std.proofs.Common.{not, ap, ◌∙◌}
-use Rattle.office_tables.proofs.ReadingLemmas.{reads_on}
+use Rattle.office_tables.proofs.MadeLemmas.{reads_on}
 use Rattle.office_commands.proofs.migration.look_at.Goals as goal
 
 -- Looking at the office changes nothing.

@@ -1,4 +1,4 @@
-use Rattle.office_rows.proofs.StepLemmas.{if_ok}
+use Rattle.office_rows.proofs.Creating.{if_ok}
 use Rattle.office_commands.proofs.migration.open_older.Goals as goal
 
 -- What was opened shows what the files held.

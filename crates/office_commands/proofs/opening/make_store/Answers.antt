@@ -4,10 +4,10 @@ use Rattle.sqlite.specs.Files.{file_state}
 use Rattle.sqlite.specs.State.{HasCleanDisk}
 use Rattle.office_rows.specs.Opening.{opening_rows}
 use Rattle.office_rows.specs.Tables.{office_schema, office_tables}
-use Rattle.office_setup.specs.Setups.{setup_content}
+use Rattle.office_admission.specs.Setups.{setup_content}
 use Rattle.office_tables.specs.Opened.{AreMissing}
 use Rattle.office_history.proofs.Lawful.{opening_after}
-use Rattle.office_desk.proofs.CrashLemmas.{committed_leaves}
+use Rattle.office_desk.proofs.HoldLemmas.{committed_leaves}
 use Rattle.office_commands.proofs.OpenedLemmas.{never_missing}
 use Rattle.office_commands.proofs.opening.make_store.Goals as goal
 

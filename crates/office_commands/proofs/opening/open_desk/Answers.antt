@@ -4,8 +4,8 @@ use Rattle.sqlite.specs.Steps.{over_memory}
 use Rattle.office_rows.specs.Opening.{opening_rows}
 use Rattle.office_rows.specs.Stored.{HasRows}
 use Rattle.office_rows.specs.Tables.{no_schema}
-use Rattle.office_rows.proofs.StepLemmas.{if_ok}
-use Rattle.office_setup.specs.Setups.{SetupContent, setup_content}
+use Rattle.office_rows.proofs.Creating.{if_ok}
+use Rattle.office_admission.specs.Setups.{SetupContent, setup_content}
 use Rattle.office_history.proofs.Lawful.{opening_after}
 use Rattle.office_desk.specs.Desks.{StandsFor}
 use Rattle.office_commands.proofs.Leaving.{memory_sound, memory_clean}

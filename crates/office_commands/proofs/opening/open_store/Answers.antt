@@ -1,8 +1,8 @@
 use Rattle.std.proofs.Common.{◌≡◌, ap, sym, subst, ◌∙◌}
 use Rattle.sqlite.specs.Effect.{Database}
 use Rattle.sqlite.specs.Files.{file_state}
-use Rattle.office_checks.specs.Closed.{closed_content}
-use Rattle.office_rows.proofs.StepLemmas.{if_ok}
+use Rattle.office_loading.specs.Closed.{closed_content}
+use Rattle.office_rows.proofs.Creating.{if_ok}
 use Rattle.office_rows.specs.Stored.{HasRows}
 use Rattle.office_rows.specs.Tables.{office_schema}
 use Rattle.office_commands.proofs.OpenedLemmas.{if_both}

@@ -1,5 +1,5 @@
 use Rattle.std.proofs.KnownBytes.{Appends-kept}
-use Rattle.office_stream.proofs.Writing.{front_kept, on_ok, on_err}
+use Rattle.office_replies.proofs.PartLemmas.{front_kept, on_ok, on_err}
 use Rattle.office_commands.proofs.telling.print_whole.Goals as goal
 
 pub returns-clause-ok : goal.returns-clause-ok

@@ -5,17 +5,17 @@ use Rattle.sqlite.specs.Held.{state}
 use Rattle.sqlite.specs.State.{HasCleanDisk}
 use Rattle.office_rows.specs.Rows.{Rows}
 use Rattle.office_rows.specs.Stored.{HasRows}
-use Rattle.office_setup.specs.Setups.{account_contents}
-use Rattle.office_setup.specs.declared.setup.Account.{Account}
-use Rattle.office_delivery.specs.Reading.{IsSame}
-use Rattle.office_tables.proofs.FaultLemmas.{of_store_weaker}
-use Rattle.office_tables.proofs.ReadingLemmas.{clean_first, reads_on, reads_stopped}
-use Rattle.office_delivery.proofs.ReadLemmas.{nothing_read, one_read, only_on, only_then}
-use Rattle.office_lookups.specs.Partners.{partner_content}
-use Rattle.office_lookups.specs.declared.partners.Partner.{Partner}
+use Rattle.office_admission.specs.Setups.{account_contents}
+use Rattle.office_admission.specs.declared.setup.Account.{Account}
+use Rattle.office_tables.specs.DeliveryReading.{IsSame}
+use Rattle.office_tables.proofs.WritesLemmas.{of_store_weaker}
+use Rattle.office_tables.proofs.MadeLemmas.{clean_first, reads_on, reads_stopped}
+use Rattle.office_tables.proofs.WriteLemmas.{nothing_read, one_read, only_on, only_then}
+use Rattle.office_reports.specs.Partners.{partner_content}
+use Rattle.office_reports.specs.declared.partners.Partner.{Partner}
 use Rattle.office_desk.specs.Causes.{LacksNumbers, LacksSome}
 use Rattle.office_desk.specs.Reports.{AreLookedUp, IsLookedUp}
-use Rattle.office_desk.proofs.PartnerLemmas.{said, looked_up_more}
+use Rattle.office_desk.proofs.PageLemmas.{said, looked_up_more}
 use Rattle.office_desk.proofs.accounts.look_all_up.Goals as goal
 
 pub loop-account-init : goal.loop-account-init

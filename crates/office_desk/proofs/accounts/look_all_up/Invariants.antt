@@ -3,9 +3,9 @@ use Rattle.sqlite.specs.Held.{state}
 use Rattle.sqlite.specs.State.{HasCleanDisk}
 use Rattle.office_rows.specs.Rows.{Rows}
 use Rattle.office_rows.specs.Stored.{HasRows}
-use Rattle.office_setup.specs.Setups.{account_contents}
-use Rattle.office_delivery.specs.Reading.{OnlyReads}
-use Rattle.office_lookups.specs.Partners.{partner_content}
+use Rattle.office_admission.specs.Setups.{account_contents}
+use Rattle.office_tables.specs.DeliveryReading.{OnlyReads}
+use Rattle.office_reports.specs.Partners.{partner_content}
 use Rattle.office_desk.specs.Reports.{AreLookedUp}
 use Rattle.office_desk.proofs.accounts.look_all_up.Given as goal
 

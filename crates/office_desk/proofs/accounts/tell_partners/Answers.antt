@@ -1,5 +1,5 @@
 use Rattle.std.proofs.Common.{Some, map, ap, ◌∙◌}
-use Rattle.office_lookups.specs.Partners.{partner_content, partners_text}
+use Rattle.office_reports.specs.Partners.{partner_content, partners_text}
 use Rattle.office_desk.proofs.accounts.tell_partners.Goals as goal
 
 pub returns-clause-told : goal.returns-clause-told

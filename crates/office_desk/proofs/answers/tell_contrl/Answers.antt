@@ -1,6 +1,6 @@
 use Rattle.std.proofs.Common.{None, Some, option_map, string_bytes, sym, ap, ◌∙◌}
-use Rattle.office_lookups.specs.Contrls.{contrl_in}
-use Rattle.office_desk.proofs.ReportLemmas.{contrl_kept}
+use Rattle.office_reports.specs.Contrls.{contrl_in}
+use Rattle.office_desk.proofs.Faults.{contrl_kept}
 use Rattle.office_desk.proofs.answers.tell_contrl.Goals as goal
 
 pub returns-in_ok-contrl_in-in-Some-clause-told : goal.returns-in_ok-contrl_in-in-Some-clause-told

@@ -1,5 +1,5 @@
 use Rattle.std.proofs.Common.{sym, ◌∙◌}
-use Rattle.office_desk.proofs.ReportLemmas.{no_ticket, ticket_there}
+use Rattle.office_desk.proofs.Faults.{no_ticket, ticket_there}
 use Rattle.office_desk.proofs.answers.tell_ticket.Goals as goal
 
 pub returns-then-was_taken-clause-told : goal.returns-then-was_taken-clause-told

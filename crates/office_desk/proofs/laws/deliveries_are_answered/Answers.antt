@@ -1,4 +1,4 @@
-use Rattle.office_desk.proofs.CallLemmas.{answered_all}
+use Rattle.office_desk.proofs.AccountLemmas.{answered_all}
 use Rattle.office_desk.proofs.laws.deliveries_are_answered.Goals as goal
 
 pub returns : goal.returns

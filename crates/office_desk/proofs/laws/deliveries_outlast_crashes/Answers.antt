@@ -1,4 +1,4 @@
-use Rattle.office_desk.proofs.CallLemmas.{leaves_all}
+use Rattle.office_desk.proofs.AccountLemmas.{leaves_all}
 use Rattle.office_desk.proofs.laws.deliveries_outlast_crashes.Goals as goal
 
 pub returns : goal.returns

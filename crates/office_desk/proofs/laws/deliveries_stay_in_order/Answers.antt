@@ -1,4 +1,4 @@
-use Rattle.office_desk.proofs.RebuiltLemmas.{delivered_in_order}
+use Rattle.office_desk.proofs.KeptLemmas.{delivered_in_order}
 use Rattle.office_desk.proofs.laws.deliveries_stay_in_order.Goals as goal
 
 pub returns : goal.returns

@@ -1,4 +1,4 @@
-use Rattle.office_desk.proofs.RebuiltLemmas.{rebuilt}
+use Rattle.office_desk.proofs.KeptLemmas.{rebuilt}
 use Rattle.office_desk.proofs.laws.desks_are_rebuilt.Goals as goal
 
 pub returns : goal.returns

@@ -1,4 +1,4 @@
-use Rattle.office_desk.proofs.RebuiltLemmas.{journal_kept}
+use Rattle.office_desk.proofs.KeptLemmas.{journal_kept}
 use Rattle.office_desk.proofs.laws.desks_keep_journals.Goals as goal
 
 pub returns : goal.returns

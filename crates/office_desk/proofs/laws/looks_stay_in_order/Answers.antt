@@ -1,4 +1,4 @@
-use Rattle.office_desk.proofs.RebuiltLemmas.{looked_in_order}
+use Rattle.office_desk.proofs.KeptLemmas.{looked_in_order}
 use Rattle.office_desk.proofs.laws.looks_stay_in_order.Goals as goal
 
 pub returns : goal.returns

@@ -1,4 +1,4 @@
-use Rattle.office_desk.proofs.RebuiltLemmas.{opened_in_order}
+use Rattle.office_desk.proofs.KeptLemmas.{opened_in_order}
 use Rattle.office_desk.proofs.laws.opened_stand_in_order.Goals as goal
 
 pub returns : goal.returns

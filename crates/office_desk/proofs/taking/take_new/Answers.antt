@@ -5,28 +5,22 @@ use Rattle.sqlite.specs.Held.{state}
 use Rattle.partner_core.specs.Answers.{Waiting}
 use Rattle.office_replies.specs.Events.{delivered}
 use Rattle.office_rows.specs.Stored.{HasRows}
-use Rattle.office_delivery.specs.Writing.{Commits}
-use Rattle.office_rows.proofs.StepLemmas.{if_ok, on_ok}
-use Rattle.office_setup.specs.Setups.{setup_content}
+use Rattle.office_tables.specs.Writing.{Commits}
+use Rattle.office_rows.proofs.Creating.{if_ok, on_ok}
+use Rattle.office_admission.specs.Setups.{setup_content}
 use Rattle.office_tables.specs.Faults.{IsOfStore}
-use Rattle.office_tables.proofs.FaultLemmas.{of_store_alone, of_store_or}
+use Rattle.office_tables.proofs.WritesLemmas.{of_store_alone, of_store_or}
 use Rattle.office_history.specs.After.{machine_with}
 use Rattle.office_desk.specs.Beside.{IsBeside, IsOrNone}
 use Rattle.office_desk.specs.Order.{IsInOrder, IsRunInOrder, stored}
 use Rattle.office_desk.specs.Taking.{HasNumbered}
 use Rattle.office_desk.specs.Telling.{IsRunDone, delivery_of}
-use Rattle.office_desk.proofs.CrashLemmas.{committed_leaves, either_of, run_after}
-use Rattle.office_desk.proofs.DeliverLemmas.{is_now}
-use Rattle.office_desk.proofs.Faults.{behind_fits, low_is_kept}
-use Rattle.office_desk.proofs.HoldLemmas.{held_with, machine_same, next_answers, next_is, numbered}
+use Rattle.office_desk.proofs.HoldLemmas.{committed_leaves, either_of, run_after, held_with, machine_same, next_answers, next_is, numbered, number_within, early_events, early_leaves, failed_holds, failed_leaves}
+use Rattle.office_desk.proofs.DeliverLemmas.{is_now, keeps_accounts, next_follows, office_with}
+use Rattle.office_desk.proofs.Faults.{behind_fits, low_is_kept, committed_in_order, early_crash, early_rows, failed_in_order, failed_leaves_in_order, held_in_order, run_in_order}
 use Rattle.office_desk.proofs.KeptLemmas.{early_or_stays, failed_stays, next_answers_so, next_found, numbered_in}
-use Rattle.office_desk.proofs.LeavingLemmas.{early_leaves_over, failed_over, run_into, taken_leaves_over}
+use Rattle.office_desk.proofs.PageLemmas.{early_leaves_over, failed_over, run_into, taken_leaves_over}
 use Rattle.office_desk.proofs.NextLemmas.{free_after, free_over}
-use Rattle.office_desk.proofs.NumberLemmas.{number_within}
-use Rattle.office_desk.proofs.OfficeAccounts.{keeps_accounts, next_follows}
-use Rattle.office_desk.proofs.OfficeLemmas.{office_with}
-use Rattle.office_desk.proofs.OrderLemmas.{committed_in_order, early_crash, early_rows, failed_in_order, failed_leaves_in_order, held_in_order, run_in_order}
-use Rattle.office_desk.proofs.TakingLemmas.{early_events, early_leaves, failed_holds, failed_leaves}
 use Rattle.office_desk.proofs.taking.take_new.Goals as goal
 
 pub take_next-requires-clause-known : goal.take_next-requires-clause-known

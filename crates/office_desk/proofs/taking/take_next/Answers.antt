@@ -3,19 +3,18 @@ use Rattle.std.specs.Prelude.{slice_index_or, slice_set}
 use Rattle.std.proofs.lemmas.Result.{err_from_is_err_and}
 use Rattle.sqlite.specs.Held.{state}
 use Rattle.sqlite.specs.State.{HasCleanDisk}
-use Rattle.office_taking.specs.Taking.{machine_of}
+use Rattle.office_admission.specs.Taking.{machine_of}
 use Rattle.office_history.specs.Cascade.{AreTakenFrom, texts_with, with_run}
-use Rattle.office_delivery.specs.Reading.{IsSame}
-use Rattle.office_delivery.proofs.ReadLemmas.{was_clean, was_open}
-use Rattle.office_delivery.specs.Taken.{taken_contents}
-use Rattle.office_delivery.specs.declared.running.Taken.{Taken}
+use Rattle.office_tables.specs.DeliveryReading.{IsSame}
+use Rattle.office_tables.proofs.WriteLemmas.{was_clean, was_open}
+use Rattle.office_tables.specs.Taken.{taken_contents}
+use Rattle.office_tables.specs.declared.running.Taken.{Taken}
 use Rattle.office_rows.specs.Stored.{HasRows}
-use Rattle.office_delivery.specs.Writing.{Commits, IsWhole, IsWholeInOrder}
+use Rattle.office_tables.specs.Writing.{Commits, IsWhole, IsWholeInOrder}
 use Rattle.office_tables.specs.Order.{HasRowsInOrder}
-use Rattle.office_tables.proofs.FaultLemmas.{of_store_or}
-use Rattle.office_desk.proofs.AnswerLemmas.{takes_next}
-use Rattle.office_desk.proofs.CrashLemmas.{either_of, leaves_less}
-use Rattle.office_desk.proofs.NumberLemmas.{number_at}
+use Rattle.office_tables.proofs.WritesLemmas.{of_store_or}
+use Rattle.office_desk.proofs.AccountLemmas.{takes_next}
+use Rattle.office_desk.proofs.HoldLemmas.{either_of, leaves_less, number_at}
 use Rattle.office_desk.proofs.taking.take_next.Goals as goal
 
 pub returns-clause-takes : goal.returns-clause-takes

@@ -7,6 +7,7 @@ use Rattle.edi_messages.specs.declared.codes.Codes.{Codes}
 use Rattle.edi_messages.specs.declared.codes.PartnerKind.{PartnerKind}
 use Rattle.edi_messages.specs.declared.codes.PartnerKind.TheVariants.{Gate}
 use Rattle.office_explain.specs.Kinds.{codes_of, kind_for, kinds, may_send}
+use Rattle.office_explain.proofs.SenderLemmas.{codes_are}
 use Rattle.office_explain.proofs.partners.kind_for.Goals as goal
 
 found_at : {A : Type 0} (p : A → Bool) (xs : List A) (i : ℕ) (d : A) → i < length xs
@@ -15,10 +16,6 @@ found_at p xs i d low =
     let next : suc i ≡ i + 1 = omega arith in
     ap (find p) (drop-cons xs i d low)
     ∙ ap (λ k. cond (p (get_or xs i d)) (Some (get_or xs i d)) (find p (drop k xs))) next
-
-codes_are : (codes : Codes) (table : CodeTable) (kind : PartnerKind) → codes.kind ≡ kind → codes.table ≡ table
-    → codes ≡ codes_of table kind
-codes_are codes table kind same_kind same_table = λ j. record { kind = same_kind j; table = same_table j }
 
 -- a kind that was asked for
 asked : (table : CodeTable) (message : Message) (codes : Codes) (kind : PartnerKind) (answer is : Bool) → codes.kind ≡ kind

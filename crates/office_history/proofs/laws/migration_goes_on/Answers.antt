@@ -1,4 +1,4 @@
-use Rattle.office_history.proofs.Migrating.{migration_goes_on}
+use Rattle.office_history.proofs.KeptNumbers.{migration_goes_on}
 use Rattle.office_history.proofs.laws.migration_goes_on.Goals as goal
 
 pub returns : goal.returns

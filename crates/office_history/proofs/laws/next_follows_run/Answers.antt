@@ -1,4 +1,4 @@
-use Rattle.office_history.proofs.Telling.{next_follows}
+use Rattle.office_history.proofs.Accounted.{next_follows}
 use Rattle.office_history.proofs.laws.next_follows_run.Goals as goal
 
 pub returns : goal.returns

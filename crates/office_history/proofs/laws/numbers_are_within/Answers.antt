@@ -1,4 +1,4 @@
-use Rattle.office_history.proofs.Telling.{text_within}
+use Rattle.office_history.proofs.Accounted.{text_within}
 use Rattle.office_history.proofs.laws.numbers_are_within.Goals as goal
 
 pub returns : goal.returns

@@ -1,4 +1,4 @@
-use Rattle.office_history.proofs.Telling.{answers}
+use Rattle.office_history.proofs.Accounted.{answers}
 use Rattle.office_history.proofs.laws.rows_answer.Goals as goal
 
 pub returns : goal.returns

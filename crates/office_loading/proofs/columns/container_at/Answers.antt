@@ -1,5 +1,5 @@
 use Rattle.sqlite.specs.Order.{column}
-use Rattle.office_loading.proofs.ColumnLemmas.{container_read, container_refused}
+use Rattle.office_loading.proofs.LackingLemmas.{container_read, container_refused}
 use Rattle.office_loading.proofs.columns.container_at.Goals as goal
 
 pub returns-in-Ok : goal.returns-in-Ok

@@ -1,7 +1,7 @@
 use Rattle.std.proofs.Common.{ap, ◌∙◌}
 use Rattle.std.specs.Str.{bytes_eq}
 use Rattle.sqlite.specs.Order.{column}
-use Rattle.office_loading.proofs.ColumnLemmas.{moment_read, moment_refused}
+use Rattle.office_loading.proofs.LackingLemmas.{moment_read, moment_refused}
 use Rattle.office_loading.proofs.columns.moment_at.Goals as goal
 
 pub returns-then-eq : goal.returns-then-eq

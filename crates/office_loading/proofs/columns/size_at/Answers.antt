@@ -1,5 +1,5 @@
 use Rattle.sqlite.specs.Order.{column}
-use Rattle.office_loading.proofs.ColumnLemmas.{size_read, size_refused}
+use Rattle.office_loading.proofs.LackingLemmas.{size_read, size_refused}
 use Rattle.office_loading.proofs.columns.size_at.Goals as goal
 
 pub returns-in-Ok : goal.returns-in-Ok

@@ -4,12 +4,11 @@ use Rattle.sqlite.specs.Effect.{Database}
 use Rattle.sqlite.specs.Held.{state}
 use Rattle.office_rows.specs.Tables.{office_schema}
 use Rattle.office_rows.specs.Layouts.{weighed}
-use Rattle.office_checks.specs.declared.restoring.OpenedTables.{OpenedTables}
-use Rattle.office_checks.specs.Contents.{setting_content}
-use Rattle.office_tables.proofs.ReadingLemmas.{◌then◌, clean_first, reads_stopped}
+use Rattle.office_loading.specs.declared.restoring.OpenedTables.{OpenedTables}
+use Rattle.office_loading.specs.Contents.{setting_content}
+use Rattle.office_tables.proofs.MadeLemmas.{◌then◌, clean_first, reads_stopped}
 use Rattle.office_loading.specs.Tables.{NamesVersion, ReadsOthers}
-use Rattle.office_loading.proofs.VersionLemmas.{result_tells}
-use Rattle.office_loading.proofs.ChainLemmas.{from_first, settings_fail, tables_read}
+use Rattle.office_loading.proofs.VersionLemmas.{result_tells, from_first, settings_fail, tables_read}
 use Rattle.office_loading.proofs.loading.read_tables.Goals as goal
 
 pub returns-in_err-settings-clause-read : goal.returns-in_err-settings-clause-read

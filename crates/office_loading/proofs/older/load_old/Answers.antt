@@ -2,13 +2,13 @@ use Rattle.std.proofs.Common.{subst}
 use Rattle.std.proofs.lemmas.Result.{err_from_is_err_and}
 use Rattle.sqlite.specs.Held.{state}
 use Rattle.terminal_core.specs.State.{TerminalState}
-use Rattle.office_setup.specs.Setups.{setup_content}
-use Rattle.office_setup.specs.declared.setup.Setup.{Setup}
+use Rattle.office_admission.specs.Setups.{setup_content}
+use Rattle.office_admission.specs.declared.setup.Setup.{Setup}
 use Rattle.office_rows.specs.Office.{IsOffice}
-use Rattle.office_checks.specs.Closed.{nothing_closed}
-use Rattle.office_checks.specs.Contents.{opened_rows}
-use Rattle.office_checks.specs.Refusals.{RefusesTables}
-use Rattle.office_checks.proofs.Alike.{whole_office}
+use Rattle.office_loading.specs.Closed.{nothing_closed}
+use Rattle.office_loading.specs.Contents.{opened_rows}
+use Rattle.office_loading.specs.Refusals.{RefusesTables}
+use Rattle.office_loading.proofs.Offices.{whole_office}
 use Rattle.office_loading.proofs.OlderOffice.{older_restoring_fails, older_tables_fail}
 use Rattle.office_loading.proofs.OfficeLemmas.{restoring_tells}
 use Rattle.office_loading.proofs.VersionLemmas.{fault_tells}

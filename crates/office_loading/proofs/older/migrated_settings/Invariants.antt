@@ -1,6 +1,6 @@
 use Rattle.std.proofs.Common.{◌≡◌, map}
 use Rattle.office_rows.specs.Migrated.{migrated_settings}
-use Rattle.office_checks.specs.Contents.{setting_content}
+use Rattle.office_loading.specs.Contents.{setting_content}
 use Rattle.office_loading.proofs.older.migrated_settings.Given as goal
 
 abbrev pub invariant-loop-setting : goal.invariant-loop-setting

@@ -5,12 +5,11 @@ use Rattle.office_rows.specs.Tables.{setting_table}
 use Rattle.office_rows.specs.Layouts.{weighed}
 use Rattle.office_rows.specs.Opening.{tables_version}
 use Rattle.office_rows.specs.Values.{setting_values}
-use Rattle.office_checks.specs.Contents.{setting_content}
+use Rattle.office_loading.specs.Contents.{setting_content}
 use Rattle.office_loading.specs.Columns.{names_version}
 use Rattle.office_loading.specs.Fits.{FitsSetting}
 use Rattle.office_loading.specs.Tables.{NamesVersion}
-use Rattle.office_loading.proofs.TableLemmas.{reads_table}
-use Rattle.office_loading.proofs.VersionLemmas.{version_there, version_absent, reads_settings, names_this, names_none, decoded_tells}
+use Rattle.office_loading.proofs.VersionLemmas.{reads_table, version_there, version_absent, reads_settings, names_this, names_none, decoded_tells}
 use Rattle.office_loading.proofs.older.read_settings.Goals as goal
 
 pub returns-then-not-has_version-clause-read : goal.returns-then-not-has_version-clause-read

@@ -1,5 +1,5 @@
 use Rattle.std.proofs.lemmas.Result.{err_from_is_err_and}
-use Rattle.office_loading.proofs.DecodeLemmas.{read_more, all_refused}
+use Rattle.office_loading.proofs.LackingLemmas.{read_more, all_refused}
 use Rattle.office_loading.proofs.rows.read_all.Goals as goal
 
 pub returns-in_err-record : goal.returns-in_err-record

@@ -1,5 +1,5 @@
 use Rattle.sqlite.specs.Held.{state}
-use Rattle.office_tables.proofs.ReadingLemmas.{reads_shown, reads_failed}
+use Rattle.office_tables.proofs.MadeLemmas.{reads_shown, reads_failed}
 use Rattle.office_loading.proofs.selecting.select.Goals as goal
 
 pub returns-clause-reads : goal.returns-clause-reads

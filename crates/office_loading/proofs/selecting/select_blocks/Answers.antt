@@ -1,7 +1,7 @@
 use Rattle.sqlite.specs.Held.{state}
 use Rattle.office_rows.proofs.Listed.{lists_block}
-use Rattle.office_rows.proofs.StepLemmas.{if_ok}
-use Rattle.office_loading.proofs.QueryTexts.{block_shows}
+use Rattle.office_rows.proofs.Creating.{if_ok}
+use Rattle.office_loading.proofs.LackingLemmas.{block_shows}
 use Rattle.office_loading.proofs.selecting.select_blocks.Goals as goal
 
 pub select-requires : goal.select-requires

@@ -2,7 +2,7 @@ use Rattle.std.proofs.Common.{[], ◌∷◌}
 use Rattle.sqlite.specs.Held.{state}
 use Rattle.sqlite.specs.State.{Shown}
 use Rattle.office_rows.specs.Values.{number_value}
-use Rattle.office_tables.proofs.ReadingLemmas.{reads_shown, reads_failed}
+use Rattle.office_tables.proofs.MadeLemmas.{reads_shown, reads_failed}
 use Rattle.office_loading.proofs.WaitingQuery.{select_waiting, waiting_shows, finds_waiting}
 use Rattle.office_loading.proofs.selecting.select_waiting.Goals as goal
 

@@ -9,13 +9,13 @@ use Rattle.office_rows.specs.Shown.{ShowsTable}
 use Rattle.office_rows.specs.Values.{visit_values}
 use Rattle.office_rows.proofs.BareReading as texts
 use Rattle.office_rows.proofs.Listed.{lists_bare_visit}
-use Rattle.office_loading.proofs.QueryTexts.{bare_visit_shows}
+use Rattle.office_loading.proofs.LackingLemmas.{bare_visit_shows}
 use Rattle.office_loading.specs.Columns.{SaysVisit}
 use Rattle.office_loading.specs.Decoded.{IsSaid}
 use Rattle.office_loading.specs.Fits.{FitsVisit}
 use Rattle.office_loading.specs.Tables.{ReadsTable, ShowsVisits}
-use Rattle.office_loading.proofs.AnswerLemmas.{whole_answer, from_shown}
-use Rattle.office_loading.proofs.TableLemmas.{reads_table, store_fails}
+use Rattle.office_loading.proofs.RowLemmas.{whole_answer, from_shown}
+use Rattle.office_loading.proofs.VersionLemmas.{reads_table, store_fails}
 use Rattle.office_loading.proofs.table_reading.read_bare_visits.Goals as goal
 
 pub read_shown-requires : goal.read_shown-requires

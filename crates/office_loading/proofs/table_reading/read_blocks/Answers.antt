@@ -5,7 +5,7 @@ use Rattle.office_loading.specs.Decoded.{itself}
 use Rattle.office_rows.specs.Tables.{block_table}
 use Rattle.office_rows.specs.Values.{block_values}
 use Rattle.office_loading.specs.Fits.{FitsBlock}
-use Rattle.office_loading.proofs.TableLemmas.{reads_table}
+use Rattle.office_loading.proofs.VersionLemmas.{reads_table}
 use Rattle.office_loading.proofs.table_reading.read_blocks.Goals as goal
 
 pub returns-clause-read : goal.returns-clause-read

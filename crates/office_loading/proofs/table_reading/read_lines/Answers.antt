@@ -8,13 +8,13 @@ use Rattle.office_rows.specs.Shown.{ShowsTable}
 use Rattle.office_rows.specs.Values.{line_values}
 use Rattle.office_rows.proofs.Reading as texts
 use Rattle.office_rows.proofs.Listed.{lists_listed}
-use Rattle.office_loading.proofs.QueryTexts.{listed_shows}
+use Rattle.office_loading.proofs.LackingLemmas.{listed_shows}
 use Rattle.office_loading.specs.Columns.{SaysLine}
 use Rattle.office_loading.specs.Decoded.{IsSaid}
 use Rattle.office_loading.specs.Fits.{FitsLine}
 use Rattle.office_loading.specs.Tables.{ReadsTable, ShowsLines}
-use Rattle.office_loading.proofs.AnswerLemmas.{whole_listed, from_shown}
-use Rattle.office_loading.proofs.TableLemmas.{reads_table, store_fails}
+use Rattle.office_loading.proofs.RowLemmas.{whole_listed, from_shown}
+use Rattle.office_loading.proofs.VersionLemmas.{reads_table, store_fails}
 use Rattle.office_loading.proofs.table_reading.read_lines.Goals as goal
 
 pub read_shown-requires : goal.read_shown-requires

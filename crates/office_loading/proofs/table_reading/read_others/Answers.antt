@@ -8,12 +8,12 @@ use Rattle.office_rows.specs.Rows.{listing_content}
 use Rattle.office_rows.specs.Bare.{weighed_in}
 use Rattle.office_rows.specs.Layouts.{schema_in}
 use Rattle.office_rows.specs.Opened.{OpenedRows, ShowsNumbers}
-use Rattle.office_checks.specs.Contents.{number_content, place_content}
-use Rattle.office_tables.proofs.ReadingLemmas.{◌then◌, clean_first, reads_on, reads_stopped}
+use Rattle.office_loading.specs.Contents.{number_content, place_content}
+use Rattle.office_tables.proofs.MadeLemmas.{◌then◌, clean_first, reads_on, reads_stopped}
 use Rattle.office_loading.specs.Decoded.{itself}
 use Rattle.office_loading.specs.Fits.{FitsPartner, FitsNumber, FitsVisit, FitsPlace, FitsLine, FitsBlock}
 use Rattle.office_loading.specs.Tables.{ReadsTable, ShowsPartners, ShowsVisits, ShowsPlaces, ShowsLines, ShowsBlocks, layout_with}
-use Rattle.office_loading.proofs.ChainLemmas.{from_first, later_fails, one_fails, same_items}
+use Rattle.office_loading.proofs.VersionLemmas.{from_first, later_fails, one_fails, same_items}
 use Rattle.office_loading.proofs.table_reading.read_others.Goals as goal
 
 pub returns-in_err-partners-clause-read : goal.returns-in_err-partners-clause-read

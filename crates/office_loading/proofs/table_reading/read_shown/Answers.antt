@@ -4,7 +4,7 @@ use Rattle.sqlite.specs.Held.{state}
 use Rattle.sqlite.specs.Given.{HasGiven}
 use Rattle.sqlite.specs.State.{HasCleanDisk, IsUnchanged, FailsToQuery, Survives, CommitsShowing}
 use Rattle.office_tables.specs.Faults.{IsOfStoreOr}
-use Rattle.office_tables.proofs.ReadingLemmas.{reads_same, reads_failed, query_survives, ◌then◌}
+use Rattle.office_tables.proofs.MadeLemmas.{reads_same, reads_failed, query_survives, ◌then◌}
 use Rattle.office_loading.specs.Decoded.{ShowsUnsaid, ReadsShown}
 use Rattle.office_loading.proofs.StreamLemmas.{begun_shows, stands_first, stands_next, row_refused, all_read}
 use Rattle.office_loading.proofs.table_reading.read_shown.Goals as goal

@@ -1,5 +1,5 @@
 use Rattle.std.proofs.lemmas.Str.Pattern.{contains_text}
-use Rattle.office_pages.proofs.Standing.{decided}
+use Rattle.office_pages.proofs.Shown.{decided}
 use Rattle.office_pages.proofs.meanings.stands_in.Goals as goal
 
 pub returns : goal.returns

@@ -1,4 +1,4 @@
-use Rattle.office_parts.proofs.Events.{account_more}
+use Rattle.office_parts.proofs.Takings.{account_more}
 use Rattle.office_parts.proofs.laws.account_adds_to_parts.Goals as goal
 
 pub returns : goal.returns

@@ -1,4 +1,4 @@
-use Rattle.office_parts.proofs.Spared.{changes_spared}
+use Rattle.office_parts.proofs.Splits.{changes_spared}
 use Rattle.office_parts.proofs.laws.changes_are_of_own.Goals as goal
 
 pub returns : goal.returns

@@ -1,4 +1,4 @@
-use Rattle.office_parts.proofs.Lookups.{closed_within}
+use Rattle.office_parts.proofs.Orders.{closed_within}
 use Rattle.office_parts.proofs.laws.closed_are_within_runs.Goals as goal
 
 pub returns : goal.returns

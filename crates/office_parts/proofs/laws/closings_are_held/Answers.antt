@@ -1,4 +1,4 @@
-use Rattle.office_parts.proofs.Archiving.{closings_held}
+use Rattle.office_parts.proofs.Closings.{closings_held}
 use Rattle.office_parts.proofs.laws.closings_are_held.Goals as goal
 
 pub returns : goal.returns

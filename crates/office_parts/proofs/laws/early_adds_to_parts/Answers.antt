@@ -1,4 +1,4 @@
-use Rattle.office_parts.proofs.Events.{early_parts}
+use Rattle.office_parts.proofs.Takings.{early_parts}
 use Rattle.office_parts.proofs.laws.early_adds_to_parts.Goals as goal
 
 pub returns : goal.returns

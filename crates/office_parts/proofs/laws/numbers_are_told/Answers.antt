@@ -1,4 +1,4 @@
-use Rattle.office_parts.proofs.Lookups.{numbers_told}
+use Rattle.office_parts.proofs.Orders.{numbers_told}
 use Rattle.office_parts.proofs.laws.numbers_are_told.Goals as goal
 
 pub returns : goal.returns

@@ -1,7 +1,7 @@
 use Rattle.std.proofs.Common.{◌≡◌, ◌∙◌, ◌++◌, ℕ, List, ap, ap₂, codes, string_bytes, append_assoc}
 use Rattle.std.proofs.lemmas.Result.{IfOk-weaker}
 use Rattle.office_replies.specs.Bodies.{answer_text, joined_head}
-use Rattle.office_replies.proofs.Joined.{answer_text-data}
+use Rattle.office_replies.proofs.Floats.{answer_text-data}
 use Rattle.office_replies.proofs.body.taken_body.Goals as goal
 
 pub returns-clause-bytes : goal.returns-clause-bytes

@@ -5,7 +5,7 @@ use Rattle.serde.specs.Event.{Logs, seq_begins}
 use Rattle.serde_json.specs.View.{items_of}
 use Rattle.serde_json.specs.Events.{SendsItems}
 use Rattle.office_replies.specs.Lines.{lines_from}
-use Rattle.office_replies.proofs.Counts.{lines_len}
+use Rattle.office_replies.proofs.Floats.{lines_len}
 use Rattle.office_replies.proofs.message_report.send_lines.Goals as goal
 
 pub returns : goal.returns

@@ -5,7 +5,7 @@ use Rattle.serde.specs.Event.{Logs, seq_begins}
 use Rattle.serde_json.specs.View.{items_of}
 use Rattle.serde_json.specs.Events.{SendsItems}
 use Rattle.office_replies.specs.Messages.{report_data, report_content}
-use Rattle.office_replies.proofs.Counts.{reports_len}
+use Rattle.office_replies.proofs.Floats.{reports_len}
 use Rattle.office_replies.proofs.message_report.send_messages.Goals as goal
 
 pub returns : goal.returns

@@ -1,4 +1,4 @@
-use Rattle.office_reports.proofs.Ascii.{slot_same}
+use Rattle.office_reports.proofs.Standings.{slot_same}
 use Rattle.office_reports.proofs.laws.names_are_written.Goals as goal
 
 pub returns : goal.returns

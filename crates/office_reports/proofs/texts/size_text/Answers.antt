@@ -1,6 +1,6 @@
 use Rattle.std.proofs.Common.{◌∙◌}
 use Rattle.std.proofs.lemmas.Result.{IfOk-weaker}
-use Rattle.office_reports.proofs.Ascii.{size_same}
+use Rattle.office_reports.proofs.Standings.{size_same}
 use Rattle.office_reports.proofs.texts.size_text.Goals as goal
 
 pub returns : goal.returns

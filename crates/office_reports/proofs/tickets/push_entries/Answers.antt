@@ -1,7 +1,7 @@
 use Rattle.std.proofs.Common.{◌≡◌, true, false, ap, sym, ◌∙◌, string_bytes}
 use Rattle.terminal_core.specs.Rows.{visit_content}
 use Rattle.office_reports.specs.Tickets.{is_opened_by, entry_line}
-use Rattle.office_reports.proofs.Rows.{none_yet, next_row, all_rows}
+use Rattle.office_reports.proofs.Standings.{none_yet, next_row, all_rows}
 use Rattle.office_reports.proofs.tickets.push_entries.Goals as goal
 use Rattle.office_reports.proofs.tickets.push_entries.Goals.{then-eq+in_ok-push_entry, else-eq}
 

@@ -1,7 +1,7 @@
 use Rattle.std.proofs.Common.{string_bytes}
 use Rattle.terminal_core.specs.Rows.{visit_content}
 use Rattle.office_reports.specs.Tickets.{is_opened_by, entry_line}
-use Rattle.office_reports.proofs.Rows.{HasLines}
+use Rattle.office_reports.proofs.Standings.{HasLines}
 use Rattle.office_reports.proofs.tickets.push_entries.Given as goal
 
 abbrev pub invariant-loop-visit : goal.invariant-loop-visit

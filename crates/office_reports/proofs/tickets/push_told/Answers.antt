@@ -2,7 +2,7 @@ use Rattle.std.proofs.Common.{◌++◌, map, ap, ◌∙◌, string_bytes, append
 use Rattle.std.proofs.lemmas.Result.{on_ok_weaker}
 use Rattle.terminal_core.specs.Rows.{visit_content}
 use Rattle.office_reports.specs.Tickets.{entry_lines, exit_lines}
-use Rattle.office_reports.proofs.Found.{nothing_told, something_told}
+use Rattle.office_reports.proofs.Standings.{nothing_told, something_told}
 use Rattle.office_reports.proofs.tickets.push_told.Goals as goal
 
 pub returns-then-not-is_any_told : goal.returns-then-not-is_any_told

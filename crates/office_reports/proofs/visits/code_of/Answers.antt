@@ -1,8 +1,8 @@
 use Rattle.std.proofs.Common.{◌≡◌, ◌-◌, length, List, ap, Some, slice_get, sym, ◌∙◌, arith}
 use Rattle.std.proofs.lemmas.Bool.{ltb-true}
 use Rattle.std.proofs.lemmas.Option.{slice_get-get_or}
-use Rattle.office_setup.specs.declared.setup.Account.{Account}
-use Rattle.office_reports.proofs.Partners.{code_found}
+use Rattle.office_admission.specs.declared.setup.Account.{Account}
+use Rattle.office_reports.proofs.Standings.{code_found}
 use Rattle.office_reports.proofs.visits.code_of.Goals as goal
 
 pub returns-in-Some : goal.returns-in-Some

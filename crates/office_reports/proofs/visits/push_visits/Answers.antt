@@ -1,9 +1,9 @@
 use Rattle.std.proofs.Common.{◌≡◌, true, false, ap, sym, ◌∙◌, string_bytes}
 use Rattle.terminal_core.specs.Rows.{visit_content}
-use Rattle.office_setup.specs.Setups.{setup_content}
+use Rattle.office_admission.specs.Setups.{setup_content}
 use Rattle.terminal_core.specs.State.{is_visit_of}
 use Rattle.office_reports.specs.Visits.{visit_line}
-use Rattle.office_reports.proofs.Rows.{none_yet, next_row, all_rows}
+use Rattle.office_reports.proofs.Standings.{none_yet, next_row, all_rows}
 use Rattle.office_reports.proofs.visits.push_visits.Goals as goal
 use Rattle.office_reports.proofs.visits.push_visits.Goals.{then-eq+in_ok-push_visit, else-eq}
 

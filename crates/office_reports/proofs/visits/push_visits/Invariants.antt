@@ -1,9 +1,9 @@
 use Rattle.std.proofs.Common.{string_bytes}
 use Rattle.terminal_core.specs.Rows.{visit_content}
-use Rattle.office_setup.specs.Setups.{setup_content}
+use Rattle.office_admission.specs.Setups.{setup_content}
 use Rattle.terminal_core.specs.State.{is_visit_of}
 use Rattle.office_reports.specs.Visits.{visit_line}
-use Rattle.office_reports.proofs.Rows.{HasLines}
+use Rattle.office_reports.proofs.Standings.{HasLines}
 use Rattle.office_reports.proofs.visits.push_visits.Given as goal
 
 abbrev pub invariant-loop-visit : goal.invariant-loop-visit

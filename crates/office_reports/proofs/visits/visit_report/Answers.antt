@@ -1,9 +1,9 @@
 use Rattle.std.proofs.Common.{◌++◌, ◌∷◌, [], ap, ◌∙◌, string_bytes, codes, map}
 use Rattle.terminal_core.specs.Rows.{visit_content}
-use Rattle.office_setup.specs.Setups.{setup_content}
+use Rattle.office_admission.specs.Setups.{setup_content}
 use Rattle.office_reports.specs.Names.{line}
 use Rattle.office_reports.specs.Visits.{visit_lines}
-use Rattle.office_reports.proofs.Found.{none_reported, some_reported}
+use Rattle.office_reports.proofs.Standings.{none_reported, some_reported}
 use Rattle.office_reports.proofs.visits.visit_report.Goals as goal
 
 pub returns-then-not-has_visit : goal.returns-then-not-has_visit

@@ -3,14 +3,14 @@ use Rattle.sqlite.specs.State.{HasCleanDisk, Survives}
 use Rattle.sqlite.specs.Held.{state}
 use Rattle.sqlite.proofs.StateLemmas.{survives_then}
 use Rattle.sqlite.proofs.Callers.{survives_begin}
-use Rattle.office_setup.specs.Setups.{setup_content}
+use Rattle.office_admission.specs.Setups.{setup_content}
 use Rattle.office_rows.specs.Tables.{office_tables}
 use Rattle.office_rows.specs.Stored.{HasRows, HasEmpty}
 use Rattle.office_rows.specs.Steps.{Turns}
 use Rattle.office_rows.specs.Opening.{opening_rows}
 use Rattle.sqlite.specs.Effect.{Database}
 use Rattle.office_tables.specs.Opened.{IsOpening, AreMissing}
-use Rattle.office_tables.proofs.OpenedLemmas.{opened, made_rows}
+use Rattle.office_tables.proofs.WritesLemmas.{opened, made_rows}
 use Rattle.office_tables.proofs.creating.create.Goals as goal
 
 pub returns-in_err-commit-clause-crash : goal.returns-in_err-commit-clause-crash

@@ -3,11 +3,9 @@ use Rattle.sqlite.specs.Held.{state}
 use Rattle.office_rows.specs.Tables.{office_tables, block_table}
 use Rattle.office_rows.specs.Rows.{no_rows}
 use Rattle.office_rows.specs.Stored.{HasEmpty, HasRows}
-use Rattle.office_rows.proofs.Created.{created_block}
+use Rattle.office_rows.proofs.Reading.{created_block}
 use Rattle.office_rows.proofs.Creating as texts
-use Rattle.office_tables.proofs.CreatesLemmas.{creates_of}
-use Rattle.office_tables.proofs.MadeLemmas.{makes_one}
-use Rattle.office_tables.proofs.MadeTexts.{block_anew}
+use Rattle.office_tables.proofs.MadeLemmas.{creates_of, makes_one, block_anew}
 use Rattle.office_tables.proofs.creating.create_block.Goals as goal
 
 pub returns-clause-creates : goal.returns-clause-creates

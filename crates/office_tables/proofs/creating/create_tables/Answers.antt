@@ -3,7 +3,7 @@ use Rattle.sqlite.specs.Held.{state}
 use Rattle.office_rows.specs.Tables.{office_tables, listing_table, setting_table, block_table}
 use Rattle.office_rows.specs.Rows.{no_rows}
 use Rattle.office_rows.specs.Stored.{HasRows, HasEmpty}
-use Rattle.office_tables.proofs.CreatesLemmas.{creates_then}
+use Rattle.office_tables.proofs.MadeLemmas.{creates_then}
 use Rattle.office_tables.proofs.creating.create_tables.Goals as goal
 
 pub returns-clause-creates : goal.returns-clause-creates

@@ -1,11 +1,10 @@
 use Rattle.std.proofs.Common.{◌≡◌, sym, inl, inr}
 use Rattle.office_rows.specs.Values.{next_values}
-use Rattle.office_rows.proofs.ReadLemmas.{none_first, some_first}
-use Rattle.office_tables.proofs.FaultLemmas.{of_store_weaker}
+use Rattle.office_rows.proofs.Creating.{none_first, some_first, if_ok}
+use Rattle.office_tables.proofs.WritesLemmas.{of_store_weaker}
 use Rattle.std.proofs.lemmas.Result.{IfErr-weaker}
 use Rattle.office_tables.specs.Answers.{has_id}
 use Rattle.std.proofs.Common.{filter}
-use Rattle.office_rows.proofs.StepLemmas.{if_ok}
 use Rattle.office_tables.proofs.finding.next_of.Goals as goal
 
 pub returns-clause-answer : goal.returns-clause-answer

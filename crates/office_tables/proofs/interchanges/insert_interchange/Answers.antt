@@ -6,7 +6,7 @@ use Rattle.office_rows.specs.Opening.{interchange_row, with_interchanges}
 use Rattle.office_rows.proofs.Writing as texts
 use Rattle.office_rows.proofs.Written.{inserted_whole}
 use Rattle.office_tables.proofs.PairLemmas.{new_pair}
-use Rattle.office_journal_rows.proofs.InPlace.{copies_in_place}
+use Rattle.office_rows.proofs.InPlace.{copies_in_place}
 use Rattle.office_tables.proofs.WritesLemmas.{writes_of}
 use Rattle.office_tables.proofs.interchanges.insert_interchange.Goals as goal
 

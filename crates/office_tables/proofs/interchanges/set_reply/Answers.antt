@@ -6,7 +6,7 @@ use Rattle.office_rows.specs.Values.{number_value}
 use Rattle.office_rows.specs.Effects.{with_reply}
 use Rattle.office_rows.proofs.Writing as texts
 use Rattle.office_rows.proofs.Written.{update_replyd}
-use Rattle.office_journal_rows.proofs.InPlace.{update_replies_in_place}
+use Rattle.office_rows.proofs.InPlace.{update_replies_in_place}
 use Rattle.office_tables.proofs.WritesLemmas.{writes_of}
 use Rattle.office_tables.proofs.interchanges.set_reply.Goals as goal
 

@@ -5,7 +5,7 @@ use Rattle.office_rows.specs.Values.{partner_values}
 use Rattle.office_rows.specs.Opening.{with_partners}
 use Rattle.office_rows.proofs.Writing as texts
 use Rattle.office_rows.proofs.Written.{inserted_partner}
-use Rattle.office_tables.proofs.OrderLemmas.{insert_partner_stays}
+use Rattle.office_tables.proofs.PairLemmas.{insert_partner_stays}
 use Rattle.office_tables.proofs.WritesLemmas.{writes_of}
 use Rattle.office_tables.proofs.settings.insert_account.Goals as goal
 

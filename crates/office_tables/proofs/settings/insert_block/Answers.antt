@@ -5,7 +5,7 @@ use Rattle.office_rows.specs.Values.{block_values}
 use Rattle.office_rows.specs.Opening.{with_blocks}
 use Rattle.office_rows.proofs.Writing as texts
 use Rattle.office_rows.proofs.Written.{inserted_block}
-use Rattle.office_tables.proofs.OrderLemmas.{insert_block_stays}
+use Rattle.office_tables.proofs.PairLemmas.{insert_block_stays}
 use Rattle.office_tables.proofs.WritesLemmas.{writes_of}
 use Rattle.office_tables.proofs.settings.insert_block.Goals as goal
 

@@ -1,6 +1,6 @@
 use Rattle.std.proofs.Common.{◌≡◌, ◌+◌, Ok, take}
 use Rattle.sqlite.specs.Held.{state}
-use Rattle.office_setup.specs.Setups.{account_contents}
+use Rattle.office_admission.specs.Setups.{account_contents}
 use Rattle.office_rows.specs.Opening.{partners_from, with_partners}
 use Rattle.office_tables.specs.Writes.{WritesIfOpen}
 use Rattle.office_tables.proofs.settings.insert_partners.Given as goal

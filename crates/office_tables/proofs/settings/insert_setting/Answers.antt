@@ -5,7 +5,7 @@ use Rattle.office_rows.specs.Values.{setting_values}
 use Rattle.office_rows.specs.Opening.{setting_row, with_settings}
 use Rattle.office_rows.proofs.Writing as texts
 use Rattle.office_rows.proofs.Written.{inserted_setting}
-use Rattle.office_tables.proofs.OrderLemmas.{insert_setting_stays}
+use Rattle.office_tables.proofs.PairLemmas.{insert_setting_stays}
 use Rattle.office_tables.proofs.WritesLemmas.{writes_of}
 use Rattle.office_tables.proofs.settings.insert_setting.Goals as goal
 

@@ -5,7 +5,7 @@ use Rattle.office_rows.specs.Values.{number_value}
 use Rattle.office_rows.specs.Effects.{with_next}
 use Rattle.office_rows.proofs.Writing as texts
 use Rattle.office_rows.proofs.Written.{update_nextd}
-use Rattle.office_tables.proofs.OrderLemmas.{update_next_stays}
+use Rattle.office_tables.proofs.PairLemmas.{update_next_stays}
 use Rattle.office_tables.proofs.WritesLemmas.{writes_of}
 use Rattle.office_tables.proofs.settings.set_next.Goals as goal
 

@@ -9,7 +9,7 @@ use Rattle.office_rows.specs.Values.{number_value}
 use Rattle.office_rows.specs.Effects.{with_change}
 use Rattle.office_rows.proofs.Writing as texts
 use Rattle.office_rows.proofs.Written.{delete_lined}
-use Rattle.office_tables.proofs.OrderLemmas.{delete_line_stays}
+use Rattle.office_tables.proofs.PairLemmas.{delete_line_stays}
 use Rattle.office_tables.proofs.WritesLemmas.{writes_of}
 use Rattle.office_tables.proofs.terminal.delete_line.Goals as goal
 

@@ -6,7 +6,7 @@ use Rattle.terminal_core.specs.Rows.{removed_from}
 use Rattle.office_rows.specs.Effects.{with_change}
 use Rattle.office_rows.proofs.Writing as texts
 use Rattle.office_rows.proofs.Written.{delete_placed}
-use Rattle.office_tables.proofs.OrderLemmas.{delete_place_stays}
+use Rattle.office_tables.proofs.PairLemmas.{delete_place_stays}
 use Rattle.office_tables.proofs.WritesLemmas.{writes_of}
 use Rattle.office_tables.proofs.terminal.delete_place.Goals as goal
 

@@ -7,7 +7,7 @@ use Rattle.office_rows.specs.Values.{visit_values}
 use Rattle.office_rows.specs.Effects.{with_change}
 use Rattle.office_rows.proofs.Writing as texts
 use Rattle.office_rows.proofs.Written.{inserted_visit}
-use Rattle.office_tables.proofs.OrderLemmas.{insert_visit_stays}
+use Rattle.office_tables.proofs.PairLemmas.{insert_visit_stays}
 use Rattle.office_tables.proofs.WritesLemmas.{writes_of}
 use Rattle.office_tables.proofs.terminal.insert_columns.Goals as goal
 

@@ -6,7 +6,7 @@ use Rattle.office_rows.specs.Values.{line_values}
 use Rattle.office_rows.specs.Opening.{listing_row, with_lines}
 use Rattle.office_rows.proofs.Writing as texts
 use Rattle.office_rows.proofs.Written.{inserted_listed}
-use Rattle.office_tables.proofs.OrderLemmas.{insert_listed_stays}
+use Rattle.office_tables.proofs.PairLemmas.{insert_listed_stays}
 use Rattle.office_tables.proofs.WritesLemmas.{writes_of}
 use Rattle.office_tables.proofs.terminal.insert_listing.Goals as goal
 

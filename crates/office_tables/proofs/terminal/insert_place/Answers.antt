@@ -6,7 +6,7 @@ use Rattle.office_rows.specs.Values.{place_values}
 use Rattle.office_rows.specs.Effects.{with_change}
 use Rattle.office_rows.proofs.Writing as texts
 use Rattle.office_rows.proofs.Written.{inserted_place}
-use Rattle.office_tables.proofs.OrderLemmas.{insert_place_stays}
+use Rattle.office_tables.proofs.PairLemmas.{insert_place_stays}
 use Rattle.office_tables.proofs.WritesLemmas.{writes_of}
 use Rattle.office_tables.proofs.terminal.insert_place.Goals as goal
 

@@ -9,7 +9,7 @@ use Rattle.office_rows.specs.Values.{number_value}
 use Rattle.office_rows.specs.Effects.{with_change}
 use Rattle.office_rows.proofs.Writing as texts
 use Rattle.office_rows.proofs.Written.{update_doned}
-use Rattle.office_tables.proofs.OrderLemmas.{update_done_stays}
+use Rattle.office_tables.proofs.PairLemmas.{update_done_stays}
 use Rattle.office_tables.proofs.WritesLemmas.{writes_of}
 use Rattle.office_tables.proofs.terminal.set_done.Goals as goal
 

@@ -7,7 +7,7 @@ use Rattle.terminal_core.specs.Rows.{moved_to}
 use Rattle.office_rows.specs.Effects.{with_change}
 use Rattle.office_rows.proofs.Writing as texts
 use Rattle.office_rows.proofs.Written.{update_slotd}
-use Rattle.office_tables.proofs.OrderLemmas.{update_slot_stays}
+use Rattle.office_tables.proofs.PairLemmas.{update_slot_stays}
 use Rattle.office_tables.proofs.WritesLemmas.{writes_of}
 use Rattle.office_tables.proofs.terminal.set_slot.Goals as goal
 

@@ -1,4 +1,4 @@
-use Rattle.partner_core.proofs.Answering.{answers_as_kept as tells}
+use Rattle.partner_core.proofs.Keepings.{answers_as_kept as tells}
 use Rattle.partner_core.proofs.laws.answers_as_kept.Goals as goal
 
 pub returns : goal.returns

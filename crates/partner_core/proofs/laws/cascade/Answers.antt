@@ -1,4 +1,4 @@
-use Rattle.partner_core.proofs.Cascades.{takes_none, takes_one_more}
+use Rattle.partner_core.proofs.Keepings.{takes_none, takes_one_more}
 use Rattle.partner_core.proofs.laws.cascade.Goals as goal
 
 pub returns-clause-begins : goal.returns-clause-begins

@@ -1,4 +1,4 @@
-use Rattle.partner_core.proofs.Unbroken.{used_within_run, free_after_run, beyond_run}
+use Rattle.partner_core.proofs.Orders.{used_within_run, free_after_run, beyond_run}
 use Rattle.partner_core.proofs.laws.unbroken_run.Goals as goal
 
 pub returns-clause-used : goal.returns-clause-used

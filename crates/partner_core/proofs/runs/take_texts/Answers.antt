@@ -6,8 +6,7 @@ use Rattle.std.specs.String.{string_bytes}
 use Rattle.std.specs.BTreeMap.{get}
 use Rattle.std.specs.Ordering.{nat_cmp}
 use Rattle.partner_core.specs.Numbered.{text_in, reply_in}
-use Rattle.partner_core.proofs.Numbered.{reply_in-push, with_number-past}
-use Rattle.partner_core.proofs.Cascades.{takes_one_more}
+use Rattle.partner_core.proofs.Keepings.{reply_in-push, with_number-past, takes_one_more}
 use Rattle.partner_core.proofs.runs.take_texts.Goals as goal
 
 pub loop-text-preserved : goal.loop-text-preserved

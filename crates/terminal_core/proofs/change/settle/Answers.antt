@@ -1,5 +1,5 @@
 use Rattle.edi_messages.specs.Owned.{entry_content}
-use Rattle.terminal_core.proofs.Settled.{settled_there, unsettled_there, settled_first, unsettled_first}
+use Rattle.terminal_core.proofs.Open.{settled_there, unsettled_there, settled_first, unsettled_first}
 use Rattle.terminal_core.proofs.change.settle.Goals as goal
 
 pub returns-in-Ok-clause-ok : goal.returns-in-Ok-clause-ok

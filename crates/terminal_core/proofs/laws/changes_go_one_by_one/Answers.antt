@@ -1,4 +1,4 @@
-use Rattle.terminal_core.proofs.OneByOne.{changes_go}
+use Rattle.terminal_core.proofs.Applying.{changes_go}
 use Rattle.terminal_core.proofs.laws.changes_go_one_by_one.Goals as goal
 
 pub returns : goal.returns

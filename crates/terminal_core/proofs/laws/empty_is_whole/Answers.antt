@@ -1,4 +1,4 @@
-use Rattle.terminal_core.proofs.Keeping.{empty_whole}
+use Rattle.terminal_core.proofs.Removed.{empty_whole}
 use Rattle.terminal_core.proofs.laws.empty_is_whole.Goals as goal
 
 pub returns : goal.returns

@@ -1,4 +1,4 @@
-use Rattle.terminal_core.proofs.Counting.{counted}
+use Rattle.terminal_core.proofs.Indexed.{counted}
 use Rattle.terminal_core.proofs.laws.entries_less_exits.Goals as goal
 
 pub returns : goal.returns

@@ -1,4 +1,4 @@
-use Rattle.terminal_core.proofs.Restored.{one_state}
+use Rattle.terminal_core.proofs.Placing.{one_state}
 use Rattle.terminal_core.proofs.laws.lists_give_state.Goals as goal
 
 pub returns : goal.returns

@@ -1,4 +1,4 @@
-use Rattle.terminal_core.proofs.OneByOne.{step_goes}
+use Rattle.terminal_core.proofs.Applying.{step_goes}
 use Rattle.terminal_core.proofs.laws.steps_go_one_by_one.Goals as goal
 
 pub returns : goal.returns

@@ -1,4 +1,4 @@
-use Rattle.terminal_core.proofs.Forming.{formed_step}
+use Rattle.terminal_core.proofs.Applying.{formed_step}
 use Rattle.terminal_core.proofs.laws.steps_keep_forms.Goals as goal
 
 pub returns : goal.returns

@@ -1,4 +1,4 @@
-use Rattle.terminal_core.proofs.Keeping.{whole_step}
+use Rattle.terminal_core.proofs.Removed.{whole_step}
 use Rattle.terminal_core.proofs.laws.steps_keep_whole.Goals as goal
 
 pub returns : goal.returns

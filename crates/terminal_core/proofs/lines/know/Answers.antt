@@ -2,7 +2,7 @@ use Rattle.std.proofs.Common.{Some, cond, ap, ◌∙◌, sym}
 use Rattle.edi_messages.specs.Purposes.{CallContent}
 use Rattle.edi_messages.specs.Owned.{call_content}
 use Rattle.terminal_core.specs.LineIndexes.{is_call, indexes_of}
-use Rattle.terminal_core.proofs.Counted.{none_of}
+use Rattle.terminal_core.proofs.Indexed.{none_of}
 use Rattle.terminal_core.proofs.Noted.{known_now}
 use Rattle.terminal_core.proofs.lines.know.Goals as goal
 

@@ -6,8 +6,8 @@ use Rattle.terminal_core.specs.declared.lines.Listing.{Listing}
 use Rattle.terminal_core.specs.Listings.{NoneBefore, IsFirstAt}
 use Rattle.terminal_core.specs.LineIndexes.{AreNoted}
 use Rattle.terminal_core.specs.Restoring.{AreOnce}
-use Rattle.terminal_core.proofs.Counted.{some_of, none_of}
-use Rattle.terminal_core.proofs.Once.{once_more, not_once}
+use Rattle.terminal_core.proofs.Indexed.{some_of, none_of}
+use Rattle.terminal_core.proofs.Lined.{once_more, not_once}
 use Rattle.terminal_core.proofs.Noted.{next_noted}
 use Rattle.terminal_core.proofs.lists.noted_lines.Goals as goal
 

@@ -3,8 +3,7 @@ use Rattle.std.specs.Prelude.{slice_get}
 use Rattle.std.specs.List.{list_any}
 use Rattle.terminal_core.specs.Restoring.{numbers_of}
 use Rattle.terminal_core.specs.declared.visits.Visit.{Visit}
-use Rattle.terminal_core.proofs.Marked.{names_number, named_where_marked, marked_where_named}
-use Rattle.terminal_core.proofs.Numbered.{numbers_rise}
+use Rattle.terminal_core.proofs.Whole.{names_number, named_where_marked, marked_where_named, numbers_rise}
 use Rattle.terminal_core.proofs.restoring.are_all_named.Goals as goal
 
 pub named-requires : goal.named-requires

@@ -5,7 +5,7 @@ use Rattle.std.proofs.lemmas.Option.{slice_get_read}
 use Rattle.terminal_core.specs.Rows.{visit_content}
 use Rattle.terminal_core.specs.State.{AreNumbered, last_number}
 use Rattle.terminal_core.proofs.Open.{numbered_one_more, last_pushed}
-use Rattle.terminal_core.proofs.Numbered.{next_above, one_row_more}
+use Rattle.terminal_core.proofs.Whole.{next_above, one_row_more}
 use Rattle.terminal_core.proofs.restoring.are_numbered.Goals as goal
 
 pub returns-then-visit-last : goal.returns-then-visit-last

@@ -1,5 +1,5 @@
 use Rattle.std.proofs.Common.{◌≡◌, List, Bool, true, false, length, get_or, set, length-set, ap, ◌∙◌}
-use Rattle.terminal_core.proofs.Marked.{marked_more, unmarked_more}
+use Rattle.terminal_core.proofs.Whole.{marked_more, unmarked_more}
 use Rattle.terminal_core.proofs.restoring.named.Goals as goal
 use Rattle.terminal_core.proofs.restoring.named.Goals.{in-Some, in_default}
 

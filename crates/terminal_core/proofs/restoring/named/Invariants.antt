@@ -1,6 +1,6 @@
 use Rattle.std.proofs.Common.{◌≡◌, ℕ, ◌<◌, false, length, take, get_or}
 use Rattle.std.specs.List.{list_any}
-use Rattle.terminal_core.proofs.Marked.{names_number}
+use Rattle.terminal_core.proofs.Whole.{names_number}
 use Rattle.terminal_core.proofs.restoring.named.Given as goal
 
 abbrev pub invariant-loop-place : goal.invariant-loop-place

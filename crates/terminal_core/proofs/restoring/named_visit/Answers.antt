@@ -6,7 +6,7 @@ use Rattle.terminal_core.specs.declared.visits.Visit.{Visit}
 use Rattle.terminal_core.specs.Restoring.{numbers_of}
 use Rattle.terminal_core.specs.Rows.{visit_content, VisitContent}
 use Rattle.terminal_core.specs.State.{is_open_visit}
-use Rattle.terminal_core.proofs.Numbered.{found_at, row_at, content_at, number_read, numbers_rise, same_index, names_at}
+use Rattle.terminal_core.proofs.Whole.{found_at, row_at, content_at, number_read, numbers_rise, same_index, names_at}
 use Rattle.terminal_core.proofs.restoring.named_visit.Goals as goal
 
 pub index_of-requires : goal.index_of-requires

@@ -5,7 +5,7 @@ use Rattle.terminal_core.specs.declared.change.Place.{Place}
 use Rattle.terminal_core.specs.Rows.{visit_content}
 use Rattle.terminal_core.specs.State.{last_number}
 use Rattle.terminal_core.specs.Restoring.{ArePlacesOf, AreNamed, RefusesPlaces}
-use Rattle.terminal_core.proofs.Restored.{whole_of, unsound_yard, not_all_named}
+use Rattle.terminal_core.proofs.Placing.{whole_of, unsound_yard, not_all_named}
 use Rattle.terminal_core.proofs.restoring.restored_yard.Goals as goal
 
 pub returns-in_err-yard-clause-unsound : goal.returns-in_err-yard-clause-unsound

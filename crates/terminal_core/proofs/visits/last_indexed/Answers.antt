@@ -6,7 +6,7 @@ use Rattle.std.proofs.lemmas.List.{take_all}
 use Rattle.terminal_core.specs.declared.visits.Visit.{Visit}
 use Rattle.terminal_core.specs.Rows.{visit_content}
 use Rattle.terminal_core.specs.Index.{AreLastIndexed}
-use Rattle.terminal_core.proofs.LastIndexed.{row_last}
+use Rattle.terminal_core.proofs.Noted.{row_last}
 use Rattle.terminal_core.proofs.visits.last_indexed.Goals as goal
 
 pub loop-row_index-preserved : goal.loop-row_index-preserved

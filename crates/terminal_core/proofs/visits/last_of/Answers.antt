@@ -1,5 +1,5 @@
 use Rattle.std.proofs.Common.{sym}
-use Rattle.terminal_core.proofs.Numbered.{last_at}
+use Rattle.terminal_core.proofs.Whole.{last_at}
 use Rattle.terminal_core.proofs.visits.last_of.Goals as goal
 
 pub returns-in-Some : goal.returns-in-Some

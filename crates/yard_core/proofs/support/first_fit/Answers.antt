@@ -1,4 +1,4 @@
-use Rattle.yard_core.proofs.Searches.{no_tier_after}
+use Rattle.yard_core.proofs.Placings.{no_tier_after}
 use Rattle.std.proofs.Common.{arith}
 use Rattle.yard_core.proofs.support.first_fit.Goals as goal
 

@@ -1,4 +1,4 @@
-use Rattle.yard_core.proofs.Searches.{no_letter_below, no_letter_after}
+use Rattle.yard_core.proofs.Placings.{no_letter_below, no_letter_after}
 use Rattle.std.proofs.Common.{arith}
 use Rattle.yard_core.proofs.support.first_in_tier.Goals as goal
 

@@ -1,6 +1,6 @@
 -- One segment more of the group.
 use Rattle.std.proofs.Common.{sym, ap, ◌∙◌, refl, arith, codes, length}
-use Rattle.edi_segments.specs.Segment.{content}
+use Rattle.edi_syntax.specs.Segment.{content}
 use Rattle.edi_syntax.specs.Frames.{message_segments_left}
 use Rattle.edi_messages.specs.Parts.{is_qualified, states_moment, states_weight}
 use Rattle.edi_messages.proofs.SurveyLemmas.{first_step, group_goes_on, same_groups}

@@ -1,7 +1,7 @@
 use Rattle.std.proofs.Common.{◌≡◌, ◌≤◌, length, codes}
 use Rattle.std.specs.List.{find}
 use Rattle.std.specs.Option.{option_map}
-use Rattle.edi_segments.specs.Segment.{content}
+use Rattle.edi_syntax.specs.Segment.{content}
 use Rattle.edi_syntax.specs.Frames.{message_segments_left}
 use Rattle.edi_messages.specs.Parts.{before_end, groups_of, is_qualified, states_moment, states_weight}
 use Rattle.edi_messages.proofs.SurveyLemmas.{first_in}

@@ -1,6 +1,6 @@
 use Rattle.std.proofs.Common.{arith}
-use Rattle.edi_segments.specs.Segment.{segments_left}
-use Rattle.edi_syntax.proofs.FaultLemmas.{length-messages_in}
+use Rattle.edi_syntax.specs.Segment.{segments_left}
+use Rattle.edi_syntax.proofs.BlockLemmas.{length-messages_in}
 use Rattle.edi_syntax.proofs.envelope.Envelope.frames.Goals as goal
 
 pub returns-clause-few : goal.returns-clause-few

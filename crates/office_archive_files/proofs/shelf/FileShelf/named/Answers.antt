@@ -1,6 +1,6 @@
 use Rattle.std.proofs.Common.{◌≡◌, ◌-◌, Some, slice_get, option_map, rules, refl, ap, ◌∙◌}
 use Rattle.std.proofs.lemmas.Option.{slice_get-map}
-use Rattle.office_register.specs.Register.{archive_content, register_content}
+use Rattle.office_closing.specs.Register.{archive_content, register_content}
 use Rattle.office_archive_files.proofs.shelf.FileShelf.named.Goals as goal
 
 pub returns : goal.returns

@@ -1,9 +1,9 @@
 use Rattle.std.proofs.Common.{rules, sym, ap, subst, ◌∙◌}
-use Rattle.office_checks.specs.Closed.{closed_content}
+use Rattle.office_loading.specs.Closed.{closed_content}
 use Rattle.office_rows.specs.Stored.{HasRows}
-use Rattle.office_setup.specs.Setups.{setup_content}
+use Rattle.office_admission.specs.Setups.{setup_content}
 use Rattle.office_loading.specs.Tables.{LoadsOwn}
-use Rattle.office_tables.proofs.ReadingLemmas.{clean_first}
+use Rattle.office_tables.proofs.MadeLemmas.{clean_first}
 use Rattle.office_archive_files.specs.Archives.{Reaches}
 use Rattle.office_archive_files.proofs.ShelfLemmas.{opened_at}
 use Rattle.office_archive_files.proofs.shelf.FileShelf.opened.Goals as goal

@@ -1,4 +1,4 @@
-use Rattle.office_archives.proofs.Looking.{looks_noted, looks_on}
+use Rattle.office_archives.proofs.Together.{looks_noted, looks_on}
 use Rattle.office_archives.proofs.archived_desk.ArchivedDesk.answer_archive.Goals as goal
 
 pub returns-in-Ok : goal.returns-in-Ok

@@ -1,4 +1,4 @@
-use Rattle.office_archives.proofs.Looking.{looks_noted}
+use Rattle.office_archives.proofs.Together.{looks_noted}
 use Rattle.office_archives.proofs.archived_desk.ArchivedDesk.answer_query.Goals as goal
 
 pub returns-in-Err : goal.returns-in-Err

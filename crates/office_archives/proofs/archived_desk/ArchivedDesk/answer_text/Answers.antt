@@ -1,7 +1,7 @@
 use Rattle.std.proofs.Common.{subst}
-use Rattle.edi_segments.specs.Interchange.{interchange_of}
+use Rattle.edi_syntax.specs.Interchange.{interchange_of}
 use Rattle.office_admission.specs.Outcomes.{IsRefused, fault_in}
-use Rattle.office_desk.proofs.Admitted.{refused_for}
+use Rattle.office_desk.proofs.OwnNumbers.{refused_for}
 use Rattle.office_archives.proofs.Together.{by_desk}
 use Rattle.office_archives.proofs.archived_desk.ArchivedDesk.answer_text.Goals as goal
 

@@ -1,10 +1,10 @@
 use Rattle.std.proofs.Common.{ℕ, List, Option}
-use Rattle.office_queries.specs.Looking.{texts_after}
+use Rattle.office_reports.specs.Looking.{texts_after}
 use Rattle.office_desk.specs.Looking.{DeskHands}
 use Rattle.office_archives.specs.Together.{ShowsBeside}
 use Rattle.office_archives.proofs.Beside.{none_there, tells_so}
 use Rattle.office_desk.proofs.LookLemmas.{looks_nowhere}
-use Rattle.office_archives.proofs.Looking.{looks_noted, looks_on}
+use Rattle.office_archives.proofs.Together.{looks_noted, looks_on}
 use Rattle.office_archives.proofs.archived_desk.ArchivedDesk.answer_texts.Goals as goal
 
 -- there is no archive

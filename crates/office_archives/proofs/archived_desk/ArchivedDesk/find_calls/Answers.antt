@@ -4,7 +4,7 @@ use Rattle.office_desk.specs.Reports.{DeskTells}
 use Rattle.office_archives.specs.Telling.{archives_with_lists}
 use Rattle.office_archives.specs.Together.{TellsBeside}
 use Rattle.office_archives.proofs.Beside.{calls_beside}
-use Rattle.office_archives.proofs.Looking.{looks_on}
+use Rattle.office_archives.proofs.Together.{looks_on}
 use Rattle.office_archives.proofs.archived_desk.ArchivedDesk.find_calls.Goals as goal
 use Rattle.office_archives.proofs.archived_desk.ArchivedDesk.find_calls.Goals.{then-has_lists, else-has_lists}
 

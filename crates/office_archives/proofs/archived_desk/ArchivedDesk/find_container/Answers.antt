@@ -1,6 +1,6 @@
 use Rattle.std.proofs.Common.{option_map, string_bytes}
 use Rattle.office_archives.proofs.Beside.{container_beside}
-use Rattle.office_archives.proofs.Looking.{looks_on}
+use Rattle.office_archives.proofs.Together.{looks_on}
 use Rattle.office_archives.proofs.archived_desk.ArchivedDesk.find_container.Goals as goal
 
 pub returns-clause-told : goal.returns-clause-told

@@ -1,11 +1,11 @@
 use Rattle.std.proofs.Common.{map, option_map, string_bytes, subst}
 use Rattle.edi_messages.specs.Owned.{call_content}
-use Rattle.office_rows.proofs.StepLemmas.{if_ok}
+use Rattle.office_rows.proofs.Creating.{if_ok}
 use Rattle.office_rows.specs.Rows.{listing_content}
-use Rattle.office_lists.specs.OwnLists.{list_name}
+use Rattle.office_parts.specs.OwnLists.{list_name}
 use Rattle.office_archives.specs.ListsAway.{FindsIfAway}
 use Rattle.office_archives.proofs.Beside.{away_beside, list_beside}
-use Rattle.office_archives.proofs.Looking.{looks_more, looks_on}
+use Rattle.office_archives.proofs.Together.{looks_more, looks_on}
 use Rattle.office_archives.proofs.archived_desk.ArchivedDesk.find_list.Goals as goal
 
 pub returns-in_err-lines-clause-looks : goal.returns-in_err-lines-clause-looks

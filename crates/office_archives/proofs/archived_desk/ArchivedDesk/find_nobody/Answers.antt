@@ -1,6 +1,6 @@
 use Rattle.std.proofs.Common.{None, refl}
 use Rattle.office_archives.proofs.Beside.{nobody_beside}
-use Rattle.office_archives.proofs.Looking.{looks_on}
+use Rattle.office_archives.proofs.Together.{looks_on}
 use Rattle.office_archives.proofs.archived_desk.ArchivedDesk.find_nobody.Goals as goal
 
 pub returns-clause-told : goal.returns-clause-told

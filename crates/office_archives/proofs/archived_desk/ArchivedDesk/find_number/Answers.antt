@@ -1,10 +1,10 @@
 use Rattle.std.proofs.Common.{◌≡◌, Some, IfSome, option_map, string_bytes, sym, subst, ◌∙◌}
-use Rattle.office_setup.specs.Setups.{setup_content}
-use Rattle.office_rows.proofs.StepLemmas.{if_ok}
+use Rattle.office_admission.specs.Setups.{setup_content}
+use Rattle.office_rows.proofs.Creating.{if_ok}
 use Rattle.office_desk.specs.Reports.{partner_called}
 use Rattle.office_archives.proofs.Beside.{closed_beside, number_beside}
 use Rattle.office_desk.proofs.LookLemmas.{looks_nowhere}
-use Rattle.office_archives.proofs.Looking.{looks_on}
+use Rattle.office_archives.proofs.Together.{looks_on}
 use Rattle.office_archives.proofs.archived_desk.ArchivedDesk.find_number.Goals as goal
 
 pub returns-in_err-partner-clause-looks : goal.returns-in_err-partner-clause-looks

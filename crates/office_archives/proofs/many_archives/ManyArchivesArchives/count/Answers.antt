@@ -1,6 +1,6 @@
 use Rattle.std.proofs.Common.{◌≡◌, length, rules, sym, ◌∙◌}
 use Rattle.std.proofs.lemmas.List.{length-map}
-use Rattle.office_register.specs.Register.{archive_content}
+use Rattle.office_closing.specs.Register.{archive_content}
 use Rattle.office_archives.proofs.many_archives.ManyArchivesArchives.count.Goals as goal
 
 -- The register names as many.

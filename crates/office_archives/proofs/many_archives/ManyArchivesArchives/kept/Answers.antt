@@ -1,13 +1,13 @@
 use Rattle.std.proofs.Common.{◌≡◌, Some, refl, sym, ap, subst, ◌∙◌}
 use Rattle.std.specs.Option.{option_and_then}
-use Rattle.partner_core.proofs.Firsts.{some_of}
+use Rattle.partner_core.proofs.Orders.{some_of}
 use Rattle.office_rows.specs.Stored.{HasRows}
 use Rattle.office_tables.specs.Answers.{IsKept}
-use Rattle.office_tables.proofs.ReadingLemmas.{clean_first}
+use Rattle.office_tables.proofs.MadeLemmas.{clean_first}
 use Rattle.office_parts.specs.Archives.{archive_of}
 use Rattle.office_archives.specs.Shelves.{IsOpenAt, archive_at}
-use Rattle.office_archives.proofs.Shelved.{open_still, shelved_still}
-use Rattle.office_archives.proofs.Telling.{told_by}
+use Rattle.office_archives.proofs.Rising.{open_still, shelved_still}
+use Rattle.office_archives.proofs.Filled.{told_by}
 use Rattle.office_archives.proofs.many_archives.ManyArchivesArchives.kept.Goals as goal
 
 pub returns-in-Some-found-clause-kept : goal.returns-in-Some-found-clause-kept

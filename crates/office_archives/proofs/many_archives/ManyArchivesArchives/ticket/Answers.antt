@@ -1,8 +1,8 @@
 use Rattle.std.proofs.Common.{refl, sym, subst, ◌∙◌}
 use Rattle.office_rows.specs.Stored.{HasRows}
-use Rattle.office_tables.proofs.ReadingLemmas.{clean_first}
+use Rattle.office_tables.proofs.MadeLemmas.{clean_first}
 use Rattle.office_archives.specs.Shelves.{IsOpenAt}
-use Rattle.office_archives.proofs.Shelved.{archive_there, open_still, shelved_still}
+use Rattle.office_archives.proofs.Rising.{archive_there, open_still, shelved_still}
 use Rattle.office_archives.proofs.many_archives.ManyArchivesArchives.ticket.Goals as goal
 
 pub returns-clause-ticket : goal.returns-clause-ticket

@@ -1,5 +1,5 @@
 use Rattle.std.proofs.Common.{ap, subst, ◌∙◌}
-use Rattle.edi_segments.specs.Interchange.{segments_in}
+use Rattle.edi_syntax.specs.Interchange.{segments_in}
 use Rattle.office_commands.specs.Senders.{IsSender}
 use Rattle.office_commands.proofs.notes.Sender.of.Goals as goal
 

@@ -10,22 +10,22 @@ use Rattle.office_replies.specs.declared.accounts.AccountFault.TheVariants.{Part
 use Rattle.office_rows.specs.Effects.{with_partner}
 use Rattle.office_rows.specs.Rows.{Rows}
 use Rattle.office_rows.specs.Stored.{HasRows, StoresRows}
-use Rattle.office_setup.specs.Given.{IsGiven}
-use Rattle.office_setup.specs.Parties.{partner_from}
-use Rattle.office_setup.specs.Setups.{SetupContent, setup_content, setup_with_account}
+use Rattle.office_admission.specs.Given.{IsGiven}
+use Rattle.office_admission.specs.Parties.{partner_from}
+use Rattle.office_admission.specs.Setups.{SetupContent, setup_content, setup_with_account}
 use Rattle.office_tables.specs.Order.{HasRowsInOrder}
 use Rattle.office_tables.specs.declared.table_fault.TableFault.TheVariants.{Memory}
-use Rattle.office_history.proofs.Growing.{account_adds_row}
-use Rattle.office_desk.proofs.LeavingLemmas.{held_rows_leave}
-use Rattle.office_rows.proofs.StepLemmas.{stores}
+use Rattle.office_history.proofs.Ground.{account_adds_row}
+use Rattle.office_desk.proofs.PageLemmas.{held_rows_leave}
+use Rattle.office_rows.proofs.Creating.{stores}
 use Rattle.office_desk.specs.Accounts.{standing_content}
 use Rattle.office_desk.specs.Desks.{StandsFor}
 use Rattle.office_desk.specs.Order.{IsInOrder, StandsInOrder, stored}
 use Rattle.office_desk.specs.Telling.{Holds}
 use Rattle.office_desk.proofs.AccountLemmas.{account_after, account_held, asked_is, given_left, given_with, not_added, says_now, says_of}
-use Rattle.office_desk.proofs.CrashLemmas.{committed_leaves, either_of, held_leaves}
+use Rattle.office_desk.proofs.HoldLemmas.{committed_leaves, either_of, held_leaves}
 use Rattle.office_desk.proofs.LookLemmas.{noted_fault, noted_told}
-use Rattle.office_desk.proofs.OrderLemmas.{account_in_order, committed_in_order}
+use Rattle.office_desk.proofs.Faults.{account_in_order, committed_in_order}
 use Rattle.office_desk.proofs.desk.Desk.answer_account.Goals as goal
 
 -- ---- no code or no kind

@@ -1,5 +1,5 @@
 use Rattle.std.proofs.Common.{string_bytes}
-use Rattle.office_queries.specs.Looking.{report}
+use Rattle.office_reports.specs.Looking.{report}
 use Rattle.office_desk.proofs.LookLemmas.{looks_noted}
 use Rattle.office_desk.proofs.desk.Desk.answer_query.Goals as goal
 

@@ -1,8 +1,8 @@
 use Rattle.std.proofs.Common.{Result, Ok, Err}
 use Rattle.std.proofs.lemmas.Result.{IfErr-weaker}
 use Rattle.std.specs.Prelude.{OnOk}
-use Rattle.office_queries.specs.Looking.{texts_after}
-use Rattle.office_tables.proofs.FaultLemmas.{of_store_or}
+use Rattle.office_reports.specs.Looking.{texts_after}
+use Rattle.office_tables.proofs.WritesLemmas.{of_store_or}
 use Rattle.office_desk.proofs.LookLemmas.{looks_noted}
 use Rattle.office_desk.proofs.desk.Desk.answer_texts.Goals as goal
 

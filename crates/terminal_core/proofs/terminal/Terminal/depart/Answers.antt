@@ -3,8 +3,8 @@ use Rattle.yard_core.specs.YardMap.{placement}
 use Rattle.terminal_core.specs.Rows.{change_content}
 use Rattle.terminal_core.specs.Step.{departure_by}
 use Rattle.terminal_core.proofs.Whole.{whole_departed, whole_with}
-use Rattle.terminal_core.proofs.Appended.{two_more}
-use Rattle.terminal_core.proofs.Steps.{has_departed, has_not_departed}
+use Rattle.terminal_core.proofs.Open.{two_more}
+use Rattle.terminal_core.proofs.Lined.{has_departed, has_not_departed}
 use Rattle.terminal_core.proofs.terminal.Terminal.depart.Goals as goal
 
 pub invariant_of-self : goal.invariant_of-self

@@ -7,7 +7,7 @@ use Rattle.terminal_core.specs.State.{Lines, line_of, line_key}
 use Rattle.terminal_core.specs.Versions.{newest}
 use Rattle.terminal_core.specs.Step.{after_entry}
 use Rattle.std.specs.FinMap as finite_map
-use Rattle.terminal_core.proofs.Steps.{mapped_some, line_closed, came_off}
+use Rattle.terminal_core.proofs.Lined.{mapped_some, line_closed, came_off}
 use Rattle.terminal_core.proofs.terminal.Terminal.discharge.Goals as goal
 
 pub returns-else-is_refused-clause-ok : goal.returns-else-is_refused-clause-ok

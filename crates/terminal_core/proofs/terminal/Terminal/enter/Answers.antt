@@ -8,10 +8,9 @@ use Rattle.terminal_core.specs.State.{TerminalState, last_number}
 use Rattle.terminal_core.specs.Versions.{newest}
 use Rattle.terminal_core.specs.Step.{after_entry}
 use Rattle.terminal_core.specs.Calls.{Follows, Settles, IsUnsettled}
-use Rattle.terminal_core.proofs.Open.{no_more_than_last}
-use Rattle.terminal_core.proofs.Appended.{visits_after, changes_after, room}
+use Rattle.terminal_core.proofs.Open.{no_more_than_last, visits_after, changes_after, room}
 use Rattle.terminal_core.proofs.Whole.{whole_entered, whole_with, placed_in_plan}
-use Rattle.terminal_core.proofs.Steps.{has_entered}
+use Rattle.terminal_core.proofs.Lined.{has_entered}
 use Rattle.terminal_core.proofs.terminal.Terminal.enter.Goals as goal
 
 pub invariant_of-self-in-Ok : goal.invariant_of-self-in-Ok

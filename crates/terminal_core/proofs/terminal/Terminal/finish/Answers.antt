@@ -1,5 +1,5 @@
 use Rattle.edi_messages.specs.Owned.{call_content}
-use Rattle.terminal_core.proofs.Steps.{line_done_in}
+use Rattle.terminal_core.proofs.Lined.{line_done_in}
 use Rattle.terminal_core.proofs.terminal.Terminal.finish.Goals as goal
 
 pub returns-clause-done : goal.returns-clause-done

@@ -6,7 +6,7 @@ use Rattle.terminal_core.specs.declared.visits.Way.TheVariants.{Ship}
 use Rattle.terminal_core.specs.State.{Lines, line_of, line_key, is_in}
 use Rattle.terminal_core.specs.Step.{after_departure}
 use Rattle.std.specs.FinMap as finite_map
-use Rattle.terminal_core.proofs.Steps.{mapped_some, line_kept, line_closed, went_on}
+use Rattle.terminal_core.proofs.Lined.{mapped_some, line_kept, line_closed, went_on}
 use Rattle.terminal_core.proofs.terminal.Terminal.load.Goals as goal
 
 pub returns-then-is_refused-clause-ok : goal.returns-then-is_refused-clause-ok

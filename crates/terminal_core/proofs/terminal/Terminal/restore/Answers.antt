@@ -6,7 +6,7 @@ use Rattle.std.specs.Prelude.{map}
 use Rattle.terminal_core.specs.declared.visits.Visit.{Visit}
 use Rattle.terminal_core.specs.Rows.{visit_content}
 use Rattle.terminal_core.specs.Restoring.{IsYardOf}
-use Rattle.terminal_core.proofs.Restored.{one_state, rows_of}
+use Rattle.terminal_core.proofs.Placing.{one_state, rows_of}
 use Rattle.terminal_core.proofs.terminal.Terminal.restore.Goals as goal
 
 pub returns-clause-ok : goal.returns-clause-ok

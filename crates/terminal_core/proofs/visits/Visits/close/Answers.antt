@@ -10,7 +10,7 @@ use Rattle.terminal_core.specs.Calls.{HasOneVisit}
 use Rattle.std.specs.Prelude.{find}
 use Rattle.terminal_core.specs.Index.{VisitBook}
 use Rattle.terminal_core.proofs.Indexed.{kept_somewhere, kept_at, shut_rows, less_indexed}
-use Rattle.terminal_core.proofs.LastIndexed.{closed_last}
+use Rattle.terminal_core.proofs.Noted.{closed_last}
 use Rattle.terminal_core.proofs.visits.Visits.close.Goals as goal
 
 pub unreachable-requires : goal.unreachable-requires

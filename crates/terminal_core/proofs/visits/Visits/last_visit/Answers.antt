@@ -5,7 +5,7 @@ use Rattle.std.specs.Map.{lookup}
 use Rattle.terminal_core.specs.Rows.{visit_content}
 use Rattle.terminal_core.specs.State.{is_visit_of}
 use Rattle.terminal_core.specs.Index.{VisitBook}
-use Rattle.terminal_core.proofs.LastIndexed.{is_shown, lent_at}
+use Rattle.terminal_core.proofs.Noted.{is_shown, lent_at}
 use Rattle.terminal_core.proofs.visits.Visits.last_visit.Goals as goal
 
 pub returns : goal.returns

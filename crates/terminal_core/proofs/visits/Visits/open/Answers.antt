@@ -7,9 +7,9 @@ use Rattle.std.proofs.lemmas.List.{length-map}
 use Rattle.terminal_core.specs.Rows.{VisitContent, visit_content}
 use Rattle.terminal_core.specs.State.{is_open_visit}
 use Rattle.terminal_core.specs.Index.{VisitBook, AreFound}
-use Rattle.terminal_core.proofs.Appended.{one_more}
+use Rattle.terminal_core.proofs.Open.{one_more}
 use Rattle.terminal_core.proofs.Indexed.{one_indexed, at_ok}
-use Rattle.terminal_core.proofs.LastIndexed.{one_last}
+use Rattle.terminal_core.proofs.Noted.{one_last}
 use Rattle.terminal_core.proofs.visits.Visits.open.Goals as goal
 
 pub invariant_of-self : goal.invariant_of-self

@@ -7,8 +7,8 @@ use Rattle.terminal_core.specs.declared.visits.Visit.{Visit}
 use Rattle.terminal_core.specs.Rows.{visit_content}
 use Rattle.terminal_core.specs.State.{is_open_visit}
 use Rattle.terminal_core.specs.Index.{VisitBook}
-use Rattle.terminal_core.proofs.Numbered.{content_at}
-use Rattle.terminal_core.proofs.Opened.{opened, none_opened, read_at, not_read}
+use Rattle.terminal_core.proofs.Whole.{content_at}
+use Rattle.terminal_core.proofs.Lined.{opened, none_opened, read_at, not_read}
 use Rattle.terminal_core.proofs.visits.Visits.open_visit.Goals as goal
 
 pub returns-in_default : goal.returns-in_default

@@ -6,7 +6,7 @@ use Rattle.terminal_core.specs.Index.{VisitBook, if_open}
 use Rattle.terminal_core.specs.Rows.{VisitContent, visit_content}
 use Rattle.terminal_core.specs.State.{AreOpenOf}
 use Rattle.terminal_core.specs.declared.visits.Visit.{Visit}
-use Rattle.terminal_core.proofs.OpenOnes.{IsOpenSoFar, open_none, open_more, open_less, open_all}
+use Rattle.terminal_core.proofs.Dropping.{IsOpenSoFar, open_none, open_more, open_less, open_all}
 use Rattle.terminal_core.proofs.visits.Visits.open_visits.Goals as goal
 
 abbrev shown : Bor Visit → VisitContent

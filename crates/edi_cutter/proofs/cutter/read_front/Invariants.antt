@@ -1,5 +1,0 @@
-use Rattle.edi_cutter.proofs.FrontLemmas.{Filled}
-use Rattle.edi_cutter.proofs.cutter.read_front.Given as goal
-
-abbrev pub invariant-loop-i : goal.invariant-loop-i
-invariant-loop-i l = Filled l.text l.piece l.front l.i l.reading

@@ -1,5 +1,0 @@
-use Rattle.edi_cutter.proofs.PositionLemmas.{closed_where_a_trailer_ends}
-use Rattle.edi_cutter.proofs.laws.closed_where_a_trailer_ends.Goals as goal
-
-pub returns : goal.returns
-returns c = closed_where_a_trailer_ends

@@ -1,5 +1,0 @@
-use Rattle.edi_cutter.proofs.PositionLemmas.{refused_where_nothing_goes_on}
-use Rattle.edi_cutter.proofs.laws.refused_where_nothing_goes_on.Goals as goal
-
-pub returns : goal.returns
-returns c = refused_where_nothing_goes_on

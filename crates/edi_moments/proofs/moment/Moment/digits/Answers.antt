@@ -1,7 +1,0 @@
-use Rattle.std.proofs.Common.{◌≡◌, subst, true}
-use Rattle.edi_moments.specs.Moments.{CivilMoment, is_moment}
-use Rattle.edi_moments.proofs.DigitLemmas.{read_back}
-use Rattle.edi_moments.proofs.moment.Moment.digits.Goals as goal
-
-pub returns-clause-read : goal.returns-clause-read
-returns-clause-read c = rw c.written.ensures (read_back c.args.self (subst (λ (m : CivilMoment). is_moment m ≡ true) c.self.view_is c.self.invariant))

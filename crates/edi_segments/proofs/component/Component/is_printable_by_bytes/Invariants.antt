@@ -1,8 +1,0 @@
-use Rattle.std.proofs.Common.{◌≡◌}
-use Rattle.std.specs.List.{list_all}
-use Rattle.edi_segments.specs.Characters.{is_printable}
-use Rattle.edi_segments.specs.Segment.{value, bytes_left}
-use Rattle.edi_segments.proofs.component.Component.is_printable_by_bytes.Given as goal
-
-abbrev pub invariant-loop-byte : goal.invariant-loop-byte
-invariant-loop-byte l = list_all is_printable (value l.self) ≡ list_all is_printable (bytes_left l.byte-iterator)

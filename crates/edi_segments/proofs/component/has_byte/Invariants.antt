@@ -1,6 +1,0 @@
-use Rattle.std.proofs.Common.{◌≡◌, ◌==◌, take, false}
-use Rattle.std.specs.List.{list_any}
-use Rattle.edi_segments.proofs.component.has_byte.Given as goal
-
-abbrev pub invariant-loop-other : goal.invariant-loop-other
-invariant-loop-other l = list_any (λ b. b == l.byte) (take l.other-index l.text) ≡ false

@@ -1,4 +1,0 @@
-pub mod Beyond
-pub mod Files
-pub mod Events
-pub mod Together

@@ -1,2 +1,0 @@
-pub mod PartQuery
-pub mod PartLemmas

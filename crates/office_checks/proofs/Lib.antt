@@ -1,9 +1,0 @@
-pub mod Lists
-pub mod Kept
-pub mod InOrder
-pub mod Accounted
-pub mod Told
-pub mod Keyed
-pub mod OwnVisits
-pub mod Offices
-pub mod Alike

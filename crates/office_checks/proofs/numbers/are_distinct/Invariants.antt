@@ -1,7 +1,0 @@
-use Rattle.std.proofs.Common.{◌≡◌, ◌≢◌, ℕ, ◌<◌, Some, string_bytes}
-use Rattle.std.specs.Prelude.{slice_get}
-use Rattle.office_checks.specs.declared.numbers.PartnerRow.{PartnerRow}
-use Rattle.office_checks.proofs.numbers.are_distinct.Given as goal
-
-abbrev pub invariant-loop-index : goal.invariant-loop-index
-invariant-loop-index l = (j k : ℕ) (a b : PartnerRow) → j < k → k < l.index → slice_get l.partners j ≡ Some a → slice_get l.partners k ≡ Some b → string_bytes a.code ≢ string_bytes b.code

@@ -1,7 +1,0 @@
-use Rattle.std.proofs.Common.{◌≡◌, ◌≢◌, ℕ, ◌<◌, Some, string_bytes}
-use Rattle.std.specs.Prelude.{slice_get}
-use Rattle.office_checks.specs.declared.numbers.PartnerRow.{PartnerRow}
-use Rattle.office_checks.proofs.numbers.has_code.Given as goal
-
-abbrev pub invariant-loop-partner : goal.invariant-loop-partner
-invariant-loop-partner l = (k : ℕ) (row : PartnerRow) → k < l.partner-index → slice_get l.partners k ≡ Some row → string_bytes row.code ≢ l.code

@@ -1,7 +1,0 @@
-use Rattle.std.proofs.Common.{map, take}
-use Rattle.office_checks.specs.Contents.{number_content}
-use Rattle.office_checks.specs.Owned.{AreOwn}
-use Rattle.office_checks.proofs.numbers.own_count.Given as goal
-
-abbrev pub invariant-loop-index : goal.invariant-loop-index
-invariant-loop-index l = AreOwn l.partner (map number_content (take l.index l.numbers))

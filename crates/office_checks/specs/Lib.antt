@@ -1,9 +1,0 @@
-pub mod Contents
-pub mod Closed
-pub mod Checks
-pub mod OwnOffice
-pub mod Accounts
-pub mod Owned
-pub mod Said
-pub mod Formed
-pub mod Refusals

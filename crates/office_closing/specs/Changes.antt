@@ -1,0 +1,34 @@
+-- What the calls that write make of a register.
+use Rattle.std.specs.Prelude.{ℕ, List, [], ◌∷◌, ◌++◌, None, Some}
+use Rattle.office_closing.specs.declared.register.Segment.{Segment}
+use Rattle.office_closing.specs.Lists.{SettledListContent, put_lists}
+use Rattle.office_closing.specs.Register.{ArchiveContent, RegisterContent}
+
+-- that of a store of which nothing was put away
+abbrev pub empty_register : RegisterContent
+empty_register = record { archives = []; segments = []; lists = []; closed_for = None }
+
+abbrev pub with_archive : ArchiveContent → RegisterContent → RegisterContent
+with_archive archive content = record content { archives = content.archives ++ archive ∷ [] }
+
+abbrev pub with_segments : List Segment → RegisterContent → RegisterContent
+with_segments segments content = record content { segments = content.segments ++ segments }
+
+abbrev pub with_lists : List SettledListContent → RegisterContent → RegisterContent
+with_lists lists content = record content { lists = put_lists lists content.lists }
+
+-- an archive is added, with the segments that it closes and the lists that were put away with it
+abbrev pub closed_with : ArchiveContent → List Segment → List SettledListContent → RegisterContent → RegisterContent
+closed_with archive segments lists content = with_lists lists (with_segments segments (with_archive archive content))
+
+-- as it is
+abbrev pub unchanged : RegisterContent → RegisterContent
+unchanged content = content
+
+-- that of a store that goes on itself
+abbrev pub unmarked : RegisterContent → RegisterContent
+unmarked content = record content { closed_for = None }
+
+-- that of an archive: the store in this file goes on
+abbrev pub marked_for : List ℕ → RegisterContent → RegisterContent
+marked_for file content = record content { closed_for = Some file }

@@ -1,4 +1,0 @@
-pub mod Taken
-pub mod Taking
-pub mod Reading
-pub mod Writing

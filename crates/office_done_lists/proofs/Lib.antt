@@ -1,7 +1,0 @@
-pub mod ListLemmas
-pub mod FoundLemmas
-pub mod OnceLemmas
-pub mod GoesLemmas
-pub mod AccountLemmas
-pub mod WaitingLemmas
-pub mod AwayLemmas

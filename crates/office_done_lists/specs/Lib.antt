@@ -1,4 +1,0 @@
-pub mod Found
-pub mod Going
-pub mod Laws
-pub mod Waiting

@@ -1,3 +1,0 @@
-pub mod PlainLemmas
-pub mod TextLemmas
-pub mod ReadingLemmas

@@ -1,5 +1,0 @@
-use Rattle.office_list_texts.proofs.TextLemmas.{one_list}
-use Rattle.office_list_texts.proofs.laws.one_text_one_list.Goals as goal
-
-pub returns : goal.returns
-returns c = one_list

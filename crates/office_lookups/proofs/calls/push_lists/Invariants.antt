@@ -1,7 +1,0 @@
-use Rattle.std.proofs.Common.{◌≡◌, ◌++◌, flat_map, string_bytes}
-use Rattle.office_lookups.specs.Calls.{call_line, lists_content}
-use Rattle.office_lookups.proofs.calls.push_lists.Given as goal
-
-abbrev pub invariant-loop-vessel : goal.invariant-loop-vessel
-invariant-loop-vessel l =
-    string_bytes l.text ++ flat_map call_line (lists_content l.vessel-iterator) ≡ string_bytes l.initial.text ++ flat_map call_line (lists_content l.initial.vessel-iterator)

@@ -1,9 +1,0 @@
-pub mod Blocks
-pub mod Calls
-pub mod Containers
-pub mod Contrls
-pub mod Laws
-pub mod Metrics
-pub mod OpenLines
-pub mod Partners
-pub mod Work

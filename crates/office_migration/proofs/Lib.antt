@@ -1,4 +1,0 @@
-pub mod MoreLemmas
-pub mod StandingLemmas
-pub mod MigratedLemmas
-pub mod HistoryLemmas

@@ -1,6 +1,0 @@
-use Rattle.std.proofs.Common.{◌≡◌, ◌++◌}
-use Rattle.std.specs.Map.{values_of}
-use Rattle.office_picture.proofs.drawing.standings_of.Given as goal
-
-abbrev pub invariant-loop-standing : goal.invariant-loop-standing
-invariant-loop-standing l = l.standings.items ++ values_of l.standing-iterator ≡ values_of l.initial.standing-iterator

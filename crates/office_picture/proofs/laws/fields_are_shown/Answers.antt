@@ -1,5 +1,0 @@
-use Rattle.office_picture.proofs.Markup.{field_is_shown}
-use Rattle.office_picture.proofs.laws.fields_are_shown.Goals as goal
-
-pub returns : goal.returns
-returns c = field_is_shown

@@ -1,4 +1,0 @@
-pub mod Decoding
-pub mod Parting
-pub mod Naming
-pub mod Room

@@ -1,9 +1,0 @@
-use Rattle.std.proofs.Common.{subst, sym}
-use Rattle.std.specs.List.{AllByRecursion}
-use Rattle.office_register.specs.Register.{register_content}
-use Rattle.office_register.specs.Sound.{IsOfAccount}
-use Rattle.office_register.proofs.RaiseLemmas.{sound_accounts}
-use Rattle.office_register.proofs.register.Register.closed.Goals as goal
-
-pub last_numbers-requires : goal.last_numbers-requires
-last_numbers-requires c = subst (AllByRecursion IsOfAccount) (sym c.deref.ensures.value) (sound_accounts (register_content c.args.self.now) c.requires)

@@ -1,6 +1,0 @@
-use Rattle.std.proofs.Common.{◌≡◌, map, take}
-use Rattle.office_register.specs.Register.{archive_content}
-use Rattle.office_register.proofs.register.are_same_archives.Given as goal
-
-abbrev pub invariant-loop-index : goal.invariant-loop-index
-invariant-loop-index l = map archive_content (take l.index l.one) ≡ map archive_content (take l.index l.other)

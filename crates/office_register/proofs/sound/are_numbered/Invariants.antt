@@ -1,8 +1,0 @@
-use Rattle.std.proofs.Common.{◌≡◌, ◌+◌, map, drop}
-use Rattle.office_register.specs.Register.{archive_content}
-use Rattle.office_register.specs.Sound.{are_numbered}
-use Rattle.office_register.proofs.sound.are_numbered.Given as goal
-
-abbrev pub invariant-loop-before : goal.invariant-loop-before
-invariant-loop-before l =
-    are_numbered 1 0 (map archive_content l.archives) ≡ are_numbered (l.before + 1) l.visits (map archive_content (drop l.before l.archives))

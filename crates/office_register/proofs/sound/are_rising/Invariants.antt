@@ -1,9 +1,0 @@
-use Rattle.std.proofs.Common.{◌≡◌, map, drop, None}
-use Rattle.std.specs.Option.{option_map}
-use Rattle.office_register.specs.Lists.{list_content}
-use Rattle.office_register.specs.Sound.{are_rising}
-use Rattle.office_register.proofs.sound.are_rising.Given as goal
-
-abbrev pub invariant-loop-list : goal.invariant-loop-list
-invariant-loop-list l =
-    are_rising None (map list_content l.lists) ≡ are_rising (option_map (λ one. list_content one.now) l.before) (map list_content (drop l.list-index l.lists))

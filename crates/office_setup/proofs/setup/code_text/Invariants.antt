@@ -1,6 +1,0 @@
-use Rattle.std.proofs.Common.{◌≡◌, ◌++◌}
-use Rattle.edi_segments.specs.Segment.{value, bytes_left}
-use Rattle.office_setup.proofs.setup.code_text.Given as goal
-
-abbrev pub invariant-loop-byte : goal.invariant-loop-byte
-invariant-loop-byte l = l.text.items ++ bytes_left l.byte-iterator ≡ value l.fn.code

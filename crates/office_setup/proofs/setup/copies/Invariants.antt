@@ -1,6 +1,0 @@
-use Rattle.std.proofs.Common.{◌≡◌, take}
-use Rattle.office_setup.specs.Accounts.{account_contents}
-use Rattle.office_setup.proofs.setup.copies.Given as goal
-
-abbrev pub invariant-loop-account : goal.invariant-loop-account
-invariant-loop-account l = account_contents l.copies.items ≡ account_contents (take l.account-index l.accounts)

@@ -1,7 +1,0 @@
-use Rattle.std.proofs.Common.{◌≡◌, map, take, Some}
-use Rattle.csv.specs.Records.{fields_of}
-use Rattle.office_setup_files.specs.Said.{block_said}
-use Rattle.office_setup_files.proofs.files.blocks_among.Given as goal
-
-abbrev pub invariant-loop-row : goal.invariant-loop-row
-invariant-loop-row l = map block_said (map fields_of (take l.row-index l.rows)) ≡ map Some l.blocks.items

@@ -1,9 +1,0 @@
-use Rattle.std.proofs.Common.{◌≡◌, map, drop}
-use Rattle.std.specs.List.{list_any}
-use Rattle.std.specs.Str.{bytes_eq}
-use Rattle.office_setup_files.specs.Entries.{entry_content}
-use Rattle.office_setup_files.specs.Said.{names_of}
-use Rattle.office_setup_files.proofs.files.has_name.Given as goal
-
-abbrev pub invariant-loop-entry : goal.invariant-loop-entry
-invariant-loop-entry l = list_any (λ other. bytes_eq other l.name) (names_of (map entry_content (drop l.entry-index l.entries))) ≡ list_any (λ other. bytes_eq other l.name) (names_of (map entry_content l.entries))

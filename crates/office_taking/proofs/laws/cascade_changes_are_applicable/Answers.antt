@@ -1,5 +1,0 @@
-use Rattle.office_taking.proofs.Reaching.{cascade_leads}
-use Rattle.office_taking.proofs.laws.cascade_changes_are_applicable.Goals as goal
-
-pub returns : goal.returns
-returns c = λ machine texts numbers whole. (cascade_leads machine texts numbers whole).applicable

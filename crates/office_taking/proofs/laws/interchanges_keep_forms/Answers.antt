@@ -1,5 +1,0 @@
-use Rattle.office_taking.proofs.Forming.{interchange_formed_by}
-use Rattle.office_taking.proofs.laws.interchanges_keep_forms.Goals as goal
-
-pub returns : goal.returns
-returns c = interchange_formed_by

@@ -1,6 +1,0 @@
-use Rattle.std.proofs.Common.{◌≡◌, drop}
-use Rattle.office_taking.specs.Tallies.{with_lines}
-use Rattle.office_taking.proofs.tally.Tally.count_lines.Given as goal
-
-abbrev pub invariant-loop-line : goal.invariant-loop-line
-invariant-loop-line l = with_lines l.self (drop l.line-index l.lines) ≡ with_lines l.fn.self l.lines

@@ -1,3 +1,0 @@
-pub mod Texts
-pub mod Pages
-pub mod Writing

@@ -1,5 +1,0 @@
-//! Pictures of small yards.
-#![tactic(auto)]
-
-#[cfg(test)]
-mod pictures;

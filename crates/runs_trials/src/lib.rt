@@ -1,5 +1,0 @@
-//! Deliveries to runs over a small machine.
-#![tactic(auto)]
-
-#[cfg(test)]
-mod runs;
