@@ -3,7 +3,7 @@ use crate::links::followed;
 use crate::long_work::{Work, tell_long};
 use office_archive_files::{
     CloseCommandFault, History, InFiles, OfFour, OpenFault, UnknownFile, archives_over,
-    close_alike, history_of, register_path,
+    close_whole, history_of, register_path,
 };
 use office_closing::{CloseFault, File, FileFault, Refusal};
 use office_commands::{DONE, FAILED, print, tell_fault};
@@ -166,7 +166,7 @@ pub(crate) fn close<W: Write, E: Write>(
     close_files(rt, store.as_str(), archive.as_str(), writer, errors)
 }
 
-/// Closes the store at a path, and prints that it is.
+/// Closes the store at a path, leaves the four files whole, and prints that it is closed.
 fn close_files<W: Write, E: Write>(
     rt: &HostRuntime,
     store: &str,
@@ -181,7 +181,7 @@ fn close_files<W: Write, E: Write>(
         archive: UnknownFile,
         archive_register: UnknownFile,
     };
-    let closed = close_alike(rt, store, archive, unknown);
+    let closed = close_whole(rt, store, archive, unknown);
     match &closed {
         Ok(ended) => match &ended.1 {
             Ok(()) => print(writer, "ready\n", DONE),

@@ -30,4 +30,4 @@ pub use register::{
 };
 pub use shelf::{ArchiveStart, FileShelf, Found, NO_ARCHIVE};
 pub use texts::texts_beside;
-pub use whole::{AlikeFiles, LeftFiles, leave_closed, leave_joined};
+pub use whole::{LeftFiles, close_whole, leave_joined};

@@ -1,5 +1,5 @@
 ghost use Rattle.std.specs.Prelude.{IfOk, List};
-ghost use Rattle.office_archive_files.specs.Whole.{HoldWholeBeside};
+ghost use Rattle.office_archive_files.specs.Whole.{ClosesWhole, HoldWholeBeside};
 ghost use Rattle.office_archives.specs.Together.{IsBesideAfter};
 ghost use Rattle.office_loading.specs.Closed.{ClosedContent};
 ghost use Rattle.office_commands.specs.Whole.{IsLeft};
@@ -9,9 +9,10 @@ ghost use Rattle.office_admission.specs.Setups.{SetupContent};
 ghost use Rattle.sqlite.specs.Files.{file_state};
 ghost use Rattle.sqlite.specs.WalReads.{AreClean};
 
-use crate::closing::{ClosingFiles, OfFour};
+use crate::closing::{CloseCommandFault, ClosingFile, ClosingFiles, OfFour, close_alike};
 use crate::joined::Joined;
 use office_archives::Archives;
+use office_closing::CloseFault;
 use office_commands::{Left, leave_desk, leave_whole};
 use sqlite::FileStore;
 use sqlite_disk::Disk;
@@ -33,10 +34,27 @@ pub fn leave_joined<D: Disk + Drop, A: Archives + Drop>(office: Joined<FileStore
 pub type LeftFiles<D> = OfFour<Left<D>, Left<D>, Left<D>, Left<D>>;
 
 /// The connections to four files of one kind.
-pub type AlikeFiles<D> = ClosingFiles<FileStore<D>, FileStore<D>, FileStore<D>, FileStore<D>>;
+type AlikeFiles<D> = ClosingFiles<FileStore<D>, FileStore<D>, FileStore<D>, FileStore<D>>;
+
+/// Closes as `close_alike` does, and leaves each of the four files whole, as `leave_whole` does, whatever the closing answers.
+pub fn close_whole<D: Disk + Drop, F: ClosingFile<FileStore<D>> + Drop>(
+    rt: &HostRuntime,
+    store: &str,
+    archive: &str,
+    of: OfFour<F, F, F, F>,
+) -> Result<(LeftFiles<D>, Result<(), CloseFault>), CloseCommandFault>
+    ensures { IfOk result (λ ended. ClosesWhole D.Disk
+        (record { store = F.image; register = F.image; archive = F.image; archive_register = F.image })
+        store.now archive.now ended.0.store ended.0.register ended.0.archive ended.0.archive_register ended.1) }
+{
+    match close_alike(rt, store, archive, of) {
+        Ok((files, closed)) => Ok((leave_closed(files), closed)),
+        Err(fault) => Err(fault),
+    }
+}
 
 /// Leaves the four files of a closing whole, each as `leave_whole` does.
-pub fn leave_closed<D: Disk + Drop>(files: AlikeFiles<D>) -> LeftFiles<D>
+fn leave_closed<D: Disk + Drop>(files: AlikeFiles<D>) -> LeftFiles<D>
     ensures store { IsLeft files.store result.store }
     ensures register { IsLeft files.register result.register }
     ensures archive { IsLeft files.archive result.archive }
