@@ -19,7 +19,6 @@ NONE = 404, '{"answer":"none"}'
 METHOD = 405, '{"answer":"method"}'
 TOO_LONG = 413, '{"answer":"too long"}'
 BAD_REQUEST = 400, '{"answer":"bad request"}'
-NO_ANSWER = 503, '{"answer":"no answer"}'
 NOT_NOW = 503, '{"answer":"not now"}'
 READY = 200, '{"answer":"ready"}'
 # what the gateway adds to each answer

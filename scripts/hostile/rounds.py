@@ -181,7 +181,7 @@ class Round:
         self.random.shuffle(found)
         ahead = self.random.choice(BOUNDS)
         responses = [(text, response(self.office, text, ahead)) for text, _is_mutated in found]
-        self.program.serve(responses, partial(self.beside.served, self.name), ahead)
+        self.program.serve(responses, partial(self.beside.served, self.name), ahead=ahead)
         self.beside.counted.update(kind for _text, wanted in responses for kind in kinds_told(wanted))
 
     def bodies(self):

@@ -12,6 +12,7 @@ from .closing import never_closed
 from .commands import outcome, texts_before_lost
 from .days import NEWCOMERS, Day, streamed
 from .deliveries import kept_texts
+from .files import written
 from .http import response
 from .office import Office, json_text
 from .reports import WHOLE, has_key, text_of
@@ -43,10 +44,7 @@ class Program:
 
     def file(self, name, text):
         """A file in the folder, of those bytes."""
-        path = os.path.join(self.folder, name)
-        with open(path, 'w', encoding='latin-1', newline='') as file:
-            file.write(text)
-        return path
+        return written(self.folder, name, text)
 
     def run(self, *words, given=''):
         """What it prints, what it tells of faults, and its status, with what is given to its standard input."""
@@ -86,6 +84,9 @@ class Program:
         """A report; those on the whole terminal have no key."""
         return self.run('report', self.store, kind, *([key] if has_key(kind) else []))
 
+    def before_last(self, process):
+        """What is done with a server before its last request."""
+
     def serve(self, requests, expect, exchange=None, ahead=None):
         """Sends each request on a connection of its own, and hands on the response that it should have beside the one
         that it has. By the path of a partner numbers may be above its next one by so many, or by any."""
@@ -96,8 +97,10 @@ class Program:
         with subprocess.Popen(words, stdout=subprocess.PIPE, encoding='utf-8') as process:
             try:
                 expect('listening', 'listening 127.0.0.1:%d\n' % port, process.stdout.readline())
-                for request, wanted in requests:
-                    expect(repr(request[:300]), wanted, exchange(port, request))
+                for place, (request, wanted) in enumerate(requests):
+                    if place == len(requests) - 1:
+                        self.before_last(process)
+                    expect('request %d, %r' % (place, request[:300]), wanted, exchange(port, request))
                 expect('served', ('served %d\n' % len(requests), 0), (process.stdout.read(), process.wait(SECONDS)))
             except (OSError, subprocess.TimeoutExpired) as fault:
                 expect('a connection', 'an answer', repr(fault))
