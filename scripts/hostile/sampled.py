@@ -8,7 +8,7 @@ import termios
 import time
 
 from model.asking import SECONDS, exchanged, free_port
-from model.stores import Program
+from model.stores import Program, options_of
 
 
 def peak_of(process):
@@ -76,13 +76,12 @@ class Sampled(Program):
         except BrokenPipeError:
             pass
 
-    def serve(self, requests, expect, ahead=None):
+    def serve(self, requests, expect, ahead=None, host=None):
         """Sends each request on a connection of its own, and hands on the response that it should have beside the one that
-        it has; its memory is sampled before the last. By the path of a partner numbers may be above its next one by so many,
-        or by any."""
+        it has; its memory is sampled before the last. Bound and name are those of the model's `Program`."""
         port = free_port()
         words = [self.path, 'serve', self.store, str(port), str(len(requests))]
-        words += [] if ahead is None else ['--ahead', str(ahead)]
+        words += options_of(ahead, host)
         with subprocess.Popen(words, stdout=subprocess.PIPE, encoding='utf-8') as process:
             try:
                 expect('listening', 'listening 127.0.0.1:%d\n' % port, process.stdout.readline())
