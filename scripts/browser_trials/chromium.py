@@ -116,12 +116,16 @@ class Chromium:
 
     def moved(self, act):
         """The page after an act that leads to one."""
+        self.gone(act)
+        return self.came()
+
+    def gone(self, act):
+        """Waits for the page to which an act leads."""
         before = self.moves
         act()
         while self.moves == before:
             message = self.message('another page')
             self.note(message.get('method'), message.get('params', {}))
-        return self.came()
 
     def came(self):
         """The page as it came."""

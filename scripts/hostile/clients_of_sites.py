@@ -7,7 +7,7 @@ import threading
 from http.server import BaseHTTPRequestHandler, ThreadingHTTPServer
 
 from browser_trials.chromium import Chromium, browser_here
-from model.asking import account, get
+from model.asking import account, get, post
 
 from .served import Served, gate_in
 
@@ -72,7 +72,7 @@ class Person:
     def opens(self, host, page):
         """Opens that page of the other site, by a name."""
         self.site.page = page
-        self.browser.open('http://%s:%d/' % (host, self.site.port))
+        self.browser.gone(lambda: self.browser.call('Page.navigate', url='http://%s:%d/' % (host, self.site.port)))
 
     def posts(self, name, host, form):
         """Clicks on the button of a form there: the answer names the fault, and nothing is done."""
@@ -137,21 +137,31 @@ def names(person):
 
 
 def own(person):
-    """The office's own form finds a container, and what a page of the office posts is done."""
+    """The office's own form finds a container. What a page of the office posts is done, if it says from where it comes: a page that
+    is to say nothing of itself to others (no-referrer) sends `Origin: null`, and the office's pages post nothing."""
     browser, server = person.browser, person.server
+    server.same(person.checks, 'a delivery', post(gate_in(1)))
     for name, host in (('HAULC', '127.0.0.1'), ('HAULD', NAME)):
-        browser.said.clear()
         browser.open('http://%s:%d/' % (host, server.port))
         browser.value('document.querySelector("#container").focus()')
-        browser.write('abcu 000002-2')
+        browser.write('abcu 000001-7')
         came = browser.moved(lambda: browser.click('document.querySelector("button")'))
-        person.checks.expect('the form of ' + host, (404, True), (came.status, 'There is nothing here' in came.text))
-        form = FORM % ('/partners/%s/gate' % name, '', '')
-        browser.value('document.body.innerHTML = ' + json.dumps(form))
-        came = browser.moved(lambda: browser.click('document.querySelector("button")'))
-        owed = server.owed(account(name, 'gate')).partition('\r\n\r\n')[2]
-        person.checks.expect('a form of a page of ' + host, (200, owed), (came.status, came.text))
+        owed = server.owed(get('/pages/containers/ABCU0000017')).partition('\r\n\r\n')[2]
+        person.checks.expect('the form of ' + host, (200, owed), (came.status, came.text))
+        owed = 403, '{"answer":"refused","fault":"Origin"}'
+        person.checks.expect('a form of a page of %s that says nothing' % host, owed, added(browser, name, ''))
+        owed = 200, server.owed(account(name, 'gate')).partition('\r\n\r\n')[2]
+        browser.open('http://%s:%d/' % (host, server.port))
+        person.checks.expect('a form of a page of ' + host, owed, added(browser, name, "<meta name='referrer' content='origin'>"))
     person.same('its own forms')
+
+
+def added(browser, name, said):
+    """What answers a form that is put into the page, after what the page says of itself."""
+    browser.value('document.head.innerHTML = ' + json.dumps(said))
+    browser.value('document.body.innerHTML = ' + json.dumps(FORM % ('/partners/%s/gate' % name, '', '')))
+    came = browser.moved(lambda: browser.click('document.querySelector("button")'))
+    return came.status, came.text
 
 
 def other_sites(checks, path):
