@@ -59,7 +59,9 @@ pub(crate) fn wanted_bytes(alloc: Global, site: &Site, asked: &[u8]) -> Option<u
         return Some(0);
     };
     let whole = found.spans.len.saturating_add(size);
-    if whole <= asked.len() || read_asked(alloc, site, &mut port, &buffer, &headers, found).is_ok() {
+    if whole <= asked.len()
+        || read_asked(alloc, site, &mut port, &buffer, &headers, found).is_ok()
+    {
         Some(0)
     } else {
         Some(whole)
