@@ -22,6 +22,7 @@ use office_commands::{
     leave_desk, leave_whole, migrate_over, open_store, print, report_over, serve_over, tell,
     tell_fault, texts_over,
 };
+use office_http::Site;
 use office_replies::Port;
 use office_reports::ReportKind;
 use office_tables::TableFault;
@@ -56,10 +57,19 @@ pub(crate) fn run<R: Read, W: Write, E: Write>(
             count,
             log,
             ahead,
-        } => {
-            let service = Service { port, count, ahead };
-            serve(rt, store, service, log, writer, errors)
-        }
+            host,
+        } => match Site::new(rt.alloc(), host) {
+            Ok(site) => {
+                let service = Service {
+                    port,
+                    count,
+                    ahead,
+                    site,
+                };
+                serve(rt, store, service, log, writer, errors)
+            }
+            Err(_) => tell_fault(errors, &TableFault::Memory),
+        },
         Request::Report { store, kind, key } => report(rt, store, kind, key, writer, errors),
         Request::Archives { store } => archives(rt, store, writer, errors),
         Request::Texts { store, from } => texts(rt, store, from, writer, errors),
@@ -430,7 +440,7 @@ fn is_newest(rt: &HostRuntime, path: &str) -> bool {
     )
 }
 
-/// `serve DB PORT COUNT [--log] [--ahead N]`: serves that many connections at a port of this machine, one after the other. It
+/// `serve DB PORT COUNT [--log] [--ahead N] [--host NAME]`: serves that many connections at a port of this machine, one after the other. It
 /// writes a line for each to the standard error if that is a terminal, or if a log is wanted.
 pub(crate) fn serve<W: Write, E: Write>(
     rt: &HostRuntime,

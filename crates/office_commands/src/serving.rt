@@ -10,7 +10,7 @@ use crate::notes::{Noted, Notes, Watching};
 use crate::opening::{Named, StoreFile, open_store};
 use crate::telling::{DONE, FAILED, Faults, HasTerminal, Tallied, print, tell};
 use office_desk::Desk;
-use office_http::{Gate, OfTerminal, serve_on};
+use office_http::{Gate, OfTerminal, Site, serve_on};
 use office_replies::{AddAccount, Port};
 use office_reports::Report;
 use office_tables::TableFault;
@@ -18,8 +18,8 @@ use sqlite::{Alter, FileFrom, FileStore, Start};
 use std::io::Write;
 use std::net::{Ipv4Addr, SocketAddr};
 
-/// Where requests are taken, how many, and how early.
-#[derive(Clone, Copy)]
+/// Where requests are taken, whose, how many, and how early.
+#[derive(Drop)]
 pub struct Service {
     /// The port of this machine.
     pub port: u16,
@@ -27,6 +27,8 @@ pub struct Service {
     pub count: u32,
     /// How far above its next number a partner's may be, by the path of that partner; none for no bound.
     pub ahead: Option<u32>,
+    /// Whose requests are taken, and where they lead.
+    pub site: Site,
 }
 
 /// Serves the store in the file at a path over HTTP: one request of each connection, until so many were accepted. It
@@ -114,15 +116,22 @@ fn serve_at<D: Report + AddAccount + OfTerminal, N: Notes, W: Write, E: Write>(
         (Tells errors.new.failed (E.contents errors.old.inner) (E.contents errors.new.inner))
         (λ most. AtMost D.leads D.enrols D.looks most desk.old desk.new) result }
 {
-    match listen(rt, service, writer, errors) {
+    let Service {
+        port,
+        count,
+        ahead,
+        site,
+    } = service;
+    match listen(rt, port, count, writer, errors) {
         Some((gate, served)) => {
             let mut watching = Watching::new(notes);
             serve_on(
                 rt.alloc(),
                 rt,
                 gate,
-                service.count,
-                service.ahead,
+                &site,
+                count,
+                ahead,
                 desk,
                 &mut watching,
             );
@@ -136,23 +145,19 @@ fn serve_at<D: Report + AddAccount + OfTerminal, N: Notes, W: Write, E: Write>(
 /// printed in the end. None if it can't listen, which is reported, or printing failed.
 fn listen<W: Write, E: Write>(
     rt: &HostRuntime,
-    service: Service,
+    port: u16,
+    count: u32,
     writer: &mut Port<W>,
     errors: &mut Port<E>,
 ) -> Option<(Gate, String)>
-    ensures listens { IfSome result (λ begun. (string_bytes begun.1 ≡ served_line service.count)
-        × Appends (W.contents writer.old.inner) (W.contents writer.new.inner) (listening_line service.port)
+    ensures listens { IfSome result (λ begun. (string_bytes begun.1 ≡ served_line count)
+        × Appends (W.contents writer.old.inner) (W.contents writer.new.inner) (listening_line port)
         × (writer.new.failed ≡ writer.old.failed) × (errors.new ≡ errors.old)) }
-    ensures deaf { result ≡ None → ServesNone service.port writer.old writer.new
+    ensures deaf { result ≡ None → ServesNone port writer.old writer.new
         (W.contents writer.old.inner) (W.contents writer.new.inner)
         (Tells errors.new.failed (E.contents errors.old.inner) (E.contents errors.new.inner)) }
 {
     let alloc = rt.alloc();
-    let Service {
-        port,
-        count,
-        ahead: _,
-    } = service;
     let (Ok(listening), Ok(served)) = (
         format!(in alloc; "listening 127.0.0.1:{port}\n"),
         format!(in alloc; "served {count}\n"),

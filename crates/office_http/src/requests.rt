@@ -19,7 +19,8 @@ ghost use Rattle.office_reports.specs.Keys.{query_of};
 
 use crate::head::{FoundHead, MOST_FIELDS, MOST_HEAD_BYTES, OwnText, content_length, read_head};
 use crate::response::Refusal;
-use crate::routes::{Endpoint, direct, key_in, partner_key_in, passed_in, posted_as};
+use crate::routes::{Endpoint, key_in, partner_key_in, passed_in, posted_as};
+use crate::site::Site;
 use crate::targets::{View, path_of, typed_in, view_of};
 use httparse::spans::{EMPTY_HEADER_SPAN, HeaderSpan};
 use office_pages::{Notice, typed_number};
@@ -52,16 +53,20 @@ pub(crate) enum Request {
 }
 
 /// Reads a request: what it asks for.
-pub(crate) fn read_request<R: Read>(alloc: Global, reader: &mut Port<R>) -> Result<Request>
-    ensures asks { IfOk result (λ request. IfSome (R.remaining reader.old.inner) (λ stream. Asks stream request)) }
+pub(crate) fn read_request<R: Read>(
+    alloc: Global,
+    site: &Site,
+    reader: &mut Port<R>,
+) -> Result<Request>
+    ensures asks { IfOk result (λ request. IfSome (R.remaining reader.old.inner) (λ stream. Asks site.now stream request)) }
     ensures reads { ReadsUpTo most_request_reads reader.old reader.new result }
     ensures decided { IfSome (R.remaining reader.old.inner) (λ stream.
-        EndsWhenDecided stream reader.old.reads reader.new.reads) }
+        EndsWhenDecided site.now stream reader.old.reads reader.new.reads) }
 {
     let mut buffer = [0; MOST_HEAD_BYTES];
     let mut headers = [EMPTY_HEADER_SPAN; MOST_FIELDS];
     match read_head(reader, &mut buffer, &mut headers)? {
-        Some(found) => read_asked(alloc, reader, &buffer, &headers, found),
+        Some(found) => read_asked(alloc, site, reader, &buffer, &headers, found),
         None => Ok(Request::Refused(Refusal::BadRequest)),
     }
 }
@@ -69,6 +74,7 @@ pub(crate) fn read_request<R: Read>(alloc: Global, reader: &mut Port<R>) -> Resu
 /// Reads what stands after a head, if it is wanted.
 pub(crate) fn read_asked<R: Read>(
     alloc: Global,
+    site: &Site,
     reader: &mut Port<R>,
     buffer: &[u8],
     headers: &[HeaderSpan],
@@ -78,18 +84,19 @@ pub(crate) fn read_asked<R: Read>(
     requires within { IsRequestWithin (take found.filled buffer.now) headers.now found.spans }
     ensures asks { IfOk result (λ request. IfSome (R.remaining reader.old.inner) (λ left. (head : RequestHead)
         → IsRequestAt (take found.filled buffer.now) headers.now found.spans head
-        → AsksWith head (drop found.spans.len (take found.filled buffer.now) ++ left) request)) }
+        → AsksWith site.now head (drop found.spans.len (take found.filled buffer.now) ++ left) request)) }
     ensures reads { ReadsUpTo most_bytes reader.old reader.new result }
     ensures decided { (head : RequestHead) → IsRequestAt (take found.filled buffer.now) headers.now found.spans head
         → reader.new.reads
-        ≤ reader.old.reads + (wanted_bytes_after head - length (drop found.spans.len (take found.filled buffer.now))) }
+        ≤ reader.old.reads + (wanted_bytes_after site.now head - length (drop found.spans.len (take found.filled buffer.now))) }
 {
     let read = &buffer[..found.filled];
     let Ok(target) = str::from_utf8(found.spans.path.of(read)) else {
         return Ok(Request::Refused(Refusal::BadRequest));
     };
     let path = path_of(target);
-    match direct(alloc, found.spans.method.of(read), target) {
+    let fields = &headers[..found.spans.headers];
+    match site.lead(found.spans.method.of(read), target, read, fields) {
         Ok(Endpoint::Interchanges) => read_post(alloc, reader, read, headers, found),
         Ok(Endpoint::PartnerInterchanges) => {
             read_own_post(alloc, reader, read, headers, found, path)
