@@ -1,17 +1,8 @@
-pub mod Paths
 pub mod Shelves
-pub mod Opening
-pub mod Delivering
-pub mod Telling
-pub mod Accounts
-pub mod Serving
 pub mod Archives
 pub mod Closing
-pub mod Reporting
 pub mod Listing
-pub mod Texts
 pub mod Naming
 pub mod ClosedStores
 pub mod Stops
 pub mod ClosedFiles
-pub mod Whole

@@ -1,11 +1,12 @@
 ghost use Rattle.std.specs.Prelude.{◌≡◌, ◌++◌, codes, IfOk, IfSome, IsTrue, option_map, string_bytes};
-ghost use Rattle.office_archive_files.specs.Listing.{IsHistory, history_in};
-ghost use Rattle.office_archive_files.specs.Paths.{HasNoSlash, IsBeside, path_of};
+ghost use Rattle.office_commands.specs.History.{IsHistory, history_in};
+ghost use Rattle.office_commands.specs.Paths.{HasNoSlash, IsBeside, path_of};
+ghost use Rattle.office_closing.specs.Changes.{empty_register};
 ghost use Rattle.office_closing.specs.Register.{register_content};
 ghost use Rattle.office_closing.specs.Sound.{is_sound};
 
+use crate::opening::{NO_STORE, open_found};
 use office_closing::{Register, read_register};
-use office_commands::{NO_STORE, open_found};
 use office_tables::TableFault;
 use sqlite::{Error, Unknown};
 use sqlite_resolve::CompileError;
@@ -77,9 +78,21 @@ pub fn read_history(rt: &HostRuntime, store: &str) -> Result<Option<Register>, T
     }
 }
 
+/// The register of a store of which nothing was put away.
+pub fn no_archives(alloc: Global) -> Register
+    ensures { register_content result ≡ empty_register }
+{
+    Register {
+        archives: Vec::new(alloc),
+        segments: Vec::new(alloc),
+        lists: Vec::new(alloc),
+        closed_for: None,
+    }
+}
+
 /// Whether a register could not be read because its tables aren't there. So it is after a process was stopped before it had
 /// made them: nothing was put away.
-pub(crate) fn has_no_tables(fault: &TableFault) -> bool {
+pub fn has_no_tables(fault: &TableFault) -> bool {
     match fault {
         TableFault::Store(Error::SqlInputError(CompileError::NoSuchTable)) => true,
         _ => false,
@@ -89,7 +102,7 @@ pub(crate) fn has_no_tables(fault: &TableFault) -> bool {
 /// Whether a file that isn't empty is at a path.
 ///
 /// Store if that can't be found out, or what is there is no file.
-pub(crate) fn is_there(rt: &HostRuntime, path: &str) -> Result<bool, TableFault> {
+pub fn is_there(rt: &HostRuntime, path: &str) -> Result<bool, TableFault> {
     match found_at(rt, path)? {
         Some(found) if found.is_file() => Ok(found.len() > 0),
         Some(_) => Err(TableFault::Store(NO_STORE)),
@@ -100,7 +113,7 @@ pub(crate) fn is_there(rt: &HostRuntime, path: &str) -> Result<bool, TableFault>
 /// What is at a path, if something is.
 ///
 /// Store if that can't be found out, Memory if it takes more memory than there is.
-pub(crate) fn found_at(rt: &HostRuntime, path: &str) -> Result<Option<Metadata>, TableFault> {
+pub fn found_at(rt: &HostRuntime, path: &str) -> Result<Option<Metadata>, TableFault> {
     match fs::metadata(rt, path) {
         Ok(found) => Ok(Some(found)),
         Err(error) if error.kind() == ErrorKind::NotFound => Ok(None),

@@ -1,35 +1,10 @@
-ghost use Rattle.std.specs.Prelude.{◌≡◌, List};
-ghost use Rattle.office_archives.specs.Shelves.{NamesAll};
-ghost use Rattle.office_parts.specs.Archives.{Archive};
-ghost use Rattle.office_closing.specs.Register.{register_content};
-
-use crate::file_archives::{FileArchives, UnknownShelf};
+use crate::file_archives::{FileArchives, StoreShelf, UnknownShelf};
 use crate::shelf::{ArchiveStart, FileShelf};
 use office_admission::Setup;
-use office_archives::{Archives, ManyArchives, Shelf};
+use office_archives::ManyArchives;
 use office_closing::Register;
-use sqlite::{Alter, FileFrom, FileStore, Start, Unknown};
-
-/// Where the shelf of a store's archives is.
-pub trait ShelfBeside<T: Alter, F: Shelf<T>> {
-    /// It is supposed that their files hold these.
-    ghost hold: { List Archive → Type 0 };
-
-    /// The shelf of the store at a path, which has this terminal and these accounts. No archive is opened.
-    fn shelf_of(&self, store: String, setup: Setup) -> F
-        ensures { (list : List Archive) → hold list → F.holds list result };
-}
-
-/// Where the archives of a store lie.
-pub trait ArchivesBeside<A: Archives> {
-    /// It is supposed that their files hold these.
-    ghost hold: { List Archive → Type 0 };
-
-    /// The archives of the store at a path, which has this terminal and these accounts, as its register names them. None is
-    /// opened.
-    fn archives(&self, store: String, setup: Setup, register: Register) -> A
-        ensures { (list : List Archive) → hold list → NamesAll (register_content register) list → A.are list result };
-}
+use office_commands::{ArchivesBeside, ShelfBeside, no_archives};
+use sqlite::{FileFrom, FileStore, Start, Unknown};
 
 /// In files, in the folder of their store.
 #[derive(Drop)]
@@ -39,6 +14,8 @@ pub struct InFiles<'a, B: ArchiveStart> {
 }
 
 impl<'a, B: ArchiveStart> InFiles<'a, B> {
+    ghost use Rattle.std.specs.Prelude.{◌≡◌};
+
     /// In files, of which something is supposed at one place.
     pub fn new(rt: &'a HostRuntime, start: B) -> InFiles<'a, B>
         ensures { result.start ≡ start }
@@ -66,7 +43,7 @@ impl<'a, B: ArchiveStart> ShelfBeside<FileStore<FileFrom<B>>, FileShelf<'a, B>> 
     }
 }
 
-impl<'a, B: ArchiveStart> ArchivesBeside<ManyArchives<FileStore<FileFrom<B>>, FileShelf<'a, B>>>
+impl<'a, B: ArchiveStart> ArchivesBeside<ManyArchives<FileStore<FileFrom<B>>, StoreShelf<'a, B>>>
     for InFiles<'a, B> {
     ghost use Rattle.office_archive_files.specs.Shelves.{HoldArchiveAt};
     ghost use Rattle.sqlite.specs.WalFiles.{image_at};
@@ -78,8 +55,12 @@ impl<'a, B: ArchiveStart> ArchivesBeside<ManyArchives<FileStore<FileFrom<B>>, Fi
         store: String,
         setup: Setup,
         register: Register,
-    ) -> ManyArchives<FileStore<FileFrom<B>>, FileShelf<'a, B>> {
-        ManyArchives::new(self.shelf(store, setup), register)
+    ) -> ManyArchives<FileStore<FileFrom<B>>, StoreShelf<'a, B>> {
+        ManyArchives::new(StoreShelf::of(self.shelf(store, setup)), register)
+    }
+
+    fn none(&self) -> ManyArchives<FileStore<FileFrom<B>>, StoreShelf<'a, B>> {
+        ManyArchives::new(StoreShelf::empty(), no_archives(self.rt.alloc()))
     }
 }
 
@@ -105,7 +86,7 @@ impl<'a> ShelfBeside<FileStore<FileFrom<Unknown>>, UnknownShelf<'a>> for InUnkno
     ghost hold = { HoldArchiveAt (image_at ⟦<Unknown as Start>⟧) 1 };
 
     fn shelf_of(&self, store: String, setup: Setup) -> UnknownShelf<'a> {
-        UnknownShelf::new(self.files.shelf(store, setup))
+        UnknownShelf::new(StoreShelf::of(self.files.shelf(store, setup)))
     }
 }
 
@@ -116,7 +97,12 @@ impl<'a> ArchivesBeside<FileArchives<'a>> for InUnknownFiles<'a> {
     ghost hold = { HoldArchiveAt (image_at ⟦<Unknown as Start>⟧) 1 };
 
     fn archives(&self, store: String, setup: Setup, register: Register) -> FileArchives<'a> {
-        let shelf = UnknownShelf::new(self.files.shelf(store, setup));
+        let shelf = UnknownShelf::new(StoreShelf::of(self.files.shelf(store, setup)));
         FileArchives::new(ManyArchives::new(shelf, register))
+    }
+
+    fn none(&self) -> FileArchives<'a> {
+        let shelf = UnknownShelf::new(StoreShelf::empty());
+        FileArchives::new(ManyArchives::new(shelf, no_archives(self.files.rt.alloc())))
     }
 }

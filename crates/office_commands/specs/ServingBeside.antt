@@ -18,11 +18,11 @@ use Rattle.office_desk.specs.Answers.{AnswersNext}
 use Rattle.office_desk.specs.Desks.{IsSound}
 use Rattle.office_desk.specs.declared.desk.Desk.{Desk}
 use Rattle.office_commands.specs.Alike.{Alike}
-use Rattle.office_commands.specs.Serving.{AreServedBy, EnrolsNamed, LeadsNamed, MayBeThere}
+use Rattle.office_commands.specs.Serving.{AreServedBy, EnrolsNamed, IsServedAlone, LeadsNamed, MayBeThere}
 use Rattle.office_parts.specs.Archives.{Archive}
 use Rattle.office_archives.specs.Together.{EnrolsTogether, IsBesideAfter, LooksTogether, ShowsBeside}
-use Rattle.office_archive_files.specs.Delivering.{Leads, StandAlike}
-use Rattle.office_archive_files.specs.Opening.{IfHeld, OpensOn}
+use Rattle.office_commands.specs.Delivering.{Leads, StandAlike}
+use Rattle.office_commands.specs.Beside.{IfHeld, IsAlone}
 
 module _ {S A : Type 0} (g : Ghosts S) (is_sound : A → Type 0) (are : List Archive → A → Type 0) where
   -- what asking for an account does to a desk and its archives, and what looking does
@@ -39,20 +39,20 @@ module _ {S A : Type 0} (g : Ghosts S) (is_sound : A → Type 0) (are : List Arc
   -- After those events a delivery and an account are answered as the office answers them, or `not now`; what is looked at is
   -- what store and archives show, which stand after them. Of a delivery and a look so, if the archives had told the truth
   -- after it.
-  abbrev pub IsServed : SetupContent → List Event → (old : Desk S g × A) → Step → (new : Desk S g × A) → Type 0
-  IsServed content es old (delivery text given) new =
+  abbrev pub IsServedTogether : SetupContent → List Event → (old : Desk S g × A) → Step → (new : Desk S g × A) → Type 0
+  IsServedTogether content es old (delivery text given) new =
       (is_sound new.1 → AnswersNext content es text given) ⊎ (given ≡ response.NotNow)
-  IsServed content es old (account code kind given) new =
+  IsServedTogether content es old (account code kind given) new =
       AnswersAccount content es code kind given ⊎ (given ≡ account_answer.NotNow)
-  IsServed content es old (look at found) new =
+  IsServedTogether content es old (look at found) new =
       StandAlike g is_sound are content es old × (is_sound new.1 → Tells (ShowsBeside g are old.0 old.1 at) found)
 
   -- each so at its place
-  abbrev pub AreServed : SetupContent → List Event → (old : Desk S g × A) (steps : List Step) (new : Desk S g × A) →
+  abbrev pub AreServedTogether : SetupContent → List Event → (old : Desk S g × A) (steps : List Step) (new : Desk S g × A) →
       AllServed old steps new → Type 0
-  AreServed content es old [] new led = Unit {0}
-  AreServed content es old (step ∷ steps) new led =
-      IsServed content es old step led.0 × AreServed content (with_step es step) led.0 steps new led.2
+  AreServedTogether content es old [] new led = Unit {0}
+  AreServedTogether content es old (step ∷ steps) new led =
+      IsServedTogether content es old step led.0 × AreServedTogether content (with_step es step) led.0 steps new led.2
 
   -- For an opening set-up that says the same, a store holds what is left, with archives that stood beside it, of the rows after
   -- these events, or with one more that is pending, whole.
@@ -65,13 +65,14 @@ module _ {S A : Type 0} (g : Ghosts S) (is_sound : A → Type 0) (are : List Arc
   -- So many calls at most were made of a store that was opened on those files and of its archives. If its disk told the
   -- truth in the end, then from whatever events the files held what is left of the rows, if these archives are those that
   -- hold the rest, each was answered or shown at its place, if the archives had told the truth, store and archives stand
-  -- after them, and a crash leaves what was answered, and perhaps one event that was put off after it.
-  pub record IsServedBeside (image : Image) (count : ℕ) (opened office : Desk S g × A) : Type 0 where
-    pub opens : OpensOn g image opened.0
+  -- after them, and a crash leaves what was answered, and perhaps one event that was put off after it. So it is too if nothing was put away of
+  -- the store.
+  pub record IsServedOver (image : Image) (count : ℕ) (opened office : Desk S g × A) : Type 0 where
     pub served : AreServedBy (Leads g is_sound are) Enrols Looks count opened office
     pub answered : IsSound g office.0 → IfHeld are image opened (λ list content es.
-        AreServed content es opened served.steps office served.led
+        AreServedTogether content es opened served.steps office served.led
         × StandAlike g is_sound are content (events_after es served.steps) office)
     pub leaves : IsSound g office.0 → IfHeld are image opened (λ list content es.
         (db : Trees) → (state g office.0.conn).may_leave db →
         HoldsPending (closed_content opened.0.closed) content (events_after es served.steps) (MayBeThere served.steps) db)
+    pub alone : IsAlone are image opened → IsServedAlone g image count opened.0 office.0
