@@ -8,13 +8,15 @@ use Rattle.office_replies.specs.Events.{Event}
 use Rattle.office_replies.specs.declared.deliver.Response.{Response}
 use Rattle.office_loading.specs.Closed.{ClosedContent, closed_content}
 use Rattle.office_admission.specs.Setups.{SetupContent}
+use Rattle.office_desk.specs.Calls as calls
 use Rattle.office_desk.specs.Desks.{IsSound}
 use Rattle.office_desk.specs.declared.desk.Desk.{Desk}
-use Rattle.office_archive_files.proofs.Alike.{answer_alike}
+use Rattle.office_commands.proofs.Alike.{answer_alike}
+use Rattle.office_commands.proofs.StreamLemmas.{delivered_alone}
 use Rattle.office_parts.specs.Archives.{Archive}
 use Rattle.office_archives.specs.Together.{LeavesBeside, LeavesDelivered, StandTogether}
-use Rattle.office_archive_files.specs.Opening.{OpensOn}
-use Rattle.office_archive_files.specs.Delivering.{AreAnsweredIfSound, AreDeliveredBeside, Leads, LeavesAll, StandAlike}
+use Rattle.office_commands.specs.Beside.{OpensOn}
+use Rattle.office_commands.specs.Delivering.{AreAnsweredIfSound, AreDeliveredOver, Leads, LeavesAll, StandAlike}
 
 module _ {S A : Type 0} (g : Ghosts S) (is_sound : A → Type 0) (are : List Archive → A → Type 0) where
   -- a desk and its archives
@@ -32,6 +34,13 @@ module _ {S A : Type 0} (g : Ghosts S) (is_sound : A → Type 0) (are : List Arc
   sound_before old new [] (response ∷ responses) none sound = absurd none
   sound_before old new (text ∷ texts) [] none sound = absurd none
   sound_before old new (text ∷ texts) (response ∷ responses) (next, call, rest) sound = call.stays (sound_before next new texts responses rest sound)
+
+  -- without archives each is a delivery to the desk
+  led_alone : (old new : Office) (texts : List (List ℕ)) (responses : List Response) → AllLed old texts responses new → are [] old.1 → LeadsOn (calls.Leads g) old.0 texts responses new.0
+  led_alone old new [] [] same none = ap (λ (office : Office). office.0) same
+  led_alone old new [] (response ∷ responses) never none = absurd never
+  led_alone old new (text ∷ texts) [] never none = absurd never
+  led_alone old new (text ∷ texts) (response ∷ responses) (next, call, rest) none = (next.0, call.alone none, led_alone next new texts responses rest (call.these [] none))
 
   pub answered_all : (content : SetupContent) (es : List Event) (old new : Office) (texts : List (List ℕ)) (responses : List Response) (led : AllLed old texts responses new) → IsSound g new.0 → StandAlike g is_sound are content es old
       → AreAnsweredIfSound g is_sound are content es old texts responses new led × StandAlike g is_sound are content (events_behind es texts responses) new
@@ -72,16 +81,15 @@ module _ {S A : Type 0} (g : Ghosts S) (is_sound : A → Type 0) (are : List Arc
       leaves_some closed content es old new text texts response responses led sound is stands
 
   -- deliveries to a store that was opened on files, and to its archives
-  pub delivered_beside : (image : Image) (opened office : Office) → OpensOn g image opened.0 → (texts : List (List ℕ)) (responses : List Response) → AllLed opened texts responses office
-      → AreDeliveredBeside g is_sound are image opened office texts responses
-  delivered_beside image opened office opens texts responses led = record {
-    opens = opens;
+  pub delivered_over : (image : Image) (opened office : Office) → OpensOn g image opened.0 → (texts : List (List ℕ)) (responses : List Response) → AllLed opened texts responses office
+      → AreDeliveredOver g is_sound are image opened office texts responses
+  delivered_over image opened office opens texts responses led = record {
     led = led;
     answered = λ sound list content es given holds these.
-        let at = (opens (sound_before opened office texts responses led sound) list content es given holds).opens in
+        let at = (opens.beside (sound_before opened office texts responses led sound) list content es given holds).opens in
         answered_all content es opened office texts responses led sound (record { opening = at.opening; says = at.opening_says; holds = record { list = list; these = these; stands = at.stands } });
     leaves = λ sound list content es given holds these.
-        let it = opens (sound_before opened office texts responses led sound) list content es given holds in
+        let it = opens.beside (sound_before opened office texts responses led sound) list content es given holds in
         let at = it.opens in
         record {
           opening = at.opening;
@@ -89,4 +97,5 @@ module _ {S A : Type 0} (g : Ghosts S) (is_sound : A → Type 0) (are : List Arc
           holds = leaves_all (closed_content opened.0.closed) at.opening es opened office texts responses led sound refl
               (record { list = list; these = these; stands = at.stands }) it.leaves;
         };
+    alone = λ alone. delivered_alone g image opened.0 office.0 alone.events texts responses (led_alone opened office texts responses led alone.none);
   }

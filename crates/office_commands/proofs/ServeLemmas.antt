@@ -14,21 +14,21 @@ use Rattle.office_replies.specs.declared.deliver.Response.TheVariants as respons
 use Rattle.office_reports.specs.Looking.{Look}
 use Rattle.office_reports.specs.declared.query.NotNow.{NotNow}
 use Rattle.office_loading.specs.Closed.{ClosedContent, closed_content}
-use Rattle.office_replies.specs.declared.port.Port.{Port}
 use Rattle.office_admission.specs.Given.{IsGiven}
 use Rattle.office_admission.specs.Setups.{SetupContent}
 use Rattle.office_history.specs.After.{SaysSame}
-use Rattle.office_http.specs.Served.{calls_of}
 use Rattle.office_http.specs.Steps.{Step, account, delivery, events_after, look, with_step, StepLeads, StepsLead}
 use Rattle.office_desk.specs.Desks.{IsSound}
 use Rattle.office_desk.specs.declared.desk.Desk.{Desk}
-use Rattle.office_commands.specs.Serving.{AreServedBy, EndsServing, EnrolsNamed, HasNoEvent, LeadsNamed, MayBeThere, postponed_event}
+use Rattle.office_commands.specs.Serving.{AreServedBy, EnrolsNamed, LeadsNamed, MayBeThere}
 use Rattle.office_parts.specs.Archives.{Archive}
 use Rattle.office_archives.specs.Together.{IsBesideAfter}
-use Rattle.office_archive_files.specs.Delivering.{Leads, StandAlike}
-use Rattle.office_archive_files.specs.Opening.{HoldsBeside, OpensOn}
-use Rattle.office_archive_files.specs.Serving.{AllServed, AreServed, Enrols, HoldsPending, IsServed, IsServedBeside, Looks}
-use Rattle.office_archive_files.proofs.Alike.{account_alike, answer_alike}
+use Rattle.office_commands.specs.Delivering.{Leads, StandAlike}
+use Rattle.office_commands.specs.Beside.{HoldsBeside, OpensOn}
+use Rattle.office_commands.specs.ServingBeside.{AllServed, AreServedTogether, Enrols, HoldsPending, IsServedOver, IsServedTogether, Looks}
+use Rattle.office_commands.proofs.Alike.{account_alike, answer_alike}
+use Rattle.office_commands.proofs.ServingLemmas.{PendsAfter, PendsBehind, none_pends, one_before, served_alone}
+use Rattle.office_desk.specs.Calls as calls
 
 says_then : (one other third : SetupContent) → SaysSame one other → SaysSame other third → SaysSame one third
 says_then one other third a b = record {
@@ -38,25 +38,6 @@ says_then one other third a b = record {
   blocks = a.blocks ∙ b.blocks;
   limit = a.limit ∙ b.limit;
 }
-
--- ---- what is pending
-
--- after a step: what was before, if the step is no event, or the step
-abbrev PendsBehind : (Event → Type 0) → Step → Event → Type 0
-PendsBehind Pends step event = (Pends event × ((es : List Event) → with_step es step ≡ es)) ⊎ (postponed_event step ≡ Some event)
-
--- after steps
-abbrev PendsAfter : (Event → Type 0) → List Step → Event → Type 0
-PendsAfter Pends steps event = (Pends event × HasNoEvent steps) ⊎ MayBeThere steps event
-
-one_before : (Pends : Event → Type 0) (step : Step) (steps : List Step) (event : Event) → PendsAfter (PendsBehind Pends step) steps event → PendsAfter Pends (step ∷ steps) event
-one_before Pends step steps event (inl (inl pends, none)) = inl (pends.0, λ es. none (with_step es step) ∙ pends.1 es)
-one_before Pends step steps event (inl (inr off, none)) = inr (inl (off, none))
-one_before Pends step steps event (inr there) = inr (inr there)
-
-none_pends : (steps : List Step) (event : Event) → PendsAfter (λ _. ⊥) steps event → MayBeThere steps event
-none_pends steps event (inl never) = absurd never.0
-none_pends steps event (inr there) = there
 
 module _ {S A : Type 0} (g : Ghosts S) (is_sound : A → Type 0) (are : List Archive → A → Type 0) where
   abbrev Office : Type 0
@@ -78,7 +59,7 @@ module _ {S A : Type 0} (g : Ghosts S) (is_sound : A → Type 0) (are : List Arc
   sound_first old (step ∷ steps) new (next, led, rest) sound = sound_step old step next led (sound_first next steps new rest sound)
 
   stand_step : (content : SetupContent) (es : List Event) (old : Office) (step : Step) (new : Office) → Led old step new → IsSound g new.0 → Stands content es old
-      → IsServed g is_sound are content es old step new × Stands content (with_step es step) new
+      → IsServedTogether g is_sound are content es old step new × Stands content (with_step es step) new
   stand_step content es old (delivery text given) new led sound at = elim led [
     | inl call ↦ (
       inl (λ whole. answer_alike at.opening content at.says es text given (call.answers sound whole at.opening es at.holds)),
@@ -95,8 +76,19 @@ module _ {S A : Type 0} (g : Ghosts S) (is_sound : A → Type 0) (are : List Arc
       let then = call.looks.same sound stands.opening es stands.holds in
       ((stands, λ whole. call.told sound whole), record { opening = then.opening; says = says_then then.opening stands.opening content then.says stands.says; holds = then.stand })
 
+  -- without archives each is a call of the desk
+  steps_alone : (old : Office) (steps : List Step) (new : Office) → AllServed g is_sound are old steps new → are [] old.1 → StepsLead (LeadsNamed (calls.Leads g)) (EnrolsNamed (calls.Enrols g)) (calls.Looks g) old.0 steps new.0
+  steps_alone old [] new same none = ap (λ (office : Office). office.0) same
+  steps_alone old (delivery text given ∷ steps) new (next, inl call, rest) none = (next.0, inl (call.alone none), steps_alone next steps new rest (call.these [] none))
+  steps_alone old (delivery text given ∷ steps) new (next, inr off, rest) none =
+      (next.0, inr (off.0, ap (λ (office : Office). office.0) off.1), steps_alone next steps new rest (subst (λ (office : Office). are [] office.1) (sym off.1) none))
+  steps_alone old (account code kind given ∷ steps) new (next, inl call, rest) none = (next.0, inl call.own, steps_alone next steps new rest (call.these [] none))
+  steps_alone old (account code kind given ∷ steps) new (next, inr off, rest) none =
+      (next.0, inr (off.0, ap (λ (office : Office). office.0) off.1), steps_alone next steps new rest (subst (λ (office : Office). are [] office.1) (sym off.1) none))
+  steps_alone old (look at found ∷ steps) new (next, call, rest) none = (next.0, call.alone none, steps_alone next steps new rest (call.looks.these [] none))
+
   stand_steps : (content : SetupContent) (es : List Event) (old : Office) (steps : List Step) (new : Office) (led : AllServed g is_sound are old steps new) → IsSound g new.0 → Stands content es old
-      → AreServed g is_sound are content es old steps new led × Stands content (events_after es steps) new
+      → AreServedTogether g is_sound are content es old steps new led × Stands content (events_after es steps) new
   stand_steps content es old [] new same sound stands = (tt, subst (Stands content es) (sym same) stands)
   stand_steps content es old (step ∷ steps) new (next, led, rest) sound stands =
       let one = stand_step content es old step next led (sound_first next steps new rest sound) stands in
@@ -183,24 +175,24 @@ module _ {S A : Type 0} (g : Ghosts S) (is_sound : A → Type 0) (are : List Arc
       (λ found leaves. left_step closed content es old next Pends is was found leaves step led there stands) db left)
 
   -- requests that were served of a store that was opened on files, and of its archives
-  pub served_beside : (image : Image) (count : ℕ) (opened office : Office) → OpensOn g image opened.0 → AreServedBy (Leads g is_sound are) (Enrols g is_sound are) (Looks g is_sound are) count opened office
-      → IsServedBeside g is_sound are image count opened office
-  served_beside image count opened office opens served = record {
-    opens = opens;
+  pub served_over : (image : Image) (count : ℕ) (opened office : Office) → OpensOn g image opened.0 → AreServedBy (Leads g is_sound are) (Enrols g is_sound are) (Looks g is_sound are) count opened office
+      → IsServedOver g is_sound are image count opened office
+  served_over image count opened office opens served = record {
     served = served;
     answered = λ sound list content es given holds these. stand_steps content es opened served.steps office served.led sound (stands_first sound list content es given holds these);
     leaves = λ sound list content es given holds these db left.
-        let it = opens (sound_first opened served.steps office served.led sound) list content es given holds in
+        let it = opens.beside (sound_first opened served.steps office served.led sound) list content es given holds in
         let at = it.opens in
         left_more (closed_content opened.0.closed) content (events_after es served.steps) db (PendsAfter (λ _. ⊥) served.steps) (MayBeThere served.steps) (none_pends served.steps)
         (left_steps (closed_content opened.0.closed) content es opened served.steps office served.led sound refl (stands_first sound list content es given holds these) (λ _. ⊥)
         (λ found leaves. record { opening = at.opening; says = at.opening_says; holds = (list, opened.1, these, inl (it.leaves found leaves)) }) db left);
+    alone = λ alone. served_alone image count opened.0 office.0 alone.events (record { steps = served.steps; few = served.few; led = steps_alone opened served.steps office served.led alone.none });
   }
     where
       stands_first : IsSound g office.0 → (list : List Archive) (content : SetupContent) (es : List Event) → IsGiven content → HoldsBeside image list (closed_content opened.0.closed) content es → are list opened.1
           → Stands content es opened
       stands_first sound list content es given holds these =
-          let at = (opens (sound_first opened served.steps office served.led sound) list content es given holds).opens in
+          let at = (opens.beside (sound_first opened served.steps office served.led sound) list content es given holds).opens in
           record { opening = at.opening; says = at.opening_says; holds = record { list = list; these = these; stands = at.stands } }
 
 -- ---- what stands around an office
@@ -227,10 +219,3 @@ module _ {W D : Type 0} (inner : W → D) (leads : D → List ℕ → Response �
   -- what was served of what stands around an office was served of the office
   pub served_inner : (count : ℕ) (old new : W) → AreServedBy outer_leads outer_enrols outer_looks count old new → AreServedBy leads enrols looks count (inner old) (inner new)
   served_inner count old new served = record { steps = served.steps; few = served.few; led = inner_steps old served.steps new served.led }
-
--- what was served, told in other words
-pub ends_as : {W : Type 0} (port count : ℕ) (old new : Port W) (a b : Option (List ℕ)) (tells : List ℕ → Type 0) (Served Served' : ℕ → Type 0) (status : ℕ) → ((n : ℕ) → Served n → Served' n)
-    → EndsServing port count old new a b tells Served status → EndsServing port count old new a b tells Served' status
-ends_as port count old new a b tells Served Served' status on (inl (zero, writes, flushed, well, told, served)) = inl (zero, writes, flushed, well, told, on (calls_of count) served)
-ends_as port count old new a b tells Served Served' status on (inr (inl (three, fails, first, told, served))) = inr (inl (three, fails, first, told, on (calls_of count) served))
-ends_as port count old new a b tells Served Served' status on (inr (inr (three, none, served))) = inr (inr (three, none, on 0 served))

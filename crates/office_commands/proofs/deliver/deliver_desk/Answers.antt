@@ -1,8 +1,8 @@
 use Rattle.office_replies.proofs.StreamLemmas.{streams_as}
-use Rattle.office_archive_files.specs.Delivering.{Leads}
-use Rattle.office_archive_files.proofs.Alike.{inner_leads}
-use Rattle.office_archive_files.proofs.DeliverLemmas.{delivered_beside}
-use Rattle.office_archive_files.proofs.commands.deliver_joined.Goals as goal
+use Rattle.office_commands.specs.Delivering.{Leads}
+use Rattle.office_commands.proofs.Alike.{inner_leads}
+use Rattle.office_commands.proofs.DeliverLemmas.{delivered_over}
+use Rattle.office_commands.proofs.deliver.deliver_desk.Goals as goal
 
 -- The desk was opened with a set-up that says the same as that of the files, so it answers as the files' office.
 pub returns-clause-ends : goal.returns-clause-ends
@@ -18,7 +18,7 @@ returns-clause-ends g c image opens =
       told = ends.told;
       ports_are = ends.ports_are;
       left = streams_as _ _
-          (λ texts responses led. delivered_beside g.S.Store is_sound are image (opened.office.desk, opened.office.archives) (office.office.desk, office.office.archives) opens texts responses
-          (inner_leads (λ joined. (joined.office.desk, joined.office.archives)) (Leads g.S.Store is_sound are) opened texts responses office led))
+          (λ texts responses led. delivered_over g.S.Store is_sound are image (opened.desk, opened.archives) (office.desk, office.archives) opens texts responses
+          (inner_leads (λ office. (office.desk, office.archives)) (Leads g.S.Store is_sound are) opened texts responses office led))
           _ ends.outcome ends.left;
     }

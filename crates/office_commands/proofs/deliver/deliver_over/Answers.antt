@@ -1,9 +1,10 @@
 use Rattle.sqlite.specs.WalFiles.{image_at}
-use Rattle.office_archive_files.proofs.commands.deliver_beside.Goals as goal
+use Rattle.office_commands.proofs.deliver.deliver_over.Goals as goal
 
 pub returns-in-Ok-clause-ends : goal.returns-in-Ok-clause-ends
 returns-in-Ok-clause-ends g c = record {
-  opened = _;
-  reached = c.in-Ok.ensures.reached.0;
-  came = c.deliver_joined-status.ensures.ends (image_at g.S.Start) c.in-Ok.ensures.opens;
+  names = c.in-Ok.ensures.0;
+  opened = (c.in-Ok.office.desk, c.in-Ok.office.archives);
+  is = c.in-Ok.ensures.1;
+  came = c.deliver_desk-status.ensures.ends (image_at g.S.Start) c.in-Ok.ensures.1.opens;
 }

@@ -10,7 +10,7 @@ use Rattle.office_tables.proofs.MadeLemmas.{clean_first}
 use Rattle.office_desk.specs.Beside.{IsOrNone}
 use Rattle.office_desk.specs.Offices.{HoldsOffice}
 use Rattle.office_desk.proofs.DeliverLemmas.{office_with}
-use Rattle.office_archive_files.proofs.opening.open_desk.Goals as goal
+use Rattle.office_commands.proofs.offices.open_desk.Goals as goal
 
 -- The desk is the one that an opening makes of what was loaded.
 pub returns-in_ok-copy-in-Ok-clause-opened : goal.returns-in_ok-copy-in-Ok-clause-opened

@@ -1,7 +1,7 @@
 use Rattle.std.proofs.Common.{lit<, sym, subst}
 use Rattle.std.proofs.lemmas.Str.Pattern.{NoCharPasses-char}
-use Rattle.office_archive_files.specs.Paths.{HasNoSlash}
-use Rattle.office_archive_files.proofs.register.place_of.Goals as goal
+use Rattle.office_commands.specs.Paths.{HasNoSlash}
+use Rattle.office_commands.proofs.register.place_of.Goals as goal
 
 pub returns-in-Some-clause-name : goal.returns-in-Some-clause-name
 returns-in-Some-clause-name c =

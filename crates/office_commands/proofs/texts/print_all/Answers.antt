@@ -1,5 +1,5 @@
 use Rattle.std.proofs.Common.{inl}
-use Rattle.office_archive_files.proofs.texts.print_all.Goals as goal
+use Rattle.office_commands.proofs.texts.print_all.Goals as goal
 
 -- The texts were written, and then ended.
 pub returns-in-Some-clause-prints : goal.returns-in-Some-clause-prints

@@ -1,13 +1,8 @@
-use Rattle.office_closing.specs.Register.{register_content}
-use Rattle.office_archive_files.proofs.texts.texts_beside.Goals as goal
+use Rattle.std.proofs.lemmas.Result.{IfOk-weaker}
+use Rattle.sqlite.specs.WalFiles.{image_at}
+use Rattle.office_commands.proofs.texts.texts_over.Goals as goal
 
+-- The connection shows what the files held.
 pub returns-clause-printed : goal.returns-clause-printed
-returns-clause-printed g c = record {
-  opened = c.in_ok-desk.desk;
-  shelf = c.in_ok-desk.shelf;
-  names = register_content c.in_ok-desk.register;
-  opens = c.in_ok-desk.ensures.opens;
-  beside = c.in_ok-desk.ensures.beside;
-  prints = c.print_journal.ensures.prints;
-  reads = c.print_journal.ensures.reads;
-}
+returns-clause-printed g c =
+    IfOk-weaker c.print_beside.result _ _ (λ ended it. it (image_at g.S.Start) c.in_ok-conn.ensures.found) c.print_beside.ensures.printed
