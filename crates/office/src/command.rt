@@ -17,7 +17,7 @@ use office_commands::{
     leave_office, leave_whole, migrate_over, open_there, print, report_over, serve_over, tell,
     tell_fault, texts_over,
 };
-use office_desk::Desk;
+use office_desk::load_beside;
 use office_loading::Closed;
 use office_replies::Port;
 use office_reports::ReportKind;
@@ -148,9 +148,7 @@ fn deliver_all<R: Read, W: Write, E: Write>(
     tell_long(rt, errors, Work::OPENING, store);
     let watch = DeliveryWatch::new(rt, stderr_is_terminal(rt), store);
     let beside = InUnknownFiles::new(rt);
-    let (status, ended) = deliver_over(
-        rt, store, Unknown, &beside, &watch, reader, writer, errors,
-    );
+    let (status, ended) = deliver_over(rt, store, Unknown, &beside, &watch, reader, writer, errors);
     match ended {
         Ok(office) => {
             give_up(leave_office(office));
@@ -288,11 +286,12 @@ fn tell_old<E: Write>(to: Audience<'_>, errors: &mut Port<E>, old: &str, fault: 
 
 /// Whether the rows of a store are of this version. Beside archives they are not whole by themselves.
 fn is_newest(rt: &HostRuntime, path: &str) -> bool {
-    let Ok(conn) = open_there(rt, path, Unknown) else {
+    let Ok(mut conn) = open_there(rt, path, Unknown) else {
         return false;
     };
+    let closed = Closed::nothing(rt.alloc());
     matches!(
-        Desk::open(rt.alloc(), conn, Closed::nothing(rt.alloc())),
+        load_beside(rt.alloc(), &mut conn, &closed),
         Ok(_) | Err(TableFault::Damaged)
     )
 }

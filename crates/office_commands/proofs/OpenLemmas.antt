@@ -79,7 +79,7 @@ none_within [] all = refl
 none_within (segment ∷ segments) all =
     let one = (and_parts (is_within 0 segment) (list_all (is_within 0) segments) all).0 in
     let place = (and_parts (nat_le 1 segment.partner && nat_le segment.partner most_partners) (nat_le 1 segment.archive && nat_le segment.archive 0)
-        (and_parts ((nat_le 1 segment.partner && nat_le segment.partner most_partners) && (nat_le 1 segment.archive && nat_le segment.archive 0)) (nat_le 1 segment.last && nat_le segment.last last_number) one).0).1 in
+    (and_parts ((nat_le 1 segment.partner && nat_le segment.partner most_partners) && (nat_le 1 segment.archive && nat_le segment.archive 0)) (nat_le 1 segment.last && nat_le segment.last last_number) one).0).1 in
     let both = and_parts (nat_le 1 segment.archive) (nat_le segment.archive 0) place in
     let low = leb-true 1 segment.archive both.0 in
     let high = leb-true segment.archive 0 both.1 in

@@ -9,8 +9,8 @@ ghost use Rattle.sqlite.specs.Files.{over_files};
 ghost use Rattle.sqlite.specs.Recovery.{Image};
 ghost use Rattle.sqlite.specs.WalFiles.{image_at};
 
-use crate::notes::{Noted, Notes, Watching};
 use crate::beside::ArchivesBeside;
+use crate::notes::{Noted, Notes, Watching};
 use crate::offices::{FileOffice, OpenFault, open_office};
 use crate::opening::{Named, StoreFile};
 use crate::telling::{DONE, FAILED, Faults, HasTerminal, Tallied, print, tell};
@@ -38,14 +38,7 @@ pub struct Service {
 /// 3 if it can't listen, which is reported, or printing failed. A fault is that of `open_office`: then it did not listen, and
 /// reported nothing. No clause says what the store holds after a fault, since no office is left: that nothing was asked of it is
 /// to be read in this body.
-pub fn serve_over<
-    S: Start,
-    A: Archives + Drop,
-    M: ArchivesBeside<A>,
-    N: Notes,
-    W: Write,
-    E: Write,
->(
+pub fn serve_over<S: Start, A: Archives + Drop, M: ArchivesBeside<A>, N: Notes, W: Write, E: Write>(
     rt: &HostRuntime,
     store: &str,
     start: S,

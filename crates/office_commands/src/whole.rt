@@ -28,7 +28,9 @@ pub fn leave_whole<D: Disk + Drop>(conn: Connection<FileStore<D>>) -> Left<D>
 }
 
 /// Leaves the store of an office whole, as `leave_whole` does. Its archives were only read, and stay as they are.
-pub fn leave_office<D: Disk + Drop, A: Archives + Drop>(office: ArchivedDesk<FileStore<D>, A>) -> Left<D>
+pub fn leave_office<D: Disk + Drop, A: Archives + Drop>(
+    office: ArchivedDesk<FileStore<D>, A>,
+) -> Left<D>
     ensures left { IsLeft office.desk.conn result }
 
     // If the store has what is left of the rows after some events, beside some archives, so has its file by itself.
