@@ -1,27 +1,24 @@
 -- A desk of which nothing was put away, and no archives: what it is asked is answered as desk and archives answer together.
-use Rattle.std.proofs.Common.{◌≡◌, ℕ, zero, suc, ◌≤◌, ◌<◌, List, [], ◌∷◌, Bool, true, false, Option, None, Some, Result, refl, sym, ap, subst, ◌∙◌, length, arith}
+use Rattle.std.proofs.Common.{◌≡◌, ℕ, zero, suc, ◌≤◌, List, [], ◌∷◌, Bool, true, false, Option, None, Some, Result, refl, sym, ap, subst, ◌∙◌, length, arith}
 use Rattle.std.specs.Prelude.{◌&&◌, is_some, nat_le, string_bytes}
-use Rattle.std.specs.List.{AllByRecursion}
 use Rattle.std.proofs.lemmas.Bool.{and_parts, leb-true}
 use Rattle.sqlite.specs.Held.{state}
 use Rattle.sqlite.specs.Tree.{Trees}
 use Rattle.sqlite_trees.specs.declared.store.Store.{Ghosts}
 use Rattle.edi_messages.specs.Owned.{call_content}
-use Rattle.edi_messages.specs.Purposes.{CallContent}
-use Rattle.terminal_core.specs.declared.lines.Side.{Side}
 use Rattle.terminal_core.specs.State.{TerminalState}
 use Rattle.office_admission.specs.Setups.{SetupContent, setup_content}
 use Rattle.office_desk.proofs.LookLemmas.{looks_nowhere}
 use Rattle.office_desk.specs.Calls.{Leads, Looks}
 use Rattle.office_desk.specs.Desks.{IsSound}
 use Rattle.office_desk.specs.Looking.{DeskShows}
-use Rattle.office_desk.specs.Offices.{DeskHolds}
 use Rattle.office_desk.specs.Reports.{DeskTells, TellsOf, TellsReplyOf, contrl_for_partner, partner_called, ticket_of}
 use Rattle.office_desk.specs.declared.desk.Desk.{Desk}
 use Rattle.office_parts.specs.Archives.{Archive, Hold, archive_of, reply_by}
-use Rattle.office_parts.specs.Away.{AreAway, lines_away, lists_after}
+use Rattle.office_parts.specs.Away.{AreAway, lines_away}
 use Rattle.office_parts.specs.Naming.{AreHere}
-use Rattle.office_parts.specs.OwnLists.{ListName, list_name}
+use Rattle.office_parts.specs.OwnLists.{ListName, list_name, rows_without_lists, without_lists}
+use Rattle.office_parts.specs.OwnTerminal.{own_terminal}
 use Rattle.office_parts.specs.Parts.{AreClosed, Archived}
 use Rattle.office_replies.specs.Events.{Event}
 use Rattle.office_replies.specs.declared.deliver.Response.{Response}
@@ -30,11 +27,11 @@ use Rattle.office_reports.specs.declared.query.NotNow.{NotNow}
 use Rattle.office_reports.specs.declared.query.Query.{Query}
 use Rattle.office_reports.specs.declared.query.Query.TheVariants as query
 use Rattle.office_loading.specs.Closed.{last_closed}
+use Rattle.office_history.specs.After.{machine_after}
 use Rattle.office_rows.specs.Rows.{Rows}
-use Rattle.office_archives.specs.ListsAway.{FindsIfAway}
 use Rattle.office_archives.specs.Standing.{IsBeyond, NamesNoneAway, StandsBeside}
-use Rattle.office_archives.specs.Telling.{HasListAway, IsOfNumber}
-use Rattle.office_archives.specs.Together.{LeadsTogether, LooksTogether, ShowsBeside, StandTogether, TellsBeside}
+use Rattle.office_archives.specs.Telling.{IsOfNumber, TellsTogether}
+use Rattle.office_archives.specs.Together.{LeadsTogether, LooksTogether, ShowsBeside, TellsBeside}
 use Rattle.office_archives.proofs.Beside.{calls_beside, container_beside, list_beside, neither_beside, nobody_beside, number_beside, tells_so}
 use Rattle.office_archives.proofs.Standing.{beyond_answered, beyond_left}
 use Rattle.office_archives.proofs.Together.{looks_on}
@@ -115,8 +112,14 @@ module _ {S A : Type 0} (g : Ghosts S) (are : List Archive → A → Type 0) (ol
       stands : StandsBeside g stand.list content es old
       stands = stand.stands
 
-      by : (called : Option ℕ) → partner_called (setup_content old.setup) code ≡ called → _
-      by None e = nobody_beside g are old a asked code n found is (nothing _ _ (tells.office _ _ stands.holds) e) (λ rows terminal holds. e) content es stand
+      rows : Rows
+      rows = rows_without_lists stands.away stands.rows
+
+      terminal : TerminalState
+      terminal = without_lists stands.away (own_terminal stands.archived.stays (machine_after content es).terminal)
+
+      by : (called : Option ℕ) → partner_called (setup_content old.setup) code ≡ called → TellsTogether content es stand.list stand.stands.archived stand.stands.whole asked found
+      by None e = nobody_beside g are old a asked code n found is (nothing rows terminal (tells.office rows terminal stands.holds) e) (λ other_rows other_terminal holds. e) content es stand
       by (Some p) e =
           let closed : last_closed old.closed p ≡ 0 = stands.knows.numbers p ∙ closed_none stand.list stands.archived (empty stand.list stand.these) stands.parts.closed stands.hold p in
           number_beside g are old a asked code n p found is e (ap (λ last. nat_le 1 n && nat_le n last) closed ∙ zero_or_above n) tells content es stand
