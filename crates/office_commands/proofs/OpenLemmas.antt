@@ -1,8 +1,8 @@
 -- A store that is opened on its files, beside its archives.
-use Rattle.std.proofs.Common.{◌≡◌, ℕ, ◌+◌, List, [], ◌∷◌, Bool, true, length, refl, sym, ap, subst, ◌∙◌, arith}
+use Rattle.std.proofs.Common.{◌≡◌, ◌≢◌, ◌==◌, ℕ, ◌+◌, List, [], ◌∷◌, Bool, true, false, length, refl, sym, ap, subst, ◌∙◌, arith}
 use Rattle.std.specs.Prelude.{◌&&◌, nat_le, IsTrue}
 use Rattle.std.specs.List.{list_all}
-use Rattle.std.proofs.lemmas.Bool.{and_parts, leb-true}
+use Rattle.std.proofs.lemmas.Bool.{and_parts, eqb-false, eqb-true, leb-true}
 use Rattle.sqlite.specs.Effect.{Database}
 use Rattle.sqlite.specs.Held.{Held, state}
 use Rattle.sqlite.specs.Recovery.{Image}
@@ -72,6 +72,14 @@ opens_at g image found desk shows whole sound content es begins =
     let held = begins.1 in
     let same : (state g found).committed ≡ record { schema = office_schema; trees = held.db } = shows (whole.over.clean sound) held.db office_schema held.held held.after.are.lists in
     whole.events sound content es held.after.rows begins.0 (subst (HasRows held.after.rows) (sym same) held.after.are) held.after.after
+
+-- what has no length is empty
+pub empty_if : {X : Type 0} (xs : List X) → (length xs == 0) ≡ true → xs ≡ []
+empty_if [] none = refl
+empty_if (x ∷ xs) none = let many = eqb-true (length (x ∷ xs)) 0 none in absurd (omega (arith, many))
+
+pub some_if : {X : Type 0} (xs : List X) → (length xs == 0) ≡ false → xs ≢ []
+some_if xs some none = eqb-false (length xs) 0 some (ap length none)
 
 -- a sound register that names no archive closes nothing
 none_within : (segments : List Segment) → list_all (is_within 0) segments ≡ true → segments ≡ []

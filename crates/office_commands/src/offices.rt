@@ -10,7 +10,7 @@ ghost use Rattle.sqlite.specs.WalFiles.{image_at};
 
 use crate::beside::{ArchivesBeside, ShelfBeside};
 use crate::opening::open_there;
-use crate::register::{no_archives, read_history};
+use crate::register::{names_none, no_archives, read_history};
 use office_admission::Setup;
 use office_archives::{ArchivedDesk, Archives, Shelf};
 use office_closing::Register;
@@ -163,7 +163,7 @@ fn join<S: Alter + Drop, A: Archives, M: ArchivesBeside<A>>(
     ensures { IfOk result (λ office. (image : Image) → Shows S.Store image conn →
         OpensWith S.Store M.hold A.are image (register_content register) (office.desk, office.archives)) }
 {
-    if register.archives.is_empty() {
+    if names_none(&register) {
         return open_alone(alloc, conn, beside);
     }
     join_archives(alloc, store, conn, register, beside)

@@ -1,4 +1,4 @@
-ghost use Rattle.std.specs.Prelude.{◌≡◌, ◌++◌, codes, IfOk, IfSome, IsTrue, option_map, string_bytes};
+ghost use Rattle.std.specs.Prelude.{◌≡◌, ◌==◌, ◌++◌, codes, length, IfOk, IfSome, IsTrue, option_map, string_bytes};
 ghost use Rattle.office_commands.specs.History.{IsHistory, history_in};
 ghost use Rattle.office_commands.specs.Paths.{HasNoSlash, IsBeside, path_of};
 ghost use Rattle.office_closing.specs.Changes.{empty_register};
@@ -88,6 +88,13 @@ pub fn no_archives(alloc: Global) -> Register
         lists: Vec::new(alloc),
         closed_for: None,
     }
+}
+
+/// Whether a register names no archive: nothing was put away.
+pub(crate) fn names_none(register: &Register) -> bool
+    ensures { result ≡ (length (register_content register.now).archives == 0) }
+{
+    register.archives.len() == 0
 }
 
 /// Whether a register could not be read because its tables aren't there. So it is after a process was stopped before it had

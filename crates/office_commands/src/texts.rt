@@ -16,6 +16,7 @@ ghost use Rattle.sqlite.specs.WalFiles.{image_at};
 
 use crate::beside::ShelfBeside;
 use crate::offices::{OpenFault, connect, open_whole, read_names, shelve};
+use crate::register::names_none;
 use crate::telling::{DONE, FAILED, REFUSED, print};
 use office_archives::{Shelf, write_journal};
 use office_closing::Register;
@@ -74,7 +75,7 @@ fn print_beside<
         ArePrintedOver S.Store T.Store M.hold F.holds (OpensOn T.Store F.is_known F.holds) image from
         (W.contents writer.old.inner) (W.contents writer.new.inner) writer.new.failed writer.new.flushed ended.0 ended.1) }
 {
-    if register.archives.is_empty() {
+    if names_none(register) {
         let desk = open_whole(alloc, conn)?;
         return Ok(print_kept(alloc, desk, from, writer));
     }

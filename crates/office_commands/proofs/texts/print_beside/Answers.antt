@@ -1,14 +1,14 @@
-use Rattle.std.proofs.Common.{inl, inr}
+use Rattle.std.proofs.Common.{inl, inr, sym, ◌∙◌}
 use Rattle.office_closing.specs.Register.{register_content}
 use Rattle.office_commands.specs.Printing.{PrintsOf, PrintsTexts}
 use Rattle.office_commands.proofs.KeptTextLemmas.{prints_of}
-use Rattle.office_commands.proofs.OpenLemmas.{opens_at, opens_on}
+use Rattle.office_commands.proofs.OpenLemmas.{empty_if, opens_at, opens_on}
 use Rattle.office_commands.proofs.TextLemmas.{printed_alone}
 use Rattle.office_commands.proofs.texts.print_beside.Goals as goal
 
 -- Nothing was put away: the store shows what its files held, and was only read.
-pub returns-then-is_empty-clause-printed : goal.returns-then-is_empty-clause-printed
-returns-then-is_empty-clause-printed g c image shows =
+pub returns-then-names_none-clause-printed : goal.returns-then-names_none-clause-printed
+returns-then-names_none-clause-printed g c image shows =
     let opened = c.in_ok-desk.desk in
     let whole = c.in_ok-desk.ensures in
     let from = c.args.from in
@@ -22,7 +22,7 @@ returns-then-is_empty-clause-printed g c image shows =
       names = register_content c.args.register.now;
       opens = opens;
       printed = inl (
-        c.if-is_empty.true,
+        empty_if (register_content c.args.register.now).archives (sym c.names_none.ensures ∙ c.if-names_none.true),
         printed_alone g.S.Store image opened c.print_kept.result.0 opens
             (λ stored. PrintsTexts from stored old new port.failed port.flushed) (λ db. PrintsOf from db old new port.failed port.flushed)
             (prints_of from old new port.failed port.flushed)
