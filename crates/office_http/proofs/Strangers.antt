@@ -22,9 +22,9 @@ use Rattle.office_http.proofs.OneRequest.{heads_are_one}
 in_any : (view : View) (host site post : Bool) (refusal : Refusal) →
     ◌≡◌ {A = Option Refusal} (cond host (cond post (cond site None (Some OtherSite)) None) (Some OtherHost)) (Some refusal) → refused_in view refusal ≡ Refused refusal
 in_any view true true true refusal is = cc
-in_any view true true false refusal is = let same : OtherSite ≡ refusal = cc in subst (λ (r : Refusal). refused_in view r ≡ Refused r) same refl
-in_any view true false site refusal is = cc
-in_any view false post site refusal is = let same : OtherHost ≡ refusal = cc in subst (λ (r : Refusal). refused_in view r ≡ Refused r) same refl
+in_any view true false true refusal is = let same : OtherSite ≡ refusal = cc in subst (λ (r : Refusal). refused_in view r ≡ Refused r) same refl
+in_any view true site false refusal is = cc
+in_any view false site post refusal is = let same : OtherHost ≡ refusal = cc in subst (λ (r : Refusal). refused_in view r ≡ Refused r) same refl
 
 -- ---- what it asks for
 

@@ -1,5 +1,5 @@
 //! Whose requests a server takes, and where they lead.
-ghost use Rattle.std.specs.Prelude.{◌≡◌, ◌++◌, IfOk, IfErr, All, length, map, nat_le, string_bytes, option_map};
+ghost use Rattle.std.specs.Prelude.{◌≡◌, ◌++◌, IfOk, All, length, map, codes, string_bytes, option_map};
 ghost use Rattle.std.specs.Str.{str_eq_ignore_ascii_case};
 ghost use Rattle.httparse.specs.Spans.{header_bytes, IsHeaderWithin};
 ghost use Rattle.office_http.specs.Fields.{values_of};
@@ -165,7 +165,11 @@ fn is_joined(text: &[u8], front: &[u8], rest: &[u8]) -> bool
     ensures { result ≡ str_eq_ignore_ascii_case text.now (front.now ++ rest.now) }
 {
     let end = front.len();
-    end <= text.len() && is_same(&text[..end], front) && is_same(&text[end..], rest)
+    if end > text.len() {
+        return false;
+    }
+    let (begun, ended) = text.split_at(end);
+    is_same(begun, front) && is_same(ended, rest)
 }
 
 /// Whether a host with any port is one of this server's.
@@ -251,8 +255,10 @@ fn cut(text: &[u8], mark: u8) -> (&[u8], &[u8])
     ensures before { result.0.now ≡ before mark text.now }
     ensures after { result.1.now ≡ after mark text.now }
 {
-    match text.iter().position(|byte| *byte == mark) {
-        Some(at) => (&text[..at], &text[at + 1..]),
-        None => (text, b"".as_slice()),
+    for (at, byte) in text.iter().enumerate() {
+        if *byte == mark {
+            return (&text[..at], &text[at + 1..]);
+        }
     }
+    (text, b"".as_slice())
 }
