@@ -5,7 +5,6 @@ is owed, and then what it is owed, or what a text gets that was taken before; or
 is in the rows, and nothing else; and the text once more gets what it is owed.
 """
 import os
-import shutil
 import signal
 import subprocess
 import sys
@@ -16,7 +15,7 @@ from copy import deepcopy
 
 from model.files import PROGRAM, SETUP, texts_of_day, written
 from model.office import Office
-from model.rows import rows_in, rows_of
+from model.rows import copy_files, rows_in, rows_of
 from model.setup import DEMO
 from model.stream import lines
 
@@ -60,20 +59,11 @@ class Refusing:
 
     def copy_to(self, path):
         """The store and its log, to another place."""
-        self.copy(self.store, path)
+        copy_files(self.store, path)
 
     def copy_from(self, path):
         """The store and its log, from another place."""
-        self.copy(path, self.store)
-
-    @staticmethod
-    def copy(source, target):
-        """A store and its log, if it has one."""
-        for end in ('', '-wal'):
-            if os.path.exists(target + end):
-                os.remove(target + end)
-            if os.path.exists(source + end):
-                shutil.copyfile(source + end, target + end)
+        copy_files(path, self.store)
 
 
 def line_of(office, text):

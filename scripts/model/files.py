@@ -20,6 +20,16 @@ def written(folder, name, text):
     return path
 
 
+def flip(path, chance):
+    """Turns one bit of a file over."""
+    place = chance.randrange(os.path.getsize(path))
+    with open(path, 'r+b') as file:
+        file.seek(place)
+        byte = file.read(1)[0]
+        file.seek(place)
+        file.write(bytes([byte ^ 1 << chance.randrange(8)]))
+
+
 def texts_of_day():
     """The texts of examples/day, by their names, in their turn."""
     folder = os.path.join(TOP, 'examples/day')
