@@ -7,7 +7,7 @@ ghost use Rattle.office_http.specs.Deciding.{body_size, EndsWhenDecided, wanted_
 ghost use Rattle.office_http.specs.Fields.{body_length};
 ghost use Rattle.office_http.specs.Heads.{most_request_reads};
 ghost use Rattle.office_http.specs.Ports.{ReadsUpTo};
-ghost use Rattle.office_http.specs.Requests.{Asks, AsksWith, asked_in, Gets, Names, nothing_in, Posts, PostsAccount, PostsBy, refused_in, sought, texts_asked};
+ghost use Rattle.office_http.specs.Requests.{Asks, AsksWith, asked_in, Gets, Names, nothing_in, Posts, PostsAccount, PostsBy, PostsExplain, refused_in, sought, texts_asked};
 ghost use Rattle.office_http.specs.Routes.{key_in, partner_key_in};
 ghost use Rattle.office_http.specs.declared.targets.View.TheVariants.{Find};
 ghost use Rattle.office_http.specs.declared.requests.Request.TheVariants.{Refused};
@@ -19,7 +19,7 @@ ghost use Rattle.office_reports.specs.Keys.{query_of};
 
 use crate::head::{FoundHead, MOST_FIELDS, MOST_HEAD_BYTES, OwnText, content_length, read_head};
 use crate::response::Refusal;
-use crate::routes::{Endpoint, key_in, partner_key_in, passed_in, posted_as};
+use crate::routes::{Endpoint, explained, key_in, partner_key_in, passed_in, posted_as};
 use crate::site::Site;
 use crate::targets::{View, path_of, typed_in, view_of};
 use httparse::spans::{EMPTY_HEADER_SPAN, HeaderSpan};
@@ -42,6 +42,8 @@ pub(crate) enum Request {
     OwnDelivery(OwnText),
     /// That this account is added.
     Account(AccountKey),
+    /// What is wrong with this text.
+    Explain(Vec<u8>),
     /// A report, shown so.
     Report(View, ReportKind, Query),
     /// A page of the kept texts, after so many.
@@ -102,6 +104,7 @@ pub(crate) fn read_asked<R: Read>(
             read_own_post(alloc, reader, read, headers, found, path)
         }
         Ok(Endpoint::Accounts) => read_account(alloc, reader, read, headers, found, path),
+        Ok(Endpoint::Explain) => read_explained(alloc, reader, read, headers, found),
         Ok(Endpoint::Report(kind)) => Ok(read_report(alloc, view_of(target), kind, target)),
         Ok(Endpoint::Texts) => Ok(texts_asked(passed_in(path))),
         Err(refusal) => Ok(refused_in(view_of(target), refusal)),
@@ -181,6 +184,27 @@ fn read_own_post<R: Read>(
         Ok(None) => Ok(Request::Refused(Refusal::NotFound)),
         Err(_) => Ok(Request::Refused(Refusal::NotNow)),
     }
+}
+
+/// Reads the body that the fields of a head tell of, to be explained.
+fn read_explained<R: Read>(
+    alloc: Global,
+    reader: &mut Port<R>,
+    read: &[u8],
+    headers: &[HeaderSpan],
+    found: FoundHead,
+) -> Result<Request>
+    requires { IsSectionWithin read.now headers.now found.spans.len found.spans.headers }
+    ensures posts { IfOk result (λ request. IfSome (R.remaining reader.old.inner) (λ left. (request ≡ Refused NotNow)
+        ⊎ PostsExplain (body_length (map (header_bytes read.now) (take found.spans.headers headers.now)))
+        (drop found.spans.len read.now ++ left) request)) }
+    ensures reads { ReadsUpTo most_bytes reader.old reader.new result }
+    ensures decided { reader.new.reads ≤ reader.old.reads
+        + (body_size (body_length (map (header_bytes read.now) (take found.spans.headers headers.now)))
+        - length (drop found.spans.len read.now)) }
+{
+    let posted = read_post(alloc, reader, read, headers, found)?;
+    Ok(explained(posted))
 }
 
 /// Reads past the body that the fields of a head tell of, and names the account of a path.

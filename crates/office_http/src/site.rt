@@ -1,7 +1,9 @@
 //! Whose requests a server takes, and where they lead.
-ghost use Rattle.std.specs.Prelude.{◌≡◌, ◌++◌, IfOk, All, length, map, codes, string_bytes, option_map};
+ghost use Rattle.std.specs.Prelude.{◌≡◌, ◌++◌, IfOk, All, false, length, map, codes, string_bytes, option_map};
 ghost use Rattle.std.specs.Str.{str_eq_ignore_ascii_case};
 ghost use Rattle.httparse.specs.Spans.{header_bytes, IsHeaderWithin};
+ghost use Rattle.office_explain.specs.Blocks.{IsExplanation};
+ghost use Rattle.office_explain.specs.declared.partners.Partners.{Partners};
 ghost use Rattle.office_http.specs.Fields.{values_of};
 ghost use Rattle.office_http.specs.Routes.{endpoint_of};
 ghost use Rattle.office_http.specs.Sites.{after, are_three_octets, are_two_octets, before, fetch_passes, host_passes, is_end, is_loopback, is_loopback_6, is_named, is_octet, is_own, is_own_host, is_port, is_site_of, is_site_of_one, origin_passes, site_passes, stranger, unless_stranger};
@@ -11,27 +13,30 @@ use crate::response::Refusal;
 use crate::routes::{Endpoint, endpoint_of, router};
 use httparse::spans::HeaderSpan;
 use matchit::Router;
+use office_explain::{Explanation, Partners, explain_file};
 use office_reports::number_of;
 use std::alloc::{AllocError, Global};
 use std::marker::Model;
 
-/// What a server is for all requests: the name that it is served under beside this machine's own, if it has one, and where
-/// its paths lead. It is made once.
+/// What a server is for all requests: the name that it is served under beside this machine's own, if it has one, where its
+/// paths lead, and what explains a text. It is made once.
 #[derive(Drop)]
 pub struct Site {
     name: Option<String>,
     router: Router<Endpoint>,
+    partners: Partners,
 }
 
 impl Model for Site {
     ghost use Rattle.std.specs.Prelude.{◌≡◌, ℕ, List, Option, option_map, string_bytes};
+    ghost use Rattle.std.specs.Prelude.{false};
     ghost use Rattle.office_http.specs.Routes.{endpoints};
 
     ghost Value = { Option (List ℕ) };
 
     ghost view = { λ site. option_map string_bytes site.name };
 
-    ghost invariant = { λ site. site.router ≡ endpoints };
+    ghost invariant = { λ site. (site.router ≡ endpoints) × (site.partners.are_known ≡ false) };
 }
 
 impl Site {
@@ -40,10 +45,22 @@ impl Site {
         ensures { IfOk result (λ site. site ≡ option_map (λ text. text.now) name.entry) }
     {
         let name = owned(alloc, name)?;
-        let Ok(router) = router(alloc) else {
+        let (Ok(router), Ok(partners)) = (router(alloc), Partners::unknown(alloc)) else {
             return Err(AllocError);
         };
-        Ok(Site { name, router })
+        Ok(Site {
+            name,
+            router,
+            partners,
+        })
+    }
+
+    /// What is wrong with a text, where nothing is known of partners. An error is that memory was refused.
+    pub(crate) fn explain(&self, alloc: Global, text: &[u8]) -> Result<Explanation, AllocError>
+        ensures { IfOk result (λ explanation. (partners : Partners) × (partners.are_known ≡ false)
+            × IsExplanation partners text.now explanation) }
+    {
+        explain_file(alloc, &self.partners, text)
     }
 
     /// Where a request leads to, or why it is refused: first by whose it is, then by its path and its method.
