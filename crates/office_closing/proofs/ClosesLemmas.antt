@@ -14,7 +14,7 @@ use Rattle.office_closing.specs.declared.faults.CloseFault.{CloseFault}
 use Rattle.office_closing.specs.declared.faults.File.{File}
 use Rattle.office_closing.specs.declared.planning.Plan.{Plan}
 use Rattle.office_closing.specs.Clearing.{Clears}
-use Rattle.office_closing.specs.Closes.{AreHeld, Closes, Closing, HasArchive, Held, IsBeforehand, IsLeft, StoresLeftRows, StoresMarked, StoresRaised, cleared, closing_content, AreOfSetup, PutsAway}
+use Rattle.office_closing.specs.Closes.{AreHeld, Closes, Closing, HasArchive, Held, IsBeforehand, IsMarkedNow, IsLeft, StoresLeftRows, StoresMarked, StoresRaised, cleared, closing_content, AreOfSetup, PutsAway}
 use Rattle.office_closing.specs.Copies.{FileNames}
 use Rattle.office_closing.specs.Files.{AreClean, AreIdle, AreRead, Files, IsRead}
 use Rattle.office_closing.specs.Judging.{AreResting, IsJudged, IsResting}
@@ -191,7 +191,9 @@ module _ (names : FileNames) (old mid : Files) (plan : Plan) (rests : AreResting
         untouched = λ before. absurd (not_before why raises.fault before);
         tells = λ clean held has. written_tells held.own held.copy names old why raises.fault;
         store = λ clean. quiet old.store mid.store _ read.store.survives;
-        register = λ clean. lemma.raise_survives names old mid plan rests read judged end (Err why) raises (λ _. cleans_unraised clean);
+        register = λ clean.
+            lemma.raise_survives names old mid plan rests read judged end (Err why) raises unraised_files (λ _. cleans_unraised clean)
+            (λ _. lemma.marked_now names old mid plan rests read judged marked z marks clean.archive_register (cleans_unraised clean));
         mark = λ clean. lemma.mark_survives names old mid plan rests read judged marked (Ok z) marks (λ _. cleans_unraised clean);
         archive = read_on old.archive mid.archive _ read.archive;
       }
@@ -210,11 +212,12 @@ module _ (names : FileNames) (old mid : Files) (plan : Plan) (rests : AreResting
           archive_register = lemma.was_clean mid.archive_register marked _ marks.crash clean.archive_register;
         }
 
-        has_archive : AreClean raised_files → (held : Held) → AreHeld held old → HasArchive held names closing raised
-        has_archive clean = lemma.raise_made names old mid plan rests read judged raised w raises clean.register (cleans clean)
+        is_marked : AreClean raised_files → (held : Held) → AreHeld held old → IsMarkedNow held names marked
+        is_marked clean = lemma.marked_now names old mid plan rests read judged marked z marks clean.archive_register (cleans clean)
 
-        is_marked : AreClean raised_files → (held : Held) → AreHeld held old → HasRegister (marked_for names.store held.copied) marked.committed
-        is_marked clean = lemma.mark_made names old mid plan rests read judged marked z marks clean.archive_register (cleans clean)
+        has_archive : AreClean raised_files → (held : Held) → AreHeld held old → HasArchive held names closing raised_files
+        has_archive clean held has =
+            lemma.raise_made names old mid plan rests read judged raised_files w raises clean.register (cleans clean) held has (is_marked clean held has)
 
         all_idle : AreIdle raised_files
         all_idle = record { store = clears.ends.idle; register = raises.idle; archive = mid_idle.archive; archive_register = marks.idle }
@@ -222,8 +225,8 @@ module _ (names : FileNames) (old mid : Files) (plan : Plan) (rests : AreResting
         store_crash : AreClean raised_files → Survives old.store end (StoresLeftRows names old raised_files)
         store_crash clean = lemma.store_survives names old mid plan rests read judged raised_files result clears (λ _. has_archive clean) (λ _. cleans clean)
 
-        register_crash : AreClean raised_files → Survives old.register raised (StoresRaised names old)
-        register_crash clean = lemma.raise_survives names old mid plan rests read judged raised (Ok w) raises (λ _. cleans clean)
+        register_crash : AreClean raised_files → Survives old.register raised (StoresRaised names old raised_files)
+        register_crash clean = lemma.raise_survives names old mid plan rests read judged raised (Ok w) raises raised_files (λ _. cleans clean) (λ _. is_marked clean)
 
         mark_crash : AreClean raised_files → Survives old.archive_register marked (StoresMarked names old)
         mark_crash clean = lemma.mark_survives names old mid plan rests read judged marked (Ok z) marks (λ _. cleans clean)
@@ -240,8 +243,8 @@ module _ (names : FileNames) (old mid : Files) (plan : Plan) (rests : AreResting
               inr (closing, left.0, has_archive (Err why) clears clean held has, left.1, left.2);
           register = λ is_open.
               let it = has_archive (Err why) clears clean held has in
-              inr (closing, it.is_closing, it.has);
-          mark = λ is_open. inr (is_marked (Err why) clears clean held has);
+              inr (closing, it.is_closing, it.has, it.marked);
+          mark = λ is_open. inr (is_marked (Err why) clears clean held has).has;
         };
         untouched = λ no. absurd (no clears.fault);
         tells = λ clean held has. tt;
@@ -263,10 +266,10 @@ module _ (names : FileNames) (old mid : Files) (plan : Plan) (rests : AreResting
               record {
                 rows = whole.rows held.own (lemma.own_committed names old mid plan rests read judged (cleans (Ok x) clears clean) held has);
                 register = it.has;
-                mark = is_marked (Ok x) clears clean held has;
+                mark = it.marked.has;
                 store_settled = record { settled = whole.settled; is_open = whole.is_open; alone = whole.alone };
                 register_settled = it.settled;
-                mark_settled = lemma.mark_settled names old mid plan rests read judged marked z marks clean.archive_register (cleans (Ok x) clears clean);
+                mark_settled = it.marked.settled;
               },
             );
         err = λ clean. tt;

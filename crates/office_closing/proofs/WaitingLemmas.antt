@@ -2,7 +2,7 @@
 use Rattle.std.proofs.Common.{◌≡◌, ℕ, List, length, true, sym, ap, subst, ◌∙◌, zero, suc, ◌+◌, ◌<◌, ◌≤◌, inl, inr, [], ◌∷◌, ◌++◌, map, take, get_or, Bool, cond, refl, arith, Option, None, Some, Result, Ok}
 use Rattle.std.specs.Prelude.{Contains, IsPermutation, ◌==◌, count_by, IsSorted, ◌&&◌, nat_lt, find, string_bytes}
 use Rattle.std.proofs.lemmas.List.{nil_from_length, get_or-map, length-map, take_more, append-nil}
-use Rattle.std.proofs.lemmas.List.Sorted.{IsPermutation-sym, length_permutation, Contains-permutation, IsNonDecreasingBy-from_sort, IsPermutation-map, sum_by-IsPermutation, IsPermutation-append}
+use Rattle.std.proofs.lemmas.List.Sorted.{IsPermutation-sym, IsPermutation-trans, length_permutation, Contains-permutation, IsNonDecreasingBy-from_sort, IsPermutation-map, sum_by-IsPermutation, IsPermutation-append}
 use Rattle.sqlite_rules.proofs.ListLemmas.{all_from, all_has, contains_had, has_filtered, has_contained, has_found, has_kept}
 use Rattle.sqlite_trees.proofs.ListLemmas.{IsPermutation-filter, all-permutation, map-map}
 use Rattle.edi_messages.specs.Purposes.{CallContent}
@@ -183,6 +183,21 @@ accounts_by_id rows nexts accounts are =
       next_numbers = are.3;
       ids = in_range (length rows.partners) (map id_of by_id) placed are.2 ∙ ap (range_with_len 1) (sym count);
     }
+
+rises_of : {A : Type 0} (key : A → ℕ) (low : ℕ) (xs : List A) → Rises (λ x. x) low (map key xs) → Rises key low xs
+rises_of key low [] up = tt
+rises_of key low (x ∷ xs) up = (up.0, rises_of key (key x) xs up.1)
+
+by_id_rises : (by_id : List Partner) → map id_of by_id ≡ range_with_len 1 (length by_id) → Rises id_of 0 by_id
+by_id_rises by_id ids = rises_of id_of 0 by_id (subst (Rises (λ x. x) 0) (sym ids) (rises_from 0 1 (length by_id) (omega arith)))
+
+-- accounts with these ids have their next numbers in one way
+pub one_nexts : (rows : Rows) (nexts others : List ℕ) → map id_of rows.partners ≡ range_with_len 1 (length rows.partners) → AreNexts rows nexts → AreNexts rows others → nexts ≡ others
+one_nexts rows nexts others accounts these those =
+    let one = accounts_by_id rows nexts accounts these in
+    let other = accounts_by_id rows others accounts those in
+    let same : these.0 ≡ those.0 = rising_same id_of 0 these.0 those.0 (by_id_rises these.0 one.ids) (by_id_rises those.0 other.ids) (IsPermutation-trans _ _ _ (IsPermutation-sym rows.partners these.0 one.same) other.same) in
+    one.next_numbers ∙ ap (map (λ (p : Partner). p.next)) same ∙ sym other.next_numbers
 
 -- ---- one more of them
 

@@ -89,7 +89,7 @@ returns-clause-judged g c clean held has =
     let waited = named.named named_clean held.own opened_has (record { accounts = has.own_orderly.accounts; are = opened.nexts held.own has.own; kept_once = has.own_orderly.once }) in
     plan_judged held old has names (office_content c.in_ok-own.own) (office_content c.in_ok-copy.copy) opened (copy.opened archive_clean clean.archive_register)
     (map named_list_content c.deref.result.now) (subst (λ l. AreWaitedFor (office_content c.in_ok-own.own).setup held.own (map named_list_content l)) (sym c.deref.ensures.value) waited)
-    c.in_ok-plan.plan c.in_ok-plan.ensures.ok c.utf8.archive_file
+    c.in_ok-plan.plan c.in_ok-plan.ensures.ok c.utf8.archive_file c.utf8.store_file
     (call.compared clean.store clean.archive held own_has copy_has has.own_orderly.once has.copy_orderly.once)
 
 -- ---- why it is refused
