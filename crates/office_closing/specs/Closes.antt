@@ -2,7 +2,7 @@
 use Rattle.std.specs.Prelude.{◌≡◌, ◌⊎◌, ℕ, ◌+◌, ◌<◌, ◌≤◌, true, Bool, List, Contains, length, map, None, Some, Result, IfErr, IsTrue, OnErr, OnOk}
 use Rattle.std.specs.List.{AllByRecursion, range_with_len}
 use Rattle.sqlite.specs.Effect.{Database}
-use Rattle.sqlite.specs.State.{State, Survives}
+use Rattle.sqlite.specs.State.{KeepsCommit, State, Survives}
 use Rattle.sqlite.specs.Tree.{Trees}
 use Rattle.terminal_core.specs.Forms.{IsFormedVisit}
 use Rattle.terminal_core.specs.Rows.{VisitContent}
@@ -19,7 +19,8 @@ use Rattle.office_parts.specs.Archives.{HoldsWhatGoes}
 use Rattle.office_parts.specs.LeftOver.{rows_without}
 use Rattle.office_parts.specs.OwnTerminal.{MayStay}
 use Rattle.office_parts.specs.Parts.{Archived}
-use Rattle.office_tables.specs.Faults.{IsOfStore}
+use Rattle.office_tables.specs.Faults.{IsOfStore, IsOfStoreOr}
+use Rattle.office_tables.specs.declared.table_fault.TableFault.{TableFault}
 use Rattle.office_closing.specs.declared.register.Segment.{Segment}
 use Rattle.office_closing.specs.Changes.{closed_with, marked_for, unmarked}
 use Rattle.office_closing.specs.Lists.{SettledListContent, list_content}
@@ -29,15 +30,18 @@ use Rattle.office_closing.specs.Stored.{HasRegister, StoresRegister}
 use Rattle.office_closing.specs.Transactions.{IsSettled}
 use Rattle.office_closing.specs.declared.faults.CloseFault.{CloseFault}
 use Rattle.office_closing.specs.declared.faults.CloseFault.TheVariants as fault
+use Rattle.office_closing.specs.declared.faults.File.{File}
+use Rattle.office_closing.specs.declared.faults.File.TheVariants as file
 use Rattle.office_closing.specs.declared.comparing.Numbers.{Numbers}
 use Rattle.office_closing.specs.declared.planning.Plan.{Plan}
 use Rattle.office_closing.specs.declared.planning.Stage.{Stage}
 use Rattle.office_closing.specs.declared.planning.Stage.TheVariants as stage
+use Rattle.office_closing.specs.Comparing.{IsOfEither}
 use Rattle.office_closing.specs.Copies.{FileNames, numbers_from, segments_of}
 use Rattle.office_closing.specs.Deleting.{all_but, goes, is_one_of, with_visits_that, without_visits}
 use Rattle.office_closing.specs.Files.{Files, AreClean, AreIdle, AreRead, IsRead}
 use Rattle.office_closing.specs.Laws.{Raises}
-use Rattle.office_closing.specs.Refusing.{Tells}
+use Rattle.office_closing.specs.Refusing.{HasUnfit, HasUnread, IsOfThis, IsUnopened, IsWhy}
 use Rattle.office_closing.specs.Visits.{AreToGo}
 
 -- ---- what the files hold before
@@ -248,6 +252,33 @@ StoresMarked names old db =
 
 -- ---- faults
 
+-- what a fault says of its file: why the office in it does not open, or texts that wait in the store are not read; a register
+-- is sound
+abbrev pub IsFaultIn : Held → Files → File → TableFault → Type 0
+IsFaultIn held files file.Store fault =
+    IsUnopened held.register held.own files.store.now fault ⊎ IsOfStoreOr (HasUnread held.own) fault
+IsFaultIn held files file.Register fault = IsOfStore fault
+IsFaultIn held files file.Archive fault = IsUnopened held.copied held.copy files.archive.now fault
+IsFaultIn held files file.ArchiveRegister fault = IsOfStore fault
+
+-- What a fault tells: why the archive is refused; what a file has that can't be read; of the store or of the archive, where they
+-- were compared, that it failed or has a reply that is no text.
+abbrev pub Tells : Held → FileNames → Files → CloseFault → Type 0
+Tells held names files (fault.Archive why) = IsWhy held.own held.copy names files why
+Tells held names files (fault.File of) = IsFaultIn held files of.file of.fault
+Tells held names files (fault.Comparing of) = IsOfEither (HasUnfit held.own) (HasUnfit held.copy) of
+Tells held names files fault.Memory = Unit {0}
+
+-- where a fault of that file stops a closing that writes: the archive is not marked; or it is, and the store's register does not
+-- have it; or that has it, and not all is deleted
+abbrev pub IsStoppedBy : Held → FileNames → (old new : Files) → File → Type 0
+IsStoppedBy held names old new file.ArchiveRegister =
+    KeepsCommit old.store new.store × KeepsCommit old.register new.register
+IsStoppedBy held names old new file.Register =
+    KeepsCommit old.store new.store × IsMarkedNow held names new.archive_register
+IsStoppedBy held names old new file.Store = (closing : Closing) × HasArchive held names closing new
+IsStoppedBy held names old new file.Archive = ⊥
+
 -- the archive is refused, or a file is damaged or of another version
 abbrev pub IsBeforehand : CloseFault → Type 0
 IsBeforehand (fault.Archive why) = Unit {0}
@@ -258,15 +289,16 @@ IsBeforehand fault.Memory = Unit {0}
 -- ---- the whole
 
 -- At Ok the store is closed. At a fault it is stopped somewhere, and before anything was written if the archive was refused
--- or a file damaged. What the fault tells is so. A crash leaves of each file what it left before, or what these say. The archive's rows stay as they are.
+-- or a file damaged. What the fault tells is so, and the file that it names is the one that was written. A crash leaves of each file what it left before, or what these say. The archive's rows stay as they are.
 pub record Closes {T : Type 0} (names : FileNames) (old new : Files) (result : Result T CloseFault) : Type 0 where
   pub idle : AreIdle new
   pub ok : AreClean new → OnOk result ((held : Held) → AreHeld held old →
       (closing : Closing) × IsClosing held names closing × IsClosed held names closing new)
   pub err : AreClean new → OnErr result ((held : Held) → AreHeld held old → IsStopped held names new)
   pub untouched : IfErr result (λ fault. IsBeforehand fault → AreRead old new result)
-  pub tells : AreClean new → IfErr result (λ fault. (held : Held) → AreHeld held old →
-      Tells held.own held.copy names old fault)
+  pub tells : AreClean new → IfErr result (λ fault. (held : Held) → AreHeld held old → Tells held names old fault)
+  pub stopped : AreClean new → IfErr result (λ fault. (held : Held) → AreHeld held old →
+      AreRead old new result ⊎ ((file : File) × IsOfThis file IsOfStore fault × IsStoppedBy held names old new file))
   pub store : AreClean new → Survives old.store new.store (StoresLeftRows names old new)
   pub register : AreClean new → Survives old.register new.register (StoresRaised names old new)
   pub mark : AreClean new → Survives old.archive_register new.archive_register (StoresMarked names old)
