@@ -62,7 +62,7 @@ use Rattle.office_closing.specs.declared.planning.ClosingLists.{ClosingLists}
 use Rattle.office_closing.specs.declared.planning.History.{History}
 use Rattle.office_closing.specs.declared.planning.Plan.{Plan}
 use Rattle.office_closing.specs.declared.planning.Stage.{Stage}
-use Rattle.office_closing.specs.Copies.{AreDoneIn, ComesOn, FileNames, HasCome, IsOfStore, OfficeContent, archive_in, lists_at}
+use Rattle.office_closing.specs.Copies.{AreDoneIn, ComesOn, FileNames, HasCome, IsOfStore as AreOfStore, OfficeContent, archive_in, lists_at}
 use Rattle.office_closing.specs.Planning.{AreClosingLists, AreFor, AreInBoth, IsHistory, IsPlan, IsPlanOf, IsRefused, IsRefusedWith}
 use Rattle.office_closing.specs.declared.faults.CloseFault.TheVariants as fault
 use Rattle.office_closing.specs.declared.faults.Refusal.TheVariants as refusal
@@ -460,7 +460,7 @@ done_in terminal named place at lines done told once here are = record {
   are = subst (λ n. AreDone (map listing_content lines) named n done) here are;
 }
 
-pub plan_from : (own copy : OfficeContent) (names : FileNames) (named : List ListName) (history : History) (lists : ClosingLists) (come : Stage) (plan : Plan) → IsOfStore own copy → IsHistory own copy names.archive history
+pub plan_from : (own copy : OfficeContent) (names : FileNames) (named : List ListName) (history : History) (lists : ClosingLists) (come : Stage) (plan : Plan) → AreOfStore own copy → IsHistory own copy names.archive history
     → AreClosingLists own copy named (archive_in names.archive copy).place lists → ComesOn own copy names (map list_content lists.all.items) come → IsPlanOf history lists come plan → IsPlan own copy names named plan
 plan_from own copy names named history lists come plan of_store closes put comes is =
     let place = (archive_in names.archive copy).place in

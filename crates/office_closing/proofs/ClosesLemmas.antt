@@ -20,7 +20,7 @@ use Rattle.office_closing.specs.Files.{AreClean, AreIdle, AreRead, Files, IsRead
 use Rattle.office_closing.specs.Judging.{AreResting, IsJudged, IsResting}
 use Rattle.office_closing.specs.Refusing.{IsFileOf}
 use Rattle.office_closing.specs.Steps.{IsOfWriting, StepsIf, is_unmarked, is_unraised}
-use Rattle.office_closing.proofs.PlanLemmas.{beyond_is_above, of_store_there, written_tells, written_there}
+use Rattle.office_closing.proofs.PlanLemmas.{beyond_is_above, of_store_there, written_tells}
 use Rattle.std.specs.Prelude.{Contains, IsPermutation, find}
 use Rattle.std.specs.Option.{option_map, option_or}
 use Rattle.sqlite_rules.proofs.ListLemmas.{contains_had, has_contained, has_filtered, has_found, has_kept, has_left, has_right, some_from, some_has}
@@ -165,7 +165,8 @@ module _ (names : FileNames) (old mid : Files) (plan : Plan) (rests : AreResting
       stopped = λ clean held has.
           inr (
             file.ArchiveRegister,
-            written_there file.ArchiveRegister why at marks.fault,
+            at,
+            marks.fault,
             (read.store.keeps (cleans_unmarked clean).store, read.register.keeps (cleans_unmarked clean).register),
           );
       store = λ clean. quiet old.store mid.store _ read.store.survives;
@@ -203,7 +204,8 @@ module _ (names : FileNames) (old mid : Files) (plan : Plan) (rests : AreResting
         stopped = λ clean held has.
             inr (
               file.Register,
-              written_there file.Register why at raises.fault,
+              at,
+              raises.fault,
               (
                 read.store.keeps (cleans_unraised clean).store,
                 lemma.marked_now names old mid plan rests read judged marked z marks clean.archive_register (cleans_unraised clean) held has,
@@ -267,7 +269,7 @@ module _ (names : FileNames) (old mid : Files) (plan : Plan) (rests : AreResting
         };
         untouched = λ no. absurd (no clears.fault);
         tells = λ clean held has. of_store_there held names old file.Store why clears.fault;
-        stopped = λ clean held has. inr (file.Store, (refl, clears.fault), (closing, has_archive (Err why) clears clean held has));
+        stopped = λ clean held has. inr (file.Store, refl, clears.fault, (closing, has_archive (Err why) clears clean held has));
         store = store_crash (Err why) clears;
         register = register_crash (Err why) clears;
         mark = mark_crash (Err why) clears;

@@ -31,7 +31,7 @@ use Rattle.office_closing.specs.declared.faults.CloseFault.{CloseFault}
 use Rattle.office_closing.specs.declared.faults.Refusal.{Refusal}
 use Rattle.office_closing.specs.Files.{Files}
 use Rattle.office_closing.specs.Planning.{IsRefused}
-use Rattle.office_closing.specs.Refusing.{HasReason, HasUnread, IsFileOf, IsOfComparing, IsOfOpening, IsOfThis, IsOtherwise, IsUnopened, IsWhy}
+use Rattle.office_closing.specs.Refusing.{HasReason, HasUnread, IsOfComparing, IsOfOpening, IsOfThis, IsOtherwise, IsUnopened, IsWhy}
 use Rattle.office_closing.specs.Steps.{IsOfWriting, StepsIf}
 use Rattle.sqlite.specs.State.{State, HasCleanDisk, Survives}
 use Rattle.sqlite.proofs.StateLemmas.{survives_weaker}
@@ -322,13 +322,6 @@ this_more at Is Or more (fault.Archive why) is = absurd is
 this_more at Is Or more (fault.File of) is = (is.0, more of.fault is.1)
 this_more at Is Or more (fault.Comparing of) is = absurd is
 this_more at Is Or more fault.Memory is = tt
-
--- a file that could not be written
-pub written_there : (at : File) (why : CloseFault) → IsFileOf at why → IsOfWriting why → IsOfThis at IsOfStore why
-written_there at (fault.Archive why) there is = absurd is
-written_there at (fault.File of) there is = (there, is)
-written_there at (fault.Comparing of) there is = absurd is
-written_there at fault.Memory there is = absurd is
 
 module _ (held : Held) (names : FileNames) (files : Files) where
   abbrev own : Rows

@@ -1,5 +1,5 @@
 -- What a stop of a closing leaves, and that a closing goes on from there.
-use Rattle.std.proofs.Common.{◌≡◌, ◌⊎◌, inl, inr, ℕ, ◌+◌, ◌≤◌, ◌==◌, List, [], ◌∷◌, ◌++◌, Bool, true, false, cond, not, filter, map, length, None, Some, Result, Ordering, Less, refl, sym, ap, ap₂, subst, ◌∙◌, arith}
+use Rattle.std.proofs.Common.{◌≡◌, ◌⊎◌, inl, inr, ℕ, ◌+◌, ◌≤◌, ◌==◌, List, [], ◌∷◌, ◌++◌, Bool, true, false, cond, not, filter, map, length, Option, None, Some, Result, Ordering, Less, refl, sym, ap, ap₂, subst, ◌∙◌, arith}
 use Rattle.std.specs.Prelude.{◌&&◌, nat_le}
 use Rattle.std.specs.List.{AllByRecursion, list_all}
 use Rattle.std.specs.Ordering.{is_lt, ordering_reverse}
@@ -161,7 +161,7 @@ abbrev Up : List SettledListContent → Type 0
 Up [] = Unit {0}
 Up (x ∷ lists) = AllByRecursion (IsAfter x) lists × Up lists
 
-ups : (before : _) (lists : List SettledListContent) → are_rising before lists ≡ true → Up lists
+ups : (before : Option SettledListContent) (lists : List SettledListContent) → are_rising before lists ≡ true → Up lists
 ups before [] h = tt
 ups before (x ∷ lists) h = let parts = and_parts _ _ h in (all_after x lists parts.1, ups (Some x) lists parts.1)
 
@@ -295,7 +295,7 @@ module _ (held left : Held) (names : FileNames) (way : IsOnItsWay held names lef
 
   numbers_are : numbers_of copy ≡ closing.numbers
   numbers_are =
-      ap₂ (λ (c : RegisterContent) l. numbers_from (last_closed c.segments) 1 l) same_copied (sym copy_nexts)
+      ap₂ (λ (c : RegisterContent) (l : List ℕ). numbers_from (last_closed c.segments) 1 l) same_copied (sym copy_nexts)
       ∙ sym way.is_closing.all.numbers
 
   segments_are : segments_of place (numbers_of copy) ≡ closing.segments

@@ -41,7 +41,8 @@ use Rattle.office_closing.specs.Copies.{FileNames, numbers_from, segments_of}
 use Rattle.office_closing.specs.Deleting.{all_but, goes, is_one_of, with_visits_that, without_visits}
 use Rattle.office_closing.specs.Files.{Files, AreClean, AreIdle, AreRead, IsRead}
 use Rattle.office_closing.specs.Laws.{Raises}
-use Rattle.office_closing.specs.Refusing.{HasUnfit, HasUnread, IsOfThis, IsUnopened, IsWhy}
+use Rattle.office_closing.specs.Refusing.{HasUnfit, HasUnread, IsFileOf, IsUnopened, IsWhy}
+use Rattle.office_closing.specs.Steps.{IsOfWriting}
 use Rattle.office_closing.specs.Visits.{AreToGo}
 
 -- ---- what the files hold before
@@ -289,7 +290,8 @@ IsBeforehand fault.Memory = Unit {0}
 -- ---- the whole
 
 -- At Ok the store is closed. At a fault it is stopped somewhere, and before anything was written if the archive was refused
--- or a file damaged. What the fault tells is so, and the file that it names is the one that was written. A crash leaves of each file what it left before, or what these say. The archive's rows stay as they are.
+-- or a file damaged. What the fault tells is so, and it names the file that was to be written. A crash leaves of each file what
+-- it left before, or what these say. The archive's rows stay as they are.
 pub record Closes {T : Type 0} (names : FileNames) (old new : Files) (result : Result T CloseFault) : Type 0 where
   pub idle : AreIdle new
   pub ok : AreClean new → OnOk result ((held : Held) → AreHeld held old →
@@ -298,7 +300,8 @@ pub record Closes {T : Type 0} (names : FileNames) (old new : Files) (result : R
   pub untouched : IfErr result (λ fault. IsBeforehand fault → AreRead old new result)
   pub tells : AreClean new → IfErr result (λ fault. (held : Held) → AreHeld held old → Tells held names old fault)
   pub stopped : AreClean new → IfErr result (λ fault. (held : Held) → AreHeld held old →
-      AreRead old new result ⊎ ((file : File) × IsOfThis file IsOfStore fault × IsStoppedBy held names old new file))
+      AreRead old new result
+      ⊎ ((file : File) × IsFileOf file fault × IsOfWriting fault × IsStoppedBy held names old new file))
   pub store : AreClean new → Survives old.store new.store (StoresLeftRows names old new)
   pub register : AreClean new → Survives old.register new.register (StoresRaised names old new)
   pub mark : AreClean new → Survives old.archive_register new.archive_register (StoresMarked names old)
