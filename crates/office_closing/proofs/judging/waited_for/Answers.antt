@@ -20,4 +20,4 @@ returns-then-len-gt-MOST_PARTNERS-clause-fault g c clean =
 
 pub returns-in-Err-clause-fault : goal.returns-in-Err-clause-fault
 returns-in-Err-clause-fault g c clean =
-    rw c.of_store.ensures (λ rows has have. (refl, fault_of_more inr _ (c.in-Err.ensures.fault clean rows has (subst (HaveNexts rows) (sym c.deref.ensures.value) have))))
+    rw c.of_store-in-Err.ensures (λ rows has have. (refl, fault_of_more inr _ (c.in-Err.ensures.fault clean rows has (subst (HaveNexts rows) (sym c.deref.ensures.value) have))))

@@ -1,4 +1,4 @@
-use Rattle.std.proofs.Common.{Ok, sym, ap, ap₂, subst, ◌++◌, ◌∙◌, get_or, map}
+use Rattle.std.proofs.Common.{Ok, sym, ap, ap₂, subst, ◌++◌, ◌∙◌, ℕ, Contains, get_or, map}
 use Rattle.std.proofs.lemmas.List.{take_all}
 use Rattle.std.proofs.lemmas.List.Elements.{Contains-get_or}
 use Rattle.std.proofs.lemmas.Result.{err_from_is_err_and}
@@ -55,4 +55,5 @@ returns-in_err-more-clause-fault g c =
     let p = err_from_is_err_and c.from_residual.result c.from_residual.ensures.1 in
     let numbers = c.args.numbers.now in
     let i = c.loop-number.number-index in
-    rw (p.1, p.2) (fault_of_more (λ _. (get_or numbers i 0, Contains-get_or numbers i 0 c.loop-number-test.true)) _ c.in_err-more.ensures.fault)
+    let there : (number : ℕ) × Contains numbers number = (get_or numbers i 0, Contains-get_or numbers i 0 c.loop-number-test.true) in
+    rw (p.1, p.2) (fault_of_more (λ _. there) _ c.in_err-more.ensures.fault)
