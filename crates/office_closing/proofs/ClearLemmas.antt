@@ -48,19 +48,22 @@ use Rattle.terminal_core.proofs.Whole.{found_at, same_index}
 use Rattle.office_parts.proofs.Splits.{has_contained, contained_has, has_left, has_right, has_pushed}
 use Rattle.office_closing.specs.declared.visits.VisitFault.{VisitFault}
 use Rattle.office_closing.specs.declared.visits.VisitFault.TheVariants.{Differs}
-use Rattle.office_closing.specs.Visits.{AreAlike, GoesBelow, IsCauseOf, IsOtherwiseOver}
+use Rattle.office_closing.specs.Visits.{AreAlike, AreToGo, GoesBelow, IsCauseOf, IsOtherwiseOver}
 use Rattle.terminal_core.specs.Listings.{lines_of}
 use Rattle.terminal_core.specs.Restoring.{AreOnce}
 use Rattle.terminal_core.specs.declared.lines.Listing.{Listing}
 use Rattle.office_closing.specs.Going.{AreDone}
 use Rattle.office_loading.proofs.Keyed.{listed_once}
 use Rattle.office_closing.specs.Changes.{unmarked}
-use Rattle.office_closing.specs.Lists.{SettledListContent}
+use Rattle.office_closing.specs.Lists.{SettledListContent, list_content}
 use Rattle.office_closing.specs.Register.{ArchiveContent, RegisterContent}
 use Rattle.office_closing.specs.declared.faults.CloseFault.{CloseFault}
+use Rattle.office_closing.specs.declared.planning.ClosingLists.{ClosingLists}
+use Rattle.office_closing.specs.declared.planning.History.{History}
+use Rattle.office_closing.specs.declared.planning.Plan.{Plan}
 use Rattle.office_closing.specs.declared.planning.Stage.{Stage}
-use Rattle.office_closing.specs.Copies.{AreDoneIn, FileNames, HasCome, OfficeContent, archive_in, lists_at}
-use Rattle.office_closing.specs.Planning.{AreFor, IsRefused, IsRefusedWith}
+use Rattle.office_closing.specs.Copies.{AreDoneIn, ComesOn, FileNames, HasCome, IsOfStore as AreOfStore, OfficeContent, archive_in, lists_at}
+use Rattle.office_closing.specs.Planning.{AreClosingLists, AreFor, AreInBoth, IsHistory, IsPlan, IsPlanOf, IsRefused, IsRefusedWith}
 use Rattle.office_closing.specs.declared.faults.CloseFault.TheVariants as fault
 use Rattle.office_closing.specs.declared.faults.Refusal.TheVariants as refusal
 use Rattle.office_closing.specs.declared.planning.Stage.TheVariants as stage
@@ -456,6 +459,32 @@ done_in terminal named place at lines done told once here are = record {
   by_key = sym (listings_by lines) ∙ told;
   are = subst (λ n. AreDone (map listing_content lines) named n done) here are;
 }
+
+pub plan_from : (own copy : OfficeContent) (names : FileNames) (named : List ListName) (history : History) (lists : ClosingLists) (come : Stage) (plan : Plan) → AreOfStore own copy → IsHistory own copy names.archive history
+    → AreClosingLists own copy named (archive_in names.archive copy).place lists → ComesOn own copy names (map list_content lists.all.items) come → IsPlanOf history lists come plan → IsPlan own copy names named plan
+plan_from own copy names named history lists come plan of_store closes put comes is =
+    let place = (archive_in names.archive copy).place in
+    let all = map list_content lists.all.items in
+    record {
+      is_copy = record {
+        of_store = of_store;
+        comes =
+            subst (λ s. ComesOn own copy names (map list_content plan.lists.items) s) (sym is.stage)
+            (subst (λ l. ComesOn own copy names (map list_content l) come) (sym is.lists) comes);
+      };
+      numbers = is.numbers ∙ closes.numbers;
+      archive = is.archive ∙ closes.archive;
+      segments = is.segments ∙ closes.segments;
+      visits = subst (AreToGo own.terminal.visits copy.terminal.visits) (sym is.visits) closes.visits;
+      done = put.done;
+      are_done = put.are_done;
+      lists =
+          ap (map list_content) is.lists ∙ lists_come own copy names place put.done all of_store.unclosed put.all all come comes.has_come
+          ∙ ap (lists_at own place put.done) (sym is.stage);
+      gone =
+          subst (λ l. AreInBoth put.done (map list_content l) (map list_content plan.gone.items)) (sym is.lists)
+          (subst (λ l. AreInBoth put.done all (map list_content l)) (sym is.gone) put.gone);
+    }
 
 pub refused_with : (own copy : OfficeContent) (names : FileNames) (named : List ListName) (done : List SettledListContent) → AreDoneIn own.terminal named (archive_in names.archive copy).place done → (why : CloseFault) → IsRefusedWith own copy names done why → IsRefused own copy names why
 refused_with own copy names named done are (fault.Archive refusal.Register) none = record { named = named; done = done; are_done = are; none = none }

@@ -11,16 +11,16 @@ use Rattle.office_closing.specs.Lists.{list_content, SettledListContent}
 use Rattle.office_closing.specs.Register.{archive_content, RegisterContent, closed_by, newest_visit}
 use Rattle.office_closing.specs.Stored.{HasRegister}
 use Rattle.office_closing.specs.declared.faults.CloseFault.{CloseFault}
-use Rattle.office_closing.specs.declared.faults.File.{File}
+use Rattle.office_closing.specs.declared.faults.File.TheVariants as file
 use Rattle.office_closing.specs.declared.planning.Plan.{Plan}
 use Rattle.office_closing.specs.Clearing.{Clears}
-use Rattle.office_closing.specs.Closes.{AreHeld, Closes, Closing, HasArchive, Held, IsBeforehand, IsLeft, StoresLeftRows, StoresMarked, StoresRaised, cleared, closing_content, AreOfSetup, PutsAway}
+use Rattle.office_closing.specs.Closes.{AreHeld, Closes, Closing, HasArchive, Held, IsBeforehand, IsMarkedNow, IsLeft, StoresLeftRows, StoresMarked, StoresRaised, Tells, cleared, closing_content, AreOfSetup, PutsAway}
 use Rattle.office_closing.specs.Copies.{FileNames}
 use Rattle.office_closing.specs.Files.{AreClean, AreIdle, AreRead, Files, IsRead}
 use Rattle.office_closing.specs.Judging.{AreResting, IsJudged, IsResting}
-use Rattle.office_closing.specs.Refusing.{Tells}
+use Rattle.office_closing.specs.Refusing.{IsFileOf}
 use Rattle.office_closing.specs.Steps.{IsOfWriting, StepsIf, is_unmarked, is_unraised}
-use Rattle.office_closing.proofs.PlanLemmas.{written_tells, beyond_is_above}
+use Rattle.office_closing.proofs.PlanLemmas.{beyond_is_above, of_store_there, written_tells}
 use Rattle.std.specs.Prelude.{Contains, IsPermutation, find}
 use Rattle.std.specs.Option.{option_map, option_or}
 use Rattle.sqlite_rules.proofs.ListLemmas.{contains_had, has_contained, has_filtered, has_found, has_kept, has_left, has_right, some_from, some_has}
@@ -66,6 +66,14 @@ use Rattle.office_closing.proofs.FileLemmas as lemma
 read_failed : {X Y E : Type 0} (old new : State) (fault : E) → IsRead {T = X} old new (Err fault) → IsRead {T = Y} old new (Err fault)
 read_failed old new fault r = record { unchanged = λ clean. tt; keeps = r.keeps; mode = r.mode; survives = r.survives }
 
+all_read_failed : {X Y : Type 0} (old new : Files) (fault : CloseFault) → AreRead {T = X} old new (Err fault) → AreRead {T = Y} old new (Err fault)
+all_read_failed old new fault read = record {
+  store = read_failed old.store new.store fault read.store;
+  register = read_failed old.register new.register fault read.register;
+  archive = read_failed old.archive new.archive fault read.archive;
+  archive_register = read_failed old.archive_register new.archive_register fault read.archive_register;
+}
+
 -- whatever came after it
 read_on : {X Y E : Type 0} {x : X} (old new : State) (fault : E) → IsRead {E = E} old new (Ok x) → IsRead {T = Y} old new (Err fault)
 read_on old new fault r = record { unchanged = λ clean. tt; keeps = r.keeps; mode = r.mode; survives = r.survives }
@@ -96,7 +104,7 @@ not_before fault.Memory of before = of
 -- ---- nothing was written
 
 pub closes_refused : {X Y : Type 0} (names : FileNames) (old new : Files) (fault : CloseFault) → AreResting old → AreIdle old → AreRead {T = X} old new (Err fault) →
-    (AreClean new → (held : Held) → AreHeld held old → Tells held.own held.copy names old fault) → Closes {T = Y} names old new (Err fault)
+    (AreClean new → (held : Held) → AreHeld held old → Tells held names old fault) → Closes {T = Y} names old new (Err fault)
 closes_refused names old new fault rests idle read why = record {
   idle = idle_after old new (Err fault) idle read;
   ok = λ clean. tt;
@@ -105,13 +113,9 @@ closes_refused names old new fault rests idle read why = record {
     register = λ is_open. inl (still (HasRegister held.register) old.register new.register rests.register (read.register.keeps clean.register) is_open has.register);
     mark = λ is_open. inl (still (HasRegister held.copied) old.archive_register new.archive_register rests.archive_register (read.archive_register.keeps clean.archive_register) is_open has.copied);
   };
-  untouched = λ _. record {
-    store = read_failed old.store new.store fault read.store;
-    register = read_failed old.register new.register fault read.register;
-    archive = read_failed old.archive new.archive fault read.archive;
-    archive_register = read_failed old.archive_register new.archive_register fault read.archive_register;
-  };
+  untouched = λ _. all_read_failed old new fault read;
   tells = why;
+  stopped = λ clean held has. inl (all_read_failed old new fault read);
   store = λ clean. quiet old.store new.store _ read.store.survives;
   register = λ clean. quiet old.register new.register _ read.register.survives;
   mark = λ clean. quiet old.archive_register new.archive_register _ read.archive_register.survives;
@@ -135,7 +139,7 @@ module _ (names : FileNames) (old mid : Files) (plan : Plan) (rests : AreResting
   mid_idle = idle_after old mid (Ok plan) idle read
 
   -- the archive could not be marked
-  module _ {X : Type 0} (end : State) (why : CloseFault) (marks : MarkSteps {X = X} end (Err why)) where
+  module _ {X : Type 0} (end : State) (why : CloseFault) (marks : MarkSteps {X = X} end (Err why)) (at : IsFileOf file.ArchiveRegister why) where
     abbrev unmarked_files : Files
     unmarked_files = record { store = mid.store; register = mid.register; archive = mid.archive; archive_register = end }
 
@@ -157,7 +161,14 @@ module _ (names : FileNames) (old mid : Files) (plan : Plan) (rests : AreResting
         mark = λ is_open. inl (lemma.mark_undone names old mid plan rests read judged end (Err why) marks clean.archive_register (cleans_unmarked clean) is_open held has);
       };
       untouched = λ before. absurd (not_before why marks.fault before);
-      tells = λ clean held has. written_tells held.own held.copy names old why marks.fault;
+      tells = λ clean held has. written_tells held names old why marks.fault;
+      stopped = λ clean held has.
+          inr (
+            file.ArchiveRegister,
+            at,
+            marks.fault,
+            (read.store.keeps (cleans_unmarked clean).store, read.register.keeps (cleans_unmarked clean).register),
+          );
       store = λ clean. quiet old.store mid.store _ read.store.survives;
       register = λ clean. quiet old.register mid.register _ read.register.survives;
       mark = λ clean. lemma.mark_survives names old mid plan rests read judged end (Err why) marks (λ _. cleans_unmarked clean);
@@ -167,7 +178,7 @@ module _ (names : FileNames) (old mid : Files) (plan : Plan) (rests : AreResting
   -- the archive is marked
   module _ {Z : Type 0} (z : Z) (marked : State) (marks : MarkSteps marked (Ok z)) where
     -- the store's register could not have the archive
-    module _ {X : Type 0} (end : State) (why : CloseFault) (raises : RaiseSteps {X = X} end (Err why)) where
+    module _ {X : Type 0} (end : State) (why : CloseFault) (raises : RaiseSteps {X = X} end (Err why)) (at : IsFileOf file.Register why) where
       abbrev unraised_files : Files
       unraised_files = record { store = mid.store; register = end; archive = mid.archive; archive_register = marked }
 
@@ -189,9 +200,21 @@ module _ (names : FileNames) (old mid : Files) (plan : Plan) (rests : AreResting
           mark = λ is_open. inr (lemma.mark_made names old mid plan rests read judged marked z marks clean.archive_register (cleans_unraised clean) held has);
         };
         untouched = λ before. absurd (not_before why raises.fault before);
-        tells = λ clean held has. written_tells held.own held.copy names old why raises.fault;
+        tells = λ clean held has. written_tells held names old why raises.fault;
+        stopped = λ clean held has.
+            inr (
+              file.Register,
+              at,
+              raises.fault,
+              (
+                read.store.keeps (cleans_unraised clean).store,
+                lemma.marked_now names old mid plan rests read judged marked z marks clean.archive_register (cleans_unraised clean) held has,
+              ),
+            );
         store = λ clean. quiet old.store mid.store _ read.store.survives;
-        register = λ clean. lemma.raise_survives names old mid plan rests read judged end (Err why) raises (λ _. cleans_unraised clean);
+        register = λ clean.
+            lemma.raise_survives names old mid plan rests read judged end (Err why) raises unraised_files (λ _. cleans_unraised clean)
+            (λ _. lemma.marked_now names old mid plan rests read judged marked z marks clean.archive_register (cleans_unraised clean));
         mark = λ clean. lemma.mark_survives names old mid plan rests read judged marked (Ok z) marks (λ _. cleans_unraised clean);
         archive = read_on old.archive mid.archive _ read.archive;
       }
@@ -210,11 +233,12 @@ module _ (names : FileNames) (old mid : Files) (plan : Plan) (rests : AreResting
           archive_register = lemma.was_clean mid.archive_register marked _ marks.crash clean.archive_register;
         }
 
-        has_archive : AreClean raised_files → (held : Held) → AreHeld held old → HasArchive held names closing raised
-        has_archive clean = lemma.raise_made names old mid plan rests read judged raised w raises clean.register (cleans clean)
+        is_marked : AreClean raised_files → (held : Held) → AreHeld held old → IsMarkedNow held names marked
+        is_marked clean = lemma.marked_now names old mid plan rests read judged marked z marks clean.archive_register (cleans clean)
 
-        is_marked : AreClean raised_files → (held : Held) → AreHeld held old → HasRegister (marked_for names.store held.copied) marked.committed
-        is_marked clean = lemma.mark_made names old mid plan rests read judged marked z marks clean.archive_register (cleans clean)
+        has_archive : AreClean raised_files → (held : Held) → AreHeld held old → HasArchive held names closing raised_files
+        has_archive clean held has =
+            lemma.raise_made names old mid plan rests read judged raised_files w raises clean.register (cleans clean) held has (is_marked clean held has)
 
         all_idle : AreIdle raised_files
         all_idle = record { store = clears.ends.idle; register = raises.idle; archive = mid_idle.archive; archive_register = marks.idle }
@@ -222,15 +246,15 @@ module _ (names : FileNames) (old mid : Files) (plan : Plan) (rests : AreResting
         store_crash : AreClean raised_files → Survives old.store end (StoresLeftRows names old raised_files)
         store_crash clean = lemma.store_survives names old mid plan rests read judged raised_files result clears (λ _. has_archive clean) (λ _. cleans clean)
 
-        register_crash : AreClean raised_files → Survives old.register raised (StoresRaised names old)
-        register_crash clean = lemma.raise_survives names old mid plan rests read judged raised (Ok w) raises (λ _. cleans clean)
+        register_crash : AreClean raised_files → Survives old.register raised (StoresRaised names old raised_files)
+        register_crash clean = lemma.raise_survives names old mid plan rests read judged raised (Ok w) raises raised_files (λ _. cleans clean) (λ _. is_marked clean)
 
         mark_crash : AreClean raised_files → Survives old.archive_register marked (StoresMarked names old)
         mark_crash clean = lemma.mark_survives names old mid plan rests read judged marked (Ok z) marks (λ _. cleans clean)
 
       -- not all was deleted
-      pub closes_uncleared : {X Y : Type 0} (file : File) (why : TableFault) → Clears {T = X} (cleared closing) (IsLeft closing) mid.store end (Err why) → Closes {T = Y} names old raised_files (Err (fault.File (record { file = file; fault = why })))
-      closes_uncleared file why clears = record {
+      pub closes_uncleared : {X Y : Type 0} (why : TableFault) → Clears {T = X} (cleared closing) (IsLeft closing) mid.store end (Err why) → Closes {T = Y} names old raised_files (Err (fault.File (record { file = file.Store; fault = why })))
+      closes_uncleared why clears = record {
         idle = all_idle (Err why) clears;
         ok = λ clean. tt;
         err = λ clean held has. record {
@@ -240,11 +264,12 @@ module _ (names : FileNames) (old mid : Files) (plan : Plan) (rests : AreResting
               inr (closing, left.0, has_archive (Err why) clears clean held has, left.1, left.2);
           register = λ is_open.
               let it = has_archive (Err why) clears clean held has in
-              inr (closing, it.is_closing, it.has);
-          mark = λ is_open. inr (is_marked (Err why) clears clean held has);
+              inr (closing, it.is_closing, it.has, it.marked);
+          mark = λ is_open. inr (is_marked (Err why) clears clean held has).has;
         };
         untouched = λ no. absurd (no clears.fault);
-        tells = λ clean held has. tt;
+        tells = λ clean held has. of_store_there held names old file.Store why clears.fault;
+        stopped = λ clean held has. inr (file.Store, refl, clears.fault, (closing, has_archive (Err why) clears clean held has));
         store = store_crash (Err why) clears;
         register = register_crash (Err why) clears;
         mark = mark_crash (Err why) clears;
@@ -263,15 +288,16 @@ module _ (names : FileNames) (old mid : Files) (plan : Plan) (rests : AreResting
               record {
                 rows = whole.rows held.own (lemma.own_committed names old mid plan rests read judged (cleans (Ok x) clears clean) held has);
                 register = it.has;
-                mark = is_marked (Ok x) clears clean held has;
+                mark = it.marked.has;
                 store_settled = record { settled = whole.settled; is_open = whole.is_open; alone = whole.alone };
                 register_settled = it.settled;
-                mark_settled = lemma.mark_settled names old mid plan rests read judged marked z marks clean.archive_register (cleans (Ok x) clears clean);
+                mark_settled = it.marked.settled;
               },
             );
         err = λ clean. tt;
         untouched = tt;
         tells = λ clean. tt;
+        stopped = λ clean. tt;
         store = store_crash (Ok x) clears;
         register = register_crash (Ok x) clears;
         mark = mark_crash (Ok x) clears;

@@ -34,10 +34,10 @@ use Rattle.office_closing.specs.declared.faults.CloseFault.{CloseFault}
 use Rattle.office_closing.specs.declared.planning.Plan.{Plan}
 use Rattle.office_closing.specs.declared.planning.Stage.{Stage}
 use Rattle.office_closing.specs.Clearing.{Clears, IsWithoutSome, IsWithoutSomeLists, IsWithoutSomeVisits}
-use Rattle.office_closing.specs.Closes.{AreHeld, Closing, HasArchive, Held, IsLeft, StoresLeftRows, StoresMarked, StoresRaised, cleared, closing_content, raised_register}
+use Rattle.office_closing.specs.Closes.{AreHeld, Closing, HasArchive, Held, IsAtStage, IsLeft, IsMarkedNow, StoresLeftRows, StoresMarked, StoresRaised, cleared, closing_content, raised_register}
 use Rattle.office_closing.specs.Copies.{FileNames}
 use Rattle.office_closing.specs.Files.{AreClean, AreRead, Files}
-use Rattle.office_closing.specs.Judging.{AreResting, IsAtStage, IsJudged, IsResting}
+use Rattle.office_closing.specs.Judging.{AreResting, IsJudged, IsResting}
 use Rattle.office_closing.specs.Steps.{IsAsBefore, StepsIf, is_unmarked, is_unraised}
 use Rattle.office_parts.specs.LeftOver.{rows_without}
 use Rattle.office_parts.specs.OwnLists.{rows_without_lists}
@@ -242,6 +242,11 @@ module _ (names : FileNames) (old mid : Files) (plan : Plan) (rests : AreResting
     unmarked_by stage.Marked at due = absurd cc
     unmarked_by stage.Raised at due = absurd cc
 
+    new_by : (s : Stage) → IsAtStage held names closing s → is_unmarked s ≡ true → IsAtStage held names closing stage.New
+    new_by stage.New at due = at
+    new_by stage.Marked at due = absurd cc
+    new_by stage.Raised at due = absurd cc
+
     marked_by : (s : Stage) → IsAtStage held names closing s → is_unmarked s ≡ false → held.copied.closed_for ≡ Some names.store
     marked_by stage.New at due = absurd cc
     marked_by stage.Marked at due = at.1
@@ -287,7 +292,9 @@ module _ (names : FileNames) (old mid : Files) (plan : Plan) (rests : AreResting
     pub mark_survives : (HasCleanDisk end → AreClean mid) → Survives old.archive_register end (StoresMarked names old)
     mark_survives cleans =
         survives_then old.archive_register mid.archive_register end _ _ (StoresMarked names old) (λ _ db none. absurd none)
-        (λ clean db it held has. it.1 held.copied (unmarked_there (cleans clean) held has it.0)) read.archive_register.survives steps.crash
+        (λ clean db it held has.
+        let judged = found (cleans clean) held has in
+        (closing, judged.is_closing, new_by (cleans clean) held has plan.stage judged.at it.0, it.1 held.copied (unmarked_there (cleans clean) held has it.0))) read.archive_register.survives steps.crash
 
     pub mark_undone : HasCleanDisk end → AreClean mid → IsTrue end.is_open → OnErr result ((held : Held) → AreHeld held old → HasRegister held.copied end.committed)
     mark_undone clean cleans is_open = failed result (steps.undone clean is_open)
@@ -310,16 +317,19 @@ module _ (names : FileNames) (old mid : Files) (plan : Plan) (rests : AreResting
           (left_before old.archive_register mid.archive_register end (is_unmarked plan.stage) _ off read.archive_register.survives steps.crash clean)
     ]
 
+    pub marked_now : HasCleanDisk end → AreClean mid → (held : Held) → AreHeld held old → IsMarkedNow held names end
+    marked_now clean cleans held has = record { has = mark_made clean cleans held has; settled = mark_settled clean cleans }
+
   -- ---- the store's register
 
   abbrev RaiseSteps : {X : Type 0} → State → Result X CloseFault → Type 0
   RaiseSteps end result = StepsIf (is_unraised plan.stage) unchanged (closed_with (archive_content plan.archive) plan.segments.items (map list_content plan.lists.items)) mid.register end result
 
   module _ {X : Type 0} (end : State) (result : Result X CloseFault) (steps : RaiseSteps end result) where
-    pub raise_survives : (HasCleanDisk end → AreClean mid) → Survives old.register end (StoresRaised names old)
-    raise_survives cleans =
-        survives_then old.register mid.register end _ _ (StoresRaised names old) (λ _ db none. absurd none)
-        (λ clean db it held has. (closing, (found (cleans clean) held has).is_closing, it.1 (unmarked held.copied) (unraised_there (cleans clean) held has it.0))) read.register.survives steps.crash
+    pub raise_survives : (new : Files) → (HasCleanDisk end → AreClean mid) → (HasCleanDisk end → (held : Held) → AreHeld held old → IsMarkedNow held names new.archive_register) → Survives old.register end (StoresRaised names old new)
+    raise_survives new cleans marked =
+        survives_then old.register mid.register end _ _ (StoresRaised names old new) (λ _ db none. absurd none)
+        (λ clean db it held has. (closing, (found (cleans clean) held has).is_closing, it.1 (unmarked held.copied) (unraised_there (cleans clean) held has it.0), marked clean held has)) read.register.survives steps.crash
 
     pub raise_undone : HasCleanDisk end → AreClean mid → IsTrue end.is_open → OnErr result ((held : Held) → AreHeld held old → HasRegister held.register end.committed)
     raise_undone clean cleans is_open = failed result (steps.undone clean is_open)
@@ -328,7 +338,10 @@ module _ (names : FileNames) (old mid : Files) (plan : Plan) (rests : AreResting
         failed (Ok x) e = tt
         failed (Err fault) e = λ held has. subst (HasRegister held.register) (sym e) (register_there cleans held has)
 
-  module _ {X : Type 0} (end : State) (x : X) (steps : RaiseSteps {X = X} end (Ok x)) where
+  module _ {X : Type 0} (new : Files) (x : X) (steps : RaiseSteps {X = X} new.register (Ok x)) where
+    abbrev end : State
+    end = new.register
+
     raise_settled : HasCleanDisk end → AreClean mid → IsSettled end
     raise_settled clean cleans = elim (cases_Bool (is_unraised plan.stage)) [
       | inl due ↦ (steps.made clean due).is_settled
@@ -336,20 +349,21 @@ module _ (names : FileNames) (old mid : Files) (plan : Plan) (rests : AreResting
           (left_before old.register mid.register end (is_unraised plan.stage) _ off read.register.survives steps.crash clean)
     ]
 
-    pub raise_made : HasCleanDisk end → AreClean mid → (held : Held) → AreHeld held old → HasArchive held names closing end
-    raise_made clean cleans held has = record {
+    pub raise_made : HasCleanDisk end → AreClean mid → (held : Held) → AreHeld held old → IsMarkedNow held names new.archive_register → HasArchive held names closing new
+    raise_made clean cleans held has marked = record {
       is_closing = (found cleans held has).is_closing;
       has = elim (cases_Bool (is_unraised plan.stage)) [
         | inl due ↦ (steps.made clean due).register (unmarked held.copied) (unraised_there cleans held has due)
         | inr off ↦ subst (HasRegister (raised_register held closing)) (sym (steps.kept off).committed) (raised_there cleans held has off)
       ];
       settled = raise_settled clean cleans;
+      marked = marked;
     }
 
   -- ---- the store
 
   module _ {X : Type 0} (new : Files) (result : Result X TableFault) (clears : Clears (cleared closing) (IsLeft closing) mid.store new.store result)
-      (has_archive : HasCleanDisk new.store → (held : Held) → AreHeld held old → HasArchive held names closing new.register) where
+      (has_archive : HasCleanDisk new.store → (held : Held) → AreHeld held old → HasArchive held names closing new) where
     pub store_survives : (HasCleanDisk new.store → AreClean mid) → Survives old.store new.store (StoresLeftRows names old new)
     store_survives cleans =
         survives_then old.store mid.store new.store _ _ (StoresLeftRows names old new) (λ _ db none. absurd none)

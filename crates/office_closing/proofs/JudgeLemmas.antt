@@ -1,8 +1,8 @@
 -- What a plan says of the rows and the registers of store and archive.
-use Rattle.std.proofs.Common.{◌≡◌, inl, inr, ℕ, ◌+◌, ◌==◌, ◌<◌, ◌≤◌, List, [], ◌∷◌, ◌++◌, None, Bool, true, false, cond, if◌then◌else◌, filter, map, length, refl, sym, ap, ap₂, subst, ◌∙◌, arith, Result, Ok, Err}
+use Rattle.std.proofs.Common.{◌≡◌, inl, inr, ℕ, ◌+◌, ◌==◌, ◌<◌, ◌≤◌, List, [], ◌∷◌, ◌++◌, ◌&&◌, None, Bool, true, false, cond, if◌then◌else◌, filter, map, length, refl, sym, ap, ap₂, subst, ◌∙◌, arith, Result, Ok, Err}
 use Rattle.std.specs.Prelude.{Contains, IsPermutation, IsUtf8}
 use Rattle.std.specs.List.{AllByRecursion}
-use Rattle.std.proofs.lemmas.Bool.{eqb-true}
+use Rattle.std.proofs.lemmas.Bool.{and_parts, eqb-true}
 use Rattle.std.proofs.lemmas.Str.{IsUtf8-string_bytes}
 use Rattle.std.proofs.lemmas.List.Sorted.{Contains-permutation, IsPermutation-sym}
 use Rattle.terminal_core.specs.Rows.{VisitContent}
@@ -12,20 +12,20 @@ use Rattle.office_closing.specs.Waiting.{AreWaitedFor}
 use Rattle.office_closing.proofs.WaitingLemmas.{accounts_by_id, all_found, goes_as}
 use Rattle.office_parts.specs.OwnLists.{ListName}
 use Rattle.office_closing.specs.declared.register.Segment.{Segment}
-use Rattle.office_closing.specs.Changes.{closed_with, unmarked}
+use Rattle.office_closing.specs.Changes.{closed_with, marked_for, unmarked}
 use Rattle.office_closing.specs.declared.settled_lists.SettledList.{SettledList}
 use Rattle.office_closing.specs.Lists.{SettledListContent, comes_before, list_content, put_list, put_lists}
 use Rattle.office_closing.specs.Register.{ArchiveContent, RegisterContent, closed_by, last_closed}
-use Rattle.office_closing.specs.Sound.{IsSound, is_sound}
+use Rattle.office_closing.specs.Sound.{IsSound, are_sound_archives, are_sound_lists, are_sound_segments, is_sound, is_sound_mark}
 use Rattle.office_closing.specs.declared.comparing.Numbers.{Numbers}
 use Rattle.office_closing.specs.declared.planning.Plan.{Plan}
 use Rattle.office_closing.specs.declared.planning.Stage.{Stage}
 use Rattle.office_closing.specs.Deleting.{is_among}
-use Rattle.office_closing.specs.Closes.{AreHeld, Closing, ClosesAll, Held, IsBelowNext, IsClosing, PutsAway, closed_after, closed_before, closing_content, raised_register}
+use Rattle.office_closing.specs.Closes.{AreHeld, Closing, ClosesAll, Held, IsAtStage, IsBelowNext, IsClosing, PutsAway, closed_after, closed_before, closing_content, raised_register}
 use Rattle.office_closing.specs.Comparing.{IsComparedAs}
 use Rattle.office_closing.specs.Copies.{FileNames, HasCome, IsOpened, OfficeContent, archive_in, is_put_away_with, lists_at, numbers_from, numbers_of, raised_by, segments_of}
 use Rattle.office_closing.specs.Files.{Files, IsRead, IsReadIfOpen}
-use Rattle.office_closing.specs.Judging.{IsAtStage, IsComparedIf, IsJudged}
+use Rattle.office_closing.specs.Judging.{IsComparedIf, IsJudged}
 use Rattle.office_closing.specs.Steps.{is_unraised}
 use Rattle.office_closing.specs.Laws.{Raises}
 use Rattle.office_closing.specs.Planning.{IsPlan}
@@ -88,7 +88,7 @@ those_with archive (one ∷ lists) = by (one.archive == archive) refl (those_wit
 -- ---- a plan
 
 module _ (held : Held) (old : Files) (has : AreHeld held old) (names : FileNames) (own copy : OfficeContent) (of_own : IsOpened old.store.now old.register.now own)
-    (of_copy : IsOpened old.archive.now old.archive_register.now copy) (named : List ListName) (waited : AreWaitedFor own.setup held.own named) (plan : Plan) (is : IsPlan own copy names named plan) (text : IsUtf8 names.archive) where
+    (of_copy : IsOpened old.archive.now old.archive_register.now copy) (named : List ListName) (waited : AreWaitedFor own.setup held.own named) (plan : Plan) (is : IsPlan own copy names named plan) (text : IsUtf8 names.archive) (store_text : IsUtf8 names.store) where
   own_register : own.register ≡ held.register
   own_register = of_own.registered held.register has.register has.register_sound
 
@@ -119,6 +119,21 @@ module _ (held : Held) (old : Files) (has : AreHeld held old) (names : FileNames
       closed_for = tt;
     };
   }
+
+  -- the archive's register with the mark
+  marked_sound : IsSound (marked_for names.store held.copied)
+  marked_sound =
+      let archives : Bool = are_sound_archives held.copied.archives in
+      let segments : Bool = are_sound_segments (length held.copied.archives) held.copied.segments in
+      let lists : Bool = are_sound_lists (length held.copied.archives) held.copied.lists in
+      let mark : Bool = is_sound_mark held.copied.closed_for in
+      let first = and_parts archives (segments && (lists && mark)) has.copied_sound.tested in
+      let second = and_parts segments (lists && mark) first.1 in
+      let third = and_parts lists mark second.1 in
+      record {
+        tested = λ i. first.0 i && (second.0 i && (third.0 i && is.is_copy.comes.may.mark i));
+        texts = record { files = has.copied_sound.texts.files; lines = has.copied_sound.texts.lines; closed_for = store_text };
+      }
 
   raises : Raises (last_closed held.copied.segments) closing.numbers (closed_after held closing)
   raises =
@@ -221,6 +236,7 @@ module _ (held : Held) (old : Files) (has : AreHeld held old) (names : FileNames
       segments = segments_are;
       all = closes_all;
       sound = raised_sound;
+      sound_mark = marked_sound;
       numbers = raises;
       rise = λ partner. subst (λ (f : ℕ → ℕ). f partner ≤ closed_after held closing partner) (sym same_before) (segments_rise held.copied.segments closing.segments partner);
       below = λ partner number above within. account_of partner number (subst (λ (f : ℕ → ℕ). f partner < number) same_before above) within;
@@ -249,6 +265,7 @@ module _ (held : Held) (old : Files) (has : AreHeld held old) (names : FileNames
       segments = segments_are;
       all = closes_all;
       sound = raised_sound;
+      sound_mark = marked_sound;
       numbers = raises;
       rise = λ partner. subst (λ (f : ℕ → ℕ). f partner ≤ closed_after held closing partner) (sym same_after) (omega arith);
       below = λ partner number above within. absurd (none_more partner number above within);

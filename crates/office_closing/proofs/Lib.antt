@@ -5,6 +5,7 @@ mod PlanLemmas
 mod JudgeLemmas
 mod ClosesLemmas
 mod StandLemmas
+mod StoppingLemmas
 pub mod WriteTexts
 pub mod Created
 pub mod Inserted

@@ -31,14 +31,21 @@ use Rattle.office_closing.specs.declared.faults.CloseFault.{CloseFault}
 use Rattle.office_closing.specs.declared.faults.Refusal.{Refusal}
 use Rattle.office_closing.specs.Files.{Files}
 use Rattle.office_closing.specs.Planning.{IsRefused}
-use Rattle.office_closing.specs.Refusing.{HasReason, IsOfComparing, IsOfFile, IsOtherwise, Tells, IsWhy}
+use Rattle.office_closing.specs.Refusing.{HasReason, HasUnread, IsOfComparing, IsOfOpening, IsOfThis, IsOtherwise, IsUnopened, IsWhy}
 use Rattle.office_closing.specs.Steps.{IsOfWriting, StepsIf}
 use Rattle.sqlite.specs.State.{State, HasCleanDisk, Survives}
 use Rattle.sqlite.proofs.StateLemmas.{survives_weaker}
 use Rattle.office_tables.proofs.WritesLemmas.{survives_here}
 use Rattle.office_closing.specs.Transactions.{Becomes, HasBecome}
 use Rattle.office_closing.specs.Register as register
+use Rattle.office_closing.specs.Closes.{Held, IsFaultIn, Tells}
 use Rattle.office_closing.specs.declared.faults.CloseFault.TheVariants as fault
+use Rattle.office_closing.specs.declared.faults.File.{File}
+use Rattle.office_closing.specs.declared.faults.File.TheVariants as file
+use Rattle.office_loading.specs.Tables.{HasHighNext}
+use Rattle.office_tables.specs.Faults.{IsOfStore, IsOfStoreOr}
+use Rattle.office_tables.specs.declared.table_fault.TableFault.{TableFault}
+use Rattle.office_tables.specs.declared.table_fault.TableFault.TheVariants.{Store, Damaged, Version, Memory}
 use Rattle.office_closing.specs.declared.faults.Refusal.TheVariants as refusal
 
 -- ==== LawLemmas: The laws of a closing.
@@ -304,16 +311,51 @@ account_found before id (next ∷ nexts) (other ∷ others) (a ∷ accounts) mos
 
 -- ==== RefuseLemmas: Faults, and why an archive is refused.
 
-module _ (own copy : Rows) (names : FileNames) (files : Files) where
-  pub file_tells : (why : CloseFault) → IsOfFile why → Tells own copy names files why
-  file_tells (fault.Archive why) is = absurd is
-  file_tells (fault.File of) is = tt
-  file_tells (fault.Comparing of) is = absurd is
-  file_tells fault.Memory is = tt
+pub or_damaged : (P : Type 0) (why : TableFault) → IsOfStore why → IsOfStoreOr P why
+or_damaged P (Store error) is = tt
+or_damaged P Memory is = tt
+or_damaged P Damaged is = absurd is
+or_damaged P Version is = absurd is
 
-  pub written_tells : (why : CloseFault) → IsOfWriting why → Tells own copy names files why
+pub this_more : (at : File) (Is Or : TableFault → Type 0) → ((of : TableFault) → Is of → Or of) → (why : CloseFault) → IsOfThis at Is why → IsOfThis at Or why
+this_more at Is Or more (fault.Archive why) is = absurd is
+this_more at Is Or more (fault.File of) is = (is.0, more of.fault is.1)
+this_more at Is Or more (fault.Comparing of) is = absurd is
+this_more at Is Or more fault.Memory is = tt
+
+module _ (held : Held) (names : FileNames) (files : Files) where
+  abbrev own : Rows
+  own = held.own
+
+  abbrev copy : Rows
+  copy = held.copy
+
+  pub of_store_there : (at : File) (why : TableFault) → IsOfStore why → IsFaultIn held files at why
+  of_store_there file.Store why is = inr (or_damaged (HasUnread held.own) why is)
+  of_store_there file.Register why is = is
+  of_store_there file.Archive why is = inr (or_damaged (HasHighNext held.copy.partners) why is)
+  of_store_there file.ArchiveRegister why is = is
+
+  this_tells : (at : File) (Is : TableFault → Type 0) → ((of : TableFault) → Is of → IsFaultIn held files at of) → (why : CloseFault) → IsOfThis at Is why → Tells held names files why
+  this_tells at Is so (fault.Archive why) is = absurd is
+  this_tells at Is so (fault.File of) is = subst (λ (f : File). IsFaultIn held files f of.fault) (sym is.0) (so of.fault is.1)
+  this_tells at Is so (fault.Comparing of) is = absurd is
+  this_tells at Is so fault.Memory is = tt
+
+  pub own_tells : (why : CloseFault) → IsOfOpening file.Store file.Register held.register held.own files.store.now why → Tells held names files why
+  own_tells why (inl is) = this_tells file.Register IsOfStore (λ of so. so) why is
+  own_tells why (inr is) = this_tells file.Store (IsUnopened held.register held.own files.store.now) (λ of so. inl so) why is
+
+  pub copy_tells : (why : CloseFault) → IsOfOpening file.Archive file.ArchiveRegister held.copied held.copy files.archive.now why → Tells held names files why
+  copy_tells why (inl is) = this_tells file.ArchiveRegister IsOfStore (λ of so. so) why is
+  copy_tells why (inr is) = this_tells file.Archive (IsUnopened held.copied held.copy files.archive.now) (λ of so. so) why is
+
+  pub waiting_tells : (why : CloseFault) → IsOfThis file.Store (IsOfStoreOr (HasUnread held.own)) why → Tells held names files why
+  waiting_tells why is = this_tells file.Store (IsOfStoreOr (HasUnread held.own)) (λ of so. inr so) why is
+
+  pub written_tells : (why : CloseFault) → IsOfWriting why → Tells held names files why
   written_tells (fault.Archive why) is = absurd is
-  written_tells (fault.File of) is = tt
+  written_tells (fault.File of) is = of_store_there of.file of.fault is
   written_tells (fault.Comparing of) is = absurd is
   written_tells fault.Memory is = absurd is
 
@@ -325,7 +367,7 @@ module _ (own copy : Rows) (names : FileNames) (files : Files) where
   why_by refusal.Register has = has
   why_by (refusal.Visit number) has = has
 
-  pub plan_tells : (here there : OfficeContent) → IsOpened files.store.now files.register.now here → IsOpened files.archive.now files.archive_register.now there → (why : CloseFault) → IsRefused here there names why → Tells own copy names files why
+  pub plan_tells : (here there : OfficeContent) → IsOpened files.store.now files.register.now here → IsOpened files.archive.now files.archive_register.now there → (why : CloseFault) → IsRefused here there names why → Tells held names files why
   plan_tells here there a b (fault.Archive why) is = why_by why (record { own = here; copy = there; own_opens = a; copy_opens = b; is_reason = is })
   plan_tells here there a b (fault.File of) is = absurd is
   plan_tells here there a b (fault.Comparing of) is = absurd is
@@ -339,7 +381,7 @@ module _ (own copy : Rows) (names : FileNames) (files : Files) where
   otherwise_told refusal.Register is = absurd is
   otherwise_told (refusal.Visit number) is = absurd is
 
-  pub compared_tells : (why : CloseFault) → IsOfComparing own copy why → Tells own copy names files why
+  pub compared_tells : (why : CloseFault) → IsOfComparing own copy why → Tells held names files why
   compared_tells (fault.Archive why) is = otherwise_told why is
   compared_tells (fault.File of) is = absurd is
   compared_tells (fault.Comparing of) is = is

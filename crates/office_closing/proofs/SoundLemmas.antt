@@ -188,10 +188,10 @@ rows_cmp x y = λ i.
     (ordering_then (value_cmp-Text x.call.voyage y.call.voyage i)
     (ordering_then (numbers_cmp (side_code x.side) (side_code y.side) i) ((ap (λ o. ordering_then o Equal) (numbers_cmp x.archive y.archive) ∙ whole_order (nat_cmp x.archive y.archive)) i)))
 
-abbrev IsAfter : SettledListContent → SettledListContent → Type 0
+abbrev pub IsAfter : SettledListContent → SettledListContent → Type 0
 IsAfter x y = list_cmp x y ≡ Less
 
-all_after : (x : SettledListContent) (lists : List SettledListContent) → are_rising (Some x) lists ≡ true → AllByRecursion (IsAfter x) lists
+pub all_after : (x : SettledListContent) (lists : List SettledListContent) → are_rising (Some x) lists ≡ true → AllByRecursion (IsAfter x) lists
 all_after x [] h = tt
 all_after x (y ∷ lists) h =
     let parts = and_parts _ _ h in
@@ -324,10 +324,10 @@ module _ (content : RegisterContent) (sound : IsSound content) where
       let rest = (may_be && rise) && is_sound_mark content.closed_for in
       (and_parts (may_be && rise) (is_sound_mark content.closed_for) (and_parts segments rest (and_parts (are_sound_archives content.archives) (segments && rest) sound.tested).1).1).0
 
-  settled : may_be ≡ true
+  pub settled : list_all (may_be_list (length content.archives)) content.lists ≡ true
   settled = (and_parts may_be rise of_lists).0
 
-  rising : rise ≡ true
+  pub rising : are_rising None content.lists ≡ true
   rising = (and_parts may_be rise of_lists).1
 
   pub sound_fits : FitsRegister content

@@ -1,8 +1,8 @@
 -- What a closing of a store does: what it closes, what is left, and what it leaves at a fault and by a crash.
-use Rattle.std.specs.Prelude.{◌≡◌, ◌⊎◌, ℕ, ◌+◌, ◌<◌, ◌≤◌, true, Bool, List, Contains, length, map, Result, IfErr, IsTrue, OnErr, OnOk}
+use Rattle.std.specs.Prelude.{◌≡◌, ◌⊎◌, ℕ, ◌+◌, ◌<◌, ◌≤◌, true, Bool, List, Contains, length, map, None, Some, Result, IfErr, IsTrue, OnErr, OnOk}
 use Rattle.std.specs.List.{AllByRecursion, range_with_len}
 use Rattle.sqlite.specs.Effect.{Database}
-use Rattle.sqlite.specs.State.{State, Survives}
+use Rattle.sqlite.specs.State.{KeepsCommit, State, Survives}
 use Rattle.sqlite.specs.Tree.{Trees}
 use Rattle.terminal_core.specs.Forms.{IsFormedVisit}
 use Rattle.terminal_core.specs.Rows.{VisitContent}
@@ -19,7 +19,8 @@ use Rattle.office_parts.specs.Archives.{HoldsWhatGoes}
 use Rattle.office_parts.specs.LeftOver.{rows_without}
 use Rattle.office_parts.specs.OwnTerminal.{MayStay}
 use Rattle.office_parts.specs.Parts.{Archived}
-use Rattle.office_tables.specs.Faults.{IsOfStore}
+use Rattle.office_tables.specs.Faults.{IsOfStore, IsOfStoreOr}
+use Rattle.office_tables.specs.declared.table_fault.TableFault.{TableFault}
 use Rattle.office_closing.specs.declared.register.Segment.{Segment}
 use Rattle.office_closing.specs.Changes.{closed_with, marked_for, unmarked}
 use Rattle.office_closing.specs.Lists.{SettledListContent, list_content}
@@ -29,13 +30,19 @@ use Rattle.office_closing.specs.Stored.{HasRegister, StoresRegister}
 use Rattle.office_closing.specs.Transactions.{IsSettled}
 use Rattle.office_closing.specs.declared.faults.CloseFault.{CloseFault}
 use Rattle.office_closing.specs.declared.faults.CloseFault.TheVariants as fault
+use Rattle.office_closing.specs.declared.faults.File.{File}
+use Rattle.office_closing.specs.declared.faults.File.TheVariants as file
 use Rattle.office_closing.specs.declared.comparing.Numbers.{Numbers}
 use Rattle.office_closing.specs.declared.planning.Plan.{Plan}
+use Rattle.office_closing.specs.declared.planning.Stage.{Stage}
+use Rattle.office_closing.specs.declared.planning.Stage.TheVariants as stage
+use Rattle.office_closing.specs.Comparing.{IsOfEither}
 use Rattle.office_closing.specs.Copies.{FileNames, numbers_from, segments_of}
 use Rattle.office_closing.specs.Deleting.{all_but, goes, is_one_of, with_visits_that, without_visits}
 use Rattle.office_closing.specs.Files.{Files, AreClean, AreIdle, AreRead, IsRead}
 use Rattle.office_closing.specs.Laws.{Raises}
-use Rattle.office_closing.specs.Refusing.{Tells}
+use Rattle.office_closing.specs.Refusing.{HasUnfit, HasUnread, IsFileOf, IsUnopened, IsWhy}
+use Rattle.office_closing.specs.Steps.{IsOfWriting}
 use Rattle.office_closing.specs.Visits.{AreToGo}
 
 -- ---- what the files hold before
@@ -137,7 +144,7 @@ pub record PutsAway (held : Held) (closing : Closing) : Type 0 where
 -- register and so of the store's, are below the next of their accounts; the visits are over, and the newest is none of
 -- them. Lists go as the register has them. The store's register is sound with the archive, which comes after those that the
 -- archive's own register names, with a segment for each account of which it closes numbers; it names those only, or has the
--- archive already.
+-- archive already. The archive's is sound with the mark.
 pub record IsClosing (held : Held) (names : FileNames) (closing : Closing) : Type 0 where
   pub file : closing.archive.file ≡ names.archive
   pub place : closing.archive.place ≡ length held.copied.archives + 1
@@ -146,6 +153,7 @@ pub record IsClosing (held : Held) (names : FileNames) (closing : Closing) : Typ
   pub segments : closing.segments ≡ segments_of closing.archive.place closing.numbers
   pub all : ClosesAll held closing
   pub sound : IsSound (raised_register held closing)
+  pub sound_mark : IsSound (marked_for names.store held.copied)
   pub numbers : Raises (last_closed held.copied.segments) closing.numbers (closed_after held closing)
   pub rise : (partner : ℕ) → closed_before held partner ≤ closed_after held closing partner
   pub below : (partner number : ℕ) → closed_before held partner < number → number ≤ closed_after held closing partner →
@@ -154,6 +162,14 @@ pub record IsClosing (held : Held) (names : FileNames) (closing : Closing) : Typ
       HoldsWhatGoes archived held.own held.copy (closed_after held closing) (all_but closing.visits)
   pub may : MayStay (all_but closing.visits) held.own.visits
   pub lists : PutsAway held closing
+
+-- how far a closing has come, by what the registers hold
+abbrev pub IsAtStage : Held → FileNames → Closing → Stage → Type 0
+IsAtStage held names closing stage.New = (held.register ≡ unmarked held.copied) × (held.copied.closed_for ≡ None)
+IsAtStage held names closing stage.Marked =
+    (held.register ≡ unmarked held.copied) × (held.copied.closed_for ≡ Some names.store)
+IsAtStage held names closing stage.Raised =
+    (held.register ≡ raised_register held closing) × (held.copied.closed_for ≡ Some names.store)
 
 -- ---- what is left
 
@@ -182,26 +198,32 @@ pub record IsClosed (held : Held) (names : FileNames) (closing : Closing) (new :
   pub register_settled : IsSettled new.register
   pub mark_settled : IsSettled new.archive_register
 
--- the register has the archive of a closing
-pub record HasArchive (held : Held) (names : FileNames) (closing : Closing) (register : State) : Type 0 where
+-- the archive's register is marked for the store, and a crash leaves it so
+pub record IsMarkedNow (held : Held) (names : FileNames) (mark : State) : Type 0 where
+  pub has : HasRegister (marked_for names.store held.copied) mark.committed
+  pub settled : IsSettled mark
+
+-- the register has the archive of a closing, which is marked
+pub record HasArchive (held : Held) (names : FileNames) (closing : Closing) (new : Files) : Type 0 where
   pub is_closing : IsClosing held names closing
-  pub has : HasRegister (raised_register held closing) register.committed
-  pub settled : IsSettled register
+  pub has : HasRegister (raised_register held closing) new.register.committed
+  pub settled : IsSettled new.register
+  pub marked : IsMarkedNow held names new.archive_register
 
 -- the store, while its connection is open, has its rows, or the register has the archive and some of what goes is gone
 abbrev pub HasRowsLeft : Held → FileNames → Files → Type 0
 HasRowsLeft held names new =
     HasRows held.own new.store.committed
-    ⊎ ((closing : Closing) × (left : Rows) × HasArchive held names closing new.register × IsLeft closing held.own left
+    ⊎ ((closing : Closing) × (left : Rows) × HasArchive held names closing new × IsLeft closing held.own left
     × HasRows left new.store.committed)
 
--- where a closing stopped, while the connections are open
+-- Where a closing stopped, while the connections are open: the store's register has the archive only once that is marked.
 pub record IsStopped (held : Held) (names : FileNames) (new : Files) : Type 0 where
   pub store : IsTrue new.store.is_open → HasRowsLeft held names new
   pub register : IsTrue new.register.is_open →
       HasRegister held.register new.register.committed
       ⊎ ((closing : Closing) × IsClosing held names closing
-      × HasRegister (raised_register held closing) new.register.committed)
+      × HasRegister (raised_register held closing) new.register.committed × IsMarkedNow held names new.archive_register)
   pub mark : IsTrue new.archive_register.is_open →
       HasRegister held.copied new.archive_register.committed
       ⊎ HasRegister (marked_for names.store held.copied) new.archive_register.committed
@@ -212,21 +234,51 @@ pub record IsStopped (held : Held) (names : FileNames) (new : Files) : Type 0 wh
 abbrev pub StoresLeftRows : FileNames → Files → Files → Trees → Type 0
 StoresLeftRows names old new db =
     (held : Held) → AreHeld held old →
-    (closing : Closing) × (left : Rows) × HasArchive held names closing new.register × IsLeft closing held.own left
+    (closing : Closing) × (left : Rows) × HasArchive held names closing new × IsLeft closing held.own left
     × StoresRows left db
 
--- of its register: the archive is in it
-abbrev pub StoresRaised : FileNames → Files → Trees → Type 0
-StoresRaised names old db =
+-- of its register: the archive is in it, which is marked by then
+abbrev pub StoresRaised : FileNames → Files → Files → Trees → Type 0
+StoresRaised names old new db =
     (held : Held) → AreHeld held old →
     (closing : Closing) × IsClosing held names closing × StoresRegister (raised_register held closing) db
+    × IsMarkedNow held names new.archive_register
 
--- of the archive's register: it is marked for the store
+-- of the archive's register: it is marked for the store, and was not marked before
 abbrev pub StoresMarked : FileNames → Files → Trees → Type 0
 StoresMarked names old db =
-    (held : Held) → AreHeld held old → StoresRegister (marked_for names.store held.copied) db
+    (held : Held) → AreHeld held old →
+    (closing : Closing) × IsClosing held names closing × IsAtStage held names closing stage.New
+    × StoresRegister (marked_for names.store held.copied) db
 
 -- ---- faults
+
+-- what a fault says of its file: why the office in it does not open, or texts that wait in the store are not read; a register
+-- is sound
+abbrev pub IsFaultIn : Held → Files → File → TableFault → Type 0
+IsFaultIn held files file.Store fault =
+    IsUnopened held.register held.own files.store.now fault ⊎ IsOfStoreOr (HasUnread held.own) fault
+IsFaultIn held files file.Register fault = IsOfStore fault
+IsFaultIn held files file.Archive fault = IsUnopened held.copied held.copy files.archive.now fault
+IsFaultIn held files file.ArchiveRegister fault = IsOfStore fault
+
+-- What a fault tells: why the archive is refused; what a file has that can't be read; of the store or of the archive, where they
+-- were compared, that it failed or has a reply that is no text.
+abbrev pub Tells : Held → FileNames → Files → CloseFault → Type 0
+Tells held names files (fault.Archive why) = IsWhy held.own held.copy names files why
+Tells held names files (fault.File of) = IsFaultIn held files of.file of.fault
+Tells held names files (fault.Comparing of) = IsOfEither (HasUnfit held.own) (HasUnfit held.copy) of
+Tells held names files fault.Memory = Unit {0}
+
+-- where a fault of that file stops a closing that writes: the archive is not marked; or it is, and the store's register does not
+-- have it; or that has it, and not all is deleted
+abbrev pub IsStoppedBy : Held → FileNames → (old new : Files) → File → Type 0
+IsStoppedBy held names old new file.ArchiveRegister =
+    KeepsCommit old.store new.store × KeepsCommit old.register new.register
+IsStoppedBy held names old new file.Register =
+    KeepsCommit old.store new.store × IsMarkedNow held names new.archive_register
+IsStoppedBy held names old new file.Store = (closing : Closing) × HasArchive held names closing new
+IsStoppedBy held names old new file.Archive = ⊥
 
 -- the archive is refused, or a file is damaged or of another version
 abbrev pub IsBeforehand : CloseFault → Type 0
@@ -238,16 +290,19 @@ IsBeforehand fault.Memory = Unit {0}
 -- ---- the whole
 
 -- At Ok the store is closed. At a fault it is stopped somewhere, and before anything was written if the archive was refused
--- or a file damaged. What the fault tells is so. A crash leaves of each file what it left before, or what these say. The archive's rows stay as they are.
+-- or a file damaged. What the fault tells is so, and it names the file that was to be written. A crash leaves of each file what
+-- it left before, or what these say. The archive's rows stay as they are.
 pub record Closes {T : Type 0} (names : FileNames) (old new : Files) (result : Result T CloseFault) : Type 0 where
   pub idle : AreIdle new
   pub ok : AreClean new → OnOk result ((held : Held) → AreHeld held old →
       (closing : Closing) × IsClosing held names closing × IsClosed held names closing new)
   pub err : AreClean new → OnErr result ((held : Held) → AreHeld held old → IsStopped held names new)
   pub untouched : IfErr result (λ fault. IsBeforehand fault → AreRead old new result)
-  pub tells : AreClean new → IfErr result (λ fault. (held : Held) → AreHeld held old →
-      Tells held.own held.copy names old fault)
+  pub tells : AreClean new → IfErr result (λ fault. (held : Held) → AreHeld held old → Tells held names old fault)
+  pub stopped : AreClean new → IfErr result (λ fault. (held : Held) → AreHeld held old →
+      AreRead old new result
+      ⊎ ((file : File) × IsFileOf file fault × IsOfWriting fault × IsStoppedBy held names old new file))
   pub store : AreClean new → Survives old.store new.store (StoresLeftRows names old new)
-  pub register : AreClean new → Survives old.register new.register (StoresRaised names old)
+  pub register : AreClean new → Survives old.register new.register (StoresRaised names old new)
   pub mark : AreClean new → Survives old.archive_register new.archive_register (StoresMarked names old)
   pub archive : IsRead old.archive new.archive result

@@ -1,24 +1,13 @@
 -- What is found of the four files before anything is written.
-use Rattle.std.specs.Prelude.{◌≡◌, true, None, Some, IsTrue}
+use Rattle.std.specs.Prelude.{◌≡◌, true, None, IsTrue}
 use Rattle.sqlite.specs.State.{State}
 use Rattle.sqlite.specs.Tree.{Trees}
-use Rattle.office_closing.specs.Changes.{unmarked}
 use Rattle.office_closing.specs.declared.planning.Plan.{Plan}
-use Rattle.office_closing.specs.declared.planning.Stage.{Stage}
-use Rattle.office_closing.specs.declared.planning.Stage.TheVariants as stage
-use Rattle.office_closing.specs.Closes.{Closing, Held, IsClosing, closing_content, raised_register}
+use Rattle.office_closing.specs.Closes.{Held, IsAtStage, IsClosing, closing_content}
 use Rattle.office_closing.specs.Comparing.{IsComparedAs}
 use Rattle.office_closing.specs.Copies.{FileNames}
 use Rattle.office_closing.specs.Files.{Files}
 use Rattle.office_closing.specs.Steps.{is_unraised}
-
--- how far a closing has come, by what the registers hold
-abbrev pub IsAtStage : Held → FileNames → Closing → Stage → Type 0
-IsAtStage held names closing stage.New = (held.register ≡ unmarked held.copied) × (held.copied.closed_for ≡ None)
-IsAtStage held names closing stage.Marked =
-    (held.register ≡ unmarked held.copied) × (held.copied.closed_for ≡ Some names.store)
-IsAtStage held names closing stage.Raised =
-    (held.register ≡ raised_register held closing) × (held.copied.closed_for ≡ Some names.store)
 
 -- the archive is a copy and holds what goes, and the closing has come so far
 pub record IsJudged (held : Held) (names : FileNames) (plan : Plan) : Type 0 where

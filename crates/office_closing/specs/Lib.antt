@@ -11,6 +11,7 @@ pub mod Steps
 pub mod Judging
 pub mod Laws
 pub mod PuttingAway
+pub mod Stopping
 pub mod Lists
 pub mod Register
 pub mod Sound

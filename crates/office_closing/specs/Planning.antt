@@ -7,6 +7,8 @@ use Rattle.office_closing.specs.Register.{archive_content}
 use Rattle.office_closing.specs.declared.faults.CloseFault.{CloseFault}
 use Rattle.office_closing.specs.declared.faults.CloseFault.TheVariants as fault
 use Rattle.office_closing.specs.declared.faults.Refusal.TheVariants as refusal
+use Rattle.office_closing.specs.declared.planning.ClosingLists.{ClosingLists}
+use Rattle.office_closing.specs.declared.planning.History.{History}
 use Rattle.office_closing.specs.declared.planning.Mark.{Mark}
 use Rattle.office_closing.specs.declared.planning.Mark.TheVariants as mark
 use Rattle.office_closing.specs.declared.planning.Plan.{Plan}
@@ -39,6 +41,35 @@ pub record IsPlan (own copy : OfficeContent) (names : FileNames) (named : List L
   pub lists : map list_content plan.lists.items
       ≡ lists_at own (archive_in names.archive copy).place done plan.stage
   pub gone : AreInBoth done (map list_content plan.lists.items) (map list_content plan.gone.items)
+
+-- ---- its parts
+
+-- what the archive closes, and which visits go
+pub record IsHistory (own copy : OfficeContent) (file : List ℕ) (history : History) : Type 0 where
+  pub numbers : history.numbers.items ≡ numbers_of copy
+  pub archive : archive_content history.archive ≡ archive_in file copy
+  pub segments : history.segments.items ≡ segments_of (archive_in file copy).place (numbers_of copy)
+  pub visits : AreToGo own.terminal.visits copy.terminal.visits history.visits.items
+
+-- the lists that the register has with the archive, and those of them that are done
+pub record AreClosingLists (own copy : OfficeContent) (named : List ListName) (archive : ℕ) (lists : ClosingLists)
+    : Type 0 where
+  pub done : List SettledListContent
+  pub are_done : AreDoneIn own.terminal named archive done
+  pub all : AreFor own copy archive done (map list_content lists.all.items)
+  pub gone : AreInBoth done (map list_content lists.all.items) (map list_content lists.gone.items)
+
+-- the plan has these, and that stage
+pub record IsPlanOf (history : History) (closed : ClosingLists) (come : Stage) (plan : Plan) : Type 0 where
+  pub numbers : plan.numbers.items ≡ history.numbers.items
+  pub visits : plan.visits.items ≡ history.visits.items
+  pub archive : archive_content plan.archive ≡ archive_content history.archive
+  pub segments : plan.segments.items ≡ history.segments.items
+  pub lists : plan.lists.items ≡ closed.all.items
+  pub gone : plan.gone.items ≡ closed.gone.items
+  pub stage : plan.stage ≡ come
+
+-- ---- refusals
 
 -- there is a reason to refuse the archive; or memory was refused
 abbrev pub IsRefused : OfficeContent → OfficeContent → FileNames → CloseFault → Type 0

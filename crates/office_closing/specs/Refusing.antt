@@ -1,7 +1,13 @@
--- Why an archive is refused, and what other faults tell.
-use Rattle.std.specs.Prelude.{ℕ}
+-- Why an archive is refused, and a file can't be read.
+use Rattle.std.specs.Prelude.{◌≡◌, ◌⊎◌, ◌<◌, ℕ, length}
+use Rattle.sqlite.specs.Effect.{Database}
+use Rattle.office_admission.specs.Limits.{most_partners}
 use Rattle.office_rows.specs.Rows.{Rows}
+use Rattle.office_loading.specs.Tables.{FailsToLoadOwn, HasHighNext}
 use Rattle.office_tables.specs.Answers.{HasUnfitReply}
+use Rattle.office_tables.specs.Faults.{IsOfStore, IsOfStoreOr}
+use Rattle.office_tables.specs.declared.table_fault.TableFault.{TableFault}
+use Rattle.office_closing.specs.declared.faults.File.{File}
 use Rattle.office_closing.specs.declared.faults.CloseFault.{CloseFault}
 use Rattle.office_closing.specs.declared.faults.CloseFault.TheVariants as fault
 use Rattle.office_closing.specs.declared.faults.Refusal.{Refusal}
@@ -9,13 +15,41 @@ use Rattle.office_closing.specs.declared.faults.Refusal.TheVariants as refusal
 use Rattle.office_closing.specs.Comparing.{IsOfEither, IsToldAlike}
 use Rattle.office_closing.specs.Copies.{FileNames, IsOpened, IsReason, OfficeContent}
 use Rattle.office_closing.specs.Files.{Files}
+use Rattle.office_closing.specs.Register.{RegisterContent, closed_by}
+use Rattle.office_closing.specs.Waiting.{HasWaiting}
 
--- a file could not be read, or memory was refused
-abbrev pub IsOfFile : CloseFault → Type 0
-IsOfFile (fault.Archive why) = ⊥
-IsOfFile (fault.File of) = Unit {0}
-IsOfFile (fault.Comparing of) = ⊥
-IsOfFile fault.Memory = Unit {0}
+-- ---- a file that can't be read
+
+-- the fault is of that file
+abbrev pub IsFileOf : File → CloseFault → Type 0
+IsFileOf file (fault.Archive why) = ⊥
+IsFileOf file (fault.File of) = of.file ≡ file
+IsFileOf file (fault.Comparing of) = ⊥
+IsFileOf file fault.Memory = ⊥
+
+-- the fault is of that file, and this is said of it; or memory was refused
+abbrev pub IsOfThis : File → (TableFault → Type 0) → CloseFault → Type 0
+IsOfThis file Is (fault.Archive why) = ⊥
+IsOfThis file Is (fault.File of) = (of.file ≡ file) × Is of.fault
+IsOfThis file Is (fault.Comparing of) = ⊥
+IsOfThis file Is fault.Memory = Unit {0}
+
+-- Why an office does not open: its rows make none beyond what its register closes, or are of another version; or the next
+-- number of an account has more than 32 bits.
+abbrev pub IsUnopened : RegisterContent → Rows → Database → TableFault → Type 0
+IsUnopened register rows db fault =
+    FailsToLoadOwn (closed_by register) db fault ⊎ IsOfStoreOr (HasHighNext rows.partners) fault
+
+-- the same, of the file with its rows; or the file of its sound register could not be read
+abbrev pub IsOfOpening : (rows_in register_in : File) → RegisterContent → Rows → Database → CloseFault → Type 0
+IsOfOpening rows_in register_in register rows db why =
+    IsOfThis register_in IsOfStore why ⊎ IsOfThis rows_in (IsUnopened register rows db) why
+
+-- why texts that wait are not read: there are more accounts than may be, or such a text is damaged
+abbrev pub HasUnread : Rows → Type 0
+HasUnread rows = (most_partners < length rows.partners) ⊎ HasWaiting rows
+
+-- ---- an archive that is refused
 
 -- the offices in the files, as they open, give this reason
 pub record HasReason (names : FileNames) (files : Files) (why : Refusal) : Type 0 where
@@ -34,14 +68,6 @@ IsWhy own copy names files why = HasReason names files why
 -- a reply is no text
 abbrev pub HasUnfit : Rows → Type 0
 HasUnfit rows = (partner : ℕ) × (number : ℕ) × HasUnfitReply partner number rows
-
--- What a fault tells: why the archive is refused; of the store or of the archive, where they were compared, that it failed
--- or has a reply that is no text.
-abbrev pub Tells : (own copy : Rows) → FileNames → Files → CloseFault → Type 0
-Tells own copy names files (fault.Archive why) = IsWhy own copy names files why
-Tells own copy names files (fault.File of) = Unit {0}
-Tells own copy names files (fault.Comparing of) = IsOfEither (HasUnfit own) (HasUnfit copy) of
-Tells own copy names files fault.Memory = Unit {0}
 
 -- ---- where they are compared
 

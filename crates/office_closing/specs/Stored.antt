@@ -64,6 +64,11 @@ HasWhole = HasRegisterIn whole
 abbrev pub StoresRegister : RegisterContent → Trees → Type 0
 StoresRegister content trees = HasWhole content (record { schema = register_schema; trees = trees })
 
+-- the same in one of the two layouts
+abbrev pub StoresEither : RegisterContent → Trees → Type 0
+StoresEither content trees =
+    (layout : Layout) × HasRegisterIn layout content (record { schema = schema_in layout; trees = trees })
+
 -- ---- what its tables show
 
 -- the lists by call, side and archive

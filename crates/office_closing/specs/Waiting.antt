@@ -28,6 +28,16 @@ abbrev pub lists_beyond : SetupContent → Rows → (partner next : ℕ) → Lis
 lists_beyond content rows partner next =
     lists_under_each content rows partner (waiting_numbers partner next rows)
 
+-- one of these numbers waits
+abbrev pub WaitsBeyond : (partner next : ℕ) → Rows → Type 0
+WaitsBeyond partner next rows = (number : ℕ) × Contains (waiting_numbers partner next rows) number
+
+-- a text of an account waits
+pub record HasWaiting (rows : Rows) : Type 0 where
+  pub account : Partner
+  pub has : Contains rows.partners account
+  pub waits : WaitsBeyond account.id account.next rows
+
 -- These are the next numbers of the rows' accounts, which have the ids 1, 2 and so on, and no number has two texts.
 pub record HaveNexts (rows : Rows) (nexts : List ℕ) : Type 0 where
   pub accounts : map (λ (p : Partner). p.id) rows.partners ≡ range_with_len 1 (length rows.partners)

@@ -5,6 +5,7 @@ ghost use Rattle.office_closing.specs.Closes.{Closes, IsLeft, cleared, closing_c
 ghost use Rattle.office_closing.specs.Deleting.{Deletes, all_but, goes, is_one_of, without_interchange, without_visits};
 ghost use Rattle.office_closing.specs.Files.{AreIdle, files};
 ghost use Rattle.office_closing.specs.Judging.{AreResting};
+ghost use Rattle.office_closing.specs.Refusing.{IsFileOf};
 ghost use Rattle.office_closing.specs.Steps.{StepsIf, is_unmarked, is_unraised};
 ghost use Rattle.office_closing.specs.declared.faults.CloseFault.TheVariants as close_fault;
 ghost use Rattle.office_tables.specs.Writing.{IsUndone};
@@ -98,6 +99,7 @@ fn mark_archive<S: Alter>(
     requires { (state S.Store conn.old).in_transaction ≡ false }
     ensures steps { StepsIf (is_unmarked stage) unmarked (marked_for store_file.now) (state S.Store conn.old)
         (state S.Store conn.new) result }
+    ensures file { IfErr result (IsFileOf File.ArchiveRegister) }
 {
     let is_due = is_unmarked(stage);
     if is_due {
@@ -112,6 +114,7 @@ fn mark_now<S: Alter>(conn: &mut Connection<S>, store_file: &str) -> Result<(), 
     requires { (state S.Store conn.old).in_transaction ≡ false }
     ensures steps { StepsIf true unmarked (marked_for store_file.now) (state S.Store conn.old)
         (state S.Store conn.new) result }
+    ensures file { IfErr result (IsFileOf File.ArchiveRegister) }
 {
     match mark(conn, store_file) {
         Ok(()) => Ok(()),
@@ -125,6 +128,7 @@ fn raise<S: Alter>(conn: &mut Connection<S>, plan: &Plan) -> Result<(), CloseFau
     ensures steps { StepsIf (is_unraised plan.now.stage) unchanged
         (closed_with (archive_content plan.now.archive) plan.now.segments.items (map list_content plan.now.lists.items)) (state S.Store conn.old)
         (state S.Store conn.new) result }
+    ensures file { IfErr result (IsFileOf File.Register) }
 {
     let is_due = is_unraised(plan.stage);
     if is_due {
@@ -144,6 +148,7 @@ fn raise_now<S: Alter>(
     requires { (state S.Store conn.old).in_transaction ≡ false }
     ensures steps { StepsIf true unchanged (closed_with (archive_content archive.now) segments.now (map list_content lists.now))
         (state S.Store conn.old) (state S.Store conn.new) result }
+    ensures file { IfErr result (IsFileOf File.Register) }
 {
     match close_with(conn, archive, segments, lists) {
         Ok(()) => Ok(()),

@@ -1,15 +1,15 @@
-ghost use Rattle.std.specs.Prelude.{◌≡◌, IfErr, IfOk, None, OnOk, IsTrue, map};
+ghost use Rattle.std.specs.Prelude.{◌≡◌, ◌≤◌, IfErr, IfOk, None, OnOk, IsTrue, length, map};
 ghost use Rattle.office_loading.specs.Closed.{closed_content};
-ghost use Rattle.office_closing.specs.Closes.{AreHeld, Held};
+ghost use Rattle.office_closing.specs.Closes.{AreHeld, Held, Tells};
 ghost use Rattle.office_closing.specs.Comparing.{IsComparedAs};
 ghost use Rattle.office_closing.specs.Copies.{IsOpened, office_content};
 ghost use Rattle.office_closing.specs.Files.{AreClean, AreRead, IsRead, IsReadIfOpen, files};
 ghost use Rattle.office_closing.specs.Judging.{IsComparedIf, IsJudged};
-ghost use Rattle.office_closing.specs.Refusing.{IsOfComparing, IsOfFile, Tells};
+ghost use Rattle.office_closing.specs.Refusing.{HasUnread, IsOfComparing, IsOfOpening, IsOfThis};
 ghost use Rattle.office_closing.specs.Waiting.{AreWaitedFor, HaveNexts};
 ghost use Rattle.office_history.specs.After.{AreKeptOnce};
 ghost use Rattle.office_parts.specs.Named.{named_list_content};
-ghost use Rattle.office_loading.specs.Tables.{LoadsOwn};
+ghost use Rattle.office_loading.specs.Tables.{FailsToLoadOwn, HasHighNext, LoadsOwn};
 ghost use Rattle.office_closing.specs.Register.{RegisterContent, register_content};
 ghost use Rattle.office_closing.specs.Sound.{IsSound, is_sound};
 ghost use Rattle.office_closing.specs.Stored.{HasRegister};
@@ -17,7 +17,10 @@ ghost use Rattle.office_rows.specs.Rows.{Rows};
 ghost use Rattle.office_rows.specs.Shown.{AreNexts};
 ghost use Rattle.office_rows.specs.Stored.{HasRows};
 ghost use Rattle.office_rows.specs.Tables.{office_schema};
+ghost use Rattle.office_admission.specs.Limits.{most_partners};
 ghost use Rattle.office_admission.specs.Setups.{setup_content};
+ghost use Rattle.office_closing.specs.declared.faults.CloseFault.TheVariants as close_fault;
+ghost use Rattle.office_tables.specs.Faults.{IsOfStore, IsOfStoreOr};
 ghost use Rattle.sqlite.specs.Held.{state};
 ghost use Rattle.sqlite.specs.State.{HasCleanDisk};
 
@@ -52,7 +55,7 @@ pub(crate) fn judge<S: Alter, R: Alter, A: Alter, M: Alter>(
     ensures tells { AreClean (files S.Store R.Store A.Store M.Store store.new register.new archive.new archive_register.new) →
         IfErr result (λ fault. (held : Held) →
         AreHeld held (files S.Store R.Store A.Store M.Store store.old register.old archive.old archive_register.old) →
-        Tells held.own held.copy (record { store = store_file.now; archive = archive_file.now })
+        Tells held (record { store = store_file.now; archive = archive_file.now })
         (files S.Store R.Store A.Store M.Store store.old register.old archive.old archive_register.old) fault) }
 {
     let own = open_office(alloc, store, register, File::Store, File::Register)?;
@@ -81,7 +84,11 @@ pub(crate) fn open_office<S: Alter, R: Alter>(
         IfOk result (λ opened. IsOpened (state S.Store conn.old).now (state R.Store register.old).now
         (office_content opened)) }
     ensures sound { IfOk result (λ opened. IsTrue (is_sound (register_content opened.register))) }
-    ensures fault { IfErr result IsOfFile }
+    ensures few { IfOk result (λ opened. length opened.setup.partners.items ≤ most_partners) }
+    ensures fault { HasCleanDisk (state S.Store conn.new) → HasCleanDisk (state R.Store register.new) →
+        IfErr result (λ fault. (rows : Rows) (held : RegisterContent) → HasRows rows (state S.Store conn.old).now →
+        HasRegister held (state R.Store register.old).now → IsSound held →
+        IsOfOpening conn_is register_is held rows (state S.Store conn.old).now fault) }
     ensures rows_read { IsRead (state S.Store conn.old) (state S.Store conn.new) result }
     ensures register_read { IsRead (state R.Store register.old) (state R.Store register.new) result }
 {
@@ -106,7 +113,8 @@ fn register_of<S: Alter>(
     ensures registered { HasCleanDisk (state S.Store conn.new) → IfOk result (λ register. (held : RegisterContent) →
         HasRegister held (state S.Store conn.old).now → IsSound held → register_content register ≡ held) }
     ensures sound { IfOk result (λ register. IsTrue (is_sound (register_content register))) }
-    ensures fault { IfErr result IsOfFile }
+    ensures fault { HasCleanDisk (state S.Store conn.new) → IfErr result (λ fault. (held : RegisterContent) →
+        HasRegister held (state S.Store conn.old).now → IsSound held → IsOfThis file IsOfStore fault) }
     ensures read { IsRead (state S.Store conn.old) (state S.Store conn.new) result }
 {
     match read_register(alloc, conn) {
@@ -124,7 +132,9 @@ fn office_of<S: Alter>(
 ) -> Result<(Setup, Terminal), CloseFault>
     ensures loaded { HasCleanDisk (state S.Store conn.new) → (state S.Store conn.old).now.schema ≡ office_schema →
         IfOk result (λ p. LoadsOwn (closed_content closed.now) (state S.Store conn.old).now (setup_content p.0) p.1) }
-    ensures fault { IfErr result IsOfFile }
+    ensures few { IfOk result (λ p. length p.0.partners.items ≤ most_partners) }
+    ensures fault { HasCleanDisk (state S.Store conn.new) → (state S.Store conn.old).now.schema ≡ office_schema →
+        IfErr result (IsOfThis file (FailsToLoadOwn (closed_content closed.now) (state S.Store conn.old).now)) }
     ensures read { IsRead (state S.Store conn.old) (state S.Store conn.new) result }
 {
     match load_own(alloc, conn, closed) {
@@ -141,7 +151,8 @@ fn nexts_of<S: Alter>(
 ) -> Result<Vec<u32>, CloseFault>
     ensures answer { HasCleanDisk (state S.Store conn.new) → IfOk result (λ found. (rows : Rows) →
         HasRows rows (state S.Store conn.old).now → AreNexts rows found.items) }
-    ensures fault { IfErr result IsOfFile }
+    ensures fault { HasCleanDisk (state S.Store conn.new) → IfErr result (λ fault. (rows : Rows) →
+        HasRows rows (state S.Store conn.old).now → IsOfThis file (IsOfStoreOr (HasHighNext rows.partners)) fault) }
     ensures read { IsRead (state S.Store conn.old) (state S.Store conn.new) result }
 {
     match nexts(alloc, conn) {
@@ -156,13 +167,16 @@ fn waited_for<S: Alter>(
     conn: &mut Connection<S>,
     own: &Opened,
 ) -> Result<Vec<NamedList>, CloseFault>
+    requires few { length own.now.setup.partners.items ≤ most_partners }
     ensures named { HasCleanDisk (state S.Store conn.new) → IfOk result (λ lists. (rows : Rows) →
         HasRows rows (state S.Store conn.old).now → HaveNexts rows own.now.nexts.items →
         AreWaitedFor (setup_content own.now.setup) rows (map named_list_content lists.items)) }
-    ensures fault { IfErr result IsOfFile }
+    ensures fault { HasCleanDisk (state S.Store conn.new) → IfErr result (λ fault. (rows : Rows) →
+        HasRows rows (state S.Store conn.old).now → HaveNexts rows own.now.nexts.items →
+        IsOfThis File.Store (IsOfStoreOr (HasUnread rows)) fault) }
     ensures read { IsReadIfOpen (state S.Store conn.old) (state S.Store conn.new) result }
 {
-    if own.setup.partners.as_slice().len() > MOST_PARTNERS || own.nexts.len() > MOST_PARTNERS {
+    if own.nexts.len() > MOST_PARTNERS {
         return Err(of_store(TableFault::Damaged));
     }
     match lists_waited_for(alloc, conn, &own.setup, &own.nexts) {
@@ -173,7 +187,7 @@ fn waited_for<S: Alter>(
 
 /// A fault of the store's.
 fn of_store(fault: TableFault) -> CloseFault
-    ensures { IsOfFile result }
+    ensures { result ≡ close_fault.File (record { file = File.Store; fault = fault }) }
 {
     let file = File::Store;
     CloseFault::File(FileFault { file, fault })

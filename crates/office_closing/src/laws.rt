@@ -6,7 +6,10 @@
 ghost use Rattle.office_closing.specs.Laws.{ComparedIsHeld, ClearingLeavesTheRest, ClearedIsCarried};
 ghost use Rattle.office_closing.specs.PuttingAway.{ClosedStoresStand, ListsThatGoAreAway};
 ghost use Rattle.office_closing.specs.DoneListLaws.{AwayStaysWithClosing, PutAwayListsAreAway};
+ghost use Rattle.office_closing.specs.Stopping.{StoppedClosingsGoOn, StopsAreOnTheWay};
 ghost use Rattle.office_closing.specs.Texts.{OneTextOneList};
+
+use sqlite::Alter;
 
 /// What was compared is held, and the visits that go may go.
 pub fn compared_is_held()
@@ -32,6 +35,18 @@ pub fn lists_that_go_are_away()
 /// before.
 pub fn closed_stores_stand()
     ensures { ClosedStoresStand }
+{}
+
+/// At whatever moment a closing stops, and however it ends, the four files have what they had, or the closing is on its way: the
+/// store's register has the archive only if that is marked, and rows are gone only if the register has it.
+pub fn stops_are_on_the_way<S: Alter, R: Alter, A: Alter, M: Alter>()
+    ensures { StopsAreOnTheWay S.Store R.Store A.Store M.Store }
+{}
+
+/// What a stop leaves of a closing that is on its way is taken when it is called again: the registers tell the stage from which
+/// it goes on.
+pub fn stopped_closings_go_on()
+    ensures { StoppedClosingsGoOn }
 {}
 
 /// Lists that may go, of which archives keep the lines, are away with those that were, as far as they are deleted.

@@ -1,8 +1,8 @@
 ghost use Rattle.std.specs.Option.{option_map};
 ghost use Rattle.std.specs.Prelude.{◌≡◌, ◌↔◌, ◌≤◌, ◌++◌, ◌∷◌, [], true, IfOk, IfErr, IsTrue, MatchOption, OnOk, length, map, string_bytes};
 ghost use Rattle.office_loading.specs.Closed.{last_closed};
-ghost use Rattle.office_closing.specs.Copies.{AreAtMost, AreDoneIn, AreFirst, ComesOn, ComesToNone, FileNames, IsNoLater, IsOfStore, IsReason, IsSameOffice, archive_in, lists_at, numbers_from, numbers_of, office_content, segments_of};
-ghost use Rattle.office_closing.specs.Planning.{AreFor, IsMarkedAs, IsPlan, IsRefused, IsRefusedWith, IsToldBy};
+ghost use Rattle.office_closing.specs.Copies.{AreAtMost, AreFirst, ComesOn, FileNames, IsNoLater, IsOfStore, IsReason, IsSameOffice, archive_in, numbers_from, numbers_of, office_content, segments_of};
+ghost use Rattle.office_closing.specs.Planning.{AreClosingLists, AreFor, IsHistory, IsMarkedAs, IsPlan, IsPlanOf, IsRefused, IsRefusedWith, IsToldBy};
 ghost use Rattle.office_closing.specs.Steps.{is_unmarked, is_unraised};
 ghost use Rattle.office_closing.specs.Visits.{AreToGo};
 ghost use Rattle.office_closing.specs.declared.planning.Stage.{Stage};
@@ -116,24 +116,98 @@ pub(crate) fn make_plan(
         (record { store = store_file.now; archive = archive_file.now })) }
 {
     check_office(own, &copy)?;
-    let visits = gone_visits(alloc, own, &copy)?;
+    let history = history_to_close(alloc, own, &copy, archive_file)?;
+    let lists = lists_to_close(alloc, own, &copy, named, history.archive.place)?;
+    let stage = stage_of(
+        alloc,
+        own,
+        copy,
+        &history.archive,
+        &history.segments,
+        &lists.all,
+        store_file,
+    )?;
+    Ok(plan_of(history, lists, stage))
+}
+
+/// The history that a closing puts away, but for lists.
+#[derive(Drop)]
+struct History {
+    /// The visits that go.
+    visits: Vec<u32>,
+    /// The numbers that are closed.
+    numbers: Vec<Numbers>,
+    /// The archive as the store's register is to name it.
+    archive: Archive,
+    /// Its segments.
+    segments: Vec<Segment>,
+}
+
+/// The lists of a closing.
+#[derive(Drop)]
+struct ClosingLists {
+    /// Those that the store's register has with the archive.
+    all: Vec<SettledList>,
+    /// Those of them that go.
+    gone: Vec<SettledList>,
+}
+
+/// The plan to put this away, from that stage.
+fn plan_of(history: History, lists: ClosingLists, stage: Stage) -> Plan
+    ensures { IsPlanOf history lists stage result }
+{
+    Plan {
+        numbers: history.numbers,
+        visits: history.visits,
+        archive: history.archive,
+        segments: history.segments,
+        lists: lists.all,
+        gone: lists.gone,
+        stage,
+    }
+}
+
+/// What goes of the store's visits and numbers, and the archive that has it.
+fn history_to_close(
+    alloc: Global,
+    own: &Opened,
+    copy: &Opened,
+    archive_file: &str,
+) -> Result<History, CloseFault>
+    requires sound { IsTrue (sound.is_sound (register_content copy.now.register)) }
+    requires few { length copy.now.nexts.items ≤ most_partners }
+    ensures ok { IfOk result (IsHistory (office_content own.now) (office_content copy.now) archive_file.now) }
+    ensures err { IfErr result (λ fault. (names : FileNames) →
+        IsRefused (office_content own.now) (office_content copy.now) names fault) }
+{
+    let visits = gone_visits(alloc, own, copy)?;
     let closed = copy.register.closed(alloc)?;
     let numbers = numbers_to_close(alloc, &closed, &copy.nexts)?;
-    let archive = archive_in(alloc, &copy, archive_file)?;
+    let archive = archive_in(alloc, copy, archive_file)?;
     let segments = segments_of(alloc, archive.place, &numbers)?;
-    let done = done_lists(alloc, own.terminal.lines(), named, archive.place)?;
-    let lists = lists_to_register(alloc, own, &copy, &done, archive.place)?;
-    let stage = stage_of(alloc, own, copy, &archive, &segments, &lists, store_file)?;
-    let gone = lists_in_both(alloc, &done, &lists)?;
-    Ok(Plan {
-        numbers,
+    Ok(History {
         visits,
+        numbers,
         archive,
         segments,
-        lists,
-        gone,
-        stage,
     })
+}
+
+/// The lists that the store's register has with an archive, and those of them that go.
+fn lists_to_close(
+    alloc: Global,
+    own: &Opened,
+    copy: &Opened,
+    named: &[NamedList],
+    archive: u16,
+) -> Result<ClosingLists, AllocError>
+    ensures { IfOk result (AreClosingLists (office_content own.now) (office_content copy.now)
+        (map named_list_content named.now) archive) }
+{
+    let done = done_lists(alloc, own.terminal.lines(), named, archive)?;
+    let all = lists_to_register(alloc, own, copy, &done, archive)?;
+    let gone = lists_in_both(alloc, &done, &all)?;
+    Ok(ClosingLists { all, gone })
 }
 
 /// That the archive is of the store's terminal and of no later day, and the store no archive itself.

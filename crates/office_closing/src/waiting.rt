@@ -1,8 +1,8 @@
 //! The lists that texts that wait name.
 ghost use Rattle.std.specs.List.Sorted.{IsPermutation};
-ghost use Rattle.std.specs.Prelude.{◌≡◌, ◌≤◌, ◌++◌, ⊤, IfErr, IfOk, OnOk, length, map};
+ghost use Rattle.std.specs.Prelude.{◌≡◌, ◌≤◌, ◌++◌, ℕ, ⊤, Contains, IfErr, IfOk, OnOk, length, map};
 ghost use Rattle.office_tables.specs.DeliveryReading.{OnlyReads};
-ghost use Rattle.office_closing.specs.Waiting.{AreWaitedFor, HaveNexts, lists_beyond, lists_under, lists_under_each};
+ghost use Rattle.office_closing.specs.Waiting.{AreWaitedFor, HasWaiting, HaveNexts, WaitsBeyond, lists_beyond, lists_under, lists_under_each};
 ghost use Rattle.office_history.specs.After.{AreKeptOnce};
 ghost use Rattle.office_parts.specs.Named.{named_list_content};
 ghost use Rattle.office_rows.specs.Rows.{Rows};
@@ -24,7 +24,7 @@ use std::alloc::{AllocError, Global};
 /// The lists that the texts that wait name, text by text, of accounts with these next numbers by their ids 1, 2 and so
 /// on. A list that several texts name is there as often. It changes nothing.
 ///
-/// Damaged also if such a text is not admitted for its partner.
+/// Damaged only if a text waits, also if such a text is not admitted for its partner.
 pub fn lists_waited_for<S: Alter>(
     alloc: Global,
     conn: &mut Connection<S>,
@@ -36,7 +36,9 @@ pub fn lists_waited_for<S: Alter>(
     ensures named { HasCleanDisk (state S.Store conn.new) → IfOk result (λ lists. (rows : Rows) →
         HasRows rows (state S.Store conn.old).now → HaveNexts rows nexts.now →
         AreWaitedFor (setup_content setup.now) rows (map named_list_content lists.items)) }
-    ensures fault { IfErr result (IsOfStoreOr ⊤) }
+    ensures fault { HasCleanDisk (state S.Store conn.new) → IfErr result (λ fault. (rows : Rows) →
+        HasRows rows (state S.Store conn.old).now → HaveNexts rows nexts.now → IsOfStoreOr (HasWaiting rows) fault) }
+    ensures version { IfErr result (IsOfStoreOr ⊤) }
     ensures reads { OnlyReads (state S.Store conn.old) (state S.Store conn.new) result }
 {
     let mut lists = Vec::new(alloc);
@@ -60,7 +62,9 @@ fn lists_beyond<S: Alter>(
         HasRows rows (state S.Store conn.old).now → AreKeptOnce rows.interchanges →
         IsPermutation (lists_beyond (setup_content setup.now) rows partner next)
         (map named_list_content lists.items)) }
-    ensures fault { IfErr result (IsOfStoreOr ⊤) }
+    ensures fault { HasCleanDisk (state S.Store conn.new) → IfErr result (λ fault. (rows : Rows) →
+        HasRows rows (state S.Store conn.old).now → IsOfStoreOr (WaitsBeyond partner next rows) fault) }
+    ensures version { IfErr result (IsOfStoreOr ⊤) }
     ensures reads { Reads (state S.Store conn.old) (state S.Store conn.new) result }
 {
     let numbers = waiting_numbers(alloc, conn, partner, next)?;
@@ -80,7 +84,7 @@ fn lists_under_each<S: Alter>(
         HasRows rows (state S.Store conn.old).now → AreKeptOnce rows.interchanges →
         map named_list_content lists.items
         ≡ lists_under_each (setup_content setup.now) rows partner numbers.now) }
-    ensures fault { IfErr result (IsOfStoreOr ⊤) }
+    ensures fault { IfErr result (IsOfStoreOr ((number : ℕ) × Contains numbers.now number)) }
     ensures reads { OnlyReads (state S.Store conn.old) (state S.Store conn.new) result }
 {
     let mut lists = Vec::new(alloc);

@@ -21,7 +21,7 @@ returns-in_err-mark_archive g c =
     let mid = files g.S.Store g.R.Store g.A.Store g.M.Store c.judge.new.store c.judge.new.register c.judge.new.archive c.judge.new.archive_register in
     rw (p.1, p.2) (record {
       closes = closes_unmarked names old mid c.in_ok-plan.plan c.check_idle.ensures c.requires.idle c.in_ok-plan.ensures.read c.in_ok-plan.ensures.judged
-          (state g.M.Store c.mark_archive.new.conn) c.in_err-mark_archive.field-0.0 c.in_err-mark_archive.ensures.steps;
+          (state g.M.Store c.mark_archive.new.conn) c.in_err-mark_archive.field-0.0 c.in_err-mark_archive.ensures.steps c.in_err-mark_archive.ensures.file;
     })
 
 pub returns-in_err-raise : goal.returns-in_err-raise
@@ -33,7 +33,7 @@ returns-in_err-raise g c =
     rw (p.1, p.2) (record {
       closes = closes_unraised names old mid c.in_ok-plan.plan c.check_idle.ensures c.requires.idle c.in_ok-plan.ensures.read c.in_ok-plan.ensures.judged
           _ (state g.M.Store c.mark_archive.new.conn) c.in_ok-mark_archive.ensures.steps
-          (state g.R.Store c.raise.new.conn) c.in_err-raise.field-0.0 c.in_err-raise.ensures.steps;
+          (state g.R.Store c.raise.new.conn) c.in_err-raise.field-0.0 c.in_err-raise.ensures.steps c.in_err-raise.ensures.file;
     })
 
 pub returns-in-Ok : goal.returns-in-Ok
@@ -57,5 +57,5 @@ returns g c =
       closes = rw c.not_written.ensures (closes_uncleared names old mid c.in_ok-plan.plan c.check_idle.ensures c.requires.idle c.in_ok-plan.ensures.read c.in_ok-plan.ensures.judged
           _ (state g.M.Store c.mark_archive.new.conn) c.in_ok-mark_archive.ensures.steps
           _ (state g.R.Store c.raise.new.conn) c.in_ok-raise.ensures.steps
-          (state g.S.Store c.clear_all.new.conn) _ _ c.in-Err.ensures.clears);
+          (state g.S.Store c.clear_all.new.conn) _ c.in-Err.ensures.clears);
     }

@@ -9,7 +9,7 @@ use Rattle.office_closing.specs.declared.faults.CloseFault.{CloseFault}
 use Rattle.office_closing.specs.Copies.{FileNames, office_content}
 use Rattle.office_closing.specs.Files.{files}
 use Rattle.office_closing.proofs.JudgeLemmas.{plan_judged, failed, passed, then_if_open, then_if_open_failed, untouched_err}
-use Rattle.office_closing.proofs.PlanLemmas.{compared_tells, file_tells, plan_tells}
+use Rattle.office_closing.proofs.PlanLemmas.{compared_tells, copy_tells, own_tells, plan_tells, waiting_tells}
 use Rattle.office_closing.proofs.judging.judge.Goals as goal
 
 pub returns-in_err-own-clause-read : goal.returns-in_err-own-clause-read
@@ -89,7 +89,7 @@ returns-clause-judged g c clean held has =
     let waited = named.named named_clean held.own opened_has (record { accounts = has.own_orderly.accounts; are = opened.nexts held.own has.own; kept_once = has.own_orderly.once }) in
     plan_judged held old has names (office_content c.in_ok-own.own) (office_content c.in_ok-copy.copy) opened (copy.opened archive_clean clean.archive_register)
     (map named_list_content c.deref.result.now) (subst (λ l. AreWaitedFor (office_content c.in_ok-own.own).setup held.own (map named_list_content l)) (sym c.deref.ensures.value) waited)
-    c.in_ok-plan.plan c.in_ok-plan.ensures.ok c.utf8.archive_file
+    c.in_ok-plan.plan c.in_ok-plan.ensures.ok c.utf8.archive_file c.utf8.store_file
     (call.compared clean.store clean.archive held own_has copy_has has.own_orderly.once has.copy_orderly.once)
 
 -- ---- why it is refused
@@ -99,21 +99,26 @@ returns-in_err-own-clause-tells g c clean =
     let p = err_from_is_err_and c.from_residual.result c.from_residual.ensures.1 in
     let names : FileNames = record { store = c.args.store_file.now; archive = c.args.archive_file.now } in
     let old = files g.S.Store g.R.Store g.A.Store g.M.Store c.args.store.now c.args.register.now c.args.archive.now c.args.archive_register.now in
-    rw (p.1, p.2) (λ held has. file_tells held.own held.copy names old _ c.in_err-own.ensures.fault)
+    rw (p.1, p.2) (λ held has. own_tells held names old _ (c.in_err-own.ensures.fault clean.store clean.register held.own held.register has.own has.register has.register_sound))
 
 pub returns-in_err-copy-clause-tells : goal.returns-in_err-copy-clause-tells
 returns-in_err-copy-clause-tells g c clean =
     let p = err_from_is_err_and c.from_residual-in_err-copy.result c.from_residual-in_err-copy.ensures.1 in
     let names : FileNames = record { store = c.args.store_file.now; archive = c.args.archive_file.now } in
     let old = files g.S.Store g.R.Store g.A.Store g.M.Store c.args.store.now c.args.register.now c.args.archive.now c.args.archive_register.now in
-    rw (p.1, p.2) (λ held has. file_tells held.own held.copy names old _ c.in_err-copy.ensures.fault)
+    rw (p.1, p.2) (λ held has. copy_tells held names old _ (c.in_err-copy.ensures.fault clean.archive clean.archive_register held.copy held.copied has.copy has.copied has.copied_sound))
 
 pub returns-in_err-named-clause-tells : goal.returns-in_err-named-clause-tells
 returns-in_err-named-clause-tells g c clean =
     let p = err_from_is_err_and c.from_residual-in_err-named.result c.from_residual-in_err-named.ensures.1 in
     let names : FileNames = record { store = c.args.store_file.now; archive = c.args.archive_file.now } in
     let old = files g.S.Store g.R.Store g.A.Store g.M.Store c.args.store.now c.args.register.now c.args.archive.now c.args.archive_register.now in
-    rw (p.1, p.2) (λ held has. file_tells held.own held.copy names old _ c.in_err-named.ensures.fault)
+    let own = c.in_ok-own.ensures in
+    let store_clean : HasCleanDisk (state g.S.Store c.open_office.new.conn) = omega (arith, c.in_err-named.ensures.read.survives.clean, clean.store) in
+    rw (p.1, p.2) (λ held has.
+    let opened_has = subst (HasRows held.own) (sym (own.rows_read.unchanged store_clean).0.now_is) has.own in
+    let nexts = (own.opened store_clean clean.register).nexts held.own has.own in
+    waiting_tells held names old _ (c.in_err-named.ensures.fault clean.store held.own opened_has (record { accounts = has.own_orderly.accounts; are = nexts; kept_once = has.own_orderly.once })))
 
 pub returns-in_err-plan-clause-tells : goal.returns-in_err-plan-clause-tells
 returns-in_err-plan-clause-tells g c clean =
@@ -122,7 +127,7 @@ returns-in_err-plan-clause-tells g c clean =
     let old = files g.S.Store g.R.Store g.A.Store g.M.Store c.args.store.now c.args.register.now c.args.archive.now c.args.archive_register.now in
     let store_clean : HasCleanDisk (state g.S.Store c.open_office.new.conn) = omega (arith, c.in_ok-named.ensures.read.survives.clean, clean.store) in
     rw (p.1, p.2) (λ held has.
-    plan_tells held.own held.copy names old (office_content c.in_ok-own.own) (office_content c.in_ok-copy.copy) (c.in_ok-own.ensures.opened store_clean clean.register)
+    plan_tells held names old (office_content c.in_ok-own.own) (office_content c.in_ok-copy.copy) (c.in_ok-own.ensures.opened store_clean clean.register)
     (c.in_ok-copy.ensures.opened clean.archive clean.archive_register) _ c.in_err-plan.ensures.err)
 
 pub returns-in_err-compare_all-clause-tells : goal.returns-in_err-compare_all-clause-tells
@@ -141,4 +146,4 @@ returns-in_err-compare_all-clause-tells g c clean =
     rw (p.1, p.2) (λ held has.
     let own_has = subst (HasRows held.own) (sym (named.read.unchanged named_clean first.0.is_open).0.now_is) (subst (HasRows held.own) (sym first.0.now_is) has.own) in
     let copy_has = subst (HasRows held.copy) (sym (copy.rows_read.unchanged archive_clean).0.now_is) has.copy in
-    compared_tells held.own held.copy names old _ (call.fault clean.store clean.archive held.own held.copy own_has copy_has has.own_orderly.once has.copy_orderly.once))
+    compared_tells held names old _ (call.fault clean.store clean.archive held.own held.copy own_has copy_has has.own_orderly.once has.copy_orderly.once))

@@ -1,11 +1,17 @@
-use Rattle.std.proofs.Common.{sym, subst, arith}
+use Rattle.std.proofs.Common.{◌≡◌, inl, inr, sym, ap, subst, ◌∙◌, arith}
 use Rattle.std.proofs.lemmas.Result.{err_from_is_err_and}
 use Rattle.sqlite.specs.Held.{state}
 use Rattle.sqlite.specs.State.{HasCleanDisk}
 use Rattle.office_loading.specs.Tables.{LoadsOwn}
 use Rattle.office_rows.specs.Stored.{HasRows}
 use Rattle.office_admission.specs.Setups.{setup_content}
+use Rattle.office_loading.specs.Closed.{ClosedContent, closed_content}
+use Rattle.office_loading.specs.Tables.{FailsToLoadOwn, HasHighNext}
+use Rattle.office_tables.specs.Faults.{IsOfStoreOr}
+use Rattle.office_closing.specs.Refusing.{IsUnopened}
+use Rattle.office_closing.specs.Register.{closed_by}
 use Rattle.office_closing.proofs.JudgeLemmas.{failed, passed, then_failed}
+use Rattle.office_closing.proofs.PlanLemmas.{this_more}
 use Rattle.office_closing.proofs.judging.open_office.Goals as goal
 
 pub returns-in_err-nexts-clause-rows_read : goal.returns-in_err-nexts-clause-rows_read
@@ -32,3 +38,33 @@ returns-clause-opened g c clean register_clean =
           (c.in_ok-setup.ensures.loaded office_clean schema);
       nexts = λ rows has. c.in_ok-nexts.ensures.answer clean rows (subst (HasRows rows) (sym (c.in_ok-setup.ensures.read.unchanged office_clean).0.now_is) has);
     }
+
+-- ---- why it is not opened
+
+pub returns-in_err-told-clause-fault : goal.returns-in_err-told-clause-fault
+returns-in_err-told-clause-fault g c clean register_clean =
+    let p = err_from_is_err_and c.from_residual.result c.from_residual.ensures.1 in
+    rw (p.1, p.2) (λ rows held has has_register sound. inl (c.in_err-told.ensures.fault register_clean held has_register sound))
+
+pub returns-in_err-closed-clause-fault : goal.returns-in_err-closed-clause-fault
+returns-in_err-closed-clause-fault g c clean register_clean =
+    let p = err_from_is_err_and c.from_residual-in_err-closed.result c.from_residual-in_err-closed.ensures.1 in
+    rw (p.1, p.2) (λ rows held has has_register sound. inl tt)
+
+pub returns-in_err-setup-clause-fault : goal.returns-in_err-setup-clause-fault
+returns-in_err-setup-clause-fault g c clean register_clean =
+    let p = err_from_is_err_and c.from_residual-in_err-setup.result c.from_residual-in_err-setup.ensures.1 in
+    let db = (state g.S.Store c.args.conn.now).now in
+    rw (p.1, p.2) (λ rows held has has_register sound.
+    let closed : closed_content c.in_ok-closed.closed ≡ closed_by held = c.in_ok-closed.ensures ∙ ap closed_by (c.in_ok-told.ensures.registered register_clean held has_register sound) in
+    inr (this_more c.args.conn_is (FailsToLoadOwn (closed_content c.in_ok-closed.closed) db) (IsUnopened held rows db) (λ of so. inl (subst (λ (k : ClosedContent). FailsToLoadOwn k db of) closed so)) _
+    (c.in_err-setup.ensures.fault clean has.schema)))
+
+pub returns-in_err-nexts-clause-fault : goal.returns-in_err-nexts-clause-fault
+returns-in_err-nexts-clause-fault g c clean register_clean =
+    let p = err_from_is_err_and c.from_residual-in_err-nexts.result c.from_residual-in_err-nexts.ensures.1 in
+    let db = (state g.S.Store c.args.conn.now).now in
+    let office_clean : HasCleanDisk (state g.S.Store c.office_of.new.conn) = omega (arith, c.in_err-nexts.ensures.read.survives.clean, clean) in
+    rw (p.1, p.2) (λ rows held has has_register sound.
+    inr (this_more c.args.conn_is (IsOfStoreOr (HasHighNext rows.partners)) (IsUnopened held rows db) (λ of so. inr so) _
+    (c.in_err-nexts.ensures.fault clean rows (subst (HasRows rows) (sym (c.in_ok-setup.ensures.read.unchanged office_clean).0.now_is) has))))
