@@ -140,7 +140,7 @@ def own(person):
     """The office's own form finds a container. What a page of the office posts is done, if it says from where it comes: a page that
     is to say nothing of itself to others (no-referrer) sends `Origin: null`, and the office's pages post nothing."""
     browser, server = person.browser, person.server
-    server.same(person.checks, 'a delivery', post(gate_in(1)))
+    server.same(person.checks, 'what the form of another site sent, by a program', post(TEXT + '\r\n'))
     for name, host in (('HAULC', '127.0.0.1'), ('HAULD', NAME)):
         browser.open('http://%s:%d/' % (host, server.port))
         browser.value('document.querySelector("#container").focus()')
