@@ -127,17 +127,17 @@ LeftBy content es Pends db = IsAfter content es db ⊎ ((event : Event) × Pends
 abbrev pub PendsBehind : (Event → Type 0) → Step → Event → Type 0
 PendsBehind Pends step event = (Pends event × ((es : List Event) → with_step es step ≡ es)) ⊎ (postponed_event step ≡ Some event)
 
-shown_of : {S : Type 0} {g : Ghosts S} (content : SetupContent) (es : List Event) (desk : Desk S g) → StandsFor g content es desk → (at : Look) (found : Option (List ℕ))
+shown_of : {S : Type 0} (g : Ghosts S) (content : SetupContent) (es : List Event) (desk : Desk S g) → StandsFor g content es desk → (at : Look) (found : Option (List ℕ))
     → DeskShows g desk at found → ShowsAfter content es at found
-shown_of content es desk stands (report query) found told = told.after content es stands
-shown_of content es desk stands (texts_after from) found told =
+shown_of g content es desk stands (report query) found told = told.after content es stands
+shown_of g content es desk stands (texts_after from) found told =
     record { db = (state g desk.conn).committed; rows = stands.rows; has = stands.has; after = stands.after; pages = told stands.rows stands.has }
-shown_of content es desk stands (of_archive place query) found told = told
+shown_of g content es desk stands (of_archive place query) found told = told
 
-told_of : {S : Type 0} {g : Ghosts S} (content : SetupContent) (es : List Event) (desk : Desk S g) → StandsFor g content es desk → (at : Look)
+told_of : {S : Type 0} (g : Ghosts S) (content : SetupContent) (es : List Event) (desk : Desk S g) → StandsFor g content es desk → (at : Look)
     (found : Result (Option (List ℕ)) NotNow) → Tells (DeskShows g desk at) found → Tells (ShowsAfter content es at) found
-told_of content es desk stands at (Ok found) told = shown_of content es desk stands at found told
-told_of content es desk stands at (Err refusal) told = tt
+told_of g content es desk stands at (Ok found) told = shown_of g content es desk stands at found told
+told_of g content es desk stands at (Err refusal) told = tt
 
 -- what is pending after steps
 abbrev pub PendsAfter : (Event → Type 0) → List Step → Event → Type 0
@@ -172,7 +172,7 @@ module _ {S : Type 0} {g : Ghosts S} where
     | inr off ↦ (inr off.0, subst (λ (r : AccountAnswer). StandsFor g content (with_added es code kind r) new) (sym off.0) (subst (StandsFor g content es) (sym off.1) stands))
   ]
   stand_step content es old (look at found) new call sound stands =
-      (told_of content es old stands at found (call.told sound), call.looks.same sound content es stands)
+      (told_of g content es old stands at found (call.told sound), call.looks.same sound content es stands)
 
   module _ (content : SetupContent) (es : List Event) (old new : Desk S g) (Pends : Event → Type 0)
       (was : (db : Trees) → (state g old.conn).may_leave db → LeftBy content es Pends db) (db : Trees) (left : (state g new.conn).may_leave db) where

@@ -32,12 +32,12 @@ returns-then-names_none-clause-printed g c image shows =
 
 pub returns-clause-printed : goal.returns-clause-printed
 returns-clause-printed g c image shows = record {
-  opened = c.in_ok-desk.desk;
+  opened = c.in_ok-desk-2.desk;
   names = register_content c.args.register.now;
-  opens = opens_on g.S.Store image c.args.conn c.in_ok-desk.desk shows c.in_ok-desk.ensures.opened;
+  opens = opens_on g.S.Store image c.args.conn c.in_ok-desk-2.desk shows c.in_ok-desk-2.ensures.opened;
   printed = inr (record {
-    shelf = c.in_ok-desk.shelf;
-    beside = c.in_ok-desk.ensures.beside;
+    shelf = c.in_ok-desk-2.shelf;
+    beside = c.in_ok-desk-2.ensures.beside;
     prints = c.print_journal.ensures.prints;
     reads = c.print_journal.ensures.reads;
   });
