@@ -61,7 +61,7 @@ pub(crate) fn run<R: Read, W: Write, E: Write>(
                     port,
                     count,
                     ahead,
-                    site,
+                    site: &site,
                 };
                 serve(rt, store, service, log, writer, errors)
             }
@@ -311,7 +311,7 @@ fn is_newest(rt: &HostRuntime, path: &str) -> bool {
 pub(crate) fn serve<W: Write, E: Write>(
     rt: &HostRuntime,
     store: &str,
-    service: Service,
+    service: Service<'_>,
     log: bool,
     writer: &mut Port<W>,
     errors: &mut Port<E>,

@@ -23,8 +23,8 @@ use std::io::Write;
 use std::net::{Ipv4Addr, SocketAddr};
 
 /// Where requests are taken, whose, how many, and how early.
-#[derive(Drop)]
-pub struct Service {
+#[derive(Clone, Copy)]
+pub struct Service<'a> {
     /// The port of this machine.
     pub port: u16,
     /// How many connections are accepted.
@@ -32,7 +32,7 @@ pub struct Service {
     /// How far above its next number a partner's may be, by the path of that partner; none for no bound.
     pub ahead: Option<u32>,
     /// Whose requests are taken, and where they lead.
-    pub site: Site,
+    pub site: &'a Site,
 }
 
 /// Serves the store at a path, with its archives, over HTTP: one request of each connection, until so many were accepted. It
@@ -45,7 +45,7 @@ pub fn serve_over<S: Start, A: Archives + Drop, M: ArchivesBeside<A>, N: Notes, 
     store: &str,
     start: S,
     beside: &M,
-    service: Service,
+    service: Service<'_>,
     notes: &N,
     writer: &mut Port<W>,
     errors: &mut Port<E>,
@@ -54,7 +54,7 @@ pub fn serve_over<S: Start, A: Archives + Drop, M: ArchivesBeside<A>, N: Notes, 
     // left of the rows, if the archives hold the rest, each delivery and each account is answered by that office at its place,
     // or `not now`, and what was answered outlasts a crash. And what each call did, whatever the files held.
     ensures ok { IfOk result (λ ended. FromOpened over_files M.hold A.are (image_at S.Start) (λ opened.
-        EndsServing service.port service.count writer.old writer.new
+        EndsServing service.entry.port service.entry.count writer.old writer.new
         (W.contents writer.old.inner) (W.contents writer.new.inner)
         (Tells errors.new.failed (E.contents errors.old.inner) (E.contents errors.new.inner))
         (λ most. IsServedOver over_files A.is_sound A.are (image_at S.Start) most opened
@@ -75,12 +75,12 @@ pub fn serve_named<
     rt: &HostRuntime,
     path: &str,
     desk: D,
-    service: Service,
+    service: Service<'_>,
     notes: &N,
     writer: &mut Port<W>,
     errors: &mut Port<E>,
 ) -> (u8, Named<D, StoreFile>)
-    ensures { EndsServing service.port service.count writer.old writer.new
+    ensures { EndsServing service.entry.port service.entry.count writer.old writer.new
         (W.contents writer.old.inner) (W.contents writer.new.inner)
         (Tells errors.new.failed (E.contents errors.old.inner) (E.contents errors.new.inner))
         (λ most. AreServedBy D.leads D.enrols D.looks most desk result.1.desk) result.0 }
@@ -97,13 +97,13 @@ fn serve_desk<S: Alter + Drop, A: Archives + Drop, N: Notes, W: Write, E: Write>
     rt: &HostRuntime,
     store: &str,
     office: ArchivedDesk<S, A>,
-    service: Service,
+    service: Service<'_>,
     notes: &N,
     writer: &mut Port<W>,
     errors: &mut Port<E>,
 ) -> (u8, Named<ArchivedDesk<S, A>, StoreFile>)
     ensures { (image : Image) → OpensOn S.Store image office.desk →
-        EndsServing service.port service.count writer.old writer.new
+        EndsServing service.entry.port service.entry.count writer.old writer.new
         (W.contents writer.old.inner) (W.contents writer.new.inner)
         (Tells errors.new.failed (E.contents errors.old.inner) (E.contents errors.new.inner))
         (λ most. IsServedOver S.Store A.is_sound A.are image most (office.desk, office.archives)
@@ -116,12 +116,12 @@ fn serve_desk<S: Alter + Drop, A: Archives + Drop, N: Notes, W: Write, E: Write>
 fn serve_at<D: Report + AddAccount + OfTerminal, N: Notes, W: Write, E: Write>(
     rt: &HostRuntime,
     desk: &mut D,
-    service: Service,
+    service: Service<'_>,
     notes: &N,
     writer: &mut Port<W>,
     errors: &mut Port<E>,
 ) -> u8
-    ensures { EndsServing service.port service.count writer.old writer.new
+    ensures { EndsServing service.entry.port service.entry.count writer.old writer.new
         (W.contents writer.old.inner) (W.contents writer.new.inner)
         (Tells errors.new.failed (E.contents errors.old.inner) (E.contents errors.new.inner))
         (λ most. AtMost D.leads D.enrols D.looks most desk.old desk.new) result }
@@ -139,7 +139,7 @@ fn serve_at<D: Report + AddAccount + OfTerminal, N: Notes, W: Write, E: Write>(
                 rt.alloc(),
                 rt,
                 gate,
-                &site,
+                site,
                 count,
                 ahead,
                 desk,
