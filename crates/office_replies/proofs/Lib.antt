@@ -5,3 +5,4 @@ pub mod PieceLemmas
 pub mod StreamLemmas
 pub mod OneCut
 pub mod PlaceLemmas
+pub mod Plain

@@ -1,6 +1,8 @@
-ghost use Rattle.std.specs.Prelude.{◌≡◌, IfNone, IfOk, IfSome, string_bytes, encode_utf8_all, OnOk, map};
+ghost use Rattle.std.specs.Prelude.{◌≡◌, ◌++◌, IfNone, IfOk, IfSome, string_bytes, encode_utf8_all, OnOk, map};
 ghost use Rattle.std.specs.Str.{IsAscii};
 ghost use Rattle.json.specs.Print.{quoted};
+ghost use Rattle.json.specs.Run.{is_plain};
+ghost use Rattle.std.specs.List.{list_all};
 ghost use Rattle.office_replies.specs.Bodies.{answer_data, answer_text, waiting_data, waiting_text, clash_data, clash_text, refused_data, refused_text};
 ghost use Rattle.office_replies.specs.Members.{text_member};
 ghost use Rattle.office_replies.specs.Messages.{reply_text, report_content, reply_data};
@@ -15,6 +17,7 @@ ghost use Rattle.serde_json.specs.Written.{compact_text};
 use crate::deliver::Fault;
 use crate::message_report::{MessageReport, send_messages};
 use edi_syntax::SyntaxFault;
+use itoa::Buffer;
 use serde::{Described, Serialize, Serializer};
 use serde_json::{Value, json, to_string};
 use std::alloc::{AllocError, Global};
@@ -150,6 +153,9 @@ fn syntax_body(fault: SyntaxFault) -> &'static str
     }
 }
 
+/// Room for what stands round a reply: the names of the members, the answer, the number and a partner's code.
+const HEAD_ROOM: usize = 128;
+
 /// The body for an interchange that was taken, now or before; `answer` says which. The reply is a text of JSON.
 pub fn taken_body(
     alloc: Global,
@@ -165,11 +171,17 @@ pub fn taken_body(
     ensures json { IfOk result (λ s. (d : Data) → reply.now ≡ compact_text d →
         string_bytes s ≡ compact_text (answer_data answer.now number partner.now d)) }
 {
-    let answer = quoted_text(alloc, answer)?;
-    let partner = quoted_text(alloc, partner)?;
-    format!(in alloc;
-        "{{\"answer\":{answer},\"number\":{number},\"partner\":{partner},\"reply\":{reply}}}"
-    )
+    let mut body = String::with_capacity(alloc, HEAD_ROOM + reply.len())?;
+    body.push_str("{\"answer\":")?;
+    push_quoted(alloc, answer, &mut body)?;
+    body.push_str(",\"number\":")?;
+    body.push_str(Buffer::new().format(number))?;
+    body.push_str(",\"partner\":")?;
+    push_quoted(alloc, partner, &mut body)?;
+    body.push_str(",\"reply\":")?;
+    body.push_str(reply)?;
+    body.push_str("}")?;
+    Ok(body)
 }
 
 /// The body for an interchange that waits for the partner's next number.
@@ -225,4 +237,32 @@ fn quoted_text(alloc: Global, text: &str) -> Result<String, AllocError>
 {
     let value = Value::try_from_str(alloc, text)?;
     value.to_string(alloc)
+}
+
+/// Adds a text as JSON writes it, between quotes.
+fn push_quoted(alloc: Global, text: &str, out: &mut String) -> Result<(), AllocError>
+    ensures { OnOk result (string_bytes out.new ≡ string_bytes out.old ++ quoted text.now) }
+{
+    if !are_plain(text.as_bytes()) {
+        let quoted = quoted_text(alloc, text)?;
+        return out.push_str(quoted.as_str());
+    }
+    out.push_str("\"")?;
+    out.push_str(text)?;
+    out.push_str("\"")?;
+    Ok(())
+}
+
+/// JSON writes each of the bytes as it is.
+fn are_plain(bytes: &[u8]) -> bool
+    ensures { result ≡ list_all is_plain bytes.now }
+{
+    bytes.iter().all(|byte| is_plain(*byte))
+}
+
+/// JSON writes the byte as it is.
+fn is_plain(byte: u8) -> bool
+    ensures { result ≡ is_plain byte }
+{
+    !(byte == b'"' || byte == b'\\' || byte < b' ')
 }

@@ -15,9 +15,9 @@ use Rattle.yard_core.specs.Plan.{block_of, InBlock, IsSized, AreLettered, AreApa
 use Rattle.yard_core.specs.YardMap.{Box, placement}
 use Rattle.yard_core.specs.FitsAndFree.{IsOpen}
 use Rattle.yard_core.specs.Search.{IsInBlock}
-use Rattle.yard_core.specs.Columns.{column_at, column_of, first_cell, IsKept}
+use Rattle.yard_core.specs.Columns.{column_at, column_of, near_of, first_cell, IsKept}
 use Rattle.yard_core.specs.LeastHeights.{AreAtLeast, AreLeastHeights, ground_height}
-use Rattle.yard_core.proofs.Cells.{place, bounds, first_in_plan}
+use Rattle.yard_core.proofs.Cells.{place, bounds, column_below, first_in_column, first_in_plan}
 use Rattle.yard_core.proofs.Decides.{IsReady-open}
 use Rattle.std.specs.Char.{is_ascii_uppercase}
 use Rattle.std.proofs.lemmas.List.Folds.{find_at}
@@ -183,12 +183,21 @@ none_open plan columns at kept block corner here high size slot (tier, letter) o
     let low = (bounds plan slot kept.valid.sized open_.in_plan).tier_low in
     omega (arith, over, ready, tier, low)
 
+-- a slot that is open stands right on its first column
+pub open_ends : (plan : List Block) (columns : List (List Box)) (at : Box → Option Placement) → IsKept plan columns at → (s : Placement) → IsOpen plan at s
+    → (near_of plan s < length columns) × (length (column_at columns (near_of plan s)) + 1 ≡ s.slot.tier)
+open_ends plan columns at kept s open_ =
+    let ready = (IsReady-open plan columns at kept s open_.in_plan open_.of_kind open_).near in
+    let below = column_below plan (first_cell s.length s.slot) kept.valid.sized (first_in_column plan s.length s.slot kept.valid.sized open_.in_plan open_.of_kind) in
+    let low = (bounds plan s.slot kept.valid.sized open_.in_plan).tier_low in
+    (omega (arith, below, kept.long), omega (arith, ready, low))
+
 -- ==== PlanLemmas: Where a block of a letter stands in a plan.
 
 other_letter : (a b : ℕ) → ¬ (a ≡ b) → (a == b) ≡ false
 other_letter a b apart = elim (eqb_tells a b) [ inl h ↦ absurd (apart h.1) | inr h ↦ h.0 ]
 
-not_true : (v : Bool) → v ≡ false → IsTrue v → ⊥
+pub not_true : (v : Bool) → v ≡ false → IsTrue v → ⊥
 not_true true e h = cc
 not_true false e h = cc
 

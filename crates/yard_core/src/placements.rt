@@ -138,7 +138,8 @@ pub(crate) fn is_kind(length: Length, slot: Slot) -> bool
     }
 }
 
-fn first_cell(placement: Placement) -> Slot
+/// The cell of the lowest bay.
+pub(crate) fn first_cell(placement: Placement) -> Slot
     requires { 1 ≤ placement.slot.bay }
     ensures { result ≡ first_cell placement.length placement.slot }
 {
@@ -151,6 +152,7 @@ fn first_cell(placement: Placement) -> Slot
     }
 }
 
+/// The cell of the highest bay.
 fn last_cell(placement: Placement) -> Slot
     requires { placement.slot.bay < 80 }
     ensures { result ≡ last_cell placement.length placement.slot }

@@ -273,12 +273,18 @@ fn first_in_bay(
 ) -> Option<Slot>
     requires block { block_of yard.now.plan corner.block ≡ Some block }
     requires sized { IsSized block }
+    requires bay { 1 ≤ corner.bay }
     ensures { MatchOption result (NoneOpen yard.now size is_laden (IsInBay corner))
         (IsFirstOpen yard.now size is_laden (IsInBay corner)) }
 {
+    let first = yard.near_column(Placement {
+        length: size,
+        slot: Slot { row: 1, ..corner },
+    });
     for row in 1..block.rows + 1 {
         let slot = Slot { row, ..corner };
-        if yard.fits(size, is_laden, slot) {
+        let column = first + (row as usize - 1);
+        if yard.fits_on(column, size, is_laden, slot) {
             return Some(slot);
         }
     }

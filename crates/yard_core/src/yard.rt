@@ -3,7 +3,7 @@ ghost use Rattle.yard_core.specs.declared.placements.Placement.{Placement};
 ghost use Rattle.yard_core.specs.declared.placements.Stowed.{Stowed};
 
 use crate::columns::Columns;
-use crate::placements::{Placement, Placements, Stowed, site_of};
+use crate::placements::{Placement, Placements, Stowed, first_cell, site_of};
 use crate::plan::{Block, Plan};
 use crate::support::{blocker_on, first_fit, is_wary, lift, misfit};
 use box6346::{BoxNumber, Length, Slot};
@@ -71,13 +71,14 @@ impl Model for Yard {
 }
 
 impl Yard {
-    ghost use Rattle.std.specs.Prelude.{◌↔◌, Bool, true, IsTrue, IsOk, IfOk, IfErr, IfSome, OnErr, OnOk, MatchOption, MatchResult};
+    ghost use Rattle.std.specs.Prelude.{◌↔◌, ◌≤◌, Bool, true, IsTrue, IsOk, IfOk, IfErr, IfSome, OnErr, OnOk, MatchOption, MatchResult};
     ghost use Rattle.std.specs.Option.{option_map};
     ghost use Rattle.std.specs.FinMap as finite_map;
     ghost use Rattle.yard_core.specs.Plan.{block_of, IsPlan, IsSized};
     ghost use Rattle.box6346.specs.declared.size_type.Length.{Length};
     ghost use Rattle.yard_core.specs.YardMap.{Boxes, placement, stowed, placement_of};
     ghost use Rattle.yard_core.specs.SoundYard.{IsSound};
+    ghost use Rattle.yard_core.specs.Columns.{near_of};
     ghost use Rattle.yard_core.specs.Search.{IsInBlock, IsOpenTo, NoneOpen};
     ghost use Rattle.yard_core.specs.FitsAndFree.{IsFree, IsOpen, MisfitsBy, RestsOnEmpty};
     ghost use Rattle.yard_core.specs.Decisions.{blocker_on};
@@ -287,6 +288,25 @@ impl Yard {
         let position = self.plan.position(corner.block);
         self.columns
             .are_at_least(position, block, corner.tier as usize)
+    }
+
+    /// The column that a placement begins in.
+    pub(crate) fn near_column(&self, placement: Placement) -> usize
+        requires bay { 1 ≤ placement.slot.bay }
+        requires row { 1 ≤ placement.slot.row }
+        ensures exact { result ≡ near_of self.now.plan placement }
+        ensures low { result ≤ 1000000 }
+    {
+        self.plan.column_of(first_cell(placement))
+    }
+
+    /// Whether a container fits there, in a slot that begins in the column. The height of the column is asked first,
+    /// since most slots of a tier fail by it.
+    pub(crate) fn fits_on(&self, column: usize, length: Length, is_laden: bool, slot: Slot) -> bool
+        requires { column ≡ near_of self.now.plan (placement length slot) }
+        ensures { IsTrue result ↔ IsOpenTo self.now length is_laden slot }
+    {
+        self.columns.ends_below(column, slot.tier as usize) && self.fits(length, is_laden, slot)
     }
 
     /// Whether a container fits there.

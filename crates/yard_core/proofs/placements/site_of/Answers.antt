@@ -8,12 +8,12 @@ last_cell-requires c = (bounds c.args.plan.now c.args.placement.slot c.requires.
 
 pub returns-clause-near : goal.returns-clause-near
 returns-clause-near c =
-    subst (λ n. n < 480 * length c.args.plan.now) (sym (c.column_of.ensures ∙ ap (column_of c.args.plan.now) c.first_cell.ensures))
+    subst (λ n. n < 480 * length c.args.plan.now) (sym (c.column_of.ensures.exact ∙ ap (column_of c.args.plan.now) c.first_cell.ensures))
     (column_below c.args.plan.now (first_cell c.args.placement.length c.args.placement.slot) c.requires.sized
     (first_in_column c.args.plan.now c.args.placement.length c.args.placement.slot c.requires.sized c.requires.in_plan c.requires.kind))
 
 pub returns-clause-far : goal.returns-clause-far
 returns-clause-far c =
-    subst (λ n. n < 480 * length c.args.plan.now) (sym (c.column_of-2.ensures ∙ ap (column_of c.args.plan.now) c.last_cell.ensures))
+    subst (λ n. n < 480 * length c.args.plan.now) (sym (c.column_of-2.ensures.exact ∙ ap (column_of c.args.plan.now) c.last_cell.ensures))
     (column_below c.args.plan.now (last_cell c.args.placement.length c.args.placement.slot) c.requires.sized
     (last_in_column c.args.plan.now c.args.placement.length c.args.placement.slot c.requires.in_plan c.requires.kind))
