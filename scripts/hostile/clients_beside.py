@@ -6,7 +6,7 @@ import threading
 import time
 
 from browser_trials.chromium import Chromium, browser_here
-from model.asking import exchanged, get, post
+from model.asking import SECONDS, exchanged, get, post
 
 from .clients_at_once import LARGE_YARD
 from .clients_in_the_way import SLACK, TOO_SMALL, long_reply
@@ -210,14 +210,16 @@ def much_sent(checks, path):
 
 
 def much_unread(checks, path):
-    """More answers are left unread than may be held, and others are served beside them."""
+    """More answers are left unread than may be held, and others are served beside them, once these were made."""
     with Served(path) as server:
         server.same(checks, 'a reply of megabytes', post(long_reply()))
+        began = time.monotonic()
         for _time in range(2):              # one answer is still held while the next is made
             server.same(checks, 'the same, asked for', get('/replies/HAULA/1'))
-        before = most_memory(server)
+        before, patience = most_memory(server), 2 * SECONDS + 2 * UNREAD * (time.monotonic() - began)
         with Unread(server):
-            checks.expect('beside unread answers of megabytes', server.owed(get('/yard')), server.patient(get('/yard')))
+            came = server.patient(get('/yard'), patience)
+            checks.expect('beside unread answers of megabytes', server.owed(get('/yard')), came)
         checks.within('memory beside %d unread answers of megabytes, MB more' % UNREAD, MOST_HELD, most_memory(server) - before)
 
 

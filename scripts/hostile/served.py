@@ -100,9 +100,10 @@ class Served:
         """A request is answered as it is owed."""
         checks.expect(name, self.owed(request), self.ask(request))
 
-    def patient(self, request):
+    def patient(self, request, seconds=2 * SECONDS):
         """The same for a client that waits longer."""
         with self.connect() as connection:
+            connection.settimeout(seconds)
             connection.sendall(request.encode('latin-1'))
             return received(connection)
 
