@@ -46,7 +46,7 @@ module _ {S : Type 0} (g : Ghosts S) where
   -- leaves only that.
   pub record ShowsRegister (image : Image) (conn : Held S) : Type 0 where
     pub found : Held S
-    pub shows : Shows image found
+    pub shows : Shows g image found
     pub empty : HasCleanDisk (state g found) → HoldsNoTables image → (state g found).committed.schema ≡ no_schema
     pub clean : HasCleanDisk (state g conn) → HasCleanDisk (state g found)
     pub made : HasCleanDisk (state g conn) → KeepsRegister found conn ⊎ MakesRegister found conn

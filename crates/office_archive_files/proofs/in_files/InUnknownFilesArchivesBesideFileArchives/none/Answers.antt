@@ -2,7 +2,7 @@ use Rattle.std.proofs.Common.{ap, ◌∙◌}
 use Rattle.sqlite.specs.Files.{over_files}
 use Rattle.office_closing.specs.Register.{register_content}
 use Rattle.office_archive_files.proofs.ShelfLemmas.{none_held, none_shelved}
-use Rattle.office_archive_files.proofs.in_files.InUnknownFilesArchivesBeside.none.Goals as goal
+use Rattle.office_archive_files.proofs.in_files.InUnknownFilesArchivesBesideFileArchives.none.Goals as goal
 
 pub returns : goal.returns
 returns c =

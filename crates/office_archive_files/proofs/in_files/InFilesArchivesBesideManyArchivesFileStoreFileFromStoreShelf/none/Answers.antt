@@ -3,7 +3,7 @@ use Rattle.sqlite.specs.Files.{over_files}
 use Rattle.sqlite.specs.WalFiles.{image_at}
 use Rattle.office_closing.specs.Register.{register_content}
 use Rattle.office_archive_files.proofs.ShelfLemmas.{none_held, none_shelved}
-use Rattle.office_archive_files.proofs.in_files.InFilesArchivesBeside.none.Goals as goal
+use Rattle.office_archive_files.proofs.in_files.InFilesArchivesBesideManyArchivesFileStoreFileFromStoreShelf.none.Goals as goal
 
 pub returns : goal.returns
 returns g c =
