@@ -25,6 +25,7 @@ use Rattle.office_closing.specs.Transactions.{IsSettled}
 use Rattle.office_closing.specs.Closes.{Held}
 use Rattle.office_closing.specs.Files.{AreClean, Files, files}
 use Rattle.office_closing.specs.declared.faults.CloseFault.{CloseFault}
+use Rattle.office_commands.specs.Opening.{Shows}
 use Rattle.office_archive_files.specs.ClosedFiles.{AreLeft, ClosingsOfFilesAreNoEvents, HoldClosable, HoldsRegister, HoldsRows, OpenStoresAreHeld}
 use Rattle.office_archive_files.specs.ClosedStores.{OpenedRowsAreOrderly, OpensAfter}
 use Rattle.office_archive_files.specs.Closing.{ClosesOver, Images, ShowsRegister}
