@@ -2,12 +2,12 @@
 import itertools
 import os
 import shutil
-import socket
 import subprocess
 import tempfile
 import time
 
 import streams
+from model.asking import free_port
 from running import Cost, Server, Stream, instructions, least_seconds
 
 PART = 1000                 # interchanges that are timed together
@@ -337,13 +337,6 @@ def long_gone(stores, client):
             Row('GET /containers/.., left, %s of %s visits' % (which, format(VISITS, ',')), 'us',
                 served(stores, client, [store], 200, ['/containers/' + streams.box(serial), '200'])[0], None, '', True)
             for which, serial in (('newest', VISITS - 1), ('oldest', 0))]
-
-
-def free_port():
-    """A port that nobody listens on."""
-    with socket.socket() as free:
-        free.bind(('127.0.0.1', 0))
-        return free.getsockname()[1]
 
 
 def printed_by(top, crate):

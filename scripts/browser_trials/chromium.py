@@ -1,6 +1,6 @@
 """Debian's Chromium without a window, by the protocol of its own tools (DevTools) over a pair of pipes: one JSON object after
-the other, each ended by a zero byte. It reaches nothing but loopback: all other names lead nowhere. Unless it is
-to be plain it opens no connection ahead of a request, which would count among those that `office serve` accepts."""
+the other, each ended by a zero byte. It reaches nothing but loopback, by its address and by names that are given: all others lead
+nowhere. Unless it is to be plain it opens no connection ahead of a request, which would count among those that `office serve` accepts."""
 import base64
 import json
 import os
@@ -15,8 +15,9 @@ SECONDS = 120               # that the browser may take for anything
 FLAGS = [
     '--headless', '--no-sandbox', '--disable-gpu', '--hide-scrollbars', '--disable-background-networking',
     '--disable-component-update', '--disable-sync', '--disable-extensions', '--no-first-run', '--no-default-browser-check',
-    '--disable-features=OptimizationHints,MediaRouter,Translate', '--host-resolver-rules=MAP * ~NOTFOUND,EXCLUDE 127.0.0.1',
+    '--disable-features=OptimizationHints,MediaRouter,Translate',
     '--enable-blink-features=ComputedAccessibilityInfo', '--remote-debugging-pipe', 'about:blank']
+RULES = '--host-resolver-rules=%sMAP * ~NOTFOUND,EXCLUDE 127.0.0.1'
 PREFERENCES = {'net': {'network_prediction_options': 2}}
 
 # a page as it came: its address, the status and the text of the response
@@ -32,7 +33,7 @@ class Chromium:
     """A browser with one page, until it is left. `asked` are the addresses that it has asked for, `said` what it had to say of
     pages, and `moves` how often it has come to another page, or to another place of one."""
 
-    def __init__(self, path, folder, is_plain=False):
+    def __init__(self, path, folder, is_plain=False, names=()):
         user = os.path.join(folder, 'user')
         os.makedirs(os.path.join(user, 'Default'))
         with open(os.path.join(user, 'Default', 'Preferences'), 'w', encoding='utf-8') as file:
@@ -40,7 +41,8 @@ class Chromium:
         (asked, self.asks), (self.answers, answered) = os.pipe(), os.pipe()
         self.log = open(os.path.join(folder, 'chromium.log'), 'wb')
         self.process = subprocess.Popen(
-            ['sh', '-c', 'exec "$0" "$@" 3<&%d 4>&%d' % (asked, answered), path, *FLAGS, '--user-data-dir=' + user],
+            ['sh', '-c', 'exec "$0" "$@" 3<&%d 4>&%d' % (asked, answered), path, *FLAGS,
+             RULES % ''.join('MAP %s 127.0.0.1,' % name for name in names), '--user-data-dir=' + user],
             pass_fds=(asked, answered), stdin=subprocess.DEVNULL, stdout=self.log, stderr=self.log,
             env=dict(os.environ, TMPDIR=folder))
         os.close(asked)
@@ -114,12 +116,16 @@ class Chromium:
 
     def moved(self, act):
         """The page after an act that leads to one."""
+        self.gone(act)
+        return self.came()
+
+    def gone(self, act):
+        """Waits for the page to which an act leads."""
         before = self.moves
         act()
         while self.moves == before:
             message = self.message('another page')
             self.note(message.get('method'), message.get('params', {}))
-        return self.came()
 
     def came(self):
         """The page as it came."""

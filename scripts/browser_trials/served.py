@@ -9,6 +9,7 @@ from collections import namedtuple
 from model.asking import container, exchanged, free_port, post
 from model.cuts import cut
 from model.days import Day
+from model.files import contents, texts_of_day
 from model.http import response
 from model.names import Slot, slot_text
 from model.office import Office
@@ -85,15 +86,6 @@ def listed(setup, standings):
     return interchange(setup, 'line', 1, "COPRAR:D:95B:UN'BGM+45+L1+9'TDT+20+V12++++++9123456'", groups)
 
 
-def of_day(top):
-    """The interchanges of examples/day, in their order."""
-    folder = os.path.join(top, 'examples', 'day')
-    for name in sorted(os.listdir(folder)):
-        if name.endswith('.edi'):
-            with open(os.path.join(folder, name), encoding='latin-1', newline='') as file:
-                yield file.read()
-
-
 def released(value):
     """A value with the release character before each byte that would part it."""
     return re.sub(r"[?+:']", r'?\g<0>', value)
@@ -121,11 +113,8 @@ def random_day():
 
 def terminal(top):
     """The set-up of examples/terminal, whose longest blocks have 40 odd bays."""
-    folder, texts = os.path.join(top, 'examples', 'terminal'), []
-    for name in ('partners.csv', 'blocks.csv'):
-        with open(os.path.join(folder, name), encoding='latin-1', newline='') as file:
-            texts.append(file.read())
-    return read_setup(*texts)[0]
+    folder = os.path.join(top, 'examples', 'terminal')
+    return read_setup(*(contents(os.path.join(folder, name)) for name in ('partners.csv', 'blocks.csv')))[0]
 
 
 def yards_of_pictures(top):
@@ -133,7 +122,7 @@ def yards_of_pictures(top):
     window is as wide as."""
     six, wide = DEMO._replace(plan=[Block(letter, 8, 6, 4) for letter in 'ABCDEF']), terminal(top)
     yield Yard('empty', DEMO, '')
-    yield Yard('day', DEMO, ''.join(of_day(top)))
+    yield Yard('day', DEMO, ''.join(texts_of_day().values()))
     yield Yard('busy', six, ''.join(brought_in(six, stacked(six.plan, 0))))
     yield Yard('full', six, ''.join(brought_in(six, stacked(six.plan, 4))))
     yield Yard('wide', wide, ''.join(brought_in(wide, stacked(wide.plan, 0))))
@@ -145,7 +134,7 @@ def yards_of_pages(top):
     setup = terminal(top)
     standings = stacked(setup.plan, 0)[::MANY]
     yield Yard('empty', DEMO, '')
-    yield Yard('day', DEMO, ''.join(of_day(top)))
+    yield Yard('day', DEMO, ''.join(texts_of_day().values()))
     yield random_day()
     yield Yard('terminal', setup, ''.join(brought_in(setup, standings)) + listed(setup, standings))
 

@@ -32,11 +32,11 @@ def delivery(text, path='/interchanges', *fields):
     return head_of('POST', path, *fields, 'Content-Length: %d' % len(text)) + text
 
 
-def chunked(text, size):
+def chunked(text, size, path='/interchanges'):
     """The request that delivers a text in pieces, without its length."""
     pieces = [text[place:place + size] for place in range(0, len(text), size)]
     body = ''.join('%x\r\n%s\r\n' % (len(piece), piece) for piece in pieces)
-    return head_of('POST', '/interchanges', 'Transfer-Encoding: chunked') + body + '0\r\n\r\n'
+    return head_of('POST', path, 'Transfer-Encoding: chunked') + body + '0\r\n\r\n'
 
 
 class Asking:

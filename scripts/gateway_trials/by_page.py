@@ -121,7 +121,7 @@ def names(machine):
 
 def copied(checks, first, _second):
     """Copies as the page says, by the unit and by the store's user; root's are refused, and leave nothing that stops others."""
-    unit, by_hand = commands(OPERATIONS, 'Back up')
+    _log, unit, by_hand = commands(OPERATIONS, 'Back up')
     as_root = by_hand.replace('runuser -u office -- ', '')
     checks.expect('the page has a command by hand', True, as_root != by_hand)
     checks.expect('root, before there is a folder', 1, first.run(as_root)[2])

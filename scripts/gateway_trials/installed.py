@@ -8,10 +8,10 @@ import subprocess
 import tempfile
 import time
 
-from hostile.sampled import free_port
+from model.asking import free_port
+from model.files import TOP, written
 from model.setups import files_of
 
-TOP = os.path.dirname(os.path.dirname(os.path.dirname(os.path.abspath(__file__))))
 EXAMPLES = os.path.join(TOP, 'examples/gateway')
 HOST = 'office.test'
 SECONDS = 300               # that the office or a part may take to start or to stop, on a busy machine too
@@ -123,9 +123,7 @@ class Office:
         self.log = os.path.join(folder, 'logs/served.log')
         words = [program, 'init', self.store]
         for name, text in zip(('partners.csv', 'blocks.csv'), files_of(setup)):
-            words.append(os.path.join(folder, name))
-            with open(words[-1], 'w', encoding='latin-1', newline='') as file:
-                file.write(text)
+            words.append(written(folder, name, text))
         subprocess.run(words, stdout=subprocess.DEVNULL, check=True)
 
     def start(self):

@@ -3,6 +3,7 @@ import json
 import os
 import shutil
 import sqlite3
+import subprocess
 import tempfile
 
 from model.asking import get
@@ -19,7 +20,6 @@ NONE = 404, '{"answer":"none"}'
 METHOD = 405, '{"answer":"method"}'
 TOO_LONG = 413, '{"answer":"too long"}'
 BAD_REQUEST = 400, '{"answer":"bad request"}'
-NO_ANSWER = 503, '{"answer":"no answer"}'
 NOT_NOW = 503, '{"answer":"not now"}'
 READY = 200, '{"answer":"ready"}'
 # what the gateway adds to each answer
@@ -56,6 +56,12 @@ class Judge:
         """Status and text of the office's own answer to a question."""
         head, _end, body = response(self.office, get(path)).partition('\r\n\r\n')
         return int(head.split(' ')[1]), bare(body)
+
+    def explained(self, text):
+        """What is wrong with a text, as the command says it."""
+        words = [self.installed.office.program, 'explain', '-']
+        said = subprocess.run(words, input=text.encode('latin-1'), stdout=subprocess.PIPE, check=False).stdout
+        return 200, bare(said.decode('latin-1'))
 
     def standing(self, code):
         """A partner's line of the partners' report."""

@@ -6,11 +6,10 @@ import sys
 from time import monotonic
 
 from hostile.served import Checks
+from model.files import PROGRAM
 
 from . import browser, by_page, certificates, connections, copies, health, load, partners, people, standby, units
-from .installed import TOP
 
-PROGRAM = os.path.join(TOP, 'crates/office/out/office')
 WANTED = ['nginx', 'haproxy', 'openssl', 'curl']
 PARTS = {
     'partners': partners.try_all, 'certificates': certificates.try_all, 'people': people.try_all, 'load': load.try_all,

@@ -7,7 +7,7 @@ import socket
 import subprocess
 
 from hostile.served import gate_in
-from model.http import HTML
+from model.http import HTML, PAGE_FIELDS
 from model.pages import KINDS as PAGED
 from model.setup import DEMO
 
@@ -91,7 +91,9 @@ def pages(clients, judge):
                 refused(judge, name, role, 'GET', path, came)
                 continue
             judge.same(name, judge.answered(path), came)
-            judge.checks.expect(name + ': what it is', True, 'Content-Type: %s\r\n' % HTML in came.head + '\r\n')
+            fields = came.head.lower().split('\r\n')       # HAProxy writes names in small letters
+            wanted = ['Content-Type: ' + HTML, *PAGE_FIELDS]
+            judge.checks.expect(name + ': what it is', [1] * 5, [fields.count(field.lower()) for field in wanted])
 
 
 def refused(judge, name, role, method, path, came):
@@ -103,9 +105,7 @@ def refused(judge, name, role, method, path, came):
     judge.checks.expect(name, (403, True), (came.status, 'has the role <b>%s</b>' % role in came.body))
     fields = came.head.split('\r\n')
     judge.checks.expect(name + ': what it is', [1] * 5, [fields.count(field) for field in (
-        *ADDED, 'Content-Type: ' + HTML,
-        "Content-Security-Policy: default-src 'none'; style-src 'unsafe-inline'; img-src data:; form-action 'self'; "
-        "frame-ancestors 'none'; base-uri 'none'")])
+        *ADDED, 'Content-Type: ' + HTML, PAGE_FIELDS[0])])
     reply = re.fullmatch(r'/pages/replies/([\w.%-]+/\d+)', path) if role == 'gate' else None
     links = ['/pages/tickets/' + reply.group(1)] if reply else []
     judge.checks.expect(name + ': links', links + ['/'], re.findall("href='(.*?)'", came.body))
@@ -126,10 +126,11 @@ def accounts(clients, judge):
     """Only the EDI desk adds accounts."""
     port = clients.installed.people
     request = head_of('POST', '/partners/HAULC/gate', 'Content-Length: 0')
+    explain = delivery(gate_in(2), '/explain')
     for role in ('gate', 'planner', 'quay'):
         judge.same(role + ': an account', ROLE, clients.ask(role, request, port))
-        explain = delivery(gate_in(2), '/explain')
         judge.same(role + ': POST /explain', ROLE, clients.ask(role, explain, port))
+    judge.same('edi: POST /explain', judge.explained(gate_in(2)), clients.ask('edi', explain, port))
     for _time in range(2):
         judge.same('edi: an account', judge.added('HAULC', 'gate'), clients.ask('edi', request, port))
     wanted = 409, '{"answer":"refused","fault":"Kind"}'

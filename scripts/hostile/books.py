@@ -7,6 +7,7 @@ from contextlib import contextmanager
 from model.cuts import cut
 from model.days import Day
 from model.events import Added
+from model.files import written
 from model.http import response
 from model.office import Office, json_text
 from model.old_stores import write_store
@@ -22,6 +23,7 @@ from model.vessels import Vessels
 from .working import Delivering, Served, run
 
 NOT_NOW = '{"answer":"not now"}'
+NO_STORE = ('', 'store: Store\n', 3)
 ADDED = 0.08                # of what is sent, where accounts are added
 
 
@@ -67,10 +69,7 @@ class Book:
 
     def file(self, name, text):
         """A file in the folder, of those bytes."""
-        path = os.path.join(self.folder, name)
-        with open(path, 'w', encoding='latin-1', newline='') as file:
-            file.write(text)
-        return path
+        return written(self.folder, name, text)
 
     def init(self):
         """Makes the store."""

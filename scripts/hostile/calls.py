@@ -9,6 +9,7 @@ import re
 import shutil
 import tempfile
 from collections import Counter
+from functools import wraps
 
 from .books import Book, Different, expect, prefilled
 from .working import Delivering, run
@@ -22,6 +23,17 @@ FAULTS = [
 TEXTS = 3
 MOST_READS = 20             # of pread64, which are many, some alone
 MOST_DELIVERIES = 600       # until the log is moved
+
+
+def with_strace(trial):
+    """A trial that is not run where strace is not there."""
+    @wraps(trial)
+    def tried(program, seed, counted):
+        if STRACE:
+            trial(program, seed, counted)
+        else:
+            counted['not run: strace is not there'] = 1
+    return tried
 
 
 def strace(log, *words):
@@ -134,11 +146,9 @@ def each_call_of_init(program, seed, counted):
             init_killed_at(program, seed, kind, place, counted)
 
 
+@with_strace
 def try_calls(program, seed, counted):
     """A new store, and one whose log is about to be moved into the file."""
-    if not STRACE:
-        counted['not run: strace is not there'] = 1
-        return
     each_call_of_init(program, seed, counted)
     each_call(program, seed, 0, counted)
     each_call(program, seed, moving(program, seed), counted)

@@ -24,7 +24,7 @@ from model.rows import rows_in, rows_of
 from model.stream import status
 
 from .books import Book, Different, answer, expect, prefilled
-from .calls import STRACE, moving
+from .calls import STRACE, moving, with_strace
 from .commands import CODE, DELIVERED, KIND
 from .working import SECONDS, Served, request_of, run
 
@@ -295,11 +295,9 @@ def try_service(name, book, mark, counted):
     each_call(make, thinned(calls_of(make, mark), book.chance), counted)
 
 
+@with_strace
 def try_all(program, seed, counted):
     """A store that is made, reports on one, and servers of it and of one whose log is about to be moved into the file."""
-    if not STRACE:
-        counted['not run: strace is not there'] = 1
-        return
     make = partial(Init, program, seed)
     each_call(make, calls_of(make, None), counted, is_killed=False)
     with tempfile.TemporaryDirectory(prefix='kill9-') as folder:

@@ -5,11 +5,12 @@ import sys
 import time
 from concurrent.futures import ThreadPoolExecutor
 
-from . import clients_at_once, clients_beside, clients_by_curl, clients_in_the_way
+from . import clients_at_once, clients_beside, clients_by_curl, clients_in_the_way, clients_of_sites
 from .served import Checks
 
 TOP = os.path.dirname(os.path.dirname(os.path.dirname(os.path.abspath(__file__))))
-CHECKS = clients_in_the_way.CHECKS + clients_beside.CHECKS + clients_at_once.CHECKS + clients_by_curl.CHECKS
+CHECKS = (
+    clients_in_the_way.CHECKS + clients_beside.CHECKS + clients_at_once.CHECKS + clients_by_curl.CHECKS + clients_of_sites.CHECKS)
 
 
 def tried(checks, check, path):
@@ -24,14 +25,18 @@ def main():
     """Runs all checks, those that wait beside the others. Gives the status."""
     named = sys.argv[1] if len(sys.argv) > 1 else os.environ.get('OFFICE')
     path = os.path.realpath(named or os.path.join(TOP, 'crates/office/out/office'))
+    if not set(sys.argv[2:]) <= {check.__name__ for check in CHECKS}:
+        print('clients: %s' % ' '.join(check.__name__ for check in CHECKS))
+        return 2
     if not os.access(path, os.X_OK):
         print('clients: %s is not built (make build)' % path)
         return 2
     signal.signal(signal.SIGINT, signal.default_int_handler)     # which a shell may have had ignored, and its servers too
-    checks, started = Checks(), time.monotonic()
+    checks, started, names = Checks(), time.monotonic(), sys.argv[2:]
+    chosen = [check for check in CHECKS if not names or check.__name__ in names]
     with ThreadPoolExecutor(len(clients_in_the_way.CHECKS) + 1) as pool:
-        waiting = [pool.submit(tried, checks, check, path) for check in clients_in_the_way.CHECKS]
-        for check in CHECKS[len(waiting):]:
+        waiting = [pool.submit(tried, checks, check, path) for check in chosen if check in clients_in_the_way.CHECKS]
+        for check in chosen[len(waiting):]:
             tried(checks, check, path)
         for done in waiting:
             done.result()

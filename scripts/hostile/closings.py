@@ -23,7 +23,7 @@ from model.setups import files_of
 from model.stream import status
 
 from .books import Book, Different, expect, prefilled
-from .calls import STRACE
+from .calls import with_strace
 from .calls_of_others import KILLED, MEMORY, STORE, UNWRITTEN, calls_of, each_call
 from .commands import UNMADE, each_room, refuse_each
 from .power import File, replayed, written_by
@@ -312,11 +312,9 @@ def refuse_closing(which, refusing, _office, _text, steps, counted):
 
 # ---- all
 
+@with_strace
 def try_all(program, seed, counted):
     """A store that was never closed, one that was, and a large one."""
-    if not STRACE:
-        counted['not run: strace is not there'] = 1
-        return
     for is_closed in (False, True):
         with tempfile.TemporaryDirectory(prefix='kill9-') as folder:
             prepared = Prepared(program, folder, seed, is_closed)

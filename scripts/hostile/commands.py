@@ -20,7 +20,7 @@ from model.rows import rows_in, rows_of
 from model.setup import DEMO
 
 from .books import NOT_NOW, Different, expect, prefilled
-from .calls import FAULTS, KINDS, STRACE, calls_in, places, strace
+from .calls import FAULTS, KINDS, calls_in, places, strace, with_strace
 from .full import limited
 from .working import run
 
@@ -138,11 +138,9 @@ def each_room(make, counted):
                 raise Different('%s, files of %d bytes: %s' % (tried.name, size, different)) from different
 
 
+@with_strace
 def try_all(program, seed, counted):
     """An addition to a store to which something was delivered, and migrations of stores of versions 1 and 2."""
-    if not STRACE:
-        counted['not run: strace is not there'] = 1
-        return
     with tempfile.TemporaryDirectory(prefix='kill9-') as folder:
         book = prefilled(program, folder, seed, DELIVERED)
 

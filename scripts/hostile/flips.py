@@ -6,6 +6,7 @@ import tempfile
 from contextlib import closing
 
 from model.damaged import yard_of
+from model.files import flip
 from model.opened import fault_of_rows
 from model.rows import COLUMNS, copied, copied_to, faults_of, rows_of, tables_of
 
@@ -24,16 +25,6 @@ def settled(store, folder):
         other.execute('SELECT count(*) FROM visit').fetchall()
     expect('a log behind SQLite', False, os.path.exists(path + '-wal'))
     return path
-
-
-def flip(path, chance):
-    """Turns one bit of a file over."""
-    place = chance.randrange(os.path.getsize(path))
-    with open(path, 'r+b') as file:
-        file.seek(place)
-        byte = file.read(1)[0]
-        file.seek(place)
-        file.write(bytes([byte ^ 1 << chance.randrange(8)]))
 
 
 def read_by_sqlite(path):

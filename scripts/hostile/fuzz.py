@@ -7,11 +7,11 @@ from collections import Counter, deque
 from concurrent.futures import ProcessPoolExecutor
 
 from model.beside import EVERY_KIND
+from model.files import PROGRAM
 
 from .bounded import peaks_of
 from .rounds import run_round
 
-TOP = os.path.dirname(os.path.dirname(os.path.dirname(os.path.abspath(__file__))))
 COUNT = 1000000
 MOST_GROWTH = 2048          # KiB, on ten times the input
 NOT_MUTATED = 'as they were, beside these'
@@ -103,7 +103,7 @@ def main():
     if len(words) > 2 or not all(word.isdigit() and int(word) > 0 for word in words):
         print(USAGE, end='', file=sys.stderr)
         return 2
-    path = os.path.realpath(os.environ.get('OFFICE') or os.path.join(TOP, 'crates/office/out/office'))
+    path = os.path.realpath(os.environ.get('OFFICE') or PROGRAM)
     if not os.path.exists(path):
         print('%s is not built: make build' % path, file=sys.stderr)
         return 2

@@ -5,7 +5,6 @@ is owed, and then what it is owed, or what a text gets that was taken before; or
 is in the rows, and nothing else; and the text once more gets what it is owed.
 """
 import os
-import shutil
 import signal
 import subprocess
 import sys
@@ -14,18 +13,17 @@ from collections import Counter
 from concurrent.futures import ProcessPoolExecutor, as_completed
 from copy import deepcopy
 
+from model.files import PROGRAM, SETUP, texts_of_day, written
 from model.office import Office
-from model.rows import rows_in, rows_of
+from model.rows import copy_files, rows_in, rows_of
 from model.setup import DEMO
 from model.stream import lines
 
-from .books import Different, expect
-from .memory_of_others import OTHERS, SETUP
+from .books import NOT_NOW, Different, expect
+from .memory_of_others import OTHERS
 from .rounds import room
 
 HERE = os.path.dirname(os.path.abspath(__file__))
-TOP = os.path.dirname(os.path.dirname(HERE))
-NOT_NOW = '{"answer":"not now"}'
 LAST_TAKEN = '12-haulier-a-gate-out.edi'       # of the day; after it are repeats and a clash
 
 # what a process may tell that had no memory before it delivered anything
@@ -57,27 +55,15 @@ class Refusing:
 
     def file(self, name, text):
         """A file of that text."""
-        path = os.path.join(self.folder, name)
-        with open(path, 'w', encoding='latin-1', newline='') as file:
-            file.write(text)
-        return path
+        return written(self.folder, name, text)
 
     def copy_to(self, path):
         """The store and its log, to another place."""
-        self.copy(self.store, path)
+        copy_files(self.store, path)
 
     def copy_from(self, path):
         """The store and its log, from another place."""
-        self.copy(path, self.store)
-
-    @staticmethod
-    def copy(source, target):
-        """A store and its log, if it has one."""
-        for end in ('', '-wal'):
-            if os.path.exists(target + end):
-                os.remove(target + end)
-            if os.path.exists(source + end):
-                shutil.copyfile(source + end, target + end)
+        copy_files(path, self.store)
 
 
 def line_of(office, text):
@@ -134,21 +120,12 @@ def refuse_each(refusing, name, before, text, steps, counted):
     refusing.copy_from(start)
 
 
-def texts_of_day():
-    """The texts of examples/day, by their names, in their turn."""
-    texts, folder = {}, os.path.join(TOP, 'examples/day')
-    for name in sorted(os.listdir(folder)):
-        if name.endswith('.edi'):
-            with open(os.path.join(folder, name), encoding='latin-1', newline='') as file:
-                texts[name] = file.read().strip()
-    return texts
-
-
 def before(program, folder, last):
     """A store to which the texts of the day before one were delivered, its office, and that text."""
     refusing, office = Refusing(program, folder), Office(DEMO, keeps_fold=True)
     refusing.run(['init', refusing.store, *SETUP])
-    for name, text in texts_of_day().items():
+    for name, of_file in texts_of_day().items():
+        text = of_file.strip()
         if name == last:
             return refusing, office, text
         wanted = line_of(office, text) + '\n'
@@ -182,7 +159,7 @@ def try_all(program, steps, jobs, counted):
 
 def main():
     """Gives the status: 1 at the first difference, 2 where the program is not built."""
-    program = os.path.realpath(os.environ.get('OFFICE', os.path.join(TOP, 'crates/office/out/office')))
+    program = os.path.realpath(os.environ.get('OFFICE', PROGRAM))
     if not os.access(program, os.X_OK):
         print('%s is not built: make build' % program, file=sys.stderr)
         return 2

@@ -11,7 +11,8 @@ from functools import partial
 
 from model.asking import account, exchanged, free_port, get, post
 from model.commands import outcome
-from model.http import response, response_text
+from model.files import SETUP
+from model.http import response
 from model.office import Office, json_text
 from model.pages import KINDS as PAGED
 from model.reports import REPORTS, WHOLE, printed
@@ -22,12 +23,10 @@ from model.syntax import sender_of
 from model.vessels import REPORTED
 
 from .books import Different, expect
+from .calls_of_others import NOT_NOW
 from .closings import CLOSED, SEED, Prepared, refuse_closing
 from .commands import CODE, KIND, SHARES, refuse_addition, refuse_migration
 
-TOP = os.path.dirname(os.path.dirname(os.path.dirname(os.path.abspath(__file__))))
-SETUP = [os.path.join(TOP, 'examples/setup', name) for name in ('partners.csv', 'blocks.csv')]
-NOT_NOW = response_text(503, 'application/json', '{"answer":"not now"}')
 
 UNUSED = 'ABCU9999990'      # a container that never came
 PRINTING = 20               # more allocations than printing takes that nothing is found

@@ -5,6 +5,8 @@ its weight.
 """
 import re
 
+from model.requests import weighted
+
 # bytes that mean something somewhere, and values that stand at a limit
 TELLING_BYTES = "'+:?*;!|UNABZHTCO0123459 ~,\"-./%\r\n\t\x00\x1f\x7f\x80\xc3\xe9\xff"
 TELLING_VALUES = [
@@ -22,11 +24,6 @@ FIELDS = [
     '\xe9', '"A"', '"A""B"', '"A,B"', '"A', 'A"', 'gate', 'line', 'quay', 'yard', 'Gate', 'gate-in', 'gate-out', 'yard-move',
     'load-list', 'discharge-list', 'load-report', 'discharge-report', 'visits', 'TERM1', 'HAULA', 'LINEA']
 LONGEST_RUN = 12
-
-
-def weighted(random, table):
-    """A value of a table, by weight."""
-    return random.choices([value for _weight, value in table], [weight for weight, _value in table])[0]
 
 
 # ---- bytes

@@ -12,13 +12,12 @@ from model.rows import rows_in, rows_of
 from model.setup import DEMO
 from model.setups import files_of
 
-from .books import Book, Different, expect, naming, prefilled
+from .books import NO_STORE, Book, Different, expect, naming, prefilled
 from .working import Delivering, Served, run
 
 TRIALS = 40                 # of processes that start at once
 AT_ONCE = [2, 2, 3, 4]
 TEXTS = 3                   # of each
-NO_STORE = ('', 'store: Store\n', 3)
 
 
 def second(book, counted):

@@ -10,11 +10,10 @@ from contextlib import closing
 
 from model.rows import rows_in, rows_of
 
-from .books import expect, naming, prefilled
+from .books import NO_STORE, expect, naming, prefilled
 from .full import Mounted
 from .working import Delivering, Served, post, run
 
-NO_STORE = ('', 'store: Store\n', 3)
 BEFORE = 12                 # deliveries
 NOBODY = 65534              # root may write what is read-only, so its trials run as nobody
 LEAVING = 20                # readers that go away

@@ -13,7 +13,7 @@ from model.reports import printed
 from model.rows import rows_in, rows_of
 
 from .books import Different, answer, expect, prefilled
-from .calls import STRACE, moving
+from .calls import STRACE, moving, with_strace
 from .working import Delivering, run
 
 TEXTS = 6
@@ -164,11 +164,9 @@ def losses(book, counted):
             expect('the bytes of %s, by its calls' % path, True, real.read() == file.synced)
 
 
+@with_strace
 def try_losses(program, seed, counted):
     """A new store, and one whose log is about to be moved into the file."""
-    if not STRACE:
-        counted['not run: strace is not there'] = 1
-        return
     for before in (0, moving(program, seed)):
         with tempfile.TemporaryDirectory(prefix='kill9-') as folder:
             book = prefilled(program, folder, seed, before)

@@ -20,7 +20,7 @@ from model.rows import REGISTER, copied_to, copy_files
 from model.words import text_of
 
 from .books import Different, expect, prefilled
-from .calls import STRACE
+from .calls import with_strace
 from .calls_of_others import KILLED, MEMORY, NO_SETUP, STORE, UNREAD, calls_of, each_call, thinned
 from .closings import Prepared, large
 from .mutations import mutated_interchange
@@ -119,11 +119,9 @@ def try_one(make, mark, chance, counted):
     each_call(make, thinned(calls_of(make, mark), chance), counted)
 
 
+@with_strace
 def try_all(program, seed, counted):
     """Texts of a store, of a large one, and of one that was closed; and a file, explained in two ways."""
-    if not STRACE:
-        counted['not run: strace is not there'] = 1
-        return
     with tempfile.TemporaryDirectory(prefix='kill9-') as folder:
         book = prefilled(program, folder, seed, DELIVERED)
         for passed in PASSED:

@@ -18,7 +18,7 @@ from model.requests import (
     FORMS, get, known, of_length, own_delivery, post, post_as, question, random_request, report_path, request, typed)
 from model.setup import DEMO, is_utf8, read_setup
 from model.setups import Files, files_of
-from model.stores import BOUNDS, Beside
+from model.stores import BOUNDS, HOSTS, Beside
 from model.stream import answers, lines, status
 from model.syntax import LONGEST_TEXT, segments_of
 
@@ -179,9 +179,9 @@ class Round:
         if self.seed % LARGE_EVERY == 0:
             found.append((post(self.random, self.large()), True))
         self.random.shuffle(found)
-        ahead = self.random.choice(BOUNDS)
-        responses = [(text, response(self.office, text, ahead)) for text, _is_mutated in found]
-        self.program.serve(responses, partial(self.beside.served, self.name), ahead)
+        ahead, host = self.random.choice(BOUNDS), self.random.choice(HOSTS)
+        responses = [(text, response(self.office, text, ahead, host)) for text, _is_mutated in found]
+        self.program.serve(responses, partial(self.beside.served, self.name), ahead=ahead, host=host)
         self.beside.counted.update(kind for _text, wanted in responses for kind in kinds_told(wanted))
 
     def bodies(self):

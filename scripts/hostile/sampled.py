@@ -7,7 +7,7 @@ import tempfile
 import termios
 import time
 
-from model.asking import SECONDS, exchanged, free_port
+from model.asking import SECONDS
 from model.stores import Program
 
 
@@ -76,22 +76,6 @@ class Sampled(Program):
         except BrokenPipeError:
             pass
 
-    def serve(self, requests, expect, ahead=None):
-        """Sends each request on a connection of its own, and hands on the response that it should have beside the one that
-        it has; its memory is sampled before the last. By the path of a partner numbers may be above its next one by so many,
-        or by any."""
-        port = free_port()
-        words = [self.path, 'serve', self.store, str(port), str(len(requests))]
-        words += [] if ahead is None else ['--ahead', str(ahead)]
-        with subprocess.Popen(words, stdout=subprocess.PIPE, encoding='utf-8') as process:
-            try:
-                expect('listening', 'listening 127.0.0.1:%d\n' % port, process.stdout.readline())
-                for place, (request, wanted) in enumerate(requests):
-                    if place == len(requests) - 1:
-                        self.sample('serve', process)
-                    expect('request %d, %r' % (place, request[:300]), wanted, exchanged(port, request))
-                expect('served', ('served %d\n' % len(requests), 0), (process.stdout.read(), process.wait(SECONDS)))
-            except (OSError, subprocess.TimeoutExpired) as fault:
-                expect('a connection', 'an answer', repr(fault))
-            finally:
-                process.kill()
+    def before_last(self, process):
+        """Samples the memory of a server."""
+        self.sample('serve', process)

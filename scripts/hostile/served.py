@@ -12,7 +12,7 @@ from model.http import response
 from model.office import Office
 from model.setup import DEMO
 from model.setups import files_of
-from model.stores import Program
+from model.stores import Program, options_of
 
 GATE_IN = (
     "UNB+UNOA:3+%s+TERM1+240305:0910+%d'UNH+1+CODECO:D:95B:UN'BGM+34+G1+9'EQD+CN+%s+22G1:102:5+++5'UNT+4+1'UNZ+1+%d'")
@@ -53,21 +53,21 @@ class Checks:
 
 
 class Served:
-    """A server on a port of its own, until it is left. `count` is how many connections it serves, and `ahead` how far above
-    the next one a number may be by the path of its partner."""
+    """A server on a port of its own, until it is left. `count` is how many connections it serves, `ahead` how far above the
+    next one a number may be by the path of its partner, and `host` a name of the server."""
 
-    def __init__(self, path, setup=DEMO, count=1000000, ahead=None):
+    def __init__(self, path, setup=DEMO, count=1000000, ahead=None, host=None):
         self.folder = tempfile.TemporaryDirectory(prefix='clients-')
         self.program, self.office = Program(path, self.folder.name), Office(setup, keeps_fold=True)
         self.program.init(*files_of(setup))
-        self.count, self.ahead, self.process, self.port = count, ahead, None, None
+        self.count, self.ahead, self.host, self.process, self.port = count, ahead, host, None, None
         self.start()
 
     def start(self):
         """Serves the store, at a new port."""
         self.port = free_port()
         words = [self.program.path, 'serve', self.program.store, str(self.port), str(self.count)]
-        words += ['--ahead', str(self.ahead)] if self.ahead else []
+        words += options_of(self.ahead, self.host)
         self.process = subprocess.Popen(words, stdout=subprocess.PIPE, encoding='utf-8')
         self.process.stdout.readline()
 
@@ -94,7 +94,7 @@ class Served:
 
     def owed(self, request):
         """The response that the model gives."""
-        return response(self.office, request, self.ahead)
+        return response(self.office, request, self.ahead, self.host)
 
     def same(self, checks, name, request):
         """A request is answered as it is owed."""

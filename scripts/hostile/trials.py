@@ -4,10 +4,10 @@ import sys
 from collections import Counter
 from time import monotonic
 
+from model.files import PROGRAM
+
 from .books import Different
 
-TOP = os.path.dirname(os.path.dirname(os.path.dirname(os.path.abspath(__file__))))
-PROGRAM = os.path.join(TOP, 'crates/office/out/office')
 
 
 def done(name, trial, *given):

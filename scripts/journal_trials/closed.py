@@ -101,7 +101,7 @@ def followed_once(program, seed, counted):
             if len(book.office.register.archives) < MOST_ARCHIVES and book.chance.random() < CLOSES:
                 put_away(book, counted)
         if seed % 2:
-            followed(Standby(book, other).begun(), counted, between=between)
+            followed(Standby(book, other).init(), counted, between=between)
         else:
             followed(WithArchives(book, other).begun_as(book.store, book.office), counted, between=between)
         hands_out(book)

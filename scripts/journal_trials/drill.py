@@ -111,7 +111,7 @@ def in_their_order(first, copy, stood, copied_at, counted):
         with tempfile.TemporaryDirectory(prefix='journal-') as folder:
             back = Standby(first, folder)
             if way == 'to a new store':
-                back.begun().takes_texts_of(first)
+                back.init().takes_texts_of(first)
             elif way == 'by a pipe':
                 back.begun_as(copy.store, copy.office).takes_texts_of(first, copied_at)
             else:
@@ -131,7 +131,7 @@ def stands_by(first, stood, texts, counted):
             before = Made(first, other)
             expect('init', ('ready\n', '', 0), run(before.program, 'init', before.store, *before.files))
             delivered(before, texts[:TEXTS - missing])
-            standby = Standby(before, folder).begun()
+            standby = Standby(before, folder).init()
             standby.whole_turn()
             again = sorted(first.sent[TEXTS - missing:], key=lambda pair: pair[0], reverse=True)
             delivered(standby, [text for _sender, text in again])

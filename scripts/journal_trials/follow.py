@@ -14,12 +14,12 @@ from hostile.books import expect, naming
 from hostile.kills import Moment, Pace
 from hostile.working import Delivering, run
 from model.deliveries import kept_texts
+from model.files import TOP
 from model.office import json_text
 from model.rows import rows_in
 
 from .offices import Made, are_same, call, hands_out, is_addition, new_book, send
 
-TOP = os.path.dirname(os.path.dirname(os.path.dirname(os.path.abspath(__file__))))
 FOLLOW = os.path.join(TOP, 'examples/standby/bin/office-follow')
 
 TURNS = 6                   # of a standby, each with a kill by chance
@@ -64,11 +64,6 @@ class Standby(Made):
         self.environment = dict(
             os.environ, OFFICE=script(folder, 'office', OFFICE), FIRST=script(folder, 'first', FIRST), STORE=book.store,
             PROGRAM=self.program, CALLS=self.notes, ONCE='yes', KILLED='0', AFTER='1')
-
-    def begun(self):
-        """Begun by the set-up of the first."""
-        expect('init', ('ready\n', '', 0), run(self.program, 'init', self.store, *self.files))
-        return self
 
     def brought(self):
         """How many texts came since it was looked at last. What it has is what the first had after as many."""
@@ -208,7 +203,7 @@ def try_one(program, seed, counted):
         send(book, book.chance.randint(0, MOST))
         standby = Standby(book, other)
         if seed % 2:
-            standby.begun()
+            standby.init()
         else:
             standby.begun_as(book.store, book.office)
         followed(standby, counted)

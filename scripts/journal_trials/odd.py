@@ -57,7 +57,7 @@ def try_missing(program, seed, counted):
         with tempfile.TemporaryDirectory(prefix='journal-') as other:
             lacks_it(book, other, counted)
         with tempfile.TemporaryDirectory(prefix='journal-') as other:
-            standby = Standby(book, other).begun()
+            standby = Standby(book, other).init()
             standby.whole_turn()
             are_same(book, standby)
             counted['an account is missing: office-follow adds it first'] += 1
@@ -134,7 +134,7 @@ def try_mixed(program, seed, counted):
         with tempfile.TemporaryDirectory(prefix='journal-') as other:
             are_same(book, rebuilt(book, other))
         with tempfile.TemporaryDirectory(prefix='journal-') as other:
-            standby = Standby(book, other).begun()
+            standby = Standby(book, other).init()
             standby.whole_turn()
             are_same(book, standby)
 

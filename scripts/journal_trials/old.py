@@ -130,7 +130,7 @@ def opened(program, seed, size, counted):
         with tempfile.TemporaryDirectory(prefix='journal-') as other:
             are_same(book, rebuilt(book, other))
         with tempfile.TemporaryDirectory(prefix='journal-') as other:
-            followed(Standby(book, other).begun(), counted, TURNS)
+            followed(Standby(book, other).init(), counted, TURNS)
     counted['version 3, pages of %d, opened, rebuilt and followed' % size] += 1
 
 

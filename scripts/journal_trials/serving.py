@@ -11,8 +11,9 @@ from hostile.books import expect, naming
 from hostile.kills import Moment, Pace
 from hostile.working import Served
 from model.deliveries import kept_texts
+from model.files import TOP
 
-from .follow import TOP, Standby
+from .follow import Standby
 from .offices import are_same, new_book
 
 FIRST = os.path.join(TOP, 'examples/standby/bin/office-first')
@@ -103,4 +104,4 @@ def try_all(program, lists, seed, counted):
         with naming('seed %d' % each), tempfile.TemporaryDirectory(prefix='journal-') as folder:
             book, other = new_book(program, folder, each), os.path.join(folder, 'standby')
             os.mkdir(other)
-            followed(AsksServed(book, other).begun(), counted)
+            followed(AsksServed(book, other).init(), counted)

@@ -3,7 +3,7 @@ import socket
 
 from .names import check_digit
 
-SECONDS = 60                # that an answer over a socket may take
+SECONDS = 300               # that an answer over a socket may take, by a slow program on a busy machine too
 
 
 def container(serial, owner='ABCU'):

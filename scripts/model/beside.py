@@ -9,13 +9,12 @@ from . import (
     cases, closed, closed_alone, counts, crowded, damaged, directory, full, meanings, migrated, refused_closings, replaced, samples,
     shown, stores, worked)
 from .days import stream
+from .files import PROGRAM, TOP
 from .messages import MESSAGE_FAULTS
 from .office import Office
 from .stream import answers, differences, lines, status
 from .syntax import FAULTS
 
-TOP = os.path.dirname(os.path.dirname(os.path.dirname(os.path.abspath(__file__))))
-PROGRAM = os.path.join(TOP, 'crates/office/out/office')
 
 # streams, deliveries a stream, share of deliveries with altered bytes: some 60 seconds in all
 MIXES = [(60, 300, 0.0), (600, 20, 0.1)]

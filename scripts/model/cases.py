@@ -41,14 +41,14 @@ SETUPS = {
     'two blocks, the second first': DEMO._replace(
         plan=[Block('B', bays=4, rows=2, tiers=3), Block('A', bays=4, rows=2, tiers=3)]),
 }
-WORDS = 'set-up stream deliver answer status cut request response look told account ahead page say'.split()
+WORDS = 'set-up stream deliver answer status cut request response look told account ahead host page say'.split()
 
 # texts are those that are delivered by themselves, with a line each; steps are these and the accounts that are added between
 # them, each as an event with its line; requests are pairs of a request and its response; where there are none of all these,
 # the stream is a text. The status is the stream's, which may be cut anywhere. Looks are pairs of a path and the body that
-# answers it after the texts; `ahead` is the bound of the server, if it has one; `said` are the pairs of word and value that
-# stand there
-Case = namedtuple('Case', 'name setup stream texts lines steps status is_cut requests looks ahead said')
+# answers it after the texts; `ahead` is the bound of the server and `host` its name, if it has them; `said` are the pairs of word
+# and value that stand there
+Case = namedtuple('Case', 'name setup stream texts lines steps status is_cut requests looks ahead host said')
 
 
 def case_of(part):
@@ -56,14 +56,15 @@ def case_of(part):
     name, *rest = part.splitlines()
     said = [line.partition(' ')[::2] for line in rest if line and not line.startswith('#')]
     values = {word: [value for other, value in said if other == word] for word in WORDS}
-    setups, streams, texts, lines_said, statuses, cuts, requests, responses, looks, told, added, bounds = (
-        values[word] for word in WORDS[:12])
+    setups, streams, texts, lines_said, statuses, cuts, requests, responses, looks, told, added, bounds, names = (
+        values[word] for word in WORDS[:13])
     kinds = [
         len(streams) > 0 and len(statuses) == 1, 0 < len(texts + added) == len(lines_said),
         0 < len(requests) == len(responses)]
     others = (
         len(statuses) - kinds[0], len(texts + added) * (not kinds[1]), len(responses) * (not kinds[2]),
-        len(looks) - len(told), len(looks) * (not kinds[1]), len(bounds) * (not kinds[2]))
+        len(looks) - len(told), len(looks) * (not kinds[1]),
+        len(bounds + names) * (not kinds[2]))
     if kinds.count(True) != 1 or any(others) or len(setups) > 1 or not {word for word, _value in said} <= set(WORDS):
         raise ValueError('cases.txt: ' + name)
     events = [event_of(word, value) for word, value in said if word in ('deliver', 'account')]
@@ -73,7 +74,8 @@ def case_of(part):
         name, SETUPS[setups[0]] if setups else DEMO, read(''.join(streams)), [read(text) for text in texts], lines_of_texts,
         steps, int(statuses[0]) if statuses else None, cuts == ['anywhere'],
         [(read(request), read(wanted)) for request, wanted in zip(requests, responses)],
-        list(zip(looks, map(read, told))), int(bounds[0]) if bounds else None, said)
+        list(zip(looks, map(read, told))), int(bounds[0]) if bounds else None,
+        names[0] if names else None, said)
 
 
 def event_of(word, value):
@@ -215,13 +217,13 @@ class Cases:
             program.init(*files_of(case.setup))
             program.serve(
                 requests, lambda what, wanted, got: self.expect(case.name + ', ' + what, 'serve', wanted, got),
-                partial(exchanged, pieces_of=pieces_of), case.ahead)
+                partial(exchanged, pieces_of=pieces_of), case.ahead, case.host)
 
     def requests(self, case):
         """Requests one after the other, and the response to each."""
         office = Office(case.setup)
         for request, wanted in case.requests:
-            given = response(office, request, case.ahead)
+            given = response(office, request, case.ahead, case.host)
             self.expect('%s, %r' % (case.name, request[:300]), 'the model', wanted, given)
         if self.with_stores:
             for pieces_of in (in_two, in_bytes):

@@ -18,6 +18,7 @@ from .commands import texts_before_lost
 from .days import NEWCOMERS, SENDERS, Day, streamed
 from .deliveries import first_text, kept_texts
 from .events import Added, refusal
+from .files import flip
 from .naming import SIDES
 from .reports import OF_LISTS, WHOLE
 from .requests import every_key, get, of_archive, path_of, question, random_requests
@@ -394,12 +395,7 @@ def spoiled(path, closable):
     if chance.random() < 0.4:
         os.truncate(name, chance.randrange(os.path.getsize(name)))
         return
-    with open(name, 'r+b') as file:
-        place = chance.randrange(os.path.getsize(name))
-        file.seek(place)
-        byte = file.read(1)[0]
-        file.seek(place)
-        file.write(bytes([byte ^ 1 << chance.randrange(8)]))
+    flip(name, chance)
 
 
 def read_by_sqlite(path):

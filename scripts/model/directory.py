@@ -8,6 +8,7 @@ import re
 from collections import Counter, namedtuple
 
 from .cases import all_cases
+from .files import contents
 from .office import Office, json_text
 from .samples import heading_of
 from .setup import DEMO
@@ -90,12 +91,6 @@ def answered(texts):
     """Each text with the line that answers it, one after the other at a new office."""
     office = Office(DEMO)
     return [(text, json_text(office.answer(text))) for text in texts]
-
-
-def contents(path):
-    """A file's text, one character for each byte."""
-    with open(path, encoding='latin-1', newline='') as file:
-        return file.read()
 
 
 def all_texts(top):

@@ -7,6 +7,7 @@ import re
 from collections import namedtuple
 
 from .deliveries import kept_texts, run
+from .explained import NOBODY, printed
 from .keys import PARTS, decoded, read_key
 from .moments import are_digits
 from .office import json_text
@@ -30,11 +31,12 @@ HEAD = re.compile(r'(?:%s)*(%s) (%s) HTTP/1\.[01]%s((?:%s:%s%s)*)%s' % (
 Head = namedtuple('Head', 'method target fields length')
 
 # where a path leads, the method that it has, and what is asked there: a kind of report, one of the three that change the
-# office, or the kept texts
+# office, the kept texts, or what is wrong with a text
 ROUTES = [
     (r'/interchanges', 'POST', 'delivery'),
     (r'/partners/([^/]+)/interchanges', 'POST', 'own delivery'),
     (r'/partners/([^/]+/[^/]+)', 'POST', 'account'),
+    (r'/explain', 'POST', 'explain'),
     (r'/partners', 'GET', 'partners'),
     (r'/partners/([^/]+)', 'GET', 'partner'),
     (r'/health', 'GET', 'health'),
@@ -54,6 +56,11 @@ ROUTES = [
     (r'/texts/([^/]+)', 'GET', 'texts'),
 ]
 HTML = 'text/html; charset=utf-8'
+# what each body of that type carries: it runs nothing, loads nothing, stands in no page of another's, and nobody keeps it
+PAGE_FIELDS = [
+    "Content-Security-Policy: default-src 'none'; style-src 'unsafe-inline'; img-src data:; form-action 'self'; "
+    "frame-ancestors 'none'; base-uri 'none'",
+    'X-Content-Type-Options: nosniff', 'Referrer-Policy: no-referrer', 'Cache-Control: no-store']
 # what the body of a report is, if not plain text
 CONTENT_TYPES = {'reply': 'application/json', 'yardcsv': 'text/csv', 'contrl': 'application/EDIFACT',
     'texts': 'application/EDIFACT', 'picture': HTML,
@@ -67,7 +74,7 @@ PAGES = '/pages'
 # and before that of a report of an archive: its place, 1 to 9999
 ARCHIVE = re.compile(r'/archives/([1-9][0-9]{0,3})(/.*)', re.DOTALL)
 # what is no report
-NO_REPORTS = ('delivery', 'own delivery', 'account', 'texts')
+NO_REPORTS = ('delivery', 'own delivery', 'account', 'texts', 'explain')
 
 PHRASES = {
     200: 'OK', 202: 'Accepted', 400: 'Bad Request', 403: 'Forbidden', 404: 'Not Found', 405: 'Method Not Allowed',
@@ -101,6 +108,42 @@ def head_of(request):
         raise Refusal(400, 'bad request')
     return Head(method, target, fields, len(found.group()))
 
+
+def values_of(head, name):
+    """The values of the fields of that name; the case of its letters doesn't matter."""
+    return [value for other, value in head.fields if other.lower() == name]
+
+
+# ---- from where, and by which name
+
+def small(text):
+    """A text with small letters of ASCII for capitals."""
+    return text.encode('latin-1').lower().decode('latin-1')
+
+
+def is_own(value, name):
+    """Whether a value of Host is this machine: a loopback address, `localhost` or the name of the server, with a port or none."""
+    found = re.fullmatch(r'(\[::1\]|[^:]*)(:[0-9]{0,5})?', value)
+    host = small(found.group(1)) if found else None
+    if host and re.fullmatch(r'127(\.[0-9]{1,3}){3}', host):
+        return all(int(part) <= 255 for part in host.split('.'))
+    return host in ('[::1]', 'localhost') or (None not in (host, name) and host == small(name))
+
+
+def check_site(head, name):
+    """A name by which another site may lead to this machine is refused, and so is a POST from a page of another site; and both
+    where a field is there twice."""
+    hosts, sites, origins = (values_of(head, field) for field in ('host', 'sec-fetch-site', 'origin'))
+    if len(hosts) > 1 or not all(is_own(host, name) for host in hosts):
+        raise Refusal(403, 'refused', fault='Host')
+    own = [scheme + small(host) for host in hosts for scheme in ('http://', 'https://')]
+    is_own_page = len(sites) <= 1 and set(sites) <= {'same-origin', 'none'}
+    is_own_origin = len(origins) <= 1 and set(map(small, origins)) <= set(own)
+    if head.method == 'POST' and not (is_own_page and is_own_origin):
+        raise Refusal(403, 'refused', fault='Origin')
+
+
+# ---- where it leads
 
 def route_at(path):
     """What a path leads to: a method, what is asked there, and the key that stands in it. None where it leads nowhere."""
@@ -196,11 +239,6 @@ def of_archive(office, head, place, path):
 
 # ---- the body
 
-def values_of(head, name):
-    """The values of the fields of that name; the case of its letters doesn't matter."""
-    return [value for other, value in head.fields if other.lower() == name]
-
-
 def body_of(head, request):
     """As many bytes after the head as it says. What stands after them has no effect."""
     lengths = values_of(head, 'content-length')
@@ -224,6 +262,7 @@ def response_text(status, content_type, body, allowed=None):
     lines += ['Content-Type: ' + content_type, 'Content-Length: %d' % len(body)]
     lines += ['Allow: ' + allowed] if allowed else []
     lines += ['Retry-After: %d' % LATER] if status in RETRY_LATER else []
+    lines += PAGE_FIELDS if content_type == HTML else []
     lines += ['Connection: close', '', body]
     return '\r\n'.join(lines)
 
@@ -275,9 +314,10 @@ def delivered(office, text):
     return STATUSES[answer['answer']], 'application/json', json_text(answer)
 
 
-def answered(office, request, ahead):
+def answered(office, request, ahead, name):
     """Status, content type and body; a text that is delivered and an account that is added count from here on."""
     head = head_of(request)
+    check_site(head, name)
     if is_page(address_of(head)):
         status, text = paged(office, head)
         return status, HTML, text
@@ -292,6 +332,8 @@ def answered(office, request, ahead):
         code, text = code_of(key), body_of(head, request)
         pass_door(office, code, text.strip(BREAKS), ahead)
         return delivered(office, text)
+    if kind == 'explain':
+        return found(kind, ''.join(line + '\n' for line in printed(NOBODY, body_of(head, request))[0]))
     if kind == 'account':
         body_of(head, request)
         answer = office.add_account(*added_by(key))
@@ -306,10 +348,11 @@ def found(kind, text):
     return 200, CONTENT_TYPES.get(kind, 'text/plain'), text
 
 
-def response(office, request, ahead=None):
-    """The response to a request, by a server that takes numbers up to so many above the next ones; any, if that is None."""
+def response(office, request, ahead=None, name=None):
+    """The response to a request, by a server that takes numbers up to so many above the next ones (any, if that is None), and
+    that has a name besides those of a machine for itself."""
     try:
-        return response_text(*answered(office, request, ahead))
+        return response_text(*answered(office, request, ahead, name))
     except Refusal as refusal:
         return response_text(refusal.status, 'application/json', json_text(refusal.answer), refusal.allowed)
     except Lost:

@@ -2,7 +2,8 @@
 import os
 import re
 
-TOP = os.path.dirname(os.path.dirname(os.path.dirname(os.path.abspath(__file__))))
+from .files import TOP
+
 PAGE = 'docs/PROFILE.md'
 TABLE = 'crates/office_pages/src/meanings.rt'
 

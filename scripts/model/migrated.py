@@ -14,6 +14,7 @@ import tarfile
 import tempfile
 from contextlib import closing
 
+from . import files
 from .days import Day, streamed
 from .events import Delivered
 from .office import Office
@@ -69,8 +70,7 @@ def unpacked(path, folder):
         archive.extractall(folder)
 
     def text(name):
-        with open(os.path.join(folder, name), encoding='latin-1', newline='') as file:
-            return file.read()
+        return files.contents(os.path.join(folder, name))
     setup, _fault = read_setup(text('partners.csv'), text('blocks.csv'))
     office = Office(setup, keeps_fold=True, version=1)
     for name in sorted(name for name in os.listdir(folder) if name.endswith('.edi')):

@@ -7,10 +7,10 @@ import os
 import re
 import sqlite3
 
+from .files import TOP
 from .rows import interchange_rows, rows_of
 from .rules import NEWEST
 
-TOP = os.path.dirname(os.path.dirname(os.path.dirname(os.path.abspath(__file__))))
 PAGE = os.path.join(TOP, 'docs/TABLES.md')
 
 

@@ -17,7 +17,7 @@ WHOLE = ['yard', 'yard', 'yardcsv', 'blocks', 'calls', 'calls', 'partners', 'par
 KINDS = [
     (12, 'delivery'), (6, 'own delivery'), (2, 'altered delivery'), (8, 'report'), (2, 'odd report'), (1, 'method'), (1, 'route'),
     (2, 'length'), (1, 'cut'), (6, 'altered head'), (2, 'large'), (2, 'account'), (1, 'odd account'), (6, 'page'),
-    (1, 'odd page'), (2, 'find'), (2, 'texts'), (1, 'odd texts'), (2, 'archive'), (1, 'odd archive')]
+    (1, 'odd page'), (2, 'find'), (2, 'texts'), (1, 'odd texts'), (2, 'archive'), (1, 'odd archive'), (3, 'explain')]
 METHODS = ['GET', 'POST', 'PUT', 'HEAD', 'get', 'OPTIONS', 'DELETE', 'X', 'PATCH', 'CONNECT', "!#$%&'*+-.^_`|~"]
 PATHS = [
     '/', '*', '/x', '/yard/', '//yard', '/Yard', 'yard', 'http://127.0.0.1/yard', '/yardcsv', '/yard.CSV', '/visits',
@@ -25,7 +25,8 @@ PATHS = [
     '/partners/HAULA', '/Partners', '/picture/1', '/work/9123456/V12', '/contrls/HAULA', '/contrls/HAULA/1/',
     '/visits/A/B', '/lists/9123456/V12', '/lists//V12/load', '/tickets/HAULA/', '/replies/HAULA', '/replies/HAULA/1/',
     '/interchanges/', '/interchanges/1', '/yard#1', '/%79ard', '/interchange', '/visits/%zz', '/tickets/HAULA%2F1',
-    '/lists/a/b/c/d', '/yard\xe9', '/visits/\xc3\xa9', '/visits/\xff']
+    '/lists/a/b/c/d', '/yard\xe9', '/visits/\xc3\xa9', '/visits/\xff', '/explain', '/explain/', '/Explain', '/pages/explain',
+    '/archives/1/explain', '/partners/HAULA/explain']
 PAGES = [
     '/pages', '/pages/', '/pages/yard.csv', '/pages/picture', '/pages/health', '/pages/metrics', '/pages/interchanges',
     '/pages/partners/HAULA/interchanges', '/pages/partners/HAULZ/gate', '/pages/find', '/pages/find/', '/pages/find/x',
@@ -67,8 +68,33 @@ LENGTHS = [
     ['content-length:%d', 'CONTENT-LENGTH: %d'], ['Content-Length:\t %d\t '], ['X-Content-Length: %d'],
     ['Content-Length: 0000000000000000000'], ['Content-Length: -1'], ['Content-Length : %d']]
 FIELDS = [
-    'Host: 127.0.0.1', 'User-Agent: x', 'Accept:', 'X:\t', 'X-Y: a:b, c', 'Expect: 100-continue',
+    'User-Agent: x', 'Accept:', 'X:\t', 'X-Y: a:b, c', 'Expect: 100-continue', 'X-Host: evil.example', 'Origins: null',
     'Connection: keep-alive', 'X: \xe9\xff', "!#$%&'*+-.^_`|~: 1", 'Content-Type: application/edifact']
+# what a server may be named, and what may stand in Host: names of this machine, and others
+NAME = 'office.example'
+OWN_HOSTS = [
+    '127.0.0.1', '127.0.0.1:8080', 'localhost', 'localhost:8080', 'LocalHost:1', 'localhost:', '[::1]', '[::1]:00080',
+    '127.0.0.0', '127.255.255.255:99999', '127.00.000.1', NAME, NAME + ':8443', 'OFFICE.example']
+OTHER_HOSTS = [
+    '', ':', ':80', 'evil.example', 'evil.example:8080', '127.0.0.1.evil.example', 'localhost.evil.example', '127.0.0', '127.1',
+    '127.0.0.256', '127.0.0.1000', '127.0.0.1.', '127.0.0.1.1', '127..0.1', '127.0.0.x', '127.0.0.-1', '126.0.0.1', '128.0.0.1',
+    '0.0.0.0', '10.0.0.1', '2130706433', '0x7f000001', '0177.0.0.1', '::1', '[::1', '::1]', '[::]', '[::2]', '[::1]x', '[::1]]',
+    '[0:0:0:0:0:0:0:1]', '[::ffff:127.0.0.1]', 'localhost.', 'localhostx', 'xlocalhost', 'localhost:80:80', 'localhost:x',
+    'localhost:123456', 'localhost:-1', 'localhost :80', 'local host', 'user@localhost', 'localhost/', 'http://localhost',
+    'localhost, evil.example', '127.0.0.1,127.0.0.1', 'loc\xe4lhost', '[::1]:x', '[::1]:123456', NAME + '.',
+    'www.' + NAME, NAME[:-1], NAME + 'x', NAME + ':x']
+# what may stand in Origin, where `%s` is a host, and in Sec-Fetch-Site
+OWN_ORIGINS = ['http://%s', 'https://%s', 'HTTP://%s', 'hTTps://%s']
+OTHER_ORIGINS = [
+    '', 'null', '%s', '//%s', 'http:%s', 'http:/%s', 'http://', 'https://', 'http://%s/', 'http:// %s', 'httpx://%s',
+    'ws://%s', 'ftp://%s', 'file://%s', 'http://%s:1', 'http://%s.evil.example', 'http://evil.example', 'https://evil.example/%s',
+    'http://evil.example http://%s', 'http://%s http://evil.example', 'http://user@%s', 'http://x%s', 'http://%s\xe9']
+SITES = ['same-origin', 'none']
+OTHER_SITES = [
+    'cross-site', 'same-site', '', 'Same-Origin', 'NONE', 'same-origins', 'same-origi', 'none, cross-site', 'same-origin;x',
+    '"none"']
+ODD_SITE = 0.12             # of the fields that say from where a request comes
+COUNTS = [0] + [1] * 12 + [2]       # of each of these fields
 PLACED_BYTES = ' \t\r\n\x00\x0b\x1f\x7f\x80\xe9:/%?#AZ19"(),;'
 LARGE = [(3, 'fields'), (3, 'head'), (1, 'body')]
 ODD_ACCOUNTS = [
@@ -144,9 +170,25 @@ def weighted(random, table):
     return random.choices([value for _weight, value in table], [weight for weight, _value in table])[0]
 
 
+def from_where(random):
+    """Fields that say from where a request comes: most requests have none, and most of these are right."""
+    def one_of(own, others):
+        return random.choice(others if random.random() < ODD_SITE else own)
+
+    hosts = [one_of(OWN_HOSTS, OTHER_HOSTS) for _field in range(random.choice(COUNTS))]
+    origins = [one_of(OWN_ORIGINS, OTHER_ORIGINS) for _field in range(random.choice([0] * 6 + COUNTS))]
+    sites = [one_of(SITES, OTHER_SITES) for _field in range(random.choice([0] * 6 + COUNTS))]
+    host = random.choice((hosts or OWN_HOSTS) * 9 + OWN_HOSTS)
+    fields = [('Host', host) for host in hosts] + [('Sec-Fetch-Site', site) for site in sites]
+    fields += [('Origin', origin % host if '%s' in origin else origin) for origin in origins]
+    letters, gaps = [str, str.lower, str.upper], [': ', ':', ':\t ']
+    return [random.choice(letters)(name) + random.choice(gaps) + value for name, value in fields]
+
+
 def request(random, line, fields, body=''):
     """The bytes of a request, with other fields by chance and ends of lines of both kinds."""
     fields = fields + random.sample(FIELDS, random.choice([0, 0, 1, 2, 3]))
+    fields += from_where(random) if random.random() < 0.4 else []
     random.shuffle(fields)
     end = random.choice(['\r\n', '\r\n', '\r\n', '\n'])
     front = random.choice([''] * 9 + ['\r\n', '\n\r\n'])
@@ -159,6 +201,12 @@ def post(random, text, behind=''):
     version = random.choice(['1.1', '1.1', '1.0'])
     line = 'POST /interchanges%s HTTP/%s' % (weighted(random, QUERIES), version)
     return request(random, line, ['%s: %d' % (name, len(text))], text + behind)
+
+
+def explain(random, text):
+    """A text that is to be explained, by POST mostly."""
+    line = '%s /explain%s HTTP/1.1' % (random.choice(['POST'] * 9 + ['GET']), weighted(random, QUERIES))
+    return request(random, line, ['Content-Length: %d' % len(text)], text)
 
 
 def post_as(random, code, text):
@@ -277,6 +325,8 @@ def random_request(random, day, office):
         return own_delivery(random, day, office, random.choice([day.delivery(), text]))
     if kind == 'altered delivery':
         return post(random, day.altered(text))
+    if kind == 'explain':
+        return explain(random, random.choice([text, day.altered(text), text + '\r\n' + day.again()]))
     if kind == 'report':
         return get(random, report_path(random, office))
     if kind == 'odd report':

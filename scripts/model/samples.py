@@ -14,6 +14,7 @@ from .syntax import FAULTS
 
 PAGE = 'docs/SAMPLES.md'
 
+AT_A_PATH = ['OtherSender', 'TooEarly']
 LINE_FAULTS = 'Form CheckDigit Size Moment SlotText'.split()
 REASONS = (
     'AlreadyIn NotIn AlreadyListed NotListed ListLineDone Buried NoSlot SlotKind Taken OnAir OnEmpty NoRoom '
@@ -22,7 +23,7 @@ WANTED = [
     ('Orders', [meant.order for meant in CODE_NAMES.values()]),
     ('Answers', ['taken', 'repeat', 'waiting', 'clash', 'refused', 'cut']),
     ('Faults of an interchange', [name for name, _applies in FAULTS] + ['UnknownSender', 'WrongRecipient', 'End']),
-    ('Faults at the path of a partner', ['OtherSender', 'TooEarly']),
+    ('Faults at the path of a partner', AT_A_PATH),
     ('Faults of a message', [name for name, _applies in MESSAGE_FAULTS]),
     ('Outcomes of a line', ['done', 'gone', 'listed', 'refused']),
     ('Faults of a line', LINE_FAULTS),
@@ -41,8 +42,9 @@ def kinds_in(case):
     for place, line in enumerate(case.lines):
         kinds.update(kinds_of(json.loads(line), case.texts[place] if place < len(case.texts) else ''))
     for _request, wanted in case.requests:
-        if wanted.startswith(('HTTP/1.1 403', 'HTTP/1.1 429')):
-            kinds.add(('Faults at the path of a partner', json.loads(wanted.partition('\r\n\r\n')[2])['fault']))
+        fault = re.search('"fault":"(%s)"' % '|'.join(AT_A_PATH), wanted)
+        if fault and wanted.startswith(('HTTP/1.1 403', 'HTTP/1.1 429')):
+            kinds.add(('Faults at the path of a partner', fault[1]))
     return kinds
 
 

@@ -12,10 +12,11 @@ from .closing import never_closed
 from .commands import outcome, texts_before_lost
 from .days import NEWCOMERS, Day, streamed
 from .deliveries import kept_texts
+from .files import written
 from .http import response
 from .office import Office, json_text
 from .reports import WHOLE, has_key, text_of
-from .requests import every_key, question, random_requests
+from .requests import NAME, every_key, question, random_requests
 from .rows import REGISTER_COLUMNS, register_rows, registered_in, rows_in, rows_of
 from .setup import DEMO, read_setup
 from .setups import Files, at_limits, files_of
@@ -32,6 +33,7 @@ QUESTIONS = 6
 SERVED = 6                  # lists that are followed by requests
 REQUESTS = 35
 BOUNDS = [None, 1, 2]       # how far above its next number a partner's may be
+HOSTS = [None, NAME]        # the name of the server
 
 
 class Program:
@@ -43,10 +45,7 @@ class Program:
 
     def file(self, name, text):
         """A file in the folder, of those bytes."""
-        path = os.path.join(self.folder, name)
-        with open(path, 'w', encoding='latin-1', newline='') as file:
-            file.write(text)
-        return path
+        return written(self.folder, name, text)
 
     def run(self, *words, given=''):
         """What it prints, what it tells of faults, and its status, with what is given to its standard input."""
@@ -86,18 +85,24 @@ class Program:
         """A report; those on the whole terminal have no key."""
         return self.run('report', self.store, kind, *([key] if has_key(kind) else []))
 
-    def serve(self, requests, expect, exchange=None, ahead=None):
+    def before_last(self, process):
+        """What is done with a server before its last request."""
+
+    def serve(self, requests, expect, exchange=None, ahead=None, host=None):
         """Sends each request on a connection of its own, and hands on the response that it should have beside the one
-        that it has. By the path of a partner numbers may be above its next one by so many, or by any."""
+        that it has. By the path of a partner numbers may be above its next one by so many, or by any; the server may have a
+        name."""
         exchange = exchange or exchanged
         port = free_port()
         words = [self.path, 'serve', self.store, str(port), str(len(requests))]
-        words += [] if ahead is None else ['--ahead', str(ahead)]
+        words += options_of(ahead, host)
         with subprocess.Popen(words, stdout=subprocess.PIPE, encoding='utf-8') as process:
             try:
                 expect('listening', 'listening 127.0.0.1:%d\n' % port, process.stdout.readline())
-                for request, wanted in requests:
-                    expect(repr(request[:300]), wanted, exchange(port, request))
+                for place, (request, wanted) in enumerate(requests):
+                    if place == len(requests) - 1:
+                        self.before_last(process)
+                    expect('request %d, %r' % (place, request[:300]), wanted, exchange(port, request))
                 expect('served', ('served %d\n' % len(requests), 0), (process.stdout.read(), process.wait(SECONDS)))
             except (OSError, subprocess.TimeoutExpired) as fault:
                 expect('a connection', 'an answer', repr(fault))
@@ -188,14 +193,19 @@ class Beside:
             self.expect('rebuilt', name + ', rows', (rows_of(never_closed(office)), []), rows_in(other.store))
             self.expect('rebuilt', name + ', texts', kept, other.texts(0))
 
-    def serve(self, name, program, office, requests, ahead=None):
+    def serve(self, name, program, office, requests, ahead=None, host=None):
         """Requests by HTTP, each with the response that it should have."""
-        responses = [(request, response(office, request, ahead)) for request in requests]
-        program.serve(responses, partial(self.served, name), ahead=ahead)
+        responses = [(request, response(office, request, ahead, host)) for request in requests]
+        program.serve(responses, partial(self.served, name), ahead=ahead, host=host)
 
     def served(self, name, what, wanted, got):
         """What came over a connection."""
         self.expect(kind_of(wanted), '%s, %s' % (name, what), wanted, got)
+
+
+def options_of(ahead, host):
+    """The words by which a server has a bound and a name."""
+    return ([] if ahead is None else ['--ahead', str(ahead)]) + ([] if host is None else ['--host', host])
 
 
 def cut_short(value):
@@ -251,7 +261,7 @@ def try_list(beside, seed, requests):
         beside.texts(name, program, office, chance)
         beside.rebuilt(name, program, office)
         if requests:
-            beside.serve(name, program, office, random_requests(chance, day, office, requests), chance.choice(BOUNDS))
+            beside.serve(name, program, office, random_requests(chance, day, office, requests), chance.choice(BOUNDS), chance.choice(HOSTS))
             beside.rows(name, program, office)
 
 

@@ -14,6 +14,7 @@ from .cases import all_cases, request_of
 from .cuts import cut, cut_at
 from .deliveries import order
 from .events import Delivered
+from .files import written
 from .http import response
 from .messages import MESSAGE_FAULTS
 from .office import WITHOUT_CONTRL, Office
@@ -133,12 +134,6 @@ def log(setup, events):
 
 # ---- the cases
 
-def write(folder, name, text):
-    """A file of those bytes."""
-    with open(os.path.join(folder, name), 'w', encoding='latin-1', newline='') as file:
-        file.write(text)
-
-
 def missing(what, wanted, lines):
     """Those that are in no line."""
     told = '\n'.join(lines)
@@ -151,21 +146,21 @@ def main(top):
     for place, case in enumerate(case for case in all_cases() if not case.requests):
         folder = os.path.join(top, '%03d' % place)
         os.makedirs(folder)
-        write(folder, 'name', case.name)
+        written(folder, 'name', case.name)
         for name, text in zip(['partners.csv', 'blocks.csv'], files_of(case.setup)):
-            write(folder, name, text)
+            written(folder, name, text)
         texts = '\r\n'.join(case.texts)
         stream = texts if case.texts and cut(texts) == (case.texts, None) else case.stream
         if stream or not case.steps:
             lines, ended = tally(case.setup, stream)
-            write(folder, 'stream.edi', stream)
-            write(folder, 'told', 'status %d\n%s\n' % (ended, '\n'.join(lines)))
+            written(folder, 'stream.edi', stream)
+            written(folder, 'told', 'status %d\n%s\n' % (ended, '\n'.join(lines)))
             tallies += lines
         if case.steps:
             requests, lines = log(case.setup, [event for event, _line in case.steps])
             for number, request in enumerate(requests):
-                write(folder, 'request-%03d' % number, request)
-            write(folder, 'log', ''.join(line + '\n' for line in lines))
+                written(folder, 'request-%03d' % number, request)
+            written(folder, 'log', ''.join(line + '\n' for line in lines))
             logs += lines
     shown = [what for _kind, what in COUNTED]
     cuts = [': %s; what follows was not read' % name for name in 'TooLong Service Segment End'.split()]

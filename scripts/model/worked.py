@@ -9,6 +9,7 @@ import os
 import re
 from functools import partial
 
+from .files import contents
 from .names import length_of, number_fault, slot_of, slot_text
 from .office import Office, json_text
 from .page import Page, is_told, short_of
@@ -274,8 +275,8 @@ def no_interchange(rows):
 
 def printed(rows, row, paths, path):
     """A row that stands in files: what is sent, file by file, and what the program is said to print."""
-    text = ''.join(read(sent) for sent in paths)
-    wanted = read(path).splitlines()
+    text = ''.join(contents(sent) for sent in paths)
+    wanted = contents(path).splitlines()
     given = answers(Office(), text)
     for place, line in enumerate(wanted):
         rows.expect(row, 'line %d' % (place + 1), lines(given)[place:place + 1] == [line])
@@ -291,27 +292,21 @@ def examples(rows, top):
     printed(rows, 'Sent as 3, 2, 1, and 3 again', [out_of_order], os.path.join(top, 'examples/out-of-order.jsonl'))
 
 
-def read(path):
-    """A file's bytes, one character each."""
-    with open(path, encoding='latin-1', newline='') as file:
-        return file.read()
-
-
 def check(top, program, over_store):
     """All rows and the day; prints what was compared, and each that is wrong. Gives how many are. `over_store` is
     `stores.over_store` with what it counts in, as a partial; with another the model alone answers what wants a store."""
-    page = Page(read(os.path.join(top, 'docs/WORKED_ROWS.md')))
+    page = Page(contents(os.path.join(top, 'docs/WORKED_ROWS.md')))
     rows = Rows(page, program, over_store)
     for check_row in (
             rows_of_tables, what_no_contrl_answers, rejected_messages, first_and_again, numbers,
             other_service_characters, released_characters, two_messages, wrong_count, each_line, check_digits,
             size_types, twenties_and_forties, full_and_empty, nothing_delivered, two_interchanges, no_interchange, *EVERY):
         check_row(rows)
-    said = read_setup(*(read(os.path.join(top, 'examples/setup', name)) for name in ('partners.csv', 'blocks.csv')))
+    said = read_setup(*(contents(os.path.join(top, 'examples/setup', name)) for name in ('partners.csv', 'blocks.csv')))
     rows.expect('The day of examples/day', 'examples/setup is the set-up of the demonstration', said == (DEMO, None))
-    example = read(os.path.join(top, 'examples/gate-in.edi'))
+    example = contents(os.path.join(top, 'examples/gate-in.edi'))
     rows.expect('The first gate-in', 'examples/gate-in.edi', Office().answer(example) == Office().answer(page.first))
-    rows.expect('The first gate-in', 'crates/office/stdin', read(os.path.join(top, 'crates/office/stdin')) == example)
+    rows.expect('The first gate-in', 'crates/office/stdin', contents(os.path.join(top, 'crates/office/stdin')) == example)
     examples(rows, top)
     left = [row for row, part in page.rows.items() if part.startswith('**') and row not in rows.checked]
     left += [row for row in page.rows if told_in(page, row) and row not in rows.told]

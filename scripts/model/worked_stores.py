@@ -238,7 +238,14 @@ def ending_of(words, endings):
 
 
 def request_of(page, cell):
-    """The bytes of a request that a cell says. An addition has no body."""
+    """The bytes of a request that a cell says, in the end perhaps by a field of its own. An addition has no body."""
+    cell, field = re.fullmatch(r'(.*?)(?: with `([A-Za-z-]+: [^`]*)`)?', cell).groups()
+    request = plain_request_of(page, cell)
+    return request.replace('\r\n', '\r\n%s\r\n' % field, 1) if field else request
+
+
+def plain_request_of(page, cell):
+    """The same without that field."""
     method, _space, words = cell.partition(' ')
     if (method, words[:1]) == ('POST', '`'):
         return 'POST %s HTTP/1.1\r\nContent-Length: 0\r\n\r\n' % words.strip('`')
@@ -275,6 +282,10 @@ def requests(rows):
     asked = 'GET /yard HTTP/1.1\r\n\r\n'
     head, body = told_response(rows.page, empty)
     rows.expect(empty, asked, response(Office(rows.setup(empty)), asked) == head + body)
+    page = 'More in the head of a page'
+    for path in ('/', '/pages/yard', '/pages/nothing', '/picture'):
+        lines = response(Office(), 'GET %s HTTP/1.1\r\n\r\n' % path).partition('\r\n\r\n')[0].split('\r\n')
+        rows.expect(page, path, lines[3:-1] == rows.page.texts(page))
     requests_of_row(rows, 'Requests', [asked])
 
 

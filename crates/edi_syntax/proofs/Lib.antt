@@ -11,3 +11,4 @@ pub mod CutLemmas
 pub mod BehindLemmas
 pub mod PieceLemmas
 pub mod FrontLemmas
+pub mod TokenLemmas

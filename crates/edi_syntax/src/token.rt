@@ -61,8 +61,16 @@ impl TokenTable {
         ensures { result.service ≡ service }
     {
         let mut tokens = [Token::Data; 256];
-        for byte in 0..256 {
-            tokens[byte] = service.token(false, byte as u8);
+        for byte in 0..32 {
+            tokens[byte] = Token::Invalid;
+        }
+        tokens[127] = Token::Invalid;
+        // The release character last, as it is asked for first: of two stores at a place the later stands.
+        tokens[service.terminator as usize] = Token::Terminator;
+        tokens[service.element as usize] = Token::Element;
+        tokens[service.component as usize] = Token::Component;
+        if let Some(release) = service.release {
+            tokens[release as usize] = Token::Release;
         }
         TokenTable { service, tokens }
     }

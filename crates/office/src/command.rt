@@ -3,25 +3,23 @@ use crate::causes::{
     tell_unread_cause, tell_with, tell_words,
 };
 use crate::explain::explain;
-use crate::history::{
-    Way, archives, close, may_be_made, tell_open, tell_open_cause, way_to_deliver, way_to_look,
-};
+use crate::history::{archives, close, may_be_made, tell_open, tell_open_cause};
 use crate::init::init;
-use crate::leaving::{end_account, end_account_beside, end_serving, end_serving_beside, give_up};
+use crate::leaving::{end_account, end_serving, give_up};
 use crate::links::followed;
 use crate::long_work::{WatchedTexts, Work, tell_long};
 use crate::request_log::RequestLog;
 use crate::watch::DeliveryWatch;
-use office_archive_files::{
-    InUnknownFiles, account_beside, deliver_beside, leave_joined, report_beside, serve_beside,
-    texts_beside,
-};
+use office_archive_files::InUnknownFiles;
 use office_command_line::{CommandFault, REPORT_KINDS, Request, read_command};
 use office_commands::{
     COMMAND_LINE, DONE, FAILED, MigrationFault, Service, account_over, deliver_over, demonstrate,
-    leave_desk, leave_whole, migrate_over, open_store, print, report_over, serve_over, tell,
+    leave_office, leave_whole, migrate_over, open_there, print, report_over, serve_over, tell,
     tell_fault, texts_over,
 };
+use office_desk::load_beside;
+use office_http::Site;
+use office_loading::Closed;
 use office_replies::Port;
 use office_reports::ReportKind;
 use office_tables::TableFault;
@@ -56,10 +54,19 @@ pub(crate) fn run<R: Read, W: Write, E: Write>(
             count,
             log,
             ahead,
-        } => {
-            let service = Service { port, count, ahead };
-            serve(rt, store, service, log, writer, errors)
-        }
+            host,
+        } => match Site::new(rt.alloc(), host) {
+            Ok(site) => {
+                let service = Service {
+                    port,
+                    count,
+                    ahead,
+                    site,
+                };
+                serve(rt, store, service, log, writer, errors)
+            }
+            Err(_) => tell_fault(errors, &TableFault::Memory),
+        },
         Request::Report { store, kind, key } => report(rt, store, kind, key, writer, errors),
         Request::Archives { store } => archives(rt, store, writer, errors),
         Request::Texts { store, from } => texts(rt, store, from, writer, errors),
@@ -150,54 +157,16 @@ fn deliver_all<R: Read, W: Write, E: Write>(
     let store = store.as_str();
     tell_long(rt, errors, Work::OPENING, store);
     let watch = DeliveryWatch::new(rt, stderr_is_terminal(rt), store);
-    let status = match way_to_deliver(Audience::of(rt), store, errors) {
-        Way::Alone => deliver_alone(rt, store, &watch, reader, writer, errors),
-        Way::BesideArchives => deliver_with_archives(rt, store, &watch, reader, writer, errors),
-        Way::Refused(status) => status,
-    };
-    if watch.is_unread() {
-        tell_unread_cause(rt, errors, file);
-    }
-    status
-}
-
-/// Delivers to a store of which nothing was put away.
-fn deliver_alone<R: Read, W: Write, E: Write>(
-    rt: &HostRuntime,
-    store: &str,
-    watch: &DeliveryWatch<'_>,
-    reader: &mut Port<R>,
-    writer: &mut Port<W>,
-    errors: &mut Port<E>,
-) -> u8 {
-    let (status, ended) = deliver_over(rt, store, Unknown, watch, reader, writer, errors);
-    match ended {
-        Ok(desk) => {
-            give_up(leave_desk(desk));
-        }
-        Err(fault) => tell_store_cause(Audience::of(rt), errors, store, &fault),
-    }
-    status
-}
-
-/// Delivers to a store beside its archives.
-fn deliver_with_archives<R: Read, W: Write, E: Write>(
-    rt: &HostRuntime,
-    store: &str,
-    watch: &DeliveryWatch<'_>,
-    reader: &mut Port<R>,
-    writer: &mut Port<W>,
-    errors: &mut Port<E>,
-) -> u8 {
     let beside = InUnknownFiles::new(rt);
-    let (status, ended) = deliver_beside(
-        rt, store, Unknown, &beside, watch, reader, writer, errors,
-    );
+    let (status, ended) = deliver_over(rt, store, Unknown, &beside, &watch, reader, writer, errors);
     match ended {
         Ok(office) => {
-            give_up(leave_joined(office));
+            give_up(leave_office(office));
         }
         Err(fault) => tell_open_cause(Audience::of(rt), errors, store, &fault),
+    }
+    if watch.is_unread() {
+        tell_unread_cause(rt, errors, file);
     }
     status
 }
@@ -216,40 +185,9 @@ pub(crate) fn account<W: Write, E: Write>(
     };
     let store = store.as_str();
     tell_long(rt, errors, Work::OPENING, store);
-    match way_to_deliver(Audience::of(rt), store, errors) {
-        Way::Alone => account_alone(rt, store, code, kind, writer, errors),
-        Way::BesideArchives => account_with_archives(rt, store, code, kind, writer, errors),
-        Way::Refused(status) => status,
-    }
-}
-
-/// Adds an account to a store of which nothing was put away.
-fn account_alone<W: Write, E: Write>(
-    rt: &HostRuntime,
-    store: &str,
-    code: &str,
-    kind: &str,
-    writer: &mut Port<W>,
-    errors: &mut Port<E>,
-) -> u8 {
-    match account_over(rt, store, Unknown, code, kind, writer) {
-        Ok(ended) => end_account(rt, errors, store, ended),
-        Err(fault) => tell_store(Audience::of(rt), errors, store, &fault),
-    }
-}
-
-/// Adds an account to a store beside its archives.
-fn account_with_archives<W: Write, E: Write>(
-    rt: &HostRuntime,
-    store: &str,
-    code: &str,
-    kind: &str,
-    writer: &mut Port<W>,
-    errors: &mut Port<E>,
-) -> u8 {
     let beside = InUnknownFiles::new(rt);
-    match account_beside(rt, store, Unknown, &beside, code, kind, writer) {
-        Ok(ended) => end_account_beside(rt, errors, store, ended),
+    match account_over(rt, store, Unknown, &beside, code, kind, writer) {
+        Ok(ended) => end_account(rt, errors, store, ended),
         Err(fault) => tell_open(Audience::of(rt), errors, store, &fault),
     }
 }
@@ -269,42 +207,8 @@ pub(crate) fn report<W: Write, E: Write>(
     };
     let store = store.as_str();
     tell_long(rt, errors, Work::OPENING, store);
-    match way_to_look(rt, store, errors) {
-        Way::Alone => report_alone(rt, store, kind, key, writer, errors),
-        Way::BesideArchives => report_with_archives(rt, store, kind, key, writer, errors),
-        Way::Refused(status) => status,
-    }
-}
-
-/// Prints a report on a store of which nothing was put away.
-fn report_alone<W: Write, E: Write>(
-    rt: &HostRuntime,
-    store: &str,
-    kind: ReportKind,
-    key: &str,
-    writer: &mut Port<W>,
-    errors: &mut Port<E>,
-) -> u8 {
-    match report_over(rt, store, Unknown, kind, key, writer) {
-        Ok((_desk, told)) => match told {
-            Ok(status) => status,
-            Err(fault) => tell_store(Audience::of(rt), errors, store, &fault),
-        },
-        Err(fault) => tell_store(Audience::of(rt), errors, store, &fault),
-    }
-}
-
-/// Prints a report on a store or an archive beside its own archives.
-fn report_with_archives<W: Write, E: Write>(
-    rt: &HostRuntime,
-    store: &str,
-    kind: ReportKind,
-    key: &str,
-    writer: &mut Port<W>,
-    errors: &mut Port<E>,
-) -> u8 {
     let beside = InUnknownFiles::new(rt);
-    match report_beside(rt, store, Unknown, &beside, kind, key, writer) {
+    match report_over(rt, store, Unknown, &beside, kind, key, writer) {
         Ok(ended) => tell_reported(rt, errors, store, ended),
         Err(fault) => tell_open(Audience::of(rt), errors, store, &fault),
     }
@@ -339,45 +243,13 @@ pub(crate) fn texts<W: Write, E: Write>(
     let store = store.as_str();
     tell_long(rt, errors, Work::OPENING, store);
     let mut watched = Port::new(WatchedTexts::new(rt, writer));
-    let status = match way_to_look(rt, store, errors) {
-        Way::Alone => texts_alone(rt, store, from, &mut watched, errors),
-        Way::BesideArchives => texts_with_archives(rt, store, from, &mut watched, errors),
-        Way::Refused(status) => status,
+    let beside = InUnknownFiles::new(rt);
+    let status = match texts_over(rt, store, Unknown, &beside, from, &mut watched) {
+        Ok(ended) => tell_reported(rt, errors, store, ended),
+        Err(fault) => tell_open(Audience::of(rt), errors, store, &fault),
     };
     watched.into_inner().end();
     status
-}
-
-/// Prints the texts of a store of which nothing was put away.
-fn texts_alone<W: Write, E: Write>(
-    rt: &HostRuntime,
-    store: &str,
-    from: u32,
-    writer: &mut Port<W>,
-    errors: &mut Port<E>,
-) -> u8 {
-    match texts_over(rt, store, Unknown, from, writer) {
-        Ok((_conn, printed)) => match printed {
-            Ok(status) => status,
-            Err(fault) => tell_store(Audience::of(rt), errors, store, &fault),
-        },
-        Err(fault) => tell_store(Audience::of(rt), errors, store, &fault),
-    }
-}
-
-/// Prints the texts of a store or an archive beside its own archives.
-fn texts_with_archives<W: Write, E: Write>(
-    rt: &HostRuntime,
-    store: &str,
-    from: u32,
-    writer: &mut Port<W>,
-    errors: &mut Port<E>,
-) -> u8 {
-    let beside = InUnknownFiles::new(rt);
-    match texts_beside(rt, store, Unknown, &beside, from, writer) {
-        Ok(ended) => tell_reported(rt, errors, store, ended),
-        Err(fault) => tell_open(Audience::of(rt), errors, store, &fault),
-    }
 }
 
 /// `migrate OLD NEW`: makes a store of this version with what an older one keeps. What is wrong with OLD is reported before
@@ -424,13 +296,17 @@ fn tell_old<E: Write>(to: Audience<'_>, errors: &mut Port<E>, old: &str, fault: 
 
 /// Whether the rows of a store are of this version. Beside archives they are not whole by themselves.
 fn is_newest(rt: &HostRuntime, path: &str) -> bool {
+    let Ok(mut conn) = open_there(rt, path, Unknown) else {
+        return false;
+    };
+    let closed = Closed::nothing(rt.alloc());
     matches!(
-        open_store(rt, path, Unknown),
+        load_beside(rt.alloc(), &mut conn, &closed),
         Ok(_) | Err(TableFault::Damaged)
     )
 }
 
-/// `serve DB PORT COUNT [--log] [--ahead N]`: serves that many connections at a port of this machine, one after the other. It
+/// `serve DB PORT COUNT [--log] [--ahead N] [--host NAME]`: serves that many connections at a port of this machine, one after the other. It
 /// writes a line for each to the standard error if that is a terminal, or if a log is wanted.
 pub(crate) fn serve<W: Write, E: Write>(
     rt: &HostRuntime,
@@ -447,29 +323,9 @@ pub(crate) fn serve<W: Write, E: Write>(
     let to = Audience::of_log(rt, log);
     let log = RequestLog::new(rt, to.wants_causes(), store);
     tell_long(rt, errors, Work::OPENING, store);
-    match way_to_deliver(to, store, errors) {
-        Way::Alone => match serve_over(rt, store, Unknown, service, &log, writer, errors) {
-            Ok(ended) => end_serving(ended),
-            Err(fault) => tell_store(to, errors, store, &fault),
-        },
-        Way::BesideArchives => serve_with_archives(to, store, service, &log, writer, errors),
-        Way::Refused(status) => status,
-    }
-}
-
-/// Serves a store beside its archives.
-fn serve_with_archives<W: Write, E: Write>(
-    to: Audience<'_>,
-    store: &str,
-    service: Service,
-    log: &RequestLog<'_>,
-    writer: &mut Port<W>,
-    errors: &mut Port<E>,
-) -> u8 {
-    let rt = to.rt();
     let beside = InUnknownFiles::new(rt);
-    match serve_beside(rt, store, Unknown, &beside, service, log, writer, errors) {
-        Ok(ended) => end_serving_beside(ended),
+    match serve_over(rt, store, Unknown, &beside, service, &log, writer, errors) {
+        Ok(ended) => end_serving(ended),
         Err(fault) => tell_open(to, errors, store, &fault),
     }
 }

@@ -2,52 +2,17 @@ use crate::causes::{Audience, Words, tell_store, tell_store_cause, tell_with, te
 use crate::links::followed;
 use crate::long_work::{Work, tell_long};
 use office_archive_files::{
-    CloseCommandFault, History, InFiles, OfFour, OpenFault, UnknownFile, archives_over,
-    close_alike, history_of, register_path,
+    CloseCommandFault, InFiles, OfFour, UnknownFile, archives_over, close_whole,
 };
 use office_closing::{CloseFault, File, FileFault, Refusal};
-use office_commands::{DONE, FAILED, print, tell_fault};
+use office_commands::{
+    DONE, FAILED, History, OpenFault, history_of, print, register_path, tell_fault,
+};
 use office_replies::Port;
 use office_tables::TableFault;
 use sqlite::Unknown;
 use std::fs;
 use std::io::Write;
-
-/// How a store is worked on, by what its register of archives says.
-#[derive(Clone, Copy)]
-pub(crate) enum Way {
-    /// By its own rows: nothing was put away of it.
-    Alone,
-    /// Beside its archives.
-    BesideArchives,
-    /// Not at all, which was reported: with that status.
-    Refused(u8),
-}
-
-/// How interchanges and accounts are taken to the store at a path. An archive takes none.
-pub(crate) fn way_to_deliver<E: Write>(to: Audience<'_>, store: &str, errors: &mut Port<E>) -> Way {
-    match history_of(to.rt(), store) {
-        Ok(history) if history.is_closed => Way::Refused(tell_closed(to, errors, store)),
-        Ok(history) => way_by(history),
-        Err(fault) => Way::Refused(tell_register(to, errors, store, &fault)),
-    }
-}
-
-/// How the store or the archive at a path is looked at.
-pub(crate) fn way_to_look<E: Write>(rt: &HostRuntime, store: &str, errors: &mut Port<E>) -> Way {
-    match history_of(rt, store) {
-        Ok(history) => way_by(history),
-        Err(fault) => Way::Refused(tell_register(Audience::of(rt), errors, store, &fault)),
-    }
-}
-
-fn way_by(history: History) -> Way {
-    if history.archives == 0 {
-        Way::Alone
-    } else {
-        Way::BesideArchives
-    }
-}
 
 /// Whether a store can be made at a path: no register of another store's archives lies beside it. If one does, or that
 /// can't be found out, that was reported.
@@ -106,7 +71,7 @@ fn tell_register_cause<E: Write>(
     }
 }
 
-/// Shows a person why a store was not opened beside its archives.
+/// Shows a person why a store was not opened.
 pub(crate) fn tell_open_cause<E: Write>(
     to: Audience<'_>,
     errors: &mut Port<E>,
@@ -120,7 +85,7 @@ pub(crate) fn tell_open_cause<E: Write>(
     }
 }
 
-/// Reports why a store was not opened beside its archives, and to a person also the cause and what to do.
+/// Reports why a store was not opened, and to a person also the cause and what to do.
 pub(crate) fn tell_open<E: Write>(
     to: Audience<'_>,
     errors: &mut Port<E>,
@@ -166,7 +131,7 @@ pub(crate) fn close<W: Write, E: Write>(
     close_files(rt, store.as_str(), archive.as_str(), writer, errors)
 }
 
-/// Closes the store at a path, and prints that it is.
+/// Closes the store at a path, leaves the four files whole, and prints that it is closed.
 fn close_files<W: Write, E: Write>(
     rt: &HostRuntime,
     store: &str,
@@ -181,7 +146,7 @@ fn close_files<W: Write, E: Write>(
         archive: UnknownFile,
         archive_register: UnknownFile,
     };
-    let closed = close_alike(rt, store, archive, unknown);
+    let closed = close_whole(rt, store, archive, unknown);
     match &closed {
         Ok(ended) => match &ended.1 {
             Ok(()) => print(writer, "ready\n", DONE),

@@ -27,7 +27,7 @@ use Rattle.office_closing.specs.Files.{AreClean, Files, files}
 use Rattle.office_closing.specs.declared.faults.CloseFault.{CloseFault}
 use Rattle.office_archive_files.specs.ClosedFiles.{AreLeft, ClosingsOfFilesAreNoEvents, HoldClosable, HoldsRegister, HoldsRows, OpenStoresAreHeld}
 use Rattle.office_archive_files.specs.ClosedStores.{OpenedRowsAreOrderly, OpensAfter}
-use Rattle.office_archive_files.specs.Closing.{ClosesOver, Images, Shows, ShowsRegister}
+use Rattle.office_archive_files.specs.Closing.{ClosesOver, Images, ShowsRegister}
 use Rattle.office_archive_files.specs.Shelves.{HoldsArchive}
 use Rattle.office_archive_files.specs.Stops.{MayBeClosed, StopsAreNoEvents, StopsLeaveOpen}
 

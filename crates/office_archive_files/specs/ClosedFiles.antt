@@ -22,7 +22,7 @@ use Rattle.office_closing.specs.PuttingAway.{AreNamedThen}
 use Rattle.office_closing.specs.declared.faults.CloseFault.{CloseFault}
 use Rattle.office_archive_files.specs.ClosedStores.{OpensAfter}
 use Rattle.office_archive_files.specs.Closing.{ClosesOver, Images}
-use Rattle.office_archive_files.specs.Opening.{HoldsBeside}
+use Rattle.office_commands.specs.Beside.{HoldsBeside}
 use Rattle.office_archive_files.specs.Shelves.{HoldsArchive}
 use Rattle.office_archive_files.specs.Stops.{StopsLeaveOpen, StoresEither}
 

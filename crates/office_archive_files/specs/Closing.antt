@@ -1,17 +1,12 @@
 -- What the command that puts history away does to the four files that it opens.
 use Rattle.std.specs.Prelude.{◌≡◌, ◌≢◌, ◌⊎◌, ℕ, List, Option, Result}
-use Rattle.sqlite_catalog.specs.Listing.{Lists}
-use Rattle.sqlite_trees.specs.Objects.{catalog_tree}
 use Rattle.sqlite_trees.specs.declared.store.Store.{Ghosts}
-use Rattle.sqlite.specs.Files.{HoldsDatabase}
 use Rattle.sqlite.specs.Held.{Held, state}
 use Rattle.sqlite.specs.Recovery.{Image}
-use Rattle.sqlite.specs.Schema.{Schema}
 use Rattle.sqlite.specs.State.{HasCleanDisk}
-use Rattle.sqlite.specs.Tree.{Trees}
 use Rattle.office_rows.specs.Tables.{no_schema}
 use Rattle.office_tables.specs.Opened.{AreMissing}
-use Rattle.office_commands.specs.Opening.{HoldsNoTables}
+use Rattle.office_commands.specs.Opening.{HoldsNoTables, Shows}
 use Rattle.office_closing.specs.Changes.{empty_register}
 use Rattle.office_closing.specs.Tables.{register_tables}
 use Rattle.office_closing.specs.Transactions.{IsSettled, Makes}
@@ -19,7 +14,7 @@ use Rattle.office_closing.specs.Closes.{Closes}
 use Rattle.office_closing.specs.Copies.{FileNames}
 use Rattle.office_closing.specs.Files.{AreIdle, files}
 use Rattle.office_closing.specs.declared.faults.CloseFault.{CloseFault}
-use Rattle.office_archive_files.specs.Paths.{HasNoSlash, path_of}
+use Rattle.office_commands.specs.Paths.{HasNoSlash, path_of}
 
 -- the name that a path ends with
 pub record IsNameOf (path name : List ℕ) : Type 0 where
@@ -35,12 +30,6 @@ pub record Images : Type 0 where
   pub archive_register : Image
 
 module _ {S : Type 0} (g : Ghosts S) where
-  -- as far as its disk has returned what was written, a connection shows the database that its file held
-  abbrev pub Shows : Image → Held S → Type 0
-  Shows image conn =
-      HasCleanDisk (state g conn) → (db : Trees) (schema : Schema) → ∥ HoldsDatabase image db ∥₁ →
-      Lists (db catalog_tree) schema → (state g conn).committed ≡ record { schema = schema; trees = db }
-
   -- what was committed of a connection has tables, and stayed
   pub record KeepsRegister (found conn : Held S) : Type 0 where
     pub some : (state g found).committed.schema ≢ no_schema

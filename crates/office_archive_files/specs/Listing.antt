@@ -1,11 +1,10 @@
 -- The lines that list a store's archives.
-use Rattle.std.specs.Prelude.{◌≡◌, ℕ, ◌==◌, false, cond, List, [], ◌∷◌, ◌++◌, length, codes, decimal, Option, None, Some, IfSome, is_some, IsTrue}
+use Rattle.std.specs.Prelude.{◌≡◌, ℕ, ◌==◌, false, cond, List, [], ◌∷◌, ◌++◌, length, codes, decimal, IsTrue}
 use Rattle.office_reports.specs.Names.{line}
 use Rattle.office_closing.specs.Register.{ArchiveContent, RegisterContent}
 use Rattle.office_closing.specs.Sound.{is_sound}
 use Rattle.office_admission.specs.Setups.{SetupContent}
 use Rattle.office_archive_files.specs.Archives.{IsReadAt}
-use Rattle.office_archive_files.specs.declared.register.History.{History}
 use Rattle.office_archive_files.specs.declared.shelf.Found.{Found}
 use Rattle.office_archive_files.specs.declared.shelf.Found.TheVariants as found
 
@@ -47,13 +46,3 @@ pub record IsListed (prints : (text : List ℕ) (wanted : ℕ) → Type 0) : Typ
   pub lines : List ℕ
   pub follow : FollowIn store names.archives [] lines
   pub printed : prints (listing_text (length names.archives) lines) (listing_status (length names.archives))
-
--- what was put away of a store with that register, or with none
-abbrev pub history_in : Option RegisterContent → History
-history_in None = record { archives = 0; is_closed = false }
-history_in (Some names) = record { archives = length names.archives; is_closed = is_some names.closed_for }
-
--- it is what a sound register says, or there was none
-abbrev pub IsHistory : History → Type 0
-IsHistory history =
-    (found : Option RegisterContent) × IfSome found (λ names. IsTrue (is_sound names)) × (history ≡ history_in found)

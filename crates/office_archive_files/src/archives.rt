@@ -5,11 +5,10 @@ ghost use Rattle.office_closing.specs.Register.{archive_content};
 ghost use Rattle.office_reports.specs.Names.{line};
 ghost use Rattle.office_admission.specs.Setups.{setup_content};
 
-use crate::beside::InFiles;
-use crate::opening::{OpenFault, open_shelf};
+use crate::in_files::InFiles;
 use crate::shelf::{ArchiveStart, FileShelf, Found};
 use office_closing::{Archive, Register};
-use office_commands::{DONE, REFUSED, print};
+use office_commands::{DONE, OpenFault, REFUSED, open_shelf, print};
 use office_replies::Port;
 use office_reports::texts::push_line;
 use sqlite::Start;

@@ -1,15 +1,16 @@
 ghost use Rattle.std.specs.Prelude.{◌≡◌, ◌⊎◌, false, IfOk, IfSome, OnOk};
-ghost use Rattle.office_archive_files.specs.Closing.{ClosesOver, KeepsRegister, MakesRegister, Shows, ShowsRegister};
-ghost use Rattle.office_commands.specs.Opening.{HoldsNoTables};
+ghost use Rattle.office_archive_files.specs.Closing.{ClosesOver, KeepsRegister, MakesRegister, ShowsRegister};
+ghost use Rattle.office_commands.specs.Opening.{HoldsNoTables, Shows};
 ghost use Rattle.office_closing.specs.Transactions.{IsSettled};
 ghost use Rattle.office_rows.specs.Tables.{no_schema};
 ghost use Rattle.sqlite.specs.Held.{state};
 ghost use Rattle.sqlite.specs.Recovery.{Image};
 ghost use Rattle.sqlite.specs.State.{HasCleanDisk, Opens};
 
-use crate::register::{beside_path, found_at, has_no_tables, is_there, place_of, register_path};
 use office_closing::{CloseFault, File, FileFault, Refusal, close, create_register, read_register};
-use office_commands::{open_found, open_there};
+use office_commands::{
+    beside_path, found_at, has_no_tables, is_there, open_found, open_there, place_of, register_path,
+};
 use office_tables::TableFault;
 use sqlite::{Alter, Connection, FileFrom, FileStore, Start, Unknown};
 use std::alloc::{AllocError, Global};

@@ -1,6 +1,11 @@
-ghost use Rattle.std.specs.Prelude.{◌≡◌};
+ghost use Rattle.std.specs.Prelude.{◌≡◌, IfOk, List, false};
+ghost use Rattle.office_archive_files.specs.Shelves.{HoldArchiveAt};
+ghost use Rattle.office_archives.specs.Shelves.{IsOpenAt};
+ghost use Rattle.office_parts.specs.Archives.{Archive};
+ghost use Rattle.sqlite.specs.Files.{over_files};
+ghost use Rattle.sqlite.specs.WalFiles.{image_at};
 
-use crate::shelf::FileShelf;
+use crate::shelf::{ArchiveStart, FileShelf, NO_ARCHIVE};
 use edi_messages::Call;
 use office_archives::{Archives, ManyArchives, Shelf};
 use office_reports::Query;
@@ -9,15 +14,55 @@ use sqlite::{Connection, FileFrom, FileStore, Start, Unknown};
 use std::alloc::Global;
 use terminal_core::{Listing, Side};
 
-/// A shelf of archives in files of which nothing is supposed.
+/// The shelf of a store's archives in files; an empty one is that of a store of which nothing was put away.
+#[derive(Drop)]
+pub struct StoreShelf<'a, B: ArchiveStart> {
+    shelf: Option<FileShelf<'a, B>>,
+}
+
+impl<'a, B: ArchiveStart> StoreShelf<'a, B> {
+    /// That shelf.
+    pub fn of(shelf: FileShelf<'a, B>) -> StoreShelf<'a, B> {
+        StoreShelf { shelf: Some(shelf) }
+    }
+
+    /// An empty shelf.
+    pub fn empty() -> StoreShelf<'a, B> {
+        StoreShelf { shelf: None }
+    }
+
+    /// A connection to the archive at a place: NO_ARCHIVE if it is not there, or not its own; Memory says nothing of it.
+    fn own_archive(&self, place: u16) -> Result<Connection<FileStore<FileFrom<B>>>, TableFault>
+        ensures idle { IfOk result (λ conn. conn.in_transaction ≡ false) }
+        ensures opened { IfOk result (λ conn. place ≡ B.place → (list : List Archive) →
+            HoldArchiveAt (image_at B.Start) B.place list → IsOpenAt over_files list place conn) }
+    {
+        match &self.shelf {
+            Some(shelf) => shelf.own_archive(place),
+            None => Err(TableFault::Store(NO_ARCHIVE)),
+        }
+    }
+}
+
+impl<B: ArchiveStart> Shelf<FileStore<FileFrom<B>>> for StoreShelf<'_, B> {
+    ghost is_known = { λ place. place ≡ B.place };
+
+    ghost holds = { λ list shelf. HoldArchiveAt (image_at B.Start) B.place list };
+
+    fn open(&mut self, place: u16) -> Result<Connection<FileStore<FileFrom<B>>>, TableFault> {
+        self.own_archive(place)
+    }
+}
+
+/// The same in files of which nothing is supposed.
 #[derive(Drop)]
 pub struct UnknownShelf<'a> {
-    shelf: FileShelf<'a, Unknown>,
+    shelf: StoreShelf<'a, Unknown>,
 }
 
 impl<'a> UnknownShelf<'a> {
     /// That shelf.
-    pub fn new(shelf: FileShelf<'a, Unknown>) -> UnknownShelf<'a>
+    pub fn new(shelf: StoreShelf<'a, Unknown>) -> UnknownShelf<'a>
         ensures { result.shelf ≡ shelf.entry }
     {
         UnknownShelf { shelf }
@@ -25,10 +70,6 @@ impl<'a> UnknownShelf<'a> {
 }
 
 impl Shelf<FileStore<FileFrom<Unknown>>> for UnknownShelf<'_> {
-    ghost use Rattle.std.specs.Prelude.{◌≡◌};
-    ghost use Rattle.office_archive_files.specs.Shelves.{HoldArchiveAt};
-    ghost use Rattle.sqlite.specs.WalFiles.{image_at};
-
     ghost is_known = { λ place. place ≡ 1 };
 
     ghost holds = { λ list shelf. HoldArchiveAt (image_at ⟦<Unknown as Start>⟧) 1 list };

@@ -12,11 +12,10 @@ ghost use Rattle.sqlite.specs.Files.{over_files};
 ghost use Rattle.sqlite.specs.WalFiles.{image_at};
 
 use crate::is_archive::{archive_at, is_register_of, is_same_office, reaches};
-use crate::register::{beside_path, found_at, place_of, read_history};
 use office_admission::Setup;
 use office_archives::Shelf;
 use office_closing::{Register, Segment};
-use office_commands::open_there;
+use office_commands::{beside_path, found_at, open_there, place_of, read_history};
 use office_desk::load_beside;
 use office_loading::Closed;
 use office_tables::TableFault;

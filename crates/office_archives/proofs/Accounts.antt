@@ -220,6 +220,8 @@ module _ {S A : Type 0} (g : Ghosts S) (are : List Archive → A → Type 0) whe
     closed = enrols.closed;
     stays = enrols.stays;
     noted = enrols.noted;
+    these = λ list they. they;
+    own = enrols;
   }
     where
       says_after : (content : SetupContent) (es : List Event) (list : List Archive) → StandsBeside g list content es old → (answer : AccountAnswer) → Says (account_answer (setup_content old.setup).partners code kind) code answer → AnswersAccount content es code kind answer

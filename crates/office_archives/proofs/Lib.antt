@@ -2,6 +2,7 @@ pub mod Filled
 pub mod Rising
 pub mod Standing
 pub mod Together
+pub mod Alone
 pub mod Accounts
 pub mod Brought
 pub mod Told

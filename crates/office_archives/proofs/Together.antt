@@ -116,6 +116,8 @@ module _ {S A : Type 0} (g : Ghosts S) (is_sound : A → Type 0) (are : List Arc
     closed = leads.closed;
     stays = leads.stays;
     noted = leads.noted;
+    these = λ list they. they;
+    alone = λ none. leads;
   }
     where
       far : (list : List Archive) → IsBeyond g list old sent
@@ -125,7 +127,7 @@ module _ {S A : Type 0} (g : Ghosts S) (is_sound : A → Type 0) (are : List Arc
       none list content es stands place is = let never : Err fault ≡ Ok place = sym refused ∙ is in absurd cc
 
   -- the lists that a text names were brought back, and then the desk took it in
-  module _ (old mid : Desk S g) (a : A) (sent : List ℕ) (partner number : ℕ) (admits : admission (parties_of old.setup) (interchange_of sent) ≡ Ok (partner, number)) (is_open : nat_le number (last_closed old.closed partner) ≡ false) where
+  module _ (old mid : Desk S g) (a : A) (sent : List ℕ) (partner number : ℕ) (admits : admission (parties_of old.setup) (interchange_of sent) ≡ Ok (partner, number)) (is_open : nat_le number (last_closed old.closed partner) ≡ false) (some : are [] a → ⊥) where
     abbrev named : List ListName
     named = named_by old partner (interchange_of sent)
 
@@ -170,6 +172,8 @@ module _ {S A : Type 0} (g : Ghosts S) (is_sound : A → Type 0) (are : List Arc
       closed = leads.closed ∙ brings.closed;
       stays = λ sound. brings.stays (leads.stays sound);
       noted = subst (λ last. NotesFault given last new.last_fault) brings.last_fault leads.noted;
+      these = λ list they. they;
+      alone = λ none. absurd (some none);
     }
       where
         taken : IsSound g new → (list : List Archive) (content : SetupContent) (es : List Event) (was : StandsBeside g list content es old) (there : StandsWith g list content es named old mid was) → Delivers (StandsBeside g list content) (AnswersNext content) es sent given new
@@ -191,6 +195,8 @@ module _ {S A : Type 0} (g : Ghosts S) (is_sound : A → Type 0) (are : List Arc
       closed = closed ∙ brings.closed;
       stays = λ sound. brings.stays (sound_mid sound);
       noted = fault;
+      these = λ list they. they;
+      alone = λ none. absurd (some none);
     }
       where
         sound_mid : IsSound g new → IsSound g mid
@@ -265,8 +271,8 @@ module _ {S A : Type 0} (g : Ghosts S) (is_sound : A → Type 0) (are : List Arc
       }
 
       pub by_archives : (a b : A) (given : Response) → (is_sound b → (list : List Archive) → are list a → AnswersClosed list partner code number (interchange_of sent) given) → ((list : List Archive) → are list a → are list b) → IsNow given
-          → LeadsTogether g is_sound are old a sent given old b
-      by_archives a b given answers same now = record {
+          → (are [] a → ⊥) → LeadsTogether g is_sound are old a sent given old b
+      by_archives a b given answers same now some = record {
         answers = λ sound whole content es stand.
             let stands = stand.stands in
             let for = is_for stand.list content es stands in
@@ -284,6 +290,8 @@ module _ {S A : Type 0} (g : Ghosts S) (is_sound : A → Type 0) (are : List Arc
         closed = refl;
         stays = λ sound. sound;
         noted = notes_none given old.last_fault now;
+        these = same;
+        alone = λ none. absurd (some none);
       }
         where
           answered : (content : SetupContent) (es : List Event) (given : Response) → IsNow given → content_of given ≡ answer_to content es sent → AnswersNext content es sent given
@@ -296,8 +304,8 @@ module _ {S A : Type 0} (g : Ghosts S) (is_sound : A → Type 0) (are : List Arc
 
     -- the archives could not be asked
     pub not_now : (a b : A) (new : Desk S g) → RefusedSurely (parties_of old.setup) (interchange_of sent) response.NotNow → new.conn ≡ old.conn → new.setup ≡ old.setup → new.closed ≡ old.closed → new.beside ≡ old.beside → HasFault new.last_fault →
-        ((list : List Archive) → are list a → are list b) → LeadsTogether g is_sound are old a sent response.NotNow new b
-    not_now a b new surely conn setup closed beside fault same = record {
+        ((list : List Archive) → are list a → are list b) → (are [] a → ⊥) → LeadsTogether g is_sound are old a sent response.NotNow new b
+    not_now a b new surely conn setup closed beside fault same some = record {
       answers = λ sound whole content es stand.
           not_now_surely (parties_in (content_after content es)) (interchange_of sent) (subst (λ P. RefusedSurely P (interchange_of sent) response.NotNow) (parties_now stand.list content es stand.stands) surely);
       stand = λ sound content es stand. record { list = stand.list; these = same stand.list stand.these; stands = noted_stands g stand.list content es old new conn setup closed beside stand.stands };
@@ -307,6 +315,8 @@ module _ {S A : Type 0} (g : Ghosts S) (is_sound : A → Type 0) (are : List Arc
       closed = closed;
       stays = λ sound. subst (λ (k : Held S). HasCleanDisk (state g k) × IsTrue (state g k).is_open) conn sound;
       noted = fault;
+      these = same;
+      alone = λ none. absurd (some none);
     }
 
 -- ==== Looking: What a look does to a desk and the archives beside it.
@@ -427,6 +437,7 @@ module _ {S A : Type 0} (g : Ghosts S) (are : List Archive → A → Type 0) whe
         rows_left g stand.list content es old stands db (settled sound db (looks.crash sound clean stands.holds.has.schema db left));
     closed = looks.closed;
     stays = looks.stays;
+    these = same;
   }
 
   -- and then a fault was noted
@@ -441,4 +452,5 @@ module _ {S A : Type 0} (g : Ghosts S) (are : List Archive → A → Type 0) whe
         crash = λ sound clean content es stand db left. looks.crash sound (subst (λ (k : Held S). HasCleanDisk (state g k)) conn clean) content es stand db (subst (λ (k : Held S). (state g k).may_leave db) conn left);
         closed = closed ∙ looks.closed;
         stays = λ sound. looks.stays (sound_mid sound);
+        these = looks.these;
       }

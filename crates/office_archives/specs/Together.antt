@@ -23,6 +23,7 @@ use Rattle.office_parts.specs.Away.{AreAway}
 use Rattle.office_parts.specs.OwnLists.{ListName, rows_without_lists}
 use Rattle.office_desk.specs.Accounts.{AnswersAccount}
 use Rattle.office_desk.specs.Answers.{AnswersNext}
+use Rattle.office_desk.specs.Calls.{Enrols, Leads, Looks}
 use Rattle.office_desk.specs.Desks.{IsSound}
 use Rattle.office_desk.specs.Looking.{DeskHands, IsOpenAt}
 use Rattle.office_desk.specs.Noting.{NotesFault, NotesLook, NotesStore}
@@ -74,7 +75,8 @@ LeavesDelivered archives closed content es sent given s =
 
 -- A text was delivered to the desk and the archives, with that response. From whatever events, however much was put
 -- away of their rows, they stand after it, or where they stood if it is NotNow; and if the archives told the truth, it is
--- answered at its place. What a crash leaves of the store; the set-up stays, and what is closed; and why it is NotNow.
+-- answered at its place. What a crash leaves of the store; the set-up stays, what is closed, and the archives; and why it is
+-- NotNow. If there are no archives, it is a delivery to the desk.
 pub record LeadsTogether {S A : Type 0} (g : Ghosts S) (is_sound : A → Type 0) (are : List Archive → A → Type 0)
     (old : Desk S g) (before : A) (sent : List ℕ) (response : Response) (new : Desk S g) (after : A) : Type 0 where
   pub answers : IsSound g new → is_sound after → (content : SetupContent) (es : List Event) →
@@ -88,6 +90,8 @@ pub record LeadsTogether {S A : Type 0} (g : Ghosts S) (is_sound : A → Type 0)
   pub closed : new.closed ≡ old.closed
   pub stays : IsSound g new → IsSound g old
   pub noted : NotesFault response old.last_fault new.last_fault
+  pub these : (list : List Archive) → are list before → are list after
+  pub alone : are [] before → Leads g old sent response new
 
 -- ---- an account
 
@@ -103,7 +107,7 @@ LeavesAccount archives closed content es code kind account.NotNow s =
 LeavesAccount archives closed content es code kind answer s = LeavesBeside archives closed content es s
 
 -- An account was asked for. From whatever events it is answered at its place, and desk and archives stand after it; what a
--- crash leaves of the store; what is closed stays; and why it is NotNow.
+-- crash leaves of the store; what is closed stays, and the archives; and why it is NotNow. It was the desk that was asked.
 pub record EnrolsTogether {S A : Type 0} (g : Ghosts S) (are : List Archive → A → Type 0) (old : Desk S g) (before : A)
     (code kind : List ℕ) (answer : AccountAnswer) (new : Desk S g) (after : A) : Type 0 where
   pub adds : IsSound g new → (content : SetupContent) (es : List Event) → StandTogether g are content es old before
@@ -115,6 +119,8 @@ pub record EnrolsTogether {S A : Type 0} (g : Ghosts S) (are : List Archive → 
   pub closed : new.closed ≡ old.closed
   pub stays : IsSound g new → IsSound g old
   pub noted : NotesStore answer old.last_fault new.last_fault
+  pub these : (list : List Archive) → are list before → are list after
+  pub own : Enrols g old code kind answer new
 
 -- ---- a look
 
@@ -136,6 +142,7 @@ pub record OnlyLooksTogether {S A : Type 0} (g : Ghosts S) (are : List Archive �
       → LeavesBeside stand.list (closed_content old.closed) content es (state g new.conn)
   pub closed : new.closed ≡ old.closed
   pub stays : IsSound g new → IsSound g old
+  pub these : (list : List Archive) → are list before → are list after
 
 -- what is reported at a query, from whatever events after which desk and archives stand
 abbrev pub TellsBeside : {S A : Type 0} (g : Ghosts S) (are : List Archive → A → Type 0) → Desk S g → A → Query →
@@ -161,8 +168,9 @@ ShowsBeside g are desk archives (texts_after from) found =
     → stand.list ≡ [])
 ShowsBeside g are desk archives (of_archive place asked) found = TellsOfOne g are desk archives place asked found
 
--- A report, a page of the kept texts, or an archive's report was asked for. What is reported; desk and archives were only looked at; why it can't be
--- told now; and where it's told that the office can be asked, the store is open.
+-- A report, a page of the kept texts, or an archive's report was asked for. What is reported; desk and archives were only looked
+-- at; why it can't be told now; and where it's told that the office can be asked, the store is open. If there are no archives,
+-- it was the desk that was looked at.
 pub record LooksTogether {S A : Type 0} (g : Ghosts S) (is_sound : A → Type 0) (are : List Archive → A → Type 0)
     (old : Desk S g) (before : A) (look : Look) (found : Result (Option (List ℕ)) NotNow) (new : Desk S g) (after : A)
     : Type 0 where
@@ -170,3 +178,4 @@ pub record LooksTogether {S A : Type 0} (g : Ghosts S) (is_sound : A → Type 0)
   pub looks : OnlyLooksTogether g are old before new after
   pub noted : NotesLook found old.last_fault new.last_fault
   pub is_open : HasCleanDisk (state g new.conn) → OnOk found (IsOpenAt look (state g new.conn))
+  pub alone : are [] before → Looks g old look found new

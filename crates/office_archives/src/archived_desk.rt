@@ -1,5 +1,5 @@
 ghost use Rattle.std.specs.Option.{option_map};
-ghost use Rattle.std.specs.Prelude.{◌≡◌, ◌≤◌, ◌&&◌, ◌↔◌, ℕ, nat_le, IfOk, List, None, OnOk, Some, false, string_bytes, true};
+ghost use Rattle.std.specs.Prelude.{◌≡◌, ◌≤◌, ◌&&◌, ◌↔◌, ℕ, nat_le, [], IfOk, List, None, OnOk, Some, false, string_bytes, true};
 ghost use Rattle.std.specs.Result.{result_map_both};
 ghost use Rattle.edi_messages.specs.Owned.{call_content};
 ghost use Rattle.edi_syntax.specs.Interchange.{interchange_of, segments_in};
@@ -13,7 +13,7 @@ ghost use Rattle.office_loading.specs.Closed.{last_closed};
 ghost use Rattle.office_desk.specs.Calls.{OnlyLooks};
 ghost use Rattle.office_desk.specs.Desks.{IsSound};
 ghost use Rattle.office_desk.specs.Offices.{DeskHolds};
-ghost use Rattle.office_desk.specs.Reports.{IsOpenFor, partner_called};
+ghost use Rattle.office_desk.specs.Reports.{DeskTells, IsOpenFor, partner_called};
 ghost use Rattle.office_history.specs.After.{content_after};
 ghost use Rattle.office_parts.specs.Archives.{Archive};
 ghost use Rattle.office_reports.specs.Looking.{of_archive, report, texts_after};
@@ -40,8 +40,8 @@ use sqlite::Alter;
 use std::alloc::Global;
 use terminal_core::Side;
 
-/// The desk of a store of which history was put away, and the store's archives: a delivery under a number that is closed
-/// is answered by what these keep, any other by the desk.
+/// The desk of a store, and the store's archives: a delivery under a number that is closed is answered by what these keep, any
+/// other by the desk. Without archives it is the desk.
 #[derive(Drop)]
 pub struct ArchivedDesk<S: Alter, A: Archives> {
     desk: Desk<S>,
@@ -79,6 +79,9 @@ impl<S: Alter + Drop, A: Archives + Drop> ArchivedDesk<S, A> {
         ensures leads { LeadsTogether S.Store A.is_sound A.are self.old.desk self.old.archives delivered.now result
             self.new.desk self.new.archives }
     {
+        if self.archives.count() == 0 {
+            return self.desk.deliver(alloc, delivered);
+        }
         let text = interchange_text(delivered);
         match self.desk.admit_text(text) {
             Ok(admitted) => self.take_admitted(alloc, admitted, text),
@@ -97,6 +100,7 @@ impl<S: Alter + Drop, A: Archives + Drop> ArchivedDesk<S, A> {
     /// Answers an admitted text: by the archives, if its number is closed.
     fn take_admitted(&mut self, alloc: Global, admitted: Admitted<'_>, text: &[u8]) -> Response
         requires admitted { IsAdmitted self.old.desk.setup text.now admitted }
+        requires some { A.are [] self.old.archives → ⊥ }
         ensures leads { (sent : List ℕ) → text.now ≡ interchange_of sent →
             LeadsTogether S.Store A.is_sound A.are self.old.desk self.old.archives sent result
             self.new.desk self.new.archives }
@@ -119,6 +123,7 @@ impl<S: Alter + Drop, A: Archives + Drop> ArchivedDesk<S, A> {
     /// Takes an admitted text in under a number that is not closed. Before that the lists that it names are brought back.
     fn take_open(&mut self, alloc: Global, admitted: Admitted<'_>, text: &[u8]) -> Response
         requires admitted { IsAdmitted self.old.desk.setup text.now admitted }
+        requires some { A.are [] self.old.archives → ⊥ }
         requires is_open { nat_le (number_in (header_of (segments_in text.now)))
             (last_closed self.old.desk.closed admitted.partner) ≡ false }
         ensures leads { (sent : List ℕ) → text.now ≡ interchange_of sent →
@@ -142,6 +147,25 @@ impl<S: Alter + Drop, A: Archives + Drop> ArchivedDesk<S, A> {
         alloc: Global,
         query: &Query,
     ) -> Result<Option<String>, TableFault>
+        ensures told { IsSound S.Store self.new.desk → A.is_sound self.new.archives → IfOk result (λ found.
+            TellsBeside S.Store A.are self.old.desk self.old.archives query.now (option_map string_bytes found)) }
+        ensures looks { OnlyLooksTogether S.Store A.are self.old.desk self.old.archives self.new.desk
+            self.new.archives }
+        ensures last_fault { self.new.desk.last_fault ≡ self.old.desk.last_fault }
+
+        // If there are no archives, the desk reports it.
+        ensures alone { A.are [] self.old.archives → IsSound S.Store self.new.desk →
+            IfOk result (λ found. DeskTells S.Store self.old.desk query.now (option_map string_bytes found)) }
+        ensures alone_looks { A.are [] self.old.archives → OnlyLooks S.Store self.old.desk self.new.desk }
+    {
+        if self.archives.count() == 0 {
+            return self.desk.find_report(alloc, query);
+        }
+        self.find_beside(alloc, query)
+    }
+
+    /// What store and archives report for a query, where there are archives.
+    fn find_beside(&mut self, alloc: Global, query: &Query) -> Result<Option<String>, TableFault>
         ensures told { IsSound S.Store self.new.desk → A.is_sound self.new.archives → IfOk result (λ found.
             TellsBeside S.Store A.are self.old.desk self.old.archives query.now (option_map string_bytes found)) }
         ensures looks { OnlyLooksTogether S.Store A.are self.old.desk self.old.archives self.new.desk
@@ -267,7 +291,10 @@ impl<S: Alter + Drop, A: Archives + Drop> ArchivedDesk<S, A> {
         ensures looks { LooksTogether S.Store A.is_sound A.are self.old.desk self.old.archives (report query.now)
             (result_map_both (option_map string_bytes) (λ refusal. refusal) result) self.new.desk self.new.archives }
     {
-        match self.find_report(alloc, query) {
+        if self.archives.count() == 0 {
+            return self.desk.report(alloc, query);
+        }
+        match self.find_beside(alloc, query) {
             Ok(found) => Ok(found),
             Err(fault) => {
                 self.desk.note(fault);
@@ -299,6 +326,9 @@ impl<S: Alter + Drop, A: Archives + Drop> ArchivedDesk<S, A> {
         ensures looks { LooksTogether S.Store A.is_sound A.are self.old.desk self.old.archives (of_archive place query.now)
             (result_map_both (option_map string_bytes) (λ refusal. refusal) result) self.new.desk self.new.archives }
     {
+        if self.archives.count() == 0 {
+            return self.desk.archive_report(alloc, place, query);
+        }
         match tell_of_archive(alloc, &mut self.desk, &mut self.archives, place, query) {
             Ok(found) => Ok(found),
             Err(fault) => {

@@ -2,6 +2,7 @@
 use Rattle.std.proofs.Common.{◌≡◌, ℕ, List, length, true, sym, ap, subst, ◌∙◌, zero, suc, ◌+◌, ◌<◌, ◌≤◌, inl, inr, [], ◌∷◌, ◌++◌, map, take, get_or, Bool, cond, refl, arith, Option, None, Some, Result, Ok}
 use Rattle.std.specs.Prelude.{Contains, IsPermutation, ◌==◌, count_by, IsSorted, ◌&&◌, nat_lt, find, string_bytes}
 use Rattle.std.proofs.lemmas.List.{nil_from_length, get_or-map, length-map, take_more, append-nil}
+use Rattle.std.proofs.lemmas.List.Elements.{Contains-get_or}
 use Rattle.std.proofs.lemmas.List.Sorted.{IsPermutation-sym, IsPermutation-trans, length_permutation, Contains-permutation, IsNonDecreasingBy-from_sort, IsPermutation-map, sum_by-IsPermutation, IsPermutation-append}
 use Rattle.sqlite_rules.proofs.ListLemmas.{all_from, all_has, contains_had, has_filtered, has_contained, has_found, has_kept}
 use Rattle.sqlite_trees.proofs.ListLemmas.{IsPermutation-filter, all-permutation, map-map}
@@ -20,7 +21,7 @@ use Rattle.office_parts.specs.OwnLists.{ListName, list_name}
 use Rattle.office_closing.specs.Lists.{SettledListContent}
 use Rattle.office_closing.specs.Going.{AreDone, GoesAs, IsAmong, IsDone, MayGo, lines_on, name_of, IsWaitedFor, lists_in}
 use Rattle.office_closing.specs.Found.{list_on}
-use Rattle.office_closing.specs.Waiting.{AreWaitedFor, lists_beyond, lists_if_any, lists_under}
+use Rattle.office_closing.specs.Waiting.{AreWaitedFor, HasWaiting, HaveNexts, WaitsBeyond, lists_beyond, lists_if_any, lists_under}
 use Rattle.office_closing.proofs.FoundLemmas.{own_list, line_under, sides_same, flat_has, has_flat}
 use Rattle.std.specs.List.{range_with_len, flat_map}
 use Rattle.std.specs.List.Sorted.{IsNonDecreasing}
@@ -204,12 +205,16 @@ one_nexts rows nexts others accounts these those =
 -- the account at that index
 pub record IsAccountAt (by_id : List Partner) (index next : ℕ) : Type 0 where
   pub account : Partner
+  pub inside : Contains by_id account
   pub more : take (index + 1) by_id ≡ take index by_id ++ account ∷ []
   pub has_id : account.id ≡ index + 1
   pub has_next : account.next ≡ next
 
 abbrev no_account : Partner
 no_account = record { id = 0; code = []; kind = Gate; next = 0 }
+
+pub many_accounts : (rows : Rows) (nexts : List ℕ) → HaveNexts rows nexts → length nexts ≡ length rows.partners
+many_accounts rows nexts have = ap length have.are.3 ∙ length-map have.are.0 _ ∙ length_permutation rows.partners have.are.0 have.are.1
 
 pub as_many : (rows : Rows) (nexts : List ℕ) (by_id : List Partner) → AreById rows nexts by_id → length nexts ≡ length by_id
 as_many rows nexts by_id are = ap length are.next_numbers ∙ length-map by_id _
@@ -220,6 +225,7 @@ account_at rows nexts by_id index are within =
     let account = get_or by_id index no_account in
     record {
       account = account;
+      inside = Contains-get_or by_id index no_account low;
       more = take_more by_id index no_account low;
       has_id =
           let number : get_or (map id_of by_id) index 0 ≡ 1 + index = ap (λ l. get_or l index 0) are.ids ∙ get_or-range_with_len 1 (length by_id) index 0 low in
@@ -227,6 +233,16 @@ account_at rows nexts by_id index are within =
           omega (arith, number, own);
       has_next = sym (ap (λ l. get_or l index 0) are.next_numbers ∙ get_or-map (λ (p : Partner). p.next) by_id index no_account 0 low);
     }
+
+-- a text of the account at that index waits
+pub has_waiting : (rows : Rows) (nexts : List ℕ) (by_id : List Partner) → AreById rows nexts by_id → (index next : ℕ) → IsAccountAt by_id index next → WaitsBeyond (index + 1) next rows → HasWaiting rows
+has_waiting rows nexts by_id are index next one waits = record {
+  account = one.account;
+  has = Contains-permutation by_id rows.partners one.account (IsPermutation-sym rows.partners by_id are.same) one.inside;
+  waits =
+      subst (λ n. WaitsBeyond n one.account.next rows) (sym one.has_id)
+      (subst (λ n. WaitsBeyond (index + 1) n rows) (sym one.has_next) waits);
+}
 
 -- ==== WaitingLemmas: The lists that texts that wait name, account by account and number by number.
 

@@ -60,13 +60,13 @@ pub record AreClosingLists (own copy : OfficeContent) (named : List ListName) (a
   pub gone : AreInBoth done (map list_content lists.all.items) (map list_content lists.gone.items)
 
 -- the plan has these, and that stage
-pub record IsPlanOf (history : History) (lists : ClosingLists) (come : Stage) (plan : Plan) : Type 0 where
+pub record IsPlanOf (history : History) (closed : ClosingLists) (come : Stage) (plan : Plan) : Type 0 where
   pub numbers : plan.numbers.items ≡ history.numbers.items
   pub visits : plan.visits.items ≡ history.visits.items
   pub archive : archive_content plan.archive ≡ archive_content history.archive
   pub segments : plan.segments.items ≡ history.segments.items
-  pub lists : plan.lists.items ≡ lists.all.items
-  pub gone : plan.gone.items ≡ lists.gone.items
+  pub lists : plan.lists.items ≡ closed.all.items
+  pub gone : plan.gone.items ≡ closed.gone.items
   pub stage : plan.stage ≡ come
 
 -- ---- refusals

@@ -1,8 +1,8 @@
 ghost use Rattle.std.specs.Option.{option_map};
 ghost use Rattle.std.specs.Prelude.{◌≡◌, ◌↔◌, ◌≤◌, ◌++◌, ◌∷◌, [], true, IfOk, IfErr, IsTrue, MatchOption, OnOk, length, map, string_bytes};
 ghost use Rattle.office_loading.specs.Closed.{last_closed};
-ghost use Rattle.office_closing.specs.Copies.{AreAtMost, AreDoneIn, AreFirst, ComesOn, ComesToNone, FileNames, IsNoLater, IsOfStore, IsReason, IsSameOffice, archive_in, lists_at, numbers_from, numbers_of, office_content, segments_of};
 ghost use Rattle.office_closing.specs.Closes.{IsOfClosing, closing_content};
+ghost use Rattle.office_closing.specs.Copies.{AreAtMost, AreFirst, ComesOn, FileNames, IsNoLater, IsOfStore, IsReason, IsSameOffice, archive_in, numbers_from, numbers_of, office_content, segments_of};
 ghost use Rattle.office_closing.specs.Planning.{AreClosingLists, AreFor, IsHistory, IsMarkedAs, IsPlan, IsPlanOf, IsRefused, IsRefusedWith, IsToldBy};
 ghost use Rattle.office_closing.specs.Steps.{is_unmarked, is_unraised};
 ghost use Rattle.office_closing.specs.Visits.{AreToGo};

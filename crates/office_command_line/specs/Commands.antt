@@ -29,11 +29,12 @@ init_app = with_rule (with_rule (with_rule (new_app (codes "init")) (word (codes
 unfoldable pub deliver_app : App
 deliver_app = with_rule (with_rule (new_app (codes "deliver")) (word (codes "DB"))) (word (codes "FILE"))
 
--- serve DB PORT COUNT [--log] [--ahead N]
+-- serve DB PORT COUNT [--log] [--ahead N] [--host NAME]
 unfoldable pub serve_app : App
 serve_app =
-    with_rule (with_rule (with_rule (with_rule (with_rule (new_app (codes "serve")) (word (codes "DB")))
-    (word (codes "PORT"))) (word (codes "COUNT"))) (flag (codes "log"))) (valued_option (codes "ahead"))
+    with_rule (with_rule (with_rule (with_rule (with_rule (with_rule (new_app (codes "serve")) (word (codes "DB")))
+    (word (codes "PORT"))) (word (codes "COUNT"))) (flag (codes "log"))) (valued_option (codes "ahead")))
+    (valued_option (codes "host"))
 
 -- report DB KIND [KEY]
 unfoldable pub report_app : App

@@ -19,7 +19,7 @@ use Rattle.office_command_line.specs.declared.command_reading.Request.TheVariant
 pub data RequestContent : Type 0 where
   init : Text → Text → Text → RequestContent
   deliver : Text → Text → RequestContent
-  serve : Text → ℕ → ℕ → Bool → (ahead : Option ℕ) → RequestContent
+  serve : Text → ℕ → ℕ → Bool → (ahead : Option ℕ) → (host : Option Text) → RequestContent
   report : Text → ReportKind → Option Text → RequestContent
   archives : Text → RequestContent
   texts : Text → (from : ℕ) → RequestContent
@@ -32,7 +32,8 @@ pub data RequestContent : Type 0 where
 abbrev pub request_content : Request → RequestContent
 request_content (request.Init store partners blocks) = init store.now partners.now blocks.now
 request_content (request.Deliver store file) = deliver store.now file.now
-request_content (request.Serve store port count log ahead) = serve store.now port count log ahead
+request_content (request.Serve store port count log ahead host) =
+    serve store.now port count log ahead (option_map (λ text. text.now) host)
 request_content (request.Report store kind key) = report store.now kind (option_map (λ text. text.now) key)
 request_content (request.Archives store) = archives store.now
 request_content (request.Texts store from) = texts store.now from
@@ -115,14 +116,14 @@ deliver_request rows = option_and_then
 abbrev pub is_set : Text → List Row → Bool
 is_set name rows = option_map_or (λ (text : Text). bytes_eq text (codes "true")) (first_of name rows) false
 
--- a port from 1 to 65535, from 1 to 1,000,000 connections, whether a log is wanted, and how far above its next number a
--- partner's may be
+-- a port from 1 to 65535, from 1 to 1,000,000 connections, whether a log is wanted, how far above its next number a partner's
+-- may be, and the name of the host, as it stands
 abbrev pub serve_request : List Row → Option RequestContent
 serve_request rows =
     option_and_then (λ (store : Text).
     option_and_then (λ (port : ℕ).
     option_and_then (λ (count : ℕ).
-    option_map (λ (ahead : Option ℕ). serve store port count (is_set (codes "log") rows) ahead)
+    option_map (λ (ahead : Option ℕ). serve store port count (is_set (codes "log") rows) ahead (first_of (codes "host") rows))
     (number_if_any 999999999 (first_of (codes "ahead") rows)))
     (option_and_then (number_upto 1000000) (first_of (codes "COUNT") rows)))
     (option_and_then (number_upto 65535) (first_of (codes "PORT") rows)))

@@ -51,7 +51,7 @@ pub(crate) fn deliver_command<'a>(alloc: Global) -> Result<Command<'a>, AllocErr
     Ok(deliver)
 }
 
-/// `serve DB PORT COUNT [--log] [--ahead N]`
+/// `serve DB PORT COUNT [--log] [--ahead N] [--host NAME]`
 pub(crate) fn serve_command<'a>(alloc: Global) -> Result<Command<'a>, AllocError>
     ensures app { IfOk result (λ command. app_of command ≡ serve_app) }
     ensures local { IfOk result (λ command. (out-Command command).has_globals ≡ false) }
@@ -74,6 +74,12 @@ pub(crate) fn serve_command<'a>(alloc: Global) -> Result<Command<'a>, AllocError
         "N",
         "On a partner's own path, refuse numbers more than N above its next one",
     );
+    let host = valued(
+        alloc,
+        "host",
+        "NAME",
+        "Take requests to this host too, as a gateway passes them on; without it only to this machine",
+    );
     let serve = Command::new(alloc, "serve")
         .about("Serve connections over HTTP, one after the other")
         .after_help("Example: office serve office.db 8080 1000")
@@ -81,7 +87,8 @@ pub(crate) fn serve_command<'a>(alloc: Global) -> Result<Command<'a>, AllocError
         .arg(port)?
         .arg(count)?
         .arg(log)?
-        .arg(ahead)?;
+        .arg(ahead)?
+        .arg(host)?;
     Ok(serve)
 }
 

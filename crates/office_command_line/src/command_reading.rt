@@ -87,6 +87,8 @@ pub enum Request<'a> {
         log: bool,
         /// How far above its next number a partner's may be, from 1 to 999,999,999; none for no bound.
         ahead: Option<u32>,
+        /// The host whose requests are taken beside this machine's own; none for no other.
+        host: Option<&'a str>,
     },
     /// To report on the store.
     Report {
@@ -233,12 +235,14 @@ fn serve_in<'a>(matches: &ArgMatches<'a>) -> Option<Request<'a>>
     let port = number_upto(65535, text_of(matches, "PORT")?)?;
     let count = number_upto(1_000_000, text_of(matches, "COUNT")?)?;
     let ahead = number_if_any(999_999_999, text_of(matches, "ahead"))?;
+    let host = text_of(matches, "host");
     Some(Request::Serve {
         store,
         port: port as u16,
         count,
         log: is_set(matches, "log"),
         ahead,
+        host,
     })
 }
 

@@ -2,11 +2,14 @@ mod DemoGiven
 mod Leaving
 mod OpenedLemmas
 mod StreamLemmas
-mod NowAlike
+mod Alike
 mod ReportLemmas
+mod DeliverLemmas
 mod AccountLemmas
+mod OpenLemmas
 mod LookingLemmas
 mod ServingLemmas
+mod ServeLemmas
 mod MigratingLemmas
 mod TextLemmas
 mod KeptTextLemmas

@@ -1,11 +1,10 @@
 -- What a desk tells, by a set-up that only says the same, and by the tables that the files held.
 use Rattle.std.proofs.Common.{◌≡◌, inl, inr, ℕ, List, Option, Some, option_map, Result, Ok, Err, IfOk, ap, sym, subst, ◌∙◌}
 use Rattle.std.specs.Prelude.{string_bytes}
-use Rattle.sqlite_disk.specs.declared.Disk.{Ghosts}
 use Rattle.sqlite.specs.Effect.{Database}
-use Rattle.sqlite.specs.Files.{file_state, over_files}
+use Rattle.sqlite.specs.Held.{state}
 use Rattle.sqlite.specs.Tree.{Trees}
-use Rattle.sqlite.specs.declared.FileStore.{FileStore}
+use Rattle.sqlite_trees.specs.declared.store.Store.{Ghosts}
 use Rattle.terminal_core.specs.State.{TerminalState}
 use Rattle.office_replies.specs.Events.{Event}
 use Rattle.office_admission.specs.Parties.{partner_from}
@@ -29,7 +28,7 @@ use Rattle.office_reports.specs.Picture.{IsPicture}
 use Rattle.office_desk.specs.Reports.{AreLookedUp, TellsOf, TellsAfter, TellsNext, TellsPartner, TellsPartners, TellsReplyOf, DeskTells, contrl_for_partner, ticket_of, partner_called}
 use Rattle.office_desk.specs.declared.desk.Desk.{Desk}
 use Rattle.office_desk.proofs.OwnNumbers.{answers_alike}
-use Rattle.office_commands.proofs.NowAlike.{now_alike}
+use Rattle.office_commands.proofs.Alike.{now_alike}
 use Rattle.office_commands.specs.Opening.{OpensOver}
 use Rattle.office_commands.specs.Reporting.{TellsKey, TellsOver, in_lines, report_text, report_status}
 
@@ -93,12 +92,12 @@ whole_loads : (db : Database) (content : SetupContent) (terminal : TerminalState
 whole_loads db content terminal loads = (loads.0, loads.1, whole_office loads.0 content terminal loads.2)
 
 -- what a desk tells that was opened over those tables, with nothing closed
-pub told_over : {D : Type 0} {g : Ghosts D} (db : Trees) (desk : Desk (FileStore D g) over_files) (asked : Query) (found : Option (List ℕ)) → OpensOver db desk
-    → closed_content desk.closed ≡ nothing_closed → DeskTells over_files desk asked found → TellsOver db asked found
-told_over db desk asked found over none told =
+pub told_over : {S : Type 0} (g : Ghosts S) (db : Trees) (desk : Desk S g) (asked : Query) (found : Option (List ℕ)) → OpensOver g db desk
+    → closed_content desk.closed ≡ nothing_closed → DeskTells g desk asked found → TellsOver db asked found
+told_over g db desk asked found over none told =
     let content = setup_content desk.setup in
     let terminal = over.office.there.terminal in
-    let there = (file_state over.was).committed in
+    let there = (state g over.was).committed in
     let whole = whole_loads there content terminal (subst (λ closed. LoadsOwn closed there content terminal) none over.office.loads) in
     record {
       content = content;

@@ -1,14 +1,12 @@
--- Requests that are served over a store in files.
+-- Requests that are served, of a desk of which nothing was put away.
 use Rattle.std.proofs.Common.{◌≡◌, ◌⊎◌, inl, inr, ℕ, Bool, true, false, List, [], ◌∷◌, ◌++◌, Option, Some, Result, Ok, Err, refl, sym, ap, subst, ◌∙◌}
 use Rattle.std.proofs.KnownBytes.{Appends-nil, Appends-trans}
 use Rattle.std.specs.Io.KnownBytes.{Appends}
 use Rattle.std.specs.Prelude.{string_bytes}
-use Rattle.sqlite_disk.specs.declared.Disk.{Ghosts}
-use Rattle.sqlite.specs.Files.{over_files}
 use Rattle.sqlite.specs.Held.{state}
 use Rattle.sqlite.specs.Recovery.{Image}
 use Rattle.sqlite.specs.Tree.{Trees}
-use Rattle.sqlite.specs.declared.FileStore.{FileStore}
+use Rattle.sqlite_trees.specs.declared.store.Store.{Ghosts}
 use Rattle.office_replies.specs.Adding.{with_added}
 use Rattle.office_replies.specs.Delivering.{with_answered}
 use Rattle.office_replies.specs.Events.{Event, delivered, migrated, added}
@@ -29,16 +27,17 @@ use Rattle.office_desk.specs.Answers.{AnswersNext}
 use Rattle.office_desk.specs.Accounts.{AnswersAccount}
 use Rattle.office_desk.specs.Calls.{Leads, Enrols, Looks}
 use Rattle.office_desk.specs.Crashes.{IsAfter}
-use Rattle.office_desk.specs.Desks.{IsSound, StandsFor}
+use Rattle.office_desk.specs.Desks.{IsSound, OpensAt, StandsFor}
 use Rattle.office_desk.specs.Looking.{DeskShows, ShowsAfter}
 use Rattle.office_desk.specs.declared.desk.Desk.{Desk}
 use Rattle.office_desk.proofs.OwnNumbers.{answers_alike}
-use Rattle.office_commands.specs.Delivering.{BeginsAt, OpensOn, StandsAlike}
+use Rattle.office_commands.specs.Delivering.{StandsAlike}
+use Rattle.office_commands.specs.Opening.{BeginsAt}
 use Rattle.office_commands.specs.Ending.{Prints, Tells as TellsText}
-use Rattle.office_commands.specs.Serving.{EndsServing, listening_line, served_line, IsServed, AreServed, postponed_event, HasNoEvent, MayBeThere, HoldsServed, LeadsNamed, EnrolsNamed, LeadsWhile, EnrolsWhile, AreServedBy, IsServedOver}
-use Rattle.office_commands.proofs.AccountLemmas.{account_alike}
+use Rattle.office_commands.specs.Serving.{EndsServing, listening_line, served_line, IsServed, AreServed, postponed_event, HasNoEvent, MayBeThere, HoldsServed, LeadsNamed, EnrolsNamed, LeadsWhile, EnrolsWhile, AreServedBy, IsServedAlone}
+use Rattle.office_commands.proofs.Alike.{account_alike, answer_alike}
 use Rattle.office_commands.proofs.ReportLemmas.{after_alike}
-use Rattle.office_commands.proofs.StreamLemmas.{answer_alike, stand_alike}
+use Rattle.office_commands.proofs.StreamLemmas.{stand_alike}
 
 -- ---- what stands around a desk
 
@@ -128,15 +127,15 @@ LeftBy content es Pends db = IsAfter content es db ⊎ ((event : Event) × Pends
 abbrev pub PendsBehind : (Event → Type 0) → Step → Event → Type 0
 PendsBehind Pends step event = (Pends event × ((es : List Event) → with_step es step ≡ es)) ⊎ (postponed_event step ≡ Some event)
 
-shown_of : {D : Type 0} {g : Ghosts D} (content : SetupContent) (es : List Event) (desk : Desk (FileStore D g) over_files) → StandsFor over_files content es desk → (at : Look) (found : Option (List ℕ))
-    → DeskShows over_files desk at found → ShowsAfter content es at found
+shown_of : {S : Type 0} {g : Ghosts S} (content : SetupContent) (es : List Event) (desk : Desk S g) → StandsFor g content es desk → (at : Look) (found : Option (List ℕ))
+    → DeskShows g desk at found → ShowsAfter content es at found
 shown_of content es desk stands (report query) found told = told.after content es stands
 shown_of content es desk stands (texts_after from) found told =
-    record { db = (state over_files desk.conn).committed; rows = stands.rows; has = stands.has; after = stands.after; pages = told stands.rows stands.has }
+    record { db = (state g desk.conn).committed; rows = stands.rows; has = stands.has; after = stands.after; pages = told stands.rows stands.has }
 shown_of content es desk stands (of_archive place query) found told = told
 
-told_of : {D : Type 0} {g : Ghosts D} (content : SetupContent) (es : List Event) (desk : Desk (FileStore D g) over_files) → StandsFor over_files content es desk → (at : Look)
-    (found : Result (Option (List ℕ)) NotNow) → Tells (DeskShows over_files desk at) found → Tells (ShowsAfter content es at) found
+told_of : {S : Type 0} {g : Ghosts S} (content : SetupContent) (es : List Event) (desk : Desk S g) → StandsFor g content es desk → (at : Look)
+    (found : Result (Option (List ℕ)) NotNow) → Tells (DeskShows g desk at) found → Tells (ShowsAfter content es at) found
 told_of content es desk stands at (Ok found) told = shown_of content es desk stands at found told
 told_of content es desk stands at (Err refusal) told = tt
 
@@ -153,42 +152,42 @@ pub none_pends : (steps : List Step) (event : Event) → PendsAfter (λ _. ⊥) 
 none_pends steps event (inl never) = absurd never.0
 none_pends steps event (inr there) = there
 
-module _ {D : Type 0} {g : Ghosts D} where
-  abbrev LedBy : Desk (FileStore D g) over_files → Step → Desk (FileStore D g) over_files → Type 0
-  LedBy = StepLeads (LeadsNamed (Leads over_files)) (EnrolsNamed (Enrols over_files)) (Looks over_files)
+module _ {S : Type 0} {g : Ghosts S} where
+  abbrev LedBy : Desk S g → Step → Desk S g → Type 0
+  LedBy = StepLeads (LeadsNamed (Leads g)) (EnrolsNamed (Enrols g)) (Looks g)
 
-  sound_step : (old : Desk (FileStore D g) over_files) (step : Step) (new : Desk (FileStore D g) over_files) → LedBy old step new → IsSound over_files new → IsSound over_files old
-  sound_step old (delivery text given) new led sound = elim led [ inl call ↦ call.stays sound | inr off ↦ subst (IsSound over_files) off.1 sound ]
-  sound_step old (account code kind given) new led sound = elim led [ inl call ↦ call.stays sound | inr off ↦ subst (IsSound over_files) off.1 sound ]
+  sound_step : (old : Desk S g) (step : Step) (new : Desk S g) → LedBy old step new → IsSound g new → IsSound g old
+  sound_step old (delivery text given) new led sound = elim led [ inl call ↦ call.stays sound | inr off ↦ subst (IsSound g) off.1 sound ]
+  sound_step old (account code kind given) new led sound = elim led [ inl call ↦ call.stays sound | inr off ↦ subst (IsSound g) off.1 sound ]
   sound_step old (look at found) new call sound = call.looks.stays sound
 
-  stand_step : (content : SetupContent) (es : List Event) (old : Desk (FileStore D g) over_files) (step : Step) (new : Desk (FileStore D g) over_files) → LedBy old step new → IsSound over_files new → StandsFor over_files content es old
-      → IsServed content es step × StandsFor over_files content (with_step es step) new
+  stand_step : (content : SetupContent) (es : List Event) (old : Desk S g) (step : Step) (new : Desk S g) → LedBy old step new → IsSound g new → StandsFor g content es old
+      → IsServed content es step × StandsFor g content (with_step es step) new
   stand_step content es old (delivery text given) new led sound stands = elim led [
     | inl call ↦ (let done = call.delivers sound content es stands in (inl done.0, done.1))
-    | inr off ↦ (inr off.0, subst (λ (r : Response). StandsFor over_files content (with_answered es text r) new) (sym off.0) (subst (StandsFor over_files content es) (sym off.1) stands))
+    | inr off ↦ (inr off.0, subst (λ (r : Response). StandsFor g content (with_answered es text r) new) (sym off.0) (subst (StandsFor g content es) (sym off.1) stands))
   ]
   stand_step content es old (account code kind given) new led sound stands = elim led [
     | inl call ↦ (let done = call.adds sound content es stands in (inl done.0, done.1))
-    | inr off ↦ (inr off.0, subst (λ (r : AccountAnswer). StandsFor over_files content (with_added es code kind r) new) (sym off.0) (subst (StandsFor over_files content es) (sym off.1) stands))
+    | inr off ↦ (inr off.0, subst (λ (r : AccountAnswer). StandsFor g content (with_added es code kind r) new) (sym off.0) (subst (StandsFor g content es) (sym off.1) stands))
   ]
   stand_step content es old (look at found) new call sound stands =
       (told_of content es old stands at found (call.told sound), call.looks.same sound content es stands)
 
-  module _ (content : SetupContent) (es : List Event) (old new : Desk (FileStore D g) over_files) (Pends : Event → Type 0)
-      (was : (db : Trees) → (state over_files old.conn).may_leave db → LeftBy content es Pends db) (db : Trees) (left : (state over_files new.conn).may_leave db) where
+  module _ (content : SetupContent) (es : List Event) (old new : Desk S g) (Pends : Event → Type 0)
+      (was : (db : Trees) → (state g old.conn).may_leave db → LeftBy content es Pends db) (db : Trees) (left : (state g new.conn).may_leave db) where
     -- a step that is no event and leaves nothing else
-    left_less : (step : Step) → ((es : List Event) → with_step es step ≡ es) → (state over_files old.conn).may_leave db → LeftBy content (with_step es step) (PendsBehind Pends step) db
+    left_less : (step : Step) → ((es : List Event) → with_step es step ≡ es) → (state g old.conn).may_leave db → LeftBy content (with_step es step) (PendsBehind Pends step) db
     left_less step none before =
         subst (λ (events : List Event). LeftBy content events (PendsBehind Pends step) db) (sym (none es)) (elim (was db before) [
           | inl after ↦ inl after
           | inr more ↦ inr (more.0, inl (more.1, none), more.2)
         ])
 
-    left_same : new ≡ old → (state over_files old.conn).may_leave db
-    left_same same = subst (λ (desk : Desk (FileStore D g) over_files). (state over_files desk.conn).may_leave db) same left
+    left_same : new ≡ old → (state g old.conn).may_leave db
+    left_same same = subst (λ (desk : Desk S g). (state g desk.conn).may_leave db) same left
 
-    left_delivery : (text : List ℕ) (given : Response) → LedBy old (delivery text given) new → IsSound over_files new → StandsFor over_files content es old
+    left_delivery : (text : List ℕ) (given : Response) → LedBy old (delivery text given) new → IsSound g new → StandsFor g content es old
         → LeftBy content (with_answered es text given) (PendsBehind Pends (delivery text given)) db
     left_delivery text given (inr off) sound stands = left_less (delivery text given) (λ events. ap (with_answered events text) off.0) (left_same off.1)
     left_delivery text response.NotNow (inl call) sound stands = elim (call.crash (call.stays sound) sound.0 content es stands db left) [
@@ -202,7 +201,7 @@ module _ {D : Type 0} {g : Ghosts D} where
     left_delivery text (response.Refused fault) (inl call) sound stands = inl (call.crash (call.stays sound) sound.0 content es stands db left)
     left_delivery text (response.RefusedWithContrl fault body) (inl call) sound stands = inl (call.crash (call.stays sound) sound.0 content es stands db left)
 
-    left_account : (code kind : List ℕ) (given : AccountAnswer) → LedBy old (account code kind given) new → IsSound over_files new → StandsFor over_files content es old
+    left_account : (code kind : List ℕ) (given : AccountAnswer) → LedBy old (account code kind given) new → IsSound g new → StandsFor g content es old
         → LeftBy content (with_added es code kind given) (PendsBehind Pends (account code kind given)) db
     left_account code kind given (inr off) sound stands = left_less (account code kind given) (λ events. ap (with_added events code kind) off.0) (left_same off.1)
     left_account code kind account_answer.NotNow (inl call) sound stands = elim (call.crash (call.stays sound) sound.0 content es stands db left) [
@@ -213,7 +212,7 @@ module _ {D : Type 0} {g : Ghosts D} where
     left_account code kind (account_answer.Known id body) (inl call) sound stands = inl (call.crash (call.stays sound) sound.0 content es stands db left)
     left_account code kind (account_answer.Refused fault) (inl call) sound stands = inl (call.crash (call.stays sound) sound.0 content es stands db left)
 
-    left_step : (step : Step) → LedBy old step new → IsSound over_files new → StandsFor over_files content es old → LeftBy content (with_step es step) (PendsBehind Pends step) db
+    left_step : (step : Step) → LedBy old step new → IsSound g new → StandsFor g content es old → LeftBy content (with_step es step) (PendsBehind Pends step) db
     left_step (delivery text given) led sound stands = left_delivery text given led sound stands
     left_step (account code kind given) led sound stands = left_account code kind given led sound stands
     left_step (look at found) call sound stands =
@@ -221,26 +220,26 @@ module _ {D : Type 0} {g : Ghosts D} where
 
   -- ---- steps, one after the other
 
-  abbrev AllLed : Desk (FileStore D g) over_files → List Step → Desk (FileStore D g) over_files → Type 0
-  AllLed = StepsLead (LeadsNamed (Leads over_files)) (EnrolsNamed (Enrols over_files)) (Looks over_files)
+  abbrev AllLed : Desk S g → List Step → Desk S g → Type 0
+  AllLed = StepsLead (LeadsNamed (Leads g)) (EnrolsNamed (Enrols g)) (Looks g)
 
-  sound_first : (old : Desk (FileStore D g) over_files) (steps : List Step) (new : Desk (FileStore D g) over_files) → AllLed old steps new → IsSound over_files new → IsSound over_files old
-  sound_first old [] new same sound = subst (IsSound over_files) same sound
+  sound_first : (old : Desk S g) (steps : List Step) (new : Desk S g) → AllLed old steps new → IsSound g new → IsSound g old
+  sound_first old [] new same sound = subst (IsSound g) same sound
   sound_first old (step ∷ steps) new (next, led, rest) sound = sound_step old step next led (sound_first next steps new rest sound)
 
-  stand_steps : (content : SetupContent) (es : List Event) (old : Desk (FileStore D g) over_files) (steps : List Step) (new : Desk (FileStore D g) over_files) → AllLed old steps new → IsSound over_files new → StandsFor over_files content es old
-      → AreServed content es steps × StandsFor over_files content (events_after es steps) new
-  stand_steps content es old [] new same sound stands = (tt, subst (StandsFor over_files content es) (sym same) stands)
+  stand_steps : (content : SetupContent) (es : List Event) (old : Desk S g) (steps : List Step) (new : Desk S g) → AllLed old steps new → IsSound g new → StandsFor g content es old
+      → AreServed content es steps × StandsFor g content (events_after es steps) new
+  stand_steps content es old [] new same sound stands = (tt, subst (StandsFor g content es) (sym same) stands)
   stand_steps content es old (step ∷ steps) new (next, led, rest) sound stands =
       let there = sound_first next steps new rest sound in
       let one = stand_step content es old step next led there stands in
       let more = stand_steps content (with_step es step) next steps new rest sound one.1 in
       ((one.0, more.0), more.1)
 
-  left_steps : (content : SetupContent) (es : List Event) (old : Desk (FileStore D g) over_files) (steps : List Step) (new : Desk (FileStore D g) over_files) → AllLed old steps new → IsSound over_files new → StandsFor over_files content es old
-      → (Pends : Event → Type 0) → ((db : Trees) → (state over_files old.conn).may_leave db → LeftBy content es Pends db)
-      → (db : Trees) → (state over_files new.conn).may_leave db → LeftBy content (events_after es steps) (PendsAfter Pends steps) db
-  left_steps content es old [] new same sound stands Pends was db left = elim (was db (subst (λ (desk : Desk (FileStore D g) over_files). (state over_files desk.conn).may_leave db) same left)) [
+  left_steps : (content : SetupContent) (es : List Event) (old : Desk S g) (steps : List Step) (new : Desk S g) → AllLed old steps new → IsSound g new → StandsFor g content es old
+      → (Pends : Event → Type 0) → ((db : Trees) → (state g old.conn).may_leave db → LeftBy content es Pends db)
+      → (db : Trees) → (state g new.conn).may_leave db → LeftBy content (events_after es steps) (PendsAfter Pends steps) db
+  left_steps content es old [] new same sound stands Pends was db left = elim (was db (subst (λ (desk : Desk S g). (state g desk.conn).may_leave db) same left)) [
     | inl after ↦ inl after
     | inr more ↦ inr (more.0, inl (more.1, λ events. refl), more.2)
   ]
@@ -255,27 +254,25 @@ module _ {D : Type 0} {g : Ghosts D} where
       ]
 
   -- a desk that stands for events of a set-up has its terminal
-  named_alike : (content : SetupContent) (es : List Event) (desk : Desk (FileStore D g) over_files) → StandsAlike content es desk → string_bytes desk.setup.terminal ≡ content.terminal
+  named_alike : (content : SetupContent) (es : List Event) (desk : Desk S g) → StandsAlike content es desk → string_bytes desk.setup.terminal ≡ content.terminal
   named_alike content es desk alike =
       sym (ap (λ (k : SetupContent). k.terminal) alike.holds.now_is) ∙ terminal_after alike.opening es ∙ alike.says.terminal
 
-  -- requests that were served of a desk that was opened on files
-  pub served_over : (image : Image) (count : ℕ) (opened desk : Desk (FileStore D g) over_files) → OpensOn image opened → AreServedBy (Leads over_files) (Enrols over_files) (Looks over_files) count opened desk
-      → IsServedOver image count desk
-  served_over image count opened desk opens served = record {
-    opened = opened;
-    opens = opens;
+  -- requests that were served of it, as it was opened on files
+  pub served_alone : (image : Image) (count : ℕ) (opened desk : Desk S g) → (IsSound g opened → (content : SetupContent) (es : List Event) → BeginsAt image content es → OpensAt g content es opened) → AreServedBy (Leads g) (Enrols g) (Looks g) count opened desk
+      → IsServedAlone g image count opened desk
+  served_alone image count opened desk opens served = record {
     served = served;
     answered = λ sound content es begins.
-        let at = opens.events (sound_first opened served.steps desk served.led sound) content es begins in
+        let at = opens (sound_first opened served.steps desk served.led sound) content es begins in
         let done = stand_steps at.opening es opened served.steps desk served.led sound at.stands in
         (served_alike at.opening content at.opening_says es served.steps done.0, stand_alike at.opening content at.opening_says (events_after es served.steps) desk done.1);
     named = λ sound content es begins.
-        let at = opens.events (sound_first opened served.steps desk served.led sound) content es begins in
+        let at = opens (sound_first opened served.steps desk served.led sound) content es begins in
         let done = stand_steps at.opening es opened served.steps desk served.led sound at.stands in
         named_alike content (events_after es served.steps) desk (stand_alike at.opening content at.opening_says (events_after es served.steps) desk done.1);
     leaves = λ sound content es begins.
-        let at = opens.events (sound_first opened served.steps desk served.led sound) content es begins in
+        let at = opens (sound_first opened served.steps desk served.led sound) content es begins in
         record {
           opening = at.opening;
           says = at.opening_says;

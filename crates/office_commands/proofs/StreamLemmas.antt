@@ -1,30 +1,24 @@
--- What is said of a stream by how it came out, and of one to a desk whose set-up only says the same.
-use Rattle.std.proofs.Common.{◌≡◌, ◌≢◌, ◌≤◌, ◌<◌, inl, inr, ℕ, ◌+◌, ◌-◌, ◌^◌, ◌++◌, min, List, [], ◌∷◌, Option, true, false, Result, Ok, Err, IfOk, IfErr, OnOk, arith, sym, ap, subst, ◌∙◌}
-use Rattle.sqlite_disk.specs.declared.Disk.{Ghosts}
-use Rattle.sqlite.specs.Files.{over_files}
+-- What is said of a stream by how it came out, and of one to a desk of which nothing was put away.
+use Rattle.std.proofs.Common.{◌≡◌, ◌≢◌, ◌≤◌, ◌<◌, inl, inr, ℕ, ◌+◌, ◌-◌, ◌^◌, ◌++◌, min, List, [], ◌∷◌, Option, true, false, Result, Ok, Err, IfOk, IfErr, OnOk, arith}
 use Rattle.sqlite.specs.Recovery.{Image}
-use Rattle.sqlite.specs.declared.FileStore.{FileStore}
-use Rattle.edi_syntax.specs.Interchange.{interchange_of}
 use Rattle.office_replies.specs.Delivering.{AreAnswered, AnswersEach, LeadsOn, with_answered, events_behind}
 use Rattle.office_replies.specs.Events.{Event}
 use Rattle.office_replies.specs.declared.deliver.Response.{Response}
-use Rattle.office_replies.specs.declared.deliver.Response.TheVariants.{Taken, Repeat, Waiting, Clash, Refused, RefusedWithContrl, NotNow}
 use Rattle.office_replies.specs.declared.deliver.Worst.{Worst}
-use Rattle.office_admission.specs.Refusals.{MayBeNotNow}
 use Rattle.office_admission.specs.Setups.{SetupContent}
-use Rattle.office_history.specs.After.{SaysSame, content_after}
-use Rattle.office_history.proofs.Alike.{parties_same}
+use Rattle.office_history.specs.After.{SaysSame}
 use Rattle.office_replies.specs.Faults.{MatchFault}
 use Rattle.office_replies.specs.declared.stream.StreamFault.{StreamFault}
 use Rattle.office_replies.specs.declared.stream.StreamFault.TheVariants.{Read, Write, Turns}
 use Rattle.office_desk.specs.Answers.{AnswersNext}
 use Rattle.office_desk.specs.Calls.{Leads}
-use Rattle.office_desk.specs.Desks.{StandsFor}
+use Rattle.sqlite_trees.specs.declared.store.Store.{Ghosts}
+use Rattle.office_desk.specs.Desks.{IsSound, OpensAt, StandsFor}
 use Rattle.office_desk.specs.declared.desk.Desk.{Desk}
-use Rattle.office_desk.proofs.OwnNumbers.{answers_alike}
 use Rattle.office_desk.proofs.AccountLemmas.{answered_all, leaves_all, sound_before}
-use Rattle.office_commands.proofs.NowAlike.{now_alike}
-use Rattle.office_commands.specs.Delivering.{AreDeliveredOver, OpensOn, StandsAlike}
+use Rattle.office_commands.proofs.Alike.{answer_alike}
+use Rattle.office_commands.specs.Delivering.{AreDeliveredAlone, StandsAlike}
+use Rattle.office_commands.specs.Opening.{BeginsAt}
 use Rattle.office_commands.specs.Ending.{Ports, LeavesPorts, most_turns}
 
 module _ {R W : Type 0} (old new : Ports R W) where
@@ -64,51 +58,21 @@ module _ {D : Type 0} (stands stands' : List Event → D → Type 0) (answers an
     stands_now = stand (events_behind es texts responses) desk answered.stands_now;
   }
 
--- ---- set-ups that say the same
+-- ---- deliveries to a desk of which nothing was put away
 
-module _ (one other : SetupContent) (says : SaysSame one other) where
-  pub answer_alike : (es : List Event) (sent : List ℕ) (given : Response) → AnswersNext one es sent given → AnswersNext other es sent given
-  answer_alike es sent (Taken body) is = is ∙ (answers_alike one other says es).answers sent
-  answer_alike es sent (Repeat body) is = is ∙ (answers_alike one other says es).answers sent
-  answer_alike es sent (Waiting body) is = is ∙ (answers_alike one other says es).answers sent
-  answer_alike es sent (Clash body) is = is ∙ (answers_alike one other says es).answers sent
-  answer_alike es sent (Refused fault) is = is ∙ (answers_alike one other says es).answers sent
-  answer_alike es sent (RefusedWithContrl fault body) is = is ∙ (answers_alike one other says es).answers sent
-  answer_alike es sent NotNow may = subst (λ parties. MayBeNotNow parties (interchange_of sent)) (parties_same (content_after one es) (content_after other es) (now_alike one other says es)) may
+pub stand_alike : {S : Type 0} {g : Ghosts S} (one other : SetupContent) → SaysSame one other → (es : List Event) (desk : Desk S g) → StandsFor g one es desk → StandsAlike other es desk
+stand_alike one other says es desk stands = record { opening = one; says = says; holds = stands }
 
-  pub stand_alike : {D : Type 0} {g : Ghosts D} (es : List Event) (desk : Desk (FileStore D g) over_files) → StandsFor over_files one es desk → StandsAlike other es desk
-  stand_alike es desk stands = record { opening = one; says = says; holds = stands }
-
--- deliveries to a desk that was opened on files
-pub delivered_over : {D : Type 0} {g : Ghosts D} (image : Image) (opened desk : Desk (FileStore D g) over_files) → OpensOn image opened → (texts : List (List ℕ)) (responses : List Response)
-    → LeadsOn (Leads over_files) opened texts responses desk → AreDeliveredOver image desk texts responses
-delivered_over image opened desk opens texts responses led = record {
-  opened = opened;
-  opens = opens;
+pub delivered_alone : {S : Type 0} (g : Ghosts S) (image : Image) (opened desk : Desk S g) → (IsSound g opened → (content : SetupContent) (es : List Event) → BeginsAt image content es → OpensAt g content es opened) → (texts : List (List ℕ)) (responses : List Response)
+    → LeadsOn (Leads g) opened texts responses desk → AreDeliveredAlone g image opened desk texts responses
+delivered_alone g image opened desk opens texts responses led = record {
   led = led;
   answered = λ sound content es begins.
-      let at = opens.events (sound_before over_files opened desk texts responses led sound) content es begins in
-      answered_also (StandsFor over_files at.opening) (StandsAlike content) (AnswersNext at.opening) (AnswersNext content)
+      let at = opens (sound_before g opened desk texts responses led sound) content es begins in
+      answered_also (StandsFor g at.opening) (StandsAlike content) (AnswersNext at.opening) (AnswersNext content)
       (stand_alike at.opening content at.opening_says) (answer_alike at.opening content at.opening_says) es desk texts responses
-      (answered_all over_files opened desk texts responses led sound at.opening es at.stands);
+      (answered_all g opened desk texts responses led sound at.opening es at.stands);
   leaves = λ sound content es begins.
-      let at = opens.events (sound_before over_files opened desk texts responses led sound) content es begins in
-      record { opening = at.opening; says = at.opening_says; holds = leaves_all over_files opened desk texts responses led sound at.opening es at.stands at.leaves };
+      let at = opens (sound_before g opened desk texts responses led sound) content es begins in
+      record { opening = at.opening; says = at.opening_says; holds = leaves_all g opened desk texts responses led sound at.opening es at.stands at.leaves };
 }
-
--- ---- what stands around a desk
-
--- deliveries to what a desk stands in are deliveries to the desk
-inner_leads : {W D : Type 0} (inner : W → D) (leads : D → List ℕ → Response → D → Type 0) (old : W) (texts : List (List ℕ)) (responses : List Response) (new : W)
-    → LeadsOn (λ o text given n. leads (inner o) text given (inner n)) old texts responses new → LeadsOn leads (inner old) texts responses (inner new)
-inner_leads inner leads old [] [] new same = ap inner same
-inner_leads inner leads old [] (given ∷ responses) new none = absurd none
-inner_leads inner leads old (text ∷ texts) [] new none = absurd none
-inner_leads inner leads old (text ∷ texts) (given ∷ responses) new (next, led, rest) = (inner next, led, inner_leads inner leads next texts responses new rest)
-
--- from what a desk was to what it is, by whatever stood around it
-pub delivered_by : {W D : Type 0} (inner : W → D) (leads : D → List ℕ → Response → D → Type 0) (first last : W) (opened end : D) → inner first ≡ opened → end ≡ inner last
-    → (texts : List (List ℕ)) (responses : List Response) → LeadsOn (λ o text given n. leads (inner o) text given (inner n)) first texts responses last → LeadsOn leads opened texts responses end
-delivered_by {W} {D} inner leads first last opened end begins ends texts responses led =
-    subst (λ (at : D). LeadsOn leads opened texts responses at) (sym ends)
-    (subst (λ (at : D). LeadsOn leads at texts responses (inner last)) begins (inner_leads inner leads first texts responses last led))

@@ -1,15 +1,12 @@
 -- What is printed of texts, and the rows that stay, by what the files held.
 use Rattle.std.proofs.Common.{◌≡◌, inl, inr, ℕ, List, Result, Ok, Err, IfOk, IfErr, IsTrue, sym, subst, ◌∙◌}
 use Rattle.std.proofs.lemmas.Result.{IfOk-weaker}
-use Rattle.sqlite_disk.specs.declared.Disk.{Ghosts as DiskGhosts}
 use Rattle.sqlite.specs.Effect.{Database}
-use Rattle.sqlite.specs.Files.{file_state, over_files}
-use Rattle.sqlite.specs.Held.{Held}
+use Rattle.sqlite.specs.Held.{Held, state}
 use Rattle.sqlite.specs.Order.{Row}
 use Rattle.sqlite.specs.Recovery.{Image}
 use Rattle.sqlite.specs.State.{State, HasCleanDisk}
 use Rattle.sqlite.specs.Tree.{Trees}
-use Rattle.sqlite.specs.declared.FileStore.{FileStore}
 use Rattle.office_rows.specs.Rows.{Rows}
 use Rattle.office_rows.specs.Stored.{HasRows}
 use Rattle.office_rows.specs.Tables.{interchange_table}
@@ -17,11 +14,14 @@ use Rattle.office_tables.proofs.MadeLemmas.{clean_first}
 use Rattle.office_tables.specs.Faults.{IsOfStore}
 use Rattle.office_tables.specs.Reading.{Reads}
 use Rattle.office_tables.specs.declared.table_fault.TableFault.{TableFault}
-use Rattle.office_desk.specs.Desks.{IsSound}
+use Rattle.sqlite_trees.specs.declared.store.Store.{Ghosts}
+use Rattle.office_replies.specs.Events.{Event}
+use Rattle.office_admission.specs.Setups.{SetupContent}
+use Rattle.office_desk.specs.Desks.{IsSound, OpensAt}
 use Rattle.office_desk.specs.declared.desk.Desk.{Desk}
-use Rattle.office_commands.specs.Delivering.{OpensOn}
-use Rattle.office_commands.specs.Opening.{HoldsTables}
-use Rattle.office_commands.specs.Printing.{HoldsRows, IsSoundStore, PrintsOver}
+use Rattle.office_commands.specs.Beside.{OpensOn}
+use Rattle.office_commands.specs.Opening.{BeginsAt, HoldsTables}
+use Rattle.office_commands.specs.Printing.{HoldsRows, IsSoundStore, PrintsAlone}
 use Rattle.office_commands.specs.Reporting.{office_database}
 
 -- what holds of the rows that a store has committed
@@ -46,53 +46,51 @@ module _ (old new : State) (settled : IsTrue old.is_open → old.now ≡ old.com
       let same = settled ((reads.keeps clean).was_open is_open) in
       told rows (subst (HasRows rows) (sym same) has)
 
-module _ {D : Type 0} {g : DiskGhosts D} (image : Image) (opened : Desk (FileStore D g) over_files) (conn : Held (FileStore D g)) (opens : OpensOn image opened) where
+module _ {S : Type 0} (g : Ghosts S) (image : Image) (opened : Desk S g) (conn : Held S) (opens : OpensOn g image opened) where
   -- what is committed is what the files held
-  shows : IsSound over_files opened → (db : Trees) → HoldsTables image db → (file_state opened.conn).committed ≡ office_database db
+  shows : IsSound g opened → (db : Trees) → HoldsTables image db → (state g opened.conn).committed ≡ office_database db
   shows sound db held = let over = opens.office sound db held in over.office.unchanged.0.committed_is ∙ over.shows
 
   tables_of : (rows : Rows) (held : HoldsRows image rows) → HoldsTables image held.db
   tables_of rows held = record { held = held.held; lists = held.has.lists }
 
   -- what holds of the rows that are committed holds of those in the files
-  of_files : IsSound over_files opened → (rows : Rows) (held : HoldsRows image rows) (Holds : List Row → Type 0) → ByRows (file_state opened.conn) Holds → Holds (held.db interchange_table.tree)
+  of_files : IsSound g opened → (rows : Rows) (held : HoldsRows image rows) (Holds : List Row → Type 0) → ByRows (state g opened.conn) Holds → Holds (held.db interchange_table.tree)
   of_files sound rows held Holds told =
       let same = shows sound held.db (tables_of rows held) in
       subst (λ (db : Database). Holds (db.trees interchange_table.tree)) same (told rows (subst (HasRows rows) (sym same) held.has))
 
   -- ---- by how it came out
 
-  printed_by : (prints : List Row → ℕ → Type 0) (outcome : Result ℕ TableFault) → Reads (file_state opened.conn) (file_state conn) outcome
-      → (HasCleanDisk (file_state conn) → IfOk outcome (λ status. ByRows (file_state opened.conn) (λ stored. prints stored status)))
-      → HasCleanDisk (file_state conn) → (rows : Rows) (held : HoldsRows image rows) → IfOk outcome (prints (held.db interchange_table.tree))
+  printed_by : (prints : List Row → ℕ → Type 0) (outcome : Result ℕ TableFault) → Reads (state g opened.conn) (state g conn) outcome
+      → (HasCleanDisk (state g conn) → IfOk outcome (λ status. ByRows (state g opened.conn) (λ stored. prints stored status)))
+      → HasCleanDisk (state g conn) → (rows : Rows) (held : HoldsRows image rows) → IfOk outcome (prints (held.db interchange_table.tree))
   printed_by prints (Ok status) reads told clean rows held =
       of_files (clean_first reads clean, (reads.unchanged clean).0.was_open) rows held (λ stored. prints stored status) (told clean)
   printed_by prints (Err fault) reads told clean rows held = tt
 
   -- a store that is sound in the end was so when it was opened
-  was_sound : (outcome : Result ℕ TableFault) → Reads (file_state opened.conn) (file_state conn) outcome → IsSoundStore conn → IsSound over_files opened
+  was_sound : (outcome : Result ℕ TableFault) → Reads (state g opened.conn) (state g conn) outcome → IsSoundStore g conn → IsSound g opened
   was_sound outcome reads sound = (clean_first reads sound.0, (reads.keeps sound.0).was_open sound.1)
 
-  fault_by : (outcome : Result ℕ TableFault) → Reads (file_state opened.conn) (file_state conn) outcome
-      → (IsSoundStore conn → IfErr outcome (λ fault. ByRows (file_state opened.conn) (λ stored. IsOfStore fault)))
-      → IsSoundStore conn → (rows : Rows) → HoldsRows image rows → IfErr outcome IsOfStore
+  fault_by : (outcome : Result ℕ TableFault) → Reads (state g opened.conn) (state g conn) outcome
+      → (IsSoundStore g conn → IfErr outcome (λ fault. ByRows (state g opened.conn) (λ stored. IsOfStore fault)))
+      → IsSoundStore g conn → (rows : Rows) → HoldsRows image rows → IfErr outcome IsOfStore
   fault_by (Ok status) reads told sound rows held = tt
   fault_by (Err fault) reads told sound rows held =
       of_files (was_sound (Err fault) reads sound) rows held (λ stored. IsOfStore fault) (told sound)
 
-  pub printed_over : (by_rows : List Row → ℕ → Type 0) (prints : Trees → ℕ → Type 0) → ((db : Trees) (status : ℕ) → by_rows (db interchange_table.tree) status → prints db status) → (outcome : Result ℕ TableFault) → Reads (file_state opened.conn) (file_state conn) outcome
-      → (HasCleanDisk (file_state conn) → IfOk outcome (λ status. ByRows (file_state opened.conn) (λ stored. by_rows stored status)))
-      → (IsSoundStore conn → IfErr outcome (λ fault. ByRows (file_state opened.conn) (λ stored. IsOfStore fault)))
-      → PrintsOver image prints outcome conn
-  printed_over by_rows prints also outcome reads told faults = record {
-    opened = opened;
-    opens = opens;
+  pub printed_alone : (by_rows : List Row → ℕ → Type 0) (prints : Trees → ℕ → Type 0) → ((db : Trees) (status : ℕ) → by_rows (db interchange_table.tree) status → prints db status) → (outcome : Result ℕ TableFault) → Reads (state g opened.conn) (state g conn) outcome
+      → (HasCleanDisk (state g conn) → IfOk outcome (λ status. ByRows (state g opened.conn) (λ stored. by_rows stored status)))
+      → (IsSoundStore g conn → IfErr outcome (λ fault. ByRows (state g opened.conn) (λ stored. IsOfStore fault)))
+      → (IsSound g opened → (content : SetupContent) (es : List Event) → BeginsAt image content es → OpensAt g content es opened) → PrintsAlone g image prints opened outcome conn
+  printed_alone by_rows prints also outcome reads told faults begins_at = record {
     reads = reads;
     printed = λ clean rows held. IfOk-weaker outcome _ _ (also held.db) (printed_by by_rows outcome reads told clean rows held);
     fault = fault_by outcome reads faults;
     stays = λ sound db held. (reads.keeps sound.0).committed sound.1 ∙ shows (was_sound outcome reads sound) db held;
     leaves = λ sound content es begins.
-        let at = opens.events (was_sound outcome reads sound) content es begins in
+        let at = begins_at (was_sound outcome reads sound) content es begins in
         record {
           opening = at.opening;
           says = at.opening_says;

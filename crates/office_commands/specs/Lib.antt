@@ -1,4 +1,5 @@
 pub mod Opening
+pub mod Beside
 pub mod Ending
 pub mod Demo
 pub mod Command
@@ -8,7 +9,11 @@ pub mod Accounts
 pub mod Reporting
 pub mod Looking
 pub mod Serving
+pub mod ServingBeside
 pub mod Senders
 pub mod Migrating
 pub mod Printing
 pub mod Whole
+pub mod Paths
+pub mod History
+pub mod Telling

@@ -1,22 +1,37 @@
 -- What a report leaves: it only looks.
-use Rattle.std.specs.Prelude.{List, []}
-use Rattle.sqlite_disk.specs.declared.Disk.{Ghosts as DiskGhosts}
-use Rattle.sqlite.specs.Files.{over_files}
+use Rattle.std.specs.Prelude.{ℕ, List, [], Option}
 use Rattle.sqlite.specs.Held.{state}
 use Rattle.sqlite.specs.Recovery.{Image}
-use Rattle.sqlite.specs.declared.FileStore.{FileStore}
+use Rattle.sqlite_trees.specs.declared.store.Store.{Ghosts}
 use Rattle.office_replies.specs.Events.{Event}
+use Rattle.office_reports.specs.declared.query.ReportKind.{ReportKind}
 use Rattle.office_admission.specs.Setups.{SetupContent}
 use Rattle.office_desk.specs.Calls.{OnlyLooks}
 use Rattle.office_desk.specs.Desks.{IsSound}
 use Rattle.office_desk.specs.declared.desk.Desk.{Desk}
-use Rattle.office_commands.specs.Delivering.{BeginsAt, LeavesAlike, OpensOn}
+use Rattle.office_parts.specs.Archives.{Archive}
+use Rattle.office_archives.specs.Together.{OnlyLooksTogether, TellsBeside}
+use Rattle.office_commands.specs.Beside.{IsAlone}
+use Rattle.office_commands.specs.Delivering.{LeavesAlike}
+use Rattle.office_commands.specs.Opening.{BeginsAt}
+use Rattle.office_commands.specs.Reporting.{TellsHeld, TellsKey}
 
--- It only looked at a desk that was opened on those files. If the desk is sound in the end, then from whatever events the
--- files held the rows, a crash leaves these.
-pub record LooksOver {D : Type 0} {g : DiskGhosts D} (image : Image) (desk : Desk (FileStore D g) over_files) : Type 0 where
-  pub opened : Desk (FileStore D g) over_files
-  pub opens : OpensOn image opened
-  pub looked : OnlyLooks over_files opened desk
-  pub leaves : IsSound over_files desk → (content : SetupContent) (es : List Event) → BeginsAt image content es →
-      LeavesAlike content es [] [] (state over_files desk.conn)
+-- It only looked at a desk of which nothing was put away. If the desk is sound in the end, then from whatever events the files
+-- held the rows, a crash leaves these.
+pub record LooksAlone {S : Type 0} (g : Ghosts S) (image : Image) (opened desk : Desk S g) : Type 0 where
+  pub looked : OnlyLooks g opened desk
+  pub leaves : IsSound g desk → (content : SetupContent) (es : List Event) → BeginsAt image content es →
+      LeavesAlike content es [] [] (state g desk.conn)
+
+-- A store that was opened on those files and its archives were only looked at.
+pub record LooksOver {S A : Type 0} (g : Ghosts S) (are : List Archive → A → Type 0) (image : Image)
+    (opened office : Desk S g × A) : Type 0 where
+  pub looks : OnlyLooksTogether g are opened.0 opened.1 office.0 office.1
+  pub alone : IsAlone are image opened → LooksAlone g image opened.0 office.0
+
+-- A report was asked for under a key. From whatever events after which store and archives stood together, what was found is
+-- what is reported after them; and if nothing was put away, what the files' rows tell.
+pub record IsReportedOver {S A : Type 0} (g : Ghosts S) (is_sound : A → Type 0) (are : List Archive → A → Type 0)
+    (image : Image) (opened office : Desk S g × A) (kind : ReportKind) (key : List ℕ) (found : Option (List ℕ)) : Type 0 where
+  pub tells : IsSound g office.0 → is_sound office.1 → TellsKey (TellsBeside g are opened.0 opened.1) kind key found
+  pub alone : IsAlone are image opened → IsSound g office.0 → TellsHeld image kind key found

@@ -1,16 +1,19 @@
 -- How the office opens: over tables in memory, and over files.
 use Rattle.std.specs.Prelude.{◌≡◌, ◌⊎◌, List, []}
-use Rattle.sqlite_disk.specs.declared.Disk.{Ghosts}
+use Rattle.sqlite_disk.specs.declared.Disk.{Ghosts as DiskGhosts}
 use Rattle.sqlite_catalog.specs.Listing.{Lists}
 use Rattle.sqlite_trees.specs.Objects.{catalog_tree}
 use Rattle.sqlite_trees.specs.declared.memory.MemStore.{MemStore}
-use Rattle.sqlite.specs.Files.{HoldsDatabase, file_state, over_files}
-use Rattle.sqlite.specs.Held.{Held}
+use Rattle.sqlite_trees.specs.declared.store.Store.{Ghosts}
+use Rattle.sqlite.specs.Files.{HoldsDatabase, file_state}
+use Rattle.sqlite.specs.Held.{Held, state}
 use Rattle.sqlite.specs.Recovery.{Image}
 use Rattle.sqlite.specs.Schema.{Schema}
+use Rattle.sqlite.specs.State.{HasCleanDisk}
 use Rattle.sqlite.specs.Steps.{over_memory}
 use Rattle.sqlite.specs.Tree.{Trees}
 use Rattle.sqlite.specs.declared.FileStore.{FileStore}
+use Rattle.office_admission.specs.Given.{IsGiven}
 use Rattle.office_admission.specs.Setups.{SetupContent, setup_content}
 use Rattle.office_replies.specs.Events.{Event}
 use Rattle.office_rows.specs.Tables.{office_schema, no_schema}
@@ -48,15 +51,25 @@ pub record HoldsAfter (image : Image) (content : SetupContent) (es : List Event)
   pub held : ∥ HoldsDatabase image db ∥₁
   pub after : IsAfter content es db
 
-module _ {D : Type 0} {g : Ghosts D} where
-  -- a connection shows the database that the files held, with the tables that it lists
-  abbrev pub ShowsHeld : Image → Held (FileStore D g) → Type 0
-  ShowsHeld image conn =
-      (db : Trees) (schema : Schema) → ∥ HoldsDatabase image db ∥₁ → Lists (db catalog_tree) schema →
-      (file_state conn).committed ≡ record { schema = schema; trees = db }
+-- the files hold the rows after those events, of a set-up that set-up files could give
+abbrev pub BeginsAt : Image → SetupContent → List Event → Type 0
+BeginsAt image content es = IsGiven content × HoldsAfter image content es
+
+-- a connection to a store in files shows the database that these held, with the tables that it lists
+abbrev pub ShowsHeld : {D : Type 0} {g : DiskGhosts D} → Image → Held (FileStore D g) → Type 0
+ShowsHeld image conn =
+    (db : Trees) (schema : Schema) → ∥ HoldsDatabase image db ∥₁ → Lists (db catalog_tree) schema →
+    (file_state conn).committed ≡ record { schema = schema; trees = db }
+
+module _ {S : Type 0} (g : Ghosts S) where
+  -- as far as its disk has returned what was written, a connection shows the database that its file held
+  abbrev pub Shows : Image → Held S → Type 0
+  Shows image conn =
+      HasCleanDisk (state g conn) → (db : Trees) (schema : Schema) → ∥ HoldsDatabase image db ∥₁ →
+      Lists (db catalog_tree) schema → (state g conn).committed ≡ record { schema = schema; trees = db }
 
   -- a desk that was opened over a connection which shows this database of the office's tables
-  pub record OpensOver (db : Trees) (desk : Desk (FileStore D g) over_files) : Type 0 where
-    pub was : Held (FileStore D g)
-    pub shows : (file_state was).committed ≡ record { schema = office_schema; trees = db }
-    pub office : OpensOffice over_files (file_state was) desk
+  pub record OpensOver (db : Trees) (desk : Desk S g) : Type 0 where
+    pub was : Held S
+    pub shows : (state g was).committed ≡ record { schema = office_schema; trees = db }
+    pub office : OpensOffice g (state g was) desk

@@ -1,20 +1,20 @@
 -- What a command prints of the texts that are kept.
 use Rattle.std.specs.Prelude.{◌≡◌, ◌⊎◌, ◌≤◌, ◌<◌, ℕ, List, [], Bool, true, false, Option, Result, IfOk, IfErr, IsTrue, codes, drop, length}
-use Rattle.std.specs.Io.KnownBytes.{Appends}
-use Rattle.sqlite_disk.specs.declared.Disk.{Ghosts as DiskGhosts}
-use Rattle.sqlite.specs.Files.{HoldsDatabase, file_state, over_files}
-use Rattle.sqlite.specs.Held.{Held}
+use Rattle.std.specs.Io.KnownBytes.{Appends, Keeps}
+use Rattle.sqlite_trees.specs.declared.store.Store.{Ghosts}
+use Rattle.sqlite.specs.Files.{HoldsDatabase}
+use Rattle.sqlite.specs.Held.{Held, state}
 use Rattle.sqlite.specs.Order.{Row}
 use Rattle.sqlite.specs.Recovery.{Image}
-use Rattle.sqlite.specs.State.{HasCleanDisk}
+use Rattle.sqlite.specs.State.{State, HasCleanDisk}
 use Rattle.sqlite.specs.Tree.{Trees}
-use Rattle.sqlite.specs.declared.FileStore.{FileStore}
 use Rattle.office_replies.specs.Events.{Event}
 use Rattle.office_rows.specs.Rows.{Rows}
 use Rattle.office_rows.specs.Stored.{StoresRows}
 use Rattle.office_rows.specs.Tables.{interchange_table}
 use Rattle.office_admission.specs.Setups.{SetupContent}
 use Rattle.office_tables.specs.Faults.{IsOfStore}
+use Rattle.office_tables.specs.DeliveryReading.{OnlyReads}
 use Rattle.office_tables.specs.Reading.{Reads}
 use Rattle.office_tables.specs.declared.table_fault.TableFault.{TableFault}
 use Rattle.office_loading.specs.Pages.{lines_of}
@@ -22,8 +22,12 @@ use Rattle.office_loading.specs.Texts.{has_reached}
 use Rattle.office_loading.specs.Writing.{AreWritten}
 use Rattle.office_desk.specs.Rebuilding.{KeepsTexts}
 use Rattle.office_desk.specs.declared.desk.Desk.{Desk}
-use Rattle.office_commands.specs.Delivering.{BeginsAt, LeavesAlike, OpensOn}
-use Rattle.office_commands.specs.Opening.{HoldsTables}
+use Rattle.office_parts.specs.Archives.{Archive}
+use Rattle.office_closing.specs.Register.{RegisterContent}
+use Rattle.office_archives.specs.Texts.{IsJournalWritten}
+use Rattle.office_commands.specs.Beside.{IsBesideShelf, OpensOn}
+use Rattle.office_commands.specs.Delivering.{LeavesAlike}
+use Rattle.office_commands.specs.Opening.{BeginsAt, HoldsTables}
 use Rattle.office_commands.specs.Reporting.{office_database}
 
 -- All texts after a number are printed and flushed, with 0; or there are fewer than that, and `none` is, with 1; or the
@@ -55,23 +59,64 @@ pub record HoldsRows (image : Image) (rows : Rows) : Type 0 where
   pub held : ∥ HoldsDatabase image db ∥₁
   pub has : StoresRows rows db
 
-module _ {D : Type 0} {g : DiskGhosts D} where
-  -- so far its disk has returned what was written, and it is open
-  abbrev pub IsSoundStore : Held (FileStore D g) → Type 0
-  IsSoundStore conn = HasCleanDisk (file_state conn) × IsTrue (file_state conn).is_open
+-- ---- a store of which nothing was put away
 
-  -- Texts were printed of a store that was opened on those files and then only read. If its disk is clean in the end, then
-  -- of whatever rows the files held, after some events or of any office. If it is open too: a fault is one of the store or
-  -- of memory; what the files held is committed still; and a crash leaves the rows after the events that led to them.
-  pub record PrintsOver (image : Image) (prints : Trees → (status : ℕ) → Type 0) (outcome : Result ℕ TableFault)
-      (conn : Held (FileStore D g)) : Type 0 where
-    pub opened : Desk (FileStore D g) over_files
-    pub opens : OpensOn image opened
-    pub reads : Reads (file_state opened.conn) (file_state conn) outcome
-    pub printed : HasCleanDisk (file_state conn) → (rows : Rows) → (held : HoldsRows image rows) →
-        IfOk outcome (prints held.db)
-    pub fault : IsSoundStore conn → (rows : Rows) → HoldsRows image rows → IfErr outcome IsOfStore
-    pub stays : IsSoundStore conn → (db : Trees) → HoldsTables image db →
-        (file_state conn).committed ≡ office_database db
-    pub leaves : IsSoundStore conn → (content : SetupContent) (es : List Event) → BeginsAt image content es →
-        LeavesAlike content es [] [] (file_state conn)
+-- so far its disk has returned what was written, and it is open
+abbrev pub IsSoundStore : {S : Type 0} (g : Ghosts S) → Held S → Type 0
+IsSoundStore g conn = HasCleanDisk (state g conn) × IsTrue (state g conn).is_open
+
+-- Texts were printed of a store that was opened on those files and then only read. If its disk is clean in the end, then
+-- of whatever rows the files held, after some events or of any office. If it is open too: a fault is one of the store or
+-- of memory; what the files held is committed still; and a crash leaves the rows after the events that led to them.
+pub record PrintsAlone {S : Type 0} (g : Ghosts S) (image : Image) (prints : Trees → (status : ℕ) → Type 0) (opened : Desk S g)
+    (outcome : Result ℕ TableFault) (conn : Held S) : Type 0 where
+  pub reads : Reads (state g opened.conn) (state g conn) outcome
+  pub printed : HasCleanDisk (state g conn) → (rows : Rows) → (held : HoldsRows image rows) →
+      IfOk outcome (prints held.db)
+  pub fault : IsSoundStore g conn → (rows : Rows) → HoldsRows image rows → IfErr outcome IsOfStore
+  pub stays : IsSoundStore g conn → (db : Trees) → HoldsTables image db →
+      (state g conn).committed ≡ office_database db
+  pub leaves : IsSoundStore g conn → (content : SetupContent) (es : List Event) → BeginsAt image content es →
+      LeavesAlike content es [] [] (state g conn)
+
+-- ---- a store and its archives
+
+-- what was written is flushed, with 0, if all that were to be passed over are there; else `none` is printed, with 1; or the
+-- writer failed, with 3
+abbrev pub EndsTexts : (left : ℕ) → (written new : Option (List ℕ)) → (failed flushed : Bool) → (status : ℕ) → Type 0
+EndsTexts left written new failed flushed status =
+    ((status ≡ 0) × (left ≡ 0) × Keeps written new × (flushed ≡ true))
+    ⊎ (((status ≡ 1) × (0 < left) × Appends written new (codes "none\n") × (flushed ≡ true))
+    ⊎ ((status ≡ 3) × (failed ≡ true)))
+
+-- the texts of the archives of a register and of the store were written, without the first so many, and ended so; or the
+-- writer failed, with 3
+abbrev pub PrintsJournal : {S : Type 0} (g : Ghosts S) (Opens : (place : ℕ) → Held S → Type 0) → RegisterContent →
+    (from : ℕ) → (read shown : State) → (old new : Option (List ℕ)) → (failed flushed : Bool) → (status : ℕ) → Type 0
+PrintsJournal g Opens names from read shown old new failed flushed status =
+    ((left : ℕ) × (written : Option (List ℕ)) × IsJournalWritten g Opens names from read shown old written left
+    × EndsTexts left written new failed flushed status)
+    ⊎ ((status ≡ 3) × (failed ≡ true))
+
+-- Its archives are on a shelf: the texts of all were printed by what store and archives showed, and nothing changed.
+pub record PrintsBeside {S T F : Type 0} (g : Ghosts S) (t : Ghosts T) (hold : List Archive → Type 0)
+    (holds : List Archive → F → Type 0) (Opens : F → (place : ℕ) → Held T → Type 0) (names : RegisterContent) (from : ℕ)
+    (old new : Option (List ℕ)) (failed flushed : Bool) (opened : Desk S g) (left : Held S) (status : Result ℕ TableFault)
+    : Type 0 where
+  pub shelf : F
+  pub beside : IsBesideShelf hold holds names opened shelf
+  pub prints : IfOk status
+      (PrintsJournal t (Opens shelf) names from (state g left) (state g opened.conn) old new failed flushed)
+  pub reads : OnlyReads (state g opened.conn) (state g left) status
+
+-- A store was opened on those files, and a sound register was read, which says what is closed of it. If it names no archive, the
+-- texts of the store were printed, and else those of its archives and of the store.
+pub record ArePrintedOver {S T F : Type 0} (g : Ghosts S) (t : Ghosts T) (hold : List Archive → Type 0)
+    (holds : List Archive → F → Type 0) (Opens : F → (place : ℕ) → Held T → Type 0) (image : Image) (from : ℕ)
+    (old new : Option (List ℕ)) (failed flushed : Bool) (left : Held S) (status : Result ℕ TableFault) : Type 0 where
+  pub opened : Desk S g
+  pub names : RegisterContent
+  pub opens : OpensOn g image opened
+  pub printed :
+      ((names.archives ≡ []) × PrintsAlone g image (λ db. PrintsOf from db old new failed flushed) opened status left)
+      ⊎ PrintsBeside g t hold holds Opens names from old new failed flushed opened left status

@@ -17,8 +17,7 @@ use Rattle.office_reports.specs.Keys.{query_content, query_of}
 use Rattle.office_reports.specs.declared.query.Query.{Query}
 use Rattle.office_reports.specs.declared.query.ReportKind.{ReportKind}
 use Rattle.office_desk.specs.Reports.{TellsOf, TellsAfter}
-use Rattle.office_commands.specs.Opening.{HoldsTables}
-use Rattle.office_commands.specs.Delivering.{BeginsAt}
+use Rattle.office_commands.specs.Opening.{BeginsAt, HoldsTables}
 
 -- ---- the text and the status
 

@@ -1,13 +1,11 @@
--- What requests that are served leave of an office whose files held the rows after some events.
+-- What requests that are served leave of a store of which nothing was put away, whose files held the rows after some events.
 use Rattle.std.specs.Prelude.{◌≡◌, ◌⊎◌, ℕ, Bool, true, false, List, [], ◌∷◌, ◌++◌, Option, None, Some, Result, codes, decimal, string_bytes}
 use Rattle.std.specs.Io.KnownBytes.{Appends}
-use Rattle.sqlite_disk.specs.declared.Disk.{Ghosts}
-use Rattle.sqlite.specs.Files.{over_files}
 use Rattle.sqlite.specs.Held.{state}
 use Rattle.sqlite.specs.Recovery.{Image}
 use Rattle.sqlite.specs.State.{State}
 use Rattle.sqlite.specs.Tree.{Trees}
-use Rattle.sqlite.specs.declared.FileStore.{FileStore}
+use Rattle.sqlite_trees.specs.declared.store.Store.{Ghosts}
 use Rattle.office_replies.specs.Events.{Event, delivered, added}
 use Rattle.office_replies.specs.declared.accounts.AccountAnswer.{AccountAnswer}
 use Rattle.office_replies.specs.declared.accounts.AccountAnswer.TheVariants as account_answer
@@ -28,7 +26,8 @@ use Rattle.office_desk.specs.Desks.{IsSound}
 use Rattle.office_desk.specs.Looking.{ShowsAfter}
 use Rattle.office_desk.specs.declared.desk.Desk.{Desk}
 use Rattle.office_commands.specs.Alike.{Alike}
-use Rattle.office_commands.specs.Delivering.{BeginsAt, OpensOn, StandsAlike}
+use Rattle.office_commands.specs.Delivering.{StandsAlike}
+use Rattle.office_commands.specs.Opening.{BeginsAt}
 
 -- ---- the answers
 
@@ -103,20 +102,17 @@ abbrev pub AreServedBy : {D : Type 0} → (leads : D → List ℕ → Response �
     (looks : D → Look → Result (Option (List ℕ)) Unreported → D → Type 0) → (count : ℕ) → (old new : D) → Type 0
 AreServedBy leads enrols looks count old new = AtMost (LeadsNamed leads) (EnrolsNamed enrols) looks count old new
 
-module _ {D : Type 0} {g : Ghosts D} where
-  -- So many calls at most were made of a desk that was opened on those files. If it is sound in the end, then from
-  -- whatever events the files held the rows, each was answered at its place, and what was answered outlasts a crash.
-  pub record IsServedOver (image : Image) (count : ℕ) (desk : Desk (FileStore D g) over_files) : Type 0 where
-    pub opened : Desk (FileStore D g) over_files
-    pub opens : OpensOn image opened
-    pub served : AreServedBy (Leads over_files) (Enrols over_files) (Looks over_files) count opened desk
-    pub answered : IsSound over_files desk → (content : SetupContent) (es : List Event) → BeginsAt image content es →
-        AreServed content es served.steps × StandsAlike content (events_after es served.steps) desk
-    pub leaves : IsSound over_files desk → (content : SetupContent) (es : List Event) → BeginsAt image content es →
-        LeavesServed content es served.steps (state over_files desk.conn)
-    -- the name that the start page shows
-    pub named : IsSound over_files desk → (content : SetupContent) (es : List Event) → BeginsAt image content es →
-        string_bytes desk.setup.terminal ≡ content.terminal
+-- So many calls at most were made of a desk of which nothing was put away. If it is sound in the end, then from whatever events
+-- the files held the rows, each was answered at its place, and what was answered outlasts a crash.
+pub record IsServedAlone {S : Type 0} (g : Ghosts S) (image : Image) (count : ℕ) (opened desk : Desk S g) : Type 0 where
+  pub served : AreServedBy (Leads g) (Enrols g) (Looks g) count opened desk
+  pub answered : IsSound g desk → (content : SetupContent) (es : List Event) → BeginsAt image content es →
+      AreServed content es served.steps × StandsAlike content (events_after es served.steps) desk
+  pub leaves : IsSound g desk → (content : SetupContent) (es : List Event) → BeginsAt image content es →
+      LeavesServed content es served.steps (state g desk.conn)
+  -- the name that the start page shows
+  pub named : IsSound g desk → (content : SetupContent) (es : List Event) → BeginsAt image content es →
+      string_bytes desk.setup.terminal ≡ content.terminal
 
 -- ---- what is printed and told
 

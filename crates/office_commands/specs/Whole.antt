@@ -13,6 +13,9 @@ use Rattle.sqlite.specs.WalReads.{AreClean}
 use Rattle.sqlite.specs.declared.FileStore.{FileStore}
 use Rattle.office_replies.specs.Events.{Event}
 use Rattle.office_admission.specs.Setups.{SetupContent}
+use Rattle.office_loading.specs.Closed.{ClosedContent}
+use Rattle.office_parts.specs.Archives.{Archive}
+use Rattle.office_commands.specs.Beside.{HoldsBeside}
 use Rattle.office_commands.specs.Opening.{HoldsAfter}
 
 -- the database file by itself, as a copy of it is
@@ -32,6 +35,14 @@ module _ {D : Type 0} (g : Ghosts D) (files : Files D) where
   abbrev pub HoldWholeAfter : SetupContent → List Event → Type 0
   HoldWholeAfter content es =
       (image : Image) → MayHold image → HoldsAfter image content es × HoldsAfter (without_log image) content es
+
+-- the files hold what is left of the rows after those events beside these archives, and so does the database file by itself,
+-- now and after a crash
+abbrev pub HoldWholeBeside : {D : Type 0} (g : Ghosts D) (files : Files D) → List Archive → ClosedContent → SetupContent →
+    List Event → Type 0
+HoldWholeBeside g files list closed content es =
+    (image : Image) → MayHold g files image →
+    HoldsBeside image list closed content es × HoldsBeside (without_log image) list closed content es
 
 -- A store was left whole: as far as the disk has told the truth, its files hold so what was committed last. Or that failed, at
 -- whichever write: then a crash leaves nothing that it would not have left before.

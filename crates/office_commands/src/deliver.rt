@@ -1,29 +1,24 @@
-ghost use Rattle.std.specs.Prelude.{◌≡◌, ◌≤◌, ◌+◌, false, true, IfOk, IfErr, OnErr, OnOk, ℕ, List, Option, option_map, string_bytes};
+ghost use Rattle.std.specs.Prelude.{◌≡◌, ◌≤◌, ◌+◌, false, IfOk, IfErr, OnErr};
 ghost use Rattle.office_commands.specs.Accounts.{AccountEnds, AnswersAsked, IsAskedOver, LeavesWriter};
+ghost use Rattle.office_commands.specs.Beside.{FromOpened, OpensOn};
 ghost use Rattle.office_commands.specs.Delivering.{AreDeliveredOver};
-ghost use Rattle.office_commands.specs.Ending.{Tells, StreamEnds, LeavesPorts, ports, store_text, most_turns, outcome_status, Prints};
-ghost use Rattle.office_commands.specs.Looking.{LooksOver};
-ghost use Rattle.office_commands.specs.Reporting.{Reports, TellsKey, TellsHeld, in_lines};
-ghost use Rattle.office_desk.specs.Calls.{Enrols, Leads, OnlyLooks};
-ghost use Rattle.office_desk.specs.Desks.{IsSound};
-ghost use Rattle.office_desk.specs.Reports.{DeskTells};
+ghost use Rattle.office_commands.specs.Ending.{Tells, StreamEnds, LeavesPorts, ports, most_turns, outcome_status};
+ghost use Rattle.office_commands.specs.Telling.{open_text};
 ghost use Rattle.office_replies.specs.Delivering.{LeadsOn};
-ghost use Rattle.office_replies.specs.Accounts.{AccountCutShort, AnsweredAccount};
 ghost use Rattle.office_replies.specs.Streams.{Streams, port_bytes};
 ghost use Rattle.sqlite.specs.Files.{over_files};
+ghost use Rattle.sqlite.specs.Recovery.{Image};
 ghost use Rattle.sqlite.specs.WalFiles.{image_at};
 
+use crate::beside::ArchivesBeside;
 use crate::notes::{Noted, Notes};
-use crate::opening::open_store;
-use crate::telling::{
-    DONE, FAILED, Faults, REFUSED, Tallied, print, status_of, tell_fault, tell_outcome,
-};
-use office_desk::Desk;
+use crate::offices::{FileOffice, OpenFault, open_office};
+use crate::telling::{FAILED, Faults, Tallied, status_of, tell_open_fault, tell_outcome};
+use office_archives::{ArchivedDesk, Archives};
 use office_replies::{Deliver, Port, StreamFault, Worst, answer_account, run_stream};
-use office_reports::{Report, ReportKind, read_query};
-use office_tables::TableFault;
-use sqlite::{Alter, FileFrom, FileStore, Start};
-use std::alloc::{AllocError, Global};
+use office_reports::Report;
+use sqlite::{Alter, Start};
+use std::alloc::Global;
 use std::io::{Read, Write};
 
 /// How many reads of an input are made at most.
@@ -80,110 +75,120 @@ pub fn deliver_noted<D: Report + Faults + Tallied, N: Notes, R: Read, W: Write, 
     (status, noted.into_desk())
 }
 
-/// As `deliver_noted`, for a desk over any store: what is shown of its own answers is shown here once for all stores.
-pub fn deliver_desk<S: Alter + Drop, N: Notes, R: Read, W: Write, E: Write>(
+/// Delivers the interchanges of a reader to a store and its archives, as `deliver_over` does. Over stores of any kind, so that
+/// what is said of it stays short where a file is known to be one.
+pub fn deliver_desk<S: Alter + Drop, A: Archives + Drop, N: Notes, R: Read, W: Write, E: Write>(
     alloc: Global,
-    desk: Desk<S>,
+    office: ArchivedDesk<S, A>,
     notes: &N,
     reader: &mut Port<R>,
     writer: &mut Port<W>,
     errors: &mut Port<E>,
-) -> (u8, Desk<S>)
-    ensures ends { StreamEnds (LeavesPorts (ports reader.old writer.old) (ports reader.new writer.new))
-        (Streams (λ texts responses. LeadsOn (Leads S.Store) desk texts responses result.1)
+) -> (u8, ArchivedDesk<S, A>)
+    ensures ends { (image : Image) → OpensOn S.Store image office.desk →
+        StreamEnds (LeavesPorts (ports reader.old writer.old) (ports reader.new writer.new))
+        (Streams (AreDeliveredOver S.Store A.is_sound A.are image (office.desk, office.archives)
+        (result.1.desk, result.1.archives))
         (port_bytes (R.remaining reader.old.inner) (R.remaining reader.new.inner)
         (W.contents writer.old.inner) (W.contents writer.new.inner)))
         (Tells errors.new.failed (E.contents errors.old.inner) (E.contents errors.new.inner)) result.0 }
     ensures in_time { reader.old.ended ≡ false → reader.new.read_behind_end ≡ reader.old.read_behind_end }
     ensures reads { reader.new.reads ≤ reader.old.reads + most_turns }
 {
-    deliver_noted(alloc, desk, notes, reader, writer, errors)
+    deliver_noted(alloc, office, notes, reader, writer, errors)
 }
 
-/// As `answer_account`, for a desk over any store.
-pub fn ask_desk<S: Alter + Drop, W: Write>(
-    alloc: Global,
-    code: &str,
-    kind: &str,
-    writer: &mut Port<W>,
-    desk: &mut Desk<S>,
-) -> Result<Worst, StreamFault>
-    ensures ok { IfOk result
-        (λ worst. AnsweredAccount (λ answer. Enrols S.Store desk.old code.now kind.now answer desk.new)
-        worst (W.contents writer.old.inner) (W.contents writer.new.inner)) }
-    ensures kept { OnOk result (writer.new.failed ≡ writer.old.failed) }
-    ensures flushed { OnOk result (writer.new.flushed ≡ true) }
-    ensures err { IfErr result
-        (λ fault. (fault ≡ StreamFault.Write) × (writer.new.failed ≡ true)) }
-    ensures added { OnErr result
-        (AccountCutShort (λ answer. Enrols S.Store desk.old code.now kind.now answer desk.new)
-        (W.contents writer.old.inner) (W.contents writer.new.inner)) }
-{
-    answer_account(alloc, code, kind, writer, desk)
-}
-
-/// Delivers the interchanges of a reader to the store in the file at a path, as `deliver_to` does, and answers the exit
-/// status. `notes` is told of each. The desk is given back as it was left, or the fault for which it did not open, which was
-/// told.
-pub fn deliver_over<S: Start, N: Notes, R: Read, W: Write, E: Write>(
+/// Delivers the interchanges of a reader to the store at a path, with its archives, as `deliver_to` does, and answers the exit
+/// status. `notes` is told of each. The office is given back as it was left, or why it did not open, which was reported.
+pub fn deliver_over<
+    S: Start,
+    A: Archives + Drop,
+    M: ArchivesBeside<A>,
+    N: Notes,
+    R: Read,
+    W: Write,
+    E: Write,
+>(
     rt: &HostRuntime,
-    path: &str,
+    store: &str,
     start: S,
+    beside: &M,
     notes: &N,
     reader: &mut Port<R>,
     writer: &mut Port<W>,
     errors: &mut Port<E>,
-) -> (u8, Result<Desk<FileStore<FileFrom<S>>>, TableFault>)
-    // From whatever events the files held the rows, the lines are the answers of that office, and what was answered
-    // outlasts a crash. And what each delivery did to the desk, whatever the files held.
-    ensures ends { IfOk result.1 (λ desk.
+) -> (u8, Result<FileOffice<S, A>, OpenFault>)
+    // From whatever events the files held what is left of the rows, if the archives hold the rest, the lines are the answers of
+    // that office, as far as the archives told the truth, and what was answered outlasts a crash. And what each delivery did,
+    // whatever the files held.
+    ensures ends { IfOk result.1 (λ office. FromOpened over_files M.hold A.are (image_at S.Start) (λ opened.
         StreamEnds (LeavesPorts (ports reader.old writer.old) (ports reader.new writer.new))
-        (Streams (AreDeliveredOver (image_at S.Start) desk)
+        (Streams (AreDeliveredOver over_files A.is_sound A.are (image_at S.Start) opened (office.desk, office.archives))
         (port_bytes (R.remaining reader.old.inner) (R.remaining reader.new.inner)
         (W.contents writer.old.inner) (W.contents writer.new.inner)))
-        (Tells errors.new.failed (E.contents errors.old.inner) (E.contents errors.new.inner)) result.0) }
+        (Tells errors.new.failed (E.contents errors.old.inner) (E.contents errors.new.inner)) result.0)) }
 
     // If it did not open, nothing was read or written.
     ensures refused { IfErr result.1 (λ fault. (result.0 ≡ 3) × (reader.new ≡ reader.old) × (writer.new ≡ writer.old)
-        × Tells errors.new.failed (E.contents errors.old.inner) (E.contents errors.new.inner) (store_text fault)) }
+        × Tells errors.new.failed (E.contents errors.old.inner) (E.contents errors.new.inner) (open_text fault)) }
     ensures in_time { reader.old.ended ≡ false → reader.new.read_behind_end ≡ reader.old.read_behind_end }
     ensures reads { reader.new.reads ≤ reader.old.reads + most_turns }
 {
-    match open_store(rt, path, start) {
-        Ok(desk) => {
-            let (status, desk) = deliver_desk(rt.alloc(), desk, notes, reader, writer, errors);
-            (status, Ok(desk))
+    match open_office(rt, store, start, beside) {
+        Ok(office) => {
+            let (status, office) = deliver_desk(rt.alloc(), office, notes, reader, writer, errors);
+            (status, Ok(office))
         }
         Err(fault) => {
-            let status = tell_fault(errors, &fault);
+            let status = tell_open_fault(errors, &fault);
             (status, Err(fault))
         }
     }
 }
 
-/// Adds an account to the store in the file at a path, prints the answer as a line, and answers the exit status and the
-/// desk as it was left: 0 if there is such an account, now or before, 1 if it is refused, and 3 if that could not be
-/// answered now, or printing failed. A fault is that of `open_store`, and then nothing was printed. No clause says what
-/// the store holds after a fault, since no desk is left: that nothing was asked of it is to be read in this body.
-pub fn account_over<S: Start, W: Write>(
+/// Adds an account to the store at a path, with its archives, prints the answer as a line, and answers the exit status and the
+/// office as it was left: 0 if there is such an account, now or before, 1 if it is refused, and 3 if that could not be answered
+/// now, or printing failed. A fault is that of `open_office`, and then nothing was printed. No clause says what the store holds
+/// after a fault, since no office is left: that nothing was asked of it is to be read in this body.
+pub fn account_over<S: Start, A: Archives + Drop, M: ArchivesBeside<A>, W: Write>(
     rt: &HostRuntime,
-    path: &str,
+    store: &str,
     start: S,
+    beside: &M,
     code: &str,
     kind: &str,
     writer: &mut Port<W>,
-) -> Result<(u8, Desk<FileStore<FileFrom<S>>>), TableFault>
-    // From whatever events the files held the rows, the line is the answer of that office, and an account that was added
-    // outlasts a crash. And what asking did to the desk, whatever the files held.
-    ensures ok { IfOk result (λ ended.
+) -> Result<(u8, FileOffice<S, A>), OpenFault>
+    // From whatever events the files held what is left of the rows, if the archives hold the rest, the line is the answer of
+    // that office, and an account that was added outlasts a crash. And what asking did, whatever the files held.
+    ensures ok { IfOk result (λ ended. FromOpened over_files M.hold A.are (image_at S.Start) (λ opened.
         AccountEnds (LeavesWriter writer.old writer.new)
-        (AnswersAsked (IsAskedOver (image_at S.Start) ended.1 code.now kind.now)
-        (W.contents writer.old.inner) (W.contents writer.new.inner)) ended.0) }
+        (AnswersAsked (IsAskedOver over_files A.is_sound A.are (image_at S.Start) opened
+        (ended.1.desk, ended.1.archives) code.now kind.now)
+        (W.contents writer.old.inner) (W.contents writer.new.inner)) ended.0)) }
     ensures err { OnErr result (writer.new ≡ writer.old) }
 {
-    let mut desk = open_store(rt, path, start)?;
-    let outcome = ask_desk(rt.alloc(), code, kind, writer, &mut desk);
-    Ok((outcome_status(outcome), desk))
+    let mut office = open_office(rt, store, start, beside)?;
+    let status = ask_desk(rt.alloc(), &mut office, code, kind, writer);
+    Ok((status, office))
+}
+
+/// Asks a store and its archives for an account, prints the answer as a line, and answers the exit status.
+fn ask_desk<S: Alter + Drop, A: Archives + Drop, W: Write>(
+    alloc: Global,
+    office: &mut ArchivedDesk<S, A>,
+    code: &str,
+    kind: &str,
+    writer: &mut Port<W>,
+) -> u8
+    ensures { (image : Image) → OpensOn S.Store image office.old.desk →
+        AccountEnds (LeavesWriter writer.old writer.new)
+        (AnswersAsked (IsAskedOver S.Store A.is_sound A.are image (office.old.desk, office.old.archives)
+        (office.new.desk, office.new.archives) code.now kind.now)
+        (W.contents writer.old.inner) (W.contents writer.new.inner)) result }
+{
+    let outcome = answer_account(alloc, code, kind, writer, office);
+    outcome_status(outcome)
 }
 
 /// The exit status of an answer, or of a line that could not be written.
@@ -194,82 +199,4 @@ pub fn outcome_status(outcome: Result<Worst, StreamFault>) -> u8
         Ok(worst) => status_of(worst),
         Err(_) => FAILED,
     }
-}
-
-/// Prints the report that a key asks for, from the store in the file at a path, and answers the desk as it was left and
-/// the exit status: 0, 1 if there is nothing to tell, which prints `none`, and 3 if printing failed; or the fault for which
-/// nothing was printed. A fault without a desk is that for which it did not open.
-pub fn report_over<S: Start, W: Write>(
-    rt: &HostRuntime,
-    path: &str,
-    start: S,
-    kind: ReportKind,
-    key: &str,
-    writer: &mut Port<W>,
-) -> Result<(Desk<FileStore<FileFrom<S>>>, Result<u8, TableFault>), TableFault>
-    ensures ok { IfOk result (λ ended. IfOk ended.1 (λ status.
-        Reports (λ found. IsSound over_files ended.0 → TellsHeld (image_at S.Start) kind key.now found)
-        (Prints writer.old.failed writer.new.failed writer.new.flushed
-        (W.contents writer.old.inner) (W.contents writer.new.inner)) status)) }
-
-    // It only looked, whether it told something or met a fault.
-    ensures looks { IfOk result (λ ended. LooksOver (image_at S.Start) ended.0) }
-    ensures err { IfOk result (λ ended. OnErr ended.1 (writer.new ≡ writer.old)) }
-    ensures refused { OnErr result (writer.new ≡ writer.old) }
-{
-    let mut desk = open_store(rt, path, start)?;
-    let status = report_on(rt.alloc(), &mut desk, kind, key, writer);
-    Ok((desk, status))
-}
-
-/// Prints the report that a key asks for, from a desk, and answers the exit status, as `report_over` does. It only looks.
-pub fn report_on<S: Alter + Drop, W: Write>(
-    alloc: Global,
-    desk: &mut Desk<S>,
-    kind: ReportKind,
-    key: &str,
-    writer: &mut Port<W>,
-) -> Result<u8, TableFault>
-    ensures ok { IfOk result (λ status.
-        Reports (λ found. IsSound S.Store desk.new → TellsKey (DeskTells S.Store desk.old) kind key.now found)
-        (Prints writer.old.failed writer.new.failed writer.new.flushed
-        (W.contents writer.old.inner) (W.contents writer.new.inner)) status) }
-    ensures err { OnErr result (writer.new ≡ writer.old) }
-    ensures looks { OnlyLooks S.Store desk.old desk.new }
-{
-    match find(alloc, desk, kind, key)? {
-        Some(text) => {
-            let lines = in_lines(text)?;
-            Ok(print(writer, lines.as_str(), DONE))
-        }
-        None => Ok(print(writer, "none\n", REFUSED)),
-    }
-}
-
-/// What a desk tells under a key, if there is something.
-fn find<S: Alter + Drop>(
-    alloc: Global,
-    desk: &mut Desk<S>,
-    kind: ReportKind,
-    key: &str,
-) -> Result<Option<String>, TableFault>
-    ensures found { IfOk result (λ found. IsSound S.Store desk.new →
-        TellsKey (DeskTells S.Store desk.old) kind key.now (option_map string_bytes found)) }
-    ensures looks { OnlyLooks S.Store desk.old desk.new }
-{
-    match read_query(alloc, kind, key)? {
-        Some(query) => desk.find_report(alloc, &query),
-        None => Ok(None),
-    }
-}
-
-/// A text in whole lines: a reply is a line without its end, and an empty text has no line.
-pub fn in_lines(text: String) -> Result<String, AllocError>
-    ensures { IfOk result (λ lines. string_bytes lines ≡ in_lines (string_bytes text)) }
-{
-    let mut text = text;
-    if !text.is_empty() && !text.as_bytes().ends_with(b"\n") {
-        text.push('\n')?;
-    }
-    Ok(text)
 }

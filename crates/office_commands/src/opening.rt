@@ -1,15 +1,12 @@
 ghost use Rattle.std.specs.Prelude.{◌≡◌, ◌≤◌, ℕ, List, [], length, false, IfOk, not};
-ghost use Rattle.office_loading.specs.Closed.{closed_content, nothing_closed};
-ghost use Rattle.office_commands.specs.Opening.{HoldsAfter, HoldsNoTables, HoldsTables, OpensOver, ShowsHeld, OpensEmpty};
+ghost use Rattle.office_commands.specs.Opening.{HoldsNoTables, HoldsTables, ShowsHeld, OpensEmpty};
 ghost use Rattle.office_commands.specs.Serving.{EnrolsWhile, LeadsWhile};
 ghost use Rattle.office_desk.specs.Crashes.{Leaves};
-ghost use Rattle.office_desk.specs.Desks.{IsSound, OpensAt};
-ghost use Rattle.office_replies.specs.Events.{Event};
 ghost use Rattle.office_rows.specs.Tables.{no_schema};
 ghost use Rattle.office_admission.specs.Given.{IsGiven};
 ghost use Rattle.office_admission.specs.Limits.{most_partners};
-ghost use Rattle.office_admission.specs.Setups.{SetupContent, setup_content};
-ghost use Rattle.sqlite.specs.Files.{file_state, over_files};
+ghost use Rattle.office_admission.specs.Setups.{setup_content};
+ghost use Rattle.sqlite.specs.Files.{file_state};
 ghost use Rattle.sqlite.specs.State.{HasCleanDisk, Opens};
 ghost use Rattle.sqlite.specs.Tree.{Trees};
 ghost use Rattle.sqlite.specs.WalFiles.{image_at};
@@ -31,26 +28,6 @@ use std::os::unix::fs::MetadataExt;
 
 /// A store that can't be opened.
 pub const NO_STORE: Error = Error::SqliteFailure(ErrorCode::CannotOpen);
-
-/// The desk over the store in the file at a path. It goes on from the events whose rows the file held, whatever
-/// first contents `S` stands for. No file is made, and an empty one is no store. No clause ties the contents to the
-/// path: that this body opens the files there, and touches them by nothing else, is to be read.
-pub fn open_store<S: Start>(
-    rt: &HostRuntime,
-    path: &str,
-    start: S,
-) -> Result<Desk<FileStore<FileFrom<S>>>, TableFault>
-    ensures opens { IfOk result
-        (λ desk. IsSound over_files desk → (content : SetupContent) (es : List Event) →
-        IsGiven content → HoldsAfter (image_at S.Start) content es → OpensAt over_files content es desk) }
-    ensures office { IfOk result
-        (λ desk. IsSound over_files desk → (db : Trees) → HoldsTables (image_at S.Start) db → OpensOver db desk) }
-    ensures closed { IfOk result (λ desk. closed_content desk.closed ≡ nothing_closed) }
-{
-    let conn = open_there(rt, path, start)?;
-    let closed = Closed::nothing(rt.alloc());
-    Desk::open(rt.alloc(), conn, closed)
-}
 
 /// A connection to the store in the file at a path, as `open_found` makes it. No file is made, and an empty one is no
 /// store: that is to be read in this body.

@@ -3,12 +3,14 @@ ghost use Rattle.std.specs.Prelude.{◌≡◌, List, ℕ, true, OnOk, OnErr, str
 ghost use Rattle.office_commands.specs.Command.{DemoEnds};
 ghost use Rattle.office_commands.specs.Demo.{port_failures};
 ghost use Rattle.office_commands.specs.Ending.{Tells, Prints, status_of, store_text, stream_text, outcome_status, outcome_text};
+ghost use Rattle.office_commands.specs.Telling.{open_text};
 ghost use Rattle.office_replies.specs.Fronts.{AppendsFront};
 ghost use Rattle.office_replies.specs.Streams.{port_bytes};
 
 use crate::demo::run_demo;
+use crate::offices::OpenFault;
 use office_admission::Tally;
-use office_desk::Desk;
+use office_archives::{ArchivedDesk, Archives};
 use office_replies::{Port, StreamFault, Worst};
 use office_tables::TableFault;
 use sqlite::Alter;
@@ -47,6 +49,22 @@ pub fn tell_fault<E: Write>(errors: &mut Port<E>, fault: &TableFault) -> u8
 {
     tell(errors, store_text(fault));
     FAILED
+}
+
+/// Reports why a store was not opened, and answers the exit status.
+pub fn tell_open_fault<E: Write>(errors: &mut Port<E>, fault: &OpenFault) -> u8
+    ensures told { Tells errors.new.failed (E.contents errors.old.inner) (E.contents errors.new.inner)
+        (open_text fault.now) }
+    ensures status { result ≡ 3 }
+{
+    match fault {
+        OpenFault::Closed => {
+            tell(errors, "store: Closed\n");
+            FAILED
+        }
+        OpenFault::Store(fault) => tell_fault(errors, fault),
+        OpenFault::Register(fault) => tell_fault(errors, fault),
+    }
 }
 
 /// Tells why a stream was left, if it was, and answers its exit status.
@@ -138,9 +156,9 @@ pub trait Faults {
     fn is_nameless(&self) -> bool;
 }
 
-impl<S: Alter> Faults for Desk<S> {
+impl<S: Alter, A: Archives> Faults for ArchivedDesk<S, A> {
     fn last_fault(&self) -> Option<&TableFault> {
-        Desk::last_fault(self)
+        self.desk().last_fault()
     }
 
     fn is_nameless(&self) -> bool {
@@ -158,11 +176,11 @@ pub trait HasTerminal {
         ensures { result.now ≡ terminal_of self.now };
 }
 
-impl<S: Alter> HasTerminal for Desk<S> {
-    ghost terminal_of = { λ desk. string_bytes desk.setup.terminal };
+impl<S: Alter, A: Archives> HasTerminal for ArchivedDesk<S, A> {
+    ghost terminal_of = { λ office. string_bytes office.desk.setup.terminal };
 
     fn terminal_name(&self) -> &str {
-        self.terminal()
+        self.desk().terminal()
     }
 }
 
@@ -172,9 +190,9 @@ pub trait Tallied {
     fn last_taken(&self) -> Tally;
 }
 
-impl<S: Alter> Tallied for Desk<S> {
+impl<S: Alter, A: Archives> Tallied for ArchivedDesk<S, A> {
     fn last_taken(&self) -> Tally {
-        Desk::last_taken(self)
+        self.desk().last_taken()
     }
 }
 

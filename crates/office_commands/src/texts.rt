@@ -1,42 +1,86 @@
-ghost use Rattle.std.specs.Prelude.{◌≡◌, ⊤, IfOk, IfErr, IsTrue, OnErr};
-ghost use Rattle.office_commands.specs.Printing.{PrintsOf, PrintsOver, PrintsTexts};
+ghost use Rattle.std.specs.Prelude.{◌≡◌, ⊤, false, IfOk, IfErr, IsTrue, OnErr};
+ghost use Rattle.office_archives.specs.Texts.{OpensOn};
+ghost use Rattle.office_closing.specs.Register.{register_content};
+ghost use Rattle.office_closing.specs.Sound.{is_sound};
+ghost use Rattle.office_commands.specs.Opening.{Shows};
+ghost use Rattle.office_commands.specs.Printing.{ArePrintedOver, EndsTexts, PrintsJournal, PrintsTexts};
 ghost use Rattle.office_rows.specs.Stored.{HasRows};
+ghost use Rattle.office_tables.specs.DeliveryReading.{OnlyReads};
 ghost use Rattle.office_tables.specs.Faults.{IsOfStore, IsOfStoreOr};
 ghost use Rattle.office_tables.specs.Reading.{Reads};
+ghost use Rattle.sqlite.specs.Files.{over_files};
 ghost use Rattle.sqlite.specs.Held.{state};
+ghost use Rattle.sqlite.specs.Recovery.{Image};
 ghost use Rattle.sqlite.specs.State.{HasCleanDisk};
 ghost use Rattle.sqlite.specs.WalFiles.{image_at};
 
-use crate::opening::open_store;
+use crate::beside::ShelfBeside;
+use crate::offices::{OpenFault, connect, open_whole, read_names, shelve};
+use crate::register::names_none;
 use crate::telling::{DONE, FAILED, REFUSED, print};
+use office_archives::{Shelf, write_journal};
+use office_closing::Register;
 use office_desk::Desk;
-use office_loading::{Written, write_texts};
+use office_loading::{Written, flush, write_texts};
 use office_replies::Port;
 use office_tables::TableFault;
 use sqlite::{Alter, Connection, FileFrom, FileStore, Start};
 use std::alloc::Global;
 use std::io::Write;
 
-/// Prints the texts that the store in the file at a path keeps, after the first `from` of them, in the order in which they
-/// came, and answers the connection as it was left and the exit status: 0, 1 if there are fewer, which prints `none`, and 3
-/// if printing failed; or the fault for which they were not read to their end. A fault without a connection is that for
-/// which the store did not open. The rows are those of an office, as for a report, and none changes.
-pub fn texts_over<S: Start, W: Write>(
+/// Prints the texts that the store or the archive at a path keeps together with its own archives, after the first `from` of
+/// them, in the order in which they came, each once: as if nothing had been put away. It answers the connection as it was
+/// left and the exit status: 0, 1 if there are fewer, which prints `none`, and 3 if printing failed; or the fault for which
+/// they were not read to their end, after which a front of them may be printed. The rows are those of an office, as for a
+/// report, and none changes. The archives are opened one after the other; none changes.
+pub fn texts_over<S: Start, T: Alter + Drop, F: Shelf<T> + Drop, M: ShelfBeside<T, F>, W: Write>(
     rt: &HostRuntime,
-    path: &str,
+    store: &str,
     start: S,
+    beside: &M,
     from: u32,
     writer: &mut Port<W>,
-) -> Result<(Connection<FileStore<FileFrom<S>>>, Result<u8, TableFault>), TableFault>
-    // Whatever office's rows the files held, what is printed is by these, and they stay.
-    ensures prints { IfOk result (λ ended. PrintsOver (image_at S.Start)
-        (λ db. PrintsOf from db (W.contents writer.old.inner) (W.contents writer.new.inner)
-        writer.new.failed writer.new.flushed)
-        ended.1 ended.0) }
+) -> Result<(Connection<FileStore<FileFrom<S>>>, Result<u8, TableFault>), OpenFault>
     ensures refused { OnErr result (writer.new ≡ writer.old) }
+    ensures printed { IfOk result (λ ended. ArePrintedOver over_files T.Store M.hold F.holds
+        (OpensOn T.Store F.is_known F.holds) (image_at S.Start) from (W.contents writer.old.inner)
+        (W.contents writer.new.inner) writer.new.failed writer.new.flushed ended.0 ended.1) }
 {
-    let desk = open_store(rt, path, start)?;
-    Ok(print_kept(rt.alloc(), desk, from, writer))
+    let conn = connect(rt, store, start)?;
+    let register = read_names(rt, store)?;
+    print_beside(rt.alloc(), store, conn, &register, beside, from, writer)
+}
+
+/// Prints the texts of the store over a connection, and of the archives of a register, as `texts_over` does. Over stores of any
+/// kind, so that what is said of it stays short where a file is known to be one.
+fn print_beside<
+    S: Alter + Drop,
+    T: Alter + Drop,
+    F: Shelf<T> + Drop,
+    M: ShelfBeside<T, F>,
+    W: Write,
+>(
+    alloc: Global,
+    store: &str,
+    conn: Connection<S>,
+    register: &Register,
+    beside: &M,
+    from: u32,
+    writer: &mut Port<W>,
+) -> Result<(Connection<S>, Result<u8, TableFault>), OpenFault>
+    requires idle { conn.in_transaction ≡ false }
+    requires sound { IsTrue (is_sound (register_content register.now)) }
+    ensures refused { OnErr result (writer.new ≡ writer.old) }
+    ensures printed { IfOk result (λ ended. (image : Image) → Shows S.Store image conn →
+        ArePrintedOver S.Store T.Store M.hold F.holds (OpensOn T.Store F.is_known F.holds) image from
+        (W.contents writer.old.inner) (W.contents writer.new.inner) writer.new.failed writer.new.flushed ended.0 ended.1) }
+{
+    if names_none(register) {
+        let desk = open_whole(alloc, conn)?;
+        return Ok(print_kept(alloc, desk, from, writer));
+    }
+    let (desk, shelf) = shelve(alloc, store, conn, register, beside)?;
+    Ok(print_journal(alloc, desk, register, shelf, from, writer))
 }
 
 /// Prints the texts of the store that a desk is over, as `texts_over` does, and gives its connection back. Over stores of any
@@ -85,5 +129,65 @@ pub fn print_texts<S: Alter, W: Write>(
         Written::All => Ok(DONE),
         Written::Fewer => Ok(print(writer, "none\n", REFUSED)),
         Written::Failed => Ok(FAILED),
+    }
+}
+
+/// Prints the texts of a store and of the archives on a shelf, and gives the store's connection back. Over stores of any kind, so
+/// that what is said of it stays short where a file is known to be one.
+fn print_journal<S: Alter, T: Alter + Drop, F: Shelf<T> + Drop, W: Write>(
+    alloc: Global,
+    desk: Desk<S>,
+    register: &Register,
+    shelf: F,
+    from: u32,
+    writer: &mut Port<W>,
+) -> (Connection<S>, Result<u8, TableFault>)
+    requires sound { IsTrue (is_sound (register_content register.now)) }
+    ensures prints { IfOk result.1 (PrintsJournal T.Store (OpensOn T.Store F.is_known F.holds shelf)
+        (register_content register.now) from (state S.Store result.0) (state S.Store desk.conn)
+        (W.contents writer.old.inner) (W.contents writer.new.inner) writer.new.failed writer.new.flushed) }
+    ensures reads { OnlyReads (state S.Store desk.conn) (state S.Store result.0) result.1 }
+{
+    let mut conn = desk.into_connection();
+    let mut shelf = shelf;
+    let is_idle = conn.is_autocommit();
+    prove!(is_idle);
+    let status = print_all(alloc, &mut conn, &mut shelf, register, from, writer);
+    (conn, status)
+}
+
+/// Prints the texts of a store and its archives, and answers the exit status.
+fn print_all<S: Alter, T: Alter + Drop, F: Shelf<T>, W: Write>(
+    alloc: Global,
+    conn: &mut Connection<S>,
+    shelf: &mut F,
+    register: &Register,
+    from: u32,
+    writer: &mut Port<W>,
+) -> Result<u8, TableFault>
+    requires idle { conn.old.in_transaction ≡ false }
+    requires sound { IsTrue (is_sound (register_content register.now)) }
+    ensures prints { IfOk result (PrintsJournal T.Store (OpensOn T.Store F.is_known F.holds shelf.old)
+        (register_content register.now) from (state S.Store conn.new) (state S.Store conn.old)
+        (W.contents writer.old.inner) (W.contents writer.new.inner) writer.new.failed writer.new.flushed) }
+    ensures reads { OnlyReads (state S.Store conn.old) (state S.Store conn.new) result }
+{
+    match write_journal(alloc, conn, shelf, register, from, writer)? {
+        Some(left) => Ok(end_texts(writer, left)),
+        None => Ok(FAILED),
+    }
+}
+
+/// Ends what was printed, where so many of the texts that were to be passed over there are not: flushed, or `none`.
+fn end_texts<W: Write>(writer: &mut Port<W>, left: u32) -> u8
+    ensures { EndsTexts left (W.contents writer.old.inner) (W.contents writer.new.inner) writer.new.failed
+        writer.new.flushed result }
+{
+    if left > 0 {
+        return print(writer, "none\n", REFUSED);
+    }
+    match flush(writer) {
+        Written::All => DONE,
+        Written::Fewer | Written::Failed => FAILED,
     }
 }

@@ -1,5 +1,6 @@
 use crate::line::{Line, Ready};
 use crate::lines::{Lines, MOST_OPEN, grace};
+use crate::site::Site;
 use crate::told::Telling;
 use mio::unix::SourceFd;
 use mio::{Events, Interest, Poll, Token};
@@ -89,7 +90,7 @@ impl Gate {
     }
 
     /// Waits for a connection that can be served: the one of these that was accepted first. None for one that was lost.
-    pub(crate) fn next<C: Clock>(&mut self, clock: &C) -> Option<Ready> {
+    pub(crate) fn next<C: Clock>(&mut self, clock: &C, site: &Site) -> Option<Ready> {
         for _ in 0..u64::MAX {
             if self.lost > 0 {
                 self.lost -= 1;
@@ -98,7 +99,7 @@ impl Gate {
             let Ok(now) = Instant::now(clock) else {
                 return None;
             };
-            self.step(now);
+            self.step(site, now);
             if self.served < RUN {
                 if let Some(ready) = self.lines.take_ready() {
                     self.served += 1;
@@ -113,12 +114,12 @@ impl Gate {
     }
 
     /// Waits till all are over. One that could still be served is closed: its turn went to a failure of the system.
-    pub(crate) fn close<C: Clock>(&mut self, clock: &C) {
+    pub(crate) fn close<C: Clock>(&mut self, clock: &C, site: &Site) {
         for _ in 0..u64::MAX {
             let Ok(now) = Instant::now(clock) else {
                 return;
             };
-            self.step(now);
+            self.step(site, now);
             let _ = self.lines.take_ready();
             if self.lines.is_empty() || self.listen(now).is_err() {
                 return;
@@ -128,9 +129,10 @@ impl Gate {
 
     /// Does what can be done without waiting. One gives way only right after the system was asked, when all that had come by
     /// then is read.
-    fn step(&mut self, now: Instant) {
+    fn step(&mut self, site: &Site, now: Instant) {
         self.accept(now);
-        self.lines.advance(self.poll.registry(), now, self.heard);
+        self.lines
+            .advance(site, self.poll.registry(), now, self.heard);
         if self.served == 0 && self.is_full() {
             self.lines.give_way(self.heard);
         }

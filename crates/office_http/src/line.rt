@@ -1,6 +1,7 @@
 use crate::deadline::{Deadline, Seconds};
 use crate::head::MOST_HEAD_BYTES;
 use crate::held::widen;
+use crate::site::Site;
 use crate::told::{Parting, Telling};
 use crate::wanted::{Inlet, Tail, wanted_bytes};
 use arrayvec::ArrayVec;
@@ -206,12 +207,13 @@ impl Line {
     pub(crate) fn advanced(
         self,
         alloc: Global,
+        site: &Site,
         buffer: &mut [u8],
         now: Instant,
         heard: Instant,
     ) -> Line {
         let line = match self {
-            Line::Asking(asking) if asking.peer.is_awake => asking.heard(alloc, buffer, now),
+            Line::Asking(asking) if asking.peer.is_awake => asking.heard(alloc, site, buffer, now),
             Line::Telling(telling) if telling.peer.is_awake => telling.told(buffer, now),
             Line::Parting(parting) if parting.peer.is_awake => parting.parted(buffer, now),
             other => other,
@@ -256,7 +258,7 @@ impl Asking {
     }
 
     /// Reads what has come of the request, as far as there is room.
-    fn heard(mut self, alloc: Global, buffer: &mut [u8], now: Instant) -> Line {
+    fn heard(mut self, alloc: Global, site: &Site, buffer: &mut [u8], now: Instant) -> Line {
         for _ in 0..TURN {
             let room = self.asked.capacity().saturating_sub(self.asked.len());
             if room == 0 {
@@ -267,7 +269,7 @@ impl Asking {
                 Ok(0) => return Line::Ready(self.closed(Tail::Closed)),
                 Ok(count) => {
                     self.peer.moved = now;
-                    if self.is_decided_by(alloc, &buffer[..count]) {
+                    if self.is_decided_by(alloc, site, &buffer[..count]) {
                         return Line::Ready(self.closed(Tail::Late));
                     }
                 }
@@ -282,12 +284,12 @@ impl Asking {
     }
 
     /// Takes more of a request, for which there is room. Whether it is whole, or can't be held.
-    fn is_decided_by(&mut self, alloc: Global, bytes: &[u8]) -> bool {
+    fn is_decided_by(&mut self, alloc: Global, site: &Site, bytes: &[u8]) -> bool {
         let Ok(()) = self.asked.extend_from_slice(bytes) else {
             return true;
         };
         if self.wanted.is_none() {
-            self.wanted = wanted_bytes(alloc, self.asked.as_slice());
+            self.wanted = wanted_bytes(alloc, site, self.asked.as_slice());
         }
         match self.wanted {
             Some(wanted) => self.asked.len() >= wanted,

@@ -1,5 +1,6 @@
 use crate::held::{MOST_HELD, widen};
 use crate::line::{Line, Ready};
+use crate::site::Site;
 use mio::Registry;
 use slab::Slab;
 use std::alloc::{AllocError, Global};
@@ -113,7 +114,13 @@ impl Lines {
 
     /// Has each connection read and write what it can. One that took too long by the moment when the system was last asked is
     /// given up: what has come since isn't known.
-    pub(crate) fn advance(&mut self, registry: &Registry, now: Instant, heard: Instant) {
+    pub(crate) fn advance(
+        &mut self,
+        site: &Site,
+        registry: &Registry,
+        now: Instant,
+        heard: Instant,
+    ) {
         for key in 0..self.slots.capacity() {
             let is_due = match self.slots.get(key) {
                 Some(line) => line.left(heard).is_zero(),
@@ -121,19 +128,26 @@ impl Lines {
             };
             if is_due {
                 self.widen_one(key);
-                self.advance_one(key, registry, now, heard);
+                self.advance_one(key, site, registry, now, heard);
             }
         }
     }
 
     /// Has one read and write what it can.
-    fn advance_one(&mut self, key: usize, registry: &Registry, now: Instant, heard: Instant) {
+    fn advance_one(
+        &mut self,
+        key: usize,
+        site: &Site,
+        registry: &Registry,
+        now: Instant,
+        heard: Instant,
+    ) {
         let alloc = self.alloc;
         let Some(slot) = self.slots.get_mut(key) else {
             return;
         };
         let buffer = self.buffer.as_mut_slice();
-        let mut line = replace(slot, Line::Over).advanced(alloc, buffer, now, heard);
+        let mut line = replace(slot, Line::Over).advanced(alloc, site, buffer, now, heard);
         if line.watch(registry, key).is_err() {
             line = line.given_up(alloc);
         }

@@ -7,7 +7,7 @@ ghost use Rattle.office_http.specs.Deciding.{body_size, EndsWhenDecided, wanted_
 ghost use Rattle.office_http.specs.Fields.{body_length};
 ghost use Rattle.office_http.specs.Heads.{most_request_reads};
 ghost use Rattle.office_http.specs.Ports.{ReadsUpTo};
-ghost use Rattle.office_http.specs.Requests.{Asks, AsksWith, asked_in, Gets, Names, nothing_in, Posts, PostsAccount, PostsBy, refused_in, sought, texts_asked};
+ghost use Rattle.office_http.specs.Requests.{Asks, AsksWith, asked_in, Gets, Names, nothing_in, Posts, PostsAccount, PostsBy, PostsExplain, refused_in, sought, texts_asked};
 ghost use Rattle.office_http.specs.Routes.{key_in, partner_key_in};
 ghost use Rattle.office_http.specs.declared.targets.View.TheVariants.{Find};
 ghost use Rattle.office_http.specs.declared.requests.Request.TheVariants.{Refused};
@@ -19,7 +19,8 @@ ghost use Rattle.office_reports.specs.Keys.{query_of};
 
 use crate::head::{FoundHead, MOST_FIELDS, MOST_HEAD_BYTES, OwnText, content_length, read_head};
 use crate::response::Refusal;
-use crate::routes::{Endpoint, direct, key_in, partner_key_in, passed_in, posted_as};
+use crate::routes::{Endpoint, explained, key_in, partner_key_in, passed_in, posted_as};
+use crate::site::Site;
 use crate::targets::{View, path_of, typed_in, view_of};
 use httparse::spans::{EMPTY_HEADER_SPAN, HeaderSpan};
 use office_pages::{Notice, typed_number};
@@ -41,6 +42,8 @@ pub(crate) enum Request {
     OwnDelivery(OwnText),
     /// That this account is added.
     Account(AccountKey),
+    /// What is wrong with this text.
+    Explain(Vec<u8>),
     /// A report, shown so.
     Report(View, ReportKind, Query),
     /// A page of the kept texts, after so many.
@@ -52,16 +55,20 @@ pub(crate) enum Request {
 }
 
 /// Reads a request: what it asks for.
-pub(crate) fn read_request<R: Read>(alloc: Global, reader: &mut Port<R>) -> Result<Request>
-    ensures asks { IfOk result (λ request. IfSome (R.remaining reader.old.inner) (λ stream. Asks stream request)) }
+pub(crate) fn read_request<R: Read>(
+    alloc: Global,
+    site: &Site,
+    reader: &mut Port<R>,
+) -> Result<Request>
+    ensures asks { IfOk result (λ request. IfSome (R.remaining reader.old.inner) (λ stream. Asks site.now stream request)) }
     ensures reads { ReadsUpTo most_request_reads reader.old reader.new result }
     ensures decided { IfSome (R.remaining reader.old.inner) (λ stream.
-        EndsWhenDecided stream reader.old.reads reader.new.reads) }
+        EndsWhenDecided site.now stream reader.old.reads reader.new.reads) }
 {
     let mut buffer = [0; MOST_HEAD_BYTES];
     let mut headers = [EMPTY_HEADER_SPAN; MOST_FIELDS];
     match read_head(reader, &mut buffer, &mut headers)? {
-        Some(found) => read_asked(alloc, reader, &buffer, &headers, found),
+        Some(found) => read_asked(alloc, site, reader, &buffer, &headers, found),
         None => Ok(Request::Refused(Refusal::BadRequest)),
     }
 }
@@ -69,6 +76,7 @@ pub(crate) fn read_request<R: Read>(alloc: Global, reader: &mut Port<R>) -> Resu
 /// Reads what stands after a head, if it is wanted.
 pub(crate) fn read_asked<R: Read>(
     alloc: Global,
+    site: &Site,
     reader: &mut Port<R>,
     buffer: &[u8],
     headers: &[HeaderSpan],
@@ -78,23 +86,25 @@ pub(crate) fn read_asked<R: Read>(
     requires within { IsRequestWithin (take found.filled buffer.now) headers.now found.spans }
     ensures asks { IfOk result (λ request. IfSome (R.remaining reader.old.inner) (λ left. (head : RequestHead)
         → IsRequestAt (take found.filled buffer.now) headers.now found.spans head
-        → AsksWith head (drop found.spans.len (take found.filled buffer.now) ++ left) request)) }
+        → AsksWith site.now head (drop found.spans.len (take found.filled buffer.now) ++ left) request)) }
     ensures reads { ReadsUpTo most_bytes reader.old reader.new result }
     ensures decided { (head : RequestHead) → IsRequestAt (take found.filled buffer.now) headers.now found.spans head
         → reader.new.reads
-        ≤ reader.old.reads + (wanted_bytes_after head - length (drop found.spans.len (take found.filled buffer.now))) }
+        ≤ reader.old.reads + (wanted_bytes_after site.now head - length (drop found.spans.len (take found.filled buffer.now))) }
 {
     let read = &buffer[..found.filled];
     let Ok(target) = str::from_utf8(found.spans.path.of(read)) else {
         return Ok(Request::Refused(Refusal::BadRequest));
     };
     let path = path_of(target);
-    match direct(alloc, found.spans.method.of(read), target) {
+    let fields = &headers[..found.spans.headers];
+    match site.lead(found.spans.method.of(read), target, read, fields) {
         Ok(Endpoint::Interchanges) => read_post(alloc, reader, read, headers, found),
         Ok(Endpoint::PartnerInterchanges) => {
             read_own_post(alloc, reader, read, headers, found, path)
         }
         Ok(Endpoint::Accounts) => read_account(alloc, reader, read, headers, found, path),
+        Ok(Endpoint::Explain) => read_explained(alloc, reader, read, headers, found),
         Ok(Endpoint::Report(kind)) => Ok(read_report(alloc, view_of(target), kind, target)),
         Ok(Endpoint::Texts) => Ok(texts_asked(passed_in(path))),
         Err(refusal) => Ok(refused_in(view_of(target), refusal)),
@@ -174,6 +184,27 @@ fn read_own_post<R: Read>(
         Ok(None) => Ok(Request::Refused(Refusal::NotFound)),
         Err(_) => Ok(Request::Refused(Refusal::NotNow)),
     }
+}
+
+/// Reads the body that the fields of a head tell of, to be explained.
+fn read_explained<R: Read>(
+    alloc: Global,
+    reader: &mut Port<R>,
+    read: &[u8],
+    headers: &[HeaderSpan],
+    found: FoundHead,
+) -> Result<Request>
+    requires { IsSectionWithin read.now headers.now found.spans.len found.spans.headers }
+    ensures posts { IfOk result (λ request. IfSome (R.remaining reader.old.inner) (λ left. (request ≡ Refused NotNow)
+        ⊎ PostsExplain (body_length (map (header_bytes read.now) (take found.spans.headers headers.now)))
+        (drop found.spans.len read.now ++ left) request)) }
+    ensures reads { ReadsUpTo most_bytes reader.old reader.new result }
+    ensures decided { reader.new.reads ≤ reader.old.reads
+        + (body_size (body_length (map (header_bytes read.now) (take found.spans.headers headers.now)))
+        - length (drop found.spans.len read.now)) }
+{
+    let posted = read_post(alloc, reader, read, headers, found)?;
+    Ok(explained(posted))
 }
 
 /// Reads past the body that the fields of a head tell of, and names the account of a path.

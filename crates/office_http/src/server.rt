@@ -5,6 +5,7 @@ use crate::line::Ready;
 use crate::lines::Lines;
 use crate::overheard::Overheard;
 use crate::serve::{OfTerminal, Seen, Watch, serve_one};
+use crate::site::Site;
 use crate::told::{Outlet, Telling};
 use office_replies::{AddAccount, Port};
 use office_reports::Report;
@@ -21,6 +22,7 @@ pub fn serve_on<C: Clock, D: Report + AddAccount + OfTerminal, H: Watch>(
     alloc: Global,
     clock: &C,
     mut gate: Gate,
+    site: &Site,
     count: u32,
     ahead: Option<u32>,
     desk: &mut D,
@@ -31,9 +33,9 @@ pub fn serve_on<C: Clock, D: Report + AddAccount + OfTerminal, H: Watch>(
 {
     gate.expect(count);
     'connections: for _ in 0..count {
-        serve_next(alloc, clock, &mut gate, ahead, desk, watch);
+        serve_next(alloc, clock, &mut gate, site, ahead, desk, watch);
     }
-    gate.close(clock);
+    gate.close(clock, site);
 }
 
 /// Waits for the next connection that can be served, and answers its request.
@@ -41,14 +43,16 @@ fn serve_next<C: Clock, D: Report + AddAccount + OfTerminal, H: Watch>(
     alloc: Global,
     clock: &C,
     gate: &mut Gate,
+    site: &Site,
     ahead: Option<u32>,
     desk: &mut D,
     watch: &mut H,
 )
     ensures steps { AtMost D.leads D.enrols D.looks (calls_of 1) desk.old desk.new }
 {
-    if let Some(ready) = gate.next(clock) {
-        if let Some(telling) = serve_line(alloc, clock, gate.lines(), ready, ahead, desk, watch) {
+    if let Some(ready) = gate.next(clock, site) {
+        let lines = gate.lines();
+        if let Some(telling) = serve_line(alloc, clock, lines, ready, site, ahead, desk, watch) {
             gate.tell(telling);
         }
     }
@@ -61,6 +65,7 @@ fn serve_line<C: Clock, D: Report + AddAccount + OfTerminal, H: Watch>(
     clock: &C,
     lines: &mut Lines,
     ready: Ready,
+    site: &Site,
     ahead: Option<u32>,
     desk: &mut D,
     watch: &mut H,
@@ -70,7 +75,8 @@ fn serve_line<C: Clock, D: Report + AddAccount + OfTerminal, H: Watch>(
     let mut asked = Overheard::new(ready.inlet());
     let mut told = Overheard::new(Outlet::new(alloc, &ready, lines));
     let mut writer = Port::new(&mut told);
-    let outcome = serve_one(alloc, &mut Port::new(&mut asked), &mut writer, desk, ahead);
+    let mut reader = Port::new(&mut asked);
+    let outcome = serve_one(alloc, site, &mut reader, &mut writer, desk, ahead);
     watch.served(&Seen::new(asked.front(), told.front(), told.count()));
     let kept = told.into_inner().into_kept();
     match (outcome, kept, Instant::now(clock)) {

@@ -1,5 +1,6 @@
 use crate::head::{MOST_FIELDS, MOST_HEAD_BYTES, content_length, read_head};
 use crate::requests::read_asked;
+use crate::site::Site;
 use httparse::spans::EMPTY_HEADER_SPAN;
 use office_replies::Port;
 use std::alloc::Global;
@@ -43,7 +44,7 @@ impl Read for Inlet<'_> {
 }
 
 /// How many bytes decide what is asked for, by those that have come: none if these do. None: more have to come first.
-pub(crate) fn wanted_bytes(alloc: Global, asked: &[u8]) -> Option<usize> {
+pub(crate) fn wanted_bytes(alloc: Global, site: &Site, asked: &[u8]) -> Option<usize> {
     let mut buffer = [0; MOST_HEAD_BYTES];
     let mut headers = [EMPTY_HEADER_SPAN; MOST_FIELDS];
     let mut inlet = Inlet::new(asked, Tail::Open);
@@ -58,7 +59,9 @@ pub(crate) fn wanted_bytes(alloc: Global, asked: &[u8]) -> Option<usize> {
         return Some(0);
     };
     let whole = found.spans.len.saturating_add(size);
-    if whole <= asked.len() || read_asked(alloc, &mut port, &buffer, &headers, found).is_ok() {
+    if whole <= asked.len()
+        || read_asked(alloc, site, &mut port, &buffer, &headers, found).is_ok()
+    {
         Some(0)
     } else {
         Some(whole)

@@ -12,8 +12,8 @@ returns-then-is_due-clause-steps g c =
     let plan = c.args.plan.now in
     let due : true ≡ is_unraised plan.stage = sym c.if-is_due.true ∙ c.is_unraised-is_due.ensures in
     subst (λ b. StepsIf b unchanged (closed_with (archive_content plan.archive) plan.segments.items (map list_content plan.lists.items)) (state g.S.Store c.args.conn.now) (state g.S.Store c.raise_now.new.conn) c.raise_now.result) due
-          (subst (λ l. StepsIf true unchanged (closed_with (archive_content plan.archive) plan.segments.items (map list_content l)) (state g.S.Store c.args.conn.now) (state g.S.Store c.raise_now.new.conn) c.raise_now.result) c.deref-then-is_due.ensures.value
-          (subst (λ l. StepsIf true unchanged (closed_with (archive_content plan.archive) l (map list_content c.deref-then-is_due.result.now)) (state g.S.Store c.args.conn.now) (state g.S.Store c.raise_now.new.conn) c.raise_now.result) c.deref.ensures.value c.raise_now.ensures.steps))
+    (subst (λ l. StepsIf true unchanged (closed_with (archive_content plan.archive) plan.segments.items (map list_content l)) (state g.S.Store c.args.conn.now) (state g.S.Store c.raise_now.new.conn) c.raise_now.result) c.deref-then-is_due.ensures.value
+    (subst (λ l. StepsIf true unchanged (closed_with (archive_content plan.archive) l (map list_content c.deref-then-is_due.result.now)) (state g.S.Store c.args.conn.now) (state g.S.Store c.raise_now.new.conn) c.raise_now.result) c.deref.ensures.value c.raise_now.ensures.steps))
 
 pub returns-else-is_due-clause-steps : goal.returns-else-is_due-clause-steps
 returns-else-is_due-clause-steps g c =

@@ -3,7 +3,7 @@ use Rattle.std.proofs.lemmas.Result.{err_from_is_err_and}
 use Rattle.office_parts.specs.Named.{named_list_content}
 use Rattle.office_closing.specs.Lists.{list_content}
 use Rattle.office_closing.specs.Register.{ArchiveContent}
-use Rattle.office_closing.specs.Copies.{ComesOn, FileNames, archive_in, office_content}
+use Rattle.office_closing.specs.Copies.{AreDoneIn, ComesOn, FileNames, office_content}
 use Rattle.office_closing.specs.Planning.{AreClosingLists}
 use Rattle.office_closing.proofs.ClearLemmas.{plan_from, refused_with, registers_for}
 use Rattle.office_closing.proofs.planning.make_plan.Goals as goal
@@ -36,8 +36,8 @@ returns-in_err-stage-clause-err c =
     let all = map list_content c.in_ok-lists.lists.all.items in
     let at = c.in_ok-history.history.archive.place in
     let for = registers_for own copy at lists.done all lists.done (map list_content c.deref-2.result.now) refl (ap (map list_content) c.deref-2.ensures.value) lists.all in
-    let there = subst (λ n. AreClosingLists own copy (map named_list_content c.args.named.now) n c.in_ok-lists.lists) place lists in
-    rw (p.1, p.2) (refused_with own copy names (map named_list_content c.args.named.now) lists.done there.are_done _ (c.in_err-stage.ensures.err names lists.done refl named for))
+    let are = subst (λ n. AreDoneIn own.terminal (map named_list_content c.args.named.now) n lists.done) place lists.are_done in
+    rw (p.1, p.2) (refused_with own copy names (map named_list_content c.args.named.now) lists.done are _ (c.in_err-stage.ensures.err names lists.done refl named for))
 
 pub returns-clause-ok : goal.returns-clause-ok
 returns-clause-ok c =

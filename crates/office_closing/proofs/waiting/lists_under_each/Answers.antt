@@ -1,5 +1,7 @@
-use Rattle.std.proofs.Common.{Ok, sym, ap, ap₂, subst, ◌++◌, ◌∙◌, map}
+use Rattle.std.proofs.Common.{Ok, sym, ap, ap₂, subst, ◌++◌, ◌∙◌, ℕ, Contains, get_or, map}
 use Rattle.std.proofs.lemmas.List.{take_all}
+use Rattle.std.proofs.lemmas.List.Elements.{Contains-get_or}
+use Rattle.std.proofs.lemmas.Result.{err_from_is_err_and}
 use Rattle.sqlite.specs.Held.{state}
 use Rattle.office_rows.specs.Stored.{HasRows}
 use Rattle.office_admission.specs.Setups.{setup_content}
@@ -8,6 +10,7 @@ use Rattle.office_tables.specs.DeliveryReading.{IsSame}
 use Rattle.office_tables.proofs.WriteLemmas.{nothing_read, one_read, only_on, only_stopped, only_then}
 use Rattle.office_parts.specs.Named.{named_list_content}
 use Rattle.office_closing.specs.Waiting.{lists_under, lists_under_each}
+use Rattle.office_closing.proofs.FileLemmas.{fault_of_more}
 use Rattle.office_closing.proofs.WaitingLemmas.{numbers_more, one_more}
 use Rattle.office_closing.proofs.waiting.lists_under_each.Goals as goal
 
@@ -46,3 +49,11 @@ returns-in_err-more-clause-reads g c = only_stopped _ c.from_residual.ensures.0 
 
 pub returns-in_err-append-clause-reads : goal.returns-in_err-append-clause-reads
 returns-in_err-append-clause-reads g c = only_on _ (only_then c.loop-number.invariant.reads (one_read c.in_ok-more.ensures.reads))
+
+pub returns-in_err-more-clause-fault : goal.returns-in_err-more-clause-fault
+returns-in_err-more-clause-fault g c =
+    let p = err_from_is_err_and c.from_residual.result c.from_residual.ensures.1 in
+    let numbers = c.args.numbers.now in
+    let i = c.loop-number.number-index in
+    let there : (number : ℕ) × Contains numbers number = (get_or numbers i 0, Contains-get_or numbers i 0 c.loop-number-test.true) in
+    rw (p.1, p.2) (fault_of_more (λ _. there) _ c.in_err-more.ensures.fault)

@@ -12,4 +12,5 @@ returns-clause-app c =
     let ports : app_of c.in_ok-arg-2.field-0 ≡ _ = c.in_ok-arg-2.ensures.shape c.word-port.ensures.local ∙ ap₂ with_rule stores c.word-port.ensures.rule in
     let counts : app_of c.in_ok-arg-3.field-0 ≡ _ = c.in_ok-arg-3.ensures.shape c.word-count.ensures.local ∙ ap₂ with_rule ports c.word-count.ensures.rule in
     let logs : app_of c.in_ok-arg-4.field-0 ≡ _ = c.in_ok-arg-4.ensures.shape c.flag-log.ensures.local ∙ ap₂ with_rule counts c.flag-log.ensures.rule in
-    c.in_ok-serve.ensures.shape c.valued-ahead.ensures.local ∙ ap₂ with_rule logs c.valued-ahead.ensures.rule
+    let aheads : app_of c.in_ok-arg-5.field-0 ≡ _ = c.in_ok-arg-5.ensures.shape c.valued-ahead.ensures.local ∙ ap₂ with_rule logs c.valued-ahead.ensures.rule in
+    c.in_ok-serve.ensures.shape c.valued-host.ensures.local ∙ ap₂ with_rule aheads c.valued-host.ensures.rule

@@ -1,5 +1,5 @@
 use Rattle.office_replies.proofs.StreamLemmas.{streams_as}
-use Rattle.office_commands.proofs.StreamLemmas.{delivered_by}
+use Rattle.office_commands.proofs.Alike.{delivered_by}
 use Rattle.office_commands.proofs.deliver.deliver_noted.Goals as goal
 
 -- What stands around the desk asks it, and adds nothing.

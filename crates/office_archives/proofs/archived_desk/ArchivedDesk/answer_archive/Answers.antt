@@ -1,5 +1,18 @@
+use Rattle.std.proofs.Common.{arith}
+use Rattle.office_reports.specs.Looking.{of_archive}
+use Rattle.office_archives.proofs.Alone.{alone_looks}
+use Rattle.office_archives.proofs.Beside.{none_there}
 use Rattle.office_archives.proofs.Together.{looks_noted, looks_on}
 use Rattle.office_archives.proofs.archived_desk.ArchivedDesk.answer_archive.Goals as goal
+
+-- there is no archive
+pub returns-then-count-eq0 : goal.returns-then-count-eq0
+returns-then-count-eq0 g c =
+    let self = c.args.self.now in
+    record {
+      looks = alone_looks g.S.Store g.A.Archives.are self.desk self.archives (λ list these. none_there list c.count.result (c.count.ensures list these) c.if-count-eq0.true)
+          g.A.Archives.is_sound (of_archive c.args.place c.args.query.now) _ c.archive_report.new.self (λ sound db left. g.met.S.Store.settled self.desk.conn.store db sound.1 left) c.archive_report.ensures;
+    }
 
 pub returns-in-Ok : goal.returns-in-Ok
 returns-in-Ok g c =
@@ -11,6 +24,7 @@ returns-in-Ok g c =
         looks = looks_on g.S.Store g.A.Archives.are old.desk asked.desk old.archives asked.archives (λ sound db left. g.met.S.Store.settled old.desk.conn.store db sound.1 left) c.tell_of_archive.ensures.looks c.tell_of_archive.ensures.same;
         noted = c.tell_of_archive.ensures.last_fault;
         is_open = λ clean. tt;
+        alone = λ none. absurd (omega (arith, c.if-count-eq0.false, c.count.ensures _ none));
       };
     }
 
@@ -26,5 +40,6 @@ returns-in-Err g c =
         looks = looks_noted g.S.Store g.A.Archives.are old.desk asked.desk c.note.new.self old.archives asked.archives looks noted.conn noted.setup noted.closed noted.beside;
         noted = (c.in-Err.fault, noted.fault);
         is_open = λ clean. tt;
+        alone = λ none. absurd (omega (arith, c.if-count-eq0.false, c.count.ensures _ none));
       };
     }

@@ -1,19 +1,32 @@
-use Rattle.std.proofs.Common.{option_map, string_bytes}
+use Rattle.std.proofs.Common.{◌≡◌, List, [], arith, option_map, string_bytes}
 use Rattle.office_rows.proofs.Creating.{if_ok}
-use Rattle.office_archives.specs.Telling.{IsOfNeither}
-use Rattle.office_archives.proofs.Beside.{is_neither, neither_beside}
+use Rattle.office_parts.specs.Archives.{Archive}
+use Rattle.office_archives.proofs.Alone.{alone_tells}
+use Rattle.office_archives.proofs.Beside.{none_there}
 use Rattle.office_archives.proofs.Together.{looks_on}
 use Rattle.office_archives.proofs.archived_desk.ArchivedDesk.find_report.Goals as goal
 
-pub returns-in_default : goal.returns-in_default
-returns-in_default g c =
+-- there is no archive
+pub returns-then-count-eq0 : goal.returns-then-count-eq0
+returns-then-count-eq0 g c =
     let self = c.args.self.now in
-    let query = c.args.query.now in
     let told = c.find_report.ensures in
-    let is : IsOfNeither query = is_neither query c.in_default.not-Visits c.in_default.not-Container c.in_default.not-Calls c.in_default.not-List c.in_default.not-Work c.in_default.not-Reply c.in_default.not-Contrl c.in_default.not-Ticket in
+    let empty : (list : List Archive) → g.A.Archives.are list self.archives → list ≡ [] = λ list these. none_there list c.count.result (c.count.ensures list these) c.if-count-eq0.true in
     record {
-      told = λ sound whole. if_ok c.find_report.result (λ found here. neither_beside g.S.Store g.A.Archives.are self.desk self.archives query (option_map string_bytes found) is here) (told.told sound);
-      looks = looks_on g.S.Store g.A.Archives.are self.desk c.find_report.new.self self.archives self.archives (λ sound db left. g.met.S.Store.settled self.desk.conn.store db sound.1 left) told.looks (λ list are. are);
-      is_open = told.is_open;
+      told = λ sound whole. if_ok c.find_report.result (λ found here. alone_tells g.S.Store g.A.Archives.are self.desk self.archives empty c.args.query.now (option_map string_bytes found) (told.looks.stays sound) here) (told.told sound);
+      looks = looks_on g.S.Store g.A.Archives.are self.desk c.find_report.new.self self.archives self.archives (λ sound db left. g.met.S.Store.settled self.desk.conn.store db sound.1 left) told.looks (λ list they. they);
       last_fault = told.last_fault;
+      alone = λ none sound. told.told sound;
+      alone_looks = λ none. told.looks;
+    }
+
+pub returns : goal.returns
+returns g c =
+    let told = c.find_beside.ensures in
+    record {
+      told = told.told;
+      looks = told.looks;
+      last_fault = told.last_fault;
+      alone = λ none. absurd (omega (arith, c.if-count-eq0.false, c.count.ensures _ none));
+      alone_looks = λ none. absurd (omega (arith, c.if-count-eq0.false, c.count.ensures _ none));
     }

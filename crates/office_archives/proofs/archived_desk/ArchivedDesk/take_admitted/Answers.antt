@@ -21,7 +21,7 @@ take_open-requires g c =
     let is = c.requires.admitted in
     let place = numbered (parties_of desk.setup) text (head_segments c.head.result) partner number (c.head.ensures ∙ is.segments) c.number-number.ensures.number is.admits in
     let same : (partner, number_in (header_of (segments_in text))) ≡ (partner, number) = let e = sym is.admits ∙ place in cc in
-    record { admitted = is; is_open = ap (λ (q : ℕ × ℕ). nat_le q.1 (last_closed desk.closed partner)) same ∙ sym c.is_closed.ensures ∙ c.if-not-is_closed.true }
+    record { admitted = is; some = c.requires.some; is_open = ap (λ (q : ℕ × ℕ). nat_le q.1 (last_closed desk.closed partner)) same ∙ sym c.is_closed.ensures ∙ c.if-not-is_closed.true }
 
 pub returns-then-not-is_closed : goal.returns-then-not-is_closed
 returns-then-not-is_closed g c = record { leads = c.take_open.ensures.leads }
@@ -40,7 +40,7 @@ returns-in-Ok g c = record {
       let code = c.code_of-code.result.now in
       by_archives g.S.Store g.A.Archives.is_sound g.A.Archives.are old sent partner number here (λ sound db left. g.met.S.Store.settled old.conn.store db sound.1 left)
       (sym c.is_closed.ensures ∙ c.if-not-is_closed.false) code c.code_of-code.ensures c.args.self.now.archives c.answer_closed.new.archives c.in-Ok.response
-      (λ whole list are. subst (λ t. AnswersClosed list partner code number t c.in-Ok.response) exact (c.in-Ok.ensures.answers whole list are)) c.answer_closed.ensures.same c.in-Ok.ensures.now;
+      (λ whole list are. subst (λ t. AnswersClosed list partner code number t c.in-Ok.response) exact (c.in-Ok.ensures.answers whole list are)) c.answer_closed.ensures.same c.in-Ok.ensures.now c.requires.some;
 }
 
 pub returns-in-Err : goal.returns-in-Err
@@ -56,5 +56,5 @@ returns-in-Err g c = record {
       let here = subst (λ other. admission P other ≡ Ok (partner, number)) exact place in
       let noted = c.note.ensures in
       not_now g.S.Store g.A.Archives.is_sound g.A.Archives.are old sent partner number here (λ sound db left. g.met.S.Store.settled old.conn.store db sound.1 left)
-      c.args.self.now.archives c.answer_closed.new.archives c.note.new.self (admitted_surely P sent text _ NotNow exact is.admits) noted.conn noted.setup noted.closed noted.beside (c.in-Err.fault, noted.fault) c.answer_closed.ensures.same;
+      c.args.self.now.archives c.answer_closed.new.archives c.note.new.self (admitted_surely P sent text _ NotNow exact is.admits) noted.conn noted.setup noted.closed noted.beside (c.in-Err.fault, noted.fault) c.answer_closed.ensures.same c.requires.some;
 }

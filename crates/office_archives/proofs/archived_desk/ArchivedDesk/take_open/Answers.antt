@@ -25,7 +25,7 @@ returns-in-Ok g c = record {
       let partner = c.args.admitted.partner in
       let number = number_in (header_of (segments_in text)) in
       let here = subst (λ other. admission P other ≡ Ok (partner, number)) exact c.requires.admitted.admits in
-      by_open g.S.Store g.A.Archives.is_sound g.A.Archives.are old c.bring_back_named.new.desk c.args.self.now.archives sent partner number here c.requires.is_open
+      by_open g.S.Store g.A.Archives.is_sound g.A.Archives.are old c.bring_back_named.new.desk c.args.self.now.archives sent partner number here c.requires.is_open c.requires.some
       (subst (λ t. BringsTogether g.S.Store g.A.Archives.are old c.args.self.now.archives (named_by old partner t) (Ok tt) c.bring_back_named.new.desk) exact (c.in-Ok.ensures.brings text c.requires.admitted))
       c.take_admitted.result c.take_admitted.new.self (c.take_admitted.ensures.leads sent exact);
 }
@@ -41,7 +41,7 @@ returns-in-Err g c = record {
       let is = c.requires.admitted in
       let here = subst (λ other. admission P other ≡ Ok (partner, number)) exact is.admits in
       let noted = c.note.ensures in
-      not_brought g.S.Store g.A.Archives.is_sound g.A.Archives.are old c.bring_back_named.new.desk c.args.self.now.archives sent partner number here c.requires.is_open (Err c.in-Err.fault)
+      not_brought g.S.Store g.A.Archives.is_sound g.A.Archives.are old c.bring_back_named.new.desk c.args.self.now.archives sent partner number here c.requires.is_open c.requires.some (Err c.in-Err.fault)
       (subst (λ t. BringsTogether g.S.Store g.A.Archives.are old c.args.self.now.archives (named_by old partner t) (Err c.in-Err.fault) c.bring_back_named.new.desk) exact (c.in-Err.ensures.brings text is))
       c.note.new.self (admitted_surely P sent text _ NotNow exact is.admits) noted.conn noted.setup noted.closed noted.beside (c.in-Err.fault, noted.fault);
 }

@@ -1,9 +1,0 @@
-use Rattle.sqlite.specs.WalFiles.{image_at}
-use Rattle.office_archive_files.proofs.commands.serve_beside.Goals as goal
-
-pub returns-clause-ok : goal.returns-clause-ok
-returns-clause-ok g c = record {
-  opened = _;
-  reached = c.in_ok-office.ensures.reached.0;
-  came = c.serve_joined.ensures (image_at g.S.Start) c.in_ok-office.ensures.opens;
-}

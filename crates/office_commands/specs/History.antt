@@ -1,0 +1,15 @@
+-- What was put away of a store, as its register says.
+use Rattle.std.specs.Prelude.{◌≡◌, length, Option, None, Some, is_some, IfSome, IsTrue, true, false}
+use Rattle.office_closing.specs.Register.{RegisterContent}
+use Rattle.office_closing.specs.Sound.{is_sound}
+use Rattle.office_commands.specs.declared.register.History.{History}
+
+-- what was put away of a store with that register, or with none
+abbrev pub history_in : Option RegisterContent → History
+history_in None = record { archives = 0; is_closed = false }
+history_in (Some names) = record { archives = length names.archives; is_closed = is_some names.closed_for }
+
+-- it is what a sound register says, or there was none
+abbrev pub IsHistory : History → Type 0
+IsHistory history =
+    (found : Option RegisterContent) × IfSome found (λ names. IsTrue (is_sound names)) × (history ≡ history_in found)
