@@ -1,4 +1,5 @@
 """What trials of the program share: containers by their serial numbers, requests as they are mostly sent, and connections."""
+import random
 import socket
 
 from .names import check_digit
@@ -43,10 +44,14 @@ def in_bytes(request):
 # ---- connections
 
 def free_port():
-    """A port at which nothing listens."""
-    with socket.socket() as free:
-        free.bind(('127.0.0.1', 0))
-        return free.getsockname()[1]
+    """A port that nobody has, and that the system gives to no client: one of those could have it before a server listens."""
+    while True:
+        with socket.socket() as free:
+            try:
+                free.bind(('127.0.0.1', random.randrange(10000, 32768)))
+                return free.getsockname()[1]
+            except OSError:
+                pass
 
 
 def read_all(connection, parts):
