@@ -188,7 +188,7 @@ fn give_up(rt: &HostRuntime, store: &str, archive: &str) {
 }
 
 /// Copies a store to its archive: first its register, if that names archives, so that the archive's file never lies there without
-/// it.
+/// it. The names last, too, when this returns.
 fn copy_files<D: Disk>(
     rt: &HostRuntime,
     store: &str,
@@ -200,8 +200,7 @@ fn copy_files<D: Disk>(
         Some(names) if names.archives.len() > 0 => copy_register(rt, store, archive)?,
         _ => {}
     }
-    place(rt, db, store, archive)?;
-    sync_folder(rt, store)
+    place(rt, db, store, archive)
 }
 
 /// Copies a store's register to its archive's, unless that is there already.
@@ -222,7 +221,7 @@ fn copy_register(rt: &HostRuntime, store: &str, archive: &str) -> Result<(), Cop
 }
 
 /// Copies a file, which lies at `source`, to a path at which nothing is: under a draft's name first, so that it comes whole or not at
-/// all, and never over a file that was made meanwhile.
+/// all, and never over a file that was made meanwhile. File and name are synced.
 fn place<D: Disk>(
     rt: &HostRuntime,
     file: &mut D,
@@ -233,7 +232,7 @@ fn place<D: Disk>(
     write_draft(rt, file, source, draft.as_str())?;
     fs::hard_link(rt, draft.as_str(), path)?;
     fs::remove_file(rt, draft.as_str())?;
-    Ok(())
+    sync_folder(rt, path)
 }
 
 /// Writes a draft, and syncs it.
@@ -359,9 +358,9 @@ fn remove_if_there(rt: &HostRuntime, path: &str) -> Result<(), CopyFault> {
     }
 }
 
-/// Syncs a store's folder, so that the names in it last.
-fn sync_folder(rt: &HostRuntime, store: &str) -> Result<(), CopyFault> {
-    let folder = match place_of(store).folder {
+/// Syncs the folder of a path, so that the names in it last.
+fn sync_folder(rt: &HostRuntime, path: &str) -> Result<(), CopyFault> {
+    let folder = match place_of(path).folder {
         Some("") => "/",
         Some(folder) => folder,
         None => ".",
