@@ -43,10 +43,14 @@ fn close_by_copy<W: Write, E: Write>(
     errors: &mut Port<E>,
 ) -> u8 {
     match prepare(rt, store) {
-        Ok(archive) if archive.is_left => {
-            close_by_left(rt, store, archive.path.as_str(), writer, errors)
+        Ok(archive) => {
+            let path = archive.path.as_str();
+            if archive.is_left {
+                close_by_left(rt, store, path, writer, errors)
+            } else {
+                close_by(rt, store, path, writer, errors)
+            }
         }
-        Ok(archive) => close_by(rt, store, archive.path.as_str(), writer, errors),
         Err(fault) => tell_copy(rt, errors, store, &fault),
     }
 }
@@ -94,19 +98,20 @@ fn close_by<W: Write, E: Write>(
 }
 
 /// Closes the store at a path by an archive, and leaves the four files whole.
-fn close_files(
-    rt: &HostRuntime,
-    store: &str,
-    archive: &str,
-) -> Result<PutAway, CloseCommandFault> {
+fn close_files(rt: &HostRuntime, store: &str, archive: &str) -> Result<PutAway, CloseCommandFault> {
     let unknown = OfFour {
         store: UnknownFile,
         register: UnknownFile,
         archive: UnknownFile,
         archive_register: UnknownFile,
     };
-    let (_files, closed) = close_whole(rt, store, archive, unknown)?;
-    Ok(closed?)
+    match close_whole(rt, store, archive, unknown) {
+        Ok((_files, closed)) => match closed {
+            Ok(away) => Ok(away),
+            Err(fault) => Err(CloseCommandFault::Close(fault)),
+        },
+        Err(fault) => Err(fault),
+    }
 }
 
 /// Prints that a store is closed, and shows a person what was put away; or reports why it is not.

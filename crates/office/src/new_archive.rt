@@ -70,23 +70,25 @@ pub(crate) struct Prepared {
 /// again, is in the store and not in the copy, as after any copy of an earlier moment.
 pub(crate) fn prepare(rt: &HostRuntime, store: &str) -> Result<Prepared, CopyFault> {
     let mut files = whole_store(rt, store)?;
-    match left_archive(rt, store)? {
-        Some(path) => Ok(Prepared {
+    if let Some(path) = left_archive(rt, store)? {
+        return Ok(Prepared {
             path,
             is_left: true,
-        }),
-        None => Ok(Prepared {
-            path: make_archive(rt, store, &mut files.db)?,
-            is_left: false,
-        }),
+        });
     }
+    let path = make_archive(rt, store, &mut files.db)?;
+    Ok(Prepared {
+        path,
+        is_left: false,
+    })
 }
 
 /// The files of the store at a path, locked, whose log was moved into the file.
 fn whole_store(rt: &HostRuntime, store: &str) -> Result<Files<FileFrom<Unknown>>, CopyFault> {
     let beside = InUnknownFiles::new(rt);
-    let opened: Result<FileOffice<Unknown, FileArchives<'_>>, OpenFault> =
-        open_office(rt, store, Unknown, &beside);
+    let opened: Result<FileOffice<Unknown, FileArchives<'_>>, OpenFault> = open_office(
+        rt, store, Unknown, &beside,
+    );
     match opened {
         Ok(office) => match leave_office(office) {
             Ok(files) => Ok(files),
@@ -197,7 +199,7 @@ fn copy_files<D: Disk>(
     archive: &str,
 ) -> Result<(), CopyFault> {
     match register {
-        Some(names) if names.archives.len() > 0 => copy_register(rt, store, archive)?,
+        Some(names) if !names.archives.is_empty() => copy_register(rt, store, archive)?,
         _ => {}
     }
     place(rt, db, store, archive)
@@ -322,10 +324,11 @@ fn is_free(rt: &HostRuntime, path: &str, register: Option<&Register>) -> Result<
 
 /// Whether the register beside a path tells the same as the store's.
 fn is_copied(rt: &HostRuntime, path: &str, register: Option<&Register>) -> bool {
-    match (read_history(rt, path), register) {
-        (Ok(Some(copy)), Some(register)) => {
-            copy.closed_for.is_none() && copy.tells_same(register)
-        }
+    let Some(register) = register else {
+        return false;
+    };
+    match read_history(rt, path) {
+        Ok(Some(copy)) => copy.closed_for.is_none() && copy.tells_same(register),
         _ => false,
     }
 }
