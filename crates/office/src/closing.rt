@@ -42,10 +42,14 @@ fn close_by_copy<W: Write, E: Write>(
     errors: &mut Port<E>,
 ) -> u8 {
     match prepare(rt, store) {
-        Ok(archive) if archive.is_left => {
-            close_by_left(rt, store, archive.path.as_str(), writer, errors)
+        Ok(archive) => {
+            let path = archive.path.as_str();
+            if archive.is_left {
+                close_by_left(rt, store, path, writer, errors)
+            } else {
+                close_by(rt, store, path, writer, errors)
+            }
         }
-        Ok(archive) => close_by(rt, store, archive.path.as_str(), writer, errors),
         Err(fault) => tell_copy(rt, errors, store, &fault),
     }
 }
@@ -100,11 +104,16 @@ fn close_files(rt: &HostRuntime, store: &str, archive: &str) -> Result<(), Close
         archive: UnknownFile,
         archive_register: UnknownFile,
     };
-    let (_files, closed) = close_whole(rt, store, archive, unknown)?;
-    Ok(closed?)
+    match close_whole(rt, store, archive, unknown) {
+        Ok((_files, closed)) => match closed {
+            Ok(()) => Ok(()),
+            Err(fault) => Err(CloseCommandFault::Close(fault)),
+        },
+        Err(fault) => Err(fault),
+    }
 }
 
-/// Prints that a store is closed, and shows a person by which archive; or reports why it is not.
+/// Prints that a store is closed, and shows a person into which archive; or reports why it is not.
 fn end_closing<W: Write, E: Write>(
     rt: &HostRuntime,
     store: &str,
@@ -131,7 +140,8 @@ fn tell_put_away<E: Write>(to: Audience<'_>, errors: &mut Port<E>, archive: &str
     if !to.wants_causes() {
         return;
     }
-    if let Ok(text) = format!(in to.rt().alloc(); "closed: into {}\n", place_of(archive).name) {
+    let archive = place_of(archive).name;
+    if let Ok(text) = format!(in to.rt().alloc(); "closed: into {archive}\n") {
         tell(errors, text.as_str());
     }
 }

@@ -43,12 +43,7 @@ fn copy_parts<D: Disk, W: Write>(file: &mut D, length: usize, writer: &mut W) ->
 }
 
 /// Copies so many bytes of a file of a store, from an offset on, into a writer.
-fn copy_part<D: Disk, W: Write>(
-    file: &mut D,
-    at: usize,
-    count: usize,
-    writer: &mut W,
-) -> Result<()>
+fn copy_part<D: Disk, W: Write>(file: &mut D, at: usize, count: usize, writer: &mut W) -> Result<()>
     requires usable { IsTrue (D.Disk.is_usable file.old) }
     requires some { 0 < count }
     requires few { count ≤ PART }

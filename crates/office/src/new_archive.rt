@@ -70,23 +70,25 @@ pub(crate) struct Prepared {
 /// again, is in the store and not in the copy, as after any copy of an earlier moment.
 pub(crate) fn prepare(rt: &HostRuntime, store: &str) -> Result<Prepared, CopyFault> {
     let mut files = whole_store(rt, store)?;
-    match left_archive(rt, store)? {
-        Some(path) => Ok(Prepared {
+    if let Some(path) = left_archive(rt, store)? {
+        return Ok(Prepared {
             path,
             is_left: true,
-        }),
-        None => Ok(Prepared {
-            path: make_archive(rt, store, &mut files.db)?,
-            is_left: false,
-        }),
+        });
     }
+    let path = make_archive(rt, store, &mut files.db)?;
+    Ok(Prepared {
+        path,
+        is_left: false,
+    })
 }
 
 /// The files of the store at a path, locked, whose log was moved into the file.
 fn whole_store(rt: &HostRuntime, store: &str) -> Result<Files<FileFrom<Unknown>>, CopyFault> {
     let beside = InUnknownFiles::new(rt);
-    let opened: Result<FileOffice<Unknown, FileArchives<'_>>, OpenFault> =
-        open_office(rt, store, Unknown, &beside);
+    let opened: Result<FileOffice<Unknown, FileArchives<'_>>, OpenFault> = open_office(
+        rt, store, Unknown, &beside,
+    );
     match opened {
         Ok(office) => match leave_office(office) {
             Ok(files) => Ok(files),
@@ -153,11 +155,11 @@ fn left_archive(rt: &HostRuntime, store: &str) -> Result<Option<String>, CopyFau
         return Ok(None);
     };
     remove_drafts(rt, archive.as_str())?;
-    Ok(if is_taken(rt, archive.as_str()) {
-        Some(archive)
+    if is_taken(rt, archive.as_str())? {
+        Ok(Some(archive))
     } else {
-        None
-    })
+        Ok(None)
+    }
 }
 
 // ---- a new archive
@@ -181,8 +183,10 @@ fn make_archive<D: Disk>(rt: &HostRuntime, store: &str, db: &mut D) -> Result<St
 
 /// Removes what is there of an archive that could not be made, unless it has its name.
 fn give_up(rt: &HostRuntime, store: &str, archive: &str) {
-    let are_removed = remove_drafts(rt, archive).is_ok();
-    if are_removed && !is_taken(rt, archive) {
+    if remove_drafts(rt, archive).is_err() {
+        return;
+    }
+    if let Ok(false) = is_taken(rt, archive) {
         let _ = remove_note(rt, store);
     }
 }
@@ -197,7 +201,7 @@ fn copy_files<D: Disk>(
     archive: &str,
 ) -> Result<(), CopyFault> {
     match register {
-        Some(names) if names.archives.len() > 0 => copy_register(rt, store, archive)?,
+        Some(names) if !names.archives.is_empty() => copy_register(rt, store, archive)?,
         _ => {}
     }
     place(rt, db, store, archive)
@@ -207,7 +211,7 @@ fn copy_files<D: Disk>(
 fn copy_register(rt: &HostRuntime, store: &str, archive: &str) -> Result<(), CopyFault> {
     let own = register_path(rt.alloc(), store)?;
     let copy = register_path(rt.alloc(), archive)?;
-    if is_taken(rt, copy.as_str()) {
+    if is_taken(rt, copy.as_str())? {
         return Ok(());
     }
     let conn = open_found(rt, own.as_str(), Unknown).map_err(of_register)?;
@@ -310,36 +314,43 @@ pub(crate) fn names(register: Option<&Register>, archive: &str) -> bool {
 /// Whether an archive with its files can be made at a path: none of them is there, or only the copy of the store's register that a
 /// closing made before it was stopped.
 fn is_free(rt: &HostRuntime, path: &str, register: Option<&Register>) -> Result<bool, CopyFault> {
-    if is_taken(rt, path) || is_taken(rt, log_path(rt.alloc(), path)?.as_str()) {
+    if is_taken_with_log(rt, path)? {
         return Ok(false);
     }
     let own = register_path(rt.alloc(), path)?;
-    if is_taken(rt, own.as_str()) {
-        return Ok(is_copied(rt, path, register));
+    if is_taken(rt, own.as_str())? {
+        return is_copied(rt, path, register);
     }
-    Ok(!is_taken(rt, log_path(rt.alloc(), own.as_str())?.as_str()))
+    Ok(!is_taken_with_log(rt, own.as_str())?)
 }
 
 /// Whether the register beside a path tells the same as the store's.
-fn is_copied(rt: &HostRuntime, path: &str, register: Option<&Register>) -> bool {
-    match (read_history(rt, path), register) {
-        (Ok(Some(copy)), Some(register)) => {
-            copy.closed_for.is_none() && copy.tells_same(register)
-        }
-        _ => false,
+fn is_copied(rt: &HostRuntime, path: &str, register: Option<&Register>) -> Result<bool, CopyFault> {
+    let Some(register) = register else {
+        return Ok(false);
+    };
+    match read_history(rt, path) {
+        Ok(Some(copy)) => Ok(copy.closed_for.is_none() && copy.tells_same(register)),
+        Err(TableFault::Memory) => Err(CopyFault::Memory),
+        _ => Ok(false),
     }
 }
 
-/// The path of a file's log.
-fn log_path(alloc: Global, path: &str) -> Result<String, AllocError> {
-    format!(in alloc; "{path}-wal")
+/// Whether anything is at a path, or at that of its log.
+fn is_taken_with_log(rt: &HostRuntime, path: &str) -> Result<bool, CopyFault> {
+    let log = format!(in rt.alloc(); "{path}-wal")?;
+    Ok(is_taken(rt, path)? || is_taken(rt, log.as_str())?)
 }
 
 /// Whether anything is at a path, or that can't be found out.
-fn is_taken(rt: &HostRuntime, path: &str) -> bool {
+fn is_taken(rt: &HostRuntime, path: &str) -> Result<bool, CopyFault> {
     match fs::symlink_metadata(rt, path) {
-        Ok(_) => true,
-        Err(error) => error.kind() != ErrorKind::NotFound,
+        Ok(_) => Ok(true),
+        Err(error) => match error.kind() {
+            ErrorKind::NotFound => Ok(false),
+            ErrorKind::OutOfMemory => Err(CopyFault::Memory),
+            _ => Ok(true),
+        },
     }
 }
 

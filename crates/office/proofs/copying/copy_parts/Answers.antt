@@ -16,9 +16,10 @@ pub loop-at-preserved : goal.loop-at-preserved
 loop-at-preserved g c =
     let i = c.loop-at.invariant in
     let e = c.in_ok-copy_part.ensures in (
-    grind (arith, c.min-count.ensures, c.loop-at-test.true),
-    e.usable,
-    e.stays ∙ i.2,
-    λ clean. i.3 (e.clean clean),
-    λ clean. appended _ _ _ _ _ _ _ i.2 (i.4 (e.clean clean)) (e.copied clean),
-    λ left may. i.5 left (e.leaves left may))
+      grind (arith, c.min-count.ensures, c.loop-at-test.true),
+      e.usable,
+      e.stays ∙ i.2,
+      λ clean. i.3 (e.clean clean),
+      λ clean. appended _ _ _ _ _ _ _ i.2 (i.4 (e.clean clean)) (e.copied clean),
+      λ left may. i.5 left (e.leaves left may),
+    )

@@ -9,7 +9,7 @@ invariant-loop-at g l =
     × (g.D.Disk.seen l.file ≡ g.D.Disk.seen l.initial.file)
     × (IsTrue (g.D.Disk.is_clean l.file) → IsTrue (g.D.Disk.is_clean l.initial.file))
     × (IsTrue (g.D.Disk.is_clean l.file) →
-        Appends (g.W.Write.contents l.initial.writer) (g.W.Write.contents l.writer) (take l.at (g.D.Disk.seen l.initial.file)))
+    Appends (g.W.Write.contents l.initial.writer) (g.W.Write.contents l.writer) (take l.at (g.D.Disk.seen l.initial.file)))
     × ((left : List ℕ) → g.D.Disk.may_leave l.file left → g.D.Disk.may_leave l.initial.file left)
 
 abbrev pub decreases-loop-at : goal.decreases-loop-at
