@@ -5,10 +5,11 @@ import sys
 import time
 from concurrent.futures import ThreadPoolExecutor
 
+from model.files import PROGRAM
+
 from . import clients_at_once, clients_beside, clients_by_curl, clients_in_the_way, clients_of_sites
 from .served import Checks
 
-TOP = os.path.dirname(os.path.dirname(os.path.dirname(os.path.abspath(__file__))))
 CHECKS = (
     clients_in_the_way.CHECKS + clients_beside.CHECKS + clients_at_once.CHECKS + clients_by_curl.CHECKS + clients_of_sites.CHECKS)
 
@@ -23,8 +24,7 @@ def tried(checks, check, path):
 
 def main():
     """Runs all checks, those that wait beside the others. Gives the status."""
-    named = sys.argv[1] if len(sys.argv) > 1 else os.environ.get('OFFICE')
-    path = os.path.realpath(named or os.path.join(TOP, 'crates/office/out/office'))
+    path = os.path.realpath(sys.argv[1]) if len(sys.argv) > 1 else PROGRAM
     if not set(sys.argv[2:]) <= {check.__name__ for check in CHECKS}:
         print('clients: %s' % ' '.join(check.__name__ for check in CHECKS))
         return 2

@@ -45,11 +45,11 @@ class Checks:
             if wanted != got:
                 print('FAILED: %s\n  wanted %s\n  came   %s' % (name, repr(wanted)[:600], repr(got)[:600]), flush=True)
 
-    def within(self, name, limit, seconds):
-        """One passes if it took no longer. What it took is told in the end."""
+    def within(self, name, limit, took, unit='s'):
+        """One passes if it took no more. What it took is told in the end."""
         with self.lock:
-            self.measured.append('%s: %.2f s (limit %g s)' % (name, seconds, limit))
-        self.expect('%s: %.2f s' % (name, seconds), True, seconds <= limit)
+            self.measured.append('%s: %.2f %s (limit %g)' % (name, took, unit, limit))
+        self.expect('%s: %.2f %s' % (name, took, unit), True, took <= limit)
 
 
 class Served:
