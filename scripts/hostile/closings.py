@@ -20,7 +20,8 @@ from model.days import Day
 from model.office import json_text
 from model.register import EMPTY
 from model.reports import printed
-from model.rows import ENDS, copy_files, register_rows, registered_in, rows_in, rows_of, rows_of_register
+from model.rows import (
+    ENDS, REGISTER, copy_files, register_rows, registered_in, rows_in, rows_of, rows_of_register)
 from model.setup import DEMO
 from model.setups import files_of
 from model.stream import status
@@ -191,8 +192,8 @@ class Making(Closing):
             return file.read()
 
     def next(self):
-        """The first free name."""
-        files = [os.path.join(self.book.folder, name) for name in os.listdir(self.book.folder)]
+        """The first free name. A register that a closing left without its archive is taken for the next one."""
+        files = [os.path.join(self.book.folder, name) for name in os.listdir(self.book.folder) if REGISTER not in name]
         return free_name(files, self.book.store, self.book.office.register)
 
     def found(self, given):
