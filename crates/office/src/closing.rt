@@ -3,8 +3,9 @@ use crate::history::{tell_closed, tell_open, tell_register};
 use crate::links::followed;
 use crate::long_work::{Work, tell_long};
 use crate::new_archive::{CopyFault, forget, names, prepare};
+use crate::watch::of_number;
 use office_archive_files::{CloseCommandFault, OfFour, UnknownFile, close_whole};
-use office_closing::{CloseFault, File, FileFault, Refusal};
+use office_closing::{CloseFault, File, FileFault, Numbers, PutAway, Refusal};
 use office_commands::{DONE, FAILED, place_of, print, read_history, tell, tell_fault};
 use office_replies::Port;
 use office_tables::TableFault;
@@ -76,7 +77,7 @@ fn close_by_left<W: Write, E: Write>(
 }
 
 /// Whether an archive was no copy of the store.
-fn is_refused(closed: &Result<(), CloseCommandFault>) -> bool {
+fn is_refused(closed: &Result<PutAway, CloseCommandFault>) -> bool {
     match closed {
         Err(CloseCommandFault::Close(CloseFault::Archive(Refusal::Closed))) => false,
         Err(CloseCommandFault::Close(CloseFault::Archive(_))) => true,
@@ -97,7 +98,7 @@ fn close_by<W: Write, E: Write>(
 }
 
 /// Closes the store at a path by an archive, and leaves the four files whole.
-fn close_files(rt: &HostRuntime, store: &str, archive: &str) -> Result<(), CloseCommandFault> {
+fn close_files(rt: &HostRuntime, store: &str, archive: &str) -> Result<PutAway, CloseCommandFault> {
     let unknown = OfFour {
         store: UnknownFile,
         register: UnknownFile,
@@ -106,28 +107,28 @@ fn close_files(rt: &HostRuntime, store: &str, archive: &str) -> Result<(), Close
     };
     match close_whole(rt, store, archive, unknown) {
         Ok((_files, closed)) => match closed {
-            Ok(()) => Ok(()),
+            Ok(away) => Ok(away),
             Err(fault) => Err(CloseCommandFault::Close(fault)),
         },
         Err(fault) => Err(fault),
     }
 }
 
-/// Prints that a store is closed, and shows a person into which archive; or reports why it is not.
+/// Prints that a store is closed, and shows a person what was put away; or reports why it is not.
 fn end_closing<W: Write, E: Write>(
     rt: &HostRuntime,
     store: &str,
     archive: &str,
-    closed: &Result<(), CloseCommandFault>,
+    closed: &Result<PutAway, CloseCommandFault>,
     writer: &mut Port<W>,
     errors: &mut Port<E>,
 ) -> u8 {
     let to = Audience::of(rt);
     match closed {
-        Ok(()) => {
+        Ok(away) => {
             forget(rt, store, archive);
             let status = print(writer, "ready\n", DONE);
-            tell_put_away(to, errors, archive);
+            tell_put_away(to, errors, archive, away);
             status
         }
         Err(CloseCommandFault::Folder) => tell_no_copy(to, errors, archive, Words::OTHER_FOLDER),
@@ -135,15 +136,32 @@ fn end_closing<W: Write, E: Write>(
     }
 }
 
-/// Shows a person into which archive history was put away.
-fn tell_put_away<E: Write>(to: Audience<'_>, errors: &mut Port<E>, archive: &str) {
+/// Shows a person what was put away, and into which archive.
+fn tell_put_away<E: Write>(to: Audience<'_>, errors: &mut Port<E>, archive: &str, away: &PutAway) {
     if !to.wants_causes() {
         return;
     }
+    let interchanges = closed_numbers(&away.numbers);
+    let visits = away.visits as u64;
+    let lists = away.lists as u64;
+    let of_interchanges = of_number(interchanges, "interchange", "interchanges");
+    let of_visits = of_number(visits, "visit", "visits");
+    let of_lists = of_number(lists, "list", "lists");
     let archive = place_of(archive).name;
-    if let Ok(text) = format!(in to.rt().alloc(); "closed: into {archive}\n") {
+    if let Ok(text) = format!(in to.rt().alloc();
+        "closed: {interchanges} {of_interchanges}, {visits} {of_visits}, {lists} {of_lists} into {archive}\n"
+    ) {
         tell(errors, text.as_str());
     }
+}
+
+/// How many numbers were closed.
+fn closed_numbers(closed: &[Numbers]) -> u64 {
+    let mut count = 0u64;
+    for numbers in closed {
+        count = count.saturating_add(u64::from(numbers.to.saturating_sub(numbers.from)));
+    }
+    count
 }
 
 /// Reports why there is no archive to close a store by, and to a person also the cause and what to do.
