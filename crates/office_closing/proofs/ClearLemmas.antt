@@ -62,8 +62,9 @@ use Rattle.office_closing.specs.declared.planning.ClosingLists.{ClosingLists}
 use Rattle.office_closing.specs.declared.planning.History.{History}
 use Rattle.office_closing.specs.declared.planning.Plan.{Plan}
 use Rattle.office_closing.specs.declared.planning.Stage.{Stage}
-use Rattle.office_closing.specs.Copies.{AreDoneIn, ComesOn, FileNames, HasCome, IsOfStore as AreOfStore, OfficeContent, archive_in, lists_at}
-use Rattle.office_closing.specs.Planning.{AreClosingLists, AreFor, AreInBoth, IsHistory, IsPlan, IsPlanOf, IsRefused, IsRefusedWith}
+use Rattle.office_closing.specs.Copies.{AreDoneIn, ComesOn, FileNames, HasCome, IsOfStore as AreOfStore, OfficeContent, archive_in, lists_at, taken_at}
+use Rattle.office_closing.specs.declared.register.Segment.{Segment}
+use Rattle.office_closing.specs.Planning.{AreClosingLists, AreFor, AreInBoth, IsHistory, IsPlan, IsPlanOf, IsRefused, IsRefusedWith, IsTakenFor}
 use Rattle.office_closing.specs.declared.faults.CloseFault.TheVariants as fault
 use Rattle.office_closing.specs.declared.faults.Refusal.TheVariants as refusal
 use Rattle.office_closing.specs.declared.planning.Stage.TheVariants as stage
@@ -441,6 +442,17 @@ module _ (own copy : OfficeContent) (names : FileNames) (place : ℕ) (done list
   lists_come with_ stage.Raised has =
       for.other (λ same. one_longer copy.register.archives (archive_in names.archive copy) (ap (λ (c : RegisterContent). c.archives) has.0 ∙ sym (ap (λ (c : RegisterContent). c.archives) same)))
 
+module _ (own copy : OfficeContent) (names : FileNames) (place : ℕ) (taken : List Segment) (unclosed : own.register.closed_for ≡ None) (for : IsTakenFor own copy place taken) where
+  own_unmarked : own.register ≡ unmarked own.register
+  own_unmarked = λ i. record own.register { closed_for = unclosed i }
+
+  -- what had been taken at a stage that the closing has come to
+  pub taken_come : (with_ : List SettledListContent) (come : Stage) → HasCome own copy names with_ come → taken ≡ taken_at own place come
+  taken_come with_ stage.New has = for.same (has.0 ∙ own_unmarked)
+  taken_come with_ stage.Marked has = for.same (has.0 ∙ own_unmarked)
+  taken_come with_ stage.Raised has =
+      for.other (λ same. one_longer copy.register.archives (archive_in names.archive copy) (ap (λ (c : RegisterContent). c.archives) has.0 ∙ sym (ap (λ (c : RegisterContent). c.archives) same)))
+
 -- ---- what a plan has of lists
 
 -- the registers are asked with lists in memory
@@ -484,6 +496,9 @@ plan_from own copy names named history lists come plan of_store closes put comes
       gone =
           subst (λ l. AreInBoth put.done (map list_content l) (map list_content plan.gone.items)) (sym is.lists)
           (subst (λ l. AreInBoth put.done all (map list_content l)) (sym is.gone) put.gone);
+      taken =
+          is.taken ∙ taken_come own copy names place history.taken.items of_store.unclosed closes.taken all come comes.has_come
+          ∙ ap (taken_at own place) (sym is.stage);
     }
 
 pub refused_with : (own copy : OfficeContent) (names : FileNames) (named : List ListName) (done : List SettledListContent) → AreDoneIn own.terminal named (archive_in names.archive copy).place done → (why : CloseFault) → IsRefusedWith own copy names done why → IsRefused own copy names why

@@ -2,7 +2,7 @@ ghost use Rattle.std.specs.Option.{option_map};
 ghost use Rattle.std.specs.Prelude.{◌≡◌, ◌↔◌, ◌≤◌, ◌++◌, ◌∷◌, [], true, IfOk, IfErr, IsTrue, MatchOption, OnOk, length, map, string_bytes};
 ghost use Rattle.office_loading.specs.Closed.{last_closed};
 ghost use Rattle.office_closing.specs.Copies.{AreAtMost, AreFirst, ComesOn, FileNames, IsNoLater, IsOfStore, IsReason, IsSameOffice, archive_in, numbers_from, numbers_of, office_content, segments_of};
-ghost use Rattle.office_closing.specs.Planning.{AreClosingLists, AreFor, IsHistory, IsMarkedAs, IsPlan, IsPlanOf, IsRefused, IsRefusedWith, IsToldBy};
+ghost use Rattle.office_closing.specs.Planning.{AreClosingLists, AreFor, IsHistory, IsMarkedAs, IsPlan, IsPlanOf, IsRefused, IsRefusedWith, IsTakenFor, IsToldBy};
 ghost use Rattle.office_closing.specs.Steps.{is_unmarked, is_unraised};
 ghost use Rattle.office_closing.specs.Visits.{AreToGo};
 ghost use Rattle.office_closing.specs.declared.planning.Stage.{Stage};
@@ -16,6 +16,7 @@ ghost use Rattle.office_admission.specs.Limits.{most_partners};
 use crate::comparing::Numbers;
 use crate::faults::{CloseFault, Refusal};
 use crate::lists::{lists_in_both, lists_to_register};
+use crate::taken::taken_to_register;
 use crate::visits::{VisitFault, newest_number, visits_to_go};
 use crate::{Archive, Register, Segment, SettledList, done_lists, is_file_name, is_sound};
 use office_admission::{Account, MOST_PARTNERS, Setup};
@@ -96,6 +97,8 @@ pub(crate) struct Plan {
     pub lists: Vec<SettledList>,
     /// Those of them that go.
     pub gone: Vec<SettledList>,
+    /// What the store's register has with it as taken.
+    pub taken: Vec<Segment>,
     /// How far it has come.
     pub stage: Stage,
 }
@@ -109,7 +112,8 @@ pub(crate) fn make_plan(
     store_file: &str,
     archive_file: &str,
 ) -> Result<Plan, CloseFault>
-    requires { IsTrue (sound.is_sound (register_content copy.register)) }
+    requires sound { IsTrue (sound.is_sound (register_content copy.register)) }
+    requires few { length own.now.nexts.items ≤ most_partners }
     ensures ok { IfOk result (IsPlan (office_content own.now) (office_content copy)
         (record { store = store_file.now; archive = archive_file.now }) (map named_list_content named.now)) }
     ensures err { IfErr result (IsRefused (office_content own.now) (office_content copy)
@@ -125,6 +129,7 @@ pub(crate) fn make_plan(
         &history.archive,
         &history.segments,
         &lists.all,
+        &history.taken,
         store_file,
     )?;
     Ok(plan_of(history, lists, stage))
@@ -141,6 +146,8 @@ struct History {
     archive: Archive,
     /// Its segments.
     segments: Vec<Segment>,
+    /// What the store's register has with it as taken.
+    taken: Vec<Segment>,
 }
 
 /// The lists of a closing.
@@ -163,6 +170,7 @@ fn plan_of(history: History, lists: ClosingLists, stage: Stage) -> Plan
         segments: history.segments,
         lists: lists.all,
         gone: lists.gone,
+        taken: history.taken,
         stage,
     }
 }
@@ -176,6 +184,7 @@ fn history_to_close(
 ) -> Result<History, CloseFault>
     requires sound { IsTrue (sound.is_sound (register_content copy.now.register)) }
     requires few { length copy.now.nexts.items ≤ most_partners }
+    requires few_own { length own.now.nexts.items ≤ most_partners }
     ensures ok { IfOk result (IsHistory (office_content own.now) (office_content copy.now) archive_file.now) }
     ensures err { IfErr result (λ fault. (names : FileNames) →
         IsRefused (office_content own.now) (office_content copy.now) names fault) }
@@ -185,11 +194,13 @@ fn history_to_close(
     let numbers = numbers_to_close(alloc, &closed, &copy.nexts)?;
     let archive = archive_in(alloc, copy, archive_file)?;
     let segments = segments_of(alloc, archive.place, &numbers)?;
+    let taken = taken_to_register(alloc, own, copy, archive.place)?;
     Ok(History {
         visits,
         numbers,
         archive,
         segments,
+        taken,
     })
 }
 
@@ -298,7 +309,7 @@ fn gone_visits(alloc: Global, own: &Opened, copy: &Opened) -> Result<Vec<u32>, C
 }
 
 /// What is closed of each account.
-fn numbers_to_close(
+pub(crate) fn numbers_to_close(
     alloc: Global,
     closed: &Closed,
     nexts: &[u32],
@@ -340,7 +351,11 @@ fn archive_in(alloc: Global, copy: &Opened, file: &str) -> Result<Archive, Alloc
 }
 
 /// The segments of an archive that closes these numbers.
-fn segments_of(alloc: Global, place: u16, numbers: &[Numbers]) -> Result<Vec<Segment>, AllocError>
+pub(crate) fn segments_of(
+    alloc: Global,
+    place: u16,
+    numbers: &[Numbers],
+) -> Result<Vec<Segment>, AllocError>
     ensures { IfOk result (λ segments. segments.items ≡ segments_of place numbers.now) }
 {
     let mut segments = Vec::new(alloc);
@@ -365,11 +380,13 @@ fn stage_of(
     archive: &Archive,
     segments: &[Segment],
     lists: &[SettledList],
+    taken: &[Segment],
     store_file: &str,
 ) -> Result<Stage, CloseFault>
     requires unclosed { option_map string_bytes own.now.register.closed_for ≡ None }
     requires archive { archive_content archive.now ≡ archive_in (archive_content archive.now).file (office_content copy) }
     requires segments { segments.now ≡ segments_of (archive_content archive.now).place (numbers_of (office_content copy)) }
+    requires taken { IsTakenFor (office_content own.now) (office_content copy) (archive_content archive.now).place taken.now }
     ensures ok { IfOk result (λ stage. (names : FileNames) → names.store ≡ store_file.now →
         names.archive ≡ (archive_content archive.now).file →
         ComesOn (office_content own.now) (office_content copy) names (map list_content lists.now) stage) }
@@ -380,7 +397,9 @@ fn stage_of(
 {
     let is_same = copy.register.tells_same(&own.register);
     let mark = mark_of(&copy.register.closed_for, store_file);
-    let raised = copy.register.with_closing(alloc, archive, segments, lists)?;
+    let raised = copy
+        .register
+        .with_closing(alloc, archive, segments, lists, taken)?;
     let may = is_sound(alloc, &raised)? && is_file_name(store_file.as_bytes());
     let has_archive = raised.tells_same(&own.register);
     match come_so_far(is_same, has_archive, mark) {
