@@ -1,5 +1,5 @@
 -- What a plan says of the rows and the registers of store and archive.
-use Rattle.std.proofs.Common.{◌≡◌, inl, inr, ℕ, ◌+◌, ◌==◌, ◌<◌, ◌≤◌, List, [], ◌∷◌, ◌++◌, ◌&&◌, None, Bool, true, false, cond, if◌then◌else◌, filter, map, length, refl, sym, ap, ap₂, subst, ◌∙◌, arith, Result, Ok, Err}
+use Rattle.std.proofs.Common.{◌≡◌, ◌⊎◌, inl, inr, ℕ, ◌+◌, ◌==◌, ◌<◌, ◌≤◌, List, [], ◌∷◌, ◌++◌, ◌&&◌, None, Bool, true, false, cond, if◌then◌else◌, filter, map, length, refl, sym, ap, ap₂, subst, ◌∙◌, arith, Result, Ok, Err}
 use Rattle.std.specs.Prelude.{Contains, IsPermutation, IsUtf8}
 use Rattle.std.specs.List.{AllByRecursion}
 use Rattle.std.proofs.lemmas.Bool.{and_parts, eqb-true}
@@ -23,7 +23,8 @@ use Rattle.office_closing.specs.declared.planning.Stage.{Stage}
 use Rattle.office_closing.specs.Deleting.{is_among}
 use Rattle.office_closing.specs.Closes.{AreHeld, Closing, ClosesAll, Held, IsAtStage, IsBelowNext, IsClosing, KeepsTaken, PutsAway, closed_after, closed_before, closing_content, raised_register}
 use Rattle.office_closing.specs.Comparing.{IsComparedAs}
-use Rattle.office_closing.specs.Copies.{FileNames, HasCome, IsOpened, OfficeContent, archive_in, closes_some, is_put_away_with, is_with, lists_at, numbers_from, numbers_of, raised_by, segment_of, segments_of, taken_at, taken_of}
+use Rattle.office_closing.specs.Going.{AreDone}
+use Rattle.office_closing.specs.Copies.{FileNames, GoWith, HasCome, IsOpened, OfficeContent, archive_in, closes_some, is_put_away_with, is_with, lists_at, numbers_from, numbers_of, raised_by, segment_of, segments_in, segments_of, taken_at, taken_of}
 use Rattle.office_closing.specs.Files.{Files, IsRead, IsReadIfOpen}
 use Rattle.office_closing.specs.Judging.{IsComparedIf, IsJudged}
 use Rattle.office_closing.specs.Steps.{is_unraised}
@@ -32,7 +33,7 @@ use Rattle.office_closing.specs.Planning.{IsPlan}
 use Rattle.office_closing.specs.Visits.{AreToGo}
 use Rattle.office_history.proofs.Kept.{head_in, tail_in}
 use Rattle.office_closing.proofs.PlanLemmas.{compared_held, goes_if_not, may_stay, account_found, numbers_are_from, segments_raise, segments_rise}
-use Rattle.office_closing.proofs.ClearLemmas.{one_longer}
+use Rattle.office_closing.proofs.ClearLemmas.{done_with, gone_are_done, one_longer}
 use Rattle.office_closing.proofs.NumberLemmas.{lines_loaded, visits_loaded}
 use Rattle.sqlite.specs.State.{State, HasCleanDisk}
 use Rattle.sqlite.proofs.Callers.{unchanged_then}
@@ -214,9 +215,22 @@ module _ (held : Held) (old : Files) (has : AreHeld held old) (names : FileNames
   same_lists stage.Marked at new = refl
   same_lists stage.Raised at new = absurd (one_longer held.copied.archives closing.archive (ap (λ (c : RegisterContent). c.archives) (sym at.0 ∙ new)))
 
+  of_done : (is.done ≡ []) ⊎ AreDone is.are_done.lines named (archive_in names.archive copy).place is.done
+  of_done = gone_are_done (segments_in names.archive copy) is.are_done.lines named (archive_in names.archive copy).place is.done is.are_done.are
+
+  -- one of them is done
+  done_if : (one : SettledListContent) → Contains is.done one → AreDone is.are_done.lines named (archive_in names.archive copy).place is.done
+  done_if one here = elim of_done [
+    | inl none ↦ absurd (subst (λ l. Contains l one) none here)
+    | inr are ↦ are
+  ]
+
+  done_placed : AllByRecursion (λ (one : SettledListContent). one.archive ≡ (archive_in names.archive copy).place) is.done
+  done_placed = all_each _ is.done (λ one here. (done_if one here).archive_is one here)
+
   all_placed : (s : Stage) → AllByRecursion (λ (one : SettledListContent). one.archive ≡ (archive_in names.archive copy).place) (lists_at own (archive_in names.archive copy).place is.done s)
-  all_placed stage.New = all_each _ is.done is.are_done.are.archive_is
-  all_placed stage.Marked = all_each _ is.done is.are_done.are.archive_is
+  all_placed stage.New = done_placed
+  all_placed stage.Marked = done_placed
   all_placed stage.Raised = those_with (archive_in names.archive copy).place own.register.lists
 
   -- ---- what had been taken
@@ -252,10 +266,12 @@ module _ (held : Held) (old : Files) (has : AreHeld held old) (names : FileNames
       is_setup = record { db = old.store.now; has = has.own; terminal = own.terminal; loads = own_loads };
       placed = subst (λ n. AllByRecursion (λ (one : SettledListContent). one.archive ≡ n) closing.lists) (sym (ap (λ (a : ArchiveContent). a.place) is.archive)) (subst (AllByRecursion (λ (one : SettledListContent). one.archive ≡ (archive_in names.archive copy).place)) (sym is.lists) (all_placed plan.stage));
       has = λ one here. ((is.gone one).0 here).1;
-      goes = λ one here. goes_as is.are_done.lines own.terminal is.are_done.once (sym is.are_done.by_key) own_loads.2.formed own.setup held.own named (archive_in names.archive copy).place is.done own_lines waited is.are_done.are one ((is.gone one).0 here).0;
-      all = λ new list may.
-          let found = all_found own.setup held.own is.are_done.lines named (archive_in names.archive copy).place is.done own_lines waited is.are_done.are list may in
+      goes = λ one here. goes_as is.are_done.lines own.terminal is.are_done.once (sym is.are_done.by_key) own_loads.2.formed own.setup held.own named (archive_in names.archive copy).place is.done own_lines waited (done_if one ((is.gone one).0 here).0) one ((is.gone one).0 here).0;
+      all = λ new some list may.
+          let are = done_with (segments_in names.archive copy) is.are_done.lines named (archive_in names.archive copy).place is.done (λ none. some (is.segments ∙ none)) is.are_done.are in
+          let found = all_found own.setup held.own is.are_done.lines named (archive_in names.archive copy).place is.done own_lines waited are list may in
           record { one = found.one; has = (is.gone found.one).1 (found.has, subst (λ l. Contains l found.one) (sym (are_done new)) found.has); named = found.named };
+      with_numbers = λ new none. are_done new ∙ subst (λ (s : List Segment). GoWith s is.are_done.lines named (archive_in names.archive copy).place is.done) (sym is.segments ∙ none) is.are_done.are;
       only = λ new one here. (is.gone one).1 (subst (λ l. Contains l one) (are_done new) here, here);
     }
 

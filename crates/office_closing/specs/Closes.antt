@@ -1,5 +1,5 @@
 -- What a closing of a store does: what it closes, what is left, and what it leaves at a fault and by a crash.
-use Rattle.std.specs.Prelude.{◌≡◌, ◌⊎◌, ℕ, ◌+◌, ◌<◌, ◌≤◌, true, Bool, List, Contains, length, map, None, Some, Result, IfErr, IsTrue, OnErr, OnOk}
+use Rattle.std.specs.Prelude.{◌≡◌, ◌≢◌, ◌⊎◌, [], ℕ, ◌+◌, ◌<◌, ◌≤◌, true, Bool, List, Contains, length, map, None, Some, Result, IfErr, IsTrue, OnErr, OnOk}
 use Rattle.std.specs.List.{AllByRecursion, range_with_len}
 use Rattle.sqlite.specs.Effect.{Database}
 use Rattle.sqlite.specs.State.{KeepsCommit, State, Survives}
@@ -131,15 +131,17 @@ pub record AreOfSetup (rows : Rows) (register : RegisterContent) (setup : SetupC
   pub loads : LoadsOwn (closed_by register) db setup terminal
 
 -- Lists that go may go, and the register has the text of their lines, as put away with this archive. If it is to get the
--- archive now, all lists go that may, and it gets no others.
+-- archive now, all lists go that may, and it gets no others; but none, if no number is closed: by these the register is told
+-- apart from what it was.
 pub record PutsAway (held : Held) (closing : Closing) : Type 0 where
   pub setup : SetupContent
   pub is_setup : AreOfSetup held.own held.register setup
   pub placed : AllByRecursion (λ (one : SettledListContent). one.archive ≡ closing.archive.place) closing.lists
   pub has : (one : SettledListContent) → Contains closing.gone one → Contains closing.lists one
   pub goes : (one : SettledListContent) → Contains closing.gone one → GoesAs setup held.own one
-  pub all : held.register ≡ unmarked held.copied → (list : ListName) → MayGo setup held.own list
-      → IsAmong closing.gone list
+  pub all : held.register ≡ unmarked held.copied → closing.segments ≢ [] → (list : ListName) →
+      MayGo setup held.own list → IsAmong closing.gone list
+  pub with_numbers : held.register ≡ unmarked held.copied → closing.segments ≡ [] → closing.lists ≡ []
   pub only : held.register ≡ unmarked held.copied → (one : SettledListContent) → Contains closing.lists one
       → Contains closing.gone one
 

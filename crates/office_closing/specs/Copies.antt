@@ -82,11 +82,14 @@ archive_in file copy = record {
   visits = last_number copy.terminal.visits;
 }
 
+-- and its segments
+abbrev pub segments_in : List ℕ → OfficeContent → List Segment
+segments_in file copy = segments_of (archive_in file copy).place (numbers_of copy)
+
 -- the store's register with this archive, the lists that are put away with it, and what the store had taken
 abbrev pub raised_by : List ℕ → List SettledListContent → List Segment → OfficeContent → RegisterContent
 raised_by file lists taken copy =
-    closed_with (archive_in file copy) (segments_of (archive_in file copy).place (numbers_of copy)) lists taken
-    (unmarked copy.register)
+    closed_with (archive_in file copy) (segments_in file copy) lists taken (unmarked copy.register)
 
 -- ---- what was taken
 
@@ -105,13 +108,20 @@ taken_at own archive stage.Raised = filter (is_with archive) own.register.taken
 
 -- ---- lists
 
--- the lists of this terminal that are done and not among those named, each as put away with that archive
-pub record AreDoneIn (terminal : TerminalState) (named : List ListName) (archive : ℕ) (found : List SettledListContent)
-    : Type 0 where
+-- Lists go only with numbers, since by these a register is told apart from the one before it: with an archive that has no
+-- segment there are none, and else those that are done and not among those named.
+abbrev pub GoWith : List Segment → List ListingContent → (named : List ListName) → (archive : ℕ) →
+    (found : List SettledListContent) → Type 0
+GoWith [] lines named archive found = found ≡ []
+GoWith (segment ∷ segments) lines named archive found = AreDone lines named archive found
+
+-- the lists of this terminal that go with an archive of these segments, each as put away with it
+pub record AreDoneIn (terminal : TerminalState) (named : List ListName) (segments : List Segment) (archive : ℕ)
+    (found : List SettledListContent) : Type 0 where
   pub lines : List ListingContent
   pub once : AreListedOnce lines
   pub by_key : lines_by lines ≡ terminal.lines
-  pub are : AreDone lines named archive found
+  pub are : GoWith segments lines named archive found
 
 abbrev pub is_put_away_with : ℕ → SettledListContent → Bool
 is_put_away_with archive list = list.archive == archive
@@ -189,7 +199,8 @@ pub record IsCopy (own copy : OfficeContent) (names : FileNames) (lists : List S
 pub record ComesToNone (own copy : OfficeContent) (names : FileNames) : Type 0 where
   pub named : List ListName
   pub done : List SettledListContent
-  pub are_done : AreDoneIn own.terminal named (archive_in names.archive copy).place done
+  pub are_done :
+      AreDoneIn own.terminal named (segments_in names.archive copy) (archive_in names.archive copy).place done
   pub none : (come : Stage) →
       ¬ ComesOn own copy names (lists_at own (archive_in names.archive copy).place done come) come
 

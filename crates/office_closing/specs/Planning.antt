@@ -15,7 +15,7 @@ use Rattle.office_closing.specs.declared.planning.Mark.TheVariants as mark
 use Rattle.office_closing.specs.declared.planning.Plan.{Plan}
 use Rattle.office_closing.specs.declared.planning.Stage.{Stage}
 use Rattle.office_closing.specs.declared.planning.Stage.TheVariants as stage
-use Rattle.office_closing.specs.Copies.{AreDoneIn, ComesOn, FileNames, IsCopy, IsReason, OfficeContent, archive_in, is_put_away_with, is_with, lists_at, numbers_of, segments_of, taken_at, taken_of}
+use Rattle.office_closing.specs.Copies.{AreDoneIn, ComesOn, FileNames, IsCopy, IsReason, OfficeContent, archive_in, is_put_away_with, is_with, lists_at, numbers_of, segments_in, segments_of, taken_at, taken_of}
 use Rattle.office_closing.specs.Visits.{AreToGo}
 
 -- these are the lists that are done, if the registers name the same archives, and else those that the store's has with this one
@@ -43,7 +43,8 @@ pub record IsPlan (own copy : OfficeContent) (names : FileNames) (named : List L
   pub segments : plan.segments.items ≡ segments_of (archive_in names.archive copy).place (numbers_of copy)
   pub visits : AreToGo own.terminal.visits copy.terminal.visits plan.visits.items
   pub done : List SettledListContent
-  pub are_done : AreDoneIn own.terminal named (archive_in names.archive copy).place done
+  pub are_done :
+      AreDoneIn own.terminal named (segments_in names.archive copy) (archive_in names.archive copy).place done
   pub lists : map list_content plan.lists.items
       ≡ lists_at own (archive_in names.archive copy).place done plan.stage
   pub gone : AreInBoth done (map list_content plan.lists.items) (map list_content plan.gone.items)
@@ -60,10 +61,10 @@ pub record IsHistory (own copy : OfficeContent) (file : List ℕ) (history : His
   pub taken : IsTakenFor own copy (archive_in file copy).place history.taken.items
 
 -- the lists that the register has with the archive, and those of them that are done
-pub record AreClosingLists (own copy : OfficeContent) (named : List ListName) (archive : ℕ) (lists : ClosingLists)
-    : Type 0 where
+pub record AreClosingLists (own copy : OfficeContent) (named : List ListName) (segments : List Segment) (archive : ℕ)
+    (lists : ClosingLists) : Type 0 where
   pub done : List SettledListContent
-  pub are_done : AreDoneIn own.terminal named archive done
+  pub are_done : AreDoneIn own.terminal named segments archive done
   pub all : AreFor own copy archive done (map list_content lists.all.items)
   pub gone : AreInBoth done (map list_content lists.all.items) (map list_content lists.gone.items)
 

@@ -1,7 +1,7 @@
 ghost use Rattle.std.specs.Option.{option_map};
 ghost use Rattle.std.specs.Prelude.{◌≡◌, ◌↔◌, ◌≤◌, ◌++◌, ◌∷◌, [], true, IfOk, IfErr, IsTrue, MatchOption, OnOk, length, map, string_bytes};
 ghost use Rattle.office_loading.specs.Closed.{last_closed};
-ghost use Rattle.office_closing.specs.Copies.{AreAtMost, AreFirst, ComesOn, FileNames, IsNoLater, IsOfStore, IsReason, IsSameOffice, archive_in, numbers_from, numbers_of, office_content, segments_of};
+ghost use Rattle.office_closing.specs.Copies.{AreAtMost, AreDoneIn, AreFirst, ComesOn, FileNames, IsNoLater, IsOfStore, IsReason, IsSameOffice, archive_in, numbers_from, numbers_of, office_content, segments_of};
 ghost use Rattle.office_closing.specs.Planning.{AreClosingLists, AreFor, IsHistory, IsMarkedAs, IsPlan, IsPlanOf, IsRefused, IsRefusedWith, IsTakenFor, IsToldBy};
 ghost use Rattle.office_closing.specs.Steps.{is_unmarked, is_unraised};
 ghost use Rattle.office_closing.specs.Visits.{AreToGo};
@@ -121,7 +121,14 @@ pub(crate) fn make_plan(
 {
     check_office(own, &copy)?;
     let history = history_to_close(alloc, own, &copy, archive_file)?;
-    let lists = lists_to_close(alloc, own, &copy, named, history.archive.place)?;
+    let lists = lists_to_close(
+        alloc,
+        own,
+        &copy,
+        named,
+        &history.segments,
+        history.archive.place,
+    )?;
     let stage = stage_of(
         alloc,
         own,
@@ -210,15 +217,34 @@ fn lists_to_close(
     own: &Opened,
     copy: &Opened,
     named: &[NamedList],
+    segments: &[Segment],
     archive: u16,
 ) -> Result<ClosingLists, AllocError>
     ensures { IfOk result (AreClosingLists (office_content own.now) (office_content copy.now)
-        (map named_list_content named.now) archive) }
+        (map named_list_content named.now) segments.now archive) }
 {
-    let done = done_lists(alloc, own.terminal.lines(), named, archive)?;
+    let done = lists_that_go(alloc, own, named, segments, archive)?;
     let all = lists_to_register(alloc, own, copy, &done, archive)?;
     let gone = lists_in_both(alloc, &done, &all)?;
     Ok(ClosingLists { all, gone })
+}
+
+/// The lists that go with an archive of these segments: those that are done, but none if it closes no numbers.
+fn lists_that_go(
+    alloc: Global,
+    own: &Opened,
+    named: &[NamedList],
+    segments: &[Segment],
+    archive: u16,
+) -> Result<Vec<SettledList>, AllocError>
+    ensures { IfOk result (λ done. AreDoneIn own.now.terminal (map named_list_content named.now) segments.now archive
+        (map list_content done.items)) }
+{
+    let lines = own.terminal.lines();
+    if segments.is_empty() {
+        return Ok(Vec::new(alloc));
+    }
+    done_lists(alloc, lines, named, archive)
 }
 
 /// That the archive is of the store's terminal and of no later day, and the store no archive itself.
