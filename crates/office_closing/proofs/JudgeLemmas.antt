@@ -221,7 +221,7 @@ module _ (held : Held) (old : Files) (has : AreHeld held old) (names : FileNames
   -- one of them is done
   done_if : (one : SettledListContent) → Contains is.done one → AreDone is.are_done.lines named (archive_in names.archive copy).place is.done
   done_if one here = elim of_done [
-    | inl none ↦ absurd (subst (λ l. Contains l one) none here)
+    | inl none ↦ (let inside = subst (λ l. Contains l one) none here in absurd (omega (arith, inside.1)))
     | inr are ↦ are
   ]
 
