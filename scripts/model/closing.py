@@ -116,7 +116,7 @@ def close(store, archive, store_file, archive_file):
         return 'Archive'
     if not is_done and not are_alike(store, archive):
         return 'Archive'
-    visits, lists = visits_to_go(store, archive), lists_to_go(store, place)
+    visits, lists = visits_to_go(store, archive), lists_to_go(store, place) if closed_by(archive) else {}
     archive.register = archive.register._replace(mark=store_file)
     if is_new:
         store.register = with_taken(with_lists(after, lists.values()), taken_by(store, place))
