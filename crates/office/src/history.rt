@@ -1,12 +1,13 @@
 use crate::causes::{Audience, Words, tell_store, tell_store_cause, tell_with, tell_words};
 use crate::links::followed;
 use crate::long_work::{Work, tell_long};
+use crate::watch::of_number;
 use office_archive_files::{
     CloseCommandFault, InFiles, OfFour, UnknownFile, archives_over, close_whole,
 };
-use office_closing::{CloseFault, File, FileFault, Refusal};
+use office_closing::{CloseFault, File, FileFault, Numbers, PutAway, Refusal};
 use office_commands::{
-    DONE, FAILED, History, OpenFault, history_of, print, register_path, tell_fault,
+    DONE, FAILED, History, OpenFault, history_of, place_of, print, register_path, tell, tell_fault,
 };
 use office_replies::Port;
 use office_tables::TableFault;
@@ -149,12 +150,44 @@ fn close_files<W: Write, E: Write>(
     let closed = close_whole(rt, store, archive, unknown);
     match &closed {
         Ok(ended) => match &ended.1 {
-            Ok(()) => print(writer, "ready\n", DONE),
+            Ok(away) => {
+                let status = print(writer, "ready\n", DONE);
+                tell_put_away(to, errors, archive, away);
+                status
+            }
             Err(fault) => tell_close(to, errors, store, archive, fault),
         },
         Err(CloseCommandFault::Folder) => tell_no_copy(to, errors, archive, Words::OTHER_FOLDER),
         Err(CloseCommandFault::Close(fault)) => tell_close(to, errors, store, archive, fault),
     }
+}
+
+/// Shows a person what was put away, and into which archive.
+fn tell_put_away<E: Write>(to: Audience<'_>, errors: &mut Port<E>, archive: &str, away: &PutAway) {
+    if !to.wants_causes() {
+        return;
+    }
+    let interchanges = closed_numbers(&away.numbers);
+    let visits = away.visits as u64;
+    let lists = away.lists as u64;
+    let of_interchanges = of_number(interchanges, "interchange", "interchanges");
+    let of_visits = of_number(visits, "visit", "visits");
+    let of_lists = of_number(lists, "list", "lists");
+    let archive = place_of(archive).name;
+    if let Ok(text) = format!(in to.rt().alloc();
+        "closed: {interchanges} {of_interchanges}, {visits} {of_visits}, {lists} {of_lists} into {archive}\n"
+    ) {
+        tell(errors, text.as_str());
+    }
+}
+
+/// How many numbers were closed.
+fn closed_numbers(closed: &[Numbers]) -> u64 {
+    let mut count = 0u64;
+    for numbers in closed {
+        count = count.saturating_add(numbers.to.saturating_sub(numbers.from) as u64);
+    }
+    count
 }
 
 /// Reports that an archive does not take the store's history, and to a person also why.
