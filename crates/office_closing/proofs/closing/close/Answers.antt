@@ -1,4 +1,3 @@
-use Rattle.std.proofs.Common.{tt}
 use Rattle.std.proofs.lemmas.Result.{err_from_is_err_and}
 use Rattle.sqlite.specs.Held.{state}
 use Rattle.office_closing.specs.Copies.{FileNames}
@@ -55,8 +54,8 @@ returns-in-Ok g c =
           (state g.S.Store c.clear_all.new.conn) _ c.in-Ok.ensures.clears _ c.put_away.ensures;
     }
 
-pub returns : goal.returns
-returns g c =
+pub returns-in-Err : goal.returns-in-Err
+returns-in-Err g c =
     let names : FileNames = record { store = c.args.store_file.now; archive = c.args.archive_file.now } in
     let old = files g.S.Store g.R.Store g.A.Store g.M.Store c.args.store.now c.args.register.now c.args.archive.now c.args.archive_register.now in
     let mid = files g.S.Store g.R.Store g.A.Store g.M.Store c.judge.new.store c.judge.new.register c.judge.new.archive c.judge.new.archive_register in
