@@ -6,7 +6,6 @@ use Rattle.sqlite_tied.specs.Compute.{everything}
 use Rattle.sqlite.specs.Listing.{understood, reads_listing}
 use Rattle.sqlite.proofs.Callers.{IsPlain, command_of}
 use Rattle.office_rows.proofs.WriteLemmas.{rows_of}
-use Rattle.office_rows.specs.Tables.{office_schema}
 use Rattle.office_rows.specs.Values.{number_value}
 use Rattle.office_rows.specs.Layouts.{bare_schema}
 use Rattle.office_rows.proofs.Reading as texts
@@ -82,8 +81,3 @@ select_visit_is = (refl, refl)
 pub select_visit_plain : IsPlain (understood bare_schema select_visit)
 unfolding understood everything
 select_visit_plain = (refl, refl)
-
--- the text only reads where visits have a weight too
-pub select_visit_plain_weighed : IsPlain (understood office_schema select_visit)
-unfolding understood everything
-select_visit_plain_weighed = (refl, refl)

@@ -18,14 +18,12 @@ use Rattle.sqlite_rules.specs.Edit.{id_in, put_all, without_all, is_taken, are_f
 use Rattle.sqlite_rules.proofs.ListLemmas.{all_has, all_from, some_has, some_from, has_filtered, has_kept, has_contained, contains_had}
 use Rattle.sqlite_rules.proofs.TableLemmas.{int_is}
 use Rattle.sqlite_rules.proofs.PlaceLemmas.{tied_same}
-use Rattle.sqlite.specs.State.{State, Shows, IsUnchanged, IsRolledBack, KeepsCommit, Survives, Shown, ShowsRows, FailsToQuery, FailsToShow, IsNotRun, CommitsShowing}
+use Rattle.sqlite.specs.State.{State, Shows, IsUnchanged, IsRolledBack, KeepsCommit, Survives, CommitsShowing}
 use Rattle.office_rows.specs.Stored.{HasRows, StoresRows}
 use Rattle.sqlite.proofs.StateLemmas.{survives_then}
 use Rattle.office_rows.specs.Rows.{Rows, Partner, Setting}
 use Rattle.sqlite.specs.Effect.{Database}
 use Rattle.office_rows.specs.Steps.{Steps, Turns}
-use Rattle.sqlite.specs.declared.error.Error.{Error}
-use Rattle.sqlite.specs.Clock.{timed}
 use Rattle.sqlite.specs.Listing.{understood}
 use Rattle.sqlite.proofs.Callers.{IsPlain, command_of, statement_of}
 use Rattle.sqlite.specs.Command.TheVariants.{CreateTable}
@@ -189,12 +187,6 @@ steps_turn P rows change a b c p q = record { now = λ h. q.rows rows (p.now h);
 
 -- ==== ReadLemmas: From the rows of an answer to the records.
 
-pub shown_same : (sql : List ℕ) (params : Row) (old new : State) (rows : List Row) → IsPlain (understood old.now.schema sql) → Shown sql params old new rows → IsUnchanged old new
-unfolding Shown
-shown_same sql params old new rows plain h =
-    let none = (subst IsPlain h.1.is plain).0 in
-    (subst (ShowsRows old new sql h.0 (timed params h.0.formats h.1.now) rows) none h.2).3
-
 pub has_mapped : {A B : Type 0} (f : A → B) (xs : List A) (y : B) → Has (map f xs) y → (x : A) × Has xs x × (y ≡ f x)
 has_mapped f [] y h = absurd h
 has_mapped f (x ∷ xs) y (inl same) = (x, inl refl, same)
@@ -214,14 +206,6 @@ some_first f xs (z ∷ ys) y same some =
     (r.0, contains_had xs r.0 r.1, r.2)
 
 -- ---- a query commits nothing, whether it answers or fails
-
-pub failed_keeps : (sql : List ℕ) (params : Row) (old new : State) (e : Error) → IsPlain (understood old.now.schema sql) → FailsToQuery sql params old new e → KeepsCommit old new
-unfolding FailsToQuery IsNotRun
-failed_keeps sql params old new e plain (inl (inl stopped)) = stops_keep old new (inl stopped.1)
-failed_keeps sql params old new e plain (inl (inr failed)) = stops_keep old new (inr failed.3)
-failed_keeps sql params old new e plain (inr h) =
-    let none = (subst IsPlain h.1.is plain).0 in
-    stops_keep old new (inl (subst (FailsToShow old new sql h.0 (timed params h.0.formats h.1.now) e) none h.2).3)
 
 pub query_survives : (sql : List ℕ) (params : Row) (old new : State) → IsPlain (understood old.now.schema sql) → Survives old new (CommitsShowing sql params old) → Survives old new (λ _. ⊥)
 unfolding CommitsShowing
