@@ -79,10 +79,6 @@ pub taking_added : (version : Version) (content : SetupContent) (es : List Event
 unfolding taking_in
 taking_added version content es code kind = ap (taking_by version content) (added_stays es code kind)
 
-pub no_rules_before : (version : Version) (content : SetupContent) → taking_in version content [] ≡ interchange_taken_by version
-unfolding taking_in
-no_rules_before version content = refl
-
 -- ---- a migration
 
 pub none_behind : (event : Event) (o : Option (Version × List Event)) → with_earlier_event event o ≡ None → o ≡ None
