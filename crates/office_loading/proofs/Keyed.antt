@@ -9,7 +9,7 @@ use Rattle.office_rows.specs.Opened.{NumberKept}
 use Rattle.office_rows.specs.Office.{taken_numbers, AreWaiting, AreKept, AreAccounts}
 use Rattle.office_loading.specs.Checks.{numbers_beyond}
 use Rattle.office_loading.specs.Contents.{number_content, place_content}
-use Rattle.office_loading.specs.OwnOffice.{ComesAfter, IsInOrder, AreInOrder}
+use Rattle.office_loading.specs.OwnOffice.{IsInOrder, AreInOrder}
 use Rattle.office_loading.specs.declared.numbers.NumberRow.{NumberRow}
 use Rattle.office_loading.proofs.Kept.{next_of}
 use Rattle.std.specs.Option.{option_map}

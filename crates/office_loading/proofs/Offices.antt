@@ -6,7 +6,7 @@ use Rattle.terminal_core.specs.declared.visits.Visit.{Visit}
 use Rattle.terminal_core.specs.OneByOne.{GoOneByOne}
 use Rattle.terminal_core.specs.Rows.{VisitContent, visit_content}
 use Rattle.terminal_core.specs.State.{AreNumbered, TerminalState, LineContent, Lines, LineKey, line_key}
-use Rattle.office_loading.specs.Checks.{visits_after, AreOwnVisits, taken_beyond, numbers_beyond, AreKeptBeyond}
+use Rattle.office_loading.specs.Checks.{visits_after, AreOwnVisits, taken_beyond, AreKeptBeyond}
 use Rattle.office_loading.specs.Formed.{MayFollow, IsSoundVisit, IsSoundLine, AreSoundVisits, AreSoundLines, AreByLetter, AreTerminal, RefusesTerminal}
 use Rattle.office_loading.proofs.Kept.{next_of, accounts_are, each_mapped, limit_so}
 use Rattle.std.specs.List.{list_all, range_with_len}

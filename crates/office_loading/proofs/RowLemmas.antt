@@ -85,6 +85,7 @@ use Rattle.office_loading.proofs.Keyed.{side_is}
 use Rattle.office_rows.proofs.Reading as texts
 use Rattle.office_rows.proofs.BareReading as bare_texts
 use Rattle.terminal_core.specs.declared.visits.Way.TheVariants as way
+use Rattle.office_history.proofs.Loads.{way_one, laden_one}
 
 -- ==== ListedLemmas: What the query of the settings shows under any schema.
 
@@ -340,18 +341,6 @@ kind_is Yard Line h = absurd cc
 kind_is Yard Quay h = absurd cc
 kind_is Yard Yard h = refl
 
-way_is : (a b : Way) → way_code a ≡ way_code b → a ≡ b
-way_is way.Gate way.Gate h = refl
-way_is way.Gate way.Ship h = absurd cc
-way_is way.Ship way.Gate h = absurd cc
-way_is way.Ship way.Ship h = refl
-
-laden_is : (a b : Bool) → laden_code a ≡ laden_code b → a ≡ b
-laden_is true true h = refl
-laden_is true false h = absurd cc
-laden_is false true h = absurd cc
-laden_is false false h = refl
-
 state_is : (a b : LineState) → state_code a ≡ state_code b → a ≡ b
 state_is Pending Pending h = refl
 state_is Pending Done h = absurd cc
@@ -422,7 +411,7 @@ exit_is (Some a) (Some b) p q same =
     let partner : a.source.partner ≡ b.source.partner = cc in
     let n : a.source.number ≡ b.source.number = cc in
     let digits : moment_digits a.moment ≡ moment_digits b.moment = cc in
-    let w = way_is a.way b.way code in
+    let w = way_one a.way b.way code in
     let moment = moment_is a.moment b.moment p.moment q.moment digits in
     λ i. Some (record { way = w i; source = record { partner = partner i; number = n i }; moment = moment i })
 
@@ -440,8 +429,8 @@ one_visit x y p q same =
     let text : slot_text x.arrival.slot ≡ slot_text y.arrival.slot = cc in
     let exits : exit_values x.departure ≡ exit_values y.departure = cc in
     let kilos : x.kilos ≡ y.kilos = cc in
-    let is_laden = laden_is x.is_laden y.is_laden laden in
-    let w = way_is x.arrival.way y.arrival.way code in
+    let is_laden = laden_one x.is_laden y.is_laden laden in
+    let w = way_one x.arrival.way y.arrival.way code in
     let moment = moment_is x.arrival.moment y.arrival.moment p.arrival.moment q.arrival.moment digits in
     let slot = slot_is x.arrival.slot y.arrival.slot p.arrival.slot q.arrival.slot text in
     let exit = exit_is x.departure y.departure p.exit q.exit exits in

@@ -1,4 +1,4 @@
-use Rattle.std.proofs.Common.{rules, map, filter, ap, sym, ◌∙◌}
+use Rattle.std.proofs.Common.{rules, map, ap, sym, ◌∙◌}
 use Rattle.std.specs.Prelude.{not, nat_le}
 use Rattle.std.proofs.lemmas.Fn.{filter_same}
 use Rattle.office_loading.specs.Closed.{last_closed}
