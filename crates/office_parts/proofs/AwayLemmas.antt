@@ -1,6 +1,6 @@
 -- What is away stays away.
-use Rattle.std.proofs.Common.{◌≡◌, ℕ, ◌+◌, List, [], ◌∷◌, ◌++◌, map, Bool, true, false, cond, Option, None, Some, refl, sym, ap, subst, ◌∙◌, arith, ◌<◌, ◌≤◌, inl, inr, zero, suc, length}
-use Rattle.std.specs.Prelude.{filter, find, not, ◌&&◌, ◌==◌, slice_get, IsPermutation}
+use Rattle.std.proofs.Common.{◌≡◌, ℕ, ◌+◌, List, [], ◌∷◌, ◌++◌, map, Bool, true, false, cond, Option, None, Some, refl, sym, ap, subst, ◌∙◌, arith, ◌<◌, inl, inr, length}
+use Rattle.std.specs.Prelude.{filter, find, not, ◌&&◌, ◌==◌, IsPermutation}
 use Rattle.std.specs.Option.{option_map, option_or}
 use Rattle.std.specs.Str.{bytes_eq}
 use Rattle.std.specs.Cmp.Lexicographic.{bytes_decides}

@@ -14,7 +14,7 @@ use Rattle.edi_syntax.proofs.SegmentsLemmas.{segments_sound, breaks_at, no_break
 use Rattle.edi_syntax.specs.Envelope.{header_of, trailer_of}
 use Rattle.edi_syntax.specs.Faults.{fault_of}
 use Rattle.edi_syntax.specs.Positions.{is_refused, GoesOn, Closes, SegmentsBehindBreaks}
-use Rattle.edi_syntax.specs.Cuts.{past_advice, position_of, is_whole, breaks_advice, IsOpen, IsOpenBefore, IsInterchange}
+use Rattle.edi_syntax.specs.Cuts.{past_advice, position_of, is_whole, IsOpen, IsOpenBefore, IsInterchange}
 use Rattle.edi_syntax.specs.declared.position.Position.{Position}
 use Rattle.edi_syntax.specs.declared.position.Position.TheVariants.{Between, First, Second, Tagged, Inside, Refused}
 use Rattle.edi_syntax.proofs.CutLemmas.{no_fault, nothing_open}

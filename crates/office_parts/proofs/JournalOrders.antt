@@ -52,7 +52,7 @@ stored_is_journal content es rows stored are held = (
 
 -- ---- what taking leaves
 
-abbrev shown : Rows → List Delivery
+abbrev pub shown : Rows → List Delivery
 shown rows = map as_delivery rows.interchanges
 
 pub reply_shown : (partner number : ℕ) (reply : List ℕ) (interchanges : List Interchange)
@@ -79,7 +79,7 @@ changes_shown : (changes : List ChangeContent) (rows : Rows) → shown (with_cha
 changes_shown [] rows = refl
 changes_shown (change ∷ changes) rows = changes_shown changes (with_change change rows) ∙ change_shown change rows
 
-taken_shown : (partner : ℕ) (taken : List TakenContent) (rows : Rows) → shown (with_interchanges partner taken rows) ≡ shown rows
+pub taken_shown : (partner : ℕ) (taken : List TakenContent) (rows : Rows) → shown (with_interchanges partner taken rows) ≡ shown rows
 taken_shown partner [] rows = refl
 taken_shown partner (t ∷ taken) rows =
     taken_shown partner taken (with_interchange partner t rows)

@@ -1,5 +1,5 @@
 -- An order at the store's own terminal, beside the visits that were put away.
-use Rattle.std.proofs.Common.{◌≡◌, ℕ, ◌+◌, List, [], ◌∷◌, Bool, true, false, cond, Option, None, Some, Result, Ok, Err, refl, sym, ap, ◌∙◌, arith, nat_le, ◌<◌, ◌≤◌, inl, inr, ◌++◌, is_some, subst, ◌⊎◌, zero, suc, length, map, ap₂, Less, Equal, is_lt}
+use Rattle.std.proofs.Common.{◌≡◌, ℕ, ◌+◌, List, [], ◌∷◌, Bool, true, false, cond, Option, None, Some, Result, Ok, Err, refl, sym, ap, ◌∙◌, arith, nat_le, ◌<◌, ◌≤◌, inl, inr, ◌++◌, is_some, subst, ◌⊎◌, map}
 use Rattle.box6346.specs.declared.box_number.BoxNumber.{BoxNumber}
 use Rattle.box6346.specs.declared.slot.Slot.{Slot}
 use Rattle.edi_messages.specs.Purposes.{CallContent}
@@ -27,7 +27,7 @@ use Rattle.office_parts.proofs.Counting.{entered_counting, entry_counting, step_
 use Rattle.office_parts.specs.OwnTerminal.{own_terminal, own_step, MayStay}
 use Rattle.office_parts.specs.Laws.{OrdersActAlike, NumbersAreTold, ClosedAreWithinRuns, ArchivesAnswer}
 use Rattle.office_parts.proofs.Splits.{closing_keeps, kept_pushed, kept_mapped, open_kept, pushed_stays, mapped_stays, some_is, or_some, count_both, none_at, counted_some}
-use Rattle.std.specs.Prelude.{find, count_by, filter, Contains, slice_index_or}
+use Rattle.std.specs.Prelude.{find, count_by, filter}
 use Rattle.std.specs.Option.{option_map, option_and_then, option_or}
 use Rattle.std.proofs.lemmas.Bool.{cases_order}
 use Rattle.std.proofs.lemmas.List.Folds.{find-append}
@@ -44,8 +44,6 @@ use Rattle.office_history.proofs.Accounted.{within, answers}
 use Rattle.office_history.proofs.Lawful.{used_adds}
 use Rattle.office_parts.specs.Parts.{Archived, rows_of_archives, AreClosed, AreParts}
 use Rattle.std.specs.List.{AllByRecursion}
-use Rattle.std.specs.Ordering.{nat_cmp, ordering_then}
-use Rattle.std.proofs.lemmas.Bool.Decides.{nat_tests}
 use Rattle.office_rows.specs.Values.{interchange_values}
 use Rattle.office_rows.specs.Opened.{number_kept}
 use Rattle.office_history.proofs.Kept.{Rise, fewer}

@@ -2,7 +2,7 @@
 use Rattle.std.proofs.Common.{◌≡◌, ◌⊎◌, ℕ, ◌+◌, ◌≤◌, inl, inr, List, [], ◌∷◌, ◌++◌, map, Bool, true, false, cond, Option, None, Some, is_some, zero, suc, refl, sym, ap, ap₂, subst, ◌∙◌, arith, ◌<◌, is_none, length}
 use Rattle.std.specs.Prelude.{Contains, find, filter, not, count_by, ◌==◌}
 use Rattle.std.specs.Option.{option_or}
-use Rattle.std.proofs.lemmas.List.Sums.{sum_by-cons, sum_by-append}
+use Rattle.std.proofs.lemmas.List.Sums.{sum_by-append}
 use Rattle.std.proofs.lemmas.Option.{same_Some}
 use Rattle.office_history.proofs.Kept.{head_in, tail_in, count_more}
 use Rattle.std.specs.List.{AllByRecursion}
