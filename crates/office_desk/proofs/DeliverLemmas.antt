@@ -42,8 +42,8 @@ use Rattle.std.proofs.lemmas.List.Sorted.{Contains-permutation, IsPermutation-sy
 use Rattle.sqlite_rules.proofs.ListLemmas.{contains_had, has_contained, has_filtered, has_kept}
 use Rattle.partner_core.specs.Numbered.{with_number}
 use Rattle.terminal_core.specs.State.{TerminalState, AreNumbered, IsWhole, last_from}
-use Rattle.office_rows.specs.Rows.{Partner, Rows}
-use Rattle.office_rows.specs.Values.{number_value, interchange_values, partner_values}
+use Rattle.office_rows.specs.Rows.{Rows}
+use Rattle.office_rows.specs.Values.{interchange_values, partner_values}
 use Rattle.office_rows.specs.Stored.{HasRows}
 use Rattle.office_rows.specs.Shown.{AreNexts, columns_at}
 use Rattle.office_rows.specs.Opened.{NumberKept, OpenedRows, Shows, number_kept}
@@ -63,7 +63,7 @@ use Rattle.terminal_core.specs.declared.visits.Departure.{Departure}
 use Rattle.terminal_core.specs.Rows.{VisitContent, ChangeContent, visit_opened, visit_closed, placed_at, moved_to, removed_from, listed_on, line_done, unlisted}
 use Rattle.terminal_core.specs.Changes.{TerminalRows, rows_of, rows_with, visit_with_departure, rows_with_all, IsApplicable, AreApplicable}
 use Rattle.terminal_core.specs.OneByOne.{GoOneByOne}
-use Rattle.terminal_core.proofs.Open.{kept_number}
+use Rattle.terminal_core.proofs.Open.{kept_number, numbered_one_more}
 use Rattle.office_loading.specs.Checks.{visits_after, AreOwnVisits}
 use Rattle.office_loading.proofs.Offices.{after_all}
 use Rattle.office_admission.specs.Taking.{MachineState, interchange_taken, interchange_changes}
@@ -358,10 +358,6 @@ office_once closed content rows terminal db there holds = own_once closed db row
 
 -- ---- one visit more
 
-numbered_more : (above : ℕ) (visits : List VisitContent) (visit : VisitContent) → AreNumbered above visits → last_from above visits < visit.number → AreNumbered above (visits ++ visit ∷ [])
-numbered_more above [] visit rise far = (far, tt)
-numbered_more above (v ∷ visits) visit rise far = (rise.0, numbered_more v.number visits visit rise.1 far)
-
 one_more : (next above : ℕ) (visits : List VisitContent) (visit : VisitContent) → above + 1 ≡ next → GoOneByOne next visits → visit.number ≡ last_from above visits + 1 → GoOneByOne next (visits ++ visit ∷ [])
 one_more next above [] visit e go is = (is ∙ e, tt)
 one_more next above (v ∷ visits) visit e go is = (go.0, one_more (next + 1) v.number visits visit (ap (λ n. n + 1) go.0) go.1 is)
@@ -388,7 +384,7 @@ module _ (newest : ℕ) where
       at false e go more =
           let far : newest < v.number = leb-false v.number newest e in
           let all : later visits ≡ visits = after_all newest v.number visits (omega (arith, far)) rise.1 in
-          let with_it : later (visits ++ visit ∷ []) ≡ visits ++ visit ∷ [] = after_all newest v.number (visits ++ visit ∷ []) (omega (arith, far)) (numbered_more v.number visits visit rise.1 (omega (arith, is))) in (
+          let with_it : later (visits ++ visit ∷ []) ≡ visits ++ visit ∷ [] = after_all newest v.number (visits ++ visit ∷ []) (omega (arith, far)) (numbered_one_more v.number visits visit rise.1 (omega (arith, is))) in (
             go.0,
             subst (GoOneByOne (newest + 1 + 1)) (sym with_it)
                 (one_more (newest + 1 + 1) v.number visits visit (ap (λ n. n + 1) go.0) (subst (GoOneByOne (newest + 1 + 1)) all go.1) is),
@@ -427,7 +423,7 @@ module _ (newest : ℕ) where
 
   one_change : (rows : TerminalRows) (change : ChangeContent) → IsApplicable rows change → AreOwnVisits newest rows.visits → AreOwnVisits newest (rows_with rows change).visits
   one_change rows (visit_opened visit) is own = record {
-    rise = numbered_more 0 rows.visits visit own.rise (omega (arith, is.next));
+    rise = numbered_one_more 0 rows.visits visit own.rise (omega (arith, is.next));
     one_by_one = own_more 0 rows.visits visit (omega arith) own.rise own.one_by_one is.next;
   }
   one_change rows (visit_closed number departure) is own = record {

@@ -27,7 +27,6 @@ use Rattle.office_desk.proofs.DeliverLemmas.{keeps_accounts, interchange_keeps_o
 use Rattle.office_desk.proofs.OwnNumbers.{KeepsBeyond, by_interchange}
 use Rattle.std.specs.Option.{option_or}
 use Rattle.partner_core.specs.Cascade.{TakesTexts, for_each_partner}
-use Rattle.partner_core.specs.Deliveries.{run}
 use Rattle.partner_core.specs.Machine.{Taking}
 use Rattle.partner_core.specs.Order.{numbers_above, reply_among}
 use Rattle.terminal_core.specs.Versions.{newest}

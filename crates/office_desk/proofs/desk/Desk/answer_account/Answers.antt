@@ -10,7 +10,6 @@ use Rattle.office_replies.specs.declared.accounts.AccountFault.TheVariants.{Part
 use Rattle.office_rows.specs.Effects.{with_partner}
 use Rattle.office_rows.specs.Rows.{Rows}
 use Rattle.office_rows.specs.Stored.{HasRows, StoresRows}
-use Rattle.office_admission.specs.Given.{IsGiven}
 use Rattle.office_admission.specs.Parties.{partner_from}
 use Rattle.office_admission.specs.Setups.{SetupContent, setup_content, setup_with_account}
 use Rattle.office_tables.specs.Order.{HasRowsInOrder}
