@@ -1,9 +1,7 @@
 -- What the texts mean that write.
 use Rattle.std.proofs.Common.{ℕ, ℤ, List, arith, ◌≡◌, pos, [], ◌∷◌, codes, refl}
-use Rattle.sqlite.specs.Order.{Row}
-use Rattle.sqlite.specs.Effect.{Database}
-use Rattle.sqlite_rules.specs.declared.error.Rowids.{Rowids}
-use Rattle.sqlite_rules.specs.Edit.{edit_of}
+use Rattle.sqlite.specs.{Order.Row, Effect.Database, Listing.understood}
+use Rattle.sqlite_rules.specs.{declared.error.Rowids.Rowids, Edit.edit_of}
 use Rattle.yard_core.specs.declared.plan.Block.{Block}
 use Rattle.terminal_core.specs.Rows.{VisitContent}
 use Rattle.office_rows.specs.Tables.{partner_table, interchange_table, visit_table, place_table, listing_table, setting_table, block_table, office_schema}
@@ -19,7 +17,6 @@ use Rattle.sqlite.specs.Collation.TheVariants.{Binary}
 use Rattle.sqlite.specs.Source.TheVariants.{Values}
 use Rattle.sqlite.specs.Command.TheVariants.{Insert, Update, Delete}
 use Rattle.sqlite_tied.specs.Compute.{everything}
-use Rattle.sqlite.specs.Listing.{understood}
 use Rattle.sqlite.proofs.Callers.{IsPlain, command_of}
 
 -- ==== TableLemmas: A write to one table leaves the rows of the others.

@@ -4,11 +4,9 @@ use Rattle.std.specs.Option.{option_map}
 use Rattle.std.specs.FinMap as finite_map
 use Rattle.box6346.specs.declared.box_number.BoxNumber.{BoxNumber}
 use Rattle.edi_messages.specs.Purposes.{CallContent}
-use Rattle.terminal_core.specs.declared.lines.Side.{Side}
-use Rattle.terminal_core.specs.Changes.{Standing, standing_in, TerminalRows}
+use Rattle.terminal_core.specs.{declared.lines.Side.Side, Changes.Standing, Changes.standing_in, Changes.TerminalRows}
 use Rattle.terminal_core.specs.State.{LineContent, LineKey, Lines, line_key}
-use Rattle.office_rows.specs.Rows.{PlaceContent, ListingContent, Rows}
-use Rattle.office_rows.specs.Effects.{stands_for, is_line}
+use Rattle.office_rows.specs.{Rows.PlaceContent, Rows.ListingContent, Rows.Rows, Effects.stands_for, Effects.is_line}
 use Rattle.std.specs.Prelude.{map}
 
 -- where a container stands by the places: of two the first counts

@@ -3,22 +3,14 @@ use Rattle.std.specs.Prelude.{◌≡◌, ◌≢◌, ℕ, Bool, ◌&&◌, List, [
 use Rattle.std.specs.List.Sorted.{IsPermutation}
 use Rattle.sqlite.specs.Collation.TheVariants.{Binary}
 use Rattle.sqlite.specs.declared.types.Value.TheVariants.{Null, Text}
-use Rattle.sqlite.specs.Ops.{binary, is_true}
-use Rattle.sqlite.specs.Order.{Row, column}
-use Rattle.sqlite.specs.Table.{Table}
-use Rattle.sqlite.specs.Tree.{Trees}
+use Rattle.sqlite.specs.{Ops.binary, Ops.is_true, Order.Row, Order.column, Table.Table, Tree.Trees}
 use Rattle.sqlite_sql.specs.declared.ops.BinaryOp.TheVariants.{Compare}
 use Rattle.sqlite_sql.specs.declared.ops.CompareOp.TheVariants.{Eq}
 use Rattle.sqlite_schema.specs.declared.schema.Keys.TheVariants.{Enforced}
-use Rattle.sqlite_rules.specs.Calls.{ids_of}
+use Rattle.sqlite_rules.specs.{Calls.ids_of, Edit.Edit, Edit.edit_of, Edit.Applies}
 use Rattle.sqlite_rules.specs.declared.error.Rowids.TheVariants.{Chosen, Given}
-use Rattle.sqlite_rules.specs.Edit.{Edit, edit_of, Applies}
-use Rattle.office_rows.specs.Tables.{interchange_table, office_schema}
-use Rattle.office_rows.specs.Rows.{Interchange, Rows}
-use Rattle.office_rows.specs.Values.{number_value, interchange_values}
-use Rattle.office_rows.specs.Effects.{with_reply}
-use Rattle.office_rows.specs.Stored.{columns_of}
-use Rattle.office_rows.specs.Places.{ArePlaced}
+use Rattle.office_rows.specs.{Tables.interchange_table, Tables.office_schema, Rows.Interchange, Rows.Rows, Values.number_value, Values.interchange_values}
+use Rattle.office_rows.specs.{Effects.with_reply, Stored.columns_of, Places.ArePlaced}
 
 -- the tree has these records, in this order, under the rowids 1, 2, 3 and so on
 pub record AreInPlace {A : Type 0} (table : Table) (values : A → Row) (records : List A) (stored : List Row)

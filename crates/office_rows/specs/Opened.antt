@@ -1,8 +1,7 @@
 -- The rows of all tables as the queries of all rows show them.
 use Rattle.std.specs.Prelude.{◌≡◌, ℕ, ◌==◌, not, Bool, List, [], ◌∷◌, length, map}
 use Rattle.sqlite.specs.declared.types.Value.TheVariants.{Text}
-use Rattle.sqlite.specs.Order.{Row}
-use Rattle.sqlite.specs.Effect.{Database}
+use Rattle.sqlite.specs.{Order.Row, Effect.Database}
 use Rattle.terminal_core.specs.Rows.{VisitContent}
 use Rattle.yard_core.specs.declared.plan.Block.{Block}
 use Rattle.office_rows.specs.Tables.{partner_table, interchange_table, visit_table, place_table, listing_table, setting_table, block_table}
