@@ -1,14 +1,10 @@
 -- An office that is made again, or followed, by its journal.
 use Rattle.std.specs.Prelude.{◌≡◌, ◌⊎◌, ℕ, ◌+◌, ◌≤◌, Option, map, List, ◌∷◌, ◌++◌, length, take}
-use Rattle.partner_core.specs.Answers.{AnswerModel, Taken, Waiting}
-use Rattle.partner_core.specs.Deliveries.{Delivery, run}
+use Rattle.partner_core.specs.{Answers.AnswerModel, Answers.Taken, Answers.Waiting, Deliveries.Delivery, Deliveries.run}
 use Rattle.office_replies.specs.Events.{Event}
-use Rattle.office_admission.specs.Setups.{SetupContent}
-use Rattle.office_admission.specs.Accounts.{content_after}
-use Rattle.office_admission.specs.Deliveries.{deliveries_of}
+use Rattle.office_admission.specs.{Setups.SetupContent, Accounts.content_after, Deliveries.deliveries_of}
 use Rattle.office_rows.specs.Rows.{Rows}
-use Rattle.office_history.specs.After.{machine_after, AreAfter}
-use Rattle.office_history.specs.Laws.{HasNoMigration, answer_model_of}
+use Rattle.office_history.specs.{After.machine_after, After.AreAfter, Laws.HasNoMigration, Laws.answer_model_of}
 use Rattle.office_parts.specs.Kept.{kept}
 use Rattle.office_parts.specs.Journal.{text_of, kept_texts, texts_since, delivered_all, accounts_in}
 
