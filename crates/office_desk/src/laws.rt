@@ -1,9 +1,8 @@
 //! Laws of the definitions: each function has an empty body, and its contract is the law.
 
-ghost use Rattle.office_desk.specs.Alike.{SameSetupsAnswerAlike};
-ghost use Rattle.office_desk.specs.Calls.{DeliveriesAreAnswered, DeliveriesOutlastCrashes};
-ghost use Rattle.office_desk.specs.Rebuilding.{NewStoresAreInOrder, OpenedStandInOrder, LooksStayInOrder, DeliveriesStayInOrder};
+ghost use Rattle.office_desk.specs.{Alike.SameSetupsAnswerAlike, Calls.DeliveriesAreAnswered, Calls.DeliveriesOutlastCrashes};
 ghost use Rattle.office_desk.specs.Rebuilding.{DesksKeepJournals, DesksHandOutJournals, DesksAreRebuilt};
+ghost use Rattle.office_desk.specs.Rebuilding.{NewStoresAreInOrder, OpenedStandInOrder, LooksStayInOrder, DeliveriesStayInOrder};
 
 use sqlite::Alter;
 
