@@ -76,7 +76,7 @@ module _ {A : Type 0} (table : Table) (values : A → Row) (records : List A) (o
   abbrev up : Row → Row
   up r = cast_row table (drop 1 (shown r))
 
-  -- what stands in place of a row
+  -- what is in place of a row
   abbrev replaced : Row → Row
   replaced r = cond (p r) (up r) r
 
@@ -150,7 +150,7 @@ pub adds_in_place : AddsInPlace
 adds_in_place old new interchanges i held it =
     inserted interchange_table interchange_values interchanges old new (Null ∷ interchange_values i) i held cast_null (λ n. simp cast_int) it
 
--- what is said of the columns, whatever tests and terms find and write the rows
+-- what is said of the columns, by any tests and terms that find and write the rows
 replies_by : (old new : Trees) (rows : Rows) (partner number_of : ℕ) (reply : List ℕ) (p : Row → Bool) → ((r : Row) → p r ≡ is_row_of partner number_of r) → InterchangesAreInPlace rows.interchanges old
     → (found : List Row) → IsPermutation (map (replied reply) (filter p (old interchange_table.tree))) found
     → Applies office_schema Enforced old (edit_of old interchange_table (ids_of found) Given 1 found) new

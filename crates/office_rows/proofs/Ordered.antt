@@ -1,4 +1,4 @@
--- Rows whose rowids rise stand in one order.
+-- Rows whose rowids rise have one order.
 use Rattle.std.proofs.Common.{◌≡◌, ◌⊎◌, inl, inr, true, false, List, [], ◌∷◌, filter, refl, sym, ap, subst, ◌∙◌, arith, Ordering, Less, is_lt, IsPermutation}
 use Rattle.std.specs.List.{AllByRecursion}
 use Rattle.std.proofs.{lemmas.Cmp.tied_itself, lemmas.List.Elements.recursion_from_All, lemmas.List.Elements.All-from_recursion}

@@ -9,7 +9,7 @@ use Rattle.terminal_core.specs.State.{LineContent, LineKey, Lines, line_key}
 use Rattle.office_rows.specs.{Rows.PlaceContent, Rows.ListingContent, Rows.Rows, Effects.stands_for, Effects.is_line}
 use Rattle.std.specs.Prelude.{map}
 
--- where a container stands by the places: of two the first counts
+-- where a container is by the places: of two the first counts
 abbrev pub standing_by : List PlaceContent → BoxNumber → Option Standing
 standing_by places container =
     option_map (λ (place : PlaceContent). standing_in place.visit place.slot) (find (stands_for container) places)
@@ -28,7 +28,7 @@ terminal_rows rows = record { visits = rows.visits; places = standing_by rows.pl
 abbrev pub ArePlacedOnce : List PlaceContent → Type 0
 ArePlacedOnce places = (container : BoxNumber) → count_by (stands_for container) places ≤ 1
 
--- no line stands twice
+-- no line is there twice
 abbrev pub AreListedOnce : List ListingContent → Type 0
 AreListedOnce lines =
     (call : CallContent) (side : Side) (container : BoxNumber) → count_by (is_line call side container) lines ≤ 1

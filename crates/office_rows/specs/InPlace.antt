@@ -18,7 +18,7 @@ pub record AreInPlace {A : Type 0} (table : Table) (values : A → Row) (records
   pub placed : ArePlaced 1 stored
   pub same : map values records ≡ map (columns_of table) stored
 
--- the interchanges of these rows stand so in the trees
+-- the interchanges of these rows are so in the trees
 abbrev pub InterchangesAreInPlace : List Interchange → Trees → Type 0
 InterchangesAreInPlace interchanges trees =
     AreInPlace interchange_table interchange_values interchanges (trees interchange_table.tree)
@@ -57,7 +57,7 @@ pub record Replies (partner number_of : ℕ) (reply : List ℕ) (old new : Trees
   pub finds : IsPermutation (map (replied reply) (filter (is_row_of partner number_of) (old interchange_table.tree))) found
   pub applies : Applies office_schema Enforced old (edit_of old interchange_table (ids_of found) Given 1 found) new
 
--- each interchange stands where it stood
+-- each interchange is where it was
 abbrev pub RepliesInPlace : Type 0
 RepliesInPlace =
     (old new : Trees) (rows : Rows) (partner number_of : ℕ) (reply : List ℕ) →

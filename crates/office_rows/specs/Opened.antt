@@ -32,7 +32,7 @@ pub record OpenedRows : Type 0 where
   pub settings : List Setting
   pub blocks : List Block
 
--- the interchanges show these, whatever their bodies are
+-- the interchanges show these, with any bodies
 pub record ShowsNumbers (db : Database) (numbers : List NumberKept) : Type 0 where
   pub interchanges : List Interchange
   pub shown : ShowsTable interchange_table (0 ∷ 1 ∷ 3 ∷ []) (0 ∷ 1 ∷ []) db (map reply_values interchanges)

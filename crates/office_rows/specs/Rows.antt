@@ -19,7 +19,7 @@ pub record Interchange : Type 0 where
   pub body : List ℕ
   pub reply : List ℕ
 
--- where a container stands, and the number of its visit
+-- where a container is, and the number of its visit
 pub record PlaceContent : Type 0 where
   pub container : BoxNumber
   pub visit : ℕ
