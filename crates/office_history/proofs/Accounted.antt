@@ -41,7 +41,7 @@ use Rattle.terminal_core.specs.State.{TerminalState, LineContent, line_of, is_in
 use Rattle.terminal_core.specs.Step.{StepResult, with_refusal, step_by, yard_with_entry, is_full, visit_of, after_entry, after_entry_at, closed_visit, after_departure, after_departure_at, departure_by, after_move_at, after_listing_at, then_line_done_at, by_line, by_state}
 use Rattle.terminal_core.proofs.{Changing.either, Indexed.mapped_at, Whole.contained, Whole.found_at}
 
--- ==== Telling: What the rows tell: of the numbers, and of the next answer.
+-- ==== Telling: What the rows say: of the numbers, and of the next answer.
 
 -- ---- what is admitted
 
@@ -289,7 +289,7 @@ KeepsAccounts taken = (parties : Parties) (machine : MachineState) (partner : �
 opening_accounted : (content : SetupContent) → IsAccounted (parties_in content) (opening_of content)
 opening_accounted content = record { own = refl; visits = λ visit inside. (let bad : inside.0 < 0 = inside.1 in absurd (omega arith)) }
 
--- whatever was delivered, each partner by whose interchanges a visit was opened and closed has an account
+-- after any deliveries each partner by whose interchanges a visit was opened and closed has an account
 pub state_accounted : (version : Version) (content : SetupContent) (es : List Event) (now : SetupContent) (D : List Delivery) (visit : VisitContent) → Contains (state (taking_in version content es) (opening_of now) D).terminal.visits visit
     → HasAccounts (length now.partners) visit
 state_accounted version content es now D visit inside =

@@ -1,4 +1,4 @@
--- Set-ups that say the same take interchanges alike, whatever memory holds their codes.
+-- Set-ups that say the same take interchanges alike, in any memory.
 use Rattle.std.proofs.Common.{◌≡◌, ℕ, List, [], ◌∷◌, map, Bool, true, false, cond, Option, None, Some, is_none, Ok, Err, refl, sym, ap, subst, ◌∙◌}
 use Rattle.std.specs.Prelude.{◌&&◌, ◌||◌, not, nat_le, if◌then◌else◌, codes, decimal}
 use Rattle.std.specs.{Option.option_map, Option.option_and_then, Option.option_map_or, List.find, Str.bytes_eq}

@@ -163,7 +163,7 @@ account_adds_row content es rows code kind own id are named answered = account_r
 
 -- ---- plan and limit
 
--- the new state stands on the plan and the limit of the old
+-- the new state has the plan and the limit of the old
 pub record OnGround (old new : TerminalState) : Type 0 where
   pub plan : new.yard.plan ≡ old.yard.plan
   pub limit : new.limit ≡ old.limit

@@ -17,7 +17,7 @@ use Rattle.office_history.specs.After.{accounts_from}
 
 -- ---- lists
 
--- what only one element passes is found in whatever order
+-- what only one element passes is found in any order
 pub found_same : {A : Type 0} (p : A → Bool) (xs ys : List A) → count_by p xs ≤ 1 → IsPermutation xs ys → find p ys ≡ find p xs
 found_same {A} p xs ys once same =
     elim (find p ys) as (λ o. find p ys ≡ o → o ≡ find p xs) [
@@ -181,7 +181,7 @@ abbrev pub Has : ℕ → ℕ → List NumberKept → Type 0
 Has p k [] = ⊥
 Has p k (n ∷ ns) = ((n.partner ≡ p) × (n.number ≡ k)) ⊎ Has p k ns
 
--- what is kept is one of so many partners', and was taken if it is within the partner's run
+-- what is kept is of one of that many partners, and was taken if it is within the partner's run
 pub record IsWithinRuns (count : ℕ) (runs : ℕ → ℕ) (n : NumberKept) : Type 0 where
   pub partner_low : 1 ≤ n.partner
   pub partner_high : n.partner ≤ count

@@ -130,7 +130,7 @@ have_runs id (partner ∷ partners) (account ∷ accounts) are =
     high true run most = let its : partner.next ≤ 1000000000 = are.4 in omega (arith, its)
     high false run most = most
 
--- ---- where a number stands
+-- ---- where a number is
 
 pub has_left : (p k : ℕ) (ns ms : List NumberKept) → Has p k ns → Has p k (ns ++ ms)
 has_left p k [] ms has = absurd has

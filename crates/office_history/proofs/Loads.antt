@@ -1,4 +1,4 @@
--- Whatever one database shows is of one office: one state, and one set-up.
+-- All that one database shows is of one office: one state, and one set-up.
 use Rattle.std.proofs.Common.{◌≡◌, ℕ, suc, ◌+◌, ◌<◌, ◌≤◌, inl, inr, List, [], ◌∷◌, map, Bool, true, false, cond, Option, None, Some, refl, sym, ap, ap₂, subst, ◌∙◌, arith}
 use Rattle.std.specs.Prelude.{find, count_by, Contains, IsTrue, codes, decimal}
 use Rattle.std.specs.{Option.option_map, List.Sorted.IsPermutation, List.Sorted.IsNonDecreasingBy, Ordering.eq_by_cmp, Str.bytes_eq}
@@ -221,7 +221,7 @@ any_head (b ∷ blocks) = omega arith
 
 -- ---- places
 
--- the container of a place stands in a slot that has a name
+-- the container of a place is in a slot that has a name
 named_at : (state : TerminalState) (place : PlaceContent) (o : Option Placement) (n : ℕ) → placement_of state.yard.boxes place.container ≡ o
     → Some (standing_in place.visit place.slot) ≡ option_map (λ (s : Placement). standing_in n s.slot) o → IsWellFormed state → IsNamed place.slot
 named_at state place None n there e formed = cc
@@ -285,7 +285,7 @@ shown_twice table columns key values xs ys db one two =
     let shuffled = IsPermutation-map (columns_at columns) one.by_key two.by_key (IsPermutation-trans _ _ _ (IsPermutation-sym _ _ one.same) two.same) in
     unmapped values xs (map values ys) (subst (IsPermutation (map values xs)) (sym two.is) (subst (λ l. IsPermutation l (map (columns_at columns) two.by_key)) (sym one.is) shuffled))
 
--- ---- the set-up and the terminal of rows, whatever interchanges they have, and whichever closed visits
+-- ---- the set-up and the terminal of rows, with any interchanges, and whichever closed visits
 
 pub record ShowsSetupAndTerminal (rows : OpenedRows) (content : SetupContent) (state : TerminalState) : Type 0 where
   pub given : IsGiven content

@@ -104,7 +104,7 @@ rises_in low (x ∷ xs) rises = (rises.0, rises_in (place_in x) xs rises.1)
 pair_at : (partner number : ℕ) (i : Interchange) → is_pair partner number i ≡ true → place_in i ≡ place_of partner number
 pair_at partner number i passes = let pair = pair_of partner number i passes in ap₂ place_of pair.0 pair.1
 
--- if what the table shows rises by partner and number, none stands there twice
+-- if what the table shows rises by partner and number, none is there twice
 pub once_if_rising : (db : Database) (rows : Rows) (shown : OpenedRows) → HasRows rows db → Shows db shown → Rises place (place_of 1 0) shown.numbers → AreKeptOnce rows.interchanges
 once_if_rising db rows shown has shows rises partner number =
     let its = shows.numbers in

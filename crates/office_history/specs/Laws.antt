@@ -20,7 +20,7 @@ use Rattle.office_history.specs.After.{opening_of, taking_in, migration_in, mach
 
 -- ---- changes of the tables and of the terminal's rows
 
--- the tables' rows are by key these rows of the terminal, and no key stands twice
+-- the tables' rows are by key these rows of the terminal, and no key is there twice
 pub record AreRowsByKey (rows : Rows) (terminal : TerminalRows) : Type 0 where
   pub same : terminal_rows rows ≡ terminal
   pub placed_once : ArePlacedOnce rows.places
@@ -44,7 +44,7 @@ abbrev pub DeliveriesLeaveSound : Type 0
 DeliveriesLeaveSound =
     (content : SetupContent) (es : List Event) → IsGiven content → IsSoundMachine (machine_after content es)
 
--- ---- what the rows tell
+-- ---- what the rows say
 
 -- a text is kept for an account, under a number of an interchange
 abbrev pub NumbersAreWithin : Type 0
@@ -158,7 +158,7 @@ answer_model_of content es partner number sent =
     answer_of (taking_in newest content es) (opening_of (content_after content es)) (deliveries_of content es)
     (delivery partner number (interchange_of sent))
 
--- how the rows tell the answer
+-- how the rows give the answer
 pub record AnswersBy (content : SetupContent) (es : List Event) (rows : Rows) (sent : List ℕ)
     (partner number : ℕ) : Type 0 where
   pub clash : (kept : List ℕ) → text_in rows partner number ≡ Some kept → (kept ≡ interchange_of sent → ⊥) →
@@ -207,7 +207,7 @@ LoadingGivesSetup =
     → AreAfter content es rows → IsGiven content → HasRows rows db → Shows db shown → IsOffice shown other state
     → Reopens content es rows other
 
--- whatever came, the queries of all rows show those of an office: its own rows are never found damaged
+-- after any events the queries of all rows show those of an office: its own rows are never found damaged
 abbrev pub RowsAreAnOffice : Type 0
 RowsAreAnOffice =
     (content : SetupContent) (es : List Event) (rows : Rows) (db : Database) → IsGiven content →
