@@ -328,7 +328,7 @@ module _ (sql : List ℕ) (params : Row) (old new : State) (shows : OnlyShows sq
 
 -- ---- what is done with its answer
 
--- whatever comes of what was read
+-- any outcome of what was read
 pub reads_on : {X Y : Type 0} {old new : State} {x : X} (result : Result Y TableFault) → Reads old new (Ok x) → Reads old new result
 reads_on (Ok y) reads = record { unchanged = reads.unchanged; keeps = reads.keeps; mode = reads.mode; survives = reads.survives }
 reads_on (Err fault) reads = record { unchanged = λ clean. tt; keeps = reads.keeps; mode = reads.mode; survives = reads.survives }

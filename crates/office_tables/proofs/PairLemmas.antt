@@ -96,7 +96,7 @@ pub order_kept : {X E : Type 0} (p n : ℕ) (body reply : List ℕ) (old new : S
 order_kept p n body reply old new (Ok x) keeps none = λ rows held. rw (← kept_with_reply p n body reply rows (none rows held.has)) (keeps rows held)
 order_kept p n body reply old new (Err e) keeps none = keeps
 
--- ==== OrderLemmas: Statements that write to another table leave the interchanges as they stand.
+-- ==== OrderLemmas: Statements that write to another table leave the interchanges as they are.
 
 module _ (old new : State) (rows : Rows) (count : ℕ) (has : HasRows rows old.now) (held : InterchangesAreInPlace rows.interchanges old.now.trees) (params : Row) where
   abbrev pub Stay : Type 0

@@ -66,7 +66,7 @@ one_read {old} {new} {result} r = record {
   reads = record { unchanged = λ clean was. r.unchanged clean; keeps = r.keeps; mode = r.mode; survives = r.survives };
 }
 
--- whatever comes of what was read
+-- any outcome of what was read
 pub only_on : {X Y : Type 0} {old new : State} {x : X} (result : Result Y TableFault) → OnlyReads old new (Ok x) → OnlyReads old new result
 only_on result r = record { same = λ clean. on_both result (r.same clean); reads = if_open_on result r.reads }
 
@@ -97,7 +97,7 @@ only_then {a} {b} {c} {result} p q = record {
   };
 }
 
--- what reads in the end reads, whatever it did before
+-- what reads in the end reads, after anything before
 pub then_read : {X Y : Type 0} {a b c : State} {x : X} {result : Result Y TableFault} → OnlyReads a b (Ok x) → Reads b c result → Reads a c result
 then_read {a} {b} {c} {result} p q = record {
   unchanged = λ clean.

@@ -46,7 +46,7 @@ of_store_alone P none Damaged h = none h
 of_store_alone P none Version h = h
 of_store_alone P none Memory h = h
 
--- whatever is damaged, a fault of the store is no other
+-- with any damage a fault of the store is no other
 pub of_store_or : (P : Type 0) (fault : TableFault) → IsOfStore fault → IsOfStoreOr P fault
 of_store_or P (Store error) h = h
 of_store_or P Damaged h = absurd h
@@ -59,7 +59,7 @@ abbrev is_query : Statement → Bool
 is_query (written.Select s) = true
 is_query _ = false
 
--- the text is a SELECT, whatever tables there are
+-- the text is a SELECT, with any tables
 abbrev pub is_read : Checked Parsed → Bool
 is_read (Ok p) = is_query p.statement
 is_read (Err e) = false
@@ -116,7 +116,7 @@ understands_query schema text c query h = elim (cases_Bool (reads_listing schema
   | inr other ↦ compiles_query schema text c query (rw other at h)
 ]
 
--- a text that is a query, whatever tables there are
+-- a text that is a query, with any tables
 pub only_shows : (text : List ℕ) → is_read (first text) ≡ true → OnlyShows text
 only_shows text query schema c = understands_query schema text c query
 

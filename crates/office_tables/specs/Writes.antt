@@ -5,7 +5,7 @@ use Rattle.sqlite.specs.State.{State, HasCleanDisk, KeepsCommit, Survives}
 use Rattle.office_rows.specs.{Rows.Rows, Steps.Steps, Steps.Turns, Stored.HasEmpty, Stored.HasRows, Tables.office_tables}
 use Rattle.office_tables.specs.{declared.table_fault.TableFault.TableFault, Faults.IsOfStore, Opened.AreMissing, Opened.MakesTables, Order.KeepsOrder}
 
--- where it went well the rows are these, in order if they were before; whatever it answers, nothing is committed and a
+-- where it went well the rows are these, in order if they were before; with any answer, nothing is committed and a
 -- crash leaves what it left before; and it fails only as the store does, or memory
 pub record Writes {T : Type 0} (change : Rows → Rows) (old new : State) (result : Result T TableFault) : Type 0 where
   pub steps : HasCleanDisk new → IsTrue old.in_transaction → OnOk result (Steps change old new)
