@@ -64,7 +64,7 @@ taken_then partner number (suc count) next waiting below high wait = (refl, omeg
 own_of : (p : Partner) (waiting : List NumberKept) → 1 ≤ p.next → p.next ≤ 1000000000 → AreWaiting p.id p.next waiting → AreOf p.id 0 (taken_numbers p ++ waiting)
 own_of p waiting low high wait = taken_then p.id 0 (p.next - 1) p.next waiting (omega (arith, low)) high wait
 
--- one partner's stand before those of later ones
+-- one partner's come before those of later ones
 before_later : (count partner number : ℕ) (own others : List NumberKept) → partner ≤ count → AreOf partner number own → ((number : ℕ) → AreInOrder count partner number others) → AreInOrder count partner number (own ++ others)
 before_later count partner number [] others few own rest = rest number
 before_later count partner number (n ∷ own) others few are rest =
@@ -255,7 +255,7 @@ side_is Discharge Discharge e = refl
 pub own_line : (row : Listing) → typed.is_line (call_content row.call) row.side row.container row ≡ true
 own_line row = sym (line_tied (call_content row.call) row.side row.container row) ∙ (eq_by_cmp_equiv keys_total).refl (typed.key_of row)
 
--- each row of lines that stand once is there under its key
+-- each row of lines that are there once is there under its key
 pub line_there : (rows : List Listing) (k : ℕ) (row : Listing) → AreOnce rows → slice_get rows k ≡ Some row → finite_map.get (typed.lines_of rows) (typed.key_of row) ≡ Some (typed.line_content row)
 line_there rows k row once at = elim (first_or_none (call_content row.call) row.side row.container rows) [
   | inl first ↦ (let same : first.1.row ≡ row = one_passes (typed.is_line (call_content row.call) row.side row.container) rows first.1.row row (once (call_content row.call) row.side row.container) (contained rows first.0 first.1.row first.1.at)

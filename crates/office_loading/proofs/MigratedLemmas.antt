@@ -1,4 +1,4 @@
--- The rows that were copied are those of the old store, brought to the newest version, and its interchanges stand as there.
+-- The rows that were copied are those of the old store, brought to the newest version, and its interchanges are as there.
 use Rattle.std.proofs.Common.{◌≡◌, ℕ, List, [], ◌∷◌, map, refl, sym, ap, subst, ◌∙◌, take}
 use Rattle.std.specs.List.Sorted.{IsPermutation}
 use Rattle.std.proofs.lemmas.List.Sorted.{IsPermutation-trans, IsPermutation-map}

@@ -122,7 +122,7 @@ module _ (old new : State) (tree : ℕ) (has : HasSettings old.now.schema tree) 
   pub lists_settings : Shown select_setting [] old new answer → ShowsTable (setting_in tree) (0 ∷ 1 ∷ []) (0 ∷ []) old.now answer
   lists_settings = shows_in tree has.tree_is
 
--- ==== RowidLemmas: Rows in the order of their numbers are the rows as they stand.
+-- ==== RowidLemmas: Rows in the order of their numbers are the rows as they are.
 
 -- the order of ORDER BY rowid
 abbrev pub rowid_cmp : Output → Output → Ordering

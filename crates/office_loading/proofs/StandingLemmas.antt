@@ -1,4 +1,4 @@
--- The query of all interchanges shows them in the order in which they stand.
+-- The query of all interchanges shows them in their order.
 use Rattle.std.proofs.Common.{◌≡◌, List, [], ◌∷◌, map, Result, Ok, Err, OnOk, refl, sym, subst, ◌∙◌, arith, ℕ, false, true, filter, codes, ap, ap₂, ◌++◌, Contains, inl, inr}
 use Rattle.std.specs.{List.Sorted.IsPermutation, List.AllByRecursion, List.AllZip}
 use Rattle.std.proofs.lemmas.List.Sorted.{length_permutation, Contains-permutation}
@@ -58,7 +58,7 @@ none_stored : (stored : List Row) → IsPermutation [] (map (columns_of intercha
 none_stored [] same = refl
 none_stored (r ∷ stored) same = absurd (omega (arith, length_permutation _ _ same))
 
--- where there is no interchange they stand in order
+-- where there is no interchange they are in order
 pub none_in_order : (rows : Rows) (db : Database) → rows.interchanges ≡ [] → HasRows rows db → HasRowsInOrder rows db
 none_in_order rows db none has =
     let held = has.rows_are.interchanges in
@@ -77,7 +77,7 @@ order_turn P rows change a b c none p q keeps = record {
   is_open = q.is_open;
 }
 
--- ==== StandingLemmas: The query of all interchanges shows them in the order in which they stand.
+-- ==== StandingLemmas: The query of all interchanges shows them in their order.
 
 abbrev pub select_standing : List ℕ
 select_standing = codes "SELECT body, reply, partner, number FROM interchange ORDER BY rowid"

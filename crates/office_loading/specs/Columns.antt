@@ -88,7 +88,7 @@ SaysExit row departure = (columns_at (10 ∷ 11 ∷ 12 ∷ 13 ∷ []) row ≡ ex
 abbrev pub SaysPartner : Row → Partner → Type 0
 SaysPartner row partner = (columns_at (0 ∷ 1 ∷ 2 ∷ 3 ∷ []) row ≡ partner_values partner) × FitsPartner partner
 
--- whatever the reply says
+-- with any reply
 abbrev pub SaysNumbered : Row → NumberKept → Type 0
 SaysNumbered row n = (i : Interchange) × (columns_at (0 ∷ 1 ∷ 2 ∷ []) row ≡ reply_values i) × (n ≡ number_kept i)
     × FitsNumber n

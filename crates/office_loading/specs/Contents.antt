@@ -1,4 +1,4 @@
--- What rows that were read say, whatever memory holds them.
+-- What rows that were read say, in any memory.
 use Rattle.std.specs.Prelude.{map, string_bytes}
 use Rattle.terminal_core.specs.{declared.change.Place.Place, Rows.visit_content}
 use Rattle.office_rows.specs.Rows.{Partner, PlaceContent, Setting, listing_content}

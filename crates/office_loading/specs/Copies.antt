@@ -18,7 +18,7 @@ pub record ShowsInterchange (row : Row) (i : Interchange) : Type 0 where
   pub partner : column row 2 ≡ number_value i.partner
   pub number : column row 3 ≡ number_value i.number
 
--- these are the interchanges of a tree in the order in which they stand there, which is that of their rowids
+-- these are the interchanges of a tree in their order there, which is that of their rowids
 abbrev pub AreStanding : List Row → List Interchange → Type 0
 AreStanding stored copied =
     IsShaped shape.Table stored → map interchange_values copied ≡ map (columns_of interchange_table) stored
@@ -30,7 +30,7 @@ pub record AddsShown (row : Row) (old new : State) : Type 0 where
   pub writes : Writes {T = Unit {0}} (with_interchanges (one ∷ [])) old new (Ok tt)
 
 -- interchanges are added: those of the store that was read, if its tables are those of version 1 or 2, in the order in
--- which they stand there
+-- which they are there
 pub record AddsStanding (from read old new : State) : Type 0 where
   pub copied : List Interchange
   pub are : HasCleanDisk read → from.now.schema ≡ bare_schema → AreStanding (from.now.trees 2) copied

@@ -13,7 +13,7 @@ use Rattle.edi_messages.specs.Owned.{call_content}
 use Rattle.office_rows.specs.Office.{HasAccounts}
 use Rattle.office_loading.specs.Checks.{AreOwnVisits}
 
--- the source has its form, and its partner is among so many
+-- the source has its form, and its partner is one of that many
 abbrev pub IsSoundSource : ℕ → Source → Type 0
 IsSoundSource count source = IsSource source × (source.partner ≤ count)
 
@@ -28,7 +28,7 @@ abbrev pub IsSoundExit : ℕ → Option Departure → Type 0
 IsSoundExit count None = Unit {0}
 IsSoundExit count (Some departure) = IsSoundDeparture count departure
 
--- the visit has its form, and those who opened and closed it are among so many partners
+-- the visit has its form, and those who opened and closed it are of that many partners
 pub record IsSoundVisit (count : ℕ) (visit : VisitContent) : Type 0 where
   pub formed : IsFormedVisit visit
   pub accounted : HasAccounts count visit
@@ -42,7 +42,7 @@ AreSoundVisits count visits = All (λ (visit : Visit). IsSoundVisit count (visit
 abbrev pub AreSoundLines : List Listing → Type 0
 AreSoundLines lines = All IsSoundLine lines
 
--- the blocks stand by their letters
+-- the blocks are in the order of their letters
 abbrev pub AreByLetter : List Block → Type 0
 AreByLetter blocks = IsNonDecreasingBy (λ (block : Block). block.letter) blocks
 

@@ -17,14 +17,14 @@ pub record IsSettled (s : State) : Type 0 where
 
 -- ---- the rows that were read, with interchanges
 
--- an empty database has these rows and the old store's interchanges, in the order in which they stand there, committed
+-- an empty database has these rows and the old store's interchanges, in their order there, committed
 pub record Copies (old : Database) (tables : OpenedRows) (before after : State) : Type 0 where
   pub copied : List Interchange
   pub are : AreStanding (old.trees 2) copied
   pub rows : before.committed.schema ≡ no_schema → HasRowsInOrder (copied_rows tables copied) after.committed
   pub stays : IsSettled after
 
--- these are these rows and the old store's interchanges, in the order in which they stand there, whole
+-- these are these rows and the old store's interchanges, in their order there, whole
 abbrev pub IsCopy : Database → OpenedRows → Database → Trees → Type 0
 IsCopy old tables before db = before.schema ≡ no_schema → old.schema ≡ bare_schema →
     (copied : List Interchange) × AreStanding (old.trees 2) copied
@@ -32,13 +32,13 @@ IsCopy old tables before db = before.schema ≡ no_schema → old.schema ≡ bar
 
 -- ---- the rows of a store
 
--- the rows of one table stand in the other in the same order, and there under the rowids 1, 2, 3 and so on
+-- the rows of one table are in the other in the same order, and there under the rowids 1, 2, 3 and so on
 pub record StandAlike (old new : List Row) : Type 0 where
   pub placed : ArePlaced 1 new
   pub same : map (columns_of interchange_table) new ≡ map (columns_of interchange_table) old
 
 -- the old store holds an office of version 1 or 2; an empty database has its rows, brought to the newest version,
--- committed, and the interchanges in the order in which they stand in the old store
+-- committed, and the interchanges in their order in the old store
 pub record Migrates (old : Database) (before after : State) : Type 0 where
   pub content : SetupContent
   pub terminal : TerminalState
@@ -50,7 +50,7 @@ pub record Migrates (old : Database) (before after : State) : Type 0 where
   pub stays : IsSettled after
 
 -- these are the rows of the old store, brought to the newest version, whole, and the interchanges in the order in which
--- they stand there
+-- they are there
 abbrev pub IsMigration : Database → Database → Trees → Type 0
 IsMigration old before db = before.schema ≡ no_schema → (rows : Rows) → HasBareRows rows old →
     StoresRows (migrated_rows rows) db × StandAlike (old.trees 2) (db 2)

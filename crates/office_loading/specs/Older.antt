@@ -57,7 +57,7 @@ abbrev pub LoadsOlder : Database → SetupContent → TerminalState → Type 0
 LoadsOlder db content state =
     HasOlder db × (rows : OpenedRows) × Shows (with_weights db) rows × IsOffice (migrated_opened rows) content state
 
--- whatever rows the tables show, brought to the newest version they are those of no office
+-- any rows that the tables show, brought to the newest version, are those of no office
 abbrev pub ShowsNoOlder : Database → Type 0
 ShowsNoOlder db = (rows : OpenedRows) (content : SetupContent) (state : TerminalState) → Shows (with_weights db) rows →
     ¬ IsOffice (migrated_opened rows) content state

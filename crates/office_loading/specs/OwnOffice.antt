@@ -18,11 +18,11 @@ IsClosedBelow last_closed partner = last_closed partner.id < partner.next
 abbrev pub ComesAfter : (partner number : ℕ) → NumberKept → Type 0
 ComesAfter partner number n = ((n.partner ≡ partner) × (number < n.number)) ⊎ ((partner < n.partner) × (1 ≤ n.number))
 
--- it comes after, is of one of so many partners, and its number is one that there is
+-- it comes after, is of one of that many partners, and its number is one that there is
 abbrev pub IsInOrder : (count partner number : ℕ) → NumberKept → Type 0
 IsInOrder count partner number n = ComesAfter partner number n × (n.partner ≤ count) × (n.number ≤ last_number)
 
--- they stand by partner and number, none twice
+-- they are in the order of partner and number, none twice
 abbrev pub AreInOrder : (count partner number : ℕ) → List NumberKept → Type 0
 AreInOrder count partner number [] = Unit {0}
 AreInOrder count partner number (n ∷ numbers) =

@@ -1,4 +1,4 @@
--- What a database has for a table of settings, whatever other tables it has.
+-- What a database has for a table of settings, with any other tables.
 use Rattle.std.specs.Prelude.{◌≡◌, ◌⊎◌, ℕ, List, ◌++◌, Some, None, slice_get, codes}
 use Rattle.sqlite.specs.{Schema.Schema, Table.Table}
 use Rattle.sqlite_schema.specs.{declared.schema.Column.Column, Names.table_named, Names.view_named, Names.column_named}

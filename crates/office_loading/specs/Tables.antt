@@ -101,7 +101,7 @@ pub record FitsRows (rows : OpenedRows) : Type 0 where
   pub settings : AllByRecursion FitsSetting rows.settings
   pub blocks : AllByRecursion FitsBlock rows.blocks
 
--- whatever rows the tables show, some don't fit the types of a row
+-- of any rows that the tables show some don't fit the types of a row
 abbrev pub ShowsUnfit : Database → Type 0
 ShowsUnfit db = (rows : OpenedRows) → Shows db rows → ¬ FitsRows rows
 
@@ -136,7 +136,7 @@ ReadsOthers layout db settings (Err fault) = IsOfStoreOr (ShowsUnfit (weighed_in
 abbrev pub Loads : Database → SetupContent → TerminalState → Type 0
 Loads db content state = (rows : OpenedRows) × Shows db rows × IsOffice rows content state
 
--- whatever rows the tables show, they are those of no office
+-- any rows that the tables show are those of no office
 abbrev pub ShowsNoOffice : Database → Type 0
 ShowsNoOffice db = (rows : OpenedRows) (content : SetupContent) (state : TerminalState) → Shows db rows →
     ¬ IsOffice rows content state
@@ -151,7 +151,7 @@ FailsToLoad db fault = FailsByVersion (HasVersion db) (ShowsNoOffice db) fault
 abbrev pub LoadsOwn : ClosedContent → Database → SetupContent → TerminalState → Type 0
 LoadsOwn closed db content state = (rows : OpenedRows) × Shows db rows × IsOwnOffice closed rows content state
 
--- whatever rows the tables show, they are those of no office
+-- any rows that the tables show are those of no office
 abbrev pub ShowsNoOwnOffice : ClosedContent → Database → Type 0
 ShowsNoOwnOffice closed db = (rows : OpenedRows) (content : SetupContent) (state : TerminalState) → Shows db rows →
     ¬ IsOwnOffice closed rows content state

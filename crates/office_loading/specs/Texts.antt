@@ -17,7 +17,7 @@ is_from from row = is_ge (value_cmp (rowid row) (number_value from))
 abbrev pub AreTextsAfter : ℕ → List Row → List (List ℕ) → Type 0
 AreTextsAfter from stored texts = map Blob texts ≡ map (λ row. column row 3) (filter (is_after from) stored)
 
--- there are at least so many texts: the number of some row is that one or above, or it is 0
+-- there are at least that many texts: the number of some row is that one or above, or it is 0
 abbrev pub has_reached : ℕ → List Row → Bool
 has_reached from stored = (from == 0) || list_any (is_from from) stored
 
