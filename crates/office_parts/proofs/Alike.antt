@@ -67,7 +67,7 @@ alike-nothing ds d used =
     let adds = adds_nothing {S = ℕ} (λ s p t. (s, [])) 0 ds d used in
     record { firsts = λ q j. sym (adds.first q j); orders = sym adds.in_order }
 
--- whatever comes later
+-- any later events
 pub alike-all : (ds es later : List Delivery) → Alike ds es → Alike (ds ++ later) (es ++ later)
 alike-all ds es [] a = subst (λ xs. Alike xs (es ++ [])) (sym (append-nil ds)) (subst (Alike ds) (sym (append-nil es)) a)
 alike-all ds es (d ∷ later) a =
@@ -197,7 +197,7 @@ kept_shorter before (d ∷ ds) = on (is_used before d.partner d.number) (kept_sh
     on true h = omega arith
     on false h = omega arith
 
--- no number stands twice among what is kept
+-- no number is there twice among what is kept
 pub new_among : (before later : List Delivery) (d : Delivery) → kept (before ++ d ∷ later) ≡ before ++ d ∷ later → is_used before d.partner d.number ≡ false
 unfolding kept
 new_among before later d all = false_from_ne_true (is_used before d.partner d.number) (λ used.

@@ -68,7 +68,7 @@ module _ (text : List ℕ) (none : fault_of text ≡ None) (stripped : interchan
   spelled : SegmentsText s segments (behind_advice text)
   spelled = segments_sound s (behind_advice text) is.segments
 
-  -- after the advice stand line breaks and then the segments
+  -- after the advice come line breaks and then the segments
   past : (breaks : List ℕ) × (list_all is_break breaks ≡ true) × (past_advice text ≡ breaks ++ behind_advice text)
   past = on (begins_with_advice text)
     where
@@ -114,7 +114,7 @@ module _ (text : List ℕ) (none : fault_of text ≡ None) (stripped : interchan
 
   -- ---- no earlier end
 
-  -- after a trailer no segment stands
+  -- after a trailer no segment comes
   nothing_behind : (before : List Content) (trailer : Content) (breaks rest last more : List ℕ) → list_all is_break breaks ≡ true → SegmentsText s before rest → SegmentText s trailer last → trailer.tag ≡ codes "UNZ"
       → past_advice text ≡ breaks ++ (rest ++ (last ++ more)) → without_breaks more ≡ []
   nothing_behind before trailer breaks rest last more all befores last_spelled tag parts =

@@ -37,7 +37,7 @@ module _ (key : LineKey) where
 
   -- ---- lines
 
-  -- a new line stands elsewhere
+  -- a new line is elsewhere
   listed_stays_at : (lines : Lines) (other : LineKey) (line : LineContent) → finite_map.get lines other ≡ None → IsDoneLine lines key → IsDoneLine (finite_map.insert lines other line) key
   listed_stays_at lines other line none done = by (eq_by_cmp order key other) refl
     where

@@ -1,4 +1,4 @@
--- Rows whose interchanges stand in the order of arrival, after one event more.
+-- Rows whose interchanges are in the order of arrival, after one event more.
 use Rattle.std.proofs.Common.{◌≡◌, ℕ, Bool, true, false, cond, List, [], ◌∷◌, ◌++◌, map, None, refl, sym, ap, ◌∙◌}
 use Rattle.std.specs.Prelude.{is_some}
 use Rattle.std.proofs.lemmas.List.{append-nil, map-append}

@@ -30,7 +30,7 @@ use Rattle.office_parts.proofs.Splits.{own_rise, Has as HasElement, has_containe
 
 -- ==== Beyond: The interchanges that a store keeps beyond what is closed.
 
--- what is kept is one of so many partners', beyond what is closed, and was taken if it is within the partner's run
+-- what is kept is of one of that many partners, beyond what is closed, and was taken if it is within the partner's run
 pub record IsBeyond (closed : ℕ → ℕ) (count : ℕ) (runs : ℕ → ℕ) (n : NumberKept) : Type 0 where
   pub partner_low : 1 ≤ n.partner
   pub partner_high : n.partner ≤ count

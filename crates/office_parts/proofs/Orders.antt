@@ -198,7 +198,7 @@ pub acts_alike : OrdersActAlike
 acts_alike stays version state source order may =
     record { step = steps_beside stays version state source order may; stay = stays_beside stays version state source order may }
 
--- ==== Lookups: What the store and its archives tell of a number.
+-- ==== Lookups: What the store and its archives say of a number.
 
 abbrev pub body_there : Option Interchange → Option (List ℕ)
 body_there o = option_map (λ (i : Interchange). i.body) o
@@ -220,7 +220,7 @@ module _ (archived : Archived) (own whole : Rows) (p n : ℕ) where
   pub found_whole : AreParts archived own whole → find (is_pair p n) whole.interchanges ≡ option_or there here
   found_whole parts = ap (find (is_pair p n)) parts.interchanges ∙ find-append (is_pair p n) archived.interchanges own.interchanges
 
-  -- beyond what is closed of a partner the store tells, and within it the archives
+  -- beyond what is closed of a partner the store says, and within it the archives
   pub found_beyond : AreClosed archived → AreParts archived own whole → archived.last_closed p < n → find (is_pair p n) whole.interchanges ≡ here
   found_beyond closed parts far = found_whole parts ∙ ap (λ o. option_or o here) (closed.none_beyond p n far)
 
@@ -236,7 +236,7 @@ module _ (archived : Archived) (own whole : Rows) (p n : ℕ) where
       let all : count_by (is_pair p n) (archived.interchanges ++ own.interchanges) ≤ 1 = subst (λ l. count_by (is_pair p n) l ≤ 1) parts.interchanges (once p n) in
       omega (arith, both, all)
 
-  -- and there the store has nothing, since no pair stands twice in the whole
+  -- and there the store has nothing, since no pair is there twice in the whole
   none_here : AreClosed archived → AreParts archived own whole → AreKeptOnce whole.interchanges → 1 ≤ n → n ≤ archived.last_closed p → here ≡ None
   none_here closed parts once low high =
       let both : count_by (is_pair p n) (archived.interchanges ++ own.interchanges) ≡ count_by (is_pair p n) archived.interchanges + count_by (is_pair p n) own.interchanges = count_both (is_pair p n) archived.interchanges own.interchanges in

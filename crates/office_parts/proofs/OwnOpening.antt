@@ -1,4 +1,4 @@
--- The store's tables show a store's own rows, whichever closed interchanges still stand there.
+-- The store's tables show a store's own rows, whichever closed interchanges are still there.
 use Rattle.std.proofs.Common.{◌≡◌, [], ◌∷◌, ℕ, ◌<◌, ◌≤◌, inl, inr, List, length, true, Some, is_some, refl, sym, ap, subst, ◌∙◌, arith}
 use Rattle.std.specs.Prelude.{Contains, find, filter}
 use Rattle.std.specs.{List.Sorted.IsPermutation, Option.option_map}

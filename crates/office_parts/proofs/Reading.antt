@@ -166,7 +166,7 @@ module _ (away : ListName → Bool) where
   ordered_here Second codes opened message = unweighed_here (reading codes opened message) (judged_here opened message (fault_of codes message) (purpose_of codes message))
   ordered_here Third codes opened message = judged_here opened message (fault_of codes message) (purpose_of codes message)
 
--- ==== AlikeLemmas: Set-ups that say the same name the same lists, whatever memory holds their codes.
+-- ==== AlikeLemmas: Set-ups that say the same name the same lists, in any memory.
 
 -- ---- codes
 

@@ -137,7 +137,7 @@ module _ {A : Type 0} (p q : A → Bool) where
 
 -- ---- having
 
--- it stands in the list
+-- it is in the list
 abbrev pub Has : {A : Type 0} → List A → A → Type 0
 Has [] x = ⊥
 Has (y ∷ ys) x = (y ≡ x) ⊎ Has ys x

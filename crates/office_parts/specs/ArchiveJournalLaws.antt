@@ -18,7 +18,7 @@ JournalIsOfAllFiles =
 
 -- ---- what keeps a file in order
 
--- what is closed besides, and whatever of it is deleted, leaves the rest in order
+-- what is closed besides, and any of it that is deleted, leaves the rest in order
 abbrev pub ClosingStaysInOrder : Type 0
 ClosingStaysInOrder =
     (content : SetupContent) (es : List Event) (before then_ : ℕ → ℕ) (interchanges left : List Interchange) →

@@ -15,7 +15,7 @@ pub record IsFaultless (text : List ℕ) : Type 0 where
 abbrev pub FaultlessIsInterchange : Type 0
 FaultlessIsInterchange = (text : List ℕ) → IsFaultless text → IsInterchange text
 
--- The lines of such texts are cut into these texts, whatever service characters each has, and nothing is left over.
+-- The lines of such texts are cut into these texts, with any service characters, and nothing is left over.
 abbrev pub LinesAreCut : Type 0
 LinesAreCut = (texts : List (List ℕ)) → All IsFaultless texts → AreCuts (lines_of texts) texts []
 

@@ -1,4 +1,4 @@
--- Rows after events whose interchanges stand in the order of arrival.
+-- Rows after events whose interchanges are in the order of arrival.
 use Rattle.std.specs.Prelude.{◌≡◌, ℕ, ◌+◌, ◌<◌, List, [], ◌∷◌, ◌++◌, map, None, Some, Err}
 use Rattle.edi_messages.specs.declared.codes.PartnerKind.{PartnerKind}
 use Rattle.edi_syntax.specs.Interchange.{interchange_of}
@@ -93,7 +93,7 @@ AccountStaysInOrder =
     → account_answer (content_after content es).partners code kind ≡ added_as id
     → AreAfterInOrder content (es ++ added code kind ∷ []) (with_partner id code own rows)
 
--- nor does a migration that leaves the interchanges as they stood
+-- nor does a migration that leaves the interchanges as they were
 abbrev pub MigrationStaysInOrder : Type 0
 MigrationStaysInOrder =
     (content : SetupContent) (version : Version) (es : List Event) (rows : Rows) → HasNoMigration es →

@@ -36,7 +36,7 @@ pub record DecidesSame {S : Type 0} (taken : Taking S) (opening : S) (ds es : Li
   pub comes : ComesToSame taken opening ds es
   pub answers : (d : Delivery) → answer_of taken opening ds d ≡ answer_of taken opening es d
 
--- what is kept decides all, now and after whatever comes later
+-- what is kept decides all, now and after any later events
 abbrev pub KeptDecides : {S : Type 0} → Taking S → Type 0
 KeptDecides {S} taken =
     (opening : S) (ds later : List Delivery) → DecidesSame taken opening (kept ds ++ later) (ds ++ later)

@@ -69,10 +69,10 @@ InterchangesAreTakenAlike =
     → IsWhole machine.terminal → MayStay stays machine.terminal.visits
     → IsTakenAlike stays version machine partner text
 
--- ---- what the parts tell
+-- ---- what the parts say
 
--- Of a number that is closed the archives tell text and reply, and the store has nothing under it; of any other the
--- store tells both.
+-- Of a number that is closed the archives have text and reply, and the store has nothing under it; of any other the
+-- store has both.
 pub record IsTold (content : SetupContent) (es : List Event) (archived : Archived) (own : Rows) (partner number : ℕ)
     : Type 0 where
   pub own_text : archived.last_closed partner < number →
@@ -152,7 +152,7 @@ EarlyAddsToParts =
     (with_waiting partner number (interchange_of sent) own) (with_waiting partner number (interchange_of sent) whole)
 
 -- it is taken by the whole's texts and at the whole machine too; what was taken is written to the store, and the parts are
--- those after the delivery; beside the store stands its own machine
+-- those after the delivery; beside the store is its own machine
 pub record AddsToParts (content : SetupContent) (es : List Event) (archived : Archived) (own whole : Rows)
     (sent : List ℕ) (partner number : ℕ) (taken : List TakenContent) (there : MachineState) : Type 0 where
   pub machine : MachineState
@@ -226,7 +226,7 @@ OwnAreBeyond =
     ArePartsAfter content es archived own whole → rows_beyond archived.last_closed own ≡ own
 
 -- what the interchanges of a store show, in order, is beyond what is closed what is looked for, whichever closed ones
--- still stand there
+-- are still there
 abbrev pub OwnNumbersAreKept : Type 0
 OwnNumbersAreKept =
     (content : SetupContent) (es : List Event) (archived : Archived) (own whole rows : Rows) (db : Database) →
@@ -242,7 +242,7 @@ OwnVisitsGoOn =
     ((number : ℕ) → newest_closed < number → archived.stays number ≡ true)
     → AreOwnVisits newest_closed own.visits
 
--- Whatever closed interchanges still stand in the store, its tables show what every store is checked for, where those
+-- With any closed interchanges still in the store, its tables show what every store is checked for, where those
 -- numbers are closed and each visit after the newest closing stays: the set-up with the accounts so far, and the
 -- store's own terminal. The rows are of the whole, and none has the partner and the number of another.
 abbrev pub OwnRowsAreOwnOffice : Type 0

@@ -14,7 +14,7 @@ use Rattle.office_parts.specs.ListLaws.{NameOwnLists}
 use Rattle.office_parts.specs.OwnLists.{ListName, without_lists, machine_without, rows_without_lists}
 
 -- It is taken with the lists that were put away as without them. What was taken is written to the rows without them;
--- with them these are parts of the whole after the delivery, and beside them stands the store's own machine without them.
+-- with them these are parts of the whole after the delivery, and beside them is the store's own machine without them.
 pub record AddsWithoutLists (content : SetupContent) (es : List Event) (archived : Archived) (own whole : Rows)
     (away : ListName → Bool) (sent : List ℕ) (partner number : ℕ) (taken : List TakenContent) (there : MachineState)
     : Type 0 where
@@ -42,7 +42,7 @@ NextAddsWithoutLists =
     (machine_without away (own_machine archived.stays (machine_after content es))) taken there
     → AddsWithoutLists content es archived own whole away sent partner number taken there
 
--- Whatever closed interchanges still stand in the store, its tables show what every store is checked for, where those
+-- With any closed interchanges still in the store, its tables show what every store is checked for, where those
 -- numbers are closed and each visit after the newest closing stays: the set-up with the accounts so far, and the store's
 -- own terminal without the lists that were put away. The interchanges are of the whole, and none has the partner and the
 -- number of another.

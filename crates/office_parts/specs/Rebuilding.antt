@@ -21,14 +21,14 @@ pub record HasSameJournal (one : SetupContent) (es : List Event) (other : SetupC
   pub setup : content_after one es ≡ content_after other fs
   pub texts : kept_texts one es ≡ kept_texts other fs
 
--- are the same office, now and after whatever comes later
+-- are the same office, now and after any later events
 abbrev pub JournalDecides : Type 0
 JournalDecides =
     (one other : SetupContent) (es fs later : List Event) →
     HasNoMigration (es ++ later) → HasNoMigration (fs ++ later) → HasSameJournal one es other fs
     → IsSameOffice one (es ++ later) other (fs ++ later)
 
--- Whatever came, and whatever comes later: a new office, set up with the accounts so far, to which the journal is
+-- After any events, and any later ones: a new office, set up with the accounts so far, to which the journal is
 -- delivered, is the same.
 abbrev pub Rebuilding : Type 0
 Rebuilding =

@@ -78,7 +78,7 @@ OthersStayAway =
     (brings : BringsBack content es archived away list back own) → AreAway archives away content es own
     → AreAway archives (all_but list away) content es brings.most
 
--- ---- what the store's terminal tells of it
+-- ---- what the store's terminal says of it
 
 -- a list that is away has no line there
 abbrev pub NoLineIsAway : Type 0
