@@ -155,7 +155,7 @@ pub says_of : (accounts : List AccountPair) (code kind : List ℕ) (said : Accou
 says_of accounts code kind said answer is says = subst (λ s. Says s code answer) (sym is) says
 
 module _ {S : Type 0} (g : Ghosts S) (content : SetupContent) (es : List Event) (code kind : List ℕ) where
-  -- the accounts of a desk that stands there are those so far
+  -- the accounts of a desk that is there are those so far
   pub says_now : (desk : Desk S g) (answer : AccountAnswer) → StandsFor g content es desk → Says (account_answer (setup_content desk.setup).partners code kind) code answer → AnswersAccount content es code kind answer
   says_now desk answer stands says = subst (λ (k : SetupContent). Says (account_answer k.partners code kind) code answer) (sym stands.now_is) says
 

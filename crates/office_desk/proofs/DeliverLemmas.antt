@@ -88,7 +88,7 @@ module _ {S : Type 0} (g : Ghosts S) (content : SetupContent) (es : List Event) 
   abbrev parties : Parties
   parties = parties_in (content_after content es)
 
-  -- the accounts of a desk that stands there are those so far
+  -- the accounts of a desk that is there are those so far
   pub parties_now : (desk : Desk S g) → StandsFor g content es desk → parties_of desk.setup ≡ parties
   parties_now desk stands = parties_same desk.setup ∙ ap parties_in (sym stands.now_is)
 
@@ -269,7 +269,7 @@ module _ (closed : ClosedContent) (content : SetupContent) (rows : Rows) (its : 
       let inside = Contains-permutation _ rows.partners account.0 (IsPermutation-sym _ _ its.by_id) account.1 in
       (account.0, contains_had _ account.0 (has_kept (has_id p) rows.partners account.0 (has_contained _ account.0 inside) (eq-eqb account.0.id p account.2)), account.3)
 
-  -- the number that stands at a partner's place is its next
+  -- the number that is at a partner's place is its next
   pub next_at : (nexts : List ℕ) (p next : ℕ) → 1 ≤ p → p ≤ length content.partners → AreNexts rows nexts → with_number nexts p ≡ Some next → IsNextOf p rows next
   next_at nexts p next one most are is =
       let here : next ≡ its.runs p + 1 =
@@ -278,7 +278,7 @@ module _ (closed : ClosedContent) (content : SetupContent) (rows : Rows) (its : 
 
 -- ==== OfficeLemmas: What holds of the rows of an office, whether or not deliveries led to them.
 
--- ---- what stands beside the rows
+-- ---- what is beside the rows
 
 -- what there is stays
 pub same_beside : (closed : ClosedContent) (db : Database) (there : Option Beside) → StaysBeside closed db there there
@@ -290,7 +290,7 @@ none_beside closed db before = record { events = λ content es rows given has af
 
 -- ---- the office
 
--- the same rows hold the same office, with what stands beside them or without
+-- the same rows hold the same office, with what is beside them or without
 pub office_with : (closed : ClosedContent) (content : SetupContent) (rows : Rows) (terminal : TerminalState) (db db' : Database) (there there' : Option Beside) → db' ≡ db → IsOrNone rows terminal there' →
     HoldsOffice closed content rows terminal db there → HoldsOffice closed content rows terminal db' there'
 office_with closed content rows terminal db db' there there' same beside holds = record {

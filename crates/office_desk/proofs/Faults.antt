@@ -160,9 +160,9 @@ asked_unfit closed content rows its query.Health lacks = absurd (numbers_fit clo
 asked_unfit closed content rows its query.Metrics lacks = absurd (numbers_fit closed content rows its lacks)
 asked_unfit closed content rows its others lacks = absurd lacks
 
--- ==== OrderLemmas: Interchanges that stand in the order of arrival, after one event more.
+-- ==== OrderLemmas: Interchanges that are in the order of arrival, after one event more.
 
--- what is held, with the rows that stand in order
+-- what is held, with the rows that are in order
 abbrev pub held_in_order : {content : SetupContent} {es : List Event} {now : SetupContent} {db : Database} {there : Option Beside} → Holds content es now db there → IsInOrder content es db → Holds content es now db there
 held_in_order holds order = record { given = holds.given; now_is = holds.now_is; rows = order.rows; has = order.has.has; after = order.after.after; beside = holds.beside }
 
@@ -265,7 +265,7 @@ account_in_order content es code kind own id rows db named is after has = record
   after = account_stays_in_order content es rows code kind own id after named is;
 }
 
--- ==== ReportLemmas: What the tables tell of an interchange, as reports tell it.
+-- ==== ReportLemmas: What the tables say of an interchange, as reports say it.
 
 pub no_reply : (partner number : ℕ) (rows : Rows) → IsKept partner number rows None → reply_in rows partner number ≡ None
 no_reply partner number rows none = ap (option_and_then (λ (i : Interchange). reply_if_any i.reply)) (none_kept partner number rows none)

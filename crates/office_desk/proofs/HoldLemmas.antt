@@ -228,7 +228,7 @@ number_at partner texts number old new (x ∷ items) (suc k) d taken low =
 
 -- ==== HoldLemmas: What the desk holds after each delivery.
 
--- ---- what the rows tell
+-- ---- what the rows say
 
 reply_is : (reply : Option (String Global)) (text : List ℕ) → RepliesAs reply text → reply_if_any text ≡ option_map string_bytes reply
 reply_is None text is = ap reply_if_any is
@@ -274,7 +274,7 @@ module _ (content : SetupContent) (es : List Event) (rows : Rows) (sent : List �
 
 -- ---- what is held
 
--- the same, in a database that has the same rows, with what stands beside them there
+-- the same, in a database that has the same rows, with what is beside them there
 abbrev pub held_with : {content : SetupContent} {es : List Event} {now : SetupContent} {db : Database} {there : Option Beside} (holds : Holds content es now db there) (db' : Database) (there' : Option Beside) →
     HasRows holds.rows db' → IsBeside content es there' → Holds content es now db' there'
 held_with holds db' there' has beside = record { given = holds.given; now_is = holds.now_is; rows = holds.rows; has = has; after = holds.after; beside = beside }

@@ -271,7 +271,7 @@ early_or_stays closed content old d code (Ok response) was end there next holds 
 early_or_stays closed content old d code (Err fault) was end there next holds is_next free later high one most told wrote same why =
     (of_store_or _ fault why, office_with closed content old.rows old.terminal was.committed end.committed (Some there) (Some there) same holds.beside holds)
 
--- ==== RebuiltLemmas: Desks that stand in the order of arrival, and the office that their texts make again.
+-- ==== RebuiltLemmas: Desks that are in the order of arrival, and the office that their texts make again.
 
 -- ---- a new store
 
@@ -386,7 +386,7 @@ module _ (content : SetupContent) (es : List Event) (none : HasNoMigration es) w
     nexts = beside.nexts ∙ nexts_same now content again_all es rows are (same_office.back rows are);
   }
 
-  -- a desk that stands at the journal, delivered again, stands at the events
+  -- a desk that is at the journal, delivered again, is at the events
   pub stands_again : {S : Type 0} (g : Ghosts S) (desk : Desk S g) → IsGiven content → StandsInOrder g now again_all desk → StandsInOrder g content es desk
   stands_again g desk given is =
       let stands = is.stands in

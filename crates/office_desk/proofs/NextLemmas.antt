@@ -27,7 +27,7 @@ none_in partner number rows once free = at (pair_of partner number rows) refl
         let there : text_in rows partner number ≡ Some i.body = ap (option_map (λ (x : Interchange). x.body)) (one_kept partner number rows i once inside) in
         let never : Some i.body ≡ None = sym there ∙ free in cc
 
--- what any rows keep, those keep that this stands beside
+-- what any rows keep, those keep that this is beside
 pub read_beside : (closed : ClosedContent) (partner number : ℕ) (db : Database) (there : Beside) (kept : Option Kept) → ((rows : Rows) → HasRows rows db → IsKept partner number rows kept) → KeepsBeside closed partner number db there kept
 read_beside closed partner number db there kept each = record { events = λ content es rows has after at. each rows has; office = λ content rows terminal holds. each rows holds.has }
 

@@ -160,7 +160,7 @@ module _ (closed : ℕ → ℕ) (count : ℕ) (runs : ℕ → ℕ) (rows : Rows)
       let its = keeps.range i pair.0 in
       (omega (arith, its.0, pair.1), omega (arith, its.1, pair.1), omega (arith, its.2, pair.2), omega (arith, its.3, pair.2))
 
-  -- what stands beyond a partner's run waits
+  -- what is beyond a partner's run waits
   beyond_run : (p k : ℕ) (i : Interchange) → Found p k (Some i) → runs p < k → (i.partner ≡ p) × (i.number ≡ k) × IsBeyond closed count runs (number_kept i)
   beyond_run p k i e far =
       let pair = found_pair rows p k i e in

@@ -155,7 +155,7 @@ early_loads closed content rows p k text terminal db db' has loads has' one most
 
 -- ---- interchanges, one after the other
 
--- the machine is sound as that of a store is whose newest closing was that, and stands on the ground of the first
+-- the machine is sound as that of a store is whose newest closing was that, and has the plan and limit of the first
 pub record StandsOn (newest_closed : ℕ) (first machine : MachineState) : Type 0 where
   pub ground : OnGround first.terminal machine.terminal
   pub few : length machine.kinds ≤ 999

@@ -34,7 +34,7 @@ abbrev pub AnswersAccount : SetupContent → List Event → List ℕ → List �
 AnswersAccount content es code kind answer =
     Says (account_answer (content_after content es).partners code kind) code answer
 
--- ---- what stands beside the rows
+-- ---- what is beside the rows
 
 -- with the number 1 for one partner more, or none as before
 abbrev pub IsLengthened : (old new : Option Beside) → Type 0
@@ -49,7 +49,7 @@ IsSameOrNone old new = (new ≡ old) ⊎ (new ≡ None)
 
 -- ---- what is left
 
--- whatever rows it has: an account that is added is one in the set-up, in the rows and beside them; what is refused or
+-- with any rows: an account that is added is one in the set-up, in the rows and beside them; what is refused or
 -- known changes nothing at all; NotNow leaves the set-up and the rows, and beside them what was there or nothing
 abbrev pub AddsOver : {S : Type 0} (g : Ghosts S) (old : Desk S g) → List ℕ → List ℕ → AccountAnswer → Desk S g → Type 0
 AddsOver g old code kind (Added id body) new =
@@ -64,14 +64,14 @@ AddsOver g old code kind NotNow new =
 AddsOver g old code kind answer new =
     (new.conn ≡ old.conn) × (new.setup ≡ old.setup) × (new.beside ≡ old.beside)
 
--- what is added stands, and what is answered NotNow is there whole or not at all
+-- what is added stays, and what is answered NotNow is there whole or not at all
 abbrev pub LeavesAdded : SetupContent → List Event → List ℕ → List ℕ → AccountAnswer → State → Type 0
 LeavesAdded content es code kind (Added id body) s = Leaves content (es ++ added code kind ∷ []) s
 LeavesAdded content es code kind NotNow s =
     (db : Trees) → s.may_leave db → IsAfter content es db ⊎ IsAfter content (es ++ added code kind ∷ []) db
 LeavesAdded content es code kind answer s = Leaves content es s
 
--- of whatever rows were committed: with an account that is added a crash leaves only those with it; NotNow leaves these
+-- of any rows that were committed: with an account that is added a crash leaves only those with it; NotNow leaves these
 -- or the old ones; any other answer leaves the old ones
 abbrev pub LeavesAddedOver : List AccountPair → Rows → List ℕ → List ℕ → AccountAnswer → State → Type 0
 LeavesAddedOver accounts rows code kind (Added id body) s =

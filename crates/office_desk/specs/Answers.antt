@@ -23,7 +23,7 @@ abbrev pub repeat_answer : List ℕ → ℕ → List ℕ → AnswerContent
 repeat_answer code number reply =
     answer_with kinds.Repeat 200 (answer_text (codes "repeat") number code reply) worst.Fine
 
--- what the runs tell of a number of the partner with a code
+-- what the runs say of a number of the partner with a code
 abbrev pub answer_by_model : List ℕ → ℕ → AnswerModel → AnswerContent
 answer_by_model code number (told.Taken reply) = taken_answer code number (unwrap_or reply [])
 answer_by_model code number (told.Repeat reply) = repeat_answer code number (unwrap_or reply [])

@@ -1,4 +1,4 @@
--- When what stands in memory is beside the rows of the tables.
+-- When what is in memory is beside the rows of the tables.
 use Rattle.std.specs.Prelude.{◌≡◌, ℕ, ◌+◌, List, length, map, Option, None, Some}
 use Rattle.std.specs.List.{range_with_len}
 use Rattle.partner_core.specs.Deliveries.{run}

@@ -26,7 +26,7 @@ LeavesEither content es sent s =
 abbrev pub LeavesNoMore : State → State → Type 0
 LeavesNoMore old new = (db : Trees) → new.may_leave db → old.may_leave db
 
--- what is answered stands, and a delivery that is answered NotNow is there whole or not at all
+-- what is answered stays, and a delivery that is answered NotNow is there whole or not at all
 abbrev pub LeavesBehind : SetupContent → List Event → List ℕ → Response → State → Type 0
 LeavesBehind content es sent response.NotNow s = LeavesEither content es sent s
 LeavesBehind content es sent given s = Leaves content (es ++ delivered sent ∷ []) s

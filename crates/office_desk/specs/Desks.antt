@@ -1,4 +1,4 @@
--- Where a desk stands, and what it answers.
+-- Where a desk is, and what it answers.
 use Rattle.std.specs.Prelude.{◌≡◌, ℕ, List, Err, IsTrue}
 use Rattle.sqlite.specs.{Held.state, State.HasCleanDisk}
 use Rattle.sqlite_trees.specs.declared.store.Store.{Ghosts}
@@ -17,7 +17,7 @@ abbrev pub StandsFor : {S : Type 0} (g : Ghosts S) → SetupContent → List Eve
 StandsFor g content es desk = Holds content es (setup_content desk.setup) (state g desk.conn).committed desk.beside
 
 -- a desk that was opened on the rows after those events: its set-up says the same as the opening one with the accounts
--- so far, it stands there for an opening set-up that says the same, and a crash leaves these rows
+-- so far, it is there for an opening set-up that says the same, and a crash leaves these rows
 pub record OpensAt {S : Type 0} (g : Ghosts S) (content : SetupContent) (es : List Event)
     (desk : Desk S g) : Type 0 where
   pub says : SaysSame (setup_content desk.setup) (content_after content es)

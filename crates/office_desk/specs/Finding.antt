@@ -11,7 +11,7 @@ use Rattle.office_tables.specs.declared.table_fault.TableFault.{TableFault}
 use Rattle.office_history.specs.After.{AreAfter}
 use Rattle.office_desk.specs.{Beside.IsAt, Beside.IsBeside, Beside.IsOrNone, Offices.HoldsOffice, declared.beside.Beside.Beside, declared.taking.Found.Found}
 
--- whatever rows the database has, what stands beside them in the end is theirs if what stood there before was: of those
+-- with any rows in the database, what is beside them in the end is theirs if what was there before was: of those
 -- after some events, and of those of an office
 pub record StaysBeside (closed : ClosedContent) (db : Database) (before after : Option Beside) : Type 0 where
   pub events : (content : SetupContent) (es : List Event) (rows : Rows) → IsGiven content → HasRows rows db →
@@ -19,7 +19,7 @@ pub record StaysBeside (closed : ClosedContent) (db : Database) (before after : 
   pub office : (content : SetupContent) (rows : Rows) (terminal : TerminalState) →
       HoldsOffice closed content rows terminal db before → IsOrNone rows terminal after
 
--- whatever rows the database has, this is what they keep under the partner's number, if that stands beside them: rows
+-- with any rows in the database, this is what they keep under the partner's number, if that is beside them: rows
 -- after some events, and rows of an office
 pub record KeepsBeside (closed : ClosedContent) (partner number : ℕ) (db : Database) (there : Beside)
     (kept : Option Kept) : Type 0 where
@@ -33,14 +33,14 @@ abbrev pub IsOpenIfKept : Option Kept → State → Type 0
 IsOpenIfKept None s = Unit {0}
 IsOpenIfKept (Some kept) s = IsTrue s.is_open
 
--- what was found under the partner's number is what the rows keep, if what stands beside them in the end is theirs, as it
--- is if what stood there before was
+-- what was found under the partner's number is what the rows keep, if what is beside them in the end is theirs, as it
+-- is if what was there before was
 pub record IsFound (closed : ClosedContent) (partner number : ℕ) (db : Database) (before : Option Beside)
     (found : Found) : Type 0 where
   pub kept : KeepsBeside closed partner number db found.there found.kept
   pub beside : StaysBeside closed db before (Some found.there)
 
--- nothing was found: what stands beside the rows stays; and if they are those of an office that has the partner, the store
+-- nothing was found: what is beside the rows stays; and if they are those of an office that has the partner, the store
 -- failed, or memory was refused, or the reply that they keep under the number is no text
 pub record IsNotFound (closed : ClosedContent) (partner number : ℕ) (db : Database) (before : Option Beside)
     (fault : TableFault) (after : Option Beside) : Type 0 where

@@ -36,7 +36,7 @@ pub record IsRunTaken (content : SetupContent) (d : Delivery) (told : AnswerMode
   pub rows : new.rows ≡ with_run d.partner d.number d.text (first ∷ later) old.rows
   pub is_told : told ≡ Taken (Some first.reply)
 
--- how it stands to what is kept, and to its partner's next number
+-- its relation to what is kept, and to its partner's next number
 abbrev pub standing_in : Office → Delivery → (next : ℕ) → Standing
 standing_in old d next = standing_of next d.number (text_in old.rows d.partner d.number) d.text
 

@@ -1,4 +1,4 @@
--- What a desk tells of whatever is looked at: a report, a page of the kept texts, or an archive's report.
+-- What a desk shows for any look: a report, a page of the kept texts, or an archive's report.
 use Rattle.std.specs.Prelude.{◌≡◌, ℕ, List, Option, None}
 use Rattle.sqlite.specs.{Effect.Database, Held.state, State.State}
 use Rattle.sqlite_trees.specs.declared.store.Store.{Ghosts}
@@ -29,9 +29,9 @@ pub record HandsAfter (content : SetupContent) (es : List Event) (from : ℕ) (f
   pub after : AreAfter content es rows
   pub pages : PagesOf db from found
 
--- ---- whatever is looked at
+-- ---- any look
 
--- what the desk tells of it; of its store nothing was put away, so no archive tells anything
+-- what the desk shows for it; of its store nothing was put away, so no archive shows anything
 abbrev pub DeskShows : {S : Type 0} (g : Ghosts S) → Desk S g → Look → Option (List ℕ) → Type 0
 DeskShows g desk (report query) found = DeskTells g desk query found
 DeskShows g desk (texts_after from) found = DeskHands g desk from found
@@ -43,7 +43,7 @@ ShowsAfter content es (report query) found = TellsAfter content es query found
 ShowsAfter content es (texts_after from) found = HandsAfter content es from found
 ShowsAfter content es (of_archive place query) found = found ≡ None
 
--- the reply that it tells of is no text; a page of texts is reported whatever their bytes are
+-- the reply that it reports is no text; a page of texts is reported with any bytes
 abbrev pub ShowsUnfitReply : SetupContent → Rows → Look → Type 0
 ShowsUnfitReply content rows (report query) = AsksUnfitReply content rows query
 ShowsUnfitReply content rows (texts_after from) = ⊥

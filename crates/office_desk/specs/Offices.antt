@@ -10,7 +10,7 @@ use Rattle.office_tables.specs.{Faults.IsOfStore, Reading.Reads, declared.table_
 use Rattle.office_desk.specs.{Beside.IsOrNone, declared.beside.Beside.Beside, declared.desk.Desk.Desk}
 
 -- the database has these rows, which show the office of a store of which that is closed, with that set-up and that
--- terminal; what stands beside them is this terminal and the rows' numbers, or there is none
+-- terminal; what is beside them is this terminal and the rows' numbers, or there is none
 pub record HoldsOffice (closed : ClosedContent) (content : SetupContent) (rows : Rows) (terminal : TerminalState)
     (db : Database) (there : Option Beside) : Type 0 where
   pub has : HasRows rows db
@@ -23,8 +23,8 @@ DeskHolds g desk rows terminal =
     HoldsOffice (closed_content desk.closed) (setup_content desk.setup) rows terminal (state g desk.conn).committed
     desk.beside
 
--- a desk that was opened on a store: its set-up and what stands beside it are those that the store's tables show, so it
--- holds whatever rows they have; and opening changed nothing
+-- a desk that was opened on a store: its set-up and what is beside it are those that the store's tables show, so it
+-- holds any rows that they have; and opening changed nothing
 pub record OpensOffice {S : Type 0} (g : Ghosts S) (found : State) (desk : Desk S g) : Type 0 where
   pub there : Beside
   pub beside : desk.beside ≡ Some there

@@ -1,4 +1,4 @@
--- Interchanges that stand in the order of arrival: what a call makes of them, and what a crash leaves.
+-- Interchanges that are in the order of arrival: what a call makes of them, and what a crash leaves.
 use Rattle.std.specs.Prelude.{◌⊎◌, ℕ, List, [], ◌∷◌, ◌++◌, Result, Ok, Err, OnErr, OnOk, Option, IsTrue}
 use Rattle.sqlite.specs.{Effect.Database, Held.state, State.State, State.HasCleanDisk, Tree.Trees}
 use Rattle.sqlite_trees.specs.declared.store.Store.{Ghosts}
@@ -41,7 +41,7 @@ LeavesEitherInOrder content es event s =
 
 -- ---- a call to a desk
 
--- for that opening set-up, after those events, it is this desk, and its interchanges stand in the order of arrival
+-- for that opening set-up, after those events, it is this desk, and its interchanges are in the order of arrival
 pub record StandsInOrder {S : Type 0} (g : Ghosts S) (content : SetupContent) (es : List Event) (desk : Desk S g)
     : Type 0 where
   pub stands : StandsFor g content es desk
@@ -58,7 +58,7 @@ LeavesAddedInOrder content es code kind (account.Added id body) s = LeavesInOrde
 LeavesAddedInOrder content es code kind account.NotNow s = LeavesEitherInOrder content es (added code kind) s
 LeavesAddedInOrder content es code kind answer s = LeavesInOrder content es s
 
--- A text was delivered. If the interchanges stood in the order of arrival, they do with this delivery; as before, if it is
+-- A text was delivered. If the interchanges were in the order of arrival, they are with this delivery; as before, if it is
 -- answered NotNow. A crash leaves none out of order.
 pub record DeliversInOrder {S : Type 0} (g : Ghosts S) (old : Desk S g) (sent : List ℕ) (response : Response)
     (new : Desk S g) : Type 0 where

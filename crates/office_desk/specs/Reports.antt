@@ -1,4 +1,4 @@
--- What the desk tells: the reports of the rows that it holds.
+-- What the desk reports: the reports of the rows that it holds.
 use Rattle.std.specs.Prelude.{◌≡◌, ℕ, ◌+◌, ◌-◌, List, [], ◌∷◌, Option, None, Some, IsTrue, codes, decimal, option_and_then, slice_get, string_bytes}
 use Rattle.std.specs.List.Sorted.{IsPermutation}
 use Rattle.sqlite.specs.{Held.state, State.State}
@@ -77,12 +77,12 @@ AreLookedUp rows id (account ∷ accounts) [] = ⊥
 AreLookedUp rows id (account ∷ accounts) (partner ∷ partners) =
     IsLookedUp rows id account partner × AreLookedUp rows (id + 1) accounts partners
 
--- the text tells of each account, in the order of the ids
+-- the text has each account, in the order of the ids
 abbrev pub TellsPartners : Rows → List (List ℕ × PartnerKind) → (found : Option (List ℕ)) → Type 0
 TellsPartners rows accounts found =
     (partners : List PartnerContent) × AreLookedUp rows 1 accounts partners × (found ≡ Some (partners_text partners))
 
--- the text tells of the account under that id, as the report on all partners does; of none there is nothing to tell
+-- the text has the account under that id, as the report on all partners does; of none there is no report
 abbrev pub TellsPartner : Rows → List (List ℕ × PartnerKind) → Option ℕ → (found : Option (List ℕ)) → Type 0
 TellsPartner rows accounts None found = found ≡ None
 TellsPartner rows accounts (Some id) found =
@@ -104,7 +104,7 @@ TellsMetrics content state rows found =
 
 -- ---- all reports
 
--- the text, if there is one, is what the rows tell at the query, which are those of that set-up and of that terminal
+-- the text, if there is one, is what the rows say at the query, which are those of that set-up and of that terminal
 abbrev pub TellsOf : SetupContent → TerminalState → Rows → Query → Option (List ℕ) → Type 0
 TellsOf content state rows query.Yard found = (text : List ℕ) × (found ≡ Some text) × IsYardReport state text
 TellsOf content state rows query.YardTable found = (text : List ℕ) × (found ≡ Some text) × IsYardExport state text
@@ -134,15 +134,15 @@ abbrev pub IsOpenFor : Query → State → Type 0
 IsOpenFor query.Health s = IsTrue s.is_open
 IsOpenFor other s = Unit {0}
 
--- what the rows after those events tell
+-- what the rows after those events say
 pub record TellsAfter (content : SetupContent) (es : List Event) (query : Query)
     (found : Option (List ℕ)) : Type 0 where
   pub rows : Rows
   pub after : AreAfter content es rows
   pub tells : TellsOf (content_after content es) (machine_after content es).terminal rows query found
 
--- what the desk tells, whatever rows it has: those after events tell what the rows after that tell; those of any
--- office tell what they are
+-- what the desk says, with any rows: those after events say what the rows after that say; those of any
+-- office say what they are
 pub record DeskTells {S : Type 0} (g : Ghosts S) (desk : Desk S g) (query : Query)
     (found : Option (List ℕ)) : Type 0 where
   pub after : (content : SetupContent) (es : List Event) →

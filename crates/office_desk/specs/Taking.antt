@@ -1,4 +1,4 @@
--- What taking a delivery in does to the tables, and to what stands beside them.
+-- What taking a delivery in does to the tables, and to what is beside them.
 use Rattle.std.specs.Prelude.{◌≡◌, ◌⊎◌, ℕ, ◌≤◌, List, [], ◌∷◌, ◌++◌, Option, None, Result, Ok, Err, IfErr, IfOk, IsTrue, OnErr}
 use Rattle.sqlite.specs.{Effect.Database, State.State, State.HasCleanDisk, Tree.Trees}
 use Rattle.edi_syntax.specs.Numbers.{last_number}
@@ -21,7 +21,7 @@ pub record IsDelivered (setup : Setup) (d : Delivered) : Type 0 where
   pub number : d.number ≤ last_number
   pub admitted : IsAdmitted setup d.text.now d.admitted
 
--- no change is under way, and the rows that this stands beside keep nothing under its number
+-- no change is under way, and the rows that this is beside keep nothing under its number
 pub record IsNew (closed : ClosedContent) (d : Delivery) (there : Beside) (s : State) : Type 0 where
   pub settled : s.now ≡ s.committed
   pub free : KeepsBeside closed d.partner d.number s.committed there None

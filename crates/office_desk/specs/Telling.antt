@@ -32,7 +32,7 @@ pub record IsRunDone (rows : Rows) (d : Delivery) (old : MachineState) (db : Tre
   pub are : StoresRows (with_run d.partner d.number d.text taken rows) db
 
 -- for that opening set-up, after those events: with the accounts so far it is the set-up of now, the database has the
--- rows, and what stands beside it is at them
+-- rows, and what is beside it is at them
 pub record Holds (content : SetupContent) (es : List Event) (now : SetupContent) (db : Database) (there : Option Beside)
     : Type 0 where
   pub given : IsGiven content

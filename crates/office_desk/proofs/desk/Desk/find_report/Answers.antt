@@ -14,7 +14,7 @@ use Rattle.office_tables.specs.DeliveryReading.{IsSame}
 use Rattle.office_desk.specs.{Beside.IsBeside, Beside.IsOrNone, Finding.StaysBeside, Offices.HoldsOffice, Reports.TellsOf}
 use Rattle.office_desk.proofs.desk.Desk.find_report.Goals as goal
 
--- What stands beside the rows, or is loaded from them, is at the deliveries.
+-- What is beside the rows, or is loaded from them, is at the deliveries.
 pub returns-clause-told : goal.returns-clause-told
 returns-clause-told g c = λ sound.
     let own = c.args.self.now.setup in
@@ -82,7 +82,7 @@ returns-clause-looks g c =
       clean = λ clean. was_clean first (was_clean reads clean);
     }
 
--- What stands beside the rows is given up where it could not be loaded.
+-- What is beside the rows is given up where it could not be loaded.
 pub returns-in_err-there-clause-looks : goal.returns-in_err-there-clause-looks
 returns-in_err-there-clause-looks g c =
     let content = setup_content c.args.self.now.setup in
