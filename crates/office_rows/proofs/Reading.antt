@@ -228,15 +228,15 @@ empty_with (t ∷ tables) last old new kept empty none = (kept.0 ∙ empty.0, em
 
 -- a statement that makes a table, where these tables are and each is empty
 module _ (sql : List ℕ) (before : List Table) (table : Table)
-    (is : (command_of (understood (schema_of before) sql) ≡ CreateTable) × (statement_of sql (understood (schema_of before) sql) ≡ sql))
-    (is_plain : IsPlain (understood (schema_of before) sql)) (defined : table_defined_by sql ≡ Ok table)
+    (is : (command_of (understood (schema_of before) sql) ≡ CreateTable) × (statement_of sql (understood (schema_of before) sql) ≡ sql) × IsPlain (understood (schema_of before) sql))
+    (defined : table_defined_by sql ≡ Ok table)
     (tables : (schema_of before).tables ≡ before) (uncounted : lacks_sequence (created (schema_of before) table) ≡ false) where
   table_created : (old new : State) (count : ℕ) → HasEmpty before old.now → Executes sql [] old new (Ok count)
       → (new.now.schema ≡ created (schema_of before) table)
       × AllByRecursion (λ (t : Table). new.now.trees t.tree ≡ []) (before ++ (record table { tree = next_tree (schema_of before) }) ∷ [])
       × IsDatabase new.now
   table_created old new count has h =
-      let w = subst (λ t. Writes old new None CreateTable t [] count) is.1 (runs_as sql [] old new (schema_of before) has.schema CreateTable is.0 is_plain count h) in
+      let w = subst (λ t. Writes old new None CreateTable t [] count) is.1 (runs_as sql [] old new (schema_of before) has.schema CreateTable is.0 is.2 count h) in
       let all = went w.changed in
       let first = went all.1 in
       let made = first.1 in
@@ -258,35 +258,35 @@ module _ (sql : List ℕ) (before : List Table) (table : Table)
 module _ (old new : State) (count : ℕ) where
   pub created_partner : HasEmpty ([]) old.now → Executes texts.create_partner [] old new (Ok count) → HasEmpty (partner_table ∷ []) new.now
   created_partner has h =
-      let made = table_created texts.create_partner ([]) (record partner_table { tree = 0 }) texts.create_partner_is texts.create_partner_plain texts.partner_defined refl refl old new count has h in
+      let made = table_created texts.create_partner ([]) (record partner_table { tree = 0 }) texts.create_partner_is texts.partner_defined refl refl old new count has h in
       record { schema = made.0; empty = made.1 }
 
   pub created_interchange : HasEmpty (partner_table ∷ []) old.now → Executes texts.create_interchange [] old new (Ok count) → HasEmpty (partner_table ∷ interchange_table ∷ []) new.now
   created_interchange has h =
-      let made = table_created texts.create_interchange (partner_table ∷ []) (record interchange_table { tree = 0 }) texts.create_interchange_is texts.create_interchange_plain texts.interchange_defined refl refl old new count has h in
+      let made = table_created texts.create_interchange (partner_table ∷ []) (record interchange_table { tree = 0 }) texts.create_interchange_is texts.interchange_defined refl refl old new count has h in
       record { schema = made.0; empty = made.1 }
 
   pub created_visit : HasEmpty (partner_table ∷ interchange_table ∷ []) old.now → Executes texts.create_visit [] old new (Ok count) → HasEmpty (partner_table ∷ interchange_table ∷ visit_table ∷ []) new.now
   created_visit has h =
-      let made = table_created texts.create_visit (partner_table ∷ interchange_table ∷ []) (record visit_table { tree = 0 }) texts.create_visit_is texts.create_visit_plain texts.visit_defined refl refl old new count has h in
+      let made = table_created texts.create_visit (partner_table ∷ interchange_table ∷ []) (record visit_table { tree = 0 }) texts.create_visit_is texts.visit_defined refl refl old new count has h in
       record { schema = made.0; empty = made.1 }
 
   pub created_place : HasEmpty (partner_table ∷ interchange_table ∷ visit_table ∷ []) old.now → Executes texts.create_place [] old new (Ok count) → HasEmpty (partner_table ∷ interchange_table ∷ visit_table ∷ place_table ∷ []) new.now
   created_place has h =
-      let made = table_created texts.create_place (partner_table ∷ interchange_table ∷ visit_table ∷ []) (record place_table { tree = 0 }) texts.create_place_is texts.create_place_plain texts.place_defined refl refl old new count has h in
+      let made = table_created texts.create_place (partner_table ∷ interchange_table ∷ visit_table ∷ []) (record place_table { tree = 0 }) texts.create_place_is texts.place_defined refl refl old new count has h in
       record { schema = made.0; empty = made.1 }
 
   pub created_listed : HasEmpty (partner_table ∷ interchange_table ∷ visit_table ∷ place_table ∷ []) old.now → Executes texts.create_listed [] old new (Ok count) → HasEmpty (partner_table ∷ interchange_table ∷ visit_table ∷ place_table ∷ listing_table ∷ []) new.now
   created_listed has h =
-      let made = table_created texts.create_listed (partner_table ∷ interchange_table ∷ visit_table ∷ place_table ∷ []) (record listing_table { tree = 0 }) texts.create_listed_is texts.create_listed_plain texts.listed_defined refl refl old new count has h in
+      let made = table_created texts.create_listed (partner_table ∷ interchange_table ∷ visit_table ∷ place_table ∷ []) (record listing_table { tree = 0 }) texts.create_listed_is texts.listed_defined refl refl old new count has h in
       record { schema = made.0; empty = made.1 }
 
   pub created_setting : HasEmpty (partner_table ∷ interchange_table ∷ visit_table ∷ place_table ∷ listing_table ∷ []) old.now → Executes texts.create_setting [] old new (Ok count) → HasEmpty (partner_table ∷ interchange_table ∷ visit_table ∷ place_table ∷ listing_table ∷ setting_table ∷ []) new.now
   created_setting has h =
-      let made = table_created texts.create_setting (partner_table ∷ interchange_table ∷ visit_table ∷ place_table ∷ listing_table ∷ []) (record setting_table { tree = 0 }) texts.create_setting_is texts.create_setting_plain texts.setting_defined refl refl old new count has h in
+      let made = table_created texts.create_setting (partner_table ∷ interchange_table ∷ visit_table ∷ place_table ∷ listing_table ∷ []) (record setting_table { tree = 0 }) texts.create_setting_is texts.setting_defined refl refl old new count has h in
       record { schema = made.0; empty = made.1 }
 
   pub created_block : HasEmpty (partner_table ∷ interchange_table ∷ visit_table ∷ place_table ∷ listing_table ∷ setting_table ∷ []) old.now → Executes texts.create_block [] old new (Ok count) → HasRows no_rows new.now
   created_block has h =
-      let made = table_created texts.create_block (partner_table ∷ interchange_table ∷ visit_table ∷ place_table ∷ listing_table ∷ setting_table ∷ []) (record block_table { tree = 0 }) texts.create_block_is texts.create_block_plain texts.block_defined refl refl old new count has h in
+      let made = table_created texts.create_block (partner_table ∷ interchange_table ∷ visit_table ∷ place_table ∷ listing_table ∷ setting_table ∷ []) (record block_table { tree = 0 }) texts.create_block_is texts.block_defined refl refl old new count has h in
       no_rows_held new.now (record { schema = made.0; empty = made.1 }) (listed_by new.now made.0 made.2)
