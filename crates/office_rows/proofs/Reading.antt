@@ -212,8 +212,7 @@ module _ (sql : List ℕ) (before : List Table) (table : Table)
       let kept : KeepsRows before old.now.trees first.0.trees =
       subst (λ ts. KeepsRows ts old.now.trees first.0.trees) tables (subst (λ s. KeepsRows s.tables old.now.trees first.0.trees) has.schema made.others) in
       let none : first.0.trees (next_tree (schema_of before)) ≡ [] = subst (λ s. first.0.trees (next_tree s) ≡ []) has.schema made.empty in
-      let empty = empty_with before (record table { tree = next_tree (schema_of before) }) old.now.trees first.0.trees kept has.empty none in
-      (
+      let empty = empty_with before (record table { tree = next_tree (schema_of before) }) old.now.trees first.0.trees kept has.empty none in (
         ap (λ (d : Database). d.schema) now ∙ schema,
         subst (λ (d : Database). AllByRecursion (λ (t : Table). d.trees t.tree ≡ []) (before ++ (record table { tree = next_tree (schema_of before) }) ∷ [])) (sym now) empty,
         w.sound,
