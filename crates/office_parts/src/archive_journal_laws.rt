@@ -10,25 +10,21 @@ ghost use Rattle.office_parts.specs.ArchiveJournalLaws.{
 
 /// What the archives of a store and the store itself keep, each text once, is the journal of all that came, as if nothing had
 /// been put away.
-#[tactic(auto, using(crate::proofs::Files::journal_is_of_all_files))]
 pub fn journal_is_of_all_files()
     ensures { JournalIsOfAllFiles }
 {}
 
 /// A closing leaves a store's texts in the order of arrival.
-#[tactic(auto, using(crate::proofs::Files::closing_stays_in_order))]
 pub fn closing_stays_in_order()
     ensures { ClosingStaysInOrder }
 {}
 
 /// Each event but a migration leaves a store's texts in the order of arrival: a text under a free number is the last.
-#[tactic(auto, using(crate::proofs::Files::events_stay_in_order))]
 pub fn events_stay_in_order()
     ensures { EventsStayInOrder }
 {}
 
 /// The store and its archives stay in order together: by an event that leaves the store so, and by a closing.
-#[tactic(auto, using(crate::proofs::Files::copies_stay_in_order))]
 pub fn copies_stay_in_order()
     ensures { CopiesStayInOrder }
 {}
