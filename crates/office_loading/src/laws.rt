@@ -2,7 +2,6 @@
 ghost use Rattle.office_loading.specs.OwnOffice.{NothingClosedIsAnOffice};
 
 /// Where nothing is closed, a store's own rows are those of an office.
-#[tactic(auto, using(crate::proofs::Offices::alike))]
 pub fn nothing_closed_is_an_office()
     ensures { NothingClosedIsAnOffice }
 {}
