@@ -11,7 +11,6 @@ pub fn changes_agree()
 {}
 
 /// The rows that opening a store writes are those after no event.
-#[tactic(auto, using(crate::proofs::Lawful::opening_after))]
 pub fn opening_is_after_none()
     ensures { OpeningIsAfterNone }
 {}
@@ -22,55 +21,46 @@ pub fn deliveries_leave_sound()
 {}
 
 /// A text is kept only for an account, under a number from 1 to 999,999,999.
-#[tactic(auto, using(crate::proofs::Accounted::text_within))]
 pub fn numbers_are_within()
     ensures { NumbersAreWithin }
 {}
 
 /// The next number of an account is the one after its partner's run.
-#[tactic(auto, using(crate::proofs::Accounted::next_follows))]
 pub fn next_follows_run()
     ensures { NextFollowsRun }
 {}
 
 /// A text that is not admitted adds nothing to the rows.
-#[tactic(auto, using(crate::proofs::Lawful::refused_adds))]
 pub fn refused_adds_no_row()
     ensures { RefusedAddsNoRow }
 {}
 
 /// A text under a number that is used adds nothing to the rows, whether it is the one that is kept or another.
-#[tactic(auto, using(crate::proofs::Lawful::used_adds))]
 pub fn used_adds_no_row()
     ensures { UsedAddsNoRow }
 {}
 
 /// A text before its time adds the row that keeps it.
-#[tactic(auto, using(crate::proofs::Lawful::early_adds))]
 pub fn early_adds_waiting()
     ensures { EarlyAddsWaiting }
 {}
 
 /// The text that is next, and each that becomes next by it, add what taking them in turn does.
-#[tactic(auto, using(crate::proofs::Lawful::next_adds))]
 pub fn next_adds_run()
     ensures { NextAddsRun }
 {}
 
 /// An account that is added adds its row, and leaves the machine as it was, with the account beside.
-#[tactic(auto, using(crate::proofs::Ground::account_adds_row))]
 pub fn account_adds_row()
     ensures { AccountAddsRow }
 {}
 
 /// The rows of a store of an older version, with the version changed, go on from its events and the migration.
-#[tactic(auto, using(crate::proofs::KeptNumbers::migration_goes_on))]
 pub fn migration_goes_on()
     ensures { MigrationGoesOn }
 {}
 
 /// The rows decide how a delivery is answered.
-#[tactic(auto, using(crate::proofs::Accounted::answers))]
 pub fn rows_answer()
     ensures { RowsAnswer }
 {}
@@ -87,13 +77,11 @@ pub fn loading_gives_setup()
 {}
 
 /// After any events, the rows that are left are those of an office: no check finds them damaged.
-#[tactic(auto, using(crate::proofs::Offices::rows_are))]
 pub fn rows_are_an_office()
     ensures { RowsAreAnOffice }
 {}
 
 /// The rows of an older store, with only the version changed, are those of an office: no migration finds them damaged.
-#[tactic(auto, using(crate::proofs::Offices::older_rows_are))]
 pub fn older_rows_are_an_office()
     ensures { OlderRowsAreAnOffice }
 {}
