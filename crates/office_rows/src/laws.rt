@@ -3,31 +3,26 @@
 ghost use Rattle.office_rows.specs.{Places.InsertAddsLast, Places.RowsHaveOneOrder, InPlace.AddsInPlace, InPlace.RepliesInPlace, InPlace.OthersKeepPlaces};
 
 /// A row that is inserted without a rowid is the last, under the next number.
-#[tactic(auto, using(crate::proofs::Placed::insert_adds_last))]
 pub fn insert_adds_last()
     ensures { InsertAddsLast }
 {}
 
 /// Rows whose rowids rise have one order.
-#[tactic(auto, using(crate::proofs::Ordered::rows_have_one_order))]
 pub fn rows_have_one_order()
     ensures { RowsHaveOneOrder }
 {}
 
 /// An interchange that is inserted is the last row of its table, under the next rowid.
-#[tactic(auto, using(crate::proofs::InPlace::adds_in_place))]
 pub fn adds_in_place()
     ensures { AddsInPlace }
 {}
 
 /// An interchange that gets its reply stays under its rowid, and so do all others.
-#[tactic(auto, using(crate::proofs::InPlace::replies_in_place))]
 pub fn replies_in_place()
     ensures { RepliesInPlace }
 {}
 
 /// What is written to another table leaves the interchanges at their places.
-#[tactic(auto, using(crate::proofs::InPlace::others_keep_places))]
 pub fn others_keep_places()
     ensures { OthersKeepPlaces }
 {}
