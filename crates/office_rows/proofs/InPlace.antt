@@ -178,7 +178,7 @@ keeps_in_place old new rows count partner number_of body has held h =
     let a : Interchange = record { partner = partner; number = number_of; body = body; reply = [] } in
     let params = number_value partner ∷ number_value number_of ∷ Blob body ∷ [] in
     let text = statement_of texts.insert_interchange (understood office_schema texts.insert_interchange) in
-    let w = runs_as texts.insert_interchange params old new office_schema has.schema (Insert 1 (Values texts.insert_interchange_terms 5)) texts.insert_interchange_is texts.insert_interchange_plain count h in
+    let w = runs_as texts.insert_interchange params old new office_schema has.schema (Insert 1 (Values texts.insert_interchange_terms 5)) texts.insert_interchange_is.0 texts.insert_interchange_is.1 count h in
     let it = inserts old new has.schema 1 interchange_table refl refl params text count texts.insert_interchange_terms 5 w in
     adds_in_place old.now.trees new.now.trees rows.interchanges a held it.edits.applies
 
@@ -188,7 +188,7 @@ pub copies_in_place : (old new : State) (rows : Rows) (count : ℕ) (a : Interch
 copies_in_place old new rows count a has held h =
     let params = interchange_values a in
     let text = statement_of texts.insert_whole (understood office_schema texts.insert_whole) in
-    let w = runs_as texts.insert_whole params old new office_schema has.schema (Insert 1 (Values texts.insert_whole_terms 5)) texts.insert_whole_is texts.insert_whole_plain count h in
+    let w = runs_as texts.insert_whole params old new office_schema has.schema (Insert 1 (Values texts.insert_whole_terms 5)) texts.insert_whole_is.0 texts.insert_whole_is.1 count h in
     let it = inserts old new has.schema 1 interchange_table refl refl params text count texts.insert_whole_terms 5 w in
     adds_in_place old.now.trees new.now.trees rows.interchanges a held it.edits.applies
 
@@ -198,6 +198,6 @@ pub update_replies_in_place : (old new : State) (rows : Rows) (count partner num
 update_replies_in_place old new rows count partner number_of reply has held h =
     let params = number_value partner ∷ number_value number_of ∷ Text reply ∷ [] in
     let text = statement_of texts.update_reply (understood office_schema texts.update_reply) in
-    let w = runs_as texts.update_reply params old new office_schema has.schema (Update 1 (record { lets = []; body = rows_of 2 texts.update_reply_tests texts.update_reply_shown })) texts.update_reply_is texts.update_reply_plain count h in
+    let w = runs_as texts.update_reply params old new office_schema has.schema (Update 1 (record { lets = []; body = rows_of 2 texts.update_reply_tests texts.update_reply_shown })) texts.update_reply_is.0 texts.update_reply_is.1 count h in
     let it = updates old new has.schema 1 interchange_table refl refl params text count texts.update_reply_tests texts.update_reply_shown (λ trees. refl) w in
     replies_by old.now.trees new.now.trees rows partner number_of reply (passes params texts.update_reply_tests) (λ r. ap (λ b. says r 1 partner && b) (and_true (says r 2 number_of))) held it.answer it.answers it.edits.applies

@@ -44,7 +44,7 @@ module _ (old new : State) (rows : Rows) (count : ℕ) (has : HasRows rows old.n
       let params = partner_values a in
       let source = column (partner_values a) 0 ∷ Null ∷ drop 1 (partner_values a) in
       let text = statement_of texts.insert_partner (understood office_schema texts.insert_partner) in
-      let w = runs_as texts.insert_partner params old new office_schema has.schema (Insert 0 (Values texts.insert_partner_terms 5)) texts.insert_partner_is texts.insert_partner_plain count h in
+      let w = runs_as texts.insert_partner params old new office_schema has.schema (Insert 0 (Values texts.insert_partner_terms 5)) texts.insert_partner_is.0 texts.insert_partner_is.1 count h in
       let it = inserts old new has.schema 0 partner_table refl refl params text count texts.insert_partner_terms 5 w in
       only_partners rows old.now new.now has [] Chosen 0 (source ∷ []) (rows.partners ++ a ∷ []) it.edits
       (holds_inserted partner_table partner_values rows.partners old.now new.now has.rows_are.partners source a (simp (cast_null, cast_int)) it)
@@ -55,7 +55,7 @@ module _ (old new : State) (rows : Rows) (count : ℕ) (has : HasRows rows old.n
       let params = number_value partner_id ∷ number_value number_of ∷ Blob body ∷ [] in
       let source = Null ∷ interchange_values a in
       let text = statement_of texts.insert_interchange (understood office_schema texts.insert_interchange) in
-      let w = runs_as texts.insert_interchange params old new office_schema has.schema (Insert 1 (Values texts.insert_interchange_terms 5)) texts.insert_interchange_is texts.insert_interchange_plain count h in
+      let w = runs_as texts.insert_interchange params old new office_schema has.schema (Insert 1 (Values texts.insert_interchange_terms 5)) texts.insert_interchange_is.0 texts.insert_interchange_is.1 count h in
       let it = inserts old new has.schema 1 interchange_table refl refl params text count texts.insert_interchange_terms 5 w in
       only_interchanges rows old.now new.now has [] Chosen 0 (source ∷ []) (rows.interchanges ++ a ∷ []) it.edits
       (holds_inserted interchange_table interchange_values rows.interchanges old.now new.now has.rows_are.interchanges source a (simp (cast_null, cast_int)) it)
@@ -65,7 +65,7 @@ module _ (old new : State) (rows : Rows) (count : ℕ) (has : HasRows rows old.n
       let params = interchange_values a in
       let source = Null ∷ interchange_values a in
       let text = statement_of texts.insert_whole (understood office_schema texts.insert_whole) in
-      let w = runs_as texts.insert_whole params old new office_schema has.schema (Insert 1 (Values texts.insert_whole_terms 5)) texts.insert_whole_is texts.insert_whole_plain count h in
+      let w = runs_as texts.insert_whole params old new office_schema has.schema (Insert 1 (Values texts.insert_whole_terms 5)) texts.insert_whole_is.0 texts.insert_whole_is.1 count h in
       let it = inserts old new has.schema 1 interchange_table refl refl params text count texts.insert_whole_terms 5 w in
       only_interchanges rows old.now new.now has [] Chosen 0 (source ∷ []) (rows.interchanges ++ a ∷ []) it.edits
       (holds_inserted interchange_table interchange_values rows.interchanges old.now new.now has.rows_are.interchanges source a (simp (cast_null, cast_int)) it)
@@ -75,7 +75,7 @@ module _ (old new : State) (rows : Rows) (count : ℕ) (has : HasRows rows old.n
       let params = visit_values a in
       let source = column (visit_values a) 0 ∷ Null ∷ drop 1 (visit_values a) in
       let text = statement_of texts.insert_visit (understood office_schema texts.insert_visit) in
-      let w = runs_as texts.insert_visit params old new office_schema has.schema (Insert 2 (Values texts.insert_visit_terms 16)) texts.insert_visit_is texts.insert_visit_plain count h in
+      let w = runs_as texts.insert_visit params old new office_schema has.schema (Insert 2 (Values texts.insert_visit_terms 16)) texts.insert_visit_is.0 texts.insert_visit_is.1 count h in
       let it = inserts old new has.schema 2 visit_table refl refl params text count texts.insert_visit_terms 16 w in
       only_visits rows old.now new.now has [] Chosen 0 (source ∷ []) (rows.visits ++ a ∷ []) it.edits
       (holds_inserted visit_table visit_values rows.visits old.now new.now has.rows_are.visits source a (simp (cast_null, cast_int)) it)
@@ -85,7 +85,7 @@ module _ (old new : State) (rows : Rows) (count : ℕ) (has : HasRows rows old.n
       let params = place_values a in
       let source = Null ∷ place_values a in
       let text = statement_of texts.insert_place (understood office_schema texts.insert_place) in
-      let w = runs_as texts.insert_place params old new office_schema has.schema (Insert 3 (Values texts.insert_place_terms 4)) texts.insert_place_is texts.insert_place_plain count h in
+      let w = runs_as texts.insert_place params old new office_schema has.schema (Insert 3 (Values texts.insert_place_terms 4)) texts.insert_place_is.0 texts.insert_place_is.1 count h in
       let it = inserts old new has.schema 3 place_table refl refl params text count texts.insert_place_terms 4 w in
       only_places rows old.now new.now has [] Chosen 0 (source ∷ []) (rows.places ++ a ∷ []) it.edits
       (holds_inserted place_table place_values rows.places old.now new.now has.rows_are.places source a (simp (cast_null, cast_int)) it)
@@ -95,7 +95,7 @@ module _ (old new : State) (rows : Rows) (count : ℕ) (has : HasRows rows old.n
       let params = line_values a in
       let source = Null ∷ line_values a in
       let text = statement_of texts.insert_listed (understood office_schema texts.insert_listed) in
-      let w = runs_as texts.insert_listed params old new office_schema has.schema (Insert 4 (Values texts.insert_listed_terms 7)) texts.insert_listed_is texts.insert_listed_plain count h in
+      let w = runs_as texts.insert_listed params old new office_schema has.schema (Insert 4 (Values texts.insert_listed_terms 7)) texts.insert_listed_is.0 texts.insert_listed_is.1 count h in
       let it = inserts old new has.schema 4 listing_table refl refl params text count texts.insert_listed_terms 7 w in
       only_lines rows old.now new.now has [] Chosen 0 (source ∷ []) (rows.lines ++ a ∷ []) it.edits
       (holds_inserted listing_table line_values rows.lines old.now new.now has.rows_are.lines source a (simp (cast_null, cast_int)) it)
@@ -105,7 +105,7 @@ module _ (old new : State) (rows : Rows) (count : ℕ) (has : HasRows rows old.n
       let params = setting_values a in
       let source = Null ∷ setting_values a in
       let text = statement_of texts.insert_setting (understood office_schema texts.insert_setting) in
-      let w = runs_as texts.insert_setting params old new office_schema has.schema (Insert 5 (Values texts.insert_setting_terms 3)) texts.insert_setting_is texts.insert_setting_plain count h in
+      let w = runs_as texts.insert_setting params old new office_schema has.schema (Insert 5 (Values texts.insert_setting_terms 3)) texts.insert_setting_is.0 texts.insert_setting_is.1 count h in
       let it = inserts old new has.schema 5 setting_table refl refl params text count texts.insert_setting_terms 3 w in
       only_settings rows old.now new.now has [] Chosen 0 (source ∷ []) (rows.settings ++ a ∷ []) it.edits
       (holds_inserted setting_table setting_values rows.settings old.now new.now has.rows_are.settings source a (simp cast_null) it)
@@ -115,7 +115,7 @@ module _ (old new : State) (rows : Rows) (count : ℕ) (has : HasRows rows old.n
       let params = block_values a in
       let source = Null ∷ block_values a in
       let text = statement_of texts.insert_block (understood office_schema texts.insert_block) in
-      let w = runs_as texts.insert_block params old new office_schema has.schema (Insert 6 (Values texts.insert_block_terms 5)) texts.insert_block_is texts.insert_block_plain count h in
+      let w = runs_as texts.insert_block params old new office_schema has.schema (Insert 6 (Values texts.insert_block_terms 5)) texts.insert_block_is.0 texts.insert_block_is.1 count h in
       let it = inserts old new has.schema 6 block_table refl refl params text count texts.insert_block_terms 5 w in
       only_blocks rows old.now new.now has [] Chosen 0 (source ∷ []) (rows.blocks ++ a ∷ []) it.edits
       (holds_inserted block_table block_values rows.blocks old.now new.now has.rows_are.blocks source a (simp (cast_null, cast_int)) it)
@@ -124,7 +124,7 @@ module _ (old new : State) (rows : Rows) (count : ℕ) (has : HasRows rows old.n
   update_replyd partner_id number_of reply h =
       let params = number_value partner_id ∷ number_value number_of ∷ Text reply ∷ [] in
       let text = statement_of texts.update_reply (understood office_schema texts.update_reply) in
-      let w = runs_as texts.update_reply params old new office_schema has.schema (Update 1 (record { lets = []; body = rows_of 2 texts.update_reply_tests texts.update_reply_shown })) texts.update_reply_is texts.update_reply_plain count h in
+      let w = runs_as texts.update_reply params old new office_schema has.schema (Update 1 (record { lets = []; body = rows_of 2 texts.update_reply_tests texts.update_reply_shown })) texts.update_reply_is.0 texts.update_reply_is.1 count h in
       let it = updates old new has.schema 1 interchange_table refl refl params text count texts.update_reply_tests texts.update_reply_shown (λ trees. refl) w in
       let chosen : Interchange → Bool = is_pair partner_id number_of in
       let changed : Interchange → Interchange = λ i. record i { reply = reply } in
@@ -137,7 +137,7 @@ module _ (old new : State) (rows : Rows) (count : ℕ) (has : HasRows rows old.n
   update_nextd id next h =
       let params = number_value id ∷ number_value next ∷ [] in
       let text = statement_of texts.update_next (understood office_schema texts.update_next) in
-      let w = runs_as texts.update_next params old new office_schema has.schema (Update 0 (record { lets = []; body = rows_of 0 texts.update_next_tests texts.update_next_shown })) texts.update_next_is texts.update_next_plain count h in
+      let w = runs_as texts.update_next params old new office_schema has.schema (Update 0 (record { lets = []; body = rows_of 0 texts.update_next_tests texts.update_next_shown })) texts.update_next_is.0 texts.update_next_is.1 count h in
       let it = updates old new has.schema 0 partner_table refl refl params text count texts.update_next_tests texts.update_next_shown (λ trees. refl) w in
       let chosen : Partner → Bool = λ p. p.id == id in
       let changed : Partner → Partner = λ p. record p { next = next } in
@@ -150,7 +150,7 @@ module _ (old new : State) (rows : Rows) (count : ℕ) (has : HasRows rows old.n
   update_exitd number_of departure h =
       let params = number_value number_of ∷ number_value (way_code departure.way) ∷ number_value departure.source.partner ∷ number_value departure.source.number ∷ Text (moment_digits departure.moment) ∷ [] in
       let text = statement_of texts.update_exit (understood office_schema texts.update_exit) in
-      let w = runs_as texts.update_exit params old new office_schema has.schema (Update 2 (record { lets = []; body = rows_of 4 texts.update_exit_tests texts.update_exit_shown })) texts.update_exit_is texts.update_exit_plain count h in
+      let w = runs_as texts.update_exit params old new office_schema has.schema (Update 2 (record { lets = []; body = rows_of 4 texts.update_exit_tests texts.update_exit_shown })) texts.update_exit_is.0 texts.update_exit_is.1 count h in
       let it = updates old new has.schema 2 visit_table refl refl params text count texts.update_exit_tests texts.update_exit_shown (λ trees. refl) w in
       let chosen : VisitContent → Bool = λ v. v.number == number_of in
       let changed : VisitContent → VisitContent = λ v. record v { departure = Some departure } in
@@ -163,7 +163,7 @@ module _ (old new : State) (rows : Rows) (count : ℕ) (has : HasRows rows old.n
   update_slotd container slot h =
       let params = Text container ∷ Text (slot_text slot) ∷ [] in
       let text = statement_of texts.update_slot (understood office_schema texts.update_slot) in
-      let w = runs_as texts.update_slot params old new office_schema has.schema (Update 3 (record { lets = []; body = rows_of 5 texts.update_slot_tests texts.update_slot_shown })) texts.update_slot_is texts.update_slot_plain count h in
+      let w = runs_as texts.update_slot params old new office_schema has.schema (Update 3 (record { lets = []; body = rows_of 5 texts.update_slot_tests texts.update_slot_shown })) texts.update_slot_is.0 texts.update_slot_is.1 count h in
       let it = updates old new has.schema 3 place_table refl refl params text count texts.update_slot_tests texts.update_slot_shown (λ trees. refl) w in
       let chosen : PlaceContent → Bool = stands_for container in
       let changed : PlaceContent → PlaceContent = λ p. record p { slot = slot } in
@@ -176,7 +176,7 @@ module _ (old new : State) (rows : Rows) (count : ℕ) (has : HasRows rows old.n
   update_doned call side container h =
       let params = Text call.vessel ∷ Text call.voyage ∷ number_value (side_code side) ∷ Text container ∷ [] in
       let text = statement_of texts.update_done (understood office_schema texts.update_done) in
-      let w = runs_as texts.update_done params old new office_schema has.schema (Update 4 (record { lets = []; body = rows_of 9 texts.update_done_tests texts.update_done_shown })) texts.update_done_is texts.update_done_plain count h in
+      let w = runs_as texts.update_done params old new office_schema has.schema (Update 4 (record { lets = []; body = rows_of 9 texts.update_done_tests texts.update_done_shown })) texts.update_done_is.0 texts.update_done_is.1 count h in
       let it = updates old new has.schema 4 listing_table refl refl params text count texts.update_done_tests texts.update_done_shown (λ trees. refl) w in
       let chosen : ListingContent → Bool = is_line call side container in
       let changed : ListingContent → ListingContent = λ l. record l { state = Done } in
@@ -189,7 +189,7 @@ module _ (old new : State) (rows : Rows) (count : ℕ) (has : HasRows rows old.n
   delete_placed container h =
       let params = Text container ∷ [] in
       let text = statement_of texts.delete_place (understood office_schema texts.delete_place) in
-      let w = runs_as texts.delete_place params old new office_schema has.schema (Delete 3 (record { lets = []; body = rows_of 5 texts.delete_place_tests texts.delete_place_shown })) texts.delete_place_is texts.delete_place_plain count h in
+      let w = runs_as texts.delete_place params old new office_schema has.schema (Delete 3 (record { lets = []; body = rows_of 5 texts.delete_place_tests texts.delete_place_shown })) texts.delete_place_is.0 texts.delete_place_is.1 count h in
       let it = deletes old new has.schema 3 place_table refl refl params text count texts.delete_place_tests texts.delete_place_shown (λ trees. refl) w in
       only_places rows old.now new.now has (ids_of it.answer) Given 0 [] (filter (λ p. not (stands_for container p)) rows.places) it.edits
       (holds_deleted place_table place_values rows.places old.now new.now has.rows_are.places params texts.delete_place_tests texts.delete_place_shown
@@ -200,7 +200,7 @@ module _ (old new : State) (rows : Rows) (count : ℕ) (has : HasRows rows old.n
   delete_lined call side container h =
       let params = Text call.vessel ∷ Text call.voyage ∷ number_value (side_code side) ∷ Text container ∷ [] in
       let text = statement_of texts.delete_line (understood office_schema texts.delete_line) in
-      let w = runs_as texts.delete_line params old new office_schema has.schema (Delete 4 (record { lets = []; body = rows_of 9 texts.delete_line_tests texts.delete_line_shown })) texts.delete_line_is texts.delete_line_plain count h in
+      let w = runs_as texts.delete_line params old new office_schema has.schema (Delete 4 (record { lets = []; body = rows_of 9 texts.delete_line_tests texts.delete_line_shown })) texts.delete_line_is.0 texts.delete_line_is.1 count h in
       let it = deletes old new has.schema 4 listing_table refl refl params text count texts.delete_line_tests texts.delete_line_shown (λ trees. refl) w in
       only_lines rows old.now new.now has (ids_of it.answer) Given 0 [] (filter (λ l. not (is_line call side container l)) rows.lines) it.edits
       (holds_deleted listing_table line_values rows.lines old.now new.now has.rows_are.lines params texts.delete_line_tests texts.delete_line_shown

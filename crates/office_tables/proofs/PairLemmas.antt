@@ -45,7 +45,7 @@ module _ (old new : State) (rows : Rows) (count : ℕ) (has : HasRows rows old.n
       let params = interchange_values a in
       let source : Row = Null ∷ interchange_values a in
       let text = statement_of texts.insert_whole (understood office_schema texts.insert_whole) in
-      let w = runs_as texts.insert_whole params old new office_schema has.schema (Insert 1 (Values texts.insert_whole_terms 5)) texts.insert_whole_is texts.insert_whole_plain count h in
+      let w = runs_as texts.insert_whole params old new office_schema has.schema (Insert 1 (Values texts.insert_whole_terms 5)) texts.insert_whole_is.0 texts.insert_whole_is.1 count h in
       let it = inserts old new has.schema 1 interchange_table refl refl params text count texts.insert_whole_terms 5 w in
       let held = has.rows_are.interchanges in
       let stored = old.now.trees 2 in
@@ -130,37 +130,37 @@ module _ (old new : State) (rows : Rows) (count : ℕ) (has : HasRows rows old.n
           stay table _ it.edits other
 
   pub insert_partner_stays : Executes texts.insert_partner params old new (Ok count) → Stay
-  insert_partner_stays = inserted 0 partner_table refl refl (λ e. omega (arith, e)) texts.insert_partner texts.insert_partner_plain texts.insert_partner_terms 5 texts.insert_partner_is
+  insert_partner_stays = inserted 0 partner_table refl refl (λ e. omega (arith, e)) texts.insert_partner texts.insert_partner_is.1 texts.insert_partner_terms 5 texts.insert_partner_is.0
 
   pub insert_visit_stays : Executes texts.insert_visit params old new (Ok count) → Stay
-  insert_visit_stays = inserted 2 visit_table refl refl (λ e. omega (arith, e)) texts.insert_visit texts.insert_visit_plain texts.insert_visit_terms 16 texts.insert_visit_is
+  insert_visit_stays = inserted 2 visit_table refl refl (λ e. omega (arith, e)) texts.insert_visit texts.insert_visit_is.1 texts.insert_visit_terms 16 texts.insert_visit_is.0
 
   pub insert_place_stays : Executes texts.insert_place params old new (Ok count) → Stay
-  insert_place_stays = inserted 3 place_table refl refl (λ e. omega (arith, e)) texts.insert_place texts.insert_place_plain texts.insert_place_terms 4 texts.insert_place_is
+  insert_place_stays = inserted 3 place_table refl refl (λ e. omega (arith, e)) texts.insert_place texts.insert_place_is.1 texts.insert_place_terms 4 texts.insert_place_is.0
 
   pub insert_listed_stays : Executes texts.insert_listed params old new (Ok count) → Stay
-  insert_listed_stays = inserted 4 listing_table refl refl (λ e. omega (arith, e)) texts.insert_listed texts.insert_listed_plain texts.insert_listed_terms 7 texts.insert_listed_is
+  insert_listed_stays = inserted 4 listing_table refl refl (λ e. omega (arith, e)) texts.insert_listed texts.insert_listed_is.1 texts.insert_listed_terms 7 texts.insert_listed_is.0
 
   pub insert_setting_stays : Executes texts.insert_setting params old new (Ok count) → Stay
-  insert_setting_stays = inserted 5 setting_table refl refl (λ e. omega (arith, e)) texts.insert_setting texts.insert_setting_plain texts.insert_setting_terms 3 texts.insert_setting_is
+  insert_setting_stays = inserted 5 setting_table refl refl (λ e. omega (arith, e)) texts.insert_setting texts.insert_setting_is.1 texts.insert_setting_terms 3 texts.insert_setting_is.0
 
   pub insert_block_stays : Executes texts.insert_block params old new (Ok count) → Stay
-  insert_block_stays = inserted 6 block_table refl refl (λ e. omega (arith, e)) texts.insert_block texts.insert_block_plain texts.insert_block_terms 5 texts.insert_block_is
+  insert_block_stays = inserted 6 block_table refl refl (λ e. omega (arith, e)) texts.insert_block texts.insert_block_is.1 texts.insert_block_terms 5 texts.insert_block_is.0
 
   pub update_next_stays : Executes texts.update_next params old new (Ok count) → Stay
-  update_next_stays = updated 0 partner_table refl refl (λ e. omega (arith, e)) texts.update_next texts.update_next_plain (λ trees. refl) texts.update_next_tests texts.update_next_shown texts.update_next_is
+  update_next_stays = updated 0 partner_table refl refl (λ e. omega (arith, e)) texts.update_next texts.update_next_is.1 (λ trees. refl) texts.update_next_tests texts.update_next_shown texts.update_next_is.0
 
   pub update_exit_stays : Executes texts.update_exit params old new (Ok count) → Stay
-  update_exit_stays = updated 2 visit_table refl refl (λ e. omega (arith, e)) texts.update_exit texts.update_exit_plain (λ trees. refl) texts.update_exit_tests texts.update_exit_shown texts.update_exit_is
+  update_exit_stays = updated 2 visit_table refl refl (λ e. omega (arith, e)) texts.update_exit texts.update_exit_is.1 (λ trees. refl) texts.update_exit_tests texts.update_exit_shown texts.update_exit_is.0
 
   pub update_slot_stays : Executes texts.update_slot params old new (Ok count) → Stay
-  update_slot_stays = updated 3 place_table refl refl (λ e. omega (arith, e)) texts.update_slot texts.update_slot_plain (λ trees. refl) texts.update_slot_tests texts.update_slot_shown texts.update_slot_is
+  update_slot_stays = updated 3 place_table refl refl (λ e. omega (arith, e)) texts.update_slot texts.update_slot_is.1 (λ trees. refl) texts.update_slot_tests texts.update_slot_shown texts.update_slot_is.0
 
   pub update_done_stays : Executes texts.update_done params old new (Ok count) → Stay
-  update_done_stays = updated 4 listing_table refl refl (λ e. omega (arith, e)) texts.update_done texts.update_done_plain (λ trees. refl) texts.update_done_tests texts.update_done_shown texts.update_done_is
+  update_done_stays = updated 4 listing_table refl refl (λ e. omega (arith, e)) texts.update_done texts.update_done_is.1 (λ trees. refl) texts.update_done_tests texts.update_done_shown texts.update_done_is.0
 
   pub delete_place_stays : Executes texts.delete_place params old new (Ok count) → Stay
-  delete_place_stays = deleted 3 place_table refl refl (λ e. omega (arith, e)) texts.delete_place texts.delete_place_plain (λ trees. refl) texts.delete_place_tests texts.delete_place_shown texts.delete_place_is
+  delete_place_stays = deleted 3 place_table refl refl (λ e. omega (arith, e)) texts.delete_place texts.delete_place_is.1 (λ trees. refl) texts.delete_place_tests texts.delete_place_shown texts.delete_place_is.0
 
   pub delete_line_stays : Executes texts.delete_line params old new (Ok count) → Stay
-  delete_line_stays = deleted 4 listing_table refl refl (λ e. omega (arith, e)) texts.delete_line texts.delete_line_plain (λ trees. refl) texts.delete_line_tests texts.delete_line_shown texts.delete_line_is
+  delete_line_stays = deleted 4 listing_table refl refl (λ e. omega (arith, e)) texts.delete_line texts.delete_line_is.1 (λ trees. refl) texts.delete_line_tests texts.delete_line_shown texts.delete_line_is.0
