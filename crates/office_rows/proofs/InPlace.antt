@@ -3,10 +3,7 @@ use Rattle.std.proofs.Common.{◌≡◌, inl, inr, ℕ, ◌+◌, ◌<◌, pos, L
 use Rattle.std.specs.List.{AllByRecursion}
 use Rattle.std.proofs.{lemmas.Bool.cases_Bool, lemmas.List.map-append, lemmas.List.Sorted.IsPermutation-map}
 use Rattle.sqlite.specs.declared.types.Value.TheVariants.{Null, Int, Text, Blob}
-use Rattle.sqlite.specs.{Order.Row, Order.column, Table.Table, Tree.Trees, Listing.understood, State.State, State.Executes}
-use Rattle.sqlite.specs.Source.TheVariants.{Values}
-use Rattle.sqlite.specs.Command.TheVariants.{Insert, Update}
-use Rattle.sqlite.proofs.Callers.{statement_of, runs_as}
+use Rattle.sqlite.specs.{Order.Row, Order.column, Table.Table, Tree.Trees, State.State, State.Executes}
 use Rattle.sqlite_value.specs.Order.{value_cmp}
 use Rattle.sqlite_schema.specs.declared.schema.Keys.TheVariants.{Enforced}
 use Rattle.sqlite_trees.specs.{Tree.IsTable, Tree.rowid, View.is_int, View.IsShaped}
@@ -18,7 +15,7 @@ use Rattle.office_rows.specs.{Tables.interchange_table, Tables.office_schema, Ro
 use Rattle.office_rows.specs.{Effects.is_pair, Effects.with_waiting, Effects.with_reply, Stored.columns_of, Stored.HasRows, Places.ArePlaced}
 use Rattle.office_rows.proofs.{Creating.updated, Creating.put_all_shaped, Creating.without_all_shaped, Placed.less, Placed.insert_adds_last}
 use Rattle.office_rows.proofs.{Ordered.rows_have_one_order, Listed.and_true}
-use Rattle.office_rows.proofs.WriteLemmas.{cast_null, cast_int, equal_numbers, passes, inserts, updates, rows_of, given_numbered}
+use Rattle.office_rows.proofs.WriteLemmas.{cast_null, cast_int, equal_numbers, passes, run_insert, run_update, given_numbered}
 use Rattle.office_rows.specs.InPlace.{AreInPlace, InterchangesAreInPlace, AddsInPlace, says, is_row_of, replied, RepliesInPlace, OthersKeepPlaces}
 use Rattle.sqlite.specs.Kind.TheVariants as kind
 use Rattle.sqlite_trees.specs.declared.store.Shape.TheVariants as shape
@@ -177,9 +174,7 @@ pub keeps_in_place : (old new : State) (rows : Rows) (count partner number_of : 
 keeps_in_place old new rows count partner number_of body has held h =
     let a : Interchange = record { partner = partner; number = number_of; body = body; reply = [] } in
     let params = number_value partner ∷ number_value number_of ∷ Blob body ∷ [] in
-    let text = statement_of texts.insert_interchange (understood office_schema texts.insert_interchange) in
-    let w = runs_as texts.insert_interchange params old new office_schema has.schema (Insert 1 (Values texts.insert_interchange_terms 5)) texts.insert_interchange_is.0 texts.insert_interchange_is.1 count h in
-    let it = inserts old new has.schema 1 interchange_table refl refl params text count texts.insert_interchange_terms 5 w in
+    let it = run_insert old new has.schema 1 interchange_table refl refl texts.insert_interchange params count texts.insert_interchange_terms 5 texts.insert_interchange_is h in
     adds_in_place old.now.trees new.now.trees rows.interchanges a held it.edits.applies
 
 pub copies_in_place : (old new : State) (rows : Rows) (count : ℕ) (a : Interchange) → HasRows rows old.now → InterchangesAreInPlace rows.interchanges old.now.trees
@@ -187,9 +182,7 @@ pub copies_in_place : (old new : State) (rows : Rows) (count : ℕ) (a : Interch
     → InterchangesAreInPlace (rows.interchanges ++ a ∷ []) new.now.trees
 copies_in_place old new rows count a has held h =
     let params = interchange_values a in
-    let text = statement_of texts.insert_whole (understood office_schema texts.insert_whole) in
-    let w = runs_as texts.insert_whole params old new office_schema has.schema (Insert 1 (Values texts.insert_whole_terms 5)) texts.insert_whole_is.0 texts.insert_whole_is.1 count h in
-    let it = inserts old new has.schema 1 interchange_table refl refl params text count texts.insert_whole_terms 5 w in
+    let it = run_insert old new has.schema 1 interchange_table refl refl texts.insert_whole params count texts.insert_whole_terms 5 texts.insert_whole_is h in
     adds_in_place old.now.trees new.now.trees rows.interchanges a held it.edits.applies
 
 pub update_replies_in_place : (old new : State) (rows : Rows) (count partner number_of : ℕ) (reply : List ℕ) → HasRows rows old.now → InterchangesAreInPlace rows.interchanges old.now.trees
@@ -197,7 +190,5 @@ pub update_replies_in_place : (old new : State) (rows : Rows) (count partner num
     → InterchangesAreInPlace (with_reply partner number_of reply rows).interchanges new.now.trees
 update_replies_in_place old new rows count partner number_of reply has held h =
     let params = number_value partner ∷ number_value number_of ∷ Text reply ∷ [] in
-    let text = statement_of texts.update_reply (understood office_schema texts.update_reply) in
-    let w = runs_as texts.update_reply params old new office_schema has.schema (Update 1 (record { lets = []; body = rows_of 2 texts.update_reply_tests texts.update_reply_shown })) texts.update_reply_is.0 texts.update_reply_is.1 count h in
-    let it = updates old new has.schema 1 interchange_table refl refl params text count texts.update_reply_tests texts.update_reply_shown (λ trees. refl) w in
+    let it = run_update old new has.schema 1 interchange_table refl refl texts.update_reply params count texts.update_reply_tests texts.update_reply_shown (λ trees. refl) texts.update_reply_is h in
     replies_by old.now.trees new.now.trees rows partner number_of reply (passes params texts.update_reply_tests) (λ r. ap (λ b. says r 1 partner && b) (and_true (says r 2 number_of))) held it.answer it.answers it.edits.applies
