@@ -33,10 +33,10 @@ use Rattle.std.specs.FinMap as finite_map
 
 -- ---- codes
 
-abbrev SameTexts : CodeTable → CodeTable → Type 0
+abbrev pub SameTexts : CodeTable → CodeTable → Type 0
 SameTexts t u = table_texts t ≡ table_texts u
 
-meant_by : (t u : CodeTable) → SameTexts t u → (kind : PartnerKind) (type : MessageType) → meanings t kind type ≡ meanings u kind type
+pub meant_by : (t u : CodeTable) → SameTexts t u → (kind : PartnerKind) (type : MessageType) → meanings t kind type ≡ meanings u kind type
 meant_by t u e Gate Codeco =
     let one : code_text t.gate_in ≡ code_text u.gate_in = cc in
     let two : code_text t.gate_out ≡ code_text u.gate_out = cc in

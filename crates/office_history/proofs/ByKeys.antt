@@ -269,7 +269,7 @@ left_one : {A : Type 0} (p : A → Bool) (x : A) (xs all : List A) (b : Bool) �
 left_one p x xs all true h = omega (arith, count_more p x xs (p x) refl)
 left_one p x xs all false h = omega arith
 
-count_left : {A : Type 0} (p q : A → Bool) (xs : List A) → count_by p (filter q xs) ≤ count_by p xs
+pub count_left : {A : Type 0} (p q : A → Bool) (xs : List A) → count_by p (filter q xs) ≤ count_by p xs
 count_left p q [] = omega arith
 count_left p q (x ∷ xs) = omega (arith, count_more p x xs (p x) refl, left_one p x (filter q xs) xs (q x) (count_left p q xs))
 

@@ -173,7 +173,7 @@ abbrev pub Rise : List NumberKept → Type 0
 Rise [] = Unit {0}
 Rise (n ∷ ns) = Starts n.partner n.number ns × Rise ns
 
-abbrev From : ℕ → List NumberKept → Type 0
+abbrev pub From : ℕ → List NumberKept → Type 0
 From p [] = Unit {0}
 From p (n ∷ ns) = p ≤ n.partner
 
@@ -191,7 +191,7 @@ pub record IsWithinRuns (count : ℕ) (runs : ℕ → ℕ) (n : NumberKept) : Ty
   pub waits : runs n.partner < n.number → (runs n.partner + 1 < n.number) × (n.is_taken ≡ false)
 
 -- what follows in order comes after
-has_after : (q m : ℕ) (ns : List NumberKept) (p k : ℕ) → Starts q m ns → Rise ns → Has p k ns → (q < p) ⊎ ((p ≡ q) × (m < k))
+pub has_after : (q m : ℕ) (ns : List NumberKept) (p k : ℕ) → Starts q m ns → Rise ns → Has p k ns → (q < p) ⊎ ((p ≡ q) × (m < k))
 has_after q m [] p k starts rise has = absurd has
 has_after q m (n ∷ ns) p k starts rise (inl here) = elim starts [
   | inl far ↦ inl (omega (arith, here.0, far))

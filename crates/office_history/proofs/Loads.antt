@@ -67,7 +67,7 @@ side_one Load Load e = refl
 side_one Discharge Discharge e = refl
 side_one a b e = absurd (omega (arith, e))
 
-done_one : (a b : LineState) → state_code a ≡ state_code b → a ≡ b
+pub done_one : (a b : LineState) → state_code a ≡ state_code b → a ≡ b
 done_one Pending Pending e = refl
 done_one Done Done e = refl
 done_one a b e = absurd (omega (arith, e))
@@ -148,7 +148,7 @@ block_one a b fa fb e =
     let tiers = number_one a.tiers b.tiers (at 3 ra rb e) in
     λ i. record { letter = letter i; bays = bays i; rows = rows i; tiers = tiers i }
 
-kind_one : (a b : PartnerKind) → kind_code a ≡ kind_code b → a ≡ b
+pub kind_one : (a b : PartnerKind) → kind_code a ≡ kind_code b → a ≡ b
 kind_one Gate Gate e = refl
 kind_one Line Line e = refl
 kind_one Quay Quay e = refl

@@ -214,7 +214,7 @@ loaded content runs rows state db are has = office_shown newest content runs row
 -- ---- the rows after deliveries
 
 -- no run goes past the numbers of interchanges
-run_within : (content : SetupContent) (es : List Event) (p : ℕ) → run (deliveries_of content es) p ≤ 999999999
+pub run_within : (content : SetupContent) (es : List Event) (p : ℕ) → run (deliveries_of content es) p ≤ 999999999
 run_within content es p = elim (cases_order (run (deliveries_of content es) p) 0) [
   | inl none ↦ omega arith
   | inr o ↦ elim o [

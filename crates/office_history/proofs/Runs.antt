@@ -338,14 +338,14 @@ module _ {A : Type 0} (lt : A → A → Bool) (one_way : (x y : A) → lt x y �
 abbrev pub keys_cmp : List ℕ → Row → Row → Ordering
 keys_cmp key = on (columns_at key) (key_cmp 0 (map (λ (n : ℕ). ascending Binary) key))
 
-none_total : IsTotalOrder (λ (a b : Row). Equal)
+pub none_total : IsTotalOrder (λ (a b : Row). Equal)
 none_total = record { antisymm = λ x y. refl; trans = λ x y z p q. p; congr = λ x y z p. refl }
 
-from_total : (key : List ℕ) (at : ℕ) → IsTotalOrder (key_cmp at (map (λ (n : ℕ). ascending Binary) key))
+pub from_total : (key : List ℕ) (at : ℕ) → IsTotalOrder (key_cmp at (map (λ (n : ℕ). ascending Binary) key))
 from_total [] at = none_total
 from_total (n ∷ key) at = then_total (on_total (λ (r : Row). column r at) value_cmp_total) (from_total key (suc at))
 
-keys_total : (key : List ℕ) → IsTotalOrder (keys_cmp key)
+pub keys_total : (key : List ℕ) → IsTotalOrder (keys_cmp key)
 keys_total key = on_total (columns_at key) (from_total key 0)
 
 abbrev pub is_before : {A : Type 0} → List ℕ → (A → Row) → A → A → Bool

@@ -1,5 +1,5 @@
 -- The rows of an office have keys that differ, and say what their columns say.
-use Rattle.std.proofs.Common.{◌≡◌, ℕ, ◌^◌, List, [], ◌∷◌, Bool, map, filter, codes, Some, None, Ok, Err, inl, inr, refl, sym, ap, ap₂, subst, ◌∙◌, false, Ordering, Less, Equal, is_gt, IsSorted, ◌++◌, Result, zero, suc, ◌+◌, ◌-◌, ◌<◌, ◌≤◌, true, ◌||◌, ◌==◌, length, Option, IsTrue, arith, slice_index_or, slice_get}
+use Rattle.std.proofs.Common.{◌≡◌, ℕ, ◌^◌, List, [], ◌∷◌, Bool, map, filter, codes, Some, None, Ok, Err, inl, inr, refl, sym, ap, ap₂, subst, ◌∙◌, false, Ordering, Less, is_gt, IsSorted, ◌++◌, Result, zero, suc, ◌+◌, ◌-◌, ◌<◌, ◌≤◌, true, ◌||◌, ◌==◌, length, Option, IsTrue, arith, slice_index_or, slice_get}
 use Rattle.std.specs.Prelude.{nat_le, Vec, IsUtf8}
 use Rattle.std.specs.{Ordering.is_lt, Ordering.on, List.Sorted.IsPermutation, List.Sorted.IsSortedBy, Cmp.IsTotalOrder, Str.IsAscii}
 use Rattle.std.specs.List.{AllByRecursion, list_all}
@@ -40,7 +40,7 @@ use Rattle.edi_messages.specs.{Forms.is_name_if_any, Texts.is_name, declared.cod
 use Rattle.edi_syntax.proofs.DigitLemmas.{read_back}
 use Rattle.box6346.proofs.SlotNames.{names_are_read_again_lem}
 use Rattle.terminal_core.specs.{declared.visits.Departure.Departure, declared.change.Source.Source, Forms.IsSource, Forms.IsFormedExit, Forms.IsFormedVisit}
-use Rattle.terminal_core.specs.{Rows.VisitContent, State.AreNumbered, State.last_from, State.side_code, declared.lines.LineState.LineState}
+use Rattle.terminal_core.specs.{Rows.VisitContent, State.AreNumbered, State.last_from, State.side_code}
 use Rattle.terminal_core.specs.declared.visits.Way.{Way}
 use Rattle.terminal_core.proofs.Open.{last_highest}
 use Rattle.yard_core.specs.{declared.plan.Block.Block, Plan.IsSized, Plan.AreApart}
@@ -48,13 +48,13 @@ use Rattle.office_admission.specs.Given.{is_party_byte, is_party_code}
 use Rattle.office_rows.specs.Rows.{Partner, PlaceContent, ListingContent, Setting}
 use Rattle.office_loading.specs.Fits.{FitsPartner, FitsNumber, FitsSource, FitsExit, FitsVisit, FitsBlock, IsSlot, IsMoment, FitsPlace, FitsLine, FitsSetting}
 use Rattle.box6346.specs.{SlotName.slot_of, SlotName.slot_text, declared.slot.Slot.Slot}
-use Rattle.edi_messages.specs.declared.codes.PartnerKind.TheVariants.{Gate, Line, Quay, Yard}
-use Rattle.terminal_core.specs.declared.lines.LineState.TheVariants.{Pending, Done}
+use Rattle.edi_messages.specs.declared.codes.PartnerKind.TheVariants.{Gate}
 use Rattle.office_rows.specs.Values.{kind_code, way_code, laden_code, state_code, partner_values, visit_values, place_values, line_values, setting_values, block_values}
 use Rattle.office_rows.proofs.Reading as texts
 use Rattle.office_rows.proofs.BareReading as bare_texts
 use Rattle.terminal_core.specs.declared.visits.Way.TheVariants as way
-use Rattle.office_history.proofs.Loads.{way_one, laden_one}
+use Rattle.office_history.proofs.Loads.{way_one, laden_one, kind_one, done_one}
+use Rattle.office_history.proofs.Runs.{none_total}
 
 -- ==== ListedLemmas: What the query of the settings shows under any schema.
 
@@ -127,9 +127,6 @@ module _ (old new : State) (tree : ℕ) (has : HasSettings old.now.schema tree) 
 -- the order of ORDER BY rowid
 abbrev pub rowid_cmp : Output → Output → Ordering
 rowid_cmp = on (λ (o : Output). o.0) (key_cmp 0 (ascending Binary ∷ []))
-
-none_total : IsTotalOrder (λ (a b : Row). Equal)
-none_total = record { antisymm = λ x y. refl; trans = λ x y z p q. p; congr = λ x y z p. refl }
 
 rowid_total : IsTotalOrder rowid_cmp
 rowid_total = on_total (λ (o : Output). o.0) (then_total (on_total (λ (r : Row). column r 0) value_cmp_total) none_total)
@@ -292,30 +289,6 @@ visits_fit above (v ∷ visits) numbered within formed =
 
 -- ---- codes
 
-kind_is : (a b : PartnerKind) → kind_code a ≡ kind_code b → a ≡ b
-kind_is Gate Gate h = refl
-kind_is Gate Line h = absurd cc
-kind_is Gate Quay h = absurd cc
-kind_is Gate Yard h = absurd cc
-kind_is Line Gate h = absurd cc
-kind_is Line Line h = refl
-kind_is Line Quay h = absurd cc
-kind_is Line Yard h = absurd cc
-kind_is Quay Gate h = absurd cc
-kind_is Quay Line h = absurd cc
-kind_is Quay Quay h = refl
-kind_is Quay Yard h = absurd cc
-kind_is Yard Gate h = absurd cc
-kind_is Yard Line h = absurd cc
-kind_is Yard Quay h = absurd cc
-kind_is Yard Yard h = refl
-
-state_is : (a b : LineState) → state_code a ≡ state_code b → a ≡ b
-state_is Pending Pending h = refl
-state_is Pending Done h = absurd cc
-state_is Done Pending h = absurd cc
-state_is Done Done h = refl
-
 slot_is : (a b : Slot) → IsSlot a → IsSlot b → slot_text a ≡ slot_text b → a ≡ b
 slot_is a b p q same = let e : Some a ≡ Some b = sym p ∙ ap slot_of same ∙ q in cc
 
@@ -330,7 +303,7 @@ one_partner x y p q same =
     let code : x.code ≡ y.code = cc in
     let kind : kind_code x.kind ≡ kind_code y.kind = cc in
     let next : x.next ≡ y.next = cc in
-    let k = kind_is x.kind y.kind kind in
+    let k = kind_one x.kind y.kind kind in
     λ i. record { id = id i; code = code i; kind = k i; next = next i }
 
 pub one_setting : (x y : Setting) → FitsSetting x → FitsSetting y → setting_values x ≡ setting_values y → x ≡ y
@@ -364,7 +337,7 @@ one_line x y p q same =
     let port : x.port ≡ y.port = cc in
     let state_same : state_code x.state ≡ state_code y.state = cc in
     let side = side_is x.side y.side side_same in
-    let state = state_is x.state y.state state_same in
+    let state = done_one x.state y.state state_same in
     λ i. record { call = record { vessel = vessel i; voyage = voyage i }; side = side i; container = container i; port = port i; state = state i }
 
 no_way : (w : Way) → 0 ≡ way_code w → ⊥

@@ -1,15 +1,15 @@
 -- The row of the version.
-use Rattle.std.proofs.Common.{◌≡◌, ℕ, suc, List, [], ◌∷◌, map, refl, sym, subst, subst₂, Ordering, Equal, IsPermutation, IsSorted, Contains, Result, Ok, Err, inl, inr, ap, ap₂, ◌∙◌, true, false, codes, IfErr, pos, arith, Less, Greater, is_eq, ◌^◌, Bool, ◌||◌}
-use Rattle.std.specs.{Cmp.IsTotalOrder, List.AllByRecursion, List.AllZip, List.list_any, Str.bytes_eq, Cmp.Lexicographic.slice_cmp}
-use Rattle.std.specs.Ordering.{on, nat_cmp, int_cmp, ordering_then}
-use Rattle.std.proofs.{lemmas.Cmp.on_total, lemmas.Cmp.then_total, lemmas.Bool.and_parts, lemmas.Slice.Eq.bytes_eq-Decides, lemmas.Map.Text.is_eq-slice_cmp}
+use Rattle.std.proofs.Common.{◌≡◌, ℕ, List, [], ◌∷◌, map, refl, sym, subst, subst₂, Ordering, Equal, IsPermutation, IsSorted, Contains, Result, Ok, Err, inl, inr, ap, ap₂, ◌∙◌, true, false, codes, IfErr, pos, arith, Less, Greater, is_eq, ◌^◌, Bool, ◌||◌}
+use Rattle.std.specs.{List.AllByRecursion, List.AllZip, List.list_any, Str.bytes_eq, Cmp.Lexicographic.slice_cmp}
+use Rattle.std.specs.Ordering.{nat_cmp, int_cmp, ordering_then}
+use Rattle.std.proofs.{lemmas.Bool.and_parts, lemmas.Slice.Eq.bytes_eq-Decides, lemmas.Map.Text.is_eq-slice_cmp}
 use Rattle.std.proofs.{lemmas.Bool.Decides.nat_tests, lemmas.Int.ints}
 use Rattle.std.proofs.lemmas.List.Sorted.{IsPermutation-sym, IsPermutation-trans, IsPermutation-map, sum_by-IsPermutation, Contains-permutation}
 use Rattle.sqlite.specs.Collation.TheVariants.{Binary}
 use Rattle.sqlite.specs.{Order.Row, Order.column, Table.Table, Effect.Database, Query.key_cmp, declared.types.Value.Value, State.State, State.HasCleanDisk}
 use Rattle.sqlite.specs.Schema.{Schema}
 use Rattle.sqlite_value.specs.{Keys.ascending, Order.value_cmp}
-use Rattle.sqlite_value.proofs.OrderLemmas.{value_cmp_total, value_cmp-Int, value_cmp-Text}
+use Rattle.sqlite_value.proofs.OrderLemmas.{value_cmp-Int, value_cmp-Text}
 use Rattle.sqlite_rules.specs.Lists.{Has}
 use Rattle.sqlite_exec.proofs.{RowsLemmas.IsSorted-map, PartitionLemmas.ascending_from_sorted}
 use Rattle.office_rows.specs.{Shown.columns_at, Shown.ShowsTable, Tables.interchange_table, Tables.setting_table, Tables.partner_table}
@@ -32,22 +32,9 @@ use Rattle.sqlite.specs.declared.types.Value.TheVariants.{Null, Int, Real, Text,
 use Rattle.office_rows.specs.Layouts.{Layout, weighed, schema_in, bare}
 use Rattle.terminal_core.specs.declared.change.Version.TheVariants.{First, Second}
 use Rattle.office_loading.specs.Older.{HasOlder, NamesOlder, FailsOlderSettings, FailsOlderTables, ReadsOlderTables}
+pub use Rattle.office_history.proofs.Runs.{keys_total, keys_cmp}
 
 -- ==== ShownLemmas: What a table shows is shown in one order.
-
--- by these columns, from the least up
-abbrev pub keys_cmp : List ℕ → Row → Row → Ordering
-keys_cmp key = on (columns_at key) (key_cmp 0 (map (λ (n : ℕ). ascending Binary) key))
-
-none_total : IsTotalOrder (λ (a b : Row). Equal)
-none_total = record { antisymm = λ x y. refl; trans = λ x y z p q. p; congr = λ x y z p. refl }
-
-from_total : (key : List ℕ) (at : ℕ) → IsTotalOrder (key_cmp at (map (λ (n : ℕ). ascending Binary) key))
-from_total [] at = none_total
-from_total (n ∷ key) at = then_total (on_total (λ (r : Row). column r at) value_cmp_total) (from_total key (suc at))
-
-pub keys_total : (key : List ℕ) → IsTotalOrder (keys_cmp key)
-keys_total key = on_total (columns_at key) (from_total key 0)
 
 module _ (table : Table) (shown key : List ℕ) (sees : (r : Row) → columns_at key (columns_at shown r) ≡ columns_at key r) (db : Database) where
   pub in_order : (answer : List Row) → ShowsTable table shown key db answer → IsSorted (keys_cmp key) answer

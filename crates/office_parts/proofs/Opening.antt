@@ -1,12 +1,12 @@
 -- What a store's own rows are checked for when it is opened.
-use Rattle.std.proofs.Common.{◌≡◌, ◌⊎◌, ℕ, zero, suc, ◌+◌, ◌-◌, ◌<◌, ◌≤◌, inl, inr, List, [], ◌∷◌, ◌++◌, length, map, true, false, refl, sym, ap, ap₂, subst, ◌∙◌, arith, Bool, cond, Option, None, Some, is_some}
+use Rattle.std.proofs.Common.{◌≡◌, ℕ, zero, suc, ◌+◌, ◌-◌, ◌<◌, ◌≤◌, inl, inr, List, [], ◌∷◌, ◌++◌, length, map, true, false, refl, sym, ap, ap₂, subst, ◌∙◌, arith, Bool, cond, Option, None, Some, is_some}
 use Rattle.std.specs.{List.range_with_len, List.AllByRecursion, List.Sorted.IsPermutation, Option.option_map, Option.option_and_then}
 use Rattle.std.proofs.lemmas.Bool.{cases_order, le-leb, leb-true, ne_eqb}
 use Rattle.edi_messages.specs.declared.codes.PartnerKind.{PartnerKind}
 use Rattle.office_rows.specs.{Rows.Partner, Rows.Interchange, Rows.Rows, Opened.NumberKept, Opened.number_kept, Opened.reply_values, Office.AreWaiting}
 use Rattle.office_rows.specs.{Effects.is_pair, Tables.interchange_table, Values.interchange_values}
 use Rattle.office_history.specs.After.{accounts_from, content_after, deliveries_of, opening_of, machine_after, taking_in, reply_if_any, reply_in}
-use Rattle.office_history.proofs.Kept.{Starts, Rise, Has, found_only, head_in, tail_in}
+use Rattle.office_history.proofs.Kept.{Starts, Rise, Has, found_only, head_in, tail_in, has_after, From}
 use Rattle.office_loading.specs.Checks.{taken_beyond, AreKeptBeyond, visits_after, numbers_beyond}
 use Rattle.std.specs.Prelude.{Contains, ◌==◌, not, nat_le, find, count_by, filter}
 use Rattle.std.proofs.lemmas.List.Sorted.{IsPermutation-sym, Contains-permutation, sum_by-IsPermutation}
@@ -42,22 +42,6 @@ pub record IsBeyond (closed : ℕ → ℕ) (count : ℕ) (runs : ℕ → ℕ) (n
 -- each number beyond what is closed, within the runs of partners after that one, is there
 abbrev pub IsComplete : (closed runs : ℕ → ℕ) → ℕ → List NumberKept → Type 0
 IsComplete closed runs p ns = (q k : ℕ) → p < q → closed q < k → k ≤ runs q → Has q k ns
-
-abbrev From : ℕ → List NumberKept → Type 0
-From p [] = Unit {0}
-From p (n ∷ ns) = p ≤ n.partner
-
--- what follows in order comes after
-has_after : (q m : ℕ) (ns : List NumberKept) (p k : ℕ) → Starts q m ns → Rise ns → Has p k ns → (q < p) ⊎ ((p ≡ q) × (m < k))
-has_after q m [] p k starts rise has = absurd has
-has_after q m (n ∷ ns) p k starts rise (inl here) = elim starts [
-  | inl far ↦ inl (omega (arith, here.0, far))
-  | inr near ↦ inr (sym here.0 ∙ near.0, omega (arith, here.1, near.1))
-]
-has_after q m (n ∷ ns) p k starts rise (inr later) = elim (has_after n.partner n.number ns p k rise.0 rise.1 later) [
-  | inl beyond ↦ elim starts [ inl far ↦ inl (omega (arith, beyond, far)) | inr near ↦ inl (omega (arith, beyond, near.0)) ]
-  | inr own ↦ elim starts [ inl far ↦ inl (omega (arith, own.0, far)) | inr near ↦ inr (own.0 ∙ near.0, omega (arith, own.1, near.1)) ]
-]
 
 module _ (closed : ℕ → ℕ) (count : ℕ) (runs : ℕ → ℕ) (below : (p : ℕ) → 1 ≤ p → p ≤ count → closed p ≤ runs p) where
   abbrev next : ℕ → ℕ

@@ -1,10 +1,9 @@
 -- The store's tables show a store's own rows, whichever closed interchanges are still there.
-use Rattle.std.proofs.Common.{◌≡◌, [], ◌∷◌, ℕ, ◌<◌, ◌≤◌, inl, inr, List, length, true, Some, is_some, refl, sym, ap, subst, ◌∙◌, arith}
+use Rattle.std.proofs.Common.{◌≡◌, [], ◌∷◌, ℕ, ◌<◌, ◌≤◌, List, length, true, Some, is_some, refl, sym, ap, subst, ◌∙◌, arith}
 use Rattle.std.specs.Prelude.{Contains, find, filter}
 use Rattle.std.specs.{List.Sorted.IsPermutation, Option.option_map}
-use Rattle.std.proofs.lemmas.Bool.{cases_order}
 use Rattle.partner_core.specs.Deliveries.{Delivery, first_text, run}
-use Rattle.partner_core.proofs.Orders.{some_of, used_within_run}
+use Rattle.partner_core.proofs.Orders.{used_within_run}
 use Rattle.terminal_core.specs.{Changes.TerminalRows, Changes.rows_of, State.TerminalState, Versions.newest}
 use Rattle.terminal_core.proofs.{Indexed.found_is, Whole.contained}
 use Rattle.office_admission.proofs.Adding.{given_after}
@@ -22,6 +21,7 @@ use Rattle.office_parts.proofs.{Takings.visits_same, Takings.own_rows, Orders.nu
 use Rattle.office_parts.proofs.Opening.{sound_after, own_visits_go, is_beyond_closed, body_found}
 use Rattle.office_parts.proofs.OwnOffices.{KeepsOwn, AreOfOwn, beyond_in, in_beyond, own_shown}
 use Rattle.office_parts.proofs.Splits.{has_contained, contained_has, had_filtered, own_sound}
+use Rattle.office_history.proofs.Offices.{run_within}
 
 -- the settings by their names, as exchanges of two at a time give them, the last first
 settings_shuffled : (content : SetupContent) → IsPermutation (settings_in newest content) (settings_by_name content)
@@ -30,18 +30,6 @@ settings_shuffled content = record {
   below = (omega arith, omega arith, (omega arith, omega arith, (omega arith, omega arith, (omega arith, omega arith, (omega arith, omega arith, (omega arith, omega arith, (omega arith, omega arith, (omega arith, omega arith, tt))))))));
   is = refl;
 }
-
--- no run goes past the numbers of interchanges
-run_high : (content : SetupContent) (es : List Event) (p : ℕ) → run (deliveries_of content es) p ≤ 999999999
-run_high content es p = elim (cases_order (run (deliveries_of content es) p) 0) [
-  | inl none ↦ omega arith
-  | inr o ↦ elim o [
-    | inl below ↦ absurd (omega arith)
-    | inr some ↦
-        let last = some_of (first_text (deliveries_of content es) p (run (deliveries_of content es) p)) (used_within_run (deliveries_of content es) p (run (deliveries_of content es) p) (omega arith) (omega arith)) in
-        (delivered_within content es p (run (deliveries_of content es) p) last.0 last.1).3
-  ]
-]
 
 module _ (content : SetupContent) (es : List Event) (archived : Archived) (own whole rows : Rows) (newest_closed : ℕ) (given : IsGiven content) (are : ArePartsAfter content es archived own whole)
     (left : rows_beyond archived.last_closed rows ≡ own) (once : AreKeptOnce rows.interchanges) (of_whole : (i : Interchange) → Contains rows.interchanges i → Contains whole.interchanges i)
@@ -115,7 +103,7 @@ module _ (content : SetupContent) (es : List Event) (archived : Archived) (own w
       record {
         given = given_after es content given;
         partners = ap (λ (r : Rows). r.partners) left ∙ sym are.parts.partners ∙ are.after.partners;
-        high = run_high content es;
+        high = run_within content es;
         keeps = keeps;
         by_key = record {
           same = same;

@@ -9,7 +9,7 @@ use Rattle.edi_messages.specs.Orders.{EntryContent, OrderContent, gate_in, gate_
 use Rattle.edi_messages.specs.{Parts.EquipmentGroup, Purposes.CallContent, Purposes.Purpose, Purposes.purpose_with, declared.codes.Codes.Codes}
 use Rattle.edi_messages.specs.{declared.line.LineFault.LineFault, declared.message.MessageFault.MessageFault, Types.message_type_of}
 use Rattle.edi_messages.specs.{declared.code.CodeTable.CodeTable, declared.codes.PartnerKind.PartnerKind, declared.message.MessageType.MessageType}
-use Rattle.edi_messages.specs.declared.order.OrderKind.{OrderKind}
+use Rattle.edi_messages.specs.{declared.order.OrderKind.OrderKind, Codes.table_texts, Codes.order_meant}
 use Rattle.edi_messages.specs.declared.message.MessageFault.TheVariants.{Function, Code}
 use Rattle.terminal_core.specs.{declared.change.Version.Version, State.TerminalState, Versions.newest}
 use Rattle.terminal_core.specs.declared.change.Version.TheVariants.{First, Second, Third}
@@ -19,16 +19,13 @@ use Rattle.office_admission.specs.Taking.{list_of, list_replaced, side_listed, M
 use Rattle.office_parts.specs.{OwnLists.ListName, OwnLists.list_name, Archives.Archive, Alike.AwayIsAlike, Away.AreAway, Away.HasDoneLine, Away.lists_after}
 use Rattle.office_parts.specs.Naming.{lists_in_order, side_named, list_if_any, list_read, AreHere, interchange_lists, lists_named_by, lists_opened}
 use Rattle.std.specs.Prelude.{◌&&◌, ◌||◌, not}
-use Rattle.edi_messages.specs.Codes.{code_text, table_texts, meanings, order_meant}
-use Rattle.edi_messages.specs.declared.codes.PartnerKind.TheVariants.{Gate, Line, Quay, Yard}
-use Rattle.edi_messages.specs.declared.message.MessageType.TheVariants.{Codeco, Coprar, Coarri}
 use Rattle.partner_core.specs.{Deliveries.Delivery, Deliveries.run, Numbered.with_number, Order.state}
 use Rattle.office_admission.specs.{Accounts.content_after, Deliveries.deliveries_of, Setups.SetupContent}
 use Rattle.office_replies.specs.Events.{Event}
 use Rattle.office_rows.specs.Rows.{Rows}
 use Rattle.office_admission.proofs.Forming.{runs_alone}
 use Rattle.office_history.specs.After.{machine_after, machine_with, opening_of, taking_in}
-use Rattle.office_history.proofs.Alike.{codes_after, delivered_with_codes, now_with_codes, opening_like, state_like, taking_with_codes, with_codes}
+use Rattle.office_history.proofs.Alike.{codes_after, delivered_with_codes, now_with_codes, opening_like, state_like, taking_with_codes, with_codes, meant_by, SameTexts}
 use Rattle.office_history.proofs.Places.{alone_in}
 use Rattle.edi_messages.specs.Purposes as purpose
 use Rattle.edi_messages.specs.declared.message.MessageFault.TheVariants as fault
@@ -170,25 +167,6 @@ module _ (away : ListName → Bool) where
 
 -- ---- codes
 
-abbrev SameTexts : CodeTable → CodeTable → Type 0
-SameTexts t u = table_texts t ≡ table_texts u
-
-meant_same : (t u : CodeTable) → SameTexts t u → (kind : PartnerKind) (type : MessageType) → meanings t kind type ≡ meanings u kind type
-meant_same t u same Gate Codeco =
-    let one : code_text t.gate_in ≡ code_text u.gate_in = cc in
-    let two : code_text t.gate_out ≡ code_text u.gate_out = cc in
-    λ i. (one i, order.GateIn) ∷ (two i, order.GateOut) ∷ []
-meant_same t u same Yard Codeco = let one : code_text t.yard_move ≡ code_text u.yard_move = cc in λ i. (one i, order.Move) ∷ []
-meant_same t u same Line Coprar =
-    let one : code_text t.discharge_list ≡ code_text u.discharge_list = cc in
-    let two : code_text t.load_list ≡ code_text u.load_list = cc in
-    λ i. (one i, order.ListDischarge) ∷ (two i, order.ListLoad) ∷ []
-meant_same t u same Quay Coarri =
-    let one : code_text t.discharge_report ≡ code_text u.discharge_report = cc in
-    let two : code_text t.load_report ≡ code_text u.load_report = cc in
-    λ i. (one i, order.Discharge) ∷ (two i, order.Load) ∷ []
-meant_same t u same kind type = refl
-
 -- ---- what a text names
 
 module _ (t u : CodeTable) (same : SameTexts t u) (text : List ℕ) where
@@ -201,7 +179,7 @@ module _ (t u : CodeTable) (same : SameTexts t u) (text : List ℕ) where
 
     order_same : (type : MessageType) (name : List ℕ) → order_meant one type name ≡ order_meant two type name
     order_same type name =
-        ap (λ l. option_map (λ (meaning : List ℕ × OrderKind). meaning.1) (find (λ (meaning : List ℕ × OrderKind). bytes_eq name meaning.0) l)) (meant_same t u same kind type)
+        ap (λ l. option_map (λ (meaning : List ℕ × OrderKind). meaning.1) (find (λ (meaning : List ℕ × OrderKind). bytes_eq name meaning.0) l)) (meant_by t u same kind type)
 
     kind_same : (message : Message) → order_kind_of one message ≡ order_kind_of two message
     kind_same message i = option_and_then (λ type. option_and_then (λ segment. order_same type (document_name segment) i) (beginning message)) (message_type_of message.header)

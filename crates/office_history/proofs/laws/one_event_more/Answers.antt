@@ -1,7 +1,5 @@
-use Rattle.office_history.proofs.ByKeys.{changes_agree}
+use Rattle.office_history.proofs.{ByKeys.changes_agree, Ground.account_adds_row, KeptNumbers.migration_goes_on}
 use Rattle.office_history.proofs.Lawful.{opening_after, refused_adds, used_adds, early_adds, next_adds}
-use Rattle.office_history.proofs.Ground.{account_adds_row}
-use Rattle.office_history.proofs.KeptNumbers.{migration_goes_on}
 use Rattle.office_history.proofs.laws.one_event_more.Goals as goal
 
 pub returns-clause-changes_agree : goal.returns-clause-changes_agree

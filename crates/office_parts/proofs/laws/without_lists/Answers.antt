@@ -1,5 +1,4 @@
-use Rattle.office_parts.proofs.BringingLemmas.{orders, sound}
-use Rattle.office_parts.proofs.ListTakings.{interchanges, runs}
+use Rattle.office_parts.proofs.{BringingLemmas.orders, BringingLemmas.sound, ListTakings.interchanges, ListTakings.runs}
 use Rattle.office_parts.proofs.Writings.{terminals, runs_written, next_adds, own_office_without}
 use Rattle.office_parts.proofs.laws.without_lists.Goals as goal
 
