@@ -1,5 +1,5 @@
 -- The containers in a yard, by the texts of their slots.
-use Rattle.std.proofs.Common.{◌≡◌, ℕ, ◌+◌, ◌-◌, ◌/◌, ◌%◌, ◌<◌, List, [], ◌∷◌, length, take, drop, Bool, true, ◌∙◌, arith, subst, IsTrue, inl, inr, ◌++◌, map, false, cond, None, Some, refl, sym, ap, codes, Bor, ◌≤◌, Option, is_none, nat_le, Contains, option_map, find, count_by, ◌⊎◌, get_or, T, zero, suc, string_bytes, slice_get, slice_index_or, flat_map, filter, append_assoc}
+use Rattle.std.proofs.Common.{◌≡◌, ℕ, ◌+◌, ◌-◌, ◌/◌, ◌%◌, ◌<◌, List, [], ◌∷◌, length, take, drop, Bool, true, ◌∙◌, arith, subst, IsTrue, inl, inr, ◌++◌, map, false, cond, None, Some, refl, sym, ap, codes, Bor, ◌≤◌, Option, is_none, nat_le, Contains, option_map, find, count_by, ◌⊎◌, get_or, T, zero, suc, string_bytes, slice_get, slice_index_or, flat_map, filter}
 use Rattle.std.specs.Prelude.{◌&&◌, ◌==◌, slice_index, encode_utf8_all, ◌||◌, not, is_some, decimal}
 use Rattle.std.specs.Char.{is_ascii_uppercase, is_ascii_digit}
 use Rattle.std.specs.List.{list_all, list_any, AllByRecursion, join_by}
@@ -30,7 +30,7 @@ use Rattle.std.specs.Cmp.Lexicographic.{slice_cmp}
 use Rattle.std.specs.List.Sorted.{IsStrictlySortedBy}
 use Rattle.std.proofs.lemmas.Option.{same_Some, none-some}
 use Rattle.std.proofs.lemmas.Map.Lookups.{exact_bytes}
-use Rattle.std.proofs.lemmas.List.Elements.{Contains-push_cases, Contains-append_left, Contains-append_right, filter-append}
+use Rattle.std.proofs.lemmas.List.Elements.{Contains-push_cases, Contains-append_left, Contains-append_right}
 use Rattle.std.proofs.lemmas.Map.Keys.{IsDistinct-from_sorted, sorted_head, sorted_tail}
 use Rattle.std.proofs.lemmas.Map.Views.{Contains-from_lookup, lookup-from_Contains}
 use Rattle.std.proofs.lemmas.List.Sums.{length-filter}
@@ -52,7 +52,6 @@ use Rattle.office_reports.specs.Yard.{shown_standing, slot_in, StandsAt, standin
 use Rattle.std.specs.declared.cmp.Ordering.TheVariants.{Less}
 use Rattle.office_admission.specs.declared.setup.Account.{Account}
 use Rattle.office_admission.specs.declared.setup.Setup.{Setup}
-use Rattle.std.proofs.lemmas.Grind.{flat_map-append}
 use Rattle.box6346.specs.NumberText as number
 use Rattle.box6346.specs.SizeText as size
 use Rattle.std.specs.FinMap.Entries as entries

@@ -1,5 +1,5 @@
 -- The order of the numbers that wait doesn't count.
-use Rattle.std.proofs.Common.{◌≡◌, ℕ, ◌+◌, ◌<◌, ◌≤◌, List, [], ◌∷◌, ◌++◌, length, map, take, Bool, true, false, cond, None, Some, refl, sym, ap, ◌∙◌, arith, get_or, count_by, filter, ◌⊎◌, inl, inr, zero, suc, slice_index_or, min, max, fold, flat_map, codes, decimal, nat_le}
+use Rattle.std.proofs.Common.{◌≡◌, ℕ, ◌+◌, ◌<◌, ◌≤◌, List, [], ◌∷◌, ◌++◌, length, map, take, Bool, true, false, cond, None, Some, refl, sym, ap, ◌∙◌, arith, get_or, count_by, filter, ◌⊎◌, inl, inr, zero, suc, slice_index_or, min, max, fold, nat_le}
 use Rattle.std.specs.List.{prefix_len, insert, AllZip, Contains}
 use Rattle.std.proofs.lemmas.List.{map-append, take_more, take_all}
 use Rattle.box6346.specs.declared.box_number.BoxNumber.{BoxNumber}
@@ -16,7 +16,6 @@ use Rattle.office_reports.proofs.CallLemmas.{put_there, still_none, put_kept, pr
 use Rattle.std.specs.List.Sorted.{IsPermutation}
 use Rattle.std.proofs.lemmas.Bool.{cases_Bool, leb-true, leb-false}
 use Rattle.std.proofs.lemmas.List.Sorted.{IsPermutation-sym, Contains-permutation, length_permutation}
-use Rattle.office_reports.specs.Names.{line}
 use Rattle.office_reports.specs.Partners.{PartnerContent, AreAlike, partners_text, row_of, rows_text, waiting_count, waiting_of}
 use Rattle.std.specs.FinMap as finite_map
 
