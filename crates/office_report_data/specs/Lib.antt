@@ -1,0 +1,4 @@
+pub mod ContainerJson
+pub mod PartnersJson
+pub mod Words
+pub mod WorkJson
