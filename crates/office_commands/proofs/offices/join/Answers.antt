@@ -1,19 +1,21 @@
-use Rattle.std.proofs.Common.{sym, ◌∙◌}
-use Rattle.std.proofs.lemmas.Result.{IfOk-weaker}
+use Rattle.std.proofs.Common.{◌≡◌, List, [], sym, ap, subst, ◌∙◌}
 use Rattle.office_closing.specs.Register.{register_content}
-use Rattle.office_commands.proofs.OpenLemmas.{empty_if, some_if}
+use Rattle.office_desk.specs.declared.desk.Desk.{Desk}
+use Rattle.office_loading.specs.Closed.{closed_content}
+use Rattle.office_parts.specs.Archives.{Archive}
+use Rattle.office_commands.specs.Beside.{IsAlone}
+use Rattle.office_commands.proofs.OpenLemmas.{closes_nothing, loaded_as, opened_over, opened_whole, opens_at, opens_on}
 use Rattle.office_commands.proofs.offices.join.Goals as goal
 
--- Nothing was put away.
-pub returns-then-names_none : goal.returns-then-names_none
-returns-then-names_none g c =
-    let names = register_content c.args.register in
-    let none = empty_if names.archives (sym c.names_none.ensures ∙ c.if-names_none.true) in
-    IfOk-weaker c.open_alone.result _ _ (λ office it. it names c.requires.sound none) c.open_alone.ensures
-
-pub join_archives-requires : goal.join_archives-requires
-join_archives-requires g c = record {
-  idle = c.requires.idle;
-  sound = c.requires.sound;
-  some = some_if (register_content c.args.register).archives (sym c.names_none.ensures ∙ c.if-names_none.false);
-}
+-- The desk is over what was loaded, beside the archives that the register names.
+pub returns : goal.returns
+returns g c found image shows loaded =
+    let was = c.args.loaded in
+    let names = register_content was.register in
+    let desk = c.into_desk-desk.result in
+    let office = c.new.result in
+    let its = loaded_as g.S.Store found c.args.looked.conn was.closed was.setup was.there desk c.into_desk-desk.ensures.conn c.into_desk-desk.ensures.closed c.into_desk-desk.ensures.setup loaded in
+    let settled = λ sound db left. g.met.S.Store.settled desk.conn.store db sound.1 left in
+    let over = opened_over g.S.Store found desk was.there its c.into_desk-desk.ensures.beside settled in
+    let closed : closed_content desk.closed ≡ _ = ap closed_content c.into_desk-desk.ensures.closed ∙ was.closed_is in
+    ?
