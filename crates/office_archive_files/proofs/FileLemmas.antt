@@ -1,5 +1,5 @@
 -- A closing over files is one over connections that show what the files held.
-use Rattle.std.proofs.Common.{◌≡◌, inl, inr, ℕ, List, true, false, Result, sym, ap, subst, ◌∙◌, arith}
+use Rattle.std.proofs.Common.{◌≡◌, inl, inr, ℕ, List, Bool, true, false, Result, sym, ap, subst, ◌∙◌, arith}
 use Rattle.sqlite_schema.specs.Names.{same_name}
 use Rattle.sqlite.specs.Effect.{Database}
 use Rattle.sqlite.specs.Held as connection
@@ -35,7 +35,7 @@ use Rattle.office_archive_files.specs.Stops.{MayBeClosed, StopsAreNoEvents, Stop
 -- ---- one file
 
 -- the tables of a register are in its schema
-never_missing : (layout : Layout) → AreMissing register_tables (schema_in layout) → ⊥
+pub never_missing : (layout : Layout) → AreMissing register_tables (schema_in layout) → ⊥
 unfolding same_name
 never_missing older missing = let none : true ≡ false = missing.0 in absurd cc
 never_missing whole missing = let none : true ≡ false = missing.0 in absurd cc
@@ -49,7 +49,7 @@ module _ {S : Type 0} (g : Ghosts S) (image : Image) (conn : connection.Held S) 
   has_rows rows shows settled holds = subst (HasRows rows) (sym (shows_rows rows shows settled holds)) holds.are
 
   -- the register that they held, or the empty one that was made
-  module _ {may_make : Bool} (register : RegisterContent) (shows : ShowsRegister g image may_make conn) where
+  module _ {may_make names_none : Bool} (register : RegisterContent) (shows : ShowsRegister g image may_make names_none conn) where
     has_committed : HoldsRegister image register → HasRegister register (state g conn).committed
     has_committed (inl (db, held, (layout, has))) =
         let found : (state g shows.found).committed ≡ record { schema = schema_in layout; trees = db } = shows.shows (shows.clean clean) db (schema_in layout) held has.listed in

@@ -1,5 +1,5 @@
 -- What the command that puts history away does to the four files that it opens.
-use Rattle.std.specs.Prelude.{◌≡◌, ◌≢◌, ◌⊎◌, ⊤, ℕ, Bool, true, false, IsTrue, List, [], Result}
+use Rattle.std.specs.Prelude.{◌≡◌, ◌≢◌, ◌⊎◌, ⊤, ℕ, Bool, true, false, IsTrue, ◌==◌, List, length, Result}
 use Rattle.sqlite_trees.specs.declared.store.Store.{Ghosts}
 use Rattle.sqlite.specs.Held.{Held, state}
 use Rattle.sqlite.specs.Recovery.{Image}
@@ -47,20 +47,21 @@ module _ {S : Type 0} (g : Ghosts S) where
   abbrev pub MayMakeRegister : (may_make : Bool) → (found conn : Held S) → Type 0
   MayMakeRegister may_make found conn = KeepsRegister found conn ⊎ (IsTrue may_make × MakesRegister found conn)
 
-  -- what is told of the sound register that is committed: whether it names no archive
+  -- of whatever sound register is committed, it is told whether it names no archive
   abbrev pub TellsNone : (conn : Held S) → (names_none : Bool) → Type 0
   TellsNone conn names_none =
-      HasCleanDisk (state g conn) → (content : RegisterContent) → HasRegister content (state g conn).committed → IsSound content
-      → IsTrue names_none → content.archives ≡ []
+      (content : RegisterContent) → HasRegister content (state g conn).committed → IsSound content
+      → names_none ≡ (length content.archives == 0)
 
-  -- A connection shows what its file held, or the tables of an empty register were made in that, if they may be. All is
-  -- committed, and a crash leaves only that.
-  pub record ShowsRegister (image : Image) (may_make : Bool) (conn : Held S) : Type 0 where
+  -- A connection shows what its file held, of which that is told, or the tables of an empty register were made in that, if they
+  -- may be. All is committed, and a crash leaves only that.
+  pub record ShowsRegister (image : Image) (may_make names_none : Bool) (conn : Held S) : Type 0 where
     pub found : Held S
     pub shows : Shows g image found
     pub empty : HasCleanDisk (state g found) → HoldsNoTables image → (state g found).committed.schema ≡ no_schema
     pub clean : HasCleanDisk (state g conn) → HasCleanDisk (state g found)
     pub made : HasCleanDisk (state g conn) → MayMakeRegister may_make found conn
+    pub tells : HasCleanDisk (state g conn) → TellsNone found names_none
     pub settled : HasCleanDisk (state g conn) → IsSettled (state g conn)
 
 -- why one of the files is not opened: memory was refused, the file failed or is damaged; or the archive lacks its register,
@@ -78,12 +79,12 @@ pub record AreOpened {S R A M : Type 0} (s : Ghosts S) (r : Ghosts R) (a : Ghost
     (own : Held S) (register : Held R) (copy : Held A) (copied : Held M) : Type 0 where
   pub own_shows : Shows s images.store own
   pub own_settled : HasCleanDisk (state s own) → IsSettled (state s own)
-  pub register_shows : ShowsRegister r images.register true register
   pub names_none : Bool
-  pub tells_none : TellsNone r register names_none
+  pub register_shows : ShowsRegister r images.register true names_none register
   pub copy_shows : Shows a images.archive copy
   pub copy_settled : HasCleanDisk (state a copy) → IsSettled (state a copy)
-  pub copied_shows : ShowsRegister m images.archive_register names_none copied
+  pub copied_none : Bool
+  pub copied_shows : ShowsRegister m images.archive_register names_none copied_none copied
   pub idle : AreIdle (files s r a m own register copy copied)
 
 -- Four such connections were opened, and closing them under the names of the two paths left these, with that answer.

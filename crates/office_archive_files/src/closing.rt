@@ -309,8 +309,7 @@ fn open_register<S: Alter + Drop, F: ClosingFile<S> + Drop>(
     file: File,
 ) -> Result<(Connection<S>, bool), CloseFault>
     ensures idle { IfOk result (λ opened. opened.0.in_transaction ≡ false) }
-    ensures shows { IfOk result (λ opened. ShowsRegister S.Store F.image may_make opened.0) }
-    ensures names { IfOk result (λ opened. TellsNone S.Store opened.0 opened.1) }
+    ensures shows { IfOk result (λ opened. ShowsRegister S.Store F.image may_make opened.1 opened.0) }
     ensures fault { IfErr result (IsOfOpening file may_make) }
 {
     let path = register_path(rt.alloc(), office)?;
@@ -330,8 +329,8 @@ fn open_made<S: Alter + Drop, F: ClosingFile<S> + Drop>(
     may_make: bool,
 ) -> Result<Option<(Connection<S>, bool)>, TableFault>
     ensures idle { IfOk result (λ found. IfSome found (λ opened. opened.0.in_transaction ≡ false)) }
-    ensures shows { IfOk result (λ found. IfSome found (λ opened. ShowsRegister S.Store F.image may_make opened.0)) }
-    ensures names { IfOk result (λ found. IfSome found (λ opened. TellsNone S.Store opened.0 opened.1)) }
+    ensures shows { IfOk result (λ found. IfSome found (λ opened.
+        ShowsRegister S.Store F.image may_make opened.1 opened.0)) }
     ensures none { IfOk result (λ found. IfNone found (may_make ≡ false)) }
     ensures fault { IfErr result (IsOfStoreOr ⊤) }
 {
@@ -359,7 +358,8 @@ fn make_tables<S: Alter>(
         MayMakeRegister S.Store may_make conn.old conn.new)) }
     ensures settled { HasCleanDisk (state S.Store conn.new) → IfOk result (λ found. IfSome found (λ names_none.
         IsSettled (state S.Store conn.new))) }
-    ensures names { IfOk result (λ found. IfSome found (TellsNone S.Store conn.new)) }
+    ensures tells { HasCleanDisk (state S.Store conn.new) → IfOk result (λ found.
+        IfSome found (TellsNone S.Store conn.old)) }
     ensures none { IfOk result (λ found. IfNone found (may_make ≡ false)) }
     ensures unmade { HasCleanDisk (state S.Store conn.new) → IsTrue (state S.Store conn.new).is_open →
         IfOk result (λ found. IfNone found ((state S.Store conn.new).committed ≡ (state S.Store conn.old).committed)) }

@@ -39,7 +39,7 @@ use Rattle.office_parts.specs.OwnLists.{rows_without_lists}
 use Rattle.office_archives.specs.Shelves.{NamesAll}
 use Rattle.office_archives.specs.Together.{IsBesideAfter}
 use Rattle.office_archives.proofs.Filled.{opened_beside}
-use Rattle.office_commands.specs.Beside.{IsLoaded, IsOpenedOver, IsOpenedWhole, OpensFor, OpensOn}
+use Rattle.office_commands.specs.Beside.{IsLoaded, IsOpenedOver, IsOpenedWhole, OpensFor, OpensOn, OpensWith}
 
 pub opens_for : {S : Type 0} (g : Ghosts S) (found : Held S) (desk : Desk S g) → IsOpenedOver g found desk → IsSound g desk → (list : List Archive) (content : SetupContent) (es : List Event) → IsGiven content →
     (state g found).committed.schema ≡ office_schema → IsBesideAfter list (closed_content desk.closed) content es (state g found).committed.trees → OpensFor g list content es desk
@@ -188,3 +188,17 @@ loaded_as g found conn closed setup there desk conn_is closed_is setup_is loaded
     subst (λ (h : Held _). IsLoaded g found h (closed_content desk.closed) (setup_content desk.setup) there) (sym conn_is)
     (subst (λ (k : Closed). IsLoaded g found conn (closed_content k) (setup_content desk.setup) there) (sym closed_is)
     (subst (λ (s : Setup). IsLoaded g found conn (closed_content closed) (setup_content s) there) (sym setup_is) loaded))
+
+-- beside the archives that the register names
+pub joined_with : {S A : Type 0} (g : Ghosts S) (hold : List Archive → Type 0) (are : List Archive → A → Type 0) (image : Image) (found : Held S) (names : RegisterContent) (desk : Desk S g) (there : Beside) (archives : A) → Shows g image found
+    → IsLoaded g found desk.conn (closed_content desk.closed) (setup_content desk.setup) there → desk.beside ≡ Some there → (IsSound g desk → (db : Trees) → (state g desk.conn).may_leave db → db ≡ (state g desk.conn).committed.trees) → IsTrue (is_sound names) → closed_content desk.closed ≡ closed_by names
+    → ((list : List Archive) → hold list → NamesAll names list → are list archives) → (names.archives ≡ [] → are [] archives) → OpensWith g hold are image names (desk, archives)
+joined_with g hold are image found names desk there archives shows loaded is settled sound closed these none = record {
+  opens = opens_on g image found desk shows (opened_over g found desk there loaded is settled);
+  sound = sound;
+  closed = closed;
+  these = these;
+  alone = λ empty.
+      let nothing = closed ∙ closes_nothing names sound empty in
+      record { none = none empty; closed = nothing; events = opens_at g image found desk shows (opened_whole g found desk there loaded is settled nothing) };
+}

@@ -8,5 +8,6 @@ returns-in-Some-clause-shows g c = record {
   empty = c.in_ok-conn.ensures.empty;
   clean = c.make_tables.ensures.clean;
   made = c.in_ok-make_tables.ensures.made;
+  tells = c.in_ok-make_tables.ensures.tells;
   settled = c.in_ok-make_tables.ensures.settled;
 }

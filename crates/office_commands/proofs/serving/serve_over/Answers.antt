@@ -3,8 +3,8 @@ use Rattle.office_commands.proofs.serving.serve_over.Goals as goal
 
 pub returns-clause-ok : goal.returns-clause-ok
 returns-clause-ok g c = record {
-  names = c.in_ok-office.ensures.0;
+  names = c.in_ok-office.ensures.opened.0;
   opened = (c.in_ok-office.office.desk, c.in_ok-office.office.archives);
-  is = c.in_ok-office.ensures.1;
-  came = c.serve_desk.ensures (image_at g.S.Start) c.in_ok-office.ensures.1.opens;
+  is = c.in_ok-office.ensures.opened.1;
+  came = c.serve_desk.ensures (image_at g.S.Start) c.in_ok-office.ensures.opened.1.opens;
 }
