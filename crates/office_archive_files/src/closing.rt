@@ -212,12 +212,12 @@ fn close_files<S: Alter + Drop, R: Alter + Drop, A: Alter + Drop, M: Alter + Dro
     alloc: Global,
     store: &str,
     archive: &str,
-    files: ClosingFiles<S, R, A, M>,
+    opened: ClosingFiles<S, R, A, M>,
 ) -> (ClosingFiles<S, R, A, M>, Result<(), CloseFault>)
-    requires { AreIdle (files S.Store R.Store A.Store M.Store files.store files.register files.archive
-        files.archive_register) }
-    ensures { (images : Images) → AreOpened S.Store R.Store A.Store M.Store images files.store files.register files.archive
-        files.archive_register →
+    requires { AreIdle (files S.Store R.Store A.Store M.Store opened.store opened.register opened.archive
+        opened.archive_register) }
+    ensures { (images : Images) → AreOpened S.Store R.Store A.Store M.Store images opened.store opened.register
+        opened.archive opened.archive_register →
         ClosesOver S.Store R.Store A.Store M.Store images store.now archive.now result.0.store result.0.register
         result.0.archive result.0.archive_register result.1 }
 {
@@ -226,7 +226,7 @@ fn close_files<S: Alter + Drop, R: Alter + Drop, A: Alter + Drop, M: Alter + Dro
         register: mut names,
         archive: mut copy,
         archive_register: mut copied,
-    } = files;
+    } = opened;
     let closed = close(
         alloc,
         &mut own,
