@@ -1,4 +1,4 @@
-ghost use Rattle.std.specs.Prelude.{◌≡◌, IfErr, IfOk, IsTrue};
+ghost use Rattle.std.specs.Prelude.{◌≡◌, IfErr, IfOk, IsTrue, string_bytes};
 ghost use Rattle.sqlite.specs.Held.{state};
 ghost use Rattle.sqlite.specs.State.{HasCleanDisk};
 ghost use Rattle.office_admission.specs.Given.{IsGiven};
@@ -52,7 +52,9 @@ pub(crate) fn load_office<S: Alter>(
     register: Register,
 ) -> Result<Loaded, TableFault>
     requires { IsTrue (is_sound (register_content register)) }
+    ensures path { IfOk result (λ loaded. string_bytes loaded.path ≡ store.now) }
     ensures register { IfOk result (λ loaded. loaded.register ≡ register) }
+    ensures copy { IfOk result (λ loaded. setup_content loaded.copy ≡ setup_content loaded.setup) }
     ensures loaded { IfOk result (λ loaded. IsLoaded S.Store looked.old.conn looked.new.conn (closed_content loaded.closed)
         (setup_content loaded.setup) loaded.there) }
     ensures refused { HasCleanDisk (state S.Store looked.new.conn) → IsTrue (state S.Store looked.new.conn).is_open →

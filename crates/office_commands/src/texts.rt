@@ -92,14 +92,8 @@ fn print_loaded<
     if names_none(&register) {
         return print_kept(alloc, desk, from, writer);
     }
-    print_journal(
-        alloc,
-        desk,
-        &register,
-        beside.shelf_of(path, copy),
-        from,
-        writer,
-    )
+    let shelf = beside.shelf_of(path, copy);
+    print_journal(alloc, desk, &register, shelf, from, writer)
 }
 
 /// Prints the texts of the store that a desk is over, as `texts_over` does, and gives its connection back. Over stores of any

@@ -47,8 +47,8 @@ returns g c found image shows loaded =
       names = register_content was.register;
       opens = opens_on g.S.Store image found opened shows (opened_over g.S.Store found opened was.there its made.ensures.beside (λ sound db left. g.met.S.Store.settled opened.conn.store db sound.1 left));
       printed = inr (record {
-        shelf = c.shelf_of.result;
-        beside = record { sound = was.sound; closed = ap closed_content made.ensures.closed ∙ was.closed_is; these = c.shelf_of.ensures };
+        shelf = c.shelf_of-shelf.result;
+        beside = record { sound = was.sound; closed = ap closed_content made.ensures.closed ∙ was.closed_is; these = c.shelf_of-shelf.ensures };
         prints = c.print_journal.ensures.prints;
         reads = c.print_journal.ensures.reads;
       });
