@@ -1,3 +1,5 @@
+use Rattle.std.proofs.Common.{refl}
+use Rattle.std.proofs.lemmas.Result.{err_from_is_err_and}
 use Rattle.sqlite.specs.WalFiles.{image_at}
 use Rattle.office_commands.proofs.deliver.account_over.Goals as goal
 
@@ -8,3 +10,8 @@ returns-clause-ok g c = record {
   is = c.in_ok-office.ensures.opened.1;
   came = c.ask_desk-status.ensures (image_at g.S.Start) c.in_ok-office.ensures.opened.1.opens;
 }
+
+pub returns-in_err-office-clause-refused : goal.returns-in_err-office-clause-refused
+returns-in_err-office-clause-refused g c =
+    let p = err_from_is_err_and c.from_residual.result c.from_residual.ensures.1 in
+    rw (p.1, p.2) (c.in_err-office.ensures.refused, refl)
