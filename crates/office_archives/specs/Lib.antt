@@ -4,6 +4,7 @@ pub mod Standing
 pub mod Reporting
 pub mod Telling
 pub mod Causes
+pub mod Loading
 pub mod Together
 pub mod Bringing
 pub mod ListsAway

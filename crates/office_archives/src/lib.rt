@@ -21,7 +21,7 @@ mod writing;
 
 pub use archived_desk::ArchivedDesk;
 pub use archives::{Archives, answer_closed};
-pub use looked::Looked;
+pub use looked::{Looked, LookedStore};
 pub use many_archives::{ManyArchives, Shelf};
 pub use opened::Opened;
 pub use passing::Rest;

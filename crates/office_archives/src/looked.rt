@@ -14,8 +14,8 @@ use sqlite::{Alter, Connection};
 use std::alloc::Global;
 use std::io::Write;
 
-/// A store, an archive or a register that is open to be only read. Nothing here writes, and the connection is given out only as
-/// that of a desk: so nobody who has it can write, and it may be dropped at any time.
+/// A store, an archive or a register that is open to be only read. Nothing here writes, and the connection is not given out:
+/// so nobody who has it can write, and it may be dropped at any time.
 #[derive(Drop)]
 pub struct Looked<S: Alter> {
     conn: Connection<S>,
@@ -23,25 +23,20 @@ pub struct Looked<S: Alter> {
 }
 
 impl<S: Alter> Looked<S> {
-    ghost use Rattle.std.specs.Prelude.{None, Some, ⊤, IfErr, IfOk, IsTrue, option_map, string_bytes};
+    ghost use Rattle.std.specs.Prelude.{⊤, IfErr, IfOk, IsTrue, option_map, string_bytes};
     ghost use Rattle.sqlite.specs.Held.{state};
     ghost use Rattle.sqlite.specs.State.{HasCleanDisk};
-    ghost use Rattle.office_admission.specs.Given.{IsGiven};
-    ghost use Rattle.office_admission.specs.Setups.{setup_content};
+    ghost use Rattle.office_archives.specs.Loading.{Loads};
     ghost use Rattle.office_archives.specs.Keeping.{IsReportOf, IsTicketOf};
     ghost use Rattle.office_archives.specs.Parts.{LeavesPort, WritesPart};
     ghost use Rattle.office_archives.specs.Texts.{HasInOrder};
     ghost use Rattle.office_closing.specs.Register.{RegisterContent, register_content};
     ghost use Rattle.office_closing.specs.Sound.{IsSound, is_sound};
     ghost use Rattle.office_closing.specs.Stored.{HasRegister};
-    ghost use Rattle.office_desk.specs.Offices.{FailsToOpen};
     ghost use Rattle.office_history.specs.After.{AreKeptOnce};
     ghost use Rattle.office_loading.specs.Closed.{closed_content, last_closed};
-    ghost use Rattle.office_loading.specs.Tables.{LoadsOwn};
     ghost use Rattle.office_rows.specs.Rows.{Rows};
-    ghost use Rattle.office_rows.specs.Shown.{AreNexts};
     ghost use Rattle.office_rows.specs.Stored.{HasRows};
-    ghost use Rattle.office_rows.specs.Tables.{office_schema};
     ghost use Rattle.office_tables.specs.Answers.{HasUnfitReply, IsKept};
     ghost use Rattle.office_tables.specs.DeliveryReading.{OnlyReads};
     ghost use Rattle.office_tables.specs.Faults.{IsOfStore, IsOfStoreOr};
@@ -60,34 +55,11 @@ impl<S: Alter> Looked<S> {
     /// Version if no setting names this version; Damaged if the rows are those of no office; Store and Memory say nothing of
     /// the rows.
     pub fn load(&mut self, alloc: Global, closed: &Closed) -> Result<(Setup, Beside), TableFault>
-        ensures loaded { HasCleanDisk (state S.Store self.new.conn) →
-            (state S.Store self.old.conn).committed.schema ≡ office_schema → IfOk result (λ p.
-            LoadsOwn (closed_content closed.now) (state S.Store self.old.conn).committed (setup_content p.0)
-            p.1.terminal) }
-        ensures nexts { HasCleanDisk (state S.Store self.new.conn) → IfOk result (λ p. (rows : Rows) →
-            HasRows rows (state S.Store self.old.conn).committed → AreNexts rows p.1.nexts.items) }
-        ensures given { IfOk result (λ p. IsGiven (setup_content p.0)) }
-        ensures refused { HasCleanDisk (state S.Store self.new.conn) → IsTrue (state S.Store self.new.conn).is_open →
-            (state S.Store self.old.conn).committed.schema ≡ office_schema →
-            IfErr result (FailsToOpen (closed_content closed.now) (state S.Store self.old.conn).committed) }
-        ensures reads { Reads (state S.Store self.old.conn) (state S.Store self.new.conn) result }
+        ensures { Loads S.Store (closed_content closed.now) self.old.conn self.new.conn result }
     {
         let is_idle = self.conn.is_autocommit();
         prove!(is_idle);
         load_beside(alloc, &mut self.conn, closed)
-    }
-
-    /// The desk over the store, with what was loaded of it: from then on it may be written.
-    pub fn into_desk(self, setup: Setup, closed: Closed, beside: Beside) -> Desk<S>
-        requires { IsGiven (setup_content setup) }
-        ensures conn { result.conn ≡ self.conn }
-        ensures setup { result.setup ≡ setup }
-        ensures closed { result.closed ≡ closed }
-        ensures beside { result.beside ≡ Some beside }
-        ensures no_fault { result.last_fault ≡ None }
-    {
-        let Looked { conn } = self;
-        Desk::new(conn, setup, closed, beside)
     }
 
     /// The register that the tables hold.
@@ -189,5 +161,51 @@ impl<S: Alter> Looked<S> {
         let is_idle = self.conn.is_autocommit();
         prove!(is_idle);
         write_part(alloc, &mut self.conn, before, after, rest, writer)
+    }
+}
+
+/// A store that is open, and is only read until it was loaded: then it becomes a desk.
+#[derive(Drop)]
+pub struct LookedStore<S: Alter> {
+    inner: Looked<S>,
+}
+
+impl<S: Alter> LookedStore<S> {
+    ghost use Rattle.std.specs.Prelude.{None, Some};
+    ghost use Rattle.office_admission.specs.Given.{IsGiven};
+    ghost use Rattle.office_admission.specs.Setups.{setup_content};
+    ghost use Rattle.office_archives.specs.Loading.{Loads};
+    ghost use Rattle.office_loading.specs.Closed.{closed_content};
+
+    /// The store that a connection leads to.
+    pub fn new(conn: Connection<S>) -> LookedStore<S>
+        requires { conn.in_transaction ≡ false }
+        ensures { result.inner.conn ≡ conn }
+    {
+        LookedStore {
+            inner: Looked::new(conn),
+        }
+    }
+
+    /// The set-up that its tables hold, of which that is closed, and what is kept in memory beside them, as `Looked::load`
+    /// gives them.
+    pub fn load(&mut self, alloc: Global, closed: &Closed) -> Result<(Setup, Beside), TableFault>
+        ensures { Loads S.Store (closed_content closed.now) self.old.inner.conn self.new.inner.conn result }
+    {
+        self.inner.load(alloc, closed)
+    }
+
+    /// The desk over it, with what was loaded of it: from then on it may be written.
+    pub fn into_desk(self, setup: Setup, closed: Closed, beside: Beside) -> Desk<S>
+        requires { IsGiven (setup_content setup) }
+        ensures conn { result.conn ≡ self.inner.conn }
+        ensures setup { result.setup ≡ setup }
+        ensures closed { result.closed ≡ closed }
+        ensures beside { result.beside ≡ Some beside }
+        ensures no_fault { result.last_fault ≡ None }
+    {
+        let LookedStore { inner } = self;
+        let Looked { conn } = inner;
+        Desk::new(conn, setup, closed, beside)
     }
 }

@@ -12,7 +12,7 @@ ghost use Rattle.office_rows.specs.Tables.{office_schema};
 ghost use Rattle.office_tables.specs.DeliveryReading.{OnlyReads};
 
 use office_admission::Setup;
-use office_archives::Looked;
+use office_archives::LookedStore;
 use office_closing::Register;
 use office_desk::Beside;
 use office_loading::Closed;
@@ -48,19 +48,19 @@ pub(crate) struct Loaded {
 pub(crate) fn load_office<S: Alter>(
     alloc: Global,
     store: &str,
-    looked: &mut Looked<S>,
+    looked: &mut LookedStore<S>,
     register: Register,
 ) -> Result<Loaded, TableFault>
     requires { IsTrue (is_sound (register_content register)) }
     ensures path { IfOk result (λ loaded. string_bytes loaded.path ≡ store.now) }
     ensures register { IfOk result (λ loaded. loaded.register ≡ register) }
     ensures copy { IfOk result (λ loaded. setup_content loaded.copy ≡ setup_content loaded.setup) }
-    ensures loaded { IfOk result (λ loaded. IsLoaded S.Store looked.old.conn looked.new.conn (closed_content loaded.closed)
+    ensures loaded { IfOk result (λ loaded. IsLoaded S.Store looked.old.inner.conn looked.new.inner.conn (closed_content loaded.closed)
         (setup_content loaded.setup) loaded.there) }
-    ensures refused { HasCleanDisk (state S.Store looked.new.conn) → IsTrue (state S.Store looked.new.conn).is_open →
-        (state S.Store looked.old.conn).committed.schema ≡ office_schema →
-        IfErr result (IsUnloaded (closed_by (register_content register)) (state S.Store looked.old.conn).committed) }
-    ensures reads { OnlyReads (state S.Store looked.old.conn) (state S.Store looked.new.conn) result }
+    ensures refused { HasCleanDisk (state S.Store looked.new.inner.conn) → IsTrue (state S.Store looked.new.inner.conn).is_open →
+        (state S.Store looked.old.inner.conn).committed.schema ≡ office_schema →
+        IfErr result (IsUnloaded (closed_by (register_content register)) (state S.Store looked.old.inner.conn).committed) }
+    ensures reads { OnlyReads (state S.Store looked.old.inner.conn) (state S.Store looked.new.inner.conn) result }
 {
     let path = String::from_str(alloc, store)?;
     let closed = register.closed(alloc)?;

@@ -18,10 +18,10 @@ ghost use Rattle.sqlite.specs.WalFiles.{image_at};
 
 use crate::beside::ArchivesBeside;
 use crate::loaded::{Loaded, load_office};
-use crate::opening::look_there;
+use crate::opening::{look_there, open_there};
 use crate::register::{names_none, no_archives, read_history};
 use office_admission::Setup;
-use office_archives::{ArchivedDesk, Archives, Looked};
+use office_archives::{ArchivedDesk, Archives, Looked, LookedStore};
 use office_closing::Register;
 use office_tables::TableFault;
 use sqlite::{Alter, FileFrom, FileStore, Start};
@@ -99,18 +99,18 @@ pub fn open_to_look<S: Start, A: Archives, M: ArchivesBeside<A>>(
     }
 }
 
-/// The store at a path, as it is opened first: to be only read.
+/// The store at a path, as it is opened first: to be only read until it was loaded.
 pub(crate) fn look_at_store<S: Start>(
     rt: &HostRuntime,
     store: &str,
     start: S,
-) -> Result<Looked<FileStore<FileFrom<S>>>, OpenFault>
-    ensures found { IfOk result (λ looked. HasCleanDisk (file_state looked.conn) →
-        ShowsHeld (image_at S.Start) looked.conn) }
+) -> Result<LookedStore<FileStore<FileFrom<S>>>, OpenFault>
+    ensures found { IfOk result (λ looked. HasCleanDisk (file_state looked.inner.conn) →
+        ShowsHeld (image_at S.Start) looked.inner.conn) }
     ensures refused { IfErr result IsUnopened }
 {
-    match look_there(rt, store, start) {
-        Ok(looked) => Ok(looked),
+    match open_there(rt, store, start) {
+        Ok(conn) => Ok(LookedStore::new(conn)),
         Err(fault) => Err(OpenFault::Store(fault)),
     }
 }
@@ -151,7 +151,10 @@ pub fn look_at_office<S: Start>(
         IsSetUpHeld (image_at S.Start) (closed_by (register_content looked.1)) (setup_content looked.2)) }
     ensures refused { IfErr result (IsRefused over_files (image_at S.Start) ⊥) }
 {
-    let mut looked = look_at_store(rt, store, start)?;
+    let mut looked = match look_there(rt, store, start) {
+        Ok(looked) => looked,
+        Err(fault) => return Err(OpenFault::Store(fault)),
+    };
     let register = read_names(rt, store)?;
     match read_setup(rt.alloc(), &mut looked, &register) {
         Ok(setup) => Ok((looked, register, setup)),
@@ -181,12 +184,12 @@ fn read_setup<S: Alter>(
 
 /// The store that was loaded, with its archives.
 fn join<S: Alter + Drop, A: Archives, M: ArchivesBeside<A>>(
-    looked: Looked<S>,
+    looked: LookedStore<S>,
     loaded: Loaded,
     beside: &M,
 ) -> ArchivedDesk<S, A>
     ensures { (found : _) (image : Image) → Shows S.Store image found →
-        IsLoaded S.Store found looked.conn (closed_content loaded.closed) (setup_content loaded.setup) loaded.there →
+        IsLoaded S.Store found looked.inner.conn (closed_content loaded.closed) (setup_content loaded.setup) loaded.there →
         OpensWith S.Store M.hold A.are image (register_content loaded.register) (result.desk, result.archives) }
 {
     let Loaded {

@@ -23,7 +23,7 @@ use crate::loaded::{Loaded, load_office};
 use crate::offices::{OpenFault, look_at_store, read_names};
 use crate::register::names_none;
 use crate::telling::{DONE, FAILED, REFUSED, print};
-use office_archives::{Looked, Shelf, write_journal};
+use office_archives::{LookedStore, Shelf, write_journal};
 use office_closing::Register;
 use office_desk::Desk;
 use office_loading::{Written, flush, write_texts};
@@ -69,14 +69,14 @@ fn print_loaded<
     W: Write,
 >(
     alloc: Global,
-    looked: Looked<S>,
+    looked: LookedStore<S>,
     loaded: Loaded,
     beside: &M,
     from: u32,
     writer: &mut Port<W>,
 ) -> (Connection<S>, Result<u8, TableFault>)
     ensures { (found : _) (image : Image) → Shows S.Store image found →
-        IsLoaded S.Store found looked.conn (closed_content loaded.closed) (setup_content loaded.setup) loaded.there →
+        IsLoaded S.Store found looked.inner.conn (closed_content loaded.closed) (setup_content loaded.setup) loaded.there →
         ArePrintedOver S.Store T.Store M.hold F.holds (OpensOn T.Store F.is_known F.holds) image from
         (W.contents writer.old.inner) (W.contents writer.new.inner) writer.new.failed writer.new.flushed result.0 result.1 }
 {

@@ -15,7 +15,7 @@ returns g c found image shows loaded =
     let names = register_content was.register in
     let made = c.into_desk-desk in
     let desk = made.result in
-    let its = loaded_as g.S.Store found c.args.looked.conn was.closed was.setup was.there desk made.ensures.conn made.ensures.closed made.ensures.setup loaded in
+    let its = loaded_as g.S.Store found c.args.looked.inner.conn was.closed was.setup was.there desk made.ensures.conn made.ensures.closed made.ensures.setup loaded in
     let with_it : OpensWith g.S.Store g.M.ArchivesBeside.hold g.A.Archives.are image names (desk, c.archives_of-archives.result) =
     joined_with g.S.Store g.M.ArchivesBeside.hold g.A.Archives.are image found names desk was.there c.archives_of-archives.result shows its made.ensures.beside (λ sound db left. g.met.S.Store.settled desk.conn.store db sound.1 left)
     was.sound (ap closed_content made.ensures.closed ∙ was.closed_is) c.archives_of-archives.ensures.these c.archives_of-archives.ensures.none in

@@ -13,7 +13,7 @@ use Rattle.office_commands.proofs.offices.open_office.Goals as goal
 pub returns-in-Ok-clause-opened : goal.returns-in-Ok-clause-opened
 returns-in-Ok-clause-opened g c =
     let office = c.join.result in
-    let opens = c.join.ensures c.in_ok-looked.looked.conn (image_at g.S.Start) c.in_ok-looked.ensures.found c.in-Ok.ensures.loaded in
+    let opens = c.join.ensures c.in_ok-looked.looked.inner.conn (image_at g.S.Start) c.in_ok-looked.ensures.found c.in-Ok.ensures.loaded in
     let its = subst (λ (r : Register). OpensWith over_files g.M.ArchivesBeside.hold g.A.Archives.are (image_at g.S.Start) (register_content r) (office.desk, office.archives)) c.in-Ok.ensures.register opens in
     (register_content c.in_ok-register.register, its, c.in_ok-register.ensures.unmarked)
 
@@ -31,4 +31,4 @@ returns-in_err-register-clause-refused g c =
 
 pub returns-in-Err-clause-refused : goal.returns-in-Err-clause-refused
 returns-in-Err-clause-refused g c =
-    inr (unloaded_over over_files (image_at g.S.Start) c.in_ok-looked.looked.conn c.load_office.new.looked.conn (register_content c.in_ok-register.register) c.load_office.result c.in-Err.fault c.in_ok-looked.ensures.found c.in_ok-register.ensures.sound c.load_office.ensures.reads c.in-Err.ensures.refused)
+    inr (unloaded_over over_files (image_at g.S.Start) c.in_ok-looked.looked.inner.conn c.load_office.new.looked.inner.conn (register_content c.in_ok-register.register) c.load_office.result c.in-Err.fault c.in_ok-looked.ensures.found c.in_ok-register.ensures.sound c.load_office.ensures.reads c.in-Err.ensures.refused)

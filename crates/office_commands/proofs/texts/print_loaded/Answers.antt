@@ -14,7 +14,7 @@ returns-then-names_none g c found image shows loaded =
     let names = register_content was.register in
     let made = c.into_desk-desk in
     let opened = made.result in
-    let its = loaded_as g.S.Store found c.args.looked.conn was.closed was.setup was.there opened made.ensures.conn made.ensures.closed made.ensures.setup loaded in
+    let its = loaded_as g.S.Store found c.args.looked.inner.conn was.closed was.setup was.there opened made.ensures.conn made.ensures.closed made.ensures.setup loaded in
     let none = empty_if names.archives (sym c.names_none.ensures ∙ c.if-names_none.true) in
     let whole = opened_whole g.S.Store found opened was.there its made.ensures.beside (λ sound db left. g.met.S.Store.settled opened.conn.store db sound.1 left) (ap closed_content made.ensures.closed ∙ was.closed_is ∙ closes_nothing names was.sound none) in
     let from = c.args.from in
@@ -41,7 +41,7 @@ returns g c found image shows loaded =
     let was = c.args.loaded in
     let made = c.into_desk-desk in
     let opened = made.result in
-    let its = loaded_as g.S.Store found c.args.looked.conn was.closed was.setup was.there opened made.ensures.conn made.ensures.closed made.ensures.setup loaded in
+    let its = loaded_as g.S.Store found c.args.looked.inner.conn was.closed was.setup was.there opened made.ensures.conn made.ensures.closed made.ensures.setup loaded in
     record {
       opened = opened;
       names = register_content was.register;

@@ -8,7 +8,7 @@ use Rattle.office_commands.proofs.texts.texts_over.Goals as goal
 
 -- It shows what the files held.
 pub returns-in-Ok-clause-printed : goal.returns-in-Ok-clause-printed
-returns-in-Ok-clause-printed g c = c.print_loaded.ensures c.in_ok-looked.looked.conn (image_at g.S.Start) c.in_ok-looked.ensures.found c.in-Ok.ensures.loaded
+returns-in-Ok-clause-printed g c = c.print_loaded.ensures c.in_ok-looked.looked.inner.conn (image_at g.S.Start) c.in_ok-looked.ensures.found c.in-Ok.ensures.loaded
 
 -- ---- why it is not opened
 
@@ -24,6 +24,6 @@ returns-in_err-register-clause-refused g c =
 
 pub returns-in-Err-clause-refused : goal.returns-in-Err-clause-refused
 returns-in-Err-clause-refused g c = (
-  inr (unloaded_over over_files (image_at g.S.Start) c.in_ok-looked.looked.conn c.load_office.new.looked.conn (register_content c.in_ok-register.register) c.load_office.result c.in-Err.fault c.in_ok-looked.ensures.found c.in_ok-register.ensures.sound c.load_office.ensures.reads c.in-Err.ensures.refused),
+  inr (unloaded_over over_files (image_at g.S.Start) c.in_ok-looked.looked.inner.conn c.load_office.new.looked.inner.conn (register_content c.in_ok-register.register) c.load_office.result c.in-Err.fault c.in_ok-looked.ensures.found c.in_ok-register.ensures.sound c.load_office.ensures.reads c.in-Err.ensures.refused),
   refl,
 )
