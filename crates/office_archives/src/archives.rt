@@ -1,5 +1,5 @@
 ghost use Rattle.std.specs.Option.{option_and_then, option_map, unwrap_or};
-ghost use Rattle.std.specs.Prelude.{◌≡◌, ◌++◌, [], false, true, IfErr, IfOk, List, length, map, string_bytes, None, Some, OnOk};
+ghost use Rattle.std.specs.Prelude.{◌≡◌, ◌++◌, [], false, true, IfOk, List, length, map, string_bytes, None, Some, OnOk};
 ghost use Rattle.edi_messages.specs.Owned.{call_content};
 ghost use Rattle.office_archives.specs.Answering.{AnswersClosed};
 ghost use Rattle.office_archives.specs.Keeping.{IsClosedIn, IsKeptIn, IsReportIn, IsTicketIn};

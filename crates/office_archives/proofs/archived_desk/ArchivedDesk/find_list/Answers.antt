@@ -6,6 +6,7 @@ use Rattle.office_parts.specs.OwnLists.{list_name}
 use Rattle.office_archives.specs.ListsAway.{FindsIfAway}
 use Rattle.office_archives.proofs.Beside.{away_beside, list_beside}
 use Rattle.office_archives.proofs.Together.{looks_more, looks_on}
+use Rattle.office_archives.specs.Causes.{IsDeservedHere}
 use Rattle.office_archives.proofs.Causing.{err_all, list_not_here}
 use Rattle.office_archives.proofs.archived_desk.ArchivedDesk.find_list.Goals as goal
 
@@ -49,10 +50,19 @@ returns-in-None-clause-looks g c =
 -- ---- it may be away
 
 pub returns-in_err-lines-clause-fault : goal.returns-in_err-lines-clause-fault
-returns-in_err-lines-clause-fault g c = λ sound. err_all _ _ (λ fault here. absurd (list_not_here c.args.self.now.desk c.args.query.now (call_content c.args.call.now) c.args.side c.requires here))
+returns-in_err-lines-clause-fault g c = λ sound.
+    let desk = c.args.self.now.desk in
+    let query = c.args.query.now in
+    err_all c.from_residual.result (IsDeservedHere g.S.Store desk query) (λ fault here. absurd (list_not_here desk query (call_content c.args.call.now) c.args.side c.requires here))
 
 pub returns-in-Some-clause-fault : goal.returns-in-Some-clause-fault
-returns-in-Some-clause-fault g c = λ sound. err_all _ _ (λ fault here. absurd (list_not_here c.args.self.now.desk c.args.query.now (call_content c.args.call.now) c.args.side c.requires here))
+returns-in-Some-clause-fault g c = λ sound.
+    let desk = c.args.self.now.desk in
+    let query = c.args.query.now in
+    err_all c.report_by_lines.result (IsDeservedHere g.S.Store desk query) (λ fault here. absurd (list_not_here desk query (call_content c.args.call.now) c.args.side c.requires here))
 
 pub returns-in-None-clause-fault : goal.returns-in-None-clause-fault
-returns-in-None-clause-fault g c = λ sound. err_all _ _ (λ fault here. absurd (list_not_here c.args.self.now.desk c.args.query.now (call_content c.args.call.now) c.args.side c.requires here))
+returns-in-None-clause-fault g c = λ sound.
+    let desk = c.args.self.now.desk in
+    let query = c.args.query.now in
+    err_all c.find_report.result (IsDeservedHere g.S.Store desk query) (λ fault here. absurd (list_not_here desk query (call_content c.args.call.now) c.args.side c.requires here))

@@ -5,6 +5,7 @@ use Rattle.office_desk.specs.Reports.{partner_called}
 use Rattle.office_archives.proofs.Beside.{closed_beside, nobody_beside, number_beside}
 use Rattle.office_desk.proofs.LookLemmas.{looks_nowhere}
 use Rattle.office_archives.proofs.Together.{looks_on}
+use Rattle.office_archives.specs.Causes.{IsDeservedHere}
 use Rattle.office_archives.proofs.Causing.{err_all, number_not_here}
 use Rattle.std.proofs.lemmas.Result.{IfErr-weaker}
 use Rattle.office_archives.proofs.archived_desk.ArchivedDesk.find_number.Goals as goal
@@ -59,5 +60,8 @@ pub returns-then-not-is_closed-clause-fault : goal.returns-then-not-is_closed-cl
 returns-then-not-is_closed-clause-fault g c = λ sound. IfErr-weaker c.find_report.result _ _ (λ fault deserved here. deserved) (c.find_report.ensures.fault sound)
 
 pub returns-clause-fault : goal.returns-clause-fault
-returns-clause-fault g c = λ sound. err_all _ _ (λ fault here.
-    absurd (number_not_here c.args.self.now.desk c.args.query.now c.args.code.now c.args.number c.in-Some.partner c.requires (sym c.partner_called.ensures ∙ c.in-Some.is) (sym c.is_closed.ensures ∙ c.if-not-is_closed.false) here))
+returns-clause-fault g c = λ sound.
+    let desk = c.args.self.now.desk in
+    let query = c.args.query.now in
+    err_all c.tell_closed.result (IsDeservedHere g.S.Store desk query) (λ fault here.
+    absurd (number_not_here desk query c.args.code.now c.args.number c.in-Some.partner c.requires (sym c.partner_called.ensures ∙ c.in-Some.is) (sym c.is_closed.ensures ∙ c.if-not-is_closed.false) here))
