@@ -38,7 +38,7 @@ deb:
 # The manual page and the completions beside what `--help` prints, and the package in a clean root of Debian 12: as root, once it is
 # built, some minutes.
 package:
-	scripts/manual --try crates/office/out/office
+	scripts/manual --try $(or $(OFFICE),crates/office/out/office)
 	scripts/package --try
 
 # One crate, and those above it that its change reaches, over the proofs that are kept: `make check NAME=yard_core`.

@@ -2,6 +2,7 @@
 import itertools
 import os
 import shutil
+import statistics
 import subprocess
 import tempfile
 import time
@@ -12,6 +13,7 @@ from running import Cost, Server, Stream, instructions, least_seconds
 
 PART = 1000                 # interchanges that are timed together
 PARTS = 5                   # of which the least counts
+RUNS = 5                    # of gate-ins and gate-outs, whose medians are shown
 SHORT, SHORTS = 250, 12     # the same for durable ones: other programs' syncs disturb them, and a part is to have some rest
 MARKS = [1000, 10000, 100000]
 IN_MEMORY = '/dev/shm' if os.path.isdir('/dev/shm') else None    # where a sync costs nothing
@@ -30,10 +32,27 @@ FEW, MORE = 100, 600        # deliveries whose instructions are counted; the dif
 
 class Row:
     """A row: what, in which unit, the office's figure and the peer's (None if there is none), what is wanted of the office,
-    and whether it is a rate, which is told a second too."""
+    whether it is a rate, which is shown a second too, and, of several runs, the least and the most ratio."""
 
     def __init__(self, what, unit, office, peer=None, wanted='', is_rate=False):
         self.what, self.unit, self.office, self.peer, self.wanted, self.is_rate = what, unit, office, peer, wanted, is_rate
+        self.spread = None
+
+
+def median_of(runs):
+    """A row of several runs: the medians of both figures, and how far the ratios lie apart."""
+    found = Row(runs[0].what, runs[0].unit, statistics.median(row.office for row in runs), None, runs[0].wanted, runs[0].is_rate)
+    if all(row.peer for row in runs):
+        found.peer = statistics.median(row.peer for row in runs)
+        ratios = [row.office / row.peer for row in runs]
+        found.spread = min(ratios), max(ratios)
+    return found
+
+
+def medians(run):
+    """The rows of five runs, as far as each has them."""
+    runs = [{row.what: row for row in run()} for _time in range(RUNS)]
+    return [median_of([rows[what] for rows in runs]) for what in runs[0] if all(what in rows for rows in runs)]
 
 
 def least(parts, mark, of):
@@ -86,7 +105,7 @@ def per_mark(what, parts, of, wanted, marks):
     return rows
 
 
-def long_stream(stores, what, texts):
+def long_stream(stores, what, texts, wanted, wanted_durable):
     """A long stream over stores in a file system in memory, if there is one: cost without sync, whether it is flat, the most
     memory; then durable deliveries over the stores that were there at the marks."""
     name = what.split()[0].strip(',')
@@ -94,22 +113,22 @@ def long_stream(stores, what, texts):
         both = stores.streams(name, folder=folder)
         parts = fed(both, texts, PART, lambda count: stores.save(folder, name, count) if count in MARKS else None)
         stores.save(folder, name, 'end')
-    rows = per_mark(what + ', no sync', parts, by_clock, '2.26 times', MARKS)
+    rows = per_mark(what + ', no sync', parts, by_clock, wanted, MARKS)
     ratios = [flat(taken, by_processor) for taken in parts] + [(None, None)]
     if ratios[0][1]:
         after = '%s: at %s kept by at 1,000, processor' % (what, format(ratios[0][1], ','))
         rows.append(Row(after, 'times', ratios[0][0], ratios[1][0], 'at most 1.2'))
     peaks = [program.peak for program in both] + [None]
     rows.append(Row('%s: peak memory after %s' % (what, format(PART * len(parts[0]), ',')), 'MB', peaks[0], peaks[1]))
-    return rows + [row for mark in MARKS if mark < PART * len(parts[0]) for row in durable(stores, what, texts, mark)]
+    return rows + [row for mark in MARKS if mark < PART * len(parts[0]) for row in durable(stores, what, texts, mark, wanted_durable)]
 
 
-def durable(stores, what, texts, mark):
+def durable(stores, what, texts, mark, wanted):
     """Durable deliveries over the stores that were there at a mark."""
     both = stores.continued('%s-%d' % (what.split()[0].strip(','), mark))
     parts = fed(both, texts[mark:mark + SHORTS * SHORT], SHORT)
     costs = [min(part.seconds for part in taken) * 1e6 / SHORT for taken in parts] + [None]
-    return [Row('%s, durable, %s kept' % (what, format(mark, ',')), 'us', costs[0], costs[1], '1.67 times', True)]
+    return [Row('%s, durable, %s kept' % (what, format(mark, ',')), 'us', costs[0], costs[1], wanted, True)]
 
 
 def counted(stores, program, store, texts):

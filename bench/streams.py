@@ -2,6 +2,7 @@
 
 All are the same at each run: what is drawn is drawn by a seed.
 """
+import heapq
 import itertools
 import random
 
@@ -23,8 +24,8 @@ SEED = 'bench'
 
 
 def box(serial):
-    """A container's number, with its check digit. After a million the first comes again."""
-    front = 'ABCU%06d' % (serial % 1000000)
+    """A container's number, with its check digit. Each million has an owner's code of its own."""
+    front = 'AB%sU%06d' % ('CDEFGH'[serial // 1000000], serial % 1000000)
     return front + str(check_digit(front))
 
 
@@ -90,6 +91,53 @@ def gates_without_end(in_yard=IN_YARD):
         yield numbers.send('HAULA', gate_in(serial))
         if serial >= in_yard:
             yield numbers.send('HAULA', message(1, '36', [Group(box(serial - in_yard))]))
+
+
+class Columns:
+    """The columns of the large yard, of full twenties, each put into the first slot that fits: the lowest, and of these the first."""
+
+    def __init__(self):
+        bays, rows, self.tiers = 40, 12, 6      # of each block of LARGE_YARD
+        self.stacks = [[] for _column in range(8 * bays * rows)]
+        self.open = [(0, column) for column in range(len(self.stacks))]     # heights that columns have or had
+
+    def offer(self, column):
+        """The column has another height now."""
+        height = len(self.stacks[column])
+        if height < self.tiers:
+            heapq.heappush(self.open, (height, column))
+
+    def put(self, serial):
+        """A container comes."""
+        height, column = heapq.heappop(self.open)
+        while height != len(self.stacks[column]):
+            height, column = heapq.heappop(self.open)
+        self.stacks[column].append(serial)
+        self.offer(column)
+
+    def take(self, chance):
+        """A container that nothing stands on leaves: the top of a column that is drawn."""
+        column = chance.randrange(len(self.stacks))
+        while not self.stacks[column]:
+            column = chance.randrange(len(self.stacks))
+        serial = self.stacks[column].pop()
+        self.offer(column)
+        return serial
+
+    def there(self):
+        """The numbers of the containers that are there."""
+        return sorted(box(serial) for stack in self.stacks for serial in stack)
+
+
+def trade_without_end(in_yard, columns):
+    """Gate-ins and gate-outs of full twenties in turn, from one haulier, with so many containers in the yard, of which only those leave
+    that nothing stands on: each line is done. The columns are then those of the office's yard."""
+    numbers, chance = Numbers(), random.Random(SEED)
+    for serial in itertools.count():
+        columns.put(serial)
+        yield numbers.send('HAULA', message(1, '34', [Group(box(serial), '22G1', booking='BOOK%d' % serial, moment='202403050910')]))
+        if serial >= in_yard:
+            yield numbers.send('HAULA', message(1, '36', [Group(box(columns.take(chance)))]))
 
 
 def gates(count, in_yard=IN_YARD):

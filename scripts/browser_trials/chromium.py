@@ -128,9 +128,15 @@ class Chromium:
             self.note(message.get('method'), message.get('params', {}))
 
     def came(self):
-        """The page as it came."""
-        text = self.call('Network.getResponseBody', requestId=self.response['requestId'])['body']
-        return Came(self.value('location.href'), self.response['response']['status'], text)
+        """The page as it came; the last one, where it asked again before its text was read."""
+        while True:
+            response = self.response
+            try:
+                text = self.call('Network.getResponseBody', requestId=response['requestId'])['body']
+                return Came(self.value('location.href'), response['response']['status'], text)
+            except OSError:
+                if self.response is response:
+                    raise
 
     def value(self, script):
         """The value of an expression within the page."""

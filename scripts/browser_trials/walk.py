@@ -20,6 +20,7 @@ from . import looks
 CLICKS = 2                  # on each kind of link, where a page has more than one of that kind
 LINKS = 40                  # of a page, that are looked up by the model
 AGAIN = 60                  # seconds after which a list's page asks again
+TIMES = 3                   # that it may ask before it is seen to
 LOGGED = 252                # bytes of a target that stand in the log, its method's four among the first 256
 LISTED = (
     "UNB+UNOA:3+LINEA+TERM1+240309:0910+%d'UNH+1+COPRAR:D:95B:UN'BGM+45+L1+9'TDT+20+V12++++++9123456'EQD+CN+%s'UNT+5+1'UNZ+1+%d'")
@@ -54,6 +55,11 @@ def shown_as(text):
     return ''.join(letter if letter < '\x80' else html.unescape('&#%d;' % ord(letter)) for letter in text)
 
 
+def without_repeats(asked, again):
+    """The same, but once what stands several times in a row and is one of these."""
+    return [one for last, one in zip([None] + asked, asked) if one != last or one not in again]
+
+
 # ---- the walk
 
 class Walk:
@@ -62,7 +68,7 @@ class Walk:
     def __init__(self, chromium, served):
         self.chromium, self.served, self.chance = chromium, served, random.Random(1)
         self.clicked, self.looked, self.pages, self.links = Counter(), set(), set(), Counter()
-        self.faults, self.opened, self.lost = [], [], 0
+        self.faults, self.opened, self.again, self.lost = [], [], [], 0
 
     def expect(self, holds, *fault):
         """A fault, where something does not hold."""
@@ -210,20 +216,28 @@ class Walk:
             self.expect((has_focus, is_seen) == (name, True), 'focus of', has_focus, words, is_seen)
 
     def asks_again(self, path, text):
-        """A page asks again by itself, and then shows what was delivered meanwhile."""
-        before = self.arrived(self.chromium.open(self.served.url(path)))
+        """A page asks again by itself, and then shows what was delivered meanwhile. On a busy machine it may have asked before
+        that, or more often."""
+        self.again.append(path)
+        came = before = self.chromium.open(self.served.url(path))
+        shown = self.arrived(before).shown
         self.served.deliver(text)
-        came = self.chromium.moved(lambda: self.chromium.wait(AGAIN + 1))
-        self.expect(self.arrived(came, self.served.url(path)).shown != before.shown, path, 'shows the same again')
+        for _time in range(TIMES):
+            if came.text == before.text:
+                came = self.chromium.moved(lambda: self.chromium.wait(AGAIN + 1))
+        self.expect(self.arrived(came, self.served.url(path)).shown != shown, path, 'shows the same again')
 
     # ---- the whole
 
     def elsewhere(self):
         """The browser has asked for these pages, one after the other, and for nothing else; and it has had nothing to say but that
         there is nothing at an address."""
-        self.expect(self.chromium.asked == list(map(self.served.url, self.opened)), 'asked for', self.chromium.asked[-3:])
-        logged = self.served.asked(len(self.opened))
-        self.expect(logged == ['GET ' + path[:LOGGED] for path in self.opened], 'the program was asked for', logged[-3:])
+        logged = self.served.asked(len(self.chromium.asked))
+        for who, asked, form in (
+                ('', self.chromium.asked, self.served.url), ('the program was ', logged, lambda path: 'GET ' + path[:LOGGED])):
+            again = list(map(form, self.again))
+            wanted = without_repeats(list(map(form, self.opened)), again)
+            self.expect(without_repeats(asked, again) == wanted, who + 'asked for', asked[-3:])
         said = [text for text in self.chromium.said if ' 404 ' not in text]
         self.expect(not said, 'the browser says', said[:3])
 

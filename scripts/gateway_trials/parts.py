@@ -30,7 +30,7 @@ def tried(checks, name, trial, program):
 def main():
     """Runs the parts that are asked for. Gives the status."""
     names = sys.argv[1:] or list(PARTS)
-    program = os.path.realpath(os.environ.get('OFFICE', PROGRAM))
+    program = PROGRAM
     if not set(names) <= set(PARTS):
         print('usage: scripts/gateway [%s] ..' % '|'.join(PARTS), file=sys.stderr)
         return 2

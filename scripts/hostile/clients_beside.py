@@ -122,7 +122,7 @@ def silent_and_dripping(checks, path):
         server.same(checks, 'the first', get('/yard'))
         before = most_memory(server)
         no_later(checks, server, '%d silent and %d dripping connections' % (SILENT, DRIPPING), Beside)
-        checks.within('memory beside them, MB more', MOST_MORE, most_memory(server) - before)
+        checks.within('memory beside them', MOST_MORE, most_memory(server) - before, 'MB more')
 
 
 def ten_thousand(checks, path):
@@ -140,7 +140,7 @@ def ten_thousand(checks, path):
             for client in clients:
                 client.join()
         checks.expect('%d connections, wrong answers' % CONNECTIONS, [], wrong[:3])
-        checks.within('memory over %d connections, MB more' % CONNECTIONS, MOST_MORE, most_memory(server) - before)
+        checks.within('memory over %d connections' % CONNECTIONS, MOST_MORE, most_memory(server) - before, 'MB more')
 
 
 def ask_many(server, requests, owed, place, wrong):
@@ -206,7 +206,7 @@ def much_sent(checks, path):
             if taken <= SLACK:
                 break
         checks.within('beside %d unfinished deliveries of a mebibyte' % HOLDING, SLACK, taken)
-        checks.within('memory beside them, MB more', MOST_HELD, most_memory(server) - before)
+        checks.within('memory beside them', MOST_HELD, most_memory(server) - before, 'MB more')
 
 
 def much_unread(checks, path):
@@ -220,7 +220,7 @@ def much_unread(checks, path):
         with Unread(server):
             came = server.patient(get('/yard'), patience)
             checks.expect('beside unread answers of megabytes', server.owed(get('/yard')), came)
-        checks.within('memory beside %d unread answers of megabytes, MB more' % UNREAD, MOST_HELD, most_memory(server) - before)
+        checks.within('memory beside %d unread answers of megabytes' % UNREAD, MOST_HELD, most_memory(server) - before, 'MB more')
 
 
 class Tabs:

@@ -103,7 +103,7 @@ def main():
     if len(words) > 2 or not all(word.isdigit() and int(word) > 0 for word in words):
         print(USAGE, end='', file=sys.stderr)
         return 2
-    path = os.path.realpath(os.environ.get('OFFICE') or PROGRAM)
+    path = PROGRAM
     if not os.path.exists(path):
         print('%s is not built: make build' % path, file=sys.stderr)
         return 2

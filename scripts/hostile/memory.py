@@ -159,7 +159,7 @@ def try_all(program, steps, jobs, counted):
 
 def main():
     """Gives the status: 1 at the first difference, 2 where the program is not built."""
-    program = os.path.realpath(os.environ.get('OFFICE', PROGRAM))
+    program = PROGRAM
     if not os.access(program, os.X_OK):
         print('%s is not built: make build' % program, file=sys.stderr)
         return 2

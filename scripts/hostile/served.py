@@ -32,10 +32,10 @@ def gate_out(number, sender, name):
 
 
 class Checks:
-    """How many have passed, and which have failed, over all threads."""
+    """How many have passed, and which have failed, over all threads. What has failed is printed at once, or `kept`."""
 
-    def __init__(self):
-        self.passed, self.failed, self.lock, self.measured = 0, 0, threading.Lock(), []
+    def __init__(self, kept=None):
+        self.passed, self.failed, self.lock, self.measured, self.kept = 0, 0, threading.Lock(), [], kept
 
     def expect(self, name, wanted, got):
         """One passes if both are the same."""
@@ -43,13 +43,50 @@ class Checks:
             self.passed += wanted == got
             self.failed += wanted != got
             if wanted != got:
-                print('FAILED: %s\n  wanted %s\n  came   %s' % (name, repr(wanted)[:600], repr(got)[:600]), flush=True)
+                self.tell('FAILED: %s\n  wanted %s\n  came   %s' % (name, repr(wanted)[:600], repr(got)[:600]))
 
-    def within(self, name, limit, seconds):
-        """One passes if it took no longer. What it took is told in the end."""
+    def tell(self, text):
+        """Prints what has failed, or keeps it."""
+        if self.kept is None:
+            print(text, flush=True)
+        else:
+            self.kept.append(text)
+
+    def add(self, others):
+        """Those of others, which kept theirs."""
         with self.lock:
-            self.measured.append('%s: %.2f s (limit %g s)' % (name, seconds, limit))
-        self.expect('%s: %.2f s' % (name, seconds), True, seconds <= limit)
+            self.passed, self.failed = self.passed + others.passed, self.failed + others.failed
+            self.measured += others.measured
+            for text in others.kept:
+                self.tell(text)
+
+    def within(self, name, limit, took, unit='s'):
+        """One passes if it took no more. What it took is told in the end."""
+        with self.lock:
+            self.measured.append('%s: %.2f %s (limit %g)' % (name, took, unit, limit))
+        self.expect('%s: %.2f %s' % (name, took, unit), True, took <= limit)
+
+
+class Pulse:
+    """Wakes twenty times a second until it is left: `late` is by how many seconds it woke too late at most, since the machine
+    was busy."""
+
+    def __enter__(self):
+        self.late, self.ends = 0, threading.Event()
+        self.thread = threading.Thread(target=self.beat)
+        self.thread.start()
+        return self
+
+    def __exit__(self, *_fault):
+        self.ends.set()
+        self.thread.join()
+
+    def beat(self):
+        """Sleeps, and looks how long."""
+        began = time.monotonic()
+        while not self.ends.wait(0.05):
+            now = time.monotonic()
+            self.late, began = max(self.late, now - began - 0.05), now
 
 
 class Served:

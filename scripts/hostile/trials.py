@@ -31,8 +31,7 @@ def status_of(parts, usage):
     if parts is None:
         print(usage, end='', file=sys.stderr)
         return 2
-    program = os.path.realpath(os.environ.get('OFFICE', PROGRAM))
-    if not os.access(program, os.X_OK):
-        print('%s is not built: make build' % program, file=sys.stderr)
+    if not os.access(PROGRAM, os.X_OK):
+        print('%s is not built: make build' % PROGRAM, file=sys.stderr)
         return 2
-    return 0 if all(done(name, trial, program, *given) for name, trial, given in parts) else 1
+    return 0 if all(done(name, trial, PROGRAM, *given) for name, trial, given in parts) else 1

@@ -35,7 +35,7 @@ EVERY_KIND = (
 
 USAGE = """usage: scripts/beside [demo | model | STREAMS DELIVERIES SHARE [SEED]]
 
-Compares crates/office/out/office with the model: first the worked rows, the day of examples/day and the cases of
+Compares the program (OFFICE=PATH, else crates/office/out/office) with the model: first the worked rows, the day of examples/day and the cases of
 scripts/model/cases.txt, as `office demo` and over stores in files, and the pages that show them or others; then the changed
 stores of scripts/model/damaged.txt, a crowded yard, full lists replaced and full blocks; then random set-ups, deliveries and reports over
 stores, and requests by HTTP; then stores that are closed from time to time; then random streams. With arguments the rows,
@@ -135,7 +135,7 @@ def main():
         print(USAGE, end='', file=sys.stderr)
         return 2
     if not os.path.exists(PROGRAM):
-        print('crates/office/out/office is not built: make build', file=sys.stderr)
+        print('%s is not built: make build' % PROGRAM, file=sys.stderr)
         return 2
     beside = stores.Beside(PROGRAM)
     over_store = (lambda row, setup, text: None) if demo_alone else partial(stores.over_store, beside)

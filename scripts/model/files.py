@@ -2,7 +2,7 @@
 import os
 
 TOP = os.path.dirname(os.path.dirname(os.path.dirname(os.path.abspath(__file__))))
-PROGRAM = os.path.join(TOP, 'crates/office/out/office')
+PROGRAM = os.path.realpath(os.environ.get('OFFICE') or os.path.join(TOP, 'crates/office/out/office'))
 SETUP = [os.path.join(TOP, 'examples/setup', name) for name in ('partners.csv', 'blocks.csv')]
 
 

@@ -9,7 +9,9 @@ ghost use Rattle.sqlite.specs.Held.{state};
 ghost use Rattle.sqlite.specs.Recovery.{Image};
 ghost use Rattle.sqlite.specs.State.{HasCleanDisk, Opens};
 
-use office_closing::{CloseFault, File, FileFault, Refusal, close, create_register, read_register};
+use office_closing::{
+    CloseFault, File, FileFault, PutAway, Refusal, close, create_register, read_register,
+};
 use office_commands::{
     beside_path, found_at, has_no_tables, is_there, open_found, open_there, place_of, register_path,
 };
@@ -149,7 +151,7 @@ pub fn close_over<
     store: &str,
     archive: &str,
     of: OfFour<OfStore, OfRegister, OfArchive, OfArchiveRegister>,
-) -> Result<(ClosingFiles<S, R, A, M>, Result<(), CloseFault>), CloseCommandFault>
+) -> Result<(ClosingFiles<S, R, A, M>, Result<PutAway, CloseFault>), CloseCommandFault>
     ensures { IfOk result (λ ended. ClosesOver S.Store R.Store A.Store M.Store
         (record {
           store = OfStore.image;
@@ -213,7 +215,7 @@ fn close_files<S: Alter + Drop, R: Alter + Drop, A: Alter + Drop, M: Alter + Dro
     store: &str,
     archive: &str,
     opened: ClosingFiles<S, R, A, M>,
-) -> (ClosingFiles<S, R, A, M>, Result<(), CloseFault>)
+) -> (ClosingFiles<S, R, A, M>, Result<PutAway, CloseFault>)
     requires { AreIdle (files S.Store R.Store A.Store M.Store opened.store opened.register opened.archive
         opened.archive_register) }
     ensures { (images : Images) → AreOpened S.Store R.Store A.Store M.Store images opened.store opened.register
@@ -251,7 +253,7 @@ pub fn close_alike<S: Alter + Drop, F: ClosingFile<S> + Drop>(
     store: &str,
     archive: &str,
     of: OfFour<F, F, F, F>,
-) -> Result<(ClosingFiles<S, S, S, S>, Result<(), CloseFault>), CloseCommandFault>
+) -> Result<(ClosingFiles<S, S, S, S>, Result<PutAway, CloseFault>), CloseCommandFault>
     ensures { IfOk result (λ ended. ClosesOver S.Store S.Store S.Store S.Store
         (record { store = F.image; register = F.image; archive = F.image; archive_register = F.image })
         store.now archive.now ended.0.store ended.0.register ended.0.archive ended.0.archive_register ended.1) }

@@ -12,4 +12,5 @@ returns g c images are = record {
   found_copied = c.args.opened.archive_register;
   opened = are;
   closes = c.close-closed.ensures.closes;
+  put_away = c.close-closed.ensures.put_away;
 }
