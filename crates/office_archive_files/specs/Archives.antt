@@ -20,6 +20,9 @@ use Rattle.office_closing.specs.Lists.{SettledListContent}
 use Rattle.office_closing.specs.Register.{ArchiveContent, RegisterContent, closed_by}
 use Rattle.office_closing.specs.Sound.{is_sound}
 use Rattle.office_closing.specs.declared.register.Segment.{Segment}
+use Rattle.office_tables.specs.declared.table_fault.TableFault.{TableFault}
+use Rattle.office_tables.specs.declared.table_fault.TableFault.TheVariants.{Memory, Store}
+use Rattle.sqlite.specs.declared.error.Error.{Error}
 
 -- An archive's own register is that of the archive at a place of the store whose register names the archives: it is marked for
 -- the store in this file, and has the archives before that place, with their segments and lists.
@@ -92,3 +95,9 @@ pub record PassesAt {S : Type 0} (g : Ghosts S) (image : Image) (path : List ℕ
       LoadsOwn read.closed (state g conn).committed read.content read.terminal
   pub are_nexts : HasCleanDisk (state g conn) → (rows : Rows) → HasRows rows (state g conn).committed →
       AreNexts rows read.nexts
+
+-- a fault with this error says that the archive of a place is not there, or not its own; out of memory says nothing of it
+abbrev pub SaysNoArchive : (no_archive : Error) → TableFault → Type 0
+SaysNoArchive no_archive (Store error) = error ≡ no_archive
+SaysNoArchive no_archive Memory = Unit {0}
+SaysNoArchive no_archive other = ⊥

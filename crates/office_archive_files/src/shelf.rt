@@ -1,5 +1,5 @@
-ghost use Rattle.std.specs.Prelude.{◌≡◌, ◌⊎◌, ℕ, IfErr, IfOk, List, string_bytes};
-ghost use Rattle.office_archive_files.specs.Archives.{IsNamedAt, PassesAt, going_on, segments_at};
+ghost use Rattle.std.specs.Prelude.{◌≡◌, ℕ, IfErr, IfOk, List, string_bytes};
+ghost use Rattle.office_archive_files.specs.Archives.{IsNamedAt, PassesAt, SaysNoArchive, going_on, segments_at};
 ghost use Rattle.office_archive_files.specs.Listing.{IsFoundAt};
 ghost use Rattle.office_archive_files.specs.Shelves.{HoldArchiveAt};
 ghost use Rattle.office_archives.specs.Shelves.{IsOpenAt};
@@ -115,7 +115,7 @@ impl<'a, B: ArchiveStart> FileShelf<'a, B> {
     ) -> Result<Looked<FileStore<FileFrom<B>>>, TableFault>
         ensures opened { IfOk result (λ archive. place ≡ B.place → (list : List Archive) →
             HoldArchiveAt (image_at B.Start) B.place list → IsOpenAt over_files list place archive.conn) }
-        ensures fault { IfErr result (λ fault. (fault ≡ TableFault.Memory) ⊎ (fault ≡ TableFault.Store NO_ARCHIVE)) }
+        ensures fault { IfErr result (SaysNoArchive NO_ARCHIVE) }
     {
         match self.opened(names, place) {
             Ok(archive) => Ok(archive),

@@ -2,6 +2,7 @@ ghost use Rattle.std.specs.Prelude.{◌≡◌, ◌≢◌, List, [], IfErr, IfOk,
 ghost use Rattle.office_archives.specs.Shelves.{NamesAll};
 ghost use Rattle.office_commands.specs.Beside.{IsLoaded, IsSetUpHeld, OpensWith};
 ghost use Rattle.office_commands.specs.Opening.{Shows, ShowsHeld};
+ghost use Rattle.office_commands.specs.declared.offices.OpenFault.TheVariants as open_fault;
 ghost use Rattle.office_commands.specs.Refusing.{IsMarked, IsOfRegister, IsRefused, IsUnloaded, IsUnopened};
 ghost use Rattle.office_closing.specs.Register.{RegisterContent, closed_by, register_content};
 ghost use Rattle.office_closing.specs.Sound.{is_sound};
@@ -10,6 +11,7 @@ ghost use Rattle.office_parts.specs.Archives.{Archive};
 ghost use Rattle.office_admission.specs.Setups.{setup_content};
 ghost use Rattle.office_rows.specs.Tables.{office_schema};
 ghost use Rattle.office_tables.specs.DeliveryReading.{OnlyReads};
+ghost use Rattle.office_tables.specs.declared.table_fault.TableFault.TheVariants.{Memory};
 ghost use Rattle.sqlite.specs.Held.{state};
 ghost use Rattle.sqlite.specs.Files.{file_state, over_files};
 ghost use Rattle.sqlite.specs.Recovery.{Image};
@@ -46,6 +48,8 @@ pub enum OpenFault {
 }
 
 impl From<AllocError> for OpenFault {
+    ghost from_gives = { λ _ fault. fault ≡ open_fault.Store Memory };
+
     fn from(_: AllocError) -> OpenFault {
         OpenFault::Store(TableFault::Memory)
     }

@@ -18,7 +18,7 @@ returns g c =
       is_file = record { folder = option_map (λ folder. folder.now) c.place_of.result.folder; whole = c.place_of.ensures.whole ∙ c.as_str-4.ensures.value; is_name = c.place_of.ensures.name };
       own = register_content c.in-Some-2.own;
       archive = archive_content archive;
-      own_sound = ?;
+      own_sound = search rules;
       register = subst (λ file. IsRegisterAt file c.args.place (register_content names) (register_content c.in-Some-2.own)) c.going_on.ensures (c.if-not-is_register_of.ensures refl);
       is_one = slice_get-map archive_content names.archives.items (c.args.place - 1) ∙ ap (option_map archive_content) is_one;
       closed_is = c.in_ok-closed.ensures;
