@@ -27,10 +27,10 @@ pub fn archives_over<S: Start, B: ArchiveStart, W: Write>(
     beside: &InFiles<'_, B>,
     writer: &mut Port<W>,
 ) -> Result<u8, OpenFault>
-    ensures lists { IfOk result (λ status. IsListed over_files over_files (image_at S.Start) (image_at B.Start) store.now
+    ensures lists { IfOk result (λ status. IsListed ⟦<sqlite::FileStore<sqlite::FileFrom<S>> as sqlite_trees::store::Store>⟧ ⟦<sqlite::FileStore<sqlite::FileFrom<B>> as sqlite_trees::store::Store>⟧ (image_at S.Start) (image_at B.Start) store.now
         (λ text wanted. Prints writer.old.failed writer.new.failed writer.new.flushed
         (W.contents writer.old.inner) (W.contents writer.new.inner) text wanted status)) }
-    ensures refused { IfErr result (λ fault. IsRefused over_files (image_at S.Start) ⊥ fault × (writer.new ≡ writer.old)) }
+    ensures refused { IfErr result (λ fault. IsRefused ⟦<sqlite::FileStore<sqlite::FileFrom<S>> as sqlite_trees::store::Store>⟧ (image_at S.Start) ⊥ fault × (writer.new ≡ writer.old)) }
 {
     let (looked, register, setup) = look_at_office(rt, store, start)?;
     let path = String::from_str(rt.alloc(), store)?;
@@ -59,7 +59,7 @@ fn archive_lines<B: ArchiveStart>(
     register: &Register,
     shelf: &FileShelf<'_, B>,
 ) -> Result<String, AllocError>
-    ensures { IfOk result (λ lines. FollowIn over_files (image_at B.Start) (string_bytes shelf.now.store)
+    ensures { IfOk result (λ lines. FollowIn ⟦<sqlite::FileStore<sqlite::FileFrom<B>> as sqlite_trees::store::Store>⟧ (image_at B.Start) (string_bytes shelf.now.store)
         (setup_content shelf.now.setup) (register_content register.now)
         (map archive_content register.now.archives.items) [] (string_bytes lines)) }
 {

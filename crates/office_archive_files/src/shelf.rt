@@ -93,7 +93,7 @@ impl<'a, B: ArchiveStart> FileShelf<'a, B> {
 
     /// What is found of the archive at a place, of which the store's register names the file. It is only read.
     pub fn look_at(&self, names: &Register, place: u16, file: &str) -> Result<Found, AllocError>
-        ensures { IfOk result (IsFoundAt over_files (image_at B.Start) (string_bytes self.now.store)
+        ensures { IfOk result (IsFoundAt ⟦<FileStore<FileFrom<B>> as sqlite_trees::store::Store>⟧ (image_at B.Start) (string_bytes self.now.store)
             (setup_content self.now.setup) (register_content names.now) place) }
     {
         let path = beside_path(self.rt.alloc(), self.store.as_str(), file)?;

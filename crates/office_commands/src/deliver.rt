@@ -132,7 +132,7 @@ pub fn deliver_over<
     // If it did not open, nothing was read or written; and why.
     ensures refused { IfErr result.1 (λ fault. (result.0 ≡ 3) × (reader.new ≡ reader.old) × (writer.new ≡ writer.old)
         × Tells errors.new.failed (E.contents errors.old.inner) (E.contents errors.new.inner) (open_text fault)) }
-    ensures why { IfErr result.1 (IsRefused over_files (image_at S.Start) IsMarked) }
+    ensures why { IfErr result.1 (IsRefused ⟦<sqlite::FileStore<sqlite::FileFrom<S>> as sqlite_trees::store::Store>⟧ (image_at S.Start) IsMarked) }
     ensures in_time { reader.old.ended ≡ false → reader.new.read_behind_end ≡ reader.old.read_behind_end }
     ensures reads { reader.new.reads ≤ reader.old.reads + most_turns }
 {
@@ -167,7 +167,7 @@ pub fn account_over<S: Start, A: Archives + Drop, M: ArchivesBeside<A>, W: Write
         (AnswersAsked (IsAskedOver over_files A.is_sound A.are (image_at S.Start) opened
         (ended.1.desk, ended.1.archives) code.now kind.now)
         (W.contents writer.old.inner) (W.contents writer.new.inner)) ended.0)) }
-    ensures refused { IfErr result (λ fault. IsRefused over_files (image_at S.Start) IsMarked fault
+    ensures refused { IfErr result (λ fault. IsRefused ⟦<sqlite::FileStore<sqlite::FileFrom<S>> as sqlite_trees::store::Store>⟧ (image_at S.Start) IsMarked fault
         × (writer.new ≡ writer.old)) }
 {
     let mut office = open_office(rt, store, start, beside)?;

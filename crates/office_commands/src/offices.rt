@@ -72,7 +72,7 @@ pub fn open_office<S: Start, A: Archives, M: ArchivesBeside<A>>(
     ensures opened { IfOk result (λ office. (names : RegisterContent)
         × OpensWith over_files M.hold A.are (image_at S.Start) names (office.desk, office.archives)
         × (names.closed_for ≡ None)) }
-    ensures refused { IfErr result (IsRefused over_files (image_at S.Start) IsMarked) }
+    ensures refused { IfErr result (IsRefused ⟦<FileStore<FileFrom<S>> as sqlite_trees::store::Store>⟧ (image_at S.Start) IsMarked) }
 {
     let mut looked = look_at_store(rt, store, start)?;
     let register = read_unmarked(rt, store)?;
@@ -93,7 +93,7 @@ pub fn open_to_look<S: Start, A: Archives, M: ArchivesBeside<A>>(
     // beside these after them. What is closed is what the register says that was read.
     ensures opened { IfOk result (λ office. (names : RegisterContent)
         × OpensWith over_files M.hold A.are (image_at S.Start) names (office.desk, office.archives)) }
-    ensures refused { IfErr result (IsRefused over_files (image_at S.Start) ⊥) }
+    ensures refused { IfErr result (IsRefused ⟦<FileStore<FileFrom<S>> as sqlite_trees::store::Store>⟧ (image_at S.Start) ⊥) }
 {
     let mut looked = look_at_store(rt, store, start)?;
     let register = read_names(rt, store)?;
@@ -153,7 +153,7 @@ pub fn look_at_office<S: Start>(
     ensures sound { IfOk result (λ looked. IsTrue (is_sound (register_content looked.1))) }
     ensures setup { IfOk result (λ looked. HasCleanDisk (file_state looked.0.conn) →
         IsSetUpHeld (image_at S.Start) (closed_by (register_content looked.1)) (setup_content looked.2)) }
-    ensures refused { IfErr result (IsRefused over_files (image_at S.Start) ⊥) }
+    ensures refused { IfErr result (IsRefused ⟦<FileStore<FileFrom<S>> as sqlite_trees::store::Store>⟧ (image_at S.Start) ⊥) }
 {
     let mut looked = match look_there(rt, store, start) {
         Ok(looked) => looked,

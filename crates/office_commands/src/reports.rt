@@ -46,9 +46,9 @@ pub fn report_over<S: Start, A: Archives + Drop, M: ArchivesBeside<A>, W: Write>
     ensures err { IfOk result (λ ended. OnErr ended.1 (writer.new ≡ writer.old)) }
 
     // Why it can't be reported, of what the store's own rows report; and why the store is not opened.
-    ensures fault { IfOk result (λ ended. IfErr ended.1 (λ fault. FromOpened over_files M.hold A.are (image_at S.Start)
+    ensures fault { IfOk result (λ ended. IfErr ended.1 (λ fault. FromOpened ⟦<sqlite::FileStore<sqlite::FileFrom<S>> as sqlite_trees::store::Store>⟧ M.hold A.are (image_at S.Start)
         (λ opened. IsSound over_files ended.0.desk → FailsUnder over_files A.are opened kind key.now fault))) }
-    ensures refused { IfErr result (λ fault. IsRefused over_files (image_at S.Start) ⊥ fault × (writer.new ≡ writer.old)) }
+    ensures refused { IfErr result (λ fault. IsRefused ⟦<sqlite::FileStore<sqlite::FileFrom<S>> as sqlite_trees::store::Store>⟧ (image_at S.Start) ⊥ fault × (writer.new ≡ writer.old)) }
 {
     let mut office = open_to_look(rt, store, start, beside)?;
     let status = report_on(rt.alloc(), &mut office, kind, key, writer);

@@ -59,7 +59,7 @@ pub fn serve_over<S: Start, A: Archives + Drop, M: ArchivesBeside<A>, N: Notes, 
         (Tells errors.new.failed (E.contents errors.old.inner) (E.contents errors.new.inner))
         (λ most. IsServedOver over_files A.is_sound A.are (image_at S.Start) most opened
         (ended.1.desk.desk, ended.1.desk.archives)) ended.0)) }
-    ensures refused { IfErr result (λ fault. IsRefused over_files (image_at S.Start) IsMarked fault
+    ensures refused { IfErr result (λ fault. IsRefused ⟦<sqlite::FileStore<sqlite::FileFrom<S>> as sqlite_trees::store::Store>⟧ (image_at S.Start) IsMarked fault
         × (writer.new ≡ writer.old) × (errors.new ≡ errors.old)) }
 {
     let office = open_office(rt, store, start, beside)?;

@@ -46,7 +46,7 @@ pub fn texts_over<S: Start, T: Alter + Drop, F: Shelf<T> + Drop, M: ShelfBeside<
     from: u32,
     writer: &mut Port<W>,
 ) -> Result<(Connection<FileStore<FileFrom<S>>>, Result<u8, TableFault>), OpenFault>
-    ensures refused { IfErr result (λ fault. IsRefused over_files (image_at S.Start) ⊥ fault × (writer.new ≡ writer.old)) }
+    ensures refused { IfErr result (λ fault. IsRefused ⟦<FileStore<FileFrom<S>> as sqlite_trees::store::Store>⟧ (image_at S.Start) ⊥ fault × (writer.new ≡ writer.old)) }
     ensures printed { IfOk result (λ ended. ArePrintedOver over_files T.Store M.hold F.holds
         (OpensOn T.Store F.is_known F.holds) (image_at S.Start) from (W.contents writer.old.inner)
         (W.contents writer.new.inner) writer.new.failed writer.new.flushed ended.0 ended.1) }
