@@ -106,12 +106,18 @@ fn close_files(rt: &HostRuntime, store: &str, archive: &str) -> Result<PutAway, 
         archive_register: UnknownFile,
     };
     match close_whole(rt, store, archive, unknown) {
-        Ok((_files, closed)) => match closed {
+        Ok(ended) => match without_files(ended) {
             Ok(away) => Ok(away),
             Err(fault) => Err(CloseCommandFault::Close(fault)),
         },
         Err(fault) => Err(fault),
     }
+}
+
+/// What a closing answered; the files that it left are closed.
+fn without_files<F: Drop, T>(ended: (F, T)) -> T {
+    let (_files, closed) = ended;
+    closed
 }
 
 /// Prints that a store is closed, and shows a person what was put away; or reports why it is not.

@@ -1,13 +1,14 @@
 use crate::copying::copy_file;
 use crate::long_work::Watched;
 use office_archive_files::{FileArchives, InUnknownFiles};
+use office_archives::{ArchivedDesk, Archives};
 use office_closing::{MOST_ARCHIVES, Register, is_file_name};
 use office_commands::{
-    FileOffice, OpenFault, beside_path, leave_office, leave_whole, open_found, open_office,
+    FileOffice, Left, OpenFault, beside_path, leave_office, leave_whole, open_found, open_office,
     place_of, read_history, register_path,
 };
 use office_tables::TableFault;
-use sqlite::{FileFrom, Files, Unknown};
+use sqlite::{FileFrom, FileStore, Files, Unknown};
 use sqlite_disk::Disk;
 use std::alloc::{AllocError, Global};
 use std::fs::{self, File, OpenOptions, Permissions};
@@ -89,6 +90,13 @@ fn whole_store(rt: &HostRuntime, store: &str) -> Result<Files<FileFrom<Unknown>>
     let opened: Result<FileOffice<Unknown, FileArchives<'_>>, OpenFault> = open_office(
         rt, store, Unknown, &beside,
     );
+    left_files(opened)
+}
+
+/// The files of an opened office, locked, whose log was moved into the file.
+fn left_files<D: Disk + Drop, A: Archives + Drop>(
+    opened: Result<ArchivedDesk<FileStore<D>, A>, OpenFault>,
+) -> Result<Files<D>, CopyFault> {
     match opened {
         Ok(office) => match leave_office(office) {
             Ok(files) => Ok(files),
@@ -215,10 +223,20 @@ fn copy_register(rt: &HostRuntime, store: &str, archive: &str) -> Result<(), Cop
         return Ok(());
     }
     let conn = open_found(rt, own.as_str(), Unknown).map_err(of_register)?;
-    match leave_whole(conn) {
+    place_left(rt, leave_whole(conn), own.as_str(), copy.as_str())
+}
+
+/// Copies a file that was left whole, which lies at `source`, to a path, as `place` does.
+fn place_left<D: Disk + Drop>(
+    rt: &HostRuntime,
+    left: Left<D>,
+    source: &str,
+    path: &str,
+) -> Result<(), CopyFault> {
+    match left {
         Ok(files) => {
             let mut files = files;
-            place(rt, &mut files.db, own.as_str(), copy.as_str())
+            place(rt, &mut files.db, source, path)
         }
         Err(_) => Err(CopyFault::Log),
     }
