@@ -40,7 +40,7 @@ FAULTS = {
     'openat': ['EMFILE', 'EACCES'], 'statx': ['EIO'], 'newfstatat': ['EIO'], 'fstat': ['EIO'], 'readlink': ['EIO'],
     'getcwd': ['ENOENT'], 'fcntl': ['ENOLCK'], 'fchown': ['EPERM'], 'fchmod': ['EPERM'], 'fadvise64': ['EINVAL'],
     'getrandom': ['ENOSYS'], 'lseek': ['EIO'], 'read': ['EIO'], 'pread64': ['EIO'], 'pwrite64': ['EIO', 'ENOSPC'],
-    'write': ['EIO', 'ENOSPC'], 'fsync': ['EIO'], 'fdatasync': ['EIO', 'ENOSPC'], 'ftruncate': ['EIO'], 'close': ['EIO'],
+    'write': ['EIO', 'ENOSPC'], 'link': ['EPERM'], 'unlink': ['EIO'], 'fsync': ['EIO'], 'fdatasync': ['EIO', 'ENOSPC'], 'ftruncate': ['EIO'], 'close': ['EIO'],
     'mmap': ['ENOMEM'], 'mremap': ['ENOMEM'], 'socket': ['EMFILE'], 'setsockopt': ['ENOPROTOOPT'],
     'bind': ['EADDRINUSE'], 'listen': ['EADDRINUSE'], 'getsockname': ['ENOBUFS'], 'accept4': ['ECONNABORTED', 'EMFILE'],
     'poll': ['ENOMEM'], 'recvfrom': ['ECONNRESET'], 'sendto': ['EPIPE'], 'shutdown': ['ENOTCONN']}

@@ -4,6 +4,9 @@ large closing, and after losses of power: scripts/kill9 closings.
 After each of these the store has its rows, or its register has the archive and some of what goes is gone, of vessels' lists some
 wholly. The program opens it, answers a closed number, takes another, also one that names a list that goes, and prints all texts,
 and the same closing again goes on to the end. The archive keeps its rows.
+
+So too where `close` makes the copy: an archive that has its name is whole, and the same words again take it, or make another one
+where it has not; other files in the folder stay, and neither draft nor note is left.
 """
 import copy
 import os
@@ -12,19 +15,20 @@ import tempfile
 from time import monotonic, sleep
 
 from model.closing import close
-from model.commands import outcome
+from model.commands import free_name, outcome
 from model.days import Day
 from model.office import json_text
 from model.register import EMPTY
 from model.reports import printed
-from model.rows import ENDS, copy_files, register_rows, registered_in, rows_in, rows_of, rows_of_register
+from model.rows import (
+    ENDS, REGISTER, copy_files, register_rows, registered_in, rows_in, rows_of, rows_of_register)
 from model.setup import DEMO
 from model.setups import files_of
 from model.stream import status
 
 from .books import Book, Different, expect, prefilled
 from .calls import with_strace
-from .calls_of_others import KILLED, MEMORY, STORE, UNWRITTEN, calls_of, each_call
+from .calls_of_others import KILLED, MEMORY, STORE, UNWRITTEN, calls_of, each_call, front_of
 from .commands import UNMADE, each_room, refuse_each
 from .power import File, replayed, written_by
 from .working import printed_texts, run
@@ -32,6 +36,8 @@ from .working import printed_texts, run
 DELIVERED, MORE = 26, 12    # before the first copy; between two
 READY = 'ready\n', '', 0
 NAMES = 'first.db', 'second.db'
+BYSTANDER, WRITTEN = 'office-0001.db', 'no archive\n'     # a file under the first name that an archive would get
+DRAFT, NOTE = '-begun', '-closing'  # how the names end of what is there while a copy is made
 MANY = {'pread64': 12, 'brk': 6, 'mmap': 12}      # of which so many alone are tried
 LOSSES = 250                # of power, for each store
 LARGE, KILLS = 5000, 40     # texts of a large store, and how often its closing is killed
@@ -148,12 +154,16 @@ class Closing(Beside):
         expect('deliveries', wanted, run(book.program, 'deliver', book.store, book.file(
             'again.edi', '\n'.join(filter(None, texts)))))
         self.prints_texts()
-        expect('close again', READY, run(*self.words))
-        self.closes()
+        self.closes_again()
         expect('all behind it', self.modelled(), self.standing())
         self.prints_texts()
         for kind in ('yard', 'calls', 'archives', 'metrics'):
             expect(kind, (printed(book.office, kind)[0], '', 0), run(book.program, 'report', book.store, kind))
+
+    def closes_again(self):
+        """The same words, by program and model."""
+        expect('close again', READY, run(*self.words))
+        self.closes()
 
     def tried(self, front, _kind, fault):
         """How far it came, killed or refused at a call."""
@@ -161,6 +171,64 @@ class Closing(Beside):
         if fault != KILLED and given not in self.wants | {READY}:
             raise Different('%r' % (given,))
         return '%s; %s' % (given[0].strip() or given[1].strip() or 'nothing', self.found(given))
+
+
+class Making(Closing):
+    """`close` that makes the copy, beside a file that has the first name which an archive would get."""
+
+    name = 'close, with a copy'
+
+    def __init__(self, prepared, folder):
+        super().__init__(prepared, folder)
+        self.kept = {name: self.bytes_of(name) for name in os.listdir(folder) if name.startswith(NAMES)}
+        self.kept[BYSTANDER] = WRITTEN.encode()
+        self.book.file(BYSTANDER, WRITTEN)
+        self.words = [self.book.program, 'close', self.book.store]
+        self.path, self.archive = self.next(), copy.deepcopy(self.book.office)
+
+    def bytes_of(self, name):
+        """What a file in the folder holds."""
+        with open(os.path.join(self.book.folder, name), 'rb') as file:
+            return file.read()
+
+    def next(self):
+        """The first free name. A register that a closing left without its archive is taken for the next one."""
+        files = [os.path.join(self.book.folder, name) for name in os.listdir(self.book.folder) if REGISTER not in name]
+        return free_name(files, self.book.store, self.book.office.register)
+
+    def found(self, given):
+        """The same; before the archive has its name the store and its register are as they were."""
+        self.others_stay()
+        if os.path.exists(self.path):
+            self.has_one_name()
+            return super().found(given)
+        if given[0]:
+            raise Different('%r, and no archive' % (given,))
+        expect('the rows, without an archive', rows_of(self.book.office), rows_in(self.book.store)[0])
+        expect('the register, without an archive', register_rows(self.book.office), register_in(self.book.store))
+        self.goes_on([each.text for each in self.book.office.deliveries], [])
+        return 'no archive'
+
+    def has_one_name(self):
+        """The archive with the name of its draft is read by that alone."""
+        draft = self.path + DRAFT
+        if os.path.exists(draft) and os.path.samefile(draft, self.path):
+            os.remove(draft)
+
+    def others_stay(self):
+        """All other files are as they were."""
+        for name, held in self.kept.items():
+            if not name.endswith('-wal'):
+                expect('the file ' + name, held, self.bytes_of(name))
+
+    def closes_again(self):
+        """The archive that is there and has not been closed by to the end, or a new one."""
+        if not os.path.exists(self.book.store + NOTE) or not os.path.exists(self.path):
+            self.path, self.archive = self.next(), copy.deepcopy(self.book.office)
+        super().closes_again()
+        self.others_stay()
+        left = [name for name in os.listdir(self.book.folder) if name.endswith((DRAFT, NOTE))]
+        expect('what is left', [], left)
 
 
 def copy_one(path, other):
@@ -214,12 +282,28 @@ def chosen(calls, chance):
     return [call for call in calls if call not in dropped]
 
 
-def try_calls(prepared, counted):
+def try_calls(prepared, kind, counted):
     """Each call of a closing, from the first that names a file in its folder on: killed, and refused."""
     def make(folder):
-        return Closing(prepared, folder)
+        return kind(prepared, folder)
     each_call(make, chosen(calls_of(make, None), prepared.book.chance), counted)
     each_room(make, counted)
+
+
+def try_order(prepared, counted):
+    """A copy is synced before it gets its name, and its folder after that, before the store's register names it."""
+    with tempfile.TemporaryDirectory(prefix='kill9-') as folder:
+        making = Making(prepared, folder)
+        expect('close', READY, run(*front_of(folder, '-y', '-s', '9', '-e', 'trace=fsync,link,pwrite64'), *making.words))
+        with open(os.path.join(folder, 'calls'), encoding='utf-8', errors='replace') as file:
+            lines = file.read().splitlines()
+    synced = [place for place, line in enumerate(lines) if 'fsync(' in line and making.path + DRAFT in line]
+    named = [place for place, line in enumerate(lines) if 'link("%s"' % (making.path + DRAFT) in line]
+    lasts = [place for place, line in enumerate(lines) if 'fsync(' in line and '<%s>' % folder in line and place > named[0]]
+    written = [place for place, line in enumerate(lines) if 'pwrite64(' in line and making.book.store + '-archives' in line
+               and place > named[0]]
+    expect('the order of syncs', [True, True, True], [synced[0] < named[0], named[0] < lasts[0], lasts[0] < written[0]])
+    counted['close, with a copy: synced, named and its folder synced before the register has it'] += 1
 
 
 # ---- losses of power
@@ -318,6 +402,8 @@ def try_all(program, seed, counted):
     for is_closed in (False, True):
         with tempfile.TemporaryDirectory(prefix='kill9-') as folder:
             prepared = Prepared(program, folder, seed, is_closed)
-            try_calls(prepared, counted)
+            try_calls(prepared, Closing, counted)
+            try_calls(prepared, Making, counted)
+            try_order(prepared, counted)
             try_losses(prepared, counted)
     try_large(program, seed, counted)

@@ -14,7 +14,7 @@ import tempfile
 from contextlib import closing, contextmanager
 
 from .closing import close
-from .commands import texts_before_lost
+from .commands import free_name, texts_before_lost
 from .days import NEWCOMERS, SENDERS, Day, streamed
 from .deliveries import first_text, kept_texts
 from .events import Added, refusal
@@ -37,6 +37,8 @@ DELIVERIES = 10             # in a turn by a command
 REQUESTS = 12               # in a turn by HTTP
 CLOSES, COPIES = 0.5, 0.4   # of the turns
 MOST_ARCHIVES = 4
+MADE = 0.4                  # of the closings: the program makes the copy
+UNFINISHED = '-begun', '-closing'   # what a closing that was stopped leaves
 CLOSED_AGAIN = 0.4          # of the closings: the same command once more
 AGAIN = 5                   # closed numbers that are sent again, and as many with other bytes
 CALLS = 2                   # in a turn: new calls, and lists that are finished
@@ -89,16 +91,26 @@ class Closable:
         """A copy for later."""
         self.earlier = self.copied('earlier.db')
 
-    def closes(self):
-        """By a copy of now, or by one of some deliveries earlier. Nothing but what goes is another than before, and the archive
-        has a mark."""
+    def given(self):
+        """A copy of now, or one of some deliveries earlier: its path and its office."""
         path = self.path(self.chance.choice(NAMES) % (len(self.archives) + 1))
         if self.earlier and self.chance.random() < 0.6:
             copy_files(self.earlier[0], path)
-            archive = self.earlier[1]
-        else:
-            archive = self.copied(os.path.basename(path))[1]
+            return path, self.earlier[1]
+        return self.copied(os.path.basename(path))
+
+    def to_be_made(self):
+        """The same of the copy that the program makes."""
+        files = [self.path(name) for name in os.listdir(self.folder)]
+        return free_name(files, self.program.store, self.office.register), copy.deepcopy(self.office)
+
+    def closes(self):
+        """By a copy that is there, or by one that the program makes. Nothing but what goes is another than before, the archive has
+        a mark, and nothing else is left."""
+        is_made = self.chance.random() < MADE
+        path, archive = self.to_be_made() if is_made else self.given()
         self.earlier, rows = None, rows_of(archive)
+        self.beside.counted['archives that the program made'] += is_made
         for time in range(2 if self.chance.random() < CLOSED_AGAIN else 1):
             if time:
                 self.names_some(sorted(self.office.away))
@@ -106,7 +118,8 @@ class Closable:
             fault = close(self.office, archive, 'office.db', os.path.basename(path))
             self.counts_away(before, 'again by the same closing' if time else '')
             self.beside.expect('close', self.name, None, fault)
-            self.beside.expect('close', self.name, READY, self.program.close(path))
+            self.beside.expect('close', self.name, READY, self.program.close(*[path] * (time or not is_made)))
+            self.beside.expect('close', self.name, [], [name for name in os.listdir(self.folder) if name.endswith(UNFINISHED)])
             self.beside.rows(self.name, self.program, self.office)
             self.beside.register(self.name, self.program.store, self.office)
             self.beside.expect('an archive stays', self.name, (rows, []), rows_in(path))

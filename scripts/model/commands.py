@@ -12,7 +12,7 @@ from .closing import close as closed
 from .deliveries import kept_texts
 from .moments import are_digits
 from .office import Office, json_text
-from .register import EMPTY
+from .register import EMPTY, MOST_ARCHIVES
 from .reports import REPORTS, Lost, has_key, printed
 from .rows import REGISTER
 from .rules import NEWEST
@@ -23,7 +23,7 @@ from .words import text_of
 # how many words stand after each command: at least, at most
 WORDS = {
     'init': (3, 3), 'deliver': (2, 2), 'serve': (3, 3), 'report': (2, 3), 'demo': (0, 0), 'account': (3, 3),
-    'migrate': (2, 2), 'texts': (1, 2), 'close': (2, 2)}
+    'migrate': (2, 2), 'texts': (1, 2), 'close': (1, 2)}
 CLAP = 'a text of clap'     # which the model doesn't know
 MOST_CONNECTIONS = 1000000
 
@@ -148,8 +148,26 @@ def migrate(files, old, new):
     return 'ready\n', 0
 
 
-def close(files, store, archive):
-    """What the archive keeps goes from the store. They are in one folder, and not the same file."""
+def free_name(files, store, register):
+    """The file under which a closing makes an archive of a store, where these are the files: the first name that the register has
+    not, and that no file has."""
+    folder, name = os.path.split(store)
+    stem = name[:-len('.db')] if name.endswith('.db') else name
+    named = {archive.file for archive in register.archives}
+    for number in range(1, MOST_ARCHIVES + 1):
+        file = '%s-%04d.db' % (stem, number)
+        path = os.path.join(folder, file)
+        if file not in named and path not in files and path + REGISTER not in files:
+            return path
+    raise Fault('store: Store', 3)
+
+
+def close(files, store, archive=None):
+    """What the archive keeps goes from the store. They are in one folder, and not the same file. Without one a copy is made of the
+    store as it is."""
+    if archive is None:
+        archive = free_name(files, store, open_in(files, store).register)
+        files[archive] = copy.deepcopy(files[store])
     own, copied = office_in(files, store), office_in(files, archive)
     if own is copied:
         raise Fault('store: Store', 3)

@@ -77,9 +77,9 @@ class Program:
         """Brings an old store to the newest version, as this one."""
         return self.run('migrate', old, self.store)
 
-    def close(self, archive):
-        """Puts away what an archive keeps."""
-        return self.run('close', self.store, archive)
+    def close(self, *archive):
+        """Puts away what an archive keeps; of a copy that is made, if none is named."""
+        return self.run('close', self.store, *archive)
 
     def report(self, kind, key):
         """A report; those on the whole terminal have no key."""

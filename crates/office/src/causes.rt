@@ -96,6 +96,42 @@ impl Words {
         text: " is not there: first copy the store to it, with its log and its register",
     };
 
+    /// A copy has the name of an archive that the store's register names.
+    pub(crate) const NAMED_ARCHIVE: Words = Words {
+        follow_path: true,
+        text: " is the name of an archive of the store: `office report DB archives` tells if that is there; give a copy another name",
+    };
+
+    /// An archive that a closing made, which was stopped, is no copy of the store any more.
+    pub(crate) const LEFT_COPY: Words = Words {
+        follow_path: true,
+        text: " was made by a closing that was stopped, and is no copy of the store now: it stays, and another one is made",
+    };
+
+    /// What a store's log holds can't be moved into its file, so that no file by itself is the store.
+    pub(crate) const LOG_STAYS: Words = Words {
+        follow_path: false,
+        text: "its log can't be moved into its file: make room on the disk, and try again",
+    };
+
+    /// The disk has no room for a copy.
+    pub(crate) const NO_ROOM: Words = Words {
+        follow_path: false,
+        text: "the disk has no room for a copy of it: make room, and try again",
+    };
+
+    /// A copy can't be made.
+    pub(crate) const NOT_COPIED: Words = Words {
+        follow_path: false,
+        text: "no copy of it can be made in its folder: look at the disk and at who may write there",
+    };
+
+    /// Each name that an archive may get is taken.
+    pub(crate) const NO_NAME: Words = Words {
+        follow_path: false,
+        text: "each name for an archive is taken: copy the store under another name, and name that",
+    };
+
     /// A store that is to be migrated is of this version.
     pub(crate) const IS_NEWEST: Words = Words {
         follow_path: true,

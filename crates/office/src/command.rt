@@ -2,12 +2,13 @@ use crate::causes::{
     Audience, Words, stderr_is_terminal, tell_store, tell_store_cause, tell_unread,
     tell_unread_cause, tell_with, tell_words,
 };
+use crate::closing::close;
 use crate::explain::explain;
-use crate::history::{archives, close, may_be_made, tell_open, tell_open_cause};
+use crate::history::{archives, may_be_made, tell_open, tell_open_cause};
 use crate::init::init;
 use crate::leaving::{end_account, end_serving, give_up};
 use crate::links::followed;
-use crate::long_work::{WatchedTexts, Work, tell_long};
+use crate::long_work::{Watched, Work, tell_long};
 use crate::request_log::RequestLog;
 use crate::watch::DeliveryWatch;
 use office_archive_files::InUnknownFiles;
@@ -242,7 +243,7 @@ pub(crate) fn texts<W: Write, E: Write>(
     };
     let store = store.as_str();
     tell_long(rt, errors, Work::OPENING, store);
-    let mut watched = Port::new(WatchedTexts::new(rt, writer));
+    let mut watched = Port::new(Watched::texts(rt, writer));
     let beside = InUnknownFiles::new(rt);
     let status = match texts_over(rt, store, Unknown, &beside, from, &mut watched) {
         Ok(ended) => tell_reported(rt, errors, store, ended),

@@ -62,22 +62,36 @@ pub(crate) fn tell_long<E: Write>(rt: &HostRuntime, errors: &mut Port<E>, work: 
     }
 }
 
-/// A writer of texts that shows a person how many megabytes were written, unless the texts go to a terminal too.
+/// A writer of much that shows a person how many megabytes were written.
 #[derive(Drop)]
-pub(crate) struct WatchedTexts<'a, W> {
+pub(crate) struct Watched<'a, W> {
     rt: &'a HostRuntime,
     is_on: bool,
+    /// What the megabytes are of.
+    what: &'static str,
     inner: W,
     bytes: u64,
 }
 
-impl<'a, W: Write> WatchedTexts<'a, W> {
-    /// Nothing is written yet.
-    pub(crate) fn new(rt: &'a HostRuntime, inner: W) -> WatchedTexts<'a, W> {
+impl<'a, W: Write> Watched<'a, W> {
+    /// A writer of texts, of which nothing is shown if they go to a terminal too.
+    pub(crate) fn texts(rt: &'a HostRuntime, inner: W) -> Watched<'a, W> {
         let is_on = stderr_is_terminal(rt) && !rt.stdout().is_terminal();
-        WatchedTexts {
+        Watched {
             rt,
             is_on,
+            what: "MB of texts",
+            inner,
+            bytes: 0,
+        }
+    }
+
+    /// A writer of a copy of a store.
+    pub(crate) fn copy(rt: &'a HostRuntime, inner: W) -> Watched<'a, W> {
+        Watched {
+            rt,
+            is_on: stderr_is_terminal(rt),
+            what: "MB copied",
             inner,
             bytes: 0,
         }
@@ -87,7 +101,7 @@ impl<'a, W: Write> WatchedTexts<'a, W> {
     pub(crate) fn end(&self) {
         let megabytes = self.bytes / MEGABYTE;
         if self.is_on && megabytes > 0 {
-            let _ = eprintln!(self.rt; "{megabytes} MB of texts");
+            let _ = eprintln!(self.rt; "{megabytes} {}", self.what);
         }
     }
 
@@ -97,12 +111,12 @@ impl<'a, W: Write> WatchedTexts<'a, W> {
         self.bytes = self.bytes.saturating_add(bytes as u64);
         let now = self.bytes / MEGABYTE;
         if self.is_on && now > before {
-            let _ = eprint!(self.rt; "{now} MB of texts\r");
+            let _ = eprint!(self.rt; "{now} {}\r", self.what);
         }
     }
 }
 
-impl<W: Write> Write for WatchedTexts<'_, W> {
+impl<W: Write> Write for Watched<'_, W> {
     fn write(&mut self, buf: &[u8]) -> Result<usize> {
         let count = self.inner.write(buf)?;
         self.count(count);

@@ -5,13 +5,16 @@
 #![tactic(auto)]
 
 mod causes;
+mod closing;
 mod command;
+mod copying;
 mod explain;
 mod history;
 mod init;
 mod leaving;
 mod links;
 mod long_work;
+mod new_archive;
 mod request_log;
 mod watch;
 

@@ -26,6 +26,7 @@ use Rattle.office_closing.specs.Closes.{Held}
 use Rattle.office_closing.specs.Files.{AreClean, Files, files}
 use Rattle.office_closing.specs.declared.faults.CloseFault.{CloseFault}
 use Rattle.office_commands.specs.Opening.{Shows}
+use Rattle.office_closing.specs.declared.planning.PutAway.{PutAway}
 use Rattle.office_archive_files.specs.ClosedFiles.{AreLeft, ClosingsOfFilesAreNoEvents, HoldClosable, HoldsRegister, HoldsRows, OpenStoresAreHeld}
 use Rattle.office_archive_files.specs.ClosedStores.{OpenedRowsAreOrderly, OpensAfter}
 use Rattle.office_archive_files.specs.Closing.{ClosesOver, Images, ShowsRegister}
@@ -73,7 +74,7 @@ was_clean : (old new : State) (P : Trees → Type 0) → Survives old new P → 
 was_clean old new P s clean = omega (arith, s.clean)
 
 module _ {S R A M : Type 0} (s : Ghosts S) (r : Ghosts R) (a : Ghosts A) (m : Ghosts M) (no_event : StopsAreNoEvents s r a m) (orderly : OpenedRowsAreOrderly)
-    (images : Images) (store archive : List ℕ) (own : connection.Held S) (register : connection.Held R) (copy : connection.Held A) (copied : connection.Held M) (result : Result (Unit {0}) CloseFault)
+    (images : Images) (store archive : List ℕ) (own : connection.Held S) (register : connection.Held R) (copy : connection.Held A) (copied : connection.Held M) (result : Result PutAway CloseFault)
     (over : ClosesOver s r a m images store archive own register copy copied result) (content : SetupContent) (es : List Event) (archives : List Archive) (held : Held)
     (may : HoldClosable over.names content es archives held images) (clean : AreClean (files s r a m own register copy copied)) where
   abbrev found : Files

@@ -20,6 +20,7 @@ use Rattle.office_closing.specs.Copies.{FileNames}
 use Rattle.office_closing.specs.Files.{AreClean, Files, files}
 use Rattle.office_closing.specs.PuttingAway.{AreNamedThen}
 use Rattle.office_closing.specs.declared.faults.CloseFault.{CloseFault}
+use Rattle.office_closing.specs.declared.planning.PutAway.{PutAway}
 use Rattle.office_archive_files.specs.ClosedStores.{OpensAfter}
 use Rattle.office_archive_files.specs.Closing.{ClosesOver, Images}
 use Rattle.office_commands.specs.Beside.{HoldsBeside}
@@ -66,7 +67,7 @@ pub record AreLeft (content : SetupContent) (es : List Event) (archives : List A
 abbrev pub ClosingsOfFilesAreNoEvents : {S R A M : Type 0} → Ghosts S → Ghosts R → Ghosts A → Ghosts M → Type 0
 ClosingsOfFilesAreNoEvents {S} {R} {A} {M} s r a m =
     (images : Images) (store archive : List ℕ) (own : connection.Held S) (register : connection.Held R)
-    (copy : connection.Held A) (copied : connection.Held M) (result : Result (Unit {0}) CloseFault)
+    (copy : connection.Held A) (copied : connection.Held M) (result : Result PutAway CloseFault)
     (over : ClosesOver s r a m images store archive own register copy copied result) (content : SetupContent)
     (es : List Event) (archives : List Archive) (held : Held) →
     HoldClosable over.names content es archives held images → AreClean (files s r a m own register copy copied)

@@ -1,5 +1,5 @@
 -- What the command that puts history away does to the four files that it opens.
-use Rattle.std.specs.Prelude.{◌≡◌, ◌≢◌, ◌⊎◌, ℕ, List, Option, Result}
+use Rattle.std.specs.Prelude.{◌≡◌, ◌≢◌, ◌⊎◌, ℕ, List, Option, Result, IfOk}
 use Rattle.sqlite_trees.specs.declared.store.Store.{Ghosts}
 use Rattle.sqlite.specs.Held.{Held, state}
 use Rattle.sqlite.specs.Recovery.{Image}
@@ -10,10 +10,11 @@ use Rattle.office_commands.specs.Opening.{HoldsNoTables, Shows}
 use Rattle.office_closing.specs.Changes.{empty_register}
 use Rattle.office_closing.specs.Tables.{register_tables}
 use Rattle.office_closing.specs.Transactions.{IsSettled, Makes}
-use Rattle.office_closing.specs.Closes.{Closes}
+use Rattle.office_closing.specs.Closes.{ArePutAway, Closes}
 use Rattle.office_closing.specs.Copies.{FileNames}
-use Rattle.office_closing.specs.Files.{AreIdle, files}
+use Rattle.office_closing.specs.Files.{AreClean, AreIdle, files}
 use Rattle.office_closing.specs.declared.faults.CloseFault.{CloseFault}
+use Rattle.office_closing.specs.declared.planning.PutAway.{PutAway}
 use Rattle.office_commands.specs.Paths.{HasNoSlash, path_of}
 
 -- the name that a path ends with
@@ -55,9 +56,9 @@ module _ {S : Type 0} (g : Ghosts S) where
 -- The connections to a store, its register, an archive and its register: the four were opened on files that held this, with no
 -- transaction on any, so that what was committed is in memory and all that a crash leaves; and closing them under the names of
 -- the two paths left these, with that answer.
-pub record ClosesOver {S R A M T : Type 0} (s : Ghosts S) (r : Ghosts R) (a : Ghosts A) (m : Ghosts M) (images : Images)
+pub record ClosesOver {S R A M : Type 0} (s : Ghosts S) (r : Ghosts R) (a : Ghosts A) (m : Ghosts M) (images : Images)
     (store archive : List ℕ) (own : Held S) (register : Held R) (copy : Held A) (copied : Held M)
-    (result : Result T CloseFault) : Type 0 where
+    (result : Result PutAway CloseFault) : Type 0 where
   pub names : FileNames
   pub store_name : IsNameOf store names.store
   pub archive_name : IsNameOf archive names.archive
@@ -74,3 +75,5 @@ pub record ClosesOver {S R A M T : Type 0} (s : Ghosts S) (r : Ghosts R) (a : Gh
   pub idle : AreIdle (files s r a m found_own found_register found_copy found_copied)
   pub closes : Closes names (files s r a m found_own found_register found_copy found_copied)
       (files s r a m own register copy copied) result
+  pub put_away : AreClean (files s r a m own register copy copied) →
+      IfOk result (ArePutAway names (files s r a m found_own found_register found_copy found_copied))

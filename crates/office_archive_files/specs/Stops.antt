@@ -17,6 +17,7 @@ use Rattle.office_closing.specs.Copies.{FileNames}
 use Rattle.office_closing.specs.Files.{Files, AreClean, files}
 use Rattle.office_closing.specs.PuttingAway.{AreNamedThen}
 use Rattle.office_closing.specs.declared.faults.CloseFault.{CloseFault}
+use Rattle.office_closing.specs.declared.planning.PutAway.{PutAway}
 use Rattle.office_archive_files.specs.ClosedStores.{OpensAfter}
 
 -- the trees are those of a database that has this register, in one of the two layouts
@@ -67,7 +68,7 @@ StopsAreNoEvents {S} {R} {A} {M} s r a m =
     (names : FileNames) (content : SetupContent) (es : List Event) (archives : List Archive) (held : Held)
     (store new_store : connection.Held S) (register new_register : connection.Held R)
     (archive new_archive : connection.Held A) (archive_register new_archive_register : connection.Held M)
-    (result : Result (Unit {0}) CloseFault) →
+    (result : Result PutAway CloseFault) →
     MayBeClosed names content es archives held (files s r a m store register archive archive_register) →
     Closes names (files s r a m store register archive archive_register)
     (files s r a m new_store new_register new_archive new_archive_register) result →

@@ -6,13 +6,14 @@ use Rattle.sqlite.specs.Files.{over_files}
 use Rattle.sqlite.specs.Held.{Held}
 use Rattle.sqlite.specs.declared.FileStore.{FileStore}
 use Rattle.office_closing.specs.declared.faults.CloseFault.{CloseFault}
+use Rattle.office_closing.specs.declared.planning.PutAway.{PutAway}
 use Rattle.office_commands.specs.Whole.{IsLeft}
 use Rattle.office_archive_files.specs.Closing.{ClosesOver, Images}
 
 -- The files of a closing, each of them left whole, in the place of the connection to it: four files were closed, with that
 -- answer, and then each was left so.
-pub record ClosesWhole {D T : Type 0} (g : Ghosts D) (images : Images) (store archive : List ℕ)
-    (own register copy copied : Result (Files D) (FileStore D g)) (result : Result T CloseFault) : Type 0 where
+pub record ClosesWhole {D : Type 0} (g : Ghosts D) (images : Images) (store archive : List ℕ)
+    (own register copy copied : Result (Files D) (FileStore D g)) (result : Result PutAway CloseFault) : Type 0 where
   pub own_conn : Held (FileStore D g)
   pub register_conn : Held (FileStore D g)
   pub copy_conn : Held (FileStore D g)

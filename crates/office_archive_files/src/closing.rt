@@ -7,7 +7,9 @@ ghost use Rattle.sqlite.specs.Held.{state};
 ghost use Rattle.sqlite.specs.Recovery.{Image};
 ghost use Rattle.sqlite.specs.State.{HasCleanDisk, Opens};
 
-use office_closing::{CloseFault, File, FileFault, Refusal, close, create_register, read_register};
+use office_closing::{
+    CloseFault, File, FileFault, PutAway, Refusal, close, create_register, read_register,
+};
 use office_commands::{
     beside_path, found_at, has_no_tables, is_there, open_found, open_there, place_of, register_path,
 };
@@ -145,7 +147,7 @@ pub fn close_over<
     store: &str,
     archive: &str,
     of: OfFour<OfStore, OfRegister, OfArchive, OfArchiveRegister>,
-) -> Result<(ClosingFiles<S, R, A, M>, Result<(), CloseFault>), CloseCommandFault>
+) -> Result<(ClosingFiles<S, R, A, M>, Result<PutAway, CloseFault>), CloseCommandFault>
     ensures { IfOk result (λ ended. ClosesOver S.Store R.Store A.Store M.Store
         (record {
           store = OfStore.image;
@@ -190,7 +192,7 @@ pub fn close_alike<S: Alter + Drop, F: ClosingFile<S> + Drop>(
     store: &str,
     archive: &str,
     of: OfFour<F, F, F, F>,
-) -> Result<(ClosingFiles<S, S, S, S>, Result<(), CloseFault>), CloseCommandFault>
+) -> Result<(ClosingFiles<S, S, S, S>, Result<PutAway, CloseFault>), CloseCommandFault>
     ensures { IfOk result (λ ended. ClosesOver S.Store S.Store S.Store S.Store
         (record { store = F.image; register = F.image; archive = F.image; archive_register = F.image })
         store.now archive.now ended.0.store ended.0.register ended.0.archive ended.0.archive_register ended.1) }

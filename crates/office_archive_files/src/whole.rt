@@ -3,7 +3,7 @@ ghost use Rattle.office_archive_files.specs.Whole.{ClosesWhole};
 ghost use Rattle.office_commands.specs.Whole.{IsLeft};
 
 use crate::closing::{CloseCommandFault, ClosingFile, ClosingFiles, OfFour, close_alike};
-use office_closing::CloseFault;
+use office_closing::{CloseFault, PutAway};
 use office_commands::{Left, leave_whole};
 use sqlite::FileStore;
 use sqlite_disk::Disk;
@@ -20,7 +20,7 @@ pub fn close_whole<D: Disk + Drop, F: ClosingFile<FileStore<D>> + Drop>(
     store: &str,
     archive: &str,
     of: OfFour<F, F, F, F>,
-) -> Result<(LeftFiles<D>, Result<(), CloseFault>), CloseCommandFault>
+) -> Result<(LeftFiles<D>, Result<PutAway, CloseFault>), CloseCommandFault>
     ensures { IfOk result (λ ended. ClosesWhole D.Disk
         (record { store = F.image; register = F.image; archive = F.image; archive_register = F.image })
         store.now archive.now ended.0.store ended.0.register ended.0.archive ended.0.archive_register ended.1) }

@@ -13,8 +13,9 @@ use Rattle.office_closing.specs.Stored.{HasRegister}
 use Rattle.office_closing.specs.declared.faults.CloseFault.{CloseFault}
 use Rattle.office_closing.specs.declared.faults.File.TheVariants as file
 use Rattle.office_closing.specs.declared.planning.Plan.{Plan}
+use Rattle.office_closing.specs.declared.planning.PutAway.{PutAway}
 use Rattle.office_closing.specs.Clearing.{Clears}
-use Rattle.office_closing.specs.Closes.{AreHeld, Closes, Closing, HasArchive, Held, IsBeforehand, IsMarkedNow, IsLeft, StoresLeftRows, StoresMarked, StoresRaised, Tells, cleared, closing_content, AreOfSetup, PutsAway}
+use Rattle.office_closing.specs.Closes.{AreHeld, ArePutAway, IsOfClosing, Closes, Closing, HasArchive, Held, IsBeforehand, IsMarkedNow, IsLeft, StoresLeftRows, StoresMarked, StoresRaised, Tells, cleared, closing_content, AreOfSetup, PutsAway}
 use Rattle.office_closing.specs.Copies.{FileNames}
 use Rattle.office_closing.specs.Files.{AreClean, AreIdle, AreRead, Files, IsRead}
 use Rattle.office_closing.specs.Judging.{AreResting, IsJudged, IsResting}
@@ -275,6 +276,10 @@ module _ (names : FileNames) (old mid : Files) (plan : Plan) (rests : AreResting
         mark = mark_crash (Err why) clears;
         archive = read_on old.archive mid.archive _ read.archive;
       }
+
+      -- what a plan puts away is what its closing does
+      pub away_whole : {X : Type 0} (x : X) → Clears (cleared closing) (IsLeft closing) mid.store end (Ok x) → (away : PutAway) → IsOfClosing closing away → AreClean raised_files → ArePutAway names old away
+      away_whole x clears away is clean held has = (closing, (has_archive (Ok x) clears clean held has).is_closing, is)
 
       -- all is gone that goes
       pub closes_whole : {X Y : Type 0} (x : X) (y : Y) → Clears (cleared closing) (IsLeft closing) mid.store end (Ok x) → Closes names old raised_files (Ok y)

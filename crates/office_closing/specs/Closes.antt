@@ -34,6 +34,7 @@ use Rattle.office_closing.specs.declared.faults.File.{File}
 use Rattle.office_closing.specs.declared.faults.File.TheVariants as file
 use Rattle.office_closing.specs.declared.comparing.Numbers.{Numbers}
 use Rattle.office_closing.specs.declared.planning.Plan.{Plan}
+use Rattle.office_closing.specs.declared.planning.PutAway.{PutAway}
 use Rattle.office_closing.specs.declared.planning.Stage.{Stage}
 use Rattle.office_closing.specs.declared.planning.Stage.TheVariants as stage
 use Rattle.office_closing.specs.Comparing.{IsOfEither}
@@ -227,6 +228,19 @@ pub record IsStopped (held : Held) (names : FileNames) (new : Files) : Type 0 wh
   pub mark : IsTrue new.archive_register.is_open →
       HasRegister held.copied new.archive_register.committed
       ⊎ HasRegister (marked_for names.store held.copied) new.archive_register.committed
+
+-- ---- what was put away
+
+-- the numbers that it closes, and how many visits and lists go
+pub record IsOfClosing (closing : Closing) (away : PutAway) : Type 0 where
+  pub numbers : away.numbers.items ≡ closing.numbers
+  pub visits : away.visits ≡ length closing.visits
+  pub lists : away.lists ≡ length closing.gone
+
+-- so of a closing of what the files held
+abbrev pub ArePutAway : FileNames → Files → PutAway → Type 0
+ArePutAway names old away =
+    (held : Held) → AreHeld held old → (closing : Closing) × IsClosing held names closing × IsOfClosing closing away
 
 -- ---- what a crash leaves
 

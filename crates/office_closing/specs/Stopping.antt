@@ -15,6 +15,7 @@ use Rattle.office_closing.specs.Steps.{is_unraised}
 use Rattle.office_closing.specs.Stored.{HasRegister, StoresEither}
 use Rattle.office_closing.specs.Transactions.{IsSettled}
 use Rattle.office_closing.specs.declared.faults.CloseFault.{CloseFault}
+use Rattle.office_closing.specs.declared.planning.PutAway.{PutAway}
 use Rattle.office_closing.specs.declared.planning.Stage.{Stage}
 use Rattle.office_closing.specs.declared.planning.Stage.TheVariants as stage
 
@@ -85,7 +86,7 @@ StopsAreOnTheWay {S} {R} {A} {M} s r a m =
     (names : FileNames) (held : Held)
     (store new_store : connection.Held S) (register new_register : connection.Held R)
     (archive new_archive : connection.Held A) (archive_register new_archive_register : connection.Held M)
-    (result : Result (Unit {0}) CloseFault) (left : Left) →
+    (result : Result PutAway CloseFault) (left : Left) →
     AreHeld held (files s r a m store register archive archive_register) →
     AreSettled (files s r a m store register archive archive_register) →
     Closes names (files s r a m store register archive archive_register)

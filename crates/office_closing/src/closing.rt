@@ -1,9 +1,9 @@
-ghost use Rattle.std.specs.Prelude.{◌≡◌, ◌<◌, ◌≤◌, [], ◌∷◌, false, map, true, OnOk, OnErr, IfErr, IsTrue};
+ghost use Rattle.std.specs.Prelude.{◌≡◌, ◌<◌, ◌≤◌, [], ◌∷◌, false, map, true, OnOk, OnErr, IfOk, IfErr, IsTrue};
 ghost use Rattle.edi_messages.specs.Owned.{call_content};
 ghost use Rattle.office_closing.specs.Clearing.{Clears, IsWithoutSome, IsWithoutSomeLists, IsWithoutSomeVisits};
-ghost use Rattle.office_closing.specs.Closes.{Closes, IsLeft, cleared, closing_content};
+ghost use Rattle.office_closing.specs.Closes.{ArePutAway, Closes, IsLeft, cleared, closing_content};
 ghost use Rattle.office_closing.specs.Deleting.{Deletes, all_but, goes, is_one_of, without_interchange, without_visits};
-ghost use Rattle.office_closing.specs.Files.{AreIdle, files};
+ghost use Rattle.office_closing.specs.Files.{AreClean, AreIdle, files};
 ghost use Rattle.office_closing.specs.Judging.{AreResting};
 ghost use Rattle.office_closing.specs.Refusing.{IsFileOf};
 ghost use Rattle.office_closing.specs.Steps.{StepsIf, is_unmarked, is_unraised};
@@ -22,7 +22,7 @@ ghost use Rattle.sqlite.specs.State.{HasCleanDisk, Shows, Survives};
 use crate::comparing::Numbers;
 use crate::faults::{CloseFault, File, FileFault};
 use crate::judging::judge;
-use crate::planning::{Plan, Stage, is_unmarked, is_unraised};
+use crate::planning::{Plan, PutAway, Stage, is_unmarked, is_unraised, put_away};
 use crate::{Archive, Segment, SettledList, characters, close_with, mark, side_code};
 use edi_messages::Call;
 use office_tables::{TableFault, integer};
@@ -34,6 +34,7 @@ use terminal_core::Side;
 /// the store. The archive is marked for the store first, then the store's register has the archive, and then rows go.
 ///
 /// If it was stopped, it goes on when it is called again with the same files. It changes nothing if the archive is refused.
+/// It answers what it puts away, with what went before it was stopped but for visits and lists that are gone.
 pub fn close<S: Alter, R: Alter, A: Alter, M: Alter>(
     alloc: Global,
     store: &mut Connection<S>,
@@ -42,11 +43,16 @@ pub fn close<S: Alter, R: Alter, A: Alter, M: Alter>(
     archive_register: &mut Connection<M>,
     store_file: &str,
     archive_file: &str,
-) -> Result<(), CloseFault>
+) -> Result<PutAway, CloseFault>
     requires idle { AreIdle (files S.Store R.Store A.Store M.Store store.old register.old archive.old archive_register.old) }
     ensures closes { Closes (record { store = store_file.now; archive = archive_file.now })
         (files S.Store R.Store A.Store M.Store store.old register.old archive.old archive_register.old)
         (files S.Store R.Store A.Store M.Store store.new register.new archive.new archive_register.new) result }
+
+    // What was put away is what a closing of these files puts away.
+    ensures put_away { AreClean (files S.Store R.Store A.Store M.Store store.new register.new archive.new archive_register.new) →
+        IfOk result (ArePutAway (record { store = store_file.now; archive = archive_file.now })
+        (files S.Store R.Store A.Store M.Store store.old register.old archive.old archive_register.old)) }
 {
     check_idle(store, register, archive, archive_register);
     let plan = judge(
@@ -61,7 +67,7 @@ pub fn close<S: Alter, R: Alter, A: Alter, M: Alter>(
     mark_archive(archive_register, plan.stage, store_file)?;
     raise(register, &plan)?;
     match clear_all(store, &plan) {
-        Ok(()) => Ok(()),
+        Ok(()) => Ok(put_away(plan)),
         Err(fault) => Err(not_written(File::Store, fault)),
     }
 }

@@ -37,6 +37,7 @@ pub use faults::{CloseFault, File, FileFault, Refusal};
 pub use going::done_lists;
 pub use list_reading::read_list;
 pub use list_writing::{list_text, push_line};
+pub use planning::PutAway;
 pub use register::{Archive, Register, Segment};
 pub use register_closing::{characters, close_with, mark};
 pub use register_reading::read_register;

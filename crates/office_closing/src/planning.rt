@@ -2,6 +2,7 @@ ghost use Rattle.std.specs.Option.{option_map};
 ghost use Rattle.std.specs.Prelude.{◌≡◌, ◌↔◌, ◌≤◌, ◌++◌, ◌∷◌, [], true, IfOk, IfErr, IsTrue, MatchOption, OnOk, length, map, string_bytes};
 ghost use Rattle.office_loading.specs.Closed.{last_closed};
 ghost use Rattle.office_closing.specs.Copies.{AreAtMost, AreFirst, ComesOn, FileNames, IsNoLater, IsOfStore, IsReason, IsSameOffice, archive_in, numbers_from, numbers_of, office_content, segments_of};
+ghost use Rattle.office_closing.specs.Closes.{IsOfClosing, closing_content};
 ghost use Rattle.office_closing.specs.Planning.{AreClosingLists, AreFor, IsHistory, IsMarkedAs, IsPlan, IsPlanOf, IsRefused, IsRefusedWith, IsToldBy};
 ghost use Rattle.office_closing.specs.Steps.{is_unmarked, is_unraised};
 ghost use Rattle.office_closing.specs.Visits.{AreToGo};
@@ -98,6 +99,28 @@ pub(crate) struct Plan {
     pub gone: Vec<SettledList>,
     /// How far it has come.
     pub stage: Stage,
+}
+
+/// What a closing puts away.
+#[derive(Drop)]
+pub struct PutAway {
+    /// The numbers that it closes, of each partner.
+    pub numbers: Vec<Numbers>,
+    /// How many visits go.
+    pub visits: usize,
+    /// How many lists go.
+    pub lists: usize,
+}
+
+/// What a plan puts away.
+pub(crate) fn put_away(plan: Plan) -> PutAway
+    ensures { IsOfClosing (closing_content plan) result }
+{
+    PutAway {
+        visits: plan.visits.len(),
+        lists: plan.gone.len(),
+        numbers: plan.numbers,
+    }
 }
 
 /// What is to be closed by an archive, if it is a copy of the store. The lists that are named stay.

@@ -54,9 +54,9 @@ account_app = with_rule (with_rule (with_rule (new_app (codes "account")) (word 
 unfoldable pub migrate_app : App
 migrate_app = with_rule (with_rule (new_app (codes "migrate")) (word (codes "OLD"))) (word (codes "NEW"))
 
--- close DB ARCHIVE
+-- close DB [ARCHIVE]
 unfoldable pub close_app : App
-close_app = with_rule (with_rule (new_app (codes "close")) (word (codes "DB"))) (word (codes "ARCHIVE"))
+close_app = with_rule (with_rule (new_app (codes "close")) (word (codes "DB"))) (word_if_any (codes "ARCHIVE"))
 
 -- explain FILE [--partners PARTNERS]
 unfoldable pub explain_app : App

@@ -25,7 +25,7 @@ pub data RequestContent : Type 0 where
   texts : Text → (from : ℕ) → RequestContent
   account : Text → Text → Text → RequestContent
   migrate : Text → Text → RequestContent
-  close : Text → Text → RequestContent
+  close : Text → (archive : Option Text) → RequestContent
   explain : Text → (partners : Option Text) → RequestContent
   demo : RequestContent
 
@@ -39,7 +39,7 @@ request_content (request.Archives store) = archives store.now
 request_content (request.Texts store from) = texts store.now from
 request_content (request.Account store code kind) = account store.now code.now kind.now
 request_content (request.Migrate old new) = migrate old.now new.now
-request_content (request.Close store archive) = close store.now archive.now
+request_content (request.Close store archive) = close store.now (option_map (λ text. text.now) archive)
 request_content (request.Explain file partners) = explain file.now (option_map (λ text. text.now) partners)
 request_content request.Demo = demo
 
@@ -175,10 +175,10 @@ migrate_request rows = option_and_then
     (λ (old : Text). option_map (λ (new : Text). migrate old new) (first_of (codes "NEW") rows))
     (first_of (codes "OLD") rows)
 
+-- the archive may be left out
 abbrev pub close_request : List Row → Option RequestContent
-close_request rows = option_and_then
-    (λ (store : Text). option_map (λ (archive : Text). close store archive) (first_of (codes "ARCHIVE") rows))
-    (first_of (codes "DB") rows)
+close_request rows =
+    option_map (λ (store : Text). close store (first_of (codes "ARCHIVE") rows)) (first_of (codes "DB") rows)
 
 -- the partners' file may be left out
 abbrev pub explain_asked : List Row → Option RequestContent

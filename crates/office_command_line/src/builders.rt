@@ -168,20 +168,20 @@ pub(crate) fn migrate_command<'a>(alloc: Global) -> Result<Command<'a>, AllocErr
     Ok(migrate)
 }
 
-/// `close DB ARCHIVE`
+/// `close DB [ARCHIVE]`
 pub(crate) fn close_command<'a>(alloc: Global) -> Result<Command<'a>, AllocError>
     ensures app { IfOk result (λ command. app_of command ≡ close_app) }
     ensures local { IfOk result (λ command. (out-Command command).has_globals ≡ false) }
 {
     let store = word(alloc, "DB", "The store");
-    let archive = word(
+    let archive = word_if_any(
         alloc,
         "ARCHIVE",
-        "A copy of the store, in the same folder; it keeps what is deleted",
+        "A copy of the store, in the same folder, which keeps what is deleted; by default one is made",
     );
     let close = Command::new(alloc, "close")
         .about("Put history away: delete from a store what a copy of it keeps")
-        .after_help("Example: office close office.db office-0001.db")
+        .after_help("Example: office close office.db")
         .arg(store)?
         .arg(archive)?;
     Ok(close)

@@ -132,8 +132,8 @@ pub enum Request<'a> {
     Close {
         /// The store's path.
         store: &'a str,
-        /// The path of the archive, a copy of the store.
-        archive: &'a str,
+        /// The path of the archive, a copy of the store; none if the copy is still to be made.
+        archive: Option<&'a str>,
     },
     /// To say what is wrong with the interchanges of a file.
     Explain {
@@ -283,7 +283,7 @@ fn close_in<'a>(matches: &ArgMatches<'a>) -> Option<Request<'a>>
     ensures { option_map request_content result ≡ close_request (rows_of (found_of matches.now)) }
 {
     let store = text_of(matches, "DB")?;
-    let archive = text_of(matches, "ARCHIVE")?;
+    let archive = text_of(matches, "ARCHIVE");
     Some(Request::Close { store, archive })
 }
 

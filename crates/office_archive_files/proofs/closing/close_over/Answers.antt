@@ -18,4 +18,5 @@ returns g c = record {
   copied_shows = c.in_ok-copied.ensures.shows;
   idle = record { store = c.in_ok-own.ensures.idle; register = c.in_ok-names.ensures.idle; archive = c.in_ok-copy.ensures.idle; archive_register = c.in_ok-copied.ensures.idle };
   closes = c.close-closed.ensures.closes;
+  put_away = c.close-closed.ensures.put_away;
 }
