@@ -1,5 +1,5 @@
 -- The lists that have lines, by one line more.
-use Rattle.std.proofs.Common.{◌≡◌, ℕ, ◌+◌, ◌<◌, ◌≤◌, List, [], ◌∷◌, ◌++◌, length, map, take, Bool, true, false, cond, Option, None, Some, refl, sym, ap, ◌∙◌, arith, get_or, slice_get, count_by, max, String, Global, string_bytes, zero, suc, subst}
+use Rattle.std.proofs.Common.{◌≡◌, ℕ, ◌+◌, ◌<◌, ◌≤◌, List, [], ◌∷◌, ◌++◌, length, map, take, Bool, true, false, cond, Option, None, Some, refl, sym, ap, ◌∙◌, arith, get_or, count_by, max, zero, suc, subst}
 use Rattle.std.specs.Prelude.{◌&&◌, ◌||◌, T, filter}
 use Rattle.std.specs.Borrow.{Bor}
 use Rattle.std.specs.BTreeMap.{insert_entry, is_at}
@@ -24,13 +24,15 @@ use Rattle.terminal_core.specs.Restoring.{AreOnce}
 use Rattle.terminal_core.specs.State.{LineContent, LineKey}
 use Rattle.terminal_core.proofs.Lined.{order, keys_total, keys_apart, same_key, line_tied, tied_self, found_none}
 use Rattle.terminal_core.proofs.Indexed.{counts, counted_more, one_if}
-use Rattle.office_reports.specs.Lists.{is_done}
+use Rattle.office_reports.specs.Lists.{is_done, list_contents, shown_line}
 use Rattle.office_reports.specs.Calls.{count_on, count_with, is_on, key_content, list_of, lists_content, lists_in}
 use Rattle.office_reports.specs.declared.calls.ListCount.{ListCount}
 use Rattle.office_reports.proofs.Listing.{none_there}
 use Rattle.office_reports.specs.declared.yard.Standing.{Standing}
 use Rattle.office_reports.specs.Blocks.{highest_tier}
-use Rattle.office_reports.specs.Work.{load_texts}
+use Rattle.office_reports.specs.Work.{job_content, placed_contents}
+use Rattle.office_reports.specs.declared.work.Job.{Job}
+use Rattle.office_reports.specs.declared.lists.ListedLine.{ListedLine}
 use Rattle.std.specs.FinMap.Entries.{by_order, find, put, is_sorted, below_all}
 use Rattle.std.specs.Cmp.{IsTotalOrder}
 use Rattle.office_reports.proofs.Standings.{both}
@@ -322,20 +324,24 @@ pub next_highest : (standings : List Standing) (i : ℕ) (standing : Standing) (
 next_highest standings i standing now low at is =
     is ∙ sym (highest_more (take i standings) standing) ∙ ap highest_tier (sym (take_more standings i standing low ∙ ap (λ (s : Standing). take i standings ++ s ∷ []) (sym at)))
 
--- ==== LoadLemmas: The lines of loads, at their places.
+-- ==== Jobs: Jobs at their places.
 
--- the texts with one more are those of the lines with one more
-pub texts_inserted : (R : List ℕ → List ℕ → Ordering) (loads : List (List ℕ × String Global)) (place : List ℕ) (line : String Global)
-    → load_texts (insert_entry R loads place line) ≡ insert_entry R (load_texts loads) place (string_bytes line)
-texts_inserted R [] place line = refl
-texts_inserted R (e ∷ loads) place line = by (R place e.0) (texts_inserted R loads place line)
+-- the contents with one more are those of the jobs with one more
+pub contents_inserted : (R : List ℕ → List ℕ → Ordering) (places : List (List ℕ × Bor Job)) (place : List ℕ) (job : Bor Job)
+    → placed_contents (insert_entry R places place job) ≡ insert_entry R (placed_contents places) place (job_content job.now)
+contents_inserted R [] place job = refl
+contents_inserted R (e ∷ places) place job = by (R place e.0) (contents_inserted R places place job)
   where
-    by : (r : Ordering) → load_texts (insert_entry R loads place line) ≡ insert_entry R (load_texts loads) place (string_bytes line)
-        → load_texts (match_ordering r ((place, line) ∷ e ∷ loads) ((e.0, line) ∷ loads) (e ∷ insert_entry R loads place line))
-        ≡ match_ordering r ((place, string_bytes line) ∷ (e.0, string_bytes e.1) ∷ load_texts loads) ((e.0, string_bytes line) ∷ load_texts loads) ((e.0, string_bytes e.1) ∷ insert_entry R (load_texts loads) place (string_bytes line))
+    by : (r : Ordering) → placed_contents (insert_entry R places place job) ≡ insert_entry R (placed_contents places) place (job_content job.now)
+        → placed_contents (match_ordering r ((place, job) ∷ e ∷ places) ((e.0, job) ∷ places) (e ∷ insert_entry R places place job))
+        ≡ match_ordering r ((place, job_content job.now) ∷ (e.0, job_content e.1.now) ∷ placed_contents places) ((e.0, job_content job.now) ∷ placed_contents places) ((e.0, job_content e.1.now) ∷ insert_entry R (placed_contents places) place (job_content job.now))
     by Less rest = refl
     by Equal rest = refl
-    by Greater rest = ap (λ es. (e.0, string_bytes e.1) ∷ es) rest
+    by Greater rest = ap (λ es. (e.0, job_content e.1.now) ∷ es) rest
+
+-- a list has as many lines as its map has entries
+pub contents_len : (entries : List (List ℕ × ListedLine)) → length (list_contents entries) ≡ length entries
+contents_len entries = length-map entries (λ entry. (entry.0, shown_line entry.1))
 
 -- ==== Puts: An entry more in a list that stands by keys, and a test of the entries.
 

@@ -1,24 +1,26 @@
 -- The containers in a yard, by the texts of their slots.
-use Rattle.std.proofs.Common.{◌≡◌, ℕ, ◌+◌, ◌-◌, ◌/◌, ◌%◌, ◌<◌, List, [], ◌∷◌, length, take, drop, Bool, true, ◌∙◌, arith, subst, IsTrue, inl, inr, ◌++◌, map, false, cond, None, Some, refl, sym, ap, codes, Bor, ◌≤◌, Option, is_none, nat_le, Contains, option_map, find, count_by, ◌⊎◌, get_or, T, zero, suc, string_bytes, slice_get, slice_index_or, flat_map, filter, append_assoc}
-use Rattle.std.specs.Prelude.{◌&&◌, ◌==◌, slice_index, encode_utf8_all, ◌||◌}
+use Rattle.std.proofs.Common.{◌≡◌, ℕ, ◌+◌, ◌-◌, ◌/◌, ◌%◌, ◌<◌, List, [], ◌∷◌, length, take, drop, Bool, true, ◌∙◌, arith, subst, IsTrue, inl, inr, ◌++◌, map, false, cond, None, Some, refl, sym, ap, codes, Bor, ◌≤◌, Option, is_none, nat_le, Contains, option_map, find, count_by, ◌⊎◌, get_or, T, zero, suc, string_bytes, slice_get, slice_index_or, flat_map, filter}
+use Rattle.std.specs.Prelude.{◌&&◌, ◌==◌, slice_index, encode_utf8_all, ◌||◌, not, is_some, decimal}
 use Rattle.std.specs.Char.{is_ascii_uppercase, is_ascii_digit}
 use Rattle.std.specs.List.{list_all, list_any, AllByRecursion, join_by}
 use Rattle.std.specs.Str.{IsAscii, bytes_eq}
-use Rattle.std.proofs.lemmas.List.{get_or-take, get_or-drop, map-append, take_more, take_all, take-append-drop, append-nil}
+use Rattle.std.proofs.lemmas.List.{get_or-take, get_or-drop, map-append, take_more, take_all, take-append-drop, append-nil, flat_map_more}
 use Rattle.std.proofs.lemmas.Bool.{and_parts, eqb-true, le-leb}
 use Rattle.std.proofs.lemmas.Bool.Decides.{nat_tests, leb_tells}
 use Rattle.std.proofs.lemmas.Str.Ascii.{IsAscii-from_reads, IsAscii-cons, IsAscii-nil, encodes-IsAscii}
 use Rattle.box6346.specs.SlotName.{IsNamed, slot_text, slot_of}
 use Rattle.box6346.specs.declared.slot.Slot.{Slot}
 use Rattle.box6346.specs.declared.box_number.BoxNumber.{BoxNumber}
+use Rattle.edi_syntax.specs.Moments.{CivilMoment}
 use Rattle.terminal_core.specs.declared.visits.Visit.{Visit}
 use Rattle.terminal_core.specs.Rows.{VisitContent, visit_content}
 use Rattle.terminal_core.specs.State.{TerminalState, is_visit_of, AreOpenOf, is_open_visit, open_visit, IsWhole}
 use Rattle.office_admission.specs.Setups.{SetupContent, account_contents, setup_content}
 use Rattle.terminal_core.specs.declared.change.Source.{Source}
 use Rattle.office_reports.specs.Names.{line}
-use Rattle.office_reports.specs.Tickets.{is_told_by, entry_lines, exit_lines, ticket_lines}
-use Rattle.office_reports.specs.Visits.{visits_text, visit_report, code_of}
+use Rattle.office_reports.specs.Tickets.{closed_line, entry_lines, exit_line, exit_lines, exit_moment_by, is_closed_by, is_nothing, is_opened_by, is_source, is_told_by, ticket_of, ticket_text, told_text}
+use Rattle.office_reports.specs.Passages.{code_of}
+use Rattle.office_reports.specs.Visits.{rows_text, visit_report, visits_by, visits_of, visits_text}
 use Rattle.std.specs.BTreeMap.{BTreeMap, get, is_at}
 use Rattle.std.specs.Map.{lookup, keys_of}
 use Rattle.std.specs.Ordering.{nat_cmp, is_eq, eq_by_cmp, is_lt}
@@ -28,7 +30,7 @@ use Rattle.std.specs.Cmp.Lexicographic.{slice_cmp}
 use Rattle.std.specs.List.Sorted.{IsStrictlySortedBy}
 use Rattle.std.proofs.lemmas.Option.{same_Some, none-some}
 use Rattle.std.proofs.lemmas.Map.Lookups.{exact_bytes}
-use Rattle.std.proofs.lemmas.List.Elements.{Contains-push_cases, Contains-append_left, Contains-append_right, filter-append}
+use Rattle.std.proofs.lemmas.List.Elements.{Contains-push_cases, Contains-append_left, Contains-append_right}
 use Rattle.std.proofs.lemmas.Map.Keys.{IsDistinct-from_sorted, sorted_head, sorted_tail}
 use Rattle.std.proofs.lemmas.Map.Views.{Contains-from_lookup, lookup-from_Contains}
 use Rattle.std.proofs.lemmas.List.Sums.{length-filter}
@@ -50,7 +52,6 @@ use Rattle.office_reports.specs.Yard.{shown_standing, slot_in, StandsAt, standin
 use Rattle.std.specs.declared.cmp.Ordering.TheVariants.{Less}
 use Rattle.office_admission.specs.declared.setup.Account.{Account}
 use Rattle.office_admission.specs.declared.setup.Setup.{Setup}
-use Rattle.std.proofs.lemmas.Grind.{flat_map-append}
 use Rattle.box6346.specs.NumberText as number
 use Rattle.box6346.specs.SizeText as size
 use Rattle.std.specs.FinMap.Entries as entries
@@ -132,31 +133,84 @@ slot_same slot named =
 
 -- ==== Found: Whether anything is found.
 
--- what rows have, their contents have
-pub any_content : (p : VisitContent → Bool) (rows : List Visit) → list_any (λ visit. p (visit_content visit)) rows ≡ list_any p (map visit_content rows)
-any_content p [] = refl
-any_content p (row ∷ rows) = ap (λ b. p (visit_content row) || b) (any_content p rows)
+abbrev is_some_of : {A : Type 0} → List A → Bool
+is_some_of [] = false
+is_some_of (x ∷ xs) = true
 
-module _ (setup : SetupContent) (state : TerminalState) (container : BoxNumber) (rows : List Visit) (told : map visit_content rows ≡ state.visits) where
-  any_told : (b : Bool) → b ≡ list_any (λ visit. is_visit_of container (visit_content visit)) rows → list_any (is_visit_of container) state.visits ≡ b
-  any_told b e = sym (e ∙ any_content (is_visit_of container) rows ∙ ap (list_any (is_visit_of container)) told)
+-- some fit, if one is chosen
+pub chosen_any : {A : Type 0} (p : A → Bool) (xs : List A) → list_any p xs ≡ is_some_of (filter p xs)
+chosen_any p [] = refl
+chosen_any p (x ∷ xs) = by (p x) (chosen_any p xs)
+  where
+    by : (b : Bool) → list_any p xs ≡ is_some_of (filter p xs) → (b || list_any p xs) ≡ is_some_of (cond b (x ∷ filter p xs) (filter p xs))
+    by true rest = refl
+    by false rest = rest
 
-  pub none_reported : false ≡ list_any (λ visit. is_visit_of container (visit_content visit)) rows → None ≡ visit_report setup state container
-  none_reported e = sym (ap (λ b. cond b (Some (visits_text setup container state.visits)) None) (any_told false e))
+-- ==== Visits: The text of a container's visits.
 
-  pub some_reported : (text : List ℕ) → true ≡ list_any (λ visit. is_visit_of container (visit_content visit)) rows → text ≡ visits_text setup container (map visit_content rows) → Some text ≡ visit_report setup state container
-  some_reported text e is = ap Some (is ∙ ap (visits_text setup container) told) ∙ sym (ap (λ b. cond b (Some (visits_text setup container state.visits)) None) (any_told true e))
+module _ (setup : SetupContent) (container : BoxNumber) where
+  found_told : (found : List VisitContent) → option_map rows_text (visits_by setup container found) ≡ cond (is_some_of found) (Some (rows_text (record { setup = setup; container = container; visits = found }))) None
+  found_told [] = refl
+  found_told (visit ∷ visits) = refl
 
-module _ (source : Source) (rows : List Visit) where
-  told_by : (b : Bool) → b ≡ list_any (λ visit. is_told_by source (visit_content visit)) rows
-      → cond b (entry_lines source (map visit_content rows) ++ exit_lines source (map visit_content rows)) (line (codes "NOTHING" ∷ [])) ≡ ticket_lines source (map visit_content rows)
-  told_by b e = ap (λ v. cond v (entry_lines source (map visit_content rows) ++ exit_lines source (map visit_content rows)) (line (codes "NOTHING" ∷ []))) (e ∙ any_content (is_told_by source) rows)
+  -- the text of the value is the report
+  pub visits_stay : (state : TerminalState) → option_map rows_text (visits_of setup state container) ≡ visit_report setup state container
+  visits_stay state =
+      found_told (filter (is_visit_of container) state.visits)
+      ∙ ap (λ b. cond b (Some (visits_text setup container state.visits)) None) (sym (chosen_any (is_visit_of container) state.visits))
 
-  pub nothing_told : false ≡ list_any (λ visit. is_told_by source (visit_content visit)) rows → line (codes "NOTHING" ∷ []) ≡ ticket_lines source (map visit_content rows)
-  nothing_told e = told_by false e
+-- ==== Tickets: The text of a ticket.
 
-  pub something_told : true ≡ list_any (λ visit. is_told_by source (visit_content visit)) rows → entry_lines source (map visit_content rows) ++ exit_lines source (map visit_content rows) ≡ ticket_lines source (map visit_content rows)
-  something_told e = told_by true e
+with_second : (opened : List VisitContent) (visit : VisitContent) (closed : List VisitContent) → is_nothing opened (visit ∷ closed) ≡ false
+with_second [] visit closed = refl
+with_second (first ∷ opened) visit closed = refl
+
+either : {A : Type 0} (b : Bool) (x y : A) → cond (not b) x y ≡ cond b y x
+either true x y = refl
+either false x y = refl
+
+module _ (source : Source) where
+  abbrev opened_in : List VisitContent → List VisitContent
+  opened_in visits = filter (is_opened_by source) visits
+
+  abbrev closed_in : List VisitContent → List VisitContent
+  closed_in visits = filter (is_closed_by source) visits
+
+  nothing_chosen : (visits : List VisitContent) → is_nothing (opened_in visits) (closed_in visits) ≡ not (list_any (is_told_by source) visits)
+  nothing_chosen [] = refl
+  nothing_chosen (visit ∷ visits) = by (is_opened_by source visit) (is_closed_by source visit) (nothing_chosen visits)
+    where
+      by : (o c : Bool) → is_nothing (opened_in visits) (closed_in visits) ≡ not (list_any (is_told_by source) visits)
+          → is_nothing (cond o (visit ∷ opened_in visits) (opened_in visits)) (cond c (visit ∷ closed_in visits) (closed_in visits))
+          ≡ not ((o || c) || list_any (is_told_by source) visits)
+      by true c rest = refl
+      by false true rest = with_second (opened_in visits) visit (closed_in visits)
+      by false false rest = rest
+
+  -- a visit, by how it was closed
+  exit_same : (visit : VisitContent) (departure : Option Departure) (moment : Option CivilMoment) → visit.departure ≡ departure → exit_moment_by source departure ≡ moment
+      → (visits : List VisitContent) → flat_map closed_line (closed_in visits) ≡ exit_lines source visits
+      → flat_map closed_line (cond (is_some moment) (visit ∷ closed_in visits) (closed_in visits)) ≡ exit_line visit moment ++ exit_lines source visits
+  exit_same visit departure None e f visits rest = rest
+  exit_same visit None (Some moment) e f visits rest = absurd (none-some moment f)
+  exit_same visit (Some departure) (Some moment) e f visits rest = by (is_source departure.source source) f
+    where
+      by : (is : Bool) → cond is (Some departure.moment) None ≡ Some moment → flat_map closed_line (visit ∷ closed_in visits) ≡ exit_line visit (Some moment) ++ exit_lines source visits
+      by true f = (λ i. exit_line visit ((ap (option_map (λ (left : Departure). left.moment)) e ∙ f) i) ++ rest i)
+      by false f = absurd (none-some moment f)
+
+  exits_same : (visits : List VisitContent) → flat_map closed_line (closed_in visits) ≡ exit_lines source visits
+  exits_same [] = refl
+  exits_same (visit ∷ visits) = exit_same visit visit.departure (exit_moment_by source visit.departure) refl refl visits (exits_same visits)
+
+  -- the text of the value is the ticket
+  pub ticket_stays : (code : List ℕ) (visits : List VisitContent) → told_text (ticket_of code source visits) ≡ ticket_text code source visits
+  ticket_stays code visits =
+      let nothing = line (codes "NOTHING" ∷ []) in
+      ap (λ lines. line (codes "TICKET" ∷ code ∷ decimal source.number ∷ []) ++ lines)
+      (ap (λ b. cond b nothing (entry_lines source visits ++ flat_map closed_line (closed_in visits))) (nothing_chosen visits)
+      ∙ either (list_any (is_told_by source) visits) nothing (entry_lines source visits ++ flat_map closed_line (closed_in visits))
+      ∙ ap (λ exits. cond (list_any (is_told_by source) visits) (entry_lines source visits ++ exits) nothing) (exits_same visits))
 
 -- ==== Standings: The containers in a yard, by the texts of their slots.
 
@@ -412,36 +466,21 @@ pub joined : {X : Type 0} (f : X → List ℕ) (sep : List ℕ) (xs : List X) �
 joined f sep [] = refl
 joined f sep (x ∷ xs) = ap (λ rest. f x ++ rest) (flat f sep xs)
 
--- ==== Rows: Lines of some rows, one row after the other.
+-- ==== Rows: Lines of rows, one after the other.
 
-module _ {Y : Type 0} (p : Y → Bool) (f : Y → List ℕ) where
-  last : (b : Bool) (y : Y) → flat_map f (cond b (y ∷ []) []) ≡ cond b (f y) []
-  last true y = append-nil (f y)
-  last false y = refl
+module _ {X Y : Type 0} (f : Y → List ℕ) (g : X → Y) (before : List ℕ) (xs : List X) where
+  -- a text with the lines of the first rows
+  pub record HasLines (i : ℕ) (text : List ℕ) : Type 0 where
+    pub is : text ≡ before ++ flat_map f (map g (take i xs))
 
-  -- the lines of one row more
-  pub one_more : (ys : List Y) (y : Y) → flat_map f (filter p (ys ++ y ∷ [])) ≡ flat_map f (filter p ys) ++ cond (p y) (f y) []
-  one_more ys y =
-      ap (flat_map f) (filter-append p ys (y ∷ [])) ∙ flat_map-append f (filter p ys) (filter p (y ∷ [])) ∙ ap (λ more. flat_map f (filter p ys) ++ more) (last (p y) y)
+  pub none_yet : HasLines 0 before
+  none_yet = record { is = sym (append-nil before) }
 
-  module _ {X : Type 0} (g : X → Y) (before : List ℕ) (xs : List X) where
-    -- a text with the lines of the first rows
-    pub record HasLines (i : ℕ) (text : List ℕ) : Type 0 where
-      pub is : text ≡ before ++ flat_map f (filter p (map g (take i xs)))
+  pub next_row : (i : ℕ) (x : X) (text now : List ℕ) → i < length xs → x ≡ get_or xs i x → HasLines i text → now ≡ text ++ f (g x) → HasLines (i + 1) now
+  next_row i x text now low at has e = record {
+    is = e ∙ ap (λ (t : List ℕ). t ++ f (g x)) has.is ∙ flat_map_more f before (map g (take i xs)) (g x)
+        ∙ ap (λ (ys : List Y). before ++ flat_map f ys) (sym (ap (map g) (take_more xs i x low ∙ ap (λ (y : X). take i xs ++ y ∷ []) (sym at)) ∙ map-append g (take i xs) (x ∷ [])));
+  }
 
-    pub none_yet : HasLines 0 before
-    none_yet = record { is = sym (append-nil before) }
-
-    chosen : (b : Bool) (text now more : List ℕ) (line : List ℕ) → text ≡ before ++ more → (b ≡ true → now ≡ text ++ line) → (b ≡ false → now ≡ text) → now ≡ before ++ (more ++ cond b line [])
-    chosen true text now more line e yes_ no_ = yes_ refl ∙ ap (λ t. t ++ line) e ∙ append_assoc before more line
-    chosen false text now more line e yes_ no_ = no_ refl ∙ e ∙ ap (λ t. before ++ t) (sym (append-nil more))
-
-    pub next_row : (i : ℕ) (x : X) (text now : List ℕ) → i < length xs → x ≡ get_or xs i x → HasLines i text → (p (g x) ≡ true → now ≡ text ++ f (g x)) → (p (g x) ≡ false → now ≡ text) → HasLines (i + 1) now
-    next_row i x text now low at has yes_ no_ = record {
-      is = chosen (p (g x)) text now (flat_map f (filter p (map g (take i xs)))) (f (g x)) has.is yes_ no_
-          ∙ ap (λ t. before ++ t) (sym (one_more (map g (take i xs)) (g x))
-          ∙ ap (λ ys. flat_map f (filter p ys)) (sym (ap (map g) (take_more xs i x low ∙ ap (λ (y : X). take i xs ++ y ∷ []) (sym at)) ∙ map-append g (take i xs) (x ∷ []))));
-    }
-
-    pub all_rows : (i : ℕ) (text : List ℕ) → length xs ≤ i → HasLines i text → text ≡ before ++ flat_map f (filter p (map g xs))
-    all_rows i text all has = has.is ∙ ap (λ ys. before ++ flat_map f (filter p (map g ys))) (take_all i xs all)
+  pub all_rows : (i : ℕ) (text : List ℕ) → length xs ≤ i → HasLines i text → text ≡ before ++ flat_map f (map g xs)
+  all_rows i text all has = has.is ∙ ap (λ (ys : List X). before ++ flat_map f (map g ys)) (take_all i xs all)

@@ -1,5 +1,5 @@
 -- The order of the numbers that wait doesn't count.
-use Rattle.std.proofs.Common.{◌≡◌, ℕ, ◌+◌, ◌<◌, ◌≤◌, List, [], ◌∷◌, ◌++◌, length, map, take, Bool, true, false, cond, None, refl, sym, ap, ◌∙◌, arith, get_or, count_by, filter, ◌⊎◌, inl, inr, zero, suc, slice_index_or, min, max, fold, flat_map, codes, decimal, nat_le}
+use Rattle.std.proofs.Common.{◌≡◌, ℕ, ◌+◌, ◌<◌, ◌≤◌, List, [], ◌∷◌, ◌++◌, length, map, take, Bool, true, false, cond, None, Some, refl, sym, ap, ◌∙◌, arith, get_or, count_by, filter, ◌⊎◌, inl, inr, zero, suc, slice_index_or, min, max, fold, nat_le}
 use Rattle.std.specs.List.{prefix_len, insert, AllZip, Contains}
 use Rattle.std.proofs.lemmas.List.{map-append, take_more, take_all}
 use Rattle.box6346.specs.declared.box_number.BoxNumber.{BoxNumber}
@@ -16,8 +16,7 @@ use Rattle.office_reports.proofs.CallLemmas.{put_there, still_none, put_kept, pr
 use Rattle.std.specs.List.Sorted.{IsPermutation}
 use Rattle.std.proofs.lemmas.Bool.{cases_Bool, leb-true, leb-false}
 use Rattle.std.proofs.lemmas.List.Sorted.{IsPermutation-sym, Contains-permutation, length_permutation}
-use Rattle.office_reports.specs.Names.{line}
-use Rattle.office_reports.specs.Partners.{PartnerContent, AreAlike, kind_name, waiting_words, partner_line, waiting_count, partners_text}
+use Rattle.office_reports.specs.Partners.{PartnerContent, AreAlike, partners_text, row_of, rows_text, waiting_count, waiting_of}
 use Rattle.std.specs.FinMap as finite_map
 
 -- ==== OpenLineLemmas: One row more, and the open lines that name a container.
@@ -154,11 +153,11 @@ greatest_permuted a b us vs same =
 
 -- ---- the texts
 
-words_alike : (next : ℕ) (us vs : List ℕ) → IsPermutation us vs → waiting_words next us ≡ waiting_words next vs
-words_alike next [] [] same = refl
-words_alike next [] (b ∷ vs) same = absurd (let e = length_permutation _ _ same in omega (arith, e))
-words_alike next (a ∷ us) [] same = absurd (let e = length_permutation _ _ same in omega (arith, e))
-words_alike next (a ∷ us) (b ∷ vs) same =
+waiting_alike : (us vs : List ℕ) → IsPermutation us vs → waiting_of us ≡ waiting_of vs
+waiting_alike [] [] same = refl
+waiting_alike [] (b ∷ vs) same = absurd (let e = length_permutation _ _ same in omega (arith, e))
+waiting_alike (a ∷ us) [] same = absurd (let e = length_permutation _ _ same in omega (arith, e))
+waiting_alike (a ∷ us) (b ∷ vs) same =
     let back = IsPermutation-sym _ _ same in
     let count : length (a ∷ us) ≡ length (b ∷ vs) = sym (length_permutation _ _ same) in
     let one = least_permuted a b us vs same in
@@ -167,24 +166,18 @@ words_alike next (a ∷ us) (b ∷ vs) same =
     let high = greatest_permuted a b us vs same in
     let low = greatest_permuted b a vs us back in
     let greatest : fold max a us ≡ fold max b vs = omega (arith, high, low) in
-    (λ i. codes "WAITING" ∷ decimal (count i) ∷ codes "FROM" ∷ decimal (least i) ∷ codes "TO" ∷ decimal (greatest i) ∷ codes "MISSING" ∷ decimal next ∷ [])
+    (λ i. Some (record { count = count i; first = least i; last = greatest i }))
 
-line_alike : (one other : PartnerContent) → AreAlike one other → partner_line one ≡ partner_line other
-line_alike one other alike =
-    (λ i. line (alike.code i ∷ kind_name (alike.kind i) ∷ codes "NEXT" ∷ decimal (alike.next i) ∷ waiting_words (alike.next i) one.waiting))
-    ∙ ap (λ (words : List (List ℕ)). line (other.code ∷ kind_name other.kind ∷ codes "NEXT" ∷ decimal other.next ∷ words)) (words_alike other.next one.waiting other.waiting alike.waiting)
+row_alike : (one other : PartnerContent) → AreAlike one other → row_of one ≡ row_of other
+row_alike one other alike =
+    let waiting = waiting_alike one.waiting other.waiting alike.waiting in
+    (λ i. record { code = alike.code i; kind = alike.kind i; next = alike.next i; waiting = waiting i })
 
-lines_alike : (ones others : List PartnerContent) → AllZip AreAlike ones others → flat_map partner_line ones ≡ flat_map partner_line others
-lines_alike [] [] alike = refl
-lines_alike [] (p ∷ ps) alike = absurd alike
-lines_alike (o ∷ os) [] alike = absurd alike
-lines_alike (o ∷ os) (p ∷ ps) alike = let first = line_alike o p alike.0 in let more = lines_alike os ps alike.1 in (λ i. first i ++ more i)
-
-counts_alike : (ones others : List PartnerContent) → AllZip AreAlike ones others → length ones ≡ length others
-counts_alike [] [] alike = refl
-counts_alike [] (p ∷ ps) alike = absurd alike
-counts_alike (o ∷ os) [] alike = absurd alike
-counts_alike (o ∷ os) (p ∷ ps) alike = ap suc (counts_alike os ps alike.1)
+rows_alike : (ones others : List PartnerContent) → AllZip AreAlike ones others → map row_of ones ≡ map row_of others
+rows_alike [] [] alike = refl
+rows_alike [] (p ∷ ps) alike = absurd alike
+rows_alike (o ∷ os) [] alike = absurd alike
+rows_alike (o ∷ os) (p ∷ ps) alike = let first = row_alike o p alike.0 in let more = rows_alike os ps alike.1 in (λ i. first i ∷ more i)
 
 sums_from : (at : ℕ) (ones others : List PartnerContent) → AllZip AreAlike ones others → fold (λ (a : ℕ) (p : PartnerContent). a + waiting_count p) at ones ≡ fold (λ (a : ℕ) (p : PartnerContent). a + waiting_count p) at others
 sums_from at [] [] alike = refl
@@ -195,7 +188,6 @@ sums_from at (o ∷ os) (p ∷ ps) alike =
 
 pub texts_alike : (ones others : List PartnerContent) → AllZip AreAlike ones others → partners_text ones ≡ partners_text others
 texts_alike ones others alike =
-    let lines = lines_alike ones others alike in
-    let count = counts_alike ones others alike in
+    let rows = rows_alike ones others alike in
     let sum = sums_from 0 ones others alike in
-    (λ i. line (codes "PARTNERS" ∷ []) ++ lines i ++ line (decimal (count i) ∷ codes "PARTNERS" ∷ decimal (sum i) ∷ codes "WAITING" ∷ []))
+    (λ i. rows_text (record { rows = rows i; waiting = sum i }))

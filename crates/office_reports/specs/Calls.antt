@@ -47,8 +47,11 @@ call_line list = line (list_words list.0
     ++ decimal list.1.pending ∷ codes "OPEN" ∷ decimal list.1.done ∷ codes "DONE" ∷ [])
 
 -- a line for each list, and nothing if there is none
+abbrev pub lists_text : List (LineKey × ListCount) → List ℕ
+lists_text lists = flat_map call_line lists
+
 abbrev pub calls_text : Lines → List ℕ
-calls_text lines = flat_map call_line (lists_in (finite_map.entries lines))
+calls_text lines = lists_text (lists_in (finite_map.entries lines))
 
 -- ---- lists as the code has them
 

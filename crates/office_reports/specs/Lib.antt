@@ -19,6 +19,7 @@ pub mod LookupLaws
 pub mod Metrics
 pub mod OpenLines
 pub mod Partners
+pub mod Passages
 pub mod Work
 pub mod Fields
 pub mod Fixed

@@ -1,8 +1,10 @@
 -- The report on a vessel's list (our own).
 use Rattle.std.specs.Prelude.{◌≡◌, ℕ, Bool, true, false, List, [], ◌∷◌, ◌++◌, not, count_by, map, ◌&&◌, string_bytes, codes, decimal, Option, None, Some}
 use Rattle.std.specs.List.{flat_map}
+use Rattle.std.specs.Option.{option_map}
 use Rattle.std.specs.Str.{bytes_eq}
 use Rattle.box6346.specs.declared.box_number.BoxNumber.{BoxNumber}
+use Rattle.edi_messages.specs.Owned.{call_content}
 use Rattle.edi_messages.specs.Purposes.{CallContent}
 use Rattle.terminal_core.specs.declared.lines.LineState.{LineState}
 use Rattle.terminal_core.specs.declared.lines.LineState.TheVariants.{Pending, Done}
@@ -11,6 +13,7 @@ use Rattle.terminal_core.specs.declared.lines.Side.TheVariants.{Load, Discharge}
 use Rattle.terminal_core.specs.declared.lines.Listing.{Listing}
 use Rattle.terminal_core.specs.Listings.{is_side}
 use Rattle.terminal_core.specs.State.{TerminalState, LineContent, line_of}
+use Rattle.office_reports.specs.declared.lists.ListReport.{ListReport}
 use Rattle.office_reports.specs.declared.lists.ListedLine.{ListedLine}
 use Rattle.office_reports.specs.Listed.{AreListed}
 use Rattle.office_reports.specs.Names.{line}
@@ -18,6 +21,28 @@ use Rattle.office_reports.specs.Names.{line}
 -- the line that a container has on a call's list
 abbrev pub HasLine : TerminalState → CallContent → Side → BoxNumber → LineContent → Type 0
 HasLine state call side container content = line_of state call side container ≡ Some content
+
+-- ---- what the report tells
+
+-- a call's list on one side: its lines, by their containers
+pub record ListContent : Type 0 where
+  pub call : CallContent
+  pub side : Side
+  pub lines : List (List ℕ × LineContent)
+
+-- nothing of a list that has no line
+abbrev pub list_by : CallContent → Side → List (List ℕ × LineContent) → Option ListContent
+list_by call side [] = None
+list_by call side (entry ∷ list) = Some (record { call = call; side = side; lines = entry ∷ list })
+
+-- what was found is told of the lines of a call's list, by their containers
+pub record IsOfLines {X : Type 0} (state : TerminalState) (call : CallContent) (side : Side)
+    (told : List (List ℕ × LineContent) → Option X) (found : Option X) : Type 0 where
+  pub list : List (List ℕ × LineContent)
+  pub listed : AreListed (HasLine state call side) list
+  pub is : found ≡ told list
+
+-- ---- its text
 
 abbrev pub list_name : Side → List ℕ
 list_name Load = codes "LOAD"
@@ -43,9 +68,9 @@ list_line entry = line (entry.0 ∷ state_name entry.1.state ∷ port_words entr
 abbrev pub is_done_line : List ℕ × LineContent → Bool
 is_done_line entry = is_done entry.1.state
 
--- LOAD LIST VESSEL VOYAGE
-abbrev pub list_head : CallContent → Side → List ℕ
-list_head call side = line (list_name side ∷ codes "LIST" ∷ call.vessel ∷ call.voyage ∷ [])
+-- LOAD or DISCHARGE, what the report is about, VESSEL VOYAGE
+abbrev pub list_head : Side → (about : List ℕ) → CallContent → List ℕ
+list_head side about call = line (list_name side ∷ about ∷ call.vessel ∷ call.voyage ∷ [])
 
 -- a OPEN b DONE
 abbrev pub list_end : List (List ℕ × LineContent) → List ℕ
@@ -53,13 +78,13 @@ list_end list = line
     (decimal (count_by (λ entry. not (is_done_line entry)) list) ∷ codes "OPEN" ∷ decimal (count_by is_done_line list)
     ∷ codes "DONE" ∷ [])
 
-abbrev pub list_text : CallContent → Side → List (List ℕ × LineContent) → List ℕ
-list_text call side list = list_head call side ++ flat_map list_line list ++ list_end list
+abbrev pub list_text : ListContent → List ℕ
+list_text report =
+    list_head report.side (codes "LIST") report.call ++ flat_map list_line report.lines ++ list_end report.lines
 
 -- nothing if there is no line
 abbrev pub list_found : CallContent → Side → List (List ℕ × LineContent) → Option (List ℕ)
-list_found call side [] = None
-list_found call side (entry ∷ list) = Some (list_text call side (entry ∷ list))
+list_found call side list = option_map list_text (list_by call side list)
 
 -- the lines of a call's list, by their containers
 pub record IsListReport (state : TerminalState) (call : CallContent) (side : Side)
@@ -83,3 +108,10 @@ shown_line listed = record { port = string_bytes listed.port; state = listed.sta
 -- what lines say, by their containers
 abbrev pub list_contents : List (List ℕ × ListedLine) → List (List ℕ × LineContent)
 list_contents entries = map (λ entry. (entry.0, shown_line entry.1)) entries
+
+abbrev pub list_content : ListReport → ListContent
+list_content report = record {
+  call = call_content report.call.now;
+  side = report.side;
+  lines = list_contents report.lines.entries;
+}

@@ -7,7 +7,6 @@ use Rattle.terminal_core.specs.State.{TerminalState}
 use Rattle.office_reports.specs.Names.{line}
 use Rattle.office_reports.specs.Partners.{PartnerContent, waiting_count}
 use Rattle.office_reports.specs.declared.metrics.Gauge.{Gauge}
-use Rattle.office_reports.specs.declared.metrics.Versions.{Versions}
 
 -- ---- whether it can be asked
 

@@ -1,5 +1,5 @@
 -- The picture of the yard: a page of HTML (our own).
-use Rattle.std.specs.Prelude.{◌≡◌, ℕ, Bool, List, [], ◌∷◌, ◌++◌, not, length, filter, codes, decimal}
+use Rattle.std.specs.Prelude.{◌≡◌, ℕ, List, [], ◌∷◌, ◌++◌, not, length, filter, codes, decimal}
 use Rattle.std.specs.List.{flat_map}
 use Rattle.std.specs.Map.{values_of}
 use Rattle.yard_core.specs.declared.plan.Block.{Block}

@@ -1,10 +1,12 @@
 -- The ticket of an interchange (our own).
-use Rattle.std.specs.Prelude.{ℕ, Bool, List, [], ◌∷◌, ◌++◌, filter, if◌then◌else◌, ◌==◌, ◌&&◌, ◌||◌, codes, decimal, is_some, Option, None, Some}
+use Rattle.std.specs.Prelude.{ℕ, Bool, true, false, List, [], ◌∷◌, ◌++◌, filter, map, if◌then◌else◌, ◌==◌, ◌&&◌, ◌||◌, codes, decimal, is_some, Option, None, Some}
 use Rattle.std.specs.List.{flat_map, list_any}
+use Rattle.std.specs.Option.{option_map}
 use Rattle.edi_syntax.specs.Moments.{CivilMoment, moment_text}
 use Rattle.terminal_core.specs.declared.visits.Departure.{Departure}
 use Rattle.terminal_core.specs.declared.change.Source.{Source}
-use Rattle.terminal_core.specs.Rows.{VisitContent}
+use Rattle.terminal_core.specs.Rows.{VisitContent, visit_content}
+use Rattle.office_reports.specs.declared.tickets.TicketReport.{TicketReport}
 use Rattle.office_reports.specs.Names.{load_name, slot_name, line}
 
 abbrev pub is_source : Source → Source → Bool
@@ -50,3 +52,51 @@ ticket_lines source visits =
 -- what a partner's interchange did, the partner being called by a code
 abbrev pub ticket_text : List ℕ → Source → List VisitContent → List ℕ
 ticket_text code source visits = line (codes "TICKET" ∷ code ∷ decimal source.number ∷ []) ++ ticket_lines source visits
+
+-- ---- what the report tells
+
+-- the visits that a partner's interchange opened, and those that it closed, by their numbers
+pub record TicketContent : Type 0 where
+  pub code : List ℕ
+  pub number : ℕ
+  pub opened : List VisitContent
+  pub closed : List VisitContent
+
+abbrev pub is_closed_by : Source → VisitContent → Bool
+is_closed_by source visit = is_some (exit_moment_by source visit.departure)
+
+abbrev pub ticket_of : List ℕ → Source → List VisitContent → TicketContent
+ticket_of code source visits = record {
+  code = code;
+  number = source.number;
+  opened = filter (is_opened_by source) visits;
+  closed = filter (is_closed_by source) visits;
+}
+
+-- ---- its text
+
+abbrev pub closed_line : VisitContent → List ℕ
+closed_line visit = exit_line visit (option_map (λ departure. departure.moment) visit.departure)
+
+abbrev pub is_nothing : (opened closed : List VisitContent) → Bool
+is_nothing [] [] = true
+is_nothing opened closed = false
+
+abbrev pub told_lines : (opened closed : List VisitContent) → List ℕ
+told_lines opened closed =
+    if is_nothing opened closed then line (codes "NOTHING" ∷ [])
+    else flat_map entry_line opened ++ flat_map closed_line closed
+
+abbrev pub told_text : TicketContent → List ℕ
+told_text ticket =
+    line (codes "TICKET" ∷ ticket.code ∷ decimal ticket.number ∷ []) ++ told_lines ticket.opened ticket.closed
+
+-- ---- as the code has it
+
+abbrev pub ticket_content : TicketReport → TicketContent
+ticket_content report = record {
+  code = report.code.now;
+  number = report.number;
+  opened = map (λ visit. visit_content visit.now) report.opened.items;
+  closed = map (λ visit. visit_content visit.now) report.closed.items;
+}

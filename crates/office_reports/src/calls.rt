@@ -2,7 +2,7 @@
 ghost use Rattle.std.specs.FinMap as finite_map;
 ghost use Rattle.std.specs.List.{flat_map};
 ghost use Rattle.std.specs.Prelude.{◌≡◌, ◌++◌, ◌∷◌, ◌<◌, ◌+◌, ◌^◌, [], codes, IfOk, OnOk, string_bytes};
-ghost use Rattle.office_reports.specs.Calls.{call_line, calls_text, count_with, key_content, list_of, lists_content, lists_in};
+ghost use Rattle.office_reports.specs.Calls.{call_line, calls_text, count_with, key_content, list_of, lists_content, lists_in, lists_text};
 ghost use Rattle.office_reports.specs.OpenLines.{side_name};
 ghost use Rattle.office_reports.specs.Names.{line};
 ghost use Rattle.terminal_core.specs.Listings.{key_of, lines_of};
@@ -17,11 +17,11 @@ use terminal_core::{LineState, Listing, Side, Terminal};
 
 /// How far a list is.
 #[derive(Clone, Copy)]
-pub(crate) struct ListCount {
+pub struct ListCount {
     /// How many of its lines are open.
-    pub(crate) pending: usize,
+    pub pending: usize,
     /// How many of its lines are done.
-    pub(crate) done: usize,
+    pub done: usize,
 }
 
 /// The count of a list of which no line was met.
@@ -30,8 +30,15 @@ const NONE_YET: ListCount = ListCount {
     done: 0,
 };
 
-/// What a list goes by: its vessel, its voyage and the number of its side.
-type ListKey<'a> = (&'a str, &'a str, u8);
+/// What a list goes by: its vessel, its voyage and the number of its side, 1 for loading and 2 for discharge.
+pub type ListKey<'a> = (&'a str, &'a str, u8);
+
+/// The lists of all calls.
+#[derive(Drop)]
+pub struct CallsReport<'a> {
+    /// The lists that have a line, and how far each is.
+    pub lists: BTreeMap<ListKey<'a>, ListCount>,
+}
 
 /// How far the list of each call is: a line `VESSEL VOYAGE LOAD a OPEN b DONE` or `VESSEL VOYAGE DISCHARGE a OPEN b DONE`
 /// for each list that has a line, by vessel, voyage and side, load before discharge. Each line ends with LF. An empty text
@@ -39,9 +46,27 @@ type ListKey<'a> = (&'a str, &'a str, u8);
 pub fn calls_report(alloc: Global, terminal: &Terminal) -> Result<String, AllocError>
     ensures { IfOk result (λ text. string_bytes text ≡ calls_text terminal.now.lines) }
 {
-    let lists = lists_in(alloc, terminal.lines())?;
+    let report = calls_of(alloc, terminal)?;
+    calls_text(alloc, &report)
+}
+
+/// How far the list of each call is.
+pub fn calls_of(alloc: Global, terminal: &Terminal) -> Result<CallsReport<'_>, AllocError>
+    ensures { IfOk result
+        (λ report. lists_content report.lists.entries ≡ lists_in (finite_map.entries terminal.now.lines)) }
+{
+    Ok(CallsReport {
+        lists: lists_in(alloc, terminal.lines())?,
+    })
+}
+
+/// The report as text.
+pub fn calls_text(alloc: Global, report: &CallsReport<'_>) -> Result<String, AllocError>
+    ensures { IfOk result
+        (λ text. string_bytes text ≡ lists_text (lists_content report.now.lists.entries)) }
+{
     let mut text = String::new(alloc);
-    push_lists(alloc, &mut text, &lists)?;
+    push_lists(alloc, &mut text, &report.lists)?;
     Ok(text)
 }
 

@@ -1,226 +1,145 @@
-//! The open lines of the vessels' lists that name a container.
-ghost use Rattle.std.specs.List.{flat_map, prefix_len};
+//! Where a container is: what the report on it tells.
+ghost use Rattle.std.specs.List.{prefix_len};
 ghost use Rattle.std.specs.Option.{option_map};
-ghost use Rattle.std.specs.Prelude.{◌≡◌, ◌++◌, string_bytes, IfOk, OnOk, ◌≤◌, ◌∷◌, map, length};
-ghost use Rattle.office_reports.specs.Containers.{above_words, arrival_words, container_head, container_report, gone_line, gone_report, here_line};
-ghost use Rattle.office_reports.specs.OpenLines.{is_behind, is_open_for, open_line, open_lines, open_lines_text};
-ghost use Rattle.office_reports.specs.Lists.{port_words};
-ghost use Rattle.office_reports.specs.Names.{phrase, line};
+ghost use Rattle.std.specs.Prelude.{◌≡◌, ◌≤◌, IfOk, Some, length, map};
 ghost use Rattle.office_admission.specs.Setups.{setup_content};
+ghost use Rattle.office_reports.specs.Containers.{blocker_in, by_visit, container_content, container_of, gone_by, stay_by, stay_content};
+ghost use Rattle.office_reports.specs.OpenLines.{is_behind, is_open_for, open_lines};
+ghost use Rattle.office_reports.specs.Passages.{arrival_by, departure_by, passage_content};
 ghost use Rattle.terminal_core.specs.Listings.{key_of, line_entry, lines_of};
 ghost use Rattle.terminal_core.specs.Restoring.{AreOnce};
 ghost use Rattle.terminal_core.specs.Rows.{visit_content};
 ghost use Rattle.terminal_core.specs.State.{last_visit, side_code};
 
-use crate::texts::{load_name, number_text, phrase, push_line, size_text, slot_text};
-use crate::{list_name, passage_text, push_stay};
-use box6346::{BoxNumber, Slot};
+use crate::passages::{Passage, passage_of};
+use box6346::{BoxNumber, SizeType, Slot};
 use office_admission::Setup;
 use std::alloc::{AllocError, Global};
 use std::cmp::Ordering;
-use terminal_core::{LineState, Listing, Side, Terminal, Visit};
+use terminal_core::{Departure, LineState, Listing, Side, Terminal, Visit};
 
-/// Where a container is: `CONTAINER BOX`, and if it is in the yard
-/// `IN SLOT SIZE FULL VISIT N GATE PARTNER NUMBER MOMENT`, with ` BOOKING B` and ` GROSS w` if it has them, then
-/// ` FREE`, or ` UNDER BOX` with the container on it, and a line `LOAD VESSEL VOYAGE` or
-/// `DISCHARGE VESSEL VOYAGE`, and the port if there is one, for each open line that names it; else
-/// `OUT SIZE FULL VISIT N GATE PARTNER NUMBER MOMENT`, by which it left last. Each line ends with LF. `None` if it never
-/// came.
-pub fn container_report(
+/// How a container is in the yard.
+#[derive(Drop)]
+pub struct Stay<'a> {
+    /// Where it is.
+    pub slot: Slot,
+    /// Empty if none was given.
+    pub booking: &'a str,
+    /// The gross weight in kilograms, 0 if none was given.
+    pub kilos: u32,
+    /// The container on it, if there is one.
+    pub blocker: Option<BoxNumber>,
+    /// The open lines that name it, by vessel, voyage and side.
+    pub lists: Vec<&'a Listing>,
+}
+
+/// A container by its visit.
+#[derive(Drop)]
+pub struct ContainerReport<'a> {
+    /// Its number (ISO 6346).
+    pub container: BoxNumber,
+    /// Its size-type (ISO 6346).
+    pub size_type: SizeType,
+    /// Whether it is full.
+    pub is_laden: bool,
+    /// The number of its visit, the last one if it has left.
+    pub visit: u32,
+    /// By which it came, if it is in the yard, or left.
+    pub passage: Option<Passage<'a>>,
+    /// How it is in the yard, if it is.
+    pub stay: Option<Stay<'a>>,
+}
+
+/// Where a container is, or how it left last; nothing if it never came.
+pub fn container_of<'a>(
     alloc: Global,
-    setup: &Setup,
-    terminal: &Terminal,
+    setup: &'a Setup,
+    terminal: &'a Terminal,
     container: BoxNumber,
-) -> Result<Option<String>, AllocError>
-    ensures { IfOk result
-        (λ found. option_map string_bytes found ≡ container_report (setup_content setup.now) terminal.now container) }
+) -> Result<Option<ContainerReport<'a>>, AllocError>
+    ensures { IfOk result (λ found. option_map container_content found
+        ≡ container_of (setup_content setup.now) terminal.now container) }
 {
     let Some(visit) = terminal.open_visit(container) else {
-        return gone_report(alloc, setup, terminal, container);
+        return Ok(gone(setup, terminal, container));
     };
     let Some(slot) = terminal.slot_of(container) else {
-        return gone_report(alloc, setup, terminal, container);
+        return Ok(gone(setup, terminal, container));
     };
-    let mut text = String::new(alloc);
-    push_head(alloc, &mut text, container)?;
-    let blocker = terminal.blocker_on(container);
-    push_here(alloc, &mut text, setup, visit, slot, blocker)?;
-    push_open_lines(alloc, &mut text, terminal, container)?;
-    Ok(Some(text))
+    let stay = stay_of(alloc, terminal, container, visit, slot)?;
+    Ok(Some(here(setup, container, visit, stay)))
 }
 
-fn push_head(alloc: Global, text: &mut String, container: BoxNumber) -> Result<(), AllocError>
-    ensures { OnOk result (string_bytes text.new ≡ string_bytes text.old ++ container_head container) }
+fn here<'a>(
+    setup: &'a Setup,
+    container: BoxNumber,
+    visit: &'a Visit,
+    stay: Stay<'a>,
+) -> ContainerReport<'a>
+    ensures { container_content result ≡ by_visit (visit_content visit.now) container
+        (Some (arrival_by (setup_content setup.now) (visit_content visit.now))) (Some (stay_content stay.entry)) }
 {
-    let number = number_text(alloc, container)?;
-    push_line(alloc, text, &["CONTAINER", number.as_str()])
-}
-
-/// Where a container of the yard is, by which visit, and what is on it.
-fn push_here(
-    alloc: Global,
-    text: &mut String,
-    setup: &Setup,
-    visit: &Visit,
-    slot: Slot,
-    blocker: Option<BoxNumber>,
-) -> Result<(), AllocError>
-    ensures { OnOk result (string_bytes text.new
-        ≡ string_bytes text.old ++ here_line (setup_content setup.now) (visit_content visit.now) slot blocker) }
-{
-    let arrival = arrival_text(alloc, setup, visit, slot)?;
-    let above = above_text(alloc, blocker)?;
-    push_stay(alloc, text, visit, arrival.as_str(), above.as_str())
-}
-
-fn arrival_text(
-    alloc: Global,
-    setup: &Setup,
-    visit: &Visit,
-    slot: Slot,
-) -> Result<String, AllocError>
-    ensures { IfOk result (λ text. string_bytes text
-        ≡ phrase (arrival_words (setup_content setup.now) (visit_content visit.now) slot)) }
-{
-    let slot = slot_text(alloc, slot)?;
-    let size = size_text(alloc, visit.size_type)?;
-    let number = visit.number.to_string(alloc)?;
     let arrival = visit.arrival;
-    let passage = passage_text(alloc, setup, arrival.way, arrival.source, arrival.moment)?;
-    phrase(
-        alloc,
-        &[
-            "IN",
-            slot.as_str(),
-            size.as_str(),
-            load_name(visit.is_laden),
-            "VISIT",
-            number.as_str(),
-            passage.as_str(),
-        ],
-    )
+    ContainerReport {
+        container,
+        size_type: visit.size_type,
+        is_laden: visit.is_laden,
+        visit: visit.number,
+        passage: Some(passage_of(setup, arrival.way, arrival.source, arrival.moment)),
+        stay: Some(stay),
+    }
 }
 
-/// Whether it is free, or what is on it.
-pub(crate) fn above_text(alloc: Global, blocker: Option<BoxNumber>) -> Result<String, AllocError>
-    ensures { IfOk result (λ text. string_bytes text ≡ phrase (above_words blocker)) }
+fn stay_of<'a>(
+    alloc: Global,
+    terminal: &'a Terminal,
+    container: BoxNumber,
+    visit: &'a Visit,
+    slot: Slot,
+) -> Result<Stay<'a>, AllocError>
+    ensures { IfOk result (λ stay. stay_content stay ≡ stay_by (visit_content visit.now) slot
+        (blocker_in terminal.now container) (open_lines terminal.now.lines container)) }
 {
-    match blocker {
-        Some(number) => {
-            let number = number_text(alloc, number)?;
-            phrase(alloc, &["UNDER", number.as_str()])
-        }
-        None => phrase(alloc, &["FREE"]),
-    }
+    Ok(Stay {
+        slot,
+        booking: visit.booking.as_str(),
+        kilos: visit.kilos,
+        blocker: terminal.blocker_on(container),
+        lists: open_lines(alloc, terminal.lines(), container)?,
+    })
 }
 
 /// How a container left last, if it ever came.
-fn gone_report(
-    alloc: Global,
-    setup: &Setup,
-    terminal: &Terminal,
+fn gone<'a>(
+    setup: &'a Setup,
+    terminal: &'a Terminal,
     container: BoxNumber,
-) -> Result<Option<String>, AllocError>
-    ensures { IfOk result (λ found. option_map string_bytes found
-        ≡ gone_report (setup_content setup.now) container (last_visit terminal.now container)) }
+) -> Option<ContainerReport<'a>>
+    ensures { option_map container_content result
+        ≡ gone_by (setup_content setup.now) container (last_visit terminal.now container) }
 {
-    let Some(visit) = terminal.last_visit(container) else {
-        return Ok(None);
-    };
-    let mut text = String::new(alloc);
-    push_head(alloc, &mut text, container)?;
-    push_gone(alloc, &mut text, setup, visit)?;
-    Ok(Some(text))
+    let visit = terminal.last_visit(container)?;
+    Some(ContainerReport {
+        container,
+        size_type: visit.size_type,
+        is_laden: visit.is_laden,
+        visit: visit.number,
+        passage: departure_of(setup, &visit.departure),
+        stay: None,
+    })
 }
 
-fn push_gone(
-    alloc: Global,
-    text: &mut String,
-    setup: &Setup,
-    visit: &Visit,
-) -> Result<(), AllocError>
-    ensures { OnOk result (string_bytes text.new
-        ≡ string_bytes text.old ++ gone_line (setup_content setup.now) (visit_content visit.now) visit.now.departure) }
+fn departure_of<'a>(setup: &'a Setup, departure: &Option<Departure>) -> Option<Passage<'a>>
+    ensures { option_map passage_content result ≡ departure_by (setup_content setup.now) departure.now }
 {
-    let Some(departure) = &visit.departure else {
-        return Ok(());
-    };
-    let size = size_text(alloc, visit.size_type)?;
-    let number = visit.number.to_string(alloc)?;
-    let passage = passage_text(
-        alloc,
-        setup,
-        departure.way,
-        departure.source,
-        departure.moment,
-    )?;
-    push_line(
-        alloc,
-        text,
-        &[
-            "OUT",
-            size.as_str(),
-            load_name(visit.is_laden),
-            "VISIT",
-            number.as_str(),
-            passage.as_str(),
-        ],
-    )
-}
-
-/// Appends a line `LOAD VESSEL VOYAGE` or `DISCHARGE VESSEL VOYAGE` for each open line that names the container, with the
-/// port after it if there is one: by vessel, voyage and side, load before discharge.
-pub(crate) fn push_open_lines(
-    alloc: Global,
-    text: &mut String,
-    terminal: &Terminal,
-    container: BoxNumber,
-) -> Result<(), AllocError>
-    ensures { OnOk result
-        (string_bytes text.new ≡ string_bytes text.old ++ open_lines_text terminal.now.lines container) }
-{
-    let lines = open_lines(alloc, terminal.lines(), container)?;
-    push_lines(alloc, text, &lines)
-}
-
-fn push_lines(alloc: Global, text: &mut String, lines: &[&Listing]) -> Result<(), AllocError>
-    ensures { OnOk result (string_bytes text.new
-        ≡ string_bytes text.old ++ flat_map open_line (map (λ line. line_entry line.now) lines.now)) }
-{
-    for line in lines {
-        push_open_line(alloc, text, line)?;
-    }
-    Ok(())
-}
-
-fn push_open_line(alloc: Global, text: &mut String, line: &Listing) -> Result<(), AllocError>
-    ensures { OnOk result (string_bytes text.new ≡ string_bytes text.old ++ open_line (line_entry line.now)) }
-{
-    push_words(
-        alloc,
-        text,
-        list_name(line.side),
-        line.call.vessel.as_str(),
-        line.call.voyage.as_str(),
-        line.port.as_str(),
-    )
-}
-
-fn push_words(
-    alloc: Global,
-    text: &mut String,
-    side: &str,
-    vessel: &str,
-    voyage: &str,
-    port: &str,
-) -> Result<(), AllocError>
-    ensures { OnOk result (string_bytes text.new ≡ string_bytes text.old
-        ++ line (side.now ∷ vessel.now ∷ voyage.now ∷ port_words port.now)) }
-{
-    if port.is_empty() {
-        push_line(alloc, text, &[side, vessel, voyage])
-    } else {
-        push_line(alloc, text, &[side, vessel, voyage, port])
+    match departure {
+        Some(departure) => Some(passage_of(
+            setup,
+            departure.way,
+            departure.source,
+            departure.moment,
+        )),
+        None => None,
     }
 }
 

@@ -1,7 +1,7 @@
 //! Laws of the definitions. Each function has an empty body, and its contract is the law: a call brings it into
 //! the caller's proof.
 ghost use Rattle.office_reports.specs.Laws.{YardReportsAreOne, YardExportsAreOne, ListReportsAreOne, NamesAreWritten};
-ghost use Rattle.office_reports.specs.LookupLaws.{BlocksReportsAreOne, PartnersReportsAreOne, WorkReportsAreOne};
+ghost use Rattle.office_reports.specs.LookupLaws.{BlocksReportsAreOne, PartnersReportsAreOne, TicketTextsStay, VisitTextsStay, WorkReportsAreOne};
 ghost use Rattle.office_reports.specs.PictureLaws.{FieldsAreShown, FieldsBringNoMarkup, FieldsStayInPlace, PicturesAreOne};
 
 /// A state has one report on its yard, one export, and one report on each list.
@@ -22,6 +22,12 @@ pub fn lookups_are_one()
     ensures blocks { BlocksReportsAreOne }
     ensures work { WorkReportsAreOne }
     ensures partners { PartnersReportsAreOne }
+{}
+
+/// What is told of a container's visits, and of an interchange, has the text of the report on it.
+pub fn texts_stay()
+    ensures visits { VisitTextsStay }
+    ensures tickets { TicketTextsStay }
 {}
 
 /// A state has one picture.

@@ -13,6 +13,7 @@
 
 mod blocks;
 mod calls;
+mod container_lines;
 mod containers;
 mod drawing;
 mod drawn_containers;
@@ -23,24 +24,32 @@ pub mod laws;
 mod lists;
 mod metrics;
 mod partners;
+mod passages;
 mod query;
 pub mod texts;
 mod tickets;
 mod visits;
 mod work;
+mod work_lines;
 pub mod yard;
 
-pub use blocks::blocks_report;
-pub use calls::calls_report;
-pub use containers::container_report;
+pub use blocks::{BlockRow, BlockUse, BlocksReport, blocks_of, blocks_report, blocks_text};
+pub use calls::{CallsReport, ListCount, ListKey, calls_of, calls_report, calls_text};
+pub use container_lines::{container_report, container_text};
+pub use containers::{ContainerReport, Stay, container_of};
 pub use drawing::picture;
 pub use fixed::field_text;
 pub use keys::{AccountKey, number_of, passed_of, read_account_key, read_query, read_sender_key};
-pub use lists::{ListedLine, lines_on, list_name, list_report};
+pub use lists::{ListReport, ListedLine, lines_on, list_name, list_of, list_report, list_text};
 pub use metrics::{Versions, metrics_report, ready};
-pub use partners::{Partner, contrl_in, partner_report, partners_report};
+pub use partners::{
+    Partner, PartnerRow, PartnersReport, Waiting, contrl_in, partner_report, partner_row,
+    partner_text, partners_of, partners_report, partners_text,
+};
+pub use passages::{Passage, passage_of};
 pub use query::{NotNow, Query, Report, ReportKind, program_version};
-pub use tickets::ticket;
-pub use visits::{passage_text, push_stay, visit_report};
-pub use work::work_report;
-pub use yard::{Standing, standings as yard_standings, yard_csv, yard_report};
+pub use tickets::{TicketReport, ticket, ticket_of, ticket_text};
+pub use visits::{VisitsReport, visit_report, visits_of, visits_text};
+pub use work::{Job, WorkReport, in_order, work_of};
+pub use work_lines::{work_report, work_text};
+pub use yard::{Standing, standings as yard_standings, yard_csv, yard_report, yard_text};

@@ -1,9 +1,11 @@
+//! A call's list on one side.
 ghost use Rattle.std.specs.List.{flat_map};
 ghost use Rattle.std.specs.Option.{option_map};
-ghost use Rattle.std.specs.Prelude.{◌≡◌, ◌++◌, count_by, IfOk, OnOk, string_bytes};
+ghost use Rattle.std.specs.Prelude.{◌≡◌, ◌++◌, ◌∷◌, [], count_by, IfOk, OnOk, string_bytes};
 ghost use Rattle.edi_messages.specs.Owned.{call_content};
 ghost use Rattle.office_reports.specs.Listed.{AreListed};
-ghost use Rattle.office_reports.specs.Lists.{HasLine, IsListReport, list_contents, list_end, list_head, list_line, is_done_line, is_on, list_name, shown_line, state_name};
+ghost use Rattle.office_reports.specs.Lists.{HasLine, IsListReport, IsOfLines, is_done_line, is_on, list_by, list_content, list_contents, list_end, list_head, list_line, list_name, list_text, shown_line, state_name};
+ghost use Rattle.office_reports.specs.Names.{line};
 ghost use Rattle.terminal_core.specs.Listings.{line_content};
 
 use crate::texts::{number_text, push_line};
@@ -22,6 +24,17 @@ pub struct ListedLine {
     pub state: LineState,
 }
 
+/// The list of a call on one side, which has a line.
+#[derive(Drop)]
+pub struct ListReport<'a> {
+    /// The vessel and its voyage.
+    pub call: &'a Call,
+    /// Whether what is loaded or what is discharged.
+    pub side: Side,
+    /// Its lines, by the containers' numbers.
+    pub lines: BTreeMap<BoxNumber, ListedLine>,
+}
+
 /// A call's list, by the containers' numbers: `LOAD LIST VESSEL VOYAGE` or `DISCHARGE LIST VESSEL VOYAGE`, a line
 /// `BOX OPEN` or `BOX DONE` for each with the port after it if there is one, and `a OPEN b DONE`. Each line ends
 /// with LF. `None` if the list has no line.
@@ -34,27 +47,73 @@ pub fn list_report(
     ensures { IfOk result
         (λ found. IsListReport terminal.now (call_content call.now) side (option_map string_bytes found)) }
 {
-    let list = lines_on(alloc, terminal, call, side)?;
-    if list.is_empty() {
-        return Ok(None);
+    match list_of(alloc, terminal, call, side)? {
+        Some(report) => Ok(Some(list_text(alloc, &report)?)),
+        None => Ok(None),
     }
-    let mut text = String::new(alloc);
-    push_head(alloc, &mut text, call, side)?;
-    push_list(alloc, &mut text, &list)?;
-    push_counts(alloc, &mut text, &list)?;
-    Ok(Some(text))
 }
 
-fn push_head(alloc: Global, text: &mut String, call: &Call, side: Side) -> Result<(), AllocError>
-    ensures { OnOk result (string_bytes text.new ≡ string_bytes text.old ++ list_head (call_content call.now) side) }
+/// A call's list, if it has a line.
+pub fn list_of<'a>(
+    alloc: Global,
+    terminal: &Terminal,
+    call: &'a Call,
+    side: Side,
+) -> Result<Option<ListReport<'a>>, AllocError>
+    ensures { IfOk result (λ found. IsOfLines terminal.now (call_content call.now) side
+        (list_by (call_content call.now) side) (option_map list_content found)) }
 {
-    let vessel = String::from_str(alloc, call.vessel.as_str())?;
-    let voyage = String::from_str(alloc, call.voyage.as_str())?;
-    push_line(
+    let lines = lines_on(alloc, terminal, call, side)?;
+    if lines.is_empty() {
+        return Ok(None);
+    }
+    Ok(Some(ListReport { call, side, lines }))
+}
+
+/// The report as text.
+pub fn list_text(alloc: Global, report: &ListReport<'_>) -> Result<String, AllocError>
+    ensures { IfOk result (λ text. string_bytes text ≡ list_text (list_content report.now)) }
+{
+    let mut text = String::new(alloc);
+    push_list_head(alloc, &mut text, report.side, "LIST", report.call)?;
+    push_list(alloc, &mut text, &report.lines)?;
+    push_counts(alloc, &mut text, &report.lines)?;
+    Ok(text)
+}
+
+/// Appends `LOAD` or `DISCHARGE`, what the report is about, the vessel and its voyage.
+pub(crate) fn push_list_head(
+    alloc: Global,
+    text: &mut String,
+    side: Side,
+    about: &str,
+    call: &Call,
+) -> Result<(), AllocError>
+    ensures { OnOk result (string_bytes text.new ≡ string_bytes text.old
+        ++ list_head side about.now (call_content call.now)) }
+{
+    push_words(
         alloc,
         text,
-        &[list_name(side), "LIST", vessel.as_str(), voyage.as_str()],
+        list_name(side),
+        about,
+        call.vessel.as_str(),
+        call.voyage.as_str(),
     )
+}
+
+fn push_words(
+    alloc: Global,
+    text: &mut String,
+    side: &str,
+    about: &str,
+    vessel: &str,
+    voyage: &str,
+) -> Result<(), AllocError>
+    ensures { OnOk result (string_bytes text.new
+        ≡ string_bytes text.old ++ line (side.now ∷ about.now ∷ vessel.now ∷ voyage.now ∷ [])) }
+{
+    push_line(alloc, text, &[side, about, vessel, voyage])
 }
 
 fn push_list(
@@ -111,7 +170,8 @@ fn push_counts(
     )
 }
 
-fn done_count(list: &BTreeMap<BoxNumber, ListedLine>) -> usize
+/// How many of the lines are done.
+pub(crate) fn done_count(list: &BTreeMap<BoxNumber, ListedLine>) -> usize
     ensures { result ≡ count_by is_done_line (list_contents list.now.entries) }
 {
     let mut done = 0;

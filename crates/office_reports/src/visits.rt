@@ -1,19 +1,32 @@
-ghost use Rattle.std.specs.Prelude.{◌≡◌, ◌++◌, map, IfOk, OnOk, string_bytes};
-ghost use Rattle.std.specs.List.{list_any};
+//! The visits of a container.
+ghost use Rattle.std.specs.List.{flat_map};
 ghost use Rattle.std.specs.Option.{option_map};
-ghost use Rattle.terminal_core.specs.Rows.{visit_content};
+ghost use Rattle.std.specs.Prelude.{◌≡◌, ◌++◌, filter, map, IfOk, OnOk, string_bytes};
 ghost use Rattle.office_admission.specs.Setups.{setup_content};
 ghost use Rattle.office_reports.specs.Names.{phrase};
+ghost use Rattle.office_reports.specs.Passages.{passage_by, passage_words};
+ghost use Rattle.office_reports.specs.Visits.{arrival_words, departure_words, rows_text, visit_line, visit_report, visits_content, visits_of};
+ghost use Rattle.terminal_core.specs.Rows.{visit_content};
 ghost use Rattle.terminal_core.specs.State.{is_visit_of};
-ghost use Rattle.office_reports.specs.Visits.{way_name, code_of, passage_words, arrival_words, departure_words, stay_line};
-ghost use Rattle.office_reports.specs.Visits.{visit_line, visit_lines, visit_report};
 
-use crate::texts::{load_name, moment_text, number_text, phrase, push_line, size_text, slot_text};
+use crate::passages::{passage_of, passage_text, push_stay};
+use crate::texts::{load_name, number_text, phrase, push_line, size_text, slot_text};
 use box6346::BoxNumber;
 use edi_syntax::Moment;
 use office_admission::Setup;
 use std::alloc::{AllocError, Global};
 use terminal_core::{Departure, Source, Terminal, Visit, Way};
+
+/// The visits of a container that has some.
+#[derive(Drop)]
+pub struct VisitsReport<'a> {
+    /// Who the partners are that they name.
+    pub setup: &'a Setup,
+    /// The container's number (ISO 6346).
+    pub container: BoxNumber,
+    /// Its visits, by their numbers.
+    pub visits: Vec<&'a Visit>,
+}
 
 /// The visits of a container, by their numbers: `VISITS BOX`, and for each a line
 /// `N SIZE FULL IN GATE PARTNER NUMBER MOMENT SLOT` with the slot of entry, then ` BOOKING B` if it has one,
@@ -28,37 +41,72 @@ pub fn visit_report(
     ensures { IfOk result
         (λ found. option_map string_bytes found ≡ visit_report (setup_content setup.now) terminal.now container) }
 {
-    let visits = terminal.visits();
-    if !has_visit(visits, container) {
-        return Ok(None);
+    match visits_of(alloc, setup, terminal, container)? {
+        Some(report) => Ok(Some(visits_text(alloc, &report)?)),
+        None => Ok(None),
     }
-    let number = number_text(alloc, container)?;
-    let mut text = String::new(alloc);
-    push_line(alloc, &mut text, &["VISITS", number.as_str()])?;
-    push_visits(alloc, &mut text, setup, visits, container)?;
-    Ok(Some(text))
 }
 
-fn has_visit(visits: &[Visit], container: BoxNumber) -> bool
-    ensures { result ≡ list_any (λ visit. is_visit_of container (visit_content visit)) visits.now }
+/// The visits of a container, if it has any.
+pub fn visits_of<'a>(
+    alloc: Global,
+    setup: &'a Setup,
+    terminal: &'a Terminal,
+    container: BoxNumber,
+) -> Result<Option<VisitsReport<'a>>, AllocError>
+    ensures { IfOk result (λ found. option_map visits_content found
+        ≡ visits_of (setup_content setup.now) terminal.now container) }
 {
-    visits.iter().any(|visit| visit.container == container)
+    let visits = visits_in(alloc, terminal.visits(), container)?;
+    if visits.is_empty() {
+        return Ok(None);
+    }
+    Ok(Some(VisitsReport {
+        setup,
+        container,
+        visits,
+    }))
+}
+
+fn visits_in<'a>(
+    alloc: Global,
+    visits: &'a [Visit],
+    container: BoxNumber,
+) -> Result<Vec<&'a Visit>, AllocError>
+    ensures { IfOk result (λ found. map (λ visit. visit_content visit.now) found.items
+        ≡ filter (is_visit_of container) (map visit_content visits.now)) }
+{
+    let mut found = Vec::new(alloc);
+    for visit in visits {
+        if visit.container == container {
+            found.push(visit)?;
+        }
+    }
+    Ok(found)
+}
+
+/// The report as text.
+pub fn visits_text(alloc: Global, report: &VisitsReport<'_>) -> Result<String, AllocError>
+    ensures { IfOk result (λ text. string_bytes text ≡ rows_text (visits_content report.now)) }
+{
+    let number = number_text(alloc, report.container)?;
+    let mut text = String::new(alloc);
+    push_line(alloc, &mut text, &["VISITS", number.as_str()])?;
+    push_visits(alloc, &mut text, report.setup, &report.visits)?;
+    Ok(text)
 }
 
 fn push_visits(
     alloc: Global,
     text: &mut String,
     setup: &Setup,
-    visits: &[Visit],
-    container: BoxNumber,
+    visits: &[&Visit],
 ) -> Result<(), AllocError>
     ensures { OnOk result (string_bytes text.new ≡ string_bytes text.old
-        ++ visit_lines (setup_content setup.now) container (map visit_content visits.now)) }
+        ++ flat_map (visit_line (setup_content setup.now)) (map (λ visit. visit_content visit.now) visits.now)) }
 {
     for visit in visits {
-        if visit.container == container {
-            push_visit(alloc, text, setup, visit)?;
-        }
+        push_visit(alloc, text, setup, visit)?;
     }
     Ok(())
 }
@@ -74,33 +122,14 @@ fn push_visit(
 {
     let arrival = arrival_text(alloc, setup, visit)?;
     let departure = departure_text(alloc, setup, visit.arrival.moment, &visit.departure)?;
-    push_stay(alloc, text, visit, arrival.as_str(), departure.as_str())
-}
-
-/// Appends a line of what it begins with, `BOOKING B` and `GROSS W` if the visit has them, and what follows.
-pub fn push_stay(
-    alloc: Global,
-    text: &mut String,
-    visit: &Visit,
-    arrival: &str,
-    behind: &str,
-) -> Result<(), AllocError>
-    ensures { OnOk result (string_bytes text.new
-        ≡ string_bytes text.old ++ stay_line (visit_content visit.now) arrival.now behind.now) }
-{
-    let gross = visit.kilos.to_string(alloc)?;
-    let mut words = Vec::new(alloc);
-    words.push(arrival)?;
-    if !visit.booking.is_empty() {
-        words.push("BOOKING")?;
-        words.push(visit.booking.as_str())?;
-    }
-    if visit.kilos != 0 {
-        words.push("GROSS")?;
-        words.push(gross.as_str())?;
-    }
-    words.push(behind)?;
-    push_line(alloc, text, words.as_slice())
+    push_stay(
+        alloc,
+        text,
+        arrival.as_str(),
+        visit.booking.as_str(),
+        visit.kilos,
+        departure.as_str(),
+    )
 }
 
 fn arrival_text(alloc: Global, setup: &Setup, visit: &Visit) -> Result<String, AllocError>
@@ -110,7 +139,7 @@ fn arrival_text(alloc: Global, setup: &Setup, visit: &Visit) -> Result<String, A
     let number = visit.number.to_string(alloc)?;
     let size = size_text(alloc, visit.size_type)?;
     let arrival = visit.arrival;
-    let passage = passage_text(alloc, setup, arrival.way, arrival.source, arrival.moment)?;
+    let passage = noted_text(alloc, setup, arrival.way, arrival.source, arrival.moment)?;
     let slot = slot_text(alloc, arrival.slot)?;
     phrase(
         alloc,
@@ -137,7 +166,7 @@ fn departure_text(
     let Some(departure) = departure else {
         return phrase(alloc, &["OUT", "-"]);
     };
-    let passage = passage_text(
+    let passage = noted_text(
         alloc,
         setup,
         departure.way,
@@ -148,8 +177,8 @@ fn departure_text(
     phrase(alloc, &["OUT", passage.as_str(), "DAYS", days.as_str()])
 }
 
-/// `GATE PARTNER NUMBER MOMENT`: by which way, by whose word, and when.
-pub fn passage_text(
+/// The passage that a visit notes.
+fn noted_text(
     alloc: Global,
     setup: &Setup,
     way: Way,
@@ -157,41 +186,8 @@ pub fn passage_text(
     moment: Moment,
 ) -> Result<String, AllocError>
     ensures { IfOk result (λ text. string_bytes text
-        ≡ phrase (passage_words (setup_content setup.now) way source moment)) }
+        ≡ phrase (passage_words (passage_by (setup_content setup.now) way source moment))) }
 {
-    let number = source.number.to_string(alloc)?;
-    let moment = moment_text(alloc, moment)?;
-    let code = String::from_str(alloc, code_of(setup, source.partner))?;
-    phrase(
-        alloc,
-        &[
-            way_name(way),
-            code.as_str(),
-            number.as_str(),
-            moment.as_str(),
-        ],
-    )
-}
-
-fn way_name(way: Way) -> &'static str
-    ensures { result.now ≡ way_name way }
-{
-    match way {
-        Way::Gate => "GATE",
-        Way::Ship => "SHIP",
-    }
-}
-
-/// The code of a partner, and nothing if there is none with this number.
-fn code_of(setup: &Setup, partner: u16) -> &str
-    ensures { result.now ≡ code_of (setup_content setup.now) partner }
-{
-    if partner == 0 {
-        return "";
-    }
-    let accounts = setup.partners.as_slice();
-    match accounts.get(usize::from(partner) - 1) {
-        Some(account) => account.code.as_str(),
-        None => "",
-    }
+    let passage = passage_of(setup, way, source, moment);
+    passage_text(alloc, &passage)
 }

@@ -1,80 +1,62 @@
-//! What is left to load.
-ghost use Rattle.std.specs.List.{flat_map};
+//! What is left to do of a call's list.
 ghost use Rattle.std.specs.Map.{values_of};
 ghost use Rattle.std.specs.Option.{option_map};
-ghost use Rattle.std.specs.Prelude.{◌≡◌, ◌++◌, ◌∷◌, [], codes, map, IfOk, OnOk, string_bytes, None, count_by};
+ghost use Rattle.std.specs.Prelude.{◌≡◌, ◌++◌, [], filter, length, map, IfOk, OnOk};
 ghost use Rattle.edi_messages.specs.Owned.{call_content};
-ghost use Rattle.office_reports.specs.Work.{IsWorkReport, job_content, job_of, jobs_of, jobs_text, standing_in, work_head, absent_line, is_absent, is_covered, is_free, load_end, load_line, load_text, load_texts, with_load, with_loads, work_place, discharge_end, discharge_line, discharge_text, is_here};
-ghost use Rattle.office_reports.specs.Lists.{list_contents, shown_line, port_words};
-ghost use Rattle.office_reports.specs.Names.{line, phrase, slot_name};
+ghost use Rattle.office_reports.specs.Lists.{IsOfLines, list_contents, shown_line};
+ghost use Rattle.office_reports.specs.Work.{in_order, is_absent, job_content, job_of, jobs_of, placed_contents, standing_in, with_job, with_jobs, work_by, work_content, work_place};
 
-use crate::containers::above_text;
-use crate::texts::{number_text, phrase, push_line, size_text, slot_text};
-use crate::{ListedLine, Standing, lines_on, list_name};
+use crate::lists::done_count;
+use crate::{ListedLine, Standing, lines_on};
 use box6346::{BoxNumber, Slot};
 use edi_messages::Call;
 use std::alloc::{AllocError, Global};
 use std::collections::BTreeMap;
 use terminal_core::{LineState, Side, Terminal};
 
-/// What is left to do of a call's list, only its open lines. `LOAD WORK VESSEL VOYAGE`, by block, row and bay, from the
-/// top tier down, `SLOT BOX SIZE`, the port if there is one, and `FREE`, or `UNDER BOX` with the container on
-/// it; by container `BOX`, the port if there is one, and `NOT IN` for those that are not in the yard;
-/// `a FREE b UNDER c NOT IN`. `DISCHARGE WORK VESSEL VOYAGE`, by container `BOX`, the port if there is one, and `IN SLOT`
-/// if it is here already; `a OPEN b IN`. Each line ends with LF. `None` if the list has no line, open or done.
-pub fn work_report(
+/// What is left to do of a call's list.
+#[derive(Drop)]
+pub struct WorkReport<'a> {
+    /// The vessel and its voyage.
+    pub call: &'a Call,
+    /// Whether what is loaded or what is discharged.
+    pub side: Side,
+    /// Its open lines, by their containers.
+    pub jobs: Vec<Job>,
+    /// How many of its lines are done.
+    pub done: usize,
+    /// How many lines it has, open and done.
+    pub whole: usize,
+}
+
+/// What is left to do of a call's list, if that has a line.
+pub fn work_of<'a>(
     alloc: Global,
     terminal: &Terminal,
-    call: &Call,
+    call: &'a Call,
     side: Side,
-) -> Result<Option<String>, AllocError>
-    ensures { IfOk result
-        (λ found. IsWorkReport terminal.now (call_content call.now) side (option_map string_bytes found)) }
+) -> Result<Option<WorkReport<'a>>, AllocError>
+    ensures { IfOk result (λ found. IsOfLines terminal.now (call_content call.now) side
+        (work_by terminal.now (call_content call.now) side) (option_map work_content found)) }
 {
     let list = lines_on(alloc, terminal, call, side)?;
     if list.is_empty() {
         return Ok(None);
     }
-    let jobs = jobs_of(alloc, terminal, &list)?;
-    let mut text = String::new(alloc);
-    push_head(alloc, &mut text, call, side)?;
-    push_jobs(alloc, &mut text, side, &jobs)?;
-    Ok(Some(text))
+    Ok(Some(WorkReport {
+        call,
+        side,
+        jobs: jobs_of(alloc, terminal, &list)?,
+        done: done_count(&list),
+        whole: line_count(&list),
+    }))
 }
 
-fn push_head(alloc: Global, text: &mut String, call: &Call, side: Side) -> Result<(), AllocError>
-    ensures { OnOk result (string_bytes text.new ≡ string_bytes text.old ++ work_head (call_content call.now) side) }
+#[tactic(auto, using(crate::proofs::CallLemmas::contents_len))]
+fn line_count(list: &BTreeMap<BoxNumber, ListedLine>) -> usize
+    ensures { result ≡ length (list_contents list.now.entries) }
 {
-    push_words(
-        alloc,
-        text,
-        list_name(side),
-        call.vessel.as_str(),
-        call.voyage.as_str(),
-    )
-}
-
-fn push_words(
-    alloc: Global,
-    text: &mut String,
-    side: &str,
-    vessel: &str,
-    voyage: &str,
-) -> Result<(), AllocError>
-    ensures { OnOk result (string_bytes text.new ≡ string_bytes text.old
-        ++ line (side.now ∷ codes "WORK" ∷ vessel.now ∷ voyage.now ∷ [])) }
-{
-    push_line(alloc, text, &[side, "WORK", vessel, voyage])
-}
-
-fn push_jobs(alloc: Global, text: &mut String, side: Side, jobs: &[Job]) -> Result<(), AllocError>
-    ensures { OnOk result
-        (string_bytes text.new ≡ string_bytes text.old ++ jobs_text side (map job_content jobs.now)) }
-{
-    match side {
-        Side::Load => push_loads(alloc, text, jobs),
-        Side::Discharge => push_discharges(alloc, text, jobs),
-    }
+    list.len()
 }
 
 /// The open lines of a list.
@@ -127,7 +109,7 @@ fn standing_in(terminal: &Terminal, container: BoxNumber) -> Option<Standing>
 
 /// A container that is to be loaded or discharged.
 #[derive(Drop)]
-pub(crate) struct Job {
+pub struct Job {
     /// Its number (ISO 6346).
     pub container: BoxNumber,
     /// The port of discharge, empty if none was given.
@@ -138,42 +120,58 @@ pub(crate) struct Job {
     pub blocker: Option<BoxNumber>,
 }
 
-/// Appends the lines of jobs in the yard by their places, those of the others by their numbers, and the counts.
-pub(crate) fn push_loads(alloc: Global, text: &mut String, jobs: &[Job]) -> Result<(), AllocError>
-    ensures { OnOk result
-        (string_bytes text.new ≡ string_bytes text.old ++ load_text (map job_content jobs.now)) }
+/// The jobs in the order in which they are shown: loads that are in the yard by block, row and bay, from the top tier
+/// down, and then the others by their numbers; discharges by their numbers.
+pub fn in_order<'a>(alloc: Global, side: Side, jobs: &'a [Job]) -> Result<Vec<&'a Job>, AllocError>
+    ensures { IfOk result
+        (λ rows. map (λ job. job_content job.now) rows.items ≡ in_order side (map job_content jobs.now)) }
 {
-    let loads = loads_of(alloc, jobs)?;
-    push_texts(text, &loads)?;
-    push_absents(alloc, text, jobs)?;
-    push_counts(alloc, text, jobs)
-}
-
-/// The lines of jobs in the yard, by their places.
-fn loads_of(alloc: Global, jobs: &[Job]) -> Result<BTreeMap<[u16; 4], String>, AllocError>
-    ensures { IfOk result (λ loads. load_texts loads.entries ≡ with_loads [] (map job_content jobs.now)) }
-{
-    let mut loads = BTreeMap::new(alloc);
-    for job in jobs {
-        put_load(alloc, &mut loads, job)?;
+    let mut rows = Vec::new(alloc);
+    match side {
+        Side::Load => {
+            push_placed(alloc, &mut rows, jobs)?;
+            push_others(&mut rows, jobs)?;
+        }
+        Side::Discharge => push_all(&mut rows, jobs)?,
     }
-    Ok(loads)
+    Ok(rows)
 }
 
-/// Puts the line of a job at its place, if its container is in the yard.
-fn put_load(
+fn push_placed<'a>(
     alloc: Global,
-    loads: &mut BTreeMap<[u16; 4], String>,
-    job: &Job,
+    rows: &mut Vec<&'a Job>,
+    jobs: &'a [Job],
 ) -> Result<(), AllocError>
-    ensures { OnOk result (load_texts loads.new.entries
-        ≡ with_load (load_texts loads.old.entries) (job_content job.now) job.now.standing) }
+    ensures { OnOk result (map (λ job. job_content job.now) rows.new.items
+        ≡ map (λ job. job_content job.now) rows.old.items ++ values_of (with_jobs [] (map job_content jobs.now))) }
+{
+    let places = places_of(alloc, jobs)?;
+    for (_, job) in &places {
+        rows.push(*job)?;
+    }
+    Ok(())
+}
+
+/// The jobs in the yard, by their places.
+fn places_of<'a>(alloc: Global, jobs: &'a [Job]) -> Result<BTreeMap<[u16; 4], &'a Job>, AllocError>
+    ensures { IfOk result (λ places. placed_contents places.entries ≡ with_jobs [] (map job_content jobs.now)) }
+{
+    let mut places = BTreeMap::new(alloc);
+    for job in jobs {
+        put_job(&mut places, job)?;
+    }
+    Ok(places)
+}
+
+/// Puts a job at its place, if its container is in the yard.
+fn put_job<'a>(places: &mut BTreeMap<[u16; 4], &'a Job>, job: &'a Job) -> Result<(), AllocError>
+    ensures { OnOk result (placed_contents places.new.entries
+        ≡ with_job (placed_contents places.old.entries) (job_content job.now) job.now.standing) }
 {
     match job.standing {
         Some(standing) => {
             let place = work_place(standing.slot);
-            let line = load_line(alloc, job, standing)?;
-            loads.insert(place, line)?;
+            places.insert(place, job)?;
         }
         None => {}
     }
@@ -192,186 +190,24 @@ fn work_place(slot: Slot) -> [u16; 4]
     ]
 }
 
-fn load_line(alloc: Global, job: &Job, standing: Standing) -> Result<String, AllocError>
-    ensures { IfOk result (λ text. string_bytes text ≡ load_line (job_content job.now) standing) }
-{
-    let slot = slot_text(alloc, standing.slot)?;
-    let number = number_text(alloc, job.container)?;
-    let size = size_text(alloc, standing.size_type)?;
-    let above = above_text(alloc, job.blocker)?;
-    let slot = slot.as_str();
-    let number = number.as_str();
-    let size = size.as_str();
-    let port = job.port.as_str();
-    let above = above.as_str();
-    let mut text = String::new(alloc);
-    if port.is_empty() {
-        push_line(alloc, &mut text, &[slot, number, size, above])?;
-    } else {
-        push_line(alloc, &mut text, &[slot, number, size, port, above])?;
-    }
-    Ok(text)
-}
-
-fn push_texts(text: &mut String, loads: &BTreeMap<[u16; 4], String>) -> Result<(), AllocError>
-    ensures { OnOk result (string_bytes text.new ≡ string_bytes text.old
-        ++ flat_map (λ line. line) (values_of (load_texts loads.now.entries))) }
-{
-    for (_, load) in loads {
-        text.push_str(load.as_str())?;
-    }
-    Ok(())
-}
-
-fn push_absents(alloc: Global, text: &mut String, jobs: &[Job]) -> Result<(), AllocError>
-    ensures { OnOk result (string_bytes text.new ≡ string_bytes text.old
-        ++ flat_map (λ job. absent_line job job.standing) (map job_content jobs.now)) }
+fn push_others<'a>(rows: &mut Vec<&'a Job>, jobs: &'a [Job]) -> Result<(), AllocError>
+    ensures { OnOk result (map (λ job. job_content job.now) rows.new.items
+        ≡ map (λ job. job_content job.now) rows.old.items ++ filter is_absent (map job_content jobs.now)) }
 {
     for job in jobs {
         if job.standing.is_none() {
-            push_absent(alloc, text, job)?;
+            rows.push(job)?;
         }
     }
     Ok(())
 }
 
-/// The line of a job whose container is not in the yard.
-fn push_absent(alloc: Global, text: &mut String, job: &Job) -> Result<(), AllocError>
-    ensures { OnOk result
-        (string_bytes text.new ≡ string_bytes text.old ++ absent_line (job_content job.now) None) }
-{
-    let number = number_text(alloc, job.container)?;
-    let port = job.port.as_str();
-    if port.is_empty() {
-        push_line(alloc, text, &[number.as_str(), "NOT IN"])
-    } else {
-        push_line(alloc, text, &[number.as_str(), port, "NOT IN"])
-    }
-}
-
-fn push_counts(alloc: Global, text: &mut String, jobs: &[Job]) -> Result<(), AllocError>
-    ensures { OnOk result
-        (string_bytes text.new ≡ string_bytes text.old ++ load_end (map job_content jobs.now)) }
-{
-    let free = free_count(jobs).to_string(alloc)?;
-    let covered = covered_count(jobs).to_string(alloc)?;
-    let absent = absent_count(jobs).to_string(alloc)?;
-    push_line(
-        alloc,
-        text,
-        &[
-            free.as_str(),
-            "FREE",
-            covered.as_str(),
-            "UNDER",
-            absent.as_str(),
-            "NOT IN",
-        ],
-    )
-}
-
-/// How many are in the yard with nothing on them.
-fn free_count(jobs: &[Job]) -> usize
-    ensures { result ≡ count_by is_free (map job_content jobs.now) }
-{
-    jobs.iter()
-        .filter(|job| job.standing.is_some() && job.blocker.is_none())
-        .count()
-}
-
-/// How many are in the yard with another container on them.
-fn covered_count(jobs: &[Job]) -> usize
-    ensures { result ≡ count_by is_covered (map job_content jobs.now) }
-{
-    jobs.iter()
-        .filter(|job| job.standing.is_some() && job.blocker.is_some())
-        .count()
-}
-
-/// How many are not in the yard.
-fn absent_count(jobs: &[Job]) -> usize
-    ensures { result ≡ count_by is_absent (map job_content jobs.now) }
-{
-    jobs.iter().filter(|job| job.standing.is_none()).count()
-}
-
-// What is left to discharge.
-
-/// Appends the lines of jobs, and the counts.
-pub(crate) fn push_discharges(
-    alloc: Global,
-    text: &mut String,
-    jobs: &[Job],
-) -> Result<(), AllocError>
-    ensures { OnOk result
-        (string_bytes text.new ≡ string_bytes text.old ++ discharge_text (map job_content jobs.now)) }
+fn push_all<'a>(rows: &mut Vec<&'a Job>, jobs: &'a [Job]) -> Result<(), AllocError>
+    ensures { OnOk result (map (λ job. job_content job.now) rows.new.items
+        ≡ map (λ job. job_content job.now) rows.old.items ++ map job_content jobs.now) }
 {
     for job in jobs {
-        push_discharge(alloc, text, job)?;
+        rows.push(job)?;
     }
-    push_open_counts(alloc, text, jobs)
-}
-
-fn push_discharge(alloc: Global, text: &mut String, job: &Job) -> Result<(), AllocError>
-    ensures { OnOk result
-        (string_bytes text.new ≡ string_bytes text.old ++ discharge_line (job_content job.now)) }
-{
-    let number = number_text(alloc, job.container)?;
-    let port = job.port.as_str();
-    match job.standing {
-        Some(standing) => push_here(alloc, text, number.as_str(), port, standing.slot),
-        None => push_expected(alloc, text, number.as_str(), port),
-    }
-}
-
-/// The line of a container that is here already.
-fn push_here(
-    alloc: Global,
-    text: &mut String,
-    number: &str,
-    port: &str,
-    slot: Slot,
-) -> Result<(), AllocError>
-    ensures { OnOk result (string_bytes text.new ≡ string_bytes text.old
-        ++ line (number.now ∷ port_words port.now ++ phrase (codes "IN" ∷ slot_name slot ∷ []) ∷ [])) }
-{
-    let slot = slot_text(alloc, slot)?;
-    let here = phrase(alloc, &["IN", slot.as_str()])?;
-    if port.is_empty() {
-        push_line(alloc, text, &[number, here.as_str()])
-    } else {
-        push_line(alloc, text, &[number, port, here.as_str()])
-    }
-}
-
-fn push_expected(
-    alloc: Global,
-    text: &mut String,
-    number: &str,
-    port: &str,
-) -> Result<(), AllocError>
-    ensures { OnOk result
-        (string_bytes text.new ≡ string_bytes text.old ++ line (number.now ∷ port_words port.now)) }
-{
-    if port.is_empty() {
-        push_line(alloc, text, &[number])
-    } else {
-        push_line(alloc, text, &[number, port])
-    }
-}
-
-fn push_open_counts(alloc: Global, text: &mut String, jobs: &[Job]) -> Result<(), AllocError>
-    ensures { OnOk result
-        (string_bytes text.new ≡ string_bytes text.old ++ discharge_end (map job_content jobs.now)) }
-{
-    let open = jobs.len().to_string(alloc)?;
-    let here = here_count(jobs).to_string(alloc)?;
-    push_line(alloc, text, &[open.as_str(), "OPEN", here.as_str(), "IN"])
-}
-
-/// How many are here already.
-fn here_count(jobs: &[Job]) -> usize
-    ensures { result ≡ count_by is_here (map job_content jobs.now) }
-{
-    jobs.iter().filter(|job| job.standing.is_some()).count()
+    Ok(())
 }

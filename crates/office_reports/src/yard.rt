@@ -4,7 +4,7 @@ ghost use Rattle.std.specs.Map.{values_of};
 ghost use Rattle.std.specs.Prelude.{◌≡◌, ◌++◌, IfOk, OnOk, string_bytes};
 ghost use Rattle.office_reports.specs.Export.{IsYardExport, IsBetweenRecords, HasGiven, written_rows, header_record, export_text, standing_record, load_field};
 ghost use Rattle.office_reports.specs.Listed.{AreListed};
-ghost use Rattle.office_reports.specs.Yard.{StandsAt, IsYardReport, standing_of, standing_line};
+ghost use Rattle.office_reports.specs.Yard.{StandsAt, IsYardReport, standing_of, standing_line, yard_text};
 ghost use Rattle.terminal_core.specs.Rows.{visit_content};
 
 use crate::texts::{load_name, number_text, push_line, size_text, slot_text};
@@ -34,9 +34,16 @@ pub fn yard_report(alloc: Global, terminal: &Terminal) -> Result<String, AllocEr
     ensures { IfOk result (λ text. IsYardReport terminal.now (string_bytes text)) }
 {
     let yard = standings(alloc, terminal)?;
+    yard_text(alloc, &yard)
+}
+
+/// The report as text.
+pub fn yard_text(alloc: Global, yard: &BTreeMap<[u8; 7], Standing>) -> Result<String, AllocError>
+    ensures { IfOk result (λ text. string_bytes text ≡ yard_text yard.now.entries) }
+{
     let mut text = String::new(alloc);
     push_line(alloc, &mut text, &["YARD"])?;
-    push_standings(alloc, &mut text, &yard)?;
+    push_standings(alloc, &mut text, yard)?;
     let count = yard.len().to_string(alloc)?;
     push_line(alloc, &mut text, &[count.as_str(), "CONTAINERS"])?;
     Ok(text)

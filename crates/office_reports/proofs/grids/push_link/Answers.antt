@@ -1,4 +1,4 @@
-use Rattle.std.proofs.Common.{◌++◌, ◌∷◌, [], ap, ◌∙◌, codes, string_bytes}
+use Rattle.std.proofs.Common.{◌++◌, ◌∷◌, [], ◌∙◌, codes, string_bytes}
 use Rattle.std.proofs.lemmas.Result.{on_ok_weaker}
 use Rattle.office_reports.specs.Fields.{joined_pieces}
 use Rattle.office_reports.specs.Views.{block_link}

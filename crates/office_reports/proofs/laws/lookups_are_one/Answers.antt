@@ -4,13 +4,13 @@ use Rattle.office_reports.specs.declared.yard.Standing.{Standing}
 use Rattle.office_reports.specs.Lists.{HasLine}
 use Rattle.office_reports.specs.Yard.{StandsAt}
 use Rattle.office_reports.proofs.Standings.{one_list}
-use Rattle.office_reports.specs.Blocks.{blocks_text}
+use Rattle.office_reports.specs.Blocks.{blocks_of, blocks_text}
 use Rattle.office_reports.specs.Work.{work_found}
 use Rattle.office_reports.proofs.Waits.{texts_alike}
 use Rattle.office_reports.proofs.laws.lookups_are_one.Goals as goal
 
 pub returns-clause-blocks : goal.returns-clause-blocks
-returns-clause-blocks c state one other a b = a.is ∙ ap (λ (yard : List (List ℕ × Standing)). blocks_text state (values_of yard) state.yard.plan) (one_list (StandsAt state) a.yard b.yard a.listed b.listed) ∙ sym b.is
+returns-clause-blocks c state one other a b = a.is ∙ ap (λ (yard : List (List ℕ × Standing)). blocks_text (blocks_of state (values_of yard))) (one_list (StandsAt state) a.yard b.yard a.listed b.listed) ∙ sym b.is
 
 pub returns-clause-work : goal.returns-clause-work
 returns-clause-work c state call side one other a b = a.is ∙ ap (work_found state call side) (one_list (HasLine state call side) a.list b.list a.listed b.listed) ∙ sym b.is

@@ -1,25 +1,15 @@
-use Rattle.std.proofs.Common.{◌≡◌, true, false, ap, sym, ◌∙◌, string_bytes}
-use Rattle.terminal_core.specs.Rows.{visit_content}
-use Rattle.office_reports.specs.Tickets.{is_opened_by, entry_line}
-use Rattle.office_reports.proofs.Standings.{none_yet, next_row, all_rows}
+use Rattle.std.proofs.Common.{string_bytes}
+use Rattle.office_reports.specs.Tickets.{entry_line}
+use Rattle.office_reports.proofs.Standings.{all_rows, next_row, none_yet, shown}
 use Rattle.office_reports.proofs.tickets.push_entries.Goals as goal
-use Rattle.office_reports.proofs.tickets.push_entries.Goals.{then-eq+in_ok-push_entry, else-eq}
 
 pub loop-visit-init : goal.loop-visit-init
-loop-visit-init c = none_yet (is_opened_by c.args.source) entry_line visit_content (string_bytes c.args.text.now) c.args.visits.now
+loop-visit-init c = none_yet entry_line shown (string_bytes c.args.text.now) c.args.opened.now
 
 pub loop-visit-preserved : goal.loop-visit-preserved
 loop-visit-preserved c =
-    next_row (is_opened_by c.args.source) entry_line visit_content (string_bytes c.args.text.now) c.args.visits.now c.loop-visit.visit-index c.visit-item.result
-    (string_bytes c.loop-visit.text) (string_bytes c.if-eq.text) c.loop-visit-test.true c.visit-item.is c.loop-visit.invariant
-    (λ is. elim c.if-eq.branch [
-      | then-eq+in_ok-push_entry w ↦ ap string_bytes w.text-is ∙ w.in_ok-push_entry.ensures
-      | else-eq w ↦ (let bad : true ≡ false = sym is ∙ sym c.eq.ensures ∙ w.if-eq.false in cc)
-    ])
-    (λ other. elim c.if-eq.branch [
-      | then-eq+in_ok-push_entry w ↦ (let bad : true ≡ false = sym w.if-eq.true ∙ c.eq.ensures ∙ other in cc)
-      | else-eq w ↦ ap string_bytes w.text-is
-    ])
+    next_row entry_line shown (string_bytes c.args.text.now) c.args.opened.now c.loop-visit.visit-index c.visit-item.result
+    (string_bytes c.loop-visit.text) (string_bytes c.push_entry.new.text) c.loop-visit-test.true c.visit-item.is c.loop-visit.invariant c.in_ok-push_entry.ensures
 
 pub returns : goal.returns
-returns c = all_rows (is_opened_by c.args.source) entry_line visit_content (string_bytes c.args.text.now) c.args.visits.now c.loop-visit.visit-index (string_bytes c.loop-visit.text) c.loop-visit-test.false c.loop-visit.invariant
+returns c = all_rows entry_line shown (string_bytes c.args.text.now) c.args.opened.now c.loop-visit.visit-index (string_bytes c.loop-visit.text) c.loop-visit-test.false c.loop-visit.invariant

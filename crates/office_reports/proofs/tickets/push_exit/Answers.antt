@@ -1,5 +1,6 @@
 use Rattle.std.proofs.Common.{◌++◌, ◌∷◌, [], ap, sym, ◌∙◌, codes, string_bytes}
 use Rattle.std.proofs.lemmas.Result.{on_ok_weaker}
+use Rattle.std.specs.Option.{option_map}
 use Rattle.terminal_core.specs.Rows.{visit_content}
 use Rattle.office_reports.specs.Names.{line}
 use Rattle.office_reports.specs.Tickets.{exit_line}
@@ -12,5 +13,5 @@ returns c =
     let moment = c.as_str-3.ensures.value ∙ c.in_ok-moment.ensures in
     on_ok_weaker c.push_line.result
     (λ e. e ∙ (λ i. string_bytes c.args.text.now ++ line (codes "OUT" ∷ number i ∷ size i ∷ c.load_name.ensures i ∷ moment i ∷ []))
-    ∙ ap (λ left. string_bytes c.args.text.now ++ exit_line (visit_content c.args.visit.now) left) (sym c.in-Some.is ∙ c.left_by.ensures))
+    ∙ ap (λ left. string_bytes c.args.text.now ++ exit_line (visit_content c.args.visit.now) (option_map (λ departure. departure.moment) left)) (sym c.in-Some.is))
     c.push_line.ensures

@@ -1,17 +1,17 @@
-use Rattle.std.proofs.Common.{◌++◌, ◌∷◌, [], ap, ◌∙◌, string_bytes, codes, map}
-use Rattle.terminal_core.specs.Rows.{visit_content}
+use Rattle.std.proofs.Common.{Some, sym, ap, ◌∙◌}
+use Rattle.std.specs.Option.{option_map}
 use Rattle.office_admission.specs.Setups.{setup_content}
-use Rattle.office_reports.specs.Names.{line}
-use Rattle.office_reports.specs.Visits.{visit_lines}
-use Rattle.office_reports.proofs.Standings.{none_reported, some_reported}
+use Rattle.office_reports.specs.Visits.{rows_text, visits_content}
+use Rattle.office_reports.proofs.Standings.{visits_stay}
 use Rattle.office_reports.proofs.visits.visit_report.Goals as goal
 
-pub returns-then-not-has_visit : goal.returns-then-not-has_visit
-returns-then-not-has_visit c = none_reported (setup_content c.args.setup.now) c.args.terminal.now c.args.container c.visits-visits.result.now c.visits-visits.ensures.told c.if-not-has_visit.ensures
+pub returns-in_ok-visits_text-in-Some : goal.returns-in_ok-visits_text-in-Some
+returns-in_ok-visits_text-in-Some c =
+    ap Some c.in_ok-visits_text-in-Some.ensures
+    ∙ ap (option_map rows_text) (sym (ap (option_map visits_content) c.in-Some.is) ∙ c.in_ok-report.ensures)
+    ∙ visits_stay (setup_content c.args.setup.now) c.args.container c.args.terminal.now
 
-pub returns : goal.returns
-returns c =
-    let number = c.as_str.ensures.value ∙ c.in_ok-number.ensures in
-    some_reported (setup_content c.args.setup.now) c.args.terminal.now c.args.container c.visits-visits.result.now c.visits-visits.ensures.told (string_bytes c.push_visits.new.text) c.if-not-has_visit.ensures
-    (c.in_ok-push_visits.ensures ∙ ap (λ text. text ++ visit_lines (setup_content c.args.setup.now) c.args.container (map visit_content c.visits-visits.result.now))
-    (c.in_ok-push_line.ensures ∙ (λ i. c.new-text.ensures.bytes i ++ line (codes "VISITS" ∷ number i ∷ []))))
+pub returns-in-None : goal.returns-in-None
+returns-in-None c =
+    ap (option_map rows_text) (sym (ap (option_map visits_content) c.in-None.is) ∙ c.in_ok-report.ensures)
+    ∙ visits_stay (setup_content c.args.setup.now) c.args.container c.args.terminal.now
