@@ -1,7 +1,7 @@
 -- The set-up that files say is one that set-up files can give.
-use Rattle.std.proofs.Common.{◌≡◌, ℕ, Bool, true, false, ◌&&◌, ◌+◌, ◌-◌, ◌<◌, ◌≤◌, zero, suc, List, [], ◌∷◌, ◌++◌, length, take, drop, map, get_or, Option, Some, None, refl, sym, ap, ap₂, ◌∙◌, arith, All, ◌≢◌, not, ◌||◌, ◌==◌, cond, IsTrue, inl, inr, nat_le, codes}
+use Rattle.std.proofs.Common.{◌≡◌, ℕ, Bool, true, false, ◌&&◌, ◌+◌, ◌-◌, ◌<◌, ◌≤◌, zero, suc, List, [], ◌∷◌, ◌++◌, length, take, drop, map, get_or, Option, Some, None, refl, sym, ap, ap₂, ◌∙◌, arith, All, ◌≢◌, not, ◌||◌, ◌==◌, cond, IsTrue, inl, inr, nat_le, codes, string_bytes}
 use Rattle.std.specs.List.{filter_map, list_all, list_any, sum_by}
-use Rattle.std.proofs.lemmas.List.{take_more, take_all, map-append, take-map, drop-map}
+use Rattle.std.proofs.lemmas.List.{take_more, take_all, length-map, map-append, take-map, drop-map}
 use Rattle.std.proofs.lemmas.List.Elements.{filter_map-append, All-nil, All-cons, All-tail, All-append}
 use Rattle.std.proofs.lemmas.List.Folds.{list_all-map}
 use Rattle.std.proofs.lemmas.Option.{same_Some}
@@ -23,7 +23,9 @@ use Rattle.yard_core.specs.declared.plan.PlanFault.TheVariants.{Blocks, Letter, 
 use Rattle.yard_core.specs.Plan.{IsPlan, IsFaulty, AreApart, IsSized}
 use Rattle.office_admission.specs.Given.{IsGiven, AreDistinct, is_party_code}
 use Rattle.office_admission.specs.Kinds.{kind_named}
-use Rattle.office_admission.specs.Setups.{SetupContent}
+use Rattle.office_admission.specs.Limits.{most_partners}
+use Rattle.office_admission.specs.Setups.{SetupContent, setup_content}
+use Rattle.office_admission.specs.declared.setup.Setup.{Setup}
 use Rattle.office_explain.specs.Entries.{section, Record, NamedValue, entry_of}
 use Rattle.office_explain.specs.Said.{SaysSetup, are_apart, names_of, partner_said, terminal_said, limit_said, limit_in}
 use Rattle.office_explain.specs.PartnerFaults.{fault_after, fault_of_first, fault_of_partner}
@@ -317,3 +319,10 @@ fault_read g front (first ∷ back) texts n row partner others fault fronts back
     ap (λ (o : Option NamedValue). option_map_or (fault_of_partner (section (codes "partner") (map g front))) o None)
     (ap (λ r. entry_of (codes "partner") (g r)) (sym same) ∙ entry) in
     is ∙ ap (λ (o : List NamedValue). fault_of_partner o partner) before ∙ sym (ap₂ fault_of_first front_is back_is ∙ read)
+
+-- ---- a set-up that is given
+
+pub few_partners : (setup : Setup) → IsGiven (setup_content setup) → length setup.partners.items ≤ most_partners
+few_partners setup is =
+    let same = length-map {B = List ℕ × PartnerKind} setup.partners.items (λ account. (string_bytes account.code, account.kind)) in
+    omega (arith, is.counted.1, same)

@@ -15,10 +15,11 @@ use Rattle.edi_messages.specs.declared.message.MessageFault.TheVariants.{OtherTy
 use Rattle.edi_messages.proofs.SurveyLemmas.{purpose_there}
 use Rattle.office_explain.specs.Kinds.{is_of_order, may_send}
 use Rattle.std.proofs.lemmas.List.{take_all, length-drop, length-append, append-nil, drop_all}
-use Rattle.office_explain.specs.Blocks.{AreBlocks, HasOnlyBreaks, IsBlock, IsToldFirst}
+use Rattle.office_explain.specs.Blocks.{AreBlocks, HasOnlyBreaks, IsAllIfCut, IsApart, IsBlock, IsToldFirst}
 use Rattle.office_explain.specs.Told.{Explains}
 use Rattle.office_explain.specs.declared.explaining.Block.{Block}
 use Rattle.office_explain.specs.declared.explaining.Told.{Told}
+use Rattle.office_explain.specs.declared.explaining.Told.TheVariants.{Cut, Refused, Read}
 use Rattle.office_explain.specs.declared.partners.Partners.{Partners}
 use Rattle.office_explain.specs.InOrder.{InOrder}
 
@@ -144,6 +145,21 @@ pub told_at : (partners : Partners) (file : List ℕ) (before len end : ℕ) (to
     → Explains partners (slice_range file before end) told
 told_at partners file before len end told is first =
     subst (λ (text : List ℕ). Explains partners text told) (bytes_at file before len end is) first.2
+
+-- what is told apart goes as far as it may
+pub not_cut : (told : Told) (end all : ℕ) → IsApart told → IsAllIfCut told end all
+not_cut (Cut finding) end all is = absurd is
+not_cut (Refused finding) end all is = tt
+not_cut (Read reading) end all is = tt
+
+-- what can't be told apart there goes to the end of the file
+pub all_at : (file : List ℕ) (before len end : ℕ) (told : Told) → before ≤ length file → end ≡ before + len
+    → IsAllIfCut told len (length (take (length file - before) (drop before file))) → IsAllIfCut told end (length file)
+all_at file before len end (Cut finding) within is all =
+    let rest : len ≡ length (drop before file) = all ∙ ap length (rest_is file before) in
+    omega (arith, rest, length-drop before file, within, is)
+all_at file before len end (Refused finding) within is all = tt
+all_at file before len end (Read reading) within is all = tt
 
 -- ---- block after block
 

@@ -1,12 +1,25 @@
 -- What is told of a file: of each of its interchanges, one after the other.
-use Rattle.std.specs.Prelude.{◌≡◌, ◌<◌, ◌≤◌, ℕ, ◌+◌, Bool, List, [], ◌∷◌, length, take, drop, slice_range}
+use Rattle.std.specs.Prelude.{◌≡◌, ◌<◌, ◌≤◌, ℕ, ◌+◌, Bool, List, [], ◌∷◌, length, take, drop, slice_range, codes, string_bytes}
 use Rattle.std.specs.List.{list_all}
 use Rattle.edi_syntax.specs.Reading.{breaks_len}
 use Rattle.office_explain.specs.Told.{Explains, is_faultless}
 use Rattle.office_explain.specs.declared.explaining.Block.{Block}
 use Rattle.office_explain.specs.declared.explaining.Told.{Told}
+use Rattle.office_explain.specs.declared.explaining.Told.TheVariants.{Cut, Refused, Read}
 use Rattle.office_explain.specs.declared.explanation.Explanation.{Explanation}
 use Rattle.office_explain.specs.declared.partners.Partners.{Partners}
+
+-- what can't be told apart is all that is left
+abbrev pub IsAllIfCut : Told → (end all : ℕ) → Type 0
+IsAllIfCut (Cut finding) end all = end ≡ all
+IsAllIfCut (Refused finding) end all = Unit {0}
+IsAllIfCut (Read reading) end all = Unit {0}
+
+-- it can be told apart
+abbrev pub IsApart : Told → Type 0
+IsApart (Cut finding) = ⊥
+IsApart (Refused finding) = Unit {0}
+IsApart (Read reading) = Unit {0}
 
 -- The block has that number, and is of what stands in the file from a byte on, after CR and LF: of the bytes up to the
 -- end of an interchange, or of all that is left if none can be told apart. What is told of them is what explains them.
@@ -17,10 +30,12 @@ pub record IsBlock (partners : Partners) (file : List ℕ) (from number : ℕ) (
   pub within : block.end ≤ length file
   pub bytes : block.text.now ≡ slice_range file block.before block.end
   pub told : Explains partners block.text.now block.told
+  pub all : IsAllIfCut block.told block.end (length file)
 
--- So many bytes at the front of a text are some, and what is told explains them.
+-- So many bytes at the front of a text are some, and what is told explains them; all of them if they can't be told apart.
 abbrev pub IsToldFirst : Partners → List ℕ → ℕ → Told → Type 0
-IsToldFirst partners text len told = (0 < len) × (len ≤ length text) × Explains partners (take len text) told
+IsToldFirst partners text len told =
+    (0 < len) × (len ≤ length text) × Explains partners (take len text) told × IsAllIfCut told len (length text)
 
 -- Nothing stands in the file from a byte on but CR and LF.
 abbrev pub HasOnlyBreaks : List ℕ → ℕ → Type 0
@@ -36,7 +51,19 @@ AreBlocks partners file from number (block ∷ blocks) =
 abbrev pub are_faultless : List Block → Bool
 are_faultless blocks = list_all (λ (block : Block). is_faultless block.told) blocks
 
--- It is made of the blocks of the file, and says that no fault was found exactly if none is told in one of them.
+-- what is printed of a file that has no interchange
+abbrev pub none_said : List ℕ → List ℕ
+none_said [] = codes "no interchange: the file is empty\n"
+none_said (byte ∷ file) = codes "no interchange: only CR and LF stand in the file\n"
+
+-- where a file has no blocks, the text is what is printed of such a file
+abbrev pub SaysIfNone : List ℕ → List Block → List ℕ → Type 0
+SaysIfNone file [] text = text ≡ none_said file
+SaysIfNone file (block ∷ blocks) text = Unit {0}
+
+-- It is made of the blocks of the file, and says that no fault was found exactly if none is told in one of them. Its text says
+-- if there are none.
 abbrev pub IsExplanation : Partners → List ℕ → Explanation → Type 0
 IsExplanation partners file explanation =
     (blocks : List Block) × AreBlocks partners file 0 1 blocks × (explanation.is_faultless ≡ are_faultless blocks)
+    × SaysIfNone file blocks (string_bytes explanation.text)

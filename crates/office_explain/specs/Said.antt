@@ -163,6 +163,13 @@ abbrev pub RefuseFiles : Text → Text → SetupFault → Type 0
 RefuseFiles partners blocks Memory = Unit {0}
 RefuseFiles partners blocks fault = (p b : List Record) × AreRows partners p × AreRows blocks b × IsLowest p b fault
 
+-- the file of blocks that goes with a file of partners, and the file of partners where none is given
+abbrev pub one_block : Text
+one_block = codes "block,bays,rows,tiers\nA,1,1,1\n"
+
+abbrev pub no_partners : Text
+no_partners = codes "what,name,value\nterminal,TERM1,\npartner,HAULA,gate\n"
+
 -- as the program prints it
 abbrev pub fault_name : SetupFault → Text
 fault_name Csv = codes "Csv"

@@ -17,10 +17,10 @@ pub(crate) fn known_beginning(text: &[u8]) -> Option<&'static str> {
 
 /// The mark of UTF-16 in either order, or `U` in two bytes.
 fn is_in_two_bytes(text: &[u8]) -> bool {
-    text.starts_with(b"\xff\xfe")
-        || text.starts_with(b"\xfe\xff")
-        || text.starts_with(b"U\x00")
-        || text.starts_with(b"\x00U")
+    match text {
+        [0xff, 0xfe, ..] | [0xfe, 0xff, ..] | [b'U', 0, ..] | [0, b'U', ..] => true,
+        _ => false,
+    }
 }
 
 /// A field of a mail's head: a name of letters, digits and hyphens, a colon and a space (RFC 5322, section 2.2).

@@ -2,7 +2,7 @@
 ghost use Rattle.std.specs.Prelude.{◌≡◌, ◌≤◌, IfOk, IfErr, ◌+◌, ◌<◌, IfSome, IfNone, drop, length};
 ghost use Rattle.edi_syntax.specs.Cuts.{IsInterchange};
 ghost use Rattle.edi_syntax.specs.Reading.{breaks_len};
-ghost use Rattle.office_explain.specs.Blocks.{HasOnlyBreaks, IsBlock, IsToldFirst};
+ghost use Rattle.office_explain.specs.Blocks.{HasOnlyBreaks, IsApart, IsBlock, IsToldFirst};
 ghost use Rattle.office_explain.specs.Told.{BeginsWithInterchange, IsCutFor, Explains};
 
 use crate::finding::Finding;
@@ -56,7 +56,7 @@ impl Block<'_> {
 
 /// Explains the first interchange of a file that begins at a byte, from 0, or after it. `None`: nothing stands there but CR
 /// and LF. An error is that memory was refused.
-#[tactic(auto, using(crate::proofs::SendingLemmas::told_at))]
+#[tactic(auto, using(crate::proofs::SendingLemmas::told_at, crate::proofs::SendingLemmas::all_at))]
 pub(crate) fn explain_from<'a>(
     alloc: Global,
     partners: &Partners,
@@ -100,6 +100,7 @@ fn first_from(file: &[u8], from: usize) -> usize
 
 /// What is told of the front of a text, and of how many of its bytes: of an interchange, or of all if none can be told
 /// apart.
+#[tactic(auto, using(crate::proofs::SendingLemmas::not_cut))]
 fn told_first(alloc: Global, partners: &Partners, text: &[u8]) -> Result<(usize, Told), AllocError>
     requires begins { breaks_len text.now ≡ 0 }
     requires some { 0 < length text.now }
@@ -132,7 +133,8 @@ fn first_len(alloc: Global, text: &[u8]) -> Result<Result<usize, Option<CutFault
 /// What is reported of an interchange of that text.
 fn told_of(alloc: Global, partners: &Partners, text: &[u8]) -> Result<Told, AllocError>
     requires { IsInterchange text.now }
-    ensures { IfOk result (Explains partners.now text.now) }
+    ensures explains { IfOk result (Explains partners.now text.now) }
+    ensures apart { IfOk result IsApart }
 {
     let placed = placed_segments(alloc, text)?;
     match partners.open(text) {

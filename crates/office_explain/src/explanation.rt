@@ -1,6 +1,6 @@
 //! What is printed of a whole file.
-ghost use Rattle.std.specs.Prelude.{◌≡◌, IfOk};
-ghost use Rattle.office_explain.specs.Blocks.{AreBlocks, IsExplanation, are_faultless};
+ghost use Rattle.std.specs.Prelude.{◌≡◌, IfOk, string_bytes};
+ghost use Rattle.office_explain.specs.Blocks.{AreBlocks, IsExplanation, SaysIfNone, are_faultless, none_said};
 
 use crate::explaining::{Block, Told, explain_from};
 use crate::partners::Partners;
@@ -53,15 +53,21 @@ fn blocks_of<'a>(
     }
 }
 
+/// What is printed of a file with these blocks.
+fn text_of(alloc: Global, file: &[u8], blocks: &[Block<'_>]) -> Result<String, AllocError>
+    ensures { IfOk result (λ text. SaysIfNone file.now blocks.now (string_bytes text)) }
+{
+    if blocks.is_empty() {
+        return String::from_str(alloc, none_in(file));
+    }
+    block_lines(alloc, blocks)
+}
+
 /// The lines of the blocks, one after the other, and how many interchanges of the file fare how.
-fn text_of(alloc: Global, file: &[u8], blocks: &[Block<'_>]) -> Result<String, AllocError> {
+fn block_lines(alloc: Global, blocks: &[Block<'_>]) -> Result<String, AllocError> {
     let mut text = String::new(alloc);
     for block in blocks {
         write!(text, "{block}")?;
-    }
-    if blocks.is_empty() {
-        text.push_str(none_in(file))?;
-        return Ok(text);
     }
     let tally = Tally::of(blocks);
     write!(text, "{tally}")?;
@@ -72,7 +78,9 @@ fn text_of(alloc: Global, file: &[u8], blocks: &[Block<'_>]) -> Result<String, A
 }
 
 /// What is told of a file that has no interchange.
-fn none_in(file: &[u8]) -> &'static str {
+fn none_in(file: &[u8]) -> &'static str
+    ensures { result.now ≡ none_said file.now }
+{
     if file.is_empty() {
         "no interchange: the file is empty\n"
     } else {

@@ -1,14 +1,17 @@
-ghost use Rattle.std.specs.Prelude.{◌≡◌, ◌≤◌, IfOk, true, false, length, string_bytes};
+ghost use Rattle.std.specs.Prelude.{◌≡◌, ◌≤◌, IfErr, IfOk, true, false, length, string_bytes};
 ghost use Rattle.edi_syntax.specs.Envelope.{messages_of};
 ghost use Rattle.edi_syntax.specs.Envelopes.{envelope_segments};
 ghost use Rattle.edi_syntax.specs.Frames.{message};
 ghost use Rattle.office_explain.specs.Kinds.{is_of_order, kind_for, kind_wanted, may_send};
+ghost use Rattle.office_explain.specs.Said.{RefuseFiles, SayFiles, no_partners, one_block};
+ghost use Rattle.office_admission.specs.Given.{IsGiven};
 ghost use Rattle.office_admission.specs.Limits.{most_partners};
+ghost use Rattle.office_admission.specs.Setups.{setup_content};
 
 use crate::{SetupFault, read_setup};
 use edi_messages::{CodeTable, Codes, MessageFault, PartnerKind, read_message};
 use edi_syntax::{Envelope, Frame, Moment};
-use office_admission::{MOST_PARTNERS, Setup};
+use office_admission::Setup;
 use std::alloc::Global;
 
 /// A file of blocks, since a set-up has to have one: no fault of a text depends on it.
@@ -29,17 +32,21 @@ impl Partners {
     /// The terminal, its partners and its codes, as a set-up file says.
     pub fn read(alloc: Global, file: &[u8]) -> Result<Partners, SetupFault>
         ensures known { IfOk result (λ partners. partners.are_known ≡ true) }
+        ensures said { IfOk result (λ partners. SayFiles file.now one_block (setup_content partners.setup)) }
+        ensures err { IfErr result (RefuseFiles file.now one_block) }
     {
         let setup = read_setup(alloc, file, ONE_BLOCK.as_bytes())?;
-        partners_of(setup, true)
+        Ok(partners_of(setup, true))
     }
 
     /// The default codes, and no partners: each sender has an account, and each recipient is the terminal.
     pub fn unknown(alloc: Global) -> Result<Partners, SetupFault>
         ensures unknown { IfOk result (λ partners. partners.are_known ≡ false) }
+        ensures said { IfOk result (λ partners. SayFiles no_partners one_block (setup_content partners.setup)) }
+        ensures err { IfErr result (RefuseFiles no_partners one_block) }
     {
         let setup = read_setup(alloc, NO_PARTNERS.as_bytes(), ONE_BLOCK.as_bytes())?;
-        partners_of(setup, false)
+        Ok(partners_of(setup, false))
     }
 
     /// The terminal's codes.
@@ -57,14 +64,14 @@ impl Partners {
     }
 }
 
-/// What a set-up says of partners, if they are as few as a set-up file may name.
-fn partners_of(setup: Setup, are_known: bool) -> Result<Partners, SetupFault>
-    ensures { IfOk result (λ partners. partners.are_known ≡ are_known) }
+/// What a set-up says of partners.
+#[tactic(auto, using(crate::proofs::Givens::few_partners))]
+fn partners_of(setup: Setup, are_known: bool) -> Partners
+    requires { IsGiven (setup_content setup) }
+    ensures known { result.are_known ≡ are_known }
+    ensures setup { result.setup ≡ setup }
 {
-    if setup.partners.as_slice().len() > MOST_PARTNERS {
-        return Err(SetupFault::Partner);
-    }
-    Ok(Partners { setup, are_known })
+    Partners { setup, are_known }
 }
 
 /// The kinds of accounts.

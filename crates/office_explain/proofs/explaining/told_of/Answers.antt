@@ -6,8 +6,8 @@ use Rattle.office_explain.specs.Messages.{IsReadOf}
 use Rattle.office_explain.specs.declared.finding.Subject.TheVariants.{Interchange}
 use Rattle.office_explain.proofs.explaining.told_of.Goals as goal
 
-pub returns-in-Err : goal.returns-in-Err
-returns-in-Err c = (
+pub returns-in-Err-clause-explains : goal.returns-in-Err-clause-explains
+returns-in-Err-clause-explains c = (
   c.in-Err.refused.fault,
   c.requires,
   c.in-Err.ensures.err,
@@ -15,8 +15,8 @@ returns-in-Err c = (
       c.in-Err.ensures.contrl c.refusal.ensures,
 )
 
-pub returns : goal.returns
-returns c = (
+pub returns-clause-explains : goal.returns-clause-explains
+returns-clause-explains c = (
   c.requires,
   c.in-Ok.ensures.ok,
   subst (λ (known : Option PartnerKind). IsReadOf c.args.partners.now c.args.text.now known c.in_ok-reading_of-in-Ok.field-0)
