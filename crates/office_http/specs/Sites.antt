@@ -1,6 +1,6 @@
 -- Whose requests a server takes: those that name this machine, or the one name that it is served under; and of what is posted
 -- only what no other site sends (RFC 9110, section 7.2; RFC 6454, section 7; Fetch Metadata, section 2.1; our own).
-use Rattle.std.specs.Prelude.{◌≡◌, ℕ, Bool, true, false, ◌==◌, ◌&&◌, ◌||◌, nat_eq, nat_le, List, [], ◌∷◌, ◌++◌, length, drop, map, codes, Option, None, Some, is_some, Result, Err, if◌then◌else◌}
+use Rattle.std.specs.Prelude.{◌≡◌, ◌⊎◌, ℕ, Bool, true, false, ◌==◌, ◌&&◌, ◌||◌, nat_eq, nat_le, List, [], ◌∷◌, ◌++◌, length, drop, map, codes, Option, None, Some, is_some, Result, Err, if◌then◌else◌}
 use Rattle.std.specs.List.{after_first, before_first, starts_with}
 use Rattle.std.specs.Option.{option_map_or}
 use Rattle.std.specs.Str.{bytes_eq, str_eq_ignore_ascii_case}
