@@ -2,6 +2,8 @@ mod ClearLemmas
 mod NumberLemmas
 mod FileLemmas
 mod PlanLemmas
+mod ArrivingLemmas
+mod ArrivalQuery
 mod JudgeLemmas
 mod ClosesLemmas
 mod StandLemmas

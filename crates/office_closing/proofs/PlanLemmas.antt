@@ -19,7 +19,7 @@ use Rattle.office_parts.specs.Parts.{Archived}
 use Rattle.office_parts.proofs.LeftOver.{may_go}
 use Rattle.office_parts.proofs.Opening.{own_beyond}
 use Rattle.office_closing.specs.declared.comparing.Numbers.{Numbers}
-use Rattle.office_closing.specs.Comparing.{IsComparedAs}
+use Rattle.office_closing.specs.Comparing.{IsComparedAs, IsOfFile}
 use Rattle.office_closing.specs.Deleting.{all_but, without_visits, goes, is_of, is_among}
 use Rattle.office_closing.specs.Laws.{Raises, ComparedIsHeld, ClearingLeavesTheRest, ClearedIsCarried}
 use Rattle.office_closing.specs.Visits.{AreToGo, GoesBelow}
@@ -31,7 +31,7 @@ use Rattle.office_closing.specs.declared.faults.CloseFault.{CloseFault}
 use Rattle.office_closing.specs.declared.faults.Refusal.{Refusal}
 use Rattle.office_closing.specs.Files.{Files}
 use Rattle.office_closing.specs.Planning.{IsRefused}
-use Rattle.office_closing.specs.Refusing.{HasReason, HasUnread, IsOfComparing, IsOfOpening, IsOfThis, IsOtherwise, IsUnopened, IsWhy}
+use Rattle.office_closing.specs.Refusing.{HasReason, HasUnfit, HasUnread, IsOfComparing, IsOfOpening, IsOfOrdering, IsOfThis, IsOtherwise, IsUnopened, IsWhy}
 use Rattle.office_closing.specs.Steps.{IsOfWriting, StepsIf}
 use Rattle.sqlite.specs.State.{State, HasCleanDisk, Survives}
 use Rattle.sqlite.proofs.StateLemmas.{survives_weaker}
@@ -323,6 +323,12 @@ this_more at Is Or more (fault.File of) is = (is.0, more of.fault is.1)
 this_more at Is Or more (fault.Comparing of) is = absurd is
 this_more at Is Or more fault.Memory is = tt
 
+of_store_if : (P : Type 0) (why : TableFault) → IsOfStoreOr ⊥ why → IsOfStoreOr P why
+of_store_if P (Store e) is = tt
+of_store_if P Memory is = tt
+of_store_if P Damaged is = absurd is
+of_store_if P Version is = is
+
 module _ (held : Held) (names : FileNames) (files : Files) where
   abbrev own : Rows
   own = held.own
@@ -359,12 +365,13 @@ module _ (held : Held) (names : FileNames) (files : Files) where
   written_tells (fault.Comparing of) is = absurd is
   written_tells fault.Memory is = absurd is
 
-  why_by : (why : Refusal) → HasReason names files why → IsWhy own copy names files why
+  why_by : (why : Refusal) → HasReason names files why → IsWhy held.register own copy names files why
   why_by (refusal.Interchange difference) has = absurd has.is_reason
   why_by refusal.Closed has = has
   why_by refusal.Office has = has
   why_by refusal.Later has = has
   why_by refusal.Register has = has
+  why_by refusal.Order has = absurd has.is_reason
   why_by (refusal.Visit number) has = has
 
   pub plan_tells : (here there : OfficeContent) → IsOpened files.store.now files.register.now here → IsOpened files.archive.now files.archive_register.now there → (why : CloseFault) → IsRefused here there names why → Tells held names files why
@@ -373,12 +380,13 @@ module _ (held : Held) (names : FileNames) (files : Files) where
   plan_tells here there a b (fault.Comparing of) is = absurd is
   plan_tells here there a b fault.Memory is = tt
 
-  otherwise_told : (why : Refusal) → IsOtherwise own copy why → IsWhy own copy names files why
+  otherwise_told : (why : Refusal) → IsOtherwise own copy why → IsWhy held.register own copy names files why
   otherwise_told (refusal.Interchange difference) is = is
   otherwise_told refusal.Closed is = absurd is
   otherwise_told refusal.Office is = absurd is
   otherwise_told refusal.Later is = absurd is
   otherwise_told refusal.Register is = absurd is
+  otherwise_told refusal.Order is = absurd is
   otherwise_told (refusal.Visit number) is = absurd is
 
   pub compared_tells : (why : CloseFault) → IsOfComparing own copy why → Tells held names files why
@@ -386,6 +394,24 @@ module _ (held : Held) (names : FileNames) (files : Files) where
   compared_tells (fault.File of) is = absurd is
   compared_tells (fault.Comparing of) is = is
   compared_tells fault.Memory is = absurd is
+
+  pub ordering_tells : (why : CloseFault) → IsOfOrdering (last_closed held.register.segments) own copy files.store.now files.archive.now why → Tells held names files why
+  ordering_tells (fault.Archive refusal.Order) is = is
+  ordering_tells (fault.Archive (refusal.Interchange difference)) is = absurd is
+  ordering_tells (fault.Archive refusal.Closed) is = absurd is
+  ordering_tells (fault.Archive refusal.Office) is = absurd is
+  ordering_tells (fault.Archive refusal.Later) is = absurd is
+  ordering_tells (fault.Archive refusal.Register) is = absurd is
+  ordering_tells (fault.Archive (refusal.Visit number)) is = absurd is
+  ordering_tells (fault.File of) is = absurd is
+  ordering_tells (fault.Comparing of) is = no_more of.file of.fault is
+    where
+      no_more : (at : File) (why : TableFault) → IsOfFile ⊥ ⊥ at why → IsOfFile (HasUnfit own) (HasUnfit copy) at why
+      no_more file.Store why is = of_store_if (HasUnfit own) why is
+      no_more file.Archive why is = of_store_if (HasUnfit copy) why is
+      no_more file.Register why is = is
+      no_more file.ArchiveRegister why is = is
+  ordering_tells fault.Memory is = tt
 
 -- ==== CopyLemmas: Lists that are compared from their front.
 

@@ -175,11 +175,12 @@ pub record ComesToNone (own copy : OfficeContent) (names : FileNames) : Type 0 w
   pub none : (come : Stage) →
       ¬ ComesOn own copy names (lists_at own (archive_in names.archive copy).place done come) come
 
--- why the archive does not take the store's history; a number that it keeps otherwise is found in rows
+-- why the archive does not take the store's history; a number that it keeps otherwise, or in another order, is found in rows
 abbrev pub IsReason : OfficeContent → OfficeContent → FileNames → Refusal → Type 0
 IsReason own copy names refusal.Closed = own.register.closed_for ≢ None
 IsReason own copy names refusal.Office = ¬ IsSameOffice own copy
 IsReason own copy names refusal.Later = ¬ IsNoLater own copy
 IsReason own copy names refusal.Register = ComesToNone own copy names
 IsReason own copy names (refusal.Visit number) = IsCauseOf own.terminal.visits copy.terminal.visits (Differs number)
+IsReason own copy names refusal.Order = ⊥
 IsReason own copy names (refusal.Interchange difference) = ⊥

@@ -4,6 +4,7 @@ pub mod Visits
 pub mod Clearing
 pub mod Files
 pub mod Copies
+pub mod Arriving
 pub mod Planning
 pub mod Refusing
 pub mod Closes
