@@ -7,8 +7,8 @@ use Rattle.sqlite_value.specs.Order.{Row, column}
 use Rattle.sqlite_trees.specs.declared.store.Store.{Ghosts}
 use Rattle.sqlite.specs.declared.error.Error.{Error}
 use Rattle.sqlite.specs.Held.{Held, state}
-use Rattle.sqlite.specs.Given.{HasGiven, Advances}
-use Rattle.sqlite.specs.State.{State, HasCleanDisk, IsUnchanged, Fails, KeepsCommit, ShowsRows, Survives, Shown}
+use Rattle.sqlite.specs.Given.{HasBegun, HasGiven, Advances}
+use Rattle.sqlite.specs.State.{State, HasCleanDisk, IsUnchanged, Fails, KeepsCommit, ShowsRows, Survives, Shown, CommitsShowing}
 use Rattle.sqlite.proofs.Callers.{unchanged_then}
 use Rattle.sqlite.specs.declared.rows.stream.Rows.{Rows}
 use Rattle.office_closing.specs.Arriving.{AreApart, AreCompared, AreFirstGiven, ComesTo, GoesBeyond, IsReadOn, arrival_in, arrivals_in, shows_beyond, stops_at}
@@ -16,6 +16,8 @@ use Rattle.sqlite.specs.Clock.{timed}
 use Rattle.sqlite.specs.Effect.{Database}
 use Rattle.sqlite.specs.Listing.{understood, reads_listing, IsSourceOf}
 use Rattle.office_rows.proofs.Creating.{keep_then, on_ok, quiet_then, stops_keep}
+use Rattle.office_loading.proofs.StreamLemmas.{begun_shows}
+use Rattle.office_tables.proofs.MadeLemmas.{query_survives}
 use Rattle.office_tables.specs.Reading.{OnlyShows}
 use Rattle.office_tables.specs.Faults.{IsOfStore, IsOfStoreOr}
 use Rattle.office_tables.specs.declared.table_fault.TableFault.{TableFault}
@@ -25,7 +27,7 @@ use Rattle.office_closing.specs.Files.{IsRead}
 -- ---- what a connection is left as
 
 module _ {S : Type 0} (g : Ghosts S) where
-  read_any : {T U E F : Type 0} (old new : State) (x : U) (result : Result T E) → IsRead {E = F} old new (Ok x) → IsRead old new result
+  pub read_any : {T U E F : Type 0} (old new : State) (x : U) (result : Result T E) → IsRead {E = F} old new (Ok x) → IsRead old new result
   read_any old new x (Ok y) read = record { unchanged = read.unchanged; keeps = read.keeps; mode = read.mode; survives = read.survives }
   read_any old new x (Err e) read = record { unchanged = λ clean. tt; keeps = read.keeps; mode = read.mode; survives = read.survives }
 
@@ -77,6 +79,31 @@ module _ {S : Type 0} (g : Ghosts S) where
       ]
     ];
   }
+
+  -- what a query leaves that only shows rows
+  pub begun_is : (sql : List ℕ) (old new : Held S) → OnlyShows sql → (HasCleanDisk (state g new) → HasBegun g sql [] old new) → HasCleanDisk (state g new) → HasGiven g sql [] new [] × IsUnchanged (state g old) (state g new)
+  begun_is sql old new shows begun clean = begun_shows g sql [] old new shows (begun clean)
+
+  pub begun_read : (sql : List ℕ) (old new : Held S) → OnlyShows sql → (HasCleanDisk (state g new) → HasBegun g sql [] old new) → (old.in_transaction ≡ false → new.in_transaction ≡ false) → Survives (state g old) (state g new) (CommitsShowing sql [] (state g old)) → IsRead {T = Unit {0}} {E = Error} (state g old) (state g new) (Ok tt)
+  begun_read sql old new shows begun mode survives = record {
+    unchanged = λ clean. (begun_is sql old new shows begun clean).1;
+    keeps = λ clean. stops_keep _ _ (inl (begun_is sql old new shows begun clean).1);
+    mode = mode;
+    survives = query_survives sql [] (state g old) (state g new) shows survives;
+  }
+
+  -- and what is left of it when it was read on
+  pub read_since : {T U E F : Type 0} (old : State) (now new : Rows S g) (x : U) (result : Result T E) → IsRead {E = F} old (state g now.conn.now) (Ok x) → IsReadOn g now new result → IsRead old (state g new.conn.now) result
+  read_since old now new x result read on = elim on.read [
+    | inl none ↦ subst (λ (h : Held S). IsRead old (state g h) result) (sym none) (read_any old (state g now.conn.now) x result read)
+    | inr more ↦ read_then old (state g now.conn.now) (state g new.conn.now) x result read more
+  ]
+
+  pub on_same : {T E : Type 0} (old new : Rows S g) (x : T) → IsReadOn {E = E} g old new (Ok x) → HasCleanDisk (state g new.conn.now) → (state g new.conn.now).now ≡ (state g old.conn.now).now
+  on_same old new x on clean = elim on.read [
+    | inl none ↦ ap (λ (h : Held S). (state g h).now) none
+    | inr read ↦ (read.unchanged clean).0.now_is
+  ]
 
   module _ (now new : Rows S g) (same_reference : new.conn.ghost_name ≡ now.conn.ghost_name) (mode : (state g now.conn.now).in_transaction ≡ false → (state g new.conn.now).in_transaction ≡ false) (survives : Survives (state g now.conn.now) (state g new.conn.now) (λ _. ⊥)) where
     -- one row more was read

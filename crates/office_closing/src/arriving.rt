@@ -1,5 +1,5 @@
 //! Whether the texts of an archive are the first of the store's, in the order in which they arrived.
-ghost use Rattle.std.specs.Prelude.{◌≡◌, ◌↔◌, ⊥, IfErr, IfOk, OnOk, option_copied, true};
+ghost use Rattle.std.specs.Prelude.{◌≡◌, ◌↔◌, IfErr, IfOk, OnOk, option_copied, true};
 ghost use Rattle.office_closing.specs.Arriving.{AreCompared, GoesBeyond, HasFirst, IsReadOn, StandInOrder, arrival_in, shows_beyond, stops_at};
 ghost use Rattle.office_closing.specs.Comparing.{IsOfEither};
 ghost use Rattle.office_closing.specs.Files.{IsRead};
