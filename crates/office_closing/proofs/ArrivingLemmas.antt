@@ -11,7 +11,9 @@ use Rattle.sqlite.specs.Given.{HasBegun, HasGiven, Advances}
 use Rattle.sqlite.specs.State.{State, HasCleanDisk, IsUnchanged, Fails, KeepsCommit, ShowsRows, Survives, Shown, CommitsShowing}
 use Rattle.sqlite.proofs.Callers.{unchanged_then}
 use Rattle.sqlite.specs.declared.rows.stream.Rows.{Rows}
-use Rattle.office_closing.specs.Arriving.{AreApart, AreCompared, AreFirstGiven, ComesTo, GoesBeyond, IsReadOn, arrival_in, arrivals_in, shows_beyond, stops_at}
+use Rattle.office_closing.specs.Arriving.{AreCompared, ComesTo, GoesBeyond, IsReadOn, TellsRows, arrival_in, arrivals_in, shows_beyond, stops_at}
+use Rattle.office_closing.specs.declared.arriving.Likeness.{Likeness}
+use Rattle.office_closing.specs.declared.arriving.Likeness.TheVariants as likeness
 use Rattle.sqlite.specs.Clock.{timed}
 use Rattle.sqlite.specs.Effect.{Database}
 use Rattle.sqlite.specs.Listing.{understood, reads_listing, IsSourceOf}
@@ -211,31 +213,54 @@ module _ {S A : Type 0} (g : Ghosts S) (h : Ghosts A) (last_closed : ℕ → ℕ
       (own_on : IsReadOn {T = Unit {0}} {E = Error} g own own1 (Ok tt)) (own_clean : HasCleanDisk (state g own1.conn.now))
       (copy_on : IsReadOn {T = Unit {0}} {E = Error} h copy copy1 (Ok tt)) (copy_clean : HasCleanDisk (state h copy1.conn.now))
       (same : HaveShownSame own.conn.now own1.conn.now copy.conn.now copy1.conn.now) where
-    pub copy_ended : GoesBeyond h last_closed copy1.conn.now copy2.conn.now None → AreCompared g h last_closed own.conn.now own1.conn.now copy.conn.now copy2.conn.now true
-    copy_ended goes sql shows has has' =
+    both_ended : GoesBeyond g last_closed own1.conn.now own2.conn.now None → GoesBeyond h last_closed copy1.conn.now copy2.conn.now None → AreCompared g h last_closed own.conn.now own2.conn.now copy.conn.now copy2.conn.now likeness.Same
+    both_ended kept copied sql shows has has' =
         let s = same sql shows has has' in
-        let e = goes sql s.1 shows s.3 in
-        record { given = s.0; has = s.2; all = e.0; shown = shown_since h last_closed copy copy1 copy2.conn.now copy_on copy_clean sql e.0 shows e.1; same = e.2 ∙ s.4 }
+        let o = kept sql s.0 shows s.2 in
+        let c = copied sql s.1 shows s.3 in
+        record { all = o.0; shown = shown_since g last_closed own own1 own2.conn.now own_on own_clean sql o.0 shows o.1; copied = c.0; copied_shown = shown_since h last_closed copy copy1 copy2.conn.now copy_on copy_clean sql c.0 shows c.1; same = c.2 ∙ s.4 ∙ sym o.2 }
 
-    module _ (row : Row) (copied : GoesBeyond h last_closed copy1.conn.now copy2.conn.now (Some row)) where
-      pub own_ended : GoesBeyond g last_closed own1.conn.now own2.conn.now None → AreCompared g h last_closed own.conn.now own2.conn.now copy.conn.now copy2.conn.now false
-      own_ended goes sql shows has has' =
-          let s = same sql shows has has' in
-          let c = copied sql s.1 shows s.3 in
-          let o = goes sql s.0 shows s.2 in
-          record { before = arrivals_in last_closed s.1; one = arrival_in row; given = c.0; has = c.1; shows = c.2; another = inl (o.0, shown_since g last_closed own own1 own2.conn.now own_on own_clean sql o.0 shows o.1, o.2 ∙ sym s.4) }
+    copy_ended : (row : Row) → GoesBeyond g last_closed own1.conn.now own2.conn.now (Some row) → GoesBeyond h last_closed copy1.conn.now copy2.conn.now None → AreCompared g h last_closed own.conn.now own2.conn.now copy.conn.now copy2.conn.now likeness.First
+    copy_ended row kept copied sql shows has has' =
+        let s = same sql shows has has' in
+        let o = kept sql s.0 shows s.2 in
+        let c = copied sql s.1 shows s.3 in
+        record { copied = c.0; copied_shown = shown_since h last_closed copy copy1 copy2.conn.now copy_on copy_clean sql c.0 shows c.1; given = o.0; has = o.1; one = arrival_in row; shows = o.2 ∙ ap (λ l. l ++ arrival_in row ∷ []) (sym s.4 ∙ sym c.2) }
 
-      module _ (other : Row) (kept : GoesBeyond g last_closed own1.conn.now own2.conn.now (Some other)) where
-        pub own_differs : ¬ (arrival_in other ≡ arrival_in row) → AreCompared g h last_closed own.conn.now own2.conn.now copy.conn.now copy2.conn.now false
-        own_differs differs sql shows has has' =
-            let s = same sql shows has has' in
-            let c = copied sql s.1 shows s.3 in
-            let o = kept sql s.0 shows s.2 in
-            record { before = arrivals_in last_closed s.1; one = arrival_in row; given = c.0; has = c.1; shows = c.2; another = inr (o.0, arrival_in other, o.1, o.2 ∙ ap (λ l. l ++ arrival_in other ∷ []) (sym s.4), differs) }
+    own_ended : (row : Row) → GoesBeyond g last_closed own1.conn.now own2.conn.now None → GoesBeyond h last_closed copy1.conn.now copy2.conn.now (Some row) → AreCompared g h last_closed own.conn.now own2.conn.now copy.conn.now copy2.conn.now likeness.Other
+    own_ended row kept copied sql shows has has' =
+        let s = same sql shows has has' in
+        let o = kept sql s.0 shows s.2 in
+        let c = copied sql s.1 shows s.3 in
+        record { before = arrivals_in last_closed s.1; one = arrival_in row; given = c.0; has = c.1; shows = c.2; another = inl (o.0, shown_since g last_closed own own1 own2.conn.now own_on own_clean sql o.0 shows o.1, o.2 ∙ sym s.4) }
 
-        pub own_same : arrival_in other ≡ arrival_in row → HaveShownSame own.conn.now own2.conn.now copy.conn.now copy2.conn.now
-        own_same is sql shows has has' =
-            let s = same sql shows has has' in
-            let c = copied sql s.1 shows s.3 in
-            let o = kept sql s.0 shows s.2 in
-            (o.0, c.0, o.1, c.1, c.2 ∙ ap (λ l. l ++ arrival_in row ∷ []) s.4 ∙ ap (λ r. arrivals_in last_closed s.0 ++ r ∷ []) (sym is) ∙ sym o.2)
+    own_differs : (other row : Row) → ¬ (arrival_in other ≡ arrival_in row) → GoesBeyond g last_closed own1.conn.now own2.conn.now (Some other) → GoesBeyond h last_closed copy1.conn.now copy2.conn.now (Some row) → AreCompared g h last_closed own.conn.now own2.conn.now copy.conn.now copy2.conn.now likeness.Other
+    own_differs other row differs kept copied sql shows has has' =
+        let s = same sql shows has has' in
+        let o = kept sql s.0 shows s.2 in
+        let c = copied sql s.1 shows s.3 in
+        record { before = arrivals_in last_closed s.1; one = arrival_in row; given = c.0; has = c.1; shows = c.2; another = inr (o.0, arrival_in other, o.1, o.2 ∙ ap (λ l. l ++ arrival_in other ∷ []) (sym s.4), differs) }
+
+    pub told_by : (kept copied : Option Row) (told : Likeness) → TellsRows kept copied (Some told) → GoesBeyond g last_closed own1.conn.now own2.conn.now kept → GoesBeyond h last_closed copy1.conn.now copy2.conn.now copied
+        → AreCompared g h last_closed own.conn.now own2.conn.now copy.conn.now copy2.conn.now told
+    told_by None None told is here there =
+        let as : likeness.Same ≡ told = cc in
+        subst (AreCompared g h last_closed own.conn.now own2.conn.now copy.conn.now copy2.conn.now) as (both_ended here there)
+    told_by (Some row) None told is here there =
+        let as : likeness.First ≡ told = cc in
+        subst (AreCompared g h last_closed own.conn.now own2.conn.now copy.conn.now copy2.conn.now) as (copy_ended row here there)
+    told_by None (Some row) told is here there =
+        let as : likeness.Other ≡ told = cc in
+        subst (AreCompared g h last_closed own.conn.now own2.conn.now copy.conn.now copy2.conn.now) as (own_ended row here there)
+    told_by (Some other) (Some row) told is here there = subst (AreCompared g h last_closed own.conn.now own2.conn.now copy.conn.now copy2.conn.now) (sym is.0) (own_differs other row is.1 here there)
+
+    pub goes_on : (kept copied : Option Row) → TellsRows kept copied None → GoesBeyond g last_closed own1.conn.now own2.conn.now kept → GoesBeyond h last_closed copy1.conn.now copy2.conn.now copied
+        → HaveShownSame own.conn.now own2.conn.now copy.conn.now copy2.conn.now
+    goes_on None None is here there = absurd cc
+    goes_on (Some row) None is here there = absurd cc
+    goes_on None (Some row) is here there = absurd cc
+    goes_on (Some other) (Some row) is kept copied = λ sql shows has has'.
+        let s = same sql shows has has' in
+        let c = copied sql s.1 shows s.3 in
+        let o = kept sql s.0 shows s.2 in
+        (o.0, c.0, o.1, c.1, c.2 ∙ ap (λ l. l ++ arrival_in row ∷ []) s.4 ∙ ap (λ r. arrivals_in last_closed s.0 ++ r ∷ []) (sym is) ∙ sym o.2)

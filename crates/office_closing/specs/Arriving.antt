@@ -20,6 +20,8 @@ use Rattle.office_parts.specs.Closing.{is_beyond}
 use Rattle.office_parts.specs.InOrder.{as_delivery}
 use Rattle.office_closing.specs.Copies.{AreFirst}
 use Rattle.office_closing.specs.Files.{IsRead}
+use Rattle.office_closing.specs.declared.arriving.Likeness.{Likeness}
+use Rattle.office_closing.specs.declared.arriving.Likeness.TheVariants as likeness
 
 -- ---- the texts
 
@@ -34,6 +36,21 @@ arrivals last_closed interchanges = map as_delivery (filter (is_beyond last_clos
 -- what the archive has beyond what is closed is the first of what the store has so
 abbrev pub HasFirst : (last_closed : ℕ → ℕ) → (own copy : Rows) → Type 0
 HasFirst last_closed own copy = AreFirst (arrivals last_closed copy.interchanges) (arrivals last_closed own.interchanges)
+
+-- it is all of that
+abbrev pub HasAll : (last_closed : ℕ → ℕ) → (own copy : Rows) → Type 0
+HasAll last_closed own copy = arrivals last_closed copy.interchanges ≡ arrivals last_closed own.interchanges
+
+-- the archive's texts beyond what is closed are the first of the store's; and all of them, if that is wanted
+pub record HasTexts (wants_all : Type 0) (last_closed : ℕ → ℕ) (own copy : Rows) : Type 0 where
+  pub first : HasFirst last_closed own copy
+  pub all : wants_all → HasAll last_closed own copy
+
+-- how the archive's texts beyond what is closed stand to the store's
+abbrev pub IsTold : (last_closed : ℕ → ℕ) → (own copy : Rows) → Likeness → Type 0
+IsTold last_closed own copy likeness.Same = HasAll last_closed own copy
+IsTold last_closed own copy likeness.First = HasFirst last_closed own copy × ¬ HasAll last_closed own copy
+IsTold last_closed own copy likeness.Other = ¬ HasFirst last_closed own copy
 
 -- ---- what a query of the texts shows
 
@@ -90,15 +107,33 @@ module _ {S : Type 0} (g : Ghosts S) (last_closed : ℕ → ℕ) where
 
 -- ---- two queries
 
+-- what the next rows of store and archive tell, if there are any: how all stand to each other, or nothing, if both show the same
+abbrev pub TellsRows : (own copy : Option Row) → Option Likeness → Type 0
+TellsRows None None told = told ≡ Some likeness.Same
+TellsRows (Some kept) None told = told ≡ Some likeness.First
+TellsRows None (Some copied) told = told ≡ Some likeness.Other
+TellsRows (Some kept) (Some copied) None = arrival_in kept ≡ arrival_in copied
+TellsRows (Some kept) (Some copied) (Some told) =
+    (told ≡ likeness.Other) × ¬ (arrival_in kept ≡ arrival_in copied)
+
 module _ {S A : Type 0} (g : Ghosts S) (h : Ghosts A) (last_closed : ℕ → ℕ) (sql : List ℕ) (own own' : connection.Held S)
     (copy copy' : connection.Held A) where
-  -- all rows of the archive show what those of the store show so far
-  pub record AreFirstGiven : Type 0 where
+  -- all rows of the archive show what all rows of the store show
+  pub record AreSameShown : Type 0 where
+    pub all : List Row
+    pub shown : Shown sql [] (state g own) (state g own') all
+    pub copied : List Row
+    pub copied_shown : Shown sql [] (state h copy) (state h copy') copied
+    pub same : arrivals_in last_closed copied ≡ arrivals_in last_closed all
+
+  -- the store has one more after all that the archive shows
+  pub record AreFirstShown : Type 0 where
+    pub copied : List Row
+    pub copied_shown : Shown sql [] (state h copy) (state h copy') copied
     pub given : List Row
     pub has : HasGiven g sql [] own' given
-    pub all : List Row
-    pub shown : Shown sql [] (state h copy) (state h copy') all
-    pub same : arrivals_in last_closed all ≡ arrivals_in last_closed given
+    pub one : Row
+    pub shows : arrivals_in last_closed given ≡ arrivals_in last_closed copied ++ one ∷ []
 
   -- after these the store has no more, or another one
   abbrev pub IsAnother : (before : List Row) → (one : Row) → Type 0
@@ -116,13 +151,14 @@ module _ {S A : Type 0} (g : Ghosts S) (h : Ghosts A) (last_closed : ℕ → ℕ
     pub shows : arrivals_in last_closed given ≡ before ++ one ∷ []
     pub another : IsAnother before one
 
-  abbrev pub TellsFirst : Bool → Type 0
-  TellsFirst true = AreFirstGiven
-  TellsFirst false = AreApart
+  abbrev pub TellsTexts : Likeness → Type 0
+  TellsTexts likeness.Same = AreSameShown
+  TellsTexts likeness.First = AreFirstShown
+  TellsTexts likeness.Other = AreApart
 
 -- so of two queries that only show rows, from their start
 abbrev pub AreCompared : {S A : Type 0} → Ghosts S → Ghosts A → (last_closed : ℕ → ℕ) → (own own' : connection.Held S) →
-    (copy copy' : connection.Held A) → Bool → Type 0
-AreCompared g h last_closed own own' copy copy' first =
+    (copy copy' : connection.Held A) → Likeness → Type 0
+AreCompared g h last_closed own own' copy copy' told =
     (sql : List ℕ) → OnlyShows sql → HasGiven g sql [] own [] → HasGiven h sql [] copy []
-    → TellsFirst g h last_closed sql own own' copy copy' first
+    → TellsTexts g h last_closed sql own own' copy copy' told

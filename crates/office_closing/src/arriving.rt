@@ -1,6 +1,6 @@
-//! Whether the texts of an archive are the first of the store's, in the order in which they arrived.
-ghost use Rattle.std.specs.Prelude.{◌≡◌, ◌↔◌, IfErr, IfOk, OnOk, option_copied, true};
-ghost use Rattle.office_closing.specs.Arriving.{AreCompared, GoesBeyond, HasFirst, IsReadOn, StandInOrder, arrival_in, shows_beyond, stops_at};
+//! How the texts of an archive stand to the store's: whether they are the first of them, in the order in which they arrived.
+ghost use Rattle.std.specs.Prelude.{◌≡◌, ◌↔◌, IfErr, IfOk, OnOk, Some, option_copied, true};
+ghost use Rattle.office_closing.specs.Arriving.{AreCompared, GoesBeyond, IsReadOn, IsTold, StandInOrder, TellsRows, arrival_in, shows_beyond, stops_at};
 ghost use Rattle.office_closing.specs.Comparing.{IsOfEither};
 ghost use Rattle.office_closing.specs.Files.{IsRead};
 ghost use Rattle.office_loading.specs.Closed.{last_closed};
@@ -23,21 +23,32 @@ use sqlite_value::value::ValueRef;
 /// The texts of a file in the order in which they arrived, each with its partner and its number.
 const ARRIVALS: &str = "SELECT body, partner, number FROM interchange ORDER BY rowid";
 
-/// Whether the texts that an archive has beyond what is closed are the first of those that the store has, in the order in
-/// which they arrived. It changes neither.
+/// How the texts of an archive stand to those of a store.
+#[derive(Clone, Copy, Debug, PartialEq, Eq)]
+pub(crate) enum Likeness {
+    /// They are the same.
+    Same,
+    /// They are the first of the store's, which has more.
+    First,
+    /// They are not the first of the store's.
+    Other,
+}
+
+/// How the texts that an archive has beyond what is closed stand to those that the store has, in the order in which they
+/// arrived. It changes neither.
 ///
 /// One text of each file at a time is in memory beyond what the queries hold.
-pub(crate) fn has_first<S: Alter, A: Alter>(
+pub(crate) fn likeness<S: Alter, A: Alter>(
     store: &mut Connection<S>,
     archive: &mut Connection<A>,
     closed: &Closed,
-) -> Result<bool, FileFault>
-    ensures first { HasCleanDisk (state S.Store store.new) → HasCleanDisk (state A.Store archive.new) →
-        IfOk result (λ first. (own copy : OfficeRows) → HasRows own (state S.Store store.old).now →
+) -> Result<Likeness, FileFault>
+    ensures told { HasCleanDisk (state S.Store store.new) → HasCleanDisk (state A.Store archive.new) →
+        IfOk result (λ told. (own copy : OfficeRows) → HasRows own (state S.Store store.old).now →
         HasRows copy (state A.Store archive.old).now →
         StandInOrder own.interchanges ((state S.Store store.old).now.trees 2) →
         StandInOrder copy.interchanges ((state A.Store archive.old).now.trees 2) →
-        ((first ≡ true) ↔ HasFirst (last_closed closed.now) own copy)) }
+        IsTold (last_closed closed.now) own copy told) }
     ensures fault { IfErr result (IsOfEither ⊥ ⊥) }
     ensures store_read { IsRead (state S.Store store.old) (state S.Store store.new) result }
     ensures archive_read { IsRead (state A.Store archive.old) (state A.Store archive.new) result }
@@ -50,7 +61,7 @@ pub(crate) fn has_first<S: Alter, A: Alter>(
         Ok(rows) => rows,
         Err(error) => return Err(fault_in(File::Archive, error)),
     };
-    are_first(&mut own, &mut copy, closed)
+    likeness_of(&mut own, &mut copy, closed)
 }
 
 /// That a file could not be read.
@@ -64,12 +75,12 @@ fn fault_in(file: File, error: Error) -> FileFault
     }
 }
 
-/// Whether what the second query shows beyond what is closed is the first of what the first shows.
-fn are_first<S: Alter, A: Alter>(
+/// How what the second query shows beyond what is closed stands to what the first shows.
+fn likeness_of<S: Alter, A: Alter>(
     own: &mut Rows<'_, S>,
     copy: &mut Rows<'_, A>,
     closed: &Closed,
-) -> Result<bool, FileFault>
+) -> Result<Likeness, FileFault>
     ensures own { IsReadOn S.Store own.old own.new result }
     ensures copy { IsReadOn A.Store copy.old copy.new result }
     ensures compared { HasCleanDisk (state S.Store own.new.conn.now) → HasCleanDisk (state A.Store copy.new.conn.now) →
@@ -78,17 +89,10 @@ fn are_first<S: Alter, A: Alter>(
     ensures fault { IfErr result (IsOfEither ⊥ ⊥) }
 {
     'each: for _ in 0..u64::MAX {
-        advance(copy, closed, File::Archive)?;
-        let Some(copied) = copy.get() else {
-            return Ok(true);
-        };
         advance(own, closed, File::Store)?;
-        let Some(kept) = own.get() else {
-            return Ok(false);
-        };
-        let is_same = is_same_arrival(kept, copied);
-        if !is_same {
-            return Ok(false);
+        advance(copy, closed, File::Archive)?;
+        if let Some(told) = likeness_at(own.get(), copy.get()) {
+            return Ok(told);
         }
     }
     // There are more rows than are counted.
@@ -96,6 +100,29 @@ fn are_first<S: Alter, A: Alter>(
         File::Archive,
         Error::SqliteFailure(ErrorCode::OutOfMemory),
     ))
+}
+
+/// How all texts stand to each other, if the next rows tell it; None if both show the same text.
+fn likeness_at(own: Option<&Row>, copy: Option<&Row>) -> Option<Likeness>
+    ensures { TellsRows (option_copied own.entry) (option_copied copy.entry) result }
+{
+    match (own, copy) {
+        (None, None) => Some(Likeness::Same),
+        (Some(_), None) => Some(Likeness::First),
+        (None, Some(_)) => Some(Likeness::Other),
+        (Some(own), Some(copy)) => likeness_of_two(own, copy),
+    }
+}
+
+/// None if two rows show the same text, else that all are other ones.
+fn likeness_of_two(own: &Row, copy: &Row) -> Option<Likeness>
+    ensures { TellsRows (Some own.now) (Some copy.now) result }
+{
+    if is_same_arrival(own, copy) {
+        None
+    } else {
+        Some(Likeness::Other)
+    }
 }
 
 /// Goes on to the next row that shows a number beyond what is closed, or past the last.
