@@ -38,8 +38,10 @@ use Rattle.office_tables.proofs.WritesLemmas.{is_read, understands_query}
 use Rattle.office_loading.proofs.RowLemmas.{keyed, in_order}
 use Rattle.office_parts.specs.Closing.{is_beyond}
 use Rattle.office_parts.specs.InOrder.{as_delivery}
-use Rattle.office_closing.specs.Arriving.{AreApart, AreFirstGiven, HasFirst, IsAnother, StandInOrder, TellsFirst, arrival_in, arrivals_in, number_in, select_arrivals, shows_beyond}
+use Rattle.office_closing.specs.Arriving.{AreApart, AreFirstShown, AreSameShown, HasAll, HasFirst, IsAnother, IsTold, StandInOrder, TellsTexts, arrival_in, arrivals_in, number_in, select_arrivals, shows_beyond}
 use Rattle.office_closing.specs.Copies.{AreFirst}
+use Rattle.office_closing.specs.declared.arriving.Likeness.{Likeness}
+use Rattle.office_closing.specs.declared.arriving.Likeness.TheVariants as likeness
 
 -- ---- the query
 
@@ -148,29 +150,34 @@ bytes_in (Real x) = []
 bytes_in (Text t) = []
 bytes_in (Blob b) = b
 
-row_says : (i j : Interchange) → row_of i ≡ row_of j → as_delivery i ≡ as_delivery j
-row_says i j e = λ k. record { partner = ap (λ (r : Row). number_in (column r 1)) e k; number = ap (λ (r : Row). number_in (column r 2)) e k; text = ap (λ (r : Row). bytes_in (column r 0)) e k }
+-- a row back as the delivery that it shows
+delivery_in : Row → Delivery
+delivery_in row = record { partner = number_in (column row 1); number = number_in (column row 2); text = bytes_in (column row 0) }
 
-says_row : (i j : Interchange) → as_delivery i ≡ as_delivery j → row_of i ≡ row_of j
-says_row i j e = λ k. Blob (e k).text ∷ number_value (e k).partner ∷ number_value (e k).number ∷ []
+row_from : Delivery → Row
+row_from d = Blob d.text ∷ number_value d.partner ∷ number_value d.number ∷ []
+
+back_deliveries : (xs : List Interchange) → map delivery_in (map row_of xs) ≡ map as_delivery xs
+back_deliveries [] = refl
+back_deliveries (x ∷ xs) = ap (λ l. as_delivery x ∷ l) (back_deliveries xs)
+
+back_rows : (xs : List Interchange) → map row_from (map as_delivery xs) ≡ map row_of xs
+back_rows [] = refl
+back_rows (x ∷ xs) = ap (λ l. row_of x ∷ l) (back_rows xs)
+
+same_said : (xs ys : List Interchange) → map row_of xs ≡ map row_of ys → map as_delivery xs ≡ map as_delivery ys
+same_said xs ys e = sym (back_deliveries xs) ∙ ap (map delivery_in) e ∙ back_deliveries ys
+
+said_same : (xs ys : List Interchange) → map as_delivery xs ≡ map as_delivery ys → map row_of xs ≡ map row_of ys
+said_same xs ys e = sym (back_rows xs) ∙ ap (map row_from) e ∙ back_rows ys
 
 first_said : (xs ys : List Interchange) → AreFirst (map row_of xs) (map row_of ys) → AreFirst (map as_delivery xs) (map as_delivery ys)
-first_said [] ys first = (map as_delivery ys, refl)
-first_said (x ∷ xs) [] first = absurd (let e = first.1 in cc)
-first_said (x ∷ xs) (y ∷ ys) first =
-    let more = first_said xs ys (first.0, ap rest_of first.1) in
-    (more.0, λ k. row_says y x (ap row_or first.1) k ∷ more.1 k)
+first_said xs ys first =
+    (map delivery_in first.0, sym (back_deliveries ys) ∙ ap (map delivery_in) first.1 ∙ map-append delivery_in (map row_of xs) first.0 ∙ ap (λ l. l ++ map delivery_in first.0) (back_deliveries xs))
 
 said_first : (xs ys : List Interchange) → AreFirst (map as_delivery xs) (map as_delivery ys) → AreFirst (map row_of xs) (map row_of ys)
-said_first [] ys first = (map row_of ys, refl)
-said_first (x ∷ xs) [] first = absurd (let e = first.1 in cc)
-said_first (x ∷ xs) (y ∷ ys) first =
-    let more = said_first xs ys (first.0, ap rest_of first.1) in
-    (more.0, λ k. says_row y x (ap (delivery_or (as_delivery y)) first.1) k ∷ more.1 k)
-  where
-    delivery_or : Delivery → List Delivery → Delivery
-    delivery_or d [] = d
-    delivery_or d (e ∷ l) = e
+said_first xs ys first =
+    (map row_from first.0, sym (back_rows ys) ∙ ap (map row_from) first.1 ∙ map-append row_from (map as_delivery xs) first.0 ∙ ap (λ l. l ++ map row_from first.0) (back_rows xs))
 
 -- after the same rows the rest is the same
 after_same : (before xs ys : List Row) → before ++ xs ≡ before ++ ys → xs ≡ ys
@@ -236,10 +243,26 @@ module _ {S A : Type 0} (g : Ghosts S) (h : Ghosts A) (last_closed : ℕ → ℕ
       ap (arrivals_in last_closed) (all_found rows' (state h copy) copy_has (state h copy') all shown ∙ ap (λ (d : Database). map shown_of (d.trees 2)) copy_same.0.now_is)
       ∙ beyond_rows last_closed rows'.interchanges ((state h copy0).now.trees 2) order'
 
-  are_first : AreFirstGiven g h last_closed select_arrivals own own' copy copy' → HasFirst last_closed rows rows'
+  are_same : AreSameShown g h last_closed select_arrivals own own' copy copy' → HasAll last_closed rows rows'
+  are_same told =
+      same_said (filter (is_beyond last_closed) rows'.interchanges) (filter (is_beyond last_closed) rows.interchanges)
+      (sym (copy_all told.copied told.copied_shown) ∙ told.same ∙ own_all told.all told.shown)
+
+  -- the store's are the archive's, and then another one
+  one_more : (told : AreFirstShown g h last_closed select_arrivals own own' copy copy') → (rest : List Row) × (own_rows ≡ copy_rows ++ told.one ∷ rest)
+  one_more told =
+      let front = own_given told.given told.has in
+      (front.0, front.1 ∙ ap (λ l. l ++ front.0) told.shows ∙ append_all (arrivals_in last_closed told.copied) (told.one ∷ []) front.0 ∙ ap (λ l. l ++ told.one ∷ front.0) (copy_all told.copied told.copied_shown))
+
+  are_first : AreFirstShown g h last_closed select_arrivals own own' copy copy' → HasFirst last_closed rows rows' × ¬ HasAll last_closed rows rows'
   are_first told =
-      first_said (filter (is_beyond last_closed) rows'.interchanges) (filter (is_beyond last_closed) rows.interchanges)
-      (subst (λ (l : List Row). AreFirst l own_rows) (sym told.same ∙ copy_all told.all told.shown) (own_given told.given told.has))
+      let more = one_more told in (
+        first_said (filter (is_beyond last_closed) rows'.interchanges) (filter (is_beyond last_closed) rows.interchanges) (told.one ∷ more.0, more.1),
+        λ all.
+            let same : copy_rows ≡ own_rows = said_same (filter (is_beyond last_closed) rows'.interchanges) (filter (is_beyond last_closed) rows.interchanges) all in
+            let none : [] ≡ told.one ∷ more.0 = after_same copy_rows [] (told.one ∷ more.0) (append_none copy_rows ∙ same ∙ more.1) in
+            absurd cc,
+      )
 
   are_apart : AreApart g h last_closed select_arrivals own own' copy copy' → HasFirst last_closed rows rows' → ⊥
   are_apart told first =
@@ -254,6 +277,7 @@ module _ {S A : Type 0} (g : Ghosts S) (h : Ghosts A) (last_closed : ℕ → ℕ
           let front = own_given other.0 other.2 in
           other.4 (apart_other told.before tail front.0 rest told.one other.1 (ap (λ l. l ++ front.0) (sym other.3) ∙ sym front.1 ∙ whole))
 
-  pub tells_first : (b : Bool) → TellsFirst g h last_closed select_arrivals own own' copy copy' b → (b ≡ true) ↔ HasFirst last_closed rows rows'
-  tells_first true told = (λ e. are_first told, λ first. refl)
-  tells_first false told = (λ e. absurd cc, λ first. absurd (are_apart told first))
+  pub tells_texts : (told : Likeness) → TellsTexts g h last_closed select_arrivals own own' copy copy' told → IsTold last_closed rows rows' told
+  tells_texts likeness.Same are = are_same are
+  tells_texts likeness.First are = are_first are
+  tells_texts likeness.Other are = are_apart are

@@ -1,9 +1,9 @@
 -- What an archive closes, by its numbers and by its segments.
 use Rattle.std.proofs.Common.{◌≡◌, inl, inr, ℕ, suc, ◌<◌, ◌≤◌, ◌==◌, ◌||◌, List, [], ◌∷◌, Bool, true, false, cond, not, filter, get_or, refl, sym, ap, ap₂, subst, ◌∙◌, arith, ◌⊎◌, ◌+◌, ◌-◌, ◌&&◌, max, ◌++◌, if◌then◌else◌, map, length, take, drop, length-append, Ok, Err, IsTrue}
-use Rattle.std.specs.Prelude.{Contains, None, All, slice_get, nat_le, nat_lt}
+use Rattle.std.specs.Prelude.{◌↔◌, Contains, None, All, slice_get, nat_le, nat_lt}
 use Rattle.std.specs.List.{AllByRecursion, list_any, range_with_len}
 use Rattle.std.proofs.lemmas.Bool.{cases_Bool, eqb-true, le-leb, leb-true, and_parts, eq-eqb, lt-ltb, ltb-true}
-use Rattle.std.proofs.lemmas.List.{get_or_default, get_or-map, get_or_append_left, length-map, map-append, take_all, take-append-drop}
+use Rattle.std.proofs.lemmas.List.{get_or_default, get_or-map, get_or_append_left, length-map, map-append, take_all, take-append-drop, append-nil}
 use Rattle.std.proofs.lemmas.List.Elements.{filter_passes, recursion_from_All}
 use Rattle.std.proofs.lemmas.Bool.Decides.{nat_tests}
 use Rattle.std.proofs.lemmas.Option.{same_Some}
@@ -26,11 +26,12 @@ use Rattle.office_closing.specs.Visits.{AreToGo, GoesBelow}
 use Rattle.office_history.proofs.Kept.{head_in, tail_in}
 use Rattle.office_closing.specs.declared.register.Segment.{Segment}
 use Rattle.office_closing.specs.Register.{last_closed, RegisterContent}
-use Rattle.office_closing.specs.Copies.{AreAtMost, closes_some, numbers_from, segment_of, segments_of, FileNames, IsOpened, OfficeContent, AreFirst}
+use Rattle.office_closing.specs.Copies.{AreAtMost, ClosesNone, closes_some, numbers_from, segment_of, segments_of, FileNames, IsOpened, OfficeContent, AreFirst}
 use Rattle.office_closing.specs.declared.faults.CloseFault.{CloseFault}
 use Rattle.office_closing.specs.declared.faults.Refusal.{Refusal}
 use Rattle.office_closing.specs.Files.{Files}
 use Rattle.office_closing.specs.Planning.{IsRefused}
+use Rattle.office_closing.specs.Arriving.{HasAll, HasFirst, HasTexts}
 use Rattle.office_closing.specs.Refusing.{HasReason, HasUnfit, HasUnread, IsOfComparing, IsOfOpening, IsOfOrdering, IsOfThis, IsOtherwise, IsUnopened, IsWhy}
 use Rattle.office_closing.specs.Steps.{IsOfWriting, StepsIf}
 use Rattle.sqlite.specs.State.{State, HasCleanDisk, Survives}
@@ -323,6 +324,22 @@ this_more at Is Or more (fault.File of) is = (is.0, more of.fault is.1)
 this_more at Is Or more (fault.Comparing of) is = absurd is
 this_more at Is Or more fault.Memory is = tt
 
+-- what is wanted of texts may be less
+pub texts_for : {Wants Less : Type 0} {last_closed : ℕ → ℕ} {own copy : Rows} → (Less → Wants) → HasTexts Wants last_closed own copy → HasTexts Less last_closed own copy
+texts_for f texts = record { first = texts.first; all = λ less. texts.all (f less) }
+
+-- texts that are the same, that are the first of more, and others
+pub same_copied : (Wants : Type 0) (last_closed : ℕ → ℕ) (own copy : Rows) → HasAll last_closed own copy → HasTexts Wants last_closed own copy
+same_copied Wants last_closed own copy all = record { first = ([], sym all ∙ sym append-nil); all = λ wants. all }
+
+pub first_copied : (Wants : Type 0) (last_closed : ℕ → ℕ) (own copy : Rows) (wants : Bool) → (wants ≡ true) ↔ Wants → HasFirst last_closed own copy × ¬ HasAll last_closed own copy
+    → (not wants ≡ true) ↔ HasTexts Wants last_closed own copy
+first_copied Wants last_closed own copy true is told = (λ e. absurd cc, λ texts. absurd (told.1 (texts.all (is.0 refl))))
+first_copied Wants last_closed own copy false is told = (λ e. record { first = told.0; all = λ wants. absurd (let e = is.1 wants in cc) }, λ texts. refl)
+
+pub other_copied : (Wants : Type 0) (last_closed : ℕ → ℕ) (own copy : Rows) → ¬ HasFirst last_closed own copy → (false ≡ true) ↔ HasTexts Wants last_closed own copy
+other_copied Wants last_closed own copy told = (λ e. absurd cc, λ texts. absurd (told texts.first))
+
 of_store_if : (P : Type 0) (why : TableFault) → IsOfStoreOr ⊥ why → IsOfStoreOr P why
 of_store_if P (Store e) is = tt
 of_store_if P Memory is = tt
@@ -365,7 +382,7 @@ module _ (held : Held) (names : FileNames) (files : Files) where
   written_tells (fault.Comparing of) is = absurd is
   written_tells fault.Memory is = absurd is
 
-  why_by : (why : Refusal) → HasReason names files why → IsWhy held.register own copy names files why
+  why_by : (why : Refusal) → HasReason names files why → IsWhy held.register held.copied own copy names files why
   why_by (refusal.Interchange difference) has = absurd has.is_reason
   why_by refusal.Closed has = has
   why_by refusal.Office has = has
@@ -380,7 +397,7 @@ module _ (held : Held) (names : FileNames) (files : Files) where
   plan_tells here there a b (fault.Comparing of) is = absurd is
   plan_tells here there a b fault.Memory is = tt
 
-  otherwise_told : (why : Refusal) → IsOtherwise own copy why → IsWhy held.register own copy names files why
+  otherwise_told : (why : Refusal) → IsOtherwise own copy why → IsWhy held.register held.copied own copy names files why
   otherwise_told (refusal.Interchange difference) is = is
   otherwise_told refusal.Closed is = absurd is
   otherwise_told refusal.Office is = absurd is
@@ -395,23 +412,25 @@ module _ (held : Held) (names : FileNames) (files : Files) where
   compared_tells (fault.Comparing of) is = is
   compared_tells fault.Memory is = absurd is
 
-  pub ordering_tells : (why : CloseFault) → IsOfOrdering (last_closed held.register.segments) own copy files.store.now files.archive.now why → Tells held names files why
-  ordering_tells (fault.Archive refusal.Order) is = is
-  ordering_tells (fault.Archive (refusal.Interchange difference)) is = absurd is
-  ordering_tells (fault.Archive refusal.Closed) is = absurd is
-  ordering_tells (fault.Archive refusal.Office) is = absurd is
-  ordering_tells (fault.Archive refusal.Later) is = absurd is
-  ordering_tells (fault.Archive refusal.Register) is = absurd is
-  ordering_tells (fault.Archive (refusal.Visit number)) is = absurd is
-  ordering_tells (fault.File of) is = absurd is
-  ordering_tells (fault.Comparing of) is = no_more of.file of.fault is
+  -- what is wanted is so if the closing begins and closes no number
+  pub ordering_tells : (Wants : Type 0) → (Wants → ClosesNone held.register held.copied copy) → (why : CloseFault)
+      → IsOfOrdering Wants (last_closed held.register.segments) own copy files.store.now files.archive.now why → Tells held names files why
+  ordering_tells Wants so (fault.Archive refusal.Order) is = λ order order' texts. is order order' (texts_for so texts)
+  ordering_tells Wants so (fault.Archive (refusal.Interchange difference)) is = absurd is
+  ordering_tells Wants so (fault.Archive refusal.Closed) is = absurd is
+  ordering_tells Wants so (fault.Archive refusal.Office) is = absurd is
+  ordering_tells Wants so (fault.Archive refusal.Later) is = absurd is
+  ordering_tells Wants so (fault.Archive refusal.Register) is = absurd is
+  ordering_tells Wants so (fault.Archive (refusal.Visit number)) is = absurd is
+  ordering_tells Wants so (fault.File of) is = absurd is
+  ordering_tells Wants so (fault.Comparing of) is = no_more of.file of.fault is
     where
       no_more : (at : File) (why : TableFault) → IsOfFile ⊥ ⊥ at why → IsOfFile (HasUnfit own) (HasUnfit copy) at why
       no_more file.Store why is = of_store_if (HasUnfit own) why is
       no_more file.Archive why is = of_store_if (HasUnfit copy) why is
       no_more file.Register why is = is
       no_more file.ArchiveRegister why is = is
-  ordering_tells fault.Memory is = tt
+  ordering_tells Wants so fault.Memory is = tt
 
 -- ==== CopyLemmas: Lists that are compared from their front.
 

@@ -37,9 +37,9 @@ use Rattle.office_closing.specs.declared.planning.Plan.{Plan}
 use Rattle.office_closing.specs.declared.planning.PutAway.{PutAway}
 use Rattle.office_closing.specs.declared.planning.Stage.{Stage}
 use Rattle.office_closing.specs.declared.planning.Stage.TheVariants as stage
-use Rattle.office_closing.specs.Arriving.{HasFirst, StandInOrder}
+use Rattle.office_closing.specs.Arriving.{HasTexts, StandInOrder}
 use Rattle.office_closing.specs.Comparing.{IsOfEither}
-use Rattle.office_closing.specs.Copies.{FileNames, numbers_from, segments_of}
+use Rattle.office_closing.specs.Copies.{ClosesNone, FileNames, numbers_from, segments_of}
 use Rattle.office_closing.specs.Deleting.{all_but, goes, is_one_of, with_visits_that, without_visits}
 use Rattle.office_closing.specs.Files.{Files, AreClean, AreIdle, AreRead, IsRead}
 use Rattle.office_closing.specs.Laws.{Raises}
@@ -285,7 +285,8 @@ IsFaultIn held files file.ArchiveRegister fault = IsOfStore fault
 -- What a fault tells: why the archive is refused; what a file has that can't be read; of the store or of the archive, where they
 -- were compared, that it failed or has a reply that is no text.
 abbrev pub Tells : Held → FileNames → Files → CloseFault → Type 0
-Tells held names files (fault.Archive why) = IsWhy held.register held.own held.copy names files why
+Tells held names files (fault.Archive why) =
+    IsWhy held.register held.copied held.own held.copy names files why
 Tells held names files (fault.File of) = IsFaultIn held files of.file of.fault
 Tells held names files (fault.Comparing of) = IsOfEither (HasUnfit held.own) (HasUnfit held.copy) of
 Tells held names files fault.Memory = Unit {0}
@@ -309,14 +310,16 @@ IsBeforehand fault.Memory = Unit {0}
 
 -- ---- the order of arrival
 
--- what the archive has beyond what the store's register closes, closed now or waiting, is the first of what the store has so
-abbrev pub HasFirstTexts : Held → Type 0
-HasFirstTexts held = HasFirst (closed_before held) held.own held.copy
+-- What the archive has beyond what the store's register closes, closed now or waiting, is the first of what the store has so.
+-- It is all of it if the closing begins and closes no number: else some of what an archive before it has would be told twice.
+abbrev pub HasItsTexts : Held → Type 0
+HasItsTexts held =
+    HasTexts (ClosesNone held.register held.copied held.copy) (closed_before held) held.own held.copy
 
 -- that was found before anything was written
-abbrev pub FindsFirst : {T : Type 0} → (old new : Files) → Held → Result T CloseFault → Type 0
-FindsFirst old new held (Ok closed) = HasFirstTexts held
-FindsFirst old new held (Err why) = AreRead {T = Unit {0}} old new (Err why) ⊎ HasFirstTexts held
+abbrev pub FindsTexts : {T : Type 0} → (old new : Files) → Held → Result T CloseFault → Type 0
+FindsTexts old new held (Ok closed) = HasItsTexts held
+FindsTexts old new held (Err why) = AreRead {T = Unit {0}} old new (Err why) ⊎ HasItsTexts held
 
 -- ---- the whole
 
@@ -333,7 +336,7 @@ pub record Closes {T : Type 0} (names : FileNames) (old new : Files) (result : R
   pub stopped : AreClean new → IfErr result (λ fault. (held : Held) → AreHeld held old →
       AreRead old new result
       ⊎ ((file : File) × IsFileOf file fault × IsOfWriting fault × IsStoppedBy held names old new file))
-  pub first : AreClean new → (held : Held) → AreHeld held old → AreInOrder held old → FindsFirst old new held result
+  pub texts : AreClean new → (held : Held) → AreHeld held old → AreInOrder held old → FindsTexts old new held result
   pub store : AreClean new → Survives old.store new.store (StoresLeftRows names old new)
   pub register : AreClean new → Survives old.register new.register (StoresRaised names old new)
   pub mark : AreClean new → Survives old.archive_register new.archive_register (StoresMarked names old)

@@ -87,6 +87,13 @@ raised_by file lists copy =
     closed_with (archive_in file copy) (segments_of (archive_in file copy).place (numbers_of copy)) lists
     (unmarked copy.register)
 
+-- by the registers and the archive's rows a closing begins with the archive, and closes no number
+pub record ClosesNone (register copied : RegisterContent) (copy : Rows) : Type 0 where
+  pub begins : register ≡ unmarked copied
+  pub nexts : List ℕ
+  pub are_nexts : AreNexts copy nexts
+  pub none : filter closes_some (numbers_from (last_closed copied.segments) 1 nexts) ≡ []
+
 -- ---- lists
 
 -- the lists of this terminal that are done and not among those named, each as put away with that archive

@@ -12,9 +12,9 @@ use Rattle.office_closing.specs.declared.faults.CloseFault.{CloseFault}
 use Rattle.office_closing.specs.declared.faults.CloseFault.TheVariants as fault
 use Rattle.office_closing.specs.declared.faults.Refusal.{Refusal}
 use Rattle.office_closing.specs.declared.faults.Refusal.TheVariants as refusal
-use Rattle.office_closing.specs.Arriving.{HasFirst, StandInOrder}
+use Rattle.office_closing.specs.Arriving.{HasTexts, StandInOrder}
 use Rattle.office_closing.specs.Comparing.{IsOfEither, IsToldAlike}
-use Rattle.office_closing.specs.Copies.{FileNames, IsOpened, IsReason, OfficeContent}
+use Rattle.office_closing.specs.Copies.{ClosesNone, FileNames, IsOpened, IsReason, OfficeContent}
 use Rattle.office_closing.specs.Files.{Files}
 use Rattle.office_closing.specs.Register.{RegisterContent, closed_by, last_closed}
 use Rattle.office_closing.specs.Waiting.{HasWaiting}
@@ -61,20 +61,22 @@ pub record HasReason (names : FileNames) (files : Files) (why : Refusal) : Type 
   pub is_reason : IsReason own copy names why
 
 -- where the tables have the interchanges in this order, those of the archive beyond what is closed are not the first of the
--- store's
-abbrev pub IsOutOfOrder : (last_closed : ℕ → ℕ) → (own copy : Rows) → (store archive : Database) → Type 0
-IsOutOfOrder last_closed own copy store archive =
+-- store's, or not all of them, though that is wanted
+abbrev pub IsOutOfOrder : (wants_all : Type 0) (last_closed : ℕ → ℕ) → (own copy : Rows) → (store archive : Database) →
+    Type 0
+IsOutOfOrder wants_all last_closed own copy store archive =
     StandInOrder own.interchanges (store.trees 2) → StandInOrder copy.interchanges (archive.trees 2)
-    → ¬ HasFirst last_closed own copy
+    → ¬ HasTexts wants_all last_closed own copy
 
 -- why the archive is refused: it tells another text or reply under that number; its texts are not the first of the store's,
--- beyond what the store's register closes; or the offices give the reason
-abbrev pub IsWhy : RegisterContent → (own copy : Rows) → FileNames → Files → Refusal → Type 0
-IsWhy register own copy names files (refusal.Interchange difference) =
+-- beyond what the store's register closes, or not all, though it closes no number; or the offices give the reason
+abbrev pub IsWhy : (register copied : RegisterContent) → (own copy : Rows) → FileNames → Files → Refusal → Type 0
+IsWhy register copied own copy names files (refusal.Interchange difference) =
     ¬ IsToldAlike difference.partner difference.number own copy
-IsWhy register own copy names files refusal.Order =
-    IsOutOfOrder (last_closed register.segments) own copy files.store.now files.archive.now
-IsWhy register own copy names files why = HasReason names files why
+IsWhy register copied own copy names files refusal.Order =
+    IsOutOfOrder (ClosesNone register copied copy) (last_closed register.segments) own copy files.store.now
+    files.archive.now
+IsWhy register copied own copy names files why = HasReason names files why
 
 -- a reply is no text
 abbrev pub HasUnfit : Rows → Type 0
@@ -98,10 +100,11 @@ IsOfComparing own copy fault.Memory = ⊥
 -- ---- where their order is compared
 
 -- the archive is refused for its order, or one of the two failed
-abbrev pub IsOfOrdering : (last_closed : ℕ → ℕ) → (own copy : Rows) → (store archive : Database) → CloseFault → Type 0
-IsOfOrdering last_closed own copy store archive (fault.Archive refusal.Order) =
-    IsOutOfOrder last_closed own copy store archive
-IsOfOrdering last_closed own copy store archive (fault.Archive why) = ⊥
-IsOfOrdering last_closed own copy store archive (fault.File of) = ⊥
-IsOfOrdering last_closed own copy store archive (fault.Comparing of) = IsOfEither ⊥ ⊥ of
-IsOfOrdering last_closed own copy store archive fault.Memory = Unit {0}
+abbrev pub IsOfOrdering : (wants_all : Type 0) (last_closed : ℕ → ℕ) → (own copy : Rows) → (store archive : Database) →
+    CloseFault → Type 0
+IsOfOrdering wants_all last_closed own copy store archive (fault.Archive refusal.Order) =
+    IsOutOfOrder wants_all last_closed own copy store archive
+IsOfOrdering wants_all last_closed own copy store archive (fault.Archive why) = ⊥
+IsOfOrdering wants_all last_closed own copy store archive (fault.File of) = ⊥
+IsOfOrdering wants_all last_closed own copy store archive (fault.Comparing of) = IsOfEither ⊥ ⊥ of
+IsOfOrdering wants_all last_closed own copy store archive fault.Memory = Unit {0}

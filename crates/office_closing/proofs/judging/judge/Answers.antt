@@ -7,13 +7,14 @@ use Rattle.office_closing.specs.Waiting.{AreWaitedFor}
 use Rattle.office_parts.specs.Named.{named_list_content}
 use Rattle.office_rows.specs.Stored.{HasRows}
 use Rattle.office_closing.specs.declared.faults.CloseFault.{CloseFault}
-use Rattle.office_closing.specs.Copies.{FileNames, office_content}
-use Rattle.office_closing.specs.Arriving.{HasFirst, StandInOrder}
+use Rattle.office_closing.specs.Copies.{ClosesNone, FileNames, office_content}
+use Rattle.office_closing.specs.Arriving.{HasTexts, StandInOrder}
 use Rattle.office_closing.specs.Files.{IsRead, IsReadIfOpen, files}
+use Rattle.office_closing.specs.Judging.{WantsAll}
 use Rattle.office_closing.specs.Refusing.{IsOfOrdering}
 use Rattle.office_closing.specs.Register.{RegisterContent, last_closed}
-use Rattle.office_closing.proofs.JudgeLemmas.{plan_judged, failed, passed, then_failed, then_if_open, then_if_open_failed, then_ok, untouched_err}
-use Rattle.office_closing.proofs.PlanLemmas.{compared_tells, copy_tells, ordering_tells, own_tells, plan_tells, waiting_tells}
+use Rattle.office_closing.proofs.JudgeLemmas.{none_wants, plan_judged, wants_none, failed, passed, then_failed, then_if_open, then_if_open_failed, then_ok, untouched_err}
+use Rattle.office_closing.proofs.PlanLemmas.{compared_tells, copy_tells, ordering_tells, own_tells, plan_tells, texts_for, waiting_tells}
 use Rattle.office_closing.proofs.judging.judge.Goals as goal
 
 -- the store after it was compared
@@ -115,8 +116,10 @@ returns-clause-judged g c clean held has =
 
 -- ---- the order of arrival
 
-pub returns-clause-first : goal.returns-clause-first
-returns-clause-first g c clean held has order =
+pub returns-clause-texts : goal.returns-clause-texts
+returns-clause-texts g c clean held has order =
+    let names : FileNames = record { store = c.args.store_file.now; archive = c.args.archive_file.now } in
+    let old = files g.S.Store g.R.Store g.A.Store g.M.Store c.args.store.now c.args.register.now c.args.archive.now c.args.archive_register.now in
     let own = c.in_ok-own.ensures in
     let copy = c.in_ok-copy.ensures in
     let named = c.in_ok-named.ensures in
@@ -134,11 +137,17 @@ returns-clause-first g c clean held has order =
     let there = copy.rows_read.unchanged archive_clean in
     let then_ = call.archive_read.unchanged archive_compared there.0.is_open in
     let archive_same : (state g.A.Store c.compare_all.new.archive).now ≡ (state g.A.Store c.args.archive.now).now = then_.0.now_is ∙ there.0.now_is in
-    let registered = (own.opened store_clean clean.register).registered held.register has.register has.register_sound in
-    subst (λ (r : RegisterContent). HasFirst (last_closed r.segments) held.own held.copy) registered
-    (last.first clean.store clean.archive held.own held.copy (subst (HasRows held.own) (sym store_same) has.own) (subst (HasRows held.copy) (sym archive_same) has.copy)
+    let opened = own.opened store_clean clean.register in
+    let opened_has = subst (HasRows held.own) (sym first.0.now_is) has.own in
+    let waited = named.named named_clean held.own opened_has (record { accounts = has.own_orderly.accounts; are = opened.nexts held.own has.own; kept_once = has.own_orderly.once }) in
+    let registered = opened.registered held.register has.register has.register_sound in
+    texts_for (none_wants held old has names (office_content c.in_ok-own.own) (office_content c.in_ok-copy.copy) opened (copy.opened archive_clean clean.archive_register)
+    (map named_list_content c.deref.result.now) (subst (λ l. AreWaitedFor (office_content c.in_ok-own.own).setup held.own (map named_list_content l)) (sym c.deref.ensures.value) waited)
+    c.in_ok-plan.plan c.in_ok-plan.ensures.ok c.utf8.archive_file c.utf8.store_file)
+    (subst (λ (r : RegisterContent). HasTexts (WantsAll c.in_ok-plan.plan) (last_closed r.segments) held.own held.copy) registered
+    (last.texts clean.store clean.archive held.own held.copy (subst (HasRows held.own) (sym store_same) has.own) (subst (HasRows held.copy) (sym archive_same) has.copy)
     (subst (λ (d : Database). StandInOrder held.own.interchanges (d.trees 2)) (sym store_same) order.own)
-    (subst (λ (d : Database). StandInOrder held.copy.interchanges (d.trees 2)) (sym archive_same) order.copy))
+    (subst (λ (d : Database). StandInOrder held.copy.interchanges (d.trees 2)) (sym archive_same) order.copy)))
 
 -- ---- why it is refused
 
@@ -219,8 +228,14 @@ returns-in_err-check_order-clause-tells g c clean =
     let then_ = call.archive_read.unchanged archive_compared there.0.is_open in
     let archive_same : (state g.A.Store c.compare_all.new.archive).now ≡ (state g.A.Store c.args.archive.now).now = then_.0.now_is ∙ there.0.now_is in
     rw (p.1, p.2) (λ held has.
-    let registered = (own.opened store_clean clean.register).registered held.register has.register has.register_sound in
+    let opened = own.opened store_clean clean.register in
+    let opened_has = subst (HasRows held.own) (sym first.0.now_is) has.own in
+    let waited = named.named named_clean held.own opened_has (record { accounts = has.own_orderly.accounts; are = opened.nexts held.own has.own; kept_once = has.own_orderly.once }) in
+    let wants : WantsAll c.in_ok-plan.plan → ClosesNone held.register held.copied held.copy = wants_none held old has names (office_content c.in_ok-own.own) (office_content c.in_ok-copy.copy) opened (copy.opened archive_clean clean.archive_register)
+        (map named_list_content c.deref.result.now) (subst (λ l. AreWaitedFor (office_content c.in_ok-own.own).setup held.own (map named_list_content l)) (sym c.deref.ensures.value) waited)
+        c.in_ok-plan.plan c.in_ok-plan.ensures.ok c.utf8.archive_file c.utf8.store_file in
+    let registered = opened.registered held.register has.register has.register_sound in
     let of = last.fault clean.store clean.archive held.own held.copy (subst (HasRows held.own) (sym store_same) has.own) (subst (HasRows held.copy) (sym archive_same) has.copy) in
-    let of_store = subst (λ (d : Database). IsOfOrdering (last_closed (office_content c.in_ok-own.own).register.segments) held.own held.copy d (state g.A.Store c.compare_all.new.archive).now c.in_err-check_order.field-0.0) store_same of in
-    let of_both = subst (λ (d : Database). IsOfOrdering (last_closed (office_content c.in_ok-own.own).register.segments) held.own held.copy old.store.now d c.in_err-check_order.field-0.0) archive_same of_store in
-    ordering_tells held names old _ (subst (λ (r : RegisterContent). IsOfOrdering (last_closed r.segments) held.own held.copy old.store.now old.archive.now c.in_err-check_order.field-0.0) registered of_both))
+    let of_store = subst (λ (d : Database). IsOfOrdering (WantsAll c.in_ok-plan.plan) (last_closed (office_content c.in_ok-own.own).register.segments) held.own held.copy d (state g.A.Store c.compare_all.new.archive).now c.in_err-check_order.field-0.0) store_same of in
+    let of_both = subst (λ (d : Database). IsOfOrdering (WantsAll c.in_ok-plan.plan) (last_closed (office_content c.in_ok-own.own).register.segments) held.own held.copy old.store.now d c.in_err-check_order.field-0.0) archive_same of_store in
+    ordering_tells held names old (WantsAll c.in_ok-plan.plan) wants _ (subst (λ (r : RegisterContent). IsOfOrdering (WantsAll c.in_ok-plan.plan) (last_closed r.segments) held.own held.copy old.store.now old.archive.now c.in_err-check_order.field-0.0) registered of_both))
