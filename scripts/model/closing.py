@@ -61,10 +61,11 @@ def arrived(office, register):
     return [row[:3] for row in interchange_rows(office) if row[1] > last_closed(register, row[0])]
 
 
-def are_first(store, archive):
-    """Whether the texts that the archive keeps beyond what the store's register closes are the first of the store's."""
+def has_texts(store, archive, wants_all):
+    """Whether the texts that the archive keeps beyond what the store's register closes are the first of the store's, or all of
+    them, if all are wanted."""
     own, copied = (arrived(office, store.register) for office in (store, archive))
-    return own[:len(copied)] == copied
+    return copied == (own if wants_all else own[:len(copied)])
 
 
 def is_of_store(store, archive):
@@ -121,7 +122,7 @@ def close(store, archive, store_file, archive_file):
         return 'Archive'
     if not is_done and not are_alike(store, archive):
         return 'Archive'
-    if not are_first(store, archive):
+    if not has_texts(store, archive, is_new and not closed_by(archive)):
         return 'Archive'
     visits, lists = visits_to_go(store, archive), lists_to_go(store, place)
     archive.register = archive.register._replace(mark=store_file)

@@ -210,6 +210,20 @@ def try_orders(room, day):
     room.close('restored.db', 'early.db')
 
 
+def try_lacking(room, day):
+    """Copies that close no number: of a day before other texts came, and of now."""
+    room.make('office.db', day, DELIVERIES)
+    room.copy('office.db', 'first.db')
+    room.close('office.db', 'first.db')
+    room.copy('office.db', 'second.db')
+    room.deliver('office.db', [day.delivery() for _delivery in range(MORE)])
+    room.close('office.db', 'second.db')
+    room.copy('office.db', 'third.db')
+    room.close('office.db', 'third.db')
+    room.copy('office.db', 'fourth.db')
+    room.close('office.db', 'fourth.db')
+
+
 # closings in another order, and archives of another store, one after the other: copies, closings, and deliveries between them
 MARKS = '''
     copy office first; copy office unclosed; copy office second
@@ -345,6 +359,6 @@ def try_unreadable(room, day):
 
 def try_all(beside):
     """Each in a folder of its own."""
-    for trial in (try_files, try_copies, try_orders, try_marks, try_beside, try_registers, try_older, try_unreadable):
+    for trial in (try_files, try_copies, try_orders, try_lacking, try_marks, try_beside, try_registers, try_older, try_unreadable):
         with tempfile.TemporaryDirectory(prefix='beside-') as folder:
             trial(Room(beside, folder), Day(trial.__name__))

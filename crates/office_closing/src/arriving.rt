@@ -38,7 +38,7 @@ pub(crate) enum Likeness {
 /// arrived. It changes neither.
 ///
 /// One text of each file at a time is in memory beyond what the queries hold.
-pub(crate) fn likeness<S: Alter, A: Alter>(
+pub(crate) fn likeness_of_texts<S: Alter, A: Alter>(
     store: &mut Connection<S>,
     archive: &mut Connection<A>,
     closed: &Closed,
@@ -61,7 +61,7 @@ pub(crate) fn likeness<S: Alter, A: Alter>(
         Ok(rows) => rows,
         Err(error) => return Err(fault_in(File::Archive, error)),
     };
-    likeness_of(&mut own, &mut copy, closed)
+    likeness_of_queries(&mut own, &mut copy, closed)
 }
 
 /// That a file could not be read.
@@ -76,7 +76,7 @@ fn fault_in(file: File, error: Error) -> FileFault
 }
 
 /// How what the second query shows beyond what is closed stands to what the first shows.
-fn likeness_of<S: Alter, A: Alter>(
+fn likeness_of_queries<S: Alter, A: Alter>(
     own: &mut Rows<'_, S>,
     copy: &mut Rows<'_, A>,
     closed: &Closed,

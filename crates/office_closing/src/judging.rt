@@ -25,7 +25,7 @@ ghost use Rattle.office_tables.specs.Faults.{IsOfStore, IsOfStoreOr};
 ghost use Rattle.sqlite.specs.Held.{state};
 ghost use Rattle.sqlite.specs.State.{HasCleanDisk};
 
-use crate::arriving::{Likeness, likeness};
+use crate::arriving::{Likeness, likeness_of_texts};
 use crate::comparing::{Numbers, compare};
 use crate::faults::{CloseFault, File, FileFault, Refusal};
 use crate::planning::{Opened, Plan, is_unraised, make_plan};
@@ -275,7 +275,7 @@ fn check_order<S: Alter, A: Alter>(
     ensures archive_read { IsRead (state A.Store archive.old) (state A.Store archive.new) result }
 {
     let closed = own.register.closed(alloc)?;
-    match likeness(store, archive, &closed) {
+    match likeness_of_texts(store, archive, &closed) {
         Ok(told) => {
             if is_copied(told, plan) {
                 Ok(())

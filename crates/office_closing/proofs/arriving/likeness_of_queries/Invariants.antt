@@ -5,7 +5,7 @@ use Rattle.sqlite.specs.declared.error.Error.{Error}
 use Rattle.office_loading.specs.Closed.{last_closed}
 use Rattle.office_closing.specs.Arriving.{IsReadOn}
 use Rattle.office_closing.proofs.ArrivingLemmas.{HaveShownSame}
-use Rattle.office_closing.proofs.arriving.likeness_of.Given as goal
+use Rattle.office_closing.proofs.arriving.likeness_of_queries.Given as goal
 
 abbrev pub invariant-each : goal.invariant-each
 invariant-each g l =

@@ -15,7 +15,7 @@ use Rattle.office_closing.specs.Files.{IsRead}
 use Rattle.office_closing.proofs.ArrivingLemmas.{begun_is, begun_read, on_clean, on_same, read_any, read_since}
 use Rattle.office_closing.proofs.ArrivalQuery.{only_shows, tells_texts}
 use Rattle.office_closing.proofs.JudgeLemmas.{read_err}
-use Rattle.office_closing.proofs.arriving.likeness.Goals as goal
+use Rattle.office_closing.proofs.arriving.likeness_of_texts.Goals as goal
 
 -- what two queries tell from their start is told of the rows
 told_of : {S A : Type 0} (g : Ghosts S) (h : Ghosts A) (closed : ℕ → ℕ) (own : Held S) (own1 own2 : Rows S g) (copy : Held A) (copy1 copy2 : Rows A h)
@@ -67,28 +67,28 @@ returns-in-Err-query-clause-archive_read g c =
 pub returns-clause-store_read : goal.returns-clause-store_read
 returns-clause-store_read g c =
     let made = c.in-Ok.ensures in
-    let read : IsRead (state g.S.Store c.args.store.now) (state g.S.Store c.likeness_of.new.own.conn.now) c.likeness_of.result =
-    read_since g.S.Store (state g.S.Store c.args.store.now) c.in-Ok.rows c.likeness_of.new.own tt c.likeness_of.result
-    (begun_read g.S.Store select_arrivals c.args.store.now c.in-Ok.rows.conn.now only_shows made.begun made.mode made.survives) c.likeness_of.ensures.own in
+    let read : IsRead (state g.S.Store c.args.store.now) (state g.S.Store c.likeness_of_queries.new.own.conn.now) c.likeness_of_queries.result =
+    read_since g.S.Store (state g.S.Store c.args.store.now) c.in-Ok.rows c.likeness_of_queries.new.own tt c.likeness_of_queries.result
+    (begun_read g.S.Store select_arrivals c.args.store.now c.in-Ok.rows.conn.now only_shows made.begun made.mode made.survives) c.likeness_of_queries.ensures.own in
     search rules
 
 pub returns-clause-archive_read : goal.returns-clause-archive_read
 returns-clause-archive_read g c =
     let made = c.in-Ok-query.ensures in
-    let read : IsRead (state g.A.Store c.args.archive.now) (state g.A.Store c.likeness_of.new.copy.conn.now) c.likeness_of.result =
-    read_since g.A.Store (state g.A.Store c.args.archive.now) c.in-Ok-query.rows c.likeness_of.new.copy tt c.likeness_of.result
-    (begun_read g.A.Store select_arrivals c.args.archive.now c.in-Ok-query.rows.conn.now only_shows made.begun made.mode made.survives) c.likeness_of.ensures.copy in
+    let read : IsRead (state g.A.Store c.args.archive.now) (state g.A.Store c.likeness_of_queries.new.copy.conn.now) c.likeness_of_queries.result =
+    read_since g.A.Store (state g.A.Store c.args.archive.now) c.in-Ok-query.rows c.likeness_of_queries.new.copy tt c.likeness_of_queries.result
+    (begun_read g.A.Store select_arrivals c.args.archive.now c.in-Ok-query.rows.conn.now only_shows made.begun made.mode made.survives) c.likeness_of_queries.ensures.copy in
     search rules
 
 pub returns-clause-told : goal.returns-clause-told
 returns-clause-told g c here there =
-    let own' = state g.S.Store c.likeness_of.new.own.conn.now in
-    let copy' = state g.A.Store c.likeness_of.new.copy.conn.now in
+    let own' = state g.S.Store c.likeness_of_queries.new.own.conn.now in
+    let copy' = state g.A.Store c.likeness_of_queries.new.copy.conn.now in
     let clean : HasCleanDisk own' = search rules in
     let clean' : HasCleanDisk copy' = search rules in
-    let before = on_clean g.S.Store c.in-Ok.rows c.likeness_of.new.own c.likeness_of.result c.likeness_of.ensures.own clean in
-    let before' = on_clean g.A.Store c.in-Ok-query.rows c.likeness_of.new.copy c.likeness_of.result c.likeness_of.ensures.copy clean' in
-    told_of g.S.Store g.A.Store (last_closed c.args.closed.now) c.args.store.now c.in-Ok.rows c.likeness_of.new.own c.args.archive.now c.in-Ok-query.rows c.likeness_of.new.copy
+    let before = on_clean g.S.Store c.in-Ok.rows c.likeness_of_queries.new.own c.likeness_of_queries.result c.likeness_of_queries.ensures.own clean in
+    let before' = on_clean g.A.Store c.in-Ok-query.rows c.likeness_of_queries.new.copy c.likeness_of_queries.result c.likeness_of_queries.ensures.copy clean' in
+    told_of g.S.Store g.A.Store (last_closed c.args.closed.now) c.args.store.now c.in-Ok.rows c.likeness_of_queries.new.own c.args.archive.now c.in-Ok-query.rows c.likeness_of_queries.new.copy
     (begun_is g.S.Store select_arrivals c.args.store.now c.in-Ok.rows.conn.now only_shows c.in-Ok.ensures.begun before)
     (begun_is g.A.Store select_arrivals c.args.archive.now c.in-Ok-query.rows.conn.now only_shows c.in-Ok-query.ensures.begun before')
-    clean clean' c.likeness_of.result c.likeness_of.ensures.own c.likeness_of.ensures.copy (c.likeness_of.ensures.compared clean clean')
+    clean clean' c.likeness_of_queries.result c.likeness_of_queries.ensures.own c.likeness_of_queries.ensures.copy (c.likeness_of_queries.ensures.compared clean clean')

@@ -7,7 +7,7 @@ use Rattle.office_loading.specs.Closed.{last_closed}
 use Rattle.office_closing.specs.Arriving.{TellsRows}
 use Rattle.office_closing.proofs.ArrivingLemmas.{goes_on, no_damage, none_shown, on_any, on_clean, on_failed, on_none, on_then, told_by}
 use Rattle.office_closing.proofs.FileLemmas.{of_copy, of_own}
-use Rattle.office_closing.proofs.arriving.likeness_of.Goals as goal
+use Rattle.office_closing.proofs.arriving.likeness_of_queries.Goals as goal
 
 pub each-init : goal.each-init
 each-init g c = record {
