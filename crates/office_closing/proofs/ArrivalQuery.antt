@@ -108,11 +108,11 @@ module _ (rows : Rows) (old : State) (has : HasRows rows old.now) where
 abbrev row_of : Interchange → Row
 row_of i = Blob i.body ∷ number_value i.partner ∷ number_value i.number ∷ []
 
-row_or : List Row → Row
+abbrev row_or : List Row → Row
 row_or [] = []
 row_or (x ∷ l) = x
 
-rest_of : {X : Type 0} → List X → List X
+abbrev rest_of : {X : Type 0} → List X → List X
 rest_of [] = []
 rest_of (x ∷ l) = l
 
@@ -143,7 +143,7 @@ module _ (last_closed : ℕ → ℕ) where
 
 -- ---- first ones
 
-bytes_in : Value → List ℕ
+abbrev bytes_in : Value → List ℕ
 bytes_in Null = []
 bytes_in (Int n) = []
 bytes_in (Real x) = []
@@ -151,10 +151,10 @@ bytes_in (Text t) = []
 bytes_in (Blob b) = b
 
 -- a row back as the delivery that it shows
-delivery_in : Row → Delivery
+abbrev delivery_in : Row → Delivery
 delivery_in row = record { partner = number_in (column row 1); number = number_in (column row 2); text = bytes_in (column row 0) }
 
-row_from : Delivery → Row
+abbrev row_from : Delivery → Row
 row_from d = Blob d.text ∷ number_value d.partner ∷ number_value d.number ∷ []
 
 back_deliveries : (xs : List Interchange) → map delivery_in (map row_of xs) ≡ map as_delivery xs

@@ -244,14 +244,14 @@ module _ {S A : Type 0} (g : Ghosts S) (h : Ghosts A) (last_closed : ℕ → ℕ
     pub told_by : (kept copied : Option Row) (told : Likeness) → TellsRows kept copied (Some told) → GoesBeyond g last_closed own1.conn.now own2.conn.now kept → GoesBeyond h last_closed copy1.conn.now copy2.conn.now copied
         → AreCompared g h last_closed own.conn.now own2.conn.now copy.conn.now copy2.conn.now told
     told_by None None told is here there =
-        let as : likeness.Same ≡ told = cc in
-        subst (AreCompared g h last_closed own.conn.now own2.conn.now copy.conn.now copy2.conn.now) as (both_ended here there)
+        let told_is : likeness.Same ≡ told = cc in
+        subst (AreCompared g h last_closed own.conn.now own2.conn.now copy.conn.now copy2.conn.now) told_is (both_ended here there)
     told_by (Some row) None told is here there =
-        let as : likeness.First ≡ told = cc in
-        subst (AreCompared g h last_closed own.conn.now own2.conn.now copy.conn.now copy2.conn.now) as (copy_ended row here there)
+        let told_is : likeness.First ≡ told = cc in
+        subst (AreCompared g h last_closed own.conn.now own2.conn.now copy.conn.now copy2.conn.now) told_is (copy_ended row here there)
     told_by None (Some row) told is here there =
-        let as : likeness.Other ≡ told = cc in
-        subst (AreCompared g h last_closed own.conn.now own2.conn.now copy.conn.now copy2.conn.now) as (own_ended row here there)
+        let told_is : likeness.Other ≡ told = cc in
+        subst (AreCompared g h last_closed own.conn.now own2.conn.now copy.conn.now copy2.conn.now) told_is (own_ended row here there)
     told_by (Some other) (Some row) told is here there = subst (AreCompared g h last_closed own.conn.now own2.conn.now copy.conn.now copy2.conn.now) (sym is.0) (own_differs other row is.1 here there)
 
     pub goes_on : (kept copied : Option Row) → TellsRows kept copied None → GoesBeyond g last_closed own1.conn.now own2.conn.now kept → GoesBeyond h last_closed copy1.conn.now copy2.conn.now copied

@@ -31,7 +31,7 @@ use Rattle.office_closing.specs.declared.faults.CloseFault.{CloseFault}
 use Rattle.office_closing.specs.declared.faults.Refusal.{Refusal}
 use Rattle.office_closing.specs.Files.{Files}
 use Rattle.office_closing.specs.Planning.{IsRefused}
-use Rattle.office_closing.specs.Arriving.{HasAll, HasFirst, HasTexts}
+use Rattle.office_closing.specs.Arriving.{HasAll, HasFirst, HasTexts, arrivals}
 use Rattle.office_closing.specs.Refusing.{HasReason, HasUnfit, HasUnread, IsOfComparing, IsOfOpening, IsOfOrdering, IsOfThis, IsOtherwise, IsUnopened, IsWhy}
 use Rattle.office_closing.specs.Steps.{IsOfWriting, StepsIf}
 use Rattle.sqlite.specs.State.{State, HasCleanDisk, Survives}
@@ -325,20 +325,20 @@ this_more at Is Or more (fault.Comparing of) is = absurd is
 this_more at Is Or more fault.Memory is = tt
 
 -- what is wanted of texts may be less
-pub texts_for : {Wants Less : Type 0} {last_closed : ℕ → ℕ} {own copy : Rows} → (Less → Wants) → HasTexts Wants last_closed own copy → HasTexts Less last_closed own copy
+pub texts_for : {Wants Less : Type 0} {closed : ℕ → ℕ} {own copy : Rows} → (Less → Wants) → HasTexts Wants closed own copy → HasTexts Less closed own copy
 texts_for f texts = record { first = texts.first; all = λ less. texts.all (f less) }
 
 -- texts that are the same, that are the first of more, and others
-pub same_copied : (Wants : Type 0) (last_closed : ℕ → ℕ) (own copy : Rows) → HasAll last_closed own copy → HasTexts Wants last_closed own copy
-same_copied Wants last_closed own copy all = record { first = ([], sym all ∙ sym append-nil); all = λ wants. all }
+pub same_copied : (Wants : Type 0) (closed : ℕ → ℕ) (own copy : Rows) → HasAll closed own copy → HasTexts Wants closed own copy
+same_copied Wants closed own copy all = record { first = ([], sym all ∙ sym (append-nil (arrivals closed copy.interchanges))); all = λ wants. all }
 
-pub first_copied : (Wants : Type 0) (last_closed : ℕ → ℕ) (own copy : Rows) (wants : Bool) → (wants ≡ true) ↔ Wants → HasFirst last_closed own copy × ¬ HasAll last_closed own copy
-    → (not wants ≡ true) ↔ HasTexts Wants last_closed own copy
-first_copied Wants last_closed own copy true is told = (λ e. absurd cc, λ texts. absurd (told.1 (texts.all (is.0 refl))))
-first_copied Wants last_closed own copy false is told = (λ e. record { first = told.0; all = λ wants. absurd (let e = is.1 wants in cc) }, λ texts. refl)
+pub first_copied : (Wants : Type 0) (closed : ℕ → ℕ) (own copy : Rows) (wants : Bool) → (wants ≡ true) ↔ Wants → HasFirst closed own copy × ¬ HasAll closed own copy
+    → (not wants ≡ true) ↔ HasTexts Wants closed own copy
+first_copied Wants closed own copy true is told = (λ e. absurd cc, λ texts. absurd (told.1 (texts.all (is.0 refl))))
+first_copied Wants closed own copy false is told = (λ e. record { first = told.0; all = λ wants. absurd (let e = is.1 wants in cc) }, λ texts. refl)
 
-pub other_copied : (Wants : Type 0) (last_closed : ℕ → ℕ) (own copy : Rows) → ¬ HasFirst last_closed own copy → (false ≡ true) ↔ HasTexts Wants last_closed own copy
-other_copied Wants last_closed own copy told = (λ e. absurd cc, λ texts. absurd (told texts.first))
+pub other_copied : (Wants : Type 0) (closed : ℕ → ℕ) (own copy : Rows) → ¬ HasFirst closed own copy → (false ≡ true) ↔ HasTexts Wants closed own copy
+other_copied Wants closed own copy told = (λ e. absurd cc, λ texts. absurd (told texts.first))
 
 of_store_if : (P : Type 0) (why : TableFault) → IsOfStoreOr ⊥ why → IsOfStoreOr P why
 of_store_if P (Store e) is = tt
