@@ -4,6 +4,7 @@ mod FileLemmas
 mod PlanLemmas
 mod ArrivingLemmas
 mod ArrivalQuery
+mod JournalLemmas
 mod JudgeLemmas
 mod ClosesLemmas
 mod StandLemmas

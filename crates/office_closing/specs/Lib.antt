@@ -5,6 +5,7 @@ pub mod Clearing
 pub mod Files
 pub mod Copies
 pub mod Arriving
+pub mod Journal
 pub mod Planning
 pub mod Refusing
 pub mod Closes
