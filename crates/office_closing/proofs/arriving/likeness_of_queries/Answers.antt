@@ -1,4 +1,4 @@
-use Rattle.std.proofs.Common.{◌≡◌, Err, Ok, None, Some, sym, subst}
+use Rattle.std.proofs.Common.{Ok, None, Some, option_copied, subst}
 use Rattle.std.proofs.lemmas.Result.{err_from_is_err_and}
 use Rattle.sqlite.specs.Given.{row_if}
 use Rattle.sqlite.specs.Held.{state}
@@ -54,7 +54,7 @@ returns-in-Some-clause-compared g c here there =
     let copy_before = on_clean g.A.Store c.each.copy c.advance-in-each.new.rows _ c.in_ok-advance-2.ensures.read there in
     let kept = row_if c.advance.new.rows.has_row c.advance.new.rows.conn.now in
     let copied = row_if c.advance-in-each.new.rows.has_row c.advance-in-each.new.rows.conn.now in
-    let tells = subst (λ o. TellsRows o copied (Some c.in-Some.told)) c.get.ensures (subst (λ o. TellsRows _ o (Some c.in-Some.told)) c.get-in-each.ensures (rw c.in-Some.is at c.likeness_at.ensures)) in
+    let tells = subst (λ o. TellsRows o copied (Some c.in-Some.told)) c.get.ensures (subst (λ o. TellsRows (option_copied c.get.result) o (Some c.in-Some.told)) c.get-in-each.ensures (rw c.in-Some.is at c.likeness_at.ensures)) in
     told_by g.S.Store g.A.Store (last_closed c.args.closed.now) c.args.own.now c.each.own c.advance.new.rows c.args.copy.now c.each.copy c.advance-in-each.new.rows c.each.invariant.own own_before c.each.invariant.copy copy_before (c.each.invariant.same own_before copy_before)
     kept copied c.in-Some.told tells (c.in_ok-advance.ensures.goes here) (c.in_ok-advance-2.ensures.goes there)
 
@@ -62,7 +62,7 @@ pub each-preserved : goal.each-preserved
 each-preserved g c =
     let kept = row_if c.advance.new.rows.has_row c.advance.new.rows.conn.now in
     let copied = row_if c.advance-in-each.new.rows.has_row c.advance-in-each.new.rows.conn.now in
-    let tells = subst (λ o. TellsRows o copied None) c.get.ensures (subst (λ o. TellsRows _ o None) c.get-in-each.ensures (rw c.in_default.is at c.likeness_at.ensures)) in
+    let tells = subst (λ o. TellsRows o copied None) c.get.ensures (subst (λ o. TellsRows (option_copied c.get.result) o None) c.get-in-each.ensures (rw c.in_default.is at c.likeness_at.ensures)) in
     record {
       own = on_then g.S.Store c.args.own.now c.each.own c.advance.new.rows tt (Ok tt) c.each.invariant.own (on_any g.S.Store c.each.own c.advance.new.rows tt (Ok tt) c.in_ok-advance.ensures.read);
       copy = on_then g.A.Store c.args.copy.now c.each.copy c.advance-in-each.new.rows tt (Ok tt) c.each.invariant.copy (on_any g.A.Store c.each.copy c.advance-in-each.new.rows tt (Ok tt) c.in_ok-advance-2.ensures.read);

@@ -29,20 +29,20 @@ returns-then-is_copied-clause-texts g c here there rows copy has has' order orde
     let told = (c.is_copied.ensures _ rows copy (c.in-Ok.ensures.told here there rows copy has has' order order')).0 c.if-is_copied.true in
     subst (λ (f : ℕ → ℕ). HasTexts (WantsAll c.args.plan.now) f rows copy) (ap (λ (k : ClosedContent). k.last_closed) c.in_ok-closed.ensures) told
 
-pub returns-else-is_copied-clause-store_read : goal.returns-else-is_copied-clause-store_read
-returns-else-is_copied-clause-store_read g c = failed _ c.in-Ok.ensures.store_read
+pub returns-in-Ok-clause-store_read : goal.returns-in-Ok-clause-store_read
+returns-in-Ok-clause-store_read g c = failed _ c.in-Ok.ensures.store_read
 
-pub returns-else-is_copied-clause-archive_read : goal.returns-else-is_copied-clause-archive_read
-returns-else-is_copied-clause-archive_read g c = failed _ c.in-Ok.ensures.archive_read
+pub returns-in-Ok-clause-archive_read : goal.returns-in-Ok-clause-archive_read
+returns-in-Ok-clause-archive_read g c = failed _ c.in-Ok.ensures.archive_read
 
-pub returns-else-is_copied-clause-fault : goal.returns-else-is_copied-clause-fault
-returns-else-is_copied-clause-fault g c here there rows copy has has' order order' texts =
+pub returns-in-Ok-clause-fault : goal.returns-in-Ok-clause-fault
+returns-in-Ok-clause-fault g c here there rows copy has has' order order' texts =
     let back = subst (λ (f : ℕ → ℕ). HasTexts (WantsAll c.args.plan.now) f rows copy) (sym (ap (λ (k : ClosedContent). k.last_closed) c.in_ok-closed.ensures)) texts in
     let told = (c.is_copied.ensures _ rows copy (c.in-Ok.ensures.told here there rows copy has has' order order')).1 back in
     absurd (let both : false ≡ true = sym c.if-is_copied.false ∙ told in cc)
 
-pub returns-in-Err-clause-store_read : goal.returns-in-Err-clause-store_read
-returns-in-Err-clause-store_read g c = failed _ c.in-Err.ensures.store_read
+pub returns-clause-store_read : goal.returns-clause-store_read
+returns-clause-store_read g c = failed _ c.in-Err.ensures.store_read
 
-pub returns-in-Err-clause-archive_read : goal.returns-in-Err-clause-archive_read
-returns-in-Err-clause-archive_read g c = failed _ c.in-Err.ensures.archive_read
+pub returns-clause-archive_read : goal.returns-clause-archive_read
+returns-clause-archive_read g c = failed _ c.in-Err.ensures.archive_read

@@ -77,7 +77,7 @@ returns-in_err-check_order-clause-read g c =
     rw (p.1, p.2) (record {
       store = then_failed {F = CloseFault} _ (compared_store c.in_ok-named.named c.in_ok-own.ensures.rows_read c.in_ok-named.ensures.read c.in_ok-compare_all.ensures.store_read) c.in_err-check_order.ensures.store_read;
       register = failed _ c.in_ok-own.ensures.register_read;
-      archive = then_failed {F = CloseFault} _ (then_if_open {E = CloseFault} {F = CloseFault} {G = CloseFault} tt c.in_ok-copy.ensures.rows_read c.in_ok-compare_all.ensures.archive_read) c.in_err-check_order.ensures.archive_read;
+      archive = then_failed {F = CloseFault} _ (then_if_open {Z = Unit {0}} {E = CloseFault} {F = CloseFault} {G = CloseFault} tt c.in_ok-copy.ensures.rows_read c.in_ok-compare_all.ensures.archive_read) c.in_err-check_order.ensures.archive_read;
       archive_register = failed _ c.in_ok-copy.ensures.register_read;
     })
 
@@ -85,7 +85,7 @@ pub returns-clause-read : goal.returns-clause-read
 returns-clause-read g c = record {
   store = then_ok {F = CloseFault} c.in_ok-plan.plan (compared_store c.in_ok-named.named c.in_ok-own.ensures.rows_read c.in_ok-named.ensures.read c.in_ok-compare_all.ensures.store_read) c.in_ok-check_order.ensures.store_read;
   register = passed c.in_ok-plan.plan c.in_ok-own.ensures.register_read;
-  archive = then_ok {F = CloseFault} c.in_ok-plan.plan (then_if_open {E = CloseFault} {F = CloseFault} {G = CloseFault} tt c.in_ok-copy.ensures.rows_read c.in_ok-compare_all.ensures.archive_read) c.in_ok-check_order.ensures.archive_read;
+  archive = then_ok {F = CloseFault} c.in_ok-plan.plan (then_if_open {Z = Unit {0}} {E = CloseFault} {F = CloseFault} {G = CloseFault} tt c.in_ok-copy.ensures.rows_read c.in_ok-compare_all.ensures.archive_read) c.in_ok-check_order.ensures.archive_read;
   archive_register = passed c.in_ok-plan.plan c.in_ok-copy.ensures.register_read;
 }
 
