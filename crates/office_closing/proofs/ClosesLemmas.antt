@@ -15,7 +15,7 @@ use Rattle.office_closing.specs.declared.faults.File.TheVariants as file
 use Rattle.office_closing.specs.declared.planning.Plan.{Plan}
 use Rattle.office_closing.specs.declared.planning.PutAway.{PutAway}
 use Rattle.office_closing.specs.Clearing.{Clears}
-use Rattle.office_closing.specs.Closes.{AreHeld, AreInOrder, ArePutAway, HasItsTexts, IsOfClosing, Closes, Closing, HasArchive, Held, IsBeforehand, IsMarkedNow, IsLeft, StoresLeftRows, StoresMarked, StoresRaised, Tells, cleared, closing_content, AreOfSetup, PutsAway}
+use Rattle.office_closing.specs.Closes.{AreHeld, AreInTheirOrder, ArePutAway, HasItsTexts, IsOfClosing, Closes, Closing, HasArchive, Held, IsBeforehand, IsMarkedNow, IsLeft, StoresLeftRows, StoresMarked, StoresRaised, Tells, cleared, closing_content, AreOfSetup, PutsAway}
 use Rattle.office_closing.specs.Copies.{FileNames}
 use Rattle.office_closing.specs.Files.{AreClean, AreIdle, AreRead, Files, IsRead}
 use Rattle.office_closing.specs.Judging.{AreResting, IsJudged, IsResting}
@@ -127,7 +127,7 @@ closes_refused names old new fault rests idle read why = record {
 -- ---- after all four were read
 
 module _ (names : FileNames) (old mid : Files) (plan : Plan) (rests : AreResting old) (idle : AreIdle old) (read : AreRead {E = CloseFault} old mid (Ok plan))
-    (judged : AreClean mid → (held : Held) → AreHeld held old → IsJudged held names plan) (texts : AreClean mid → (held : Held) → AreHeld held old → AreInOrder held old → HasItsTexts held) where
+    (judged : AreClean mid → (held : Held) → AreHeld held old → IsJudged held names plan) (texts : AreClean mid → (held : Held) → AreHeld held old → AreInTheirOrder held old → HasItsTexts held) where
   abbrev closing : Closing
   closing = closing_content plan
 

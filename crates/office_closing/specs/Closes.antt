@@ -75,7 +75,7 @@ pub record AreHeld (held : Held) (files : Files) : Type 0 where
   pub copied_sound : IsSound held.copied
 
 -- the rows have the interchanges of store and archive in the order in which they stand in the tables, that of arrival
-pub record AreInOrder (held : Held) (files : Files) : Type 0 where
+pub record AreInTheirOrder (held : Held) (files : Files) : Type 0 where
   pub own : StandInOrder held.own.interchanges (files.store.now.trees 2)
   pub copy : StandInOrder held.copy.interchanges (files.archive.now.trees 2)
 
@@ -336,7 +336,8 @@ pub record Closes {T : Type 0} (names : FileNames) (old new : Files) (result : R
   pub stopped : AreClean new → IfErr result (λ fault. (held : Held) → AreHeld held old →
       AreRead old new result
       ⊎ ((file : File) × IsFileOf file fault × IsOfWriting fault × IsStoppedBy held names old new file))
-  pub texts : AreClean new → (held : Held) → AreHeld held old → AreInOrder held old → FindsTexts old new held result
+  pub texts : AreClean new → (held : Held) → AreHeld held old → AreInTheirOrder held old →
+      FindsTexts old new held result
   pub store : AreClean new → Survives old.store new.store (StoresLeftRows names old new)
   pub register : AreClean new → Survives old.register new.register (StoresRaised names old new)
   pub mark : AreClean new → Survives old.archive_register new.archive_register (StoresMarked names old)

@@ -1,7 +1,7 @@
 ghost use Rattle.std.specs.Prelude.{◌≡◌, ◌↔◌, ◌≤◌, ℕ, IfErr, IfOk, None, OnOk, IsTrue, length, map, true};
 ghost use Rattle.office_loading.specs.Closed.{closed_content};
 ghost use Rattle.office_closing.specs.Arriving.{HasTexts, IsTold, StandInOrder};
-ghost use Rattle.office_closing.specs.Closes.{AreHeld, AreInOrder, HasItsTexts, Held, Tells};
+ghost use Rattle.office_closing.specs.Closes.{AreHeld, AreInTheirOrder, HasItsTexts, Held, Tells};
 ghost use Rattle.office_closing.specs.Comparing.{IsComparedAs};
 ghost use Rattle.office_closing.specs.Copies.{IsOpened, office_content};
 ghost use Rattle.office_closing.specs.Files.{AreClean, AreRead, IsRead, IsReadIfOpen, files};
@@ -57,7 +57,7 @@ pub(crate) fn judge<S: Alter, R: Alter, A: Alter, M: Alter>(
     ensures texts { AreClean (files S.Store R.Store A.Store M.Store store.new register.new archive.new archive_register.new) →
         OnOk result ((held : Held) →
         AreHeld held (files S.Store R.Store A.Store M.Store store.old register.old archive.old archive_register.old) →
-        AreInOrder held (files S.Store R.Store A.Store M.Store store.old register.old archive.old archive_register.old)
+        AreInTheirOrder held (files S.Store R.Store A.Store M.Store store.old register.old archive.old archive_register.old)
         → HasItsTexts held) }
     ensures tells { AreClean (files S.Store R.Store A.Store M.Store store.new register.new archive.new archive_register.new) →
         IfErr result (λ fault. (held : Held) →
