@@ -55,6 +55,19 @@ def are_alike(store, archive):
         visits[number] == going[number] for number in going if number in visits)
 
 
+def arrived(office, register):
+    """The texts that an office keeps beyond what a register closes, closed since or waiting, each with its partner and its number,
+    in the order in which they came."""
+    return [row[:3] for row in interchange_rows(office) if row[1] > last_closed(register, row[0])]
+
+
+def has_texts(store, archive, wants_all):
+    """Whether the texts that the archive keeps beyond what the store's register closes are the first of the store's, or all of
+    them, if all are wanted."""
+    own, copied = (arrived(office, store.register) for office in (store, archive))
+    return copied == (own if wants_all else own[:len(copied)])
+
+
 def is_of_store(store, archive):
     """Of the same terminal, its accounts the first of the store's, none of its next numbers above the store's, its newest visit
     not newer."""
@@ -108,6 +121,8 @@ def close(store, archive, store_file, archive_file):
     if not is_of_store(store, archive) or not (is_done or is_new) or not is_sound(after) or not is_file_name(store_file):
         return 'Archive'
     if not is_done and not are_alike(store, archive):
+        return 'Archive'
+    if not has_texts(store, archive, is_new and not closed_by(archive)):
         return 'Archive'
     visits, lists = visits_to_go(store, archive), lists_to_go(store, place)
     archive.register = archive.register._replace(mark=store_file)

@@ -61,6 +61,14 @@ CHANGED = [
     "UPDATE visit SET in_at = '202403050911' WHERE visit = (SELECT min(visit) FROM visit WHERE out_by > 0)",
     "UPDATE setting SET value = 'TERM3' WHERE name = 'terminal'", 'UPDATE partner SET kind = 4 WHERE id = 1',
     "UPDATE partner SET code = 'HAULZ' WHERE id = 1"]
+# what makes one whose texts are not the first of the store's, in the order in which they came: the last of them came first; a
+# text waits that the store never had, after all others or before them
+REORDERED = [
+    'UPDATE interchange SET rowid = -rowid',
+    'UPDATE interchange SET rowid = -rowid WHERE rowid = (SELECT max(rowid) FROM interchange)',
+    "INSERT INTO interchange SELECT partner, 900000, body, '' FROM interchange WHERE rowid = 1",
+    "INSERT INTO interchange (rowid, partner, number, body, reply) SELECT -1, partner, 900000, body, '' FROM interchange "
+    'WHERE rowid = 1']
 
 
 def files_in(path):
@@ -175,7 +183,7 @@ def try_copies(room, day):
                                ('fewer.db', FEWER, 0), ('none.db', DEMO, 0), ('same.db', DEMO, 8)):
         room.make(name, Day('another', setup), count, setup)
         room.close('office.db', name)
-    for place, change in enumerate(CHANGED):
+    for place, change in enumerate(CHANGED + REORDERED):
         room.copy('office.db', 'changed%d.db' % place)
         edit(room.path('changed%d.db' % place), change)
         room.close('office.db', 'changed%d.db' % place, told('Archive'))
@@ -187,6 +195,33 @@ def try_copies(room, day):
     os.mkdir(room.path('folder'))
     room.copy('office.db', 'folder/copy.db')
     room.close('office.db', 'folder/copy.db')
+
+
+def try_orders(room, day):
+    """A store for which an older day was put back, and to which the texts since came in another order."""
+    room.make('office.db', day, DELIVERIES)
+    room.copy('office.db', 'early.db')
+    texts = [day.delivery() for _delivery in range(MORE)]
+    room.deliver('office.db', texts)
+    room.copy('office.db', 'copy.db')
+    room.copy('early.db', 'restored.db')
+    room.deliver('restored.db', texts[::-1])
+    room.close('restored.db', 'copy.db')
+    room.close('restored.db', 'early.db')
+
+
+def try_lacking(room, day):
+    """Copies that close no number: of a day before other texts came, and of now."""
+    room.make('office.db', day, DELIVERIES)
+    room.copy('office.db', 'first.db')
+    room.close('office.db', 'first.db')
+    room.copy('office.db', 'second.db')
+    room.deliver('office.db', [day.delivery() for _delivery in range(MORE)])
+    room.close('office.db', 'second.db')
+    room.copy('office.db', 'third.db')
+    room.close('office.db', 'third.db')
+    room.copy('office.db', 'fourth.db')
+    room.close('office.db', 'fourth.db')
 
 
 # closings in another order, and archives of another store, one after the other: copies, closings, and deliveries between them
@@ -324,6 +359,6 @@ def try_unreadable(room, day):
 
 def try_all(beside):
     """Each in a folder of its own."""
-    for trial in (try_files, try_copies, try_marks, try_beside, try_registers, try_older, try_unreadable):
+    for trial in (try_files, try_copies, try_orders, try_lacking, try_marks, try_beside, try_registers, try_older, try_unreadable):
         with tempfile.TemporaryDirectory(prefix='beside-') as folder:
             trial(Room(beside, folder), Day(trial.__name__))

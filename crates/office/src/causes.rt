@@ -84,6 +84,12 @@ impl Words {
         text: " keeps another interchange than the store under one number: copy the store again",
     };
 
+    /// An archive has texts in another order than the store, or texts that wait and never came to the store.
+    pub(crate) const OTHER_ORDER: Words = Words {
+        follow_path: true,
+        text: " has other texts than the store, or in another order: copy the store again",
+    };
+
     /// An archive has another visit of a number.
     pub(crate) const OTHER_VISIT: Words = Words {
         follow_path: true,

@@ -280,6 +280,7 @@ fn words_of_refusal(why: Refusal) -> Words {
         Refusal::Later => Words::LATER,
         Refusal::Register => Words::OTHER_REGISTER,
         Refusal::Interchange(_) => Words::OTHER_INTERCHANGE,
+        Refusal::Order => Words::OTHER_ORDER,
         Refusal::Visit(_) => Words::OTHER_VISIT,
     }
 }

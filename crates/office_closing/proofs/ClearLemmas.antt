@@ -491,6 +491,7 @@ refused_with own copy names named done are (fault.Archive refusal.Register) none
 refused_with own copy names named done are (fault.Archive refusal.Closed) is = absurd is
 refused_with own copy names named done are (fault.Archive refusal.Office) is = absurd is
 refused_with own copy names named done are (fault.Archive refusal.Later) is = absurd is
+refused_with own copy names named done are (fault.Archive refusal.Order) is = absurd is
 refused_with own copy names named done are (fault.Archive (refusal.Visit number)) is = absurd is
 refused_with own copy names named done are (fault.Archive (refusal.Interchange difference)) is = absurd is
 refused_with own copy names named done are (fault.File of) is = absurd is

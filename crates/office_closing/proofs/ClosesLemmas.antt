@@ -15,7 +15,7 @@ use Rattle.office_closing.specs.declared.faults.File.TheVariants as file
 use Rattle.office_closing.specs.declared.planning.Plan.{Plan}
 use Rattle.office_closing.specs.declared.planning.PutAway.{PutAway}
 use Rattle.office_closing.specs.Clearing.{Clears}
-use Rattle.office_closing.specs.Closes.{AreHeld, ArePutAway, IsOfClosing, Closes, Closing, HasArchive, Held, IsBeforehand, IsMarkedNow, IsLeft, StoresLeftRows, StoresMarked, StoresRaised, Tells, cleared, closing_content, AreOfSetup, PutsAway}
+use Rattle.office_closing.specs.Closes.{AreHeld, AreInTheirOrder, ArePutAway, HasItsTexts, IsOfClosing, Closes, Closing, HasArchive, Held, IsBeforehand, IsMarkedNow, IsLeft, StoresLeftRows, StoresMarked, StoresRaised, Tells, cleared, closing_content, AreOfSetup, PutsAway}
 use Rattle.office_closing.specs.Copies.{FileNames}
 use Rattle.office_closing.specs.Files.{AreClean, AreIdle, AreRead, Files, IsRead}
 use Rattle.office_closing.specs.Judging.{AreResting, IsJudged, IsResting}
@@ -117,6 +117,7 @@ closes_refused names old new fault rests idle read why = record {
   untouched = λ _. all_read_failed old new fault read;
   tells = why;
   stopped = λ clean held has. inl (all_read_failed old new fault read);
+  texts = λ clean held has order. inl (all_read_failed old new fault read);
   store = λ clean. quiet old.store new.store _ read.store.survives;
   register = λ clean. quiet old.register new.register _ read.register.survives;
   mark = λ clean. quiet old.archive_register new.archive_register _ read.archive_register.survives;
@@ -126,7 +127,7 @@ closes_refused names old new fault rests idle read why = record {
 -- ---- after all four were read
 
 module _ (names : FileNames) (old mid : Files) (plan : Plan) (rests : AreResting old) (idle : AreIdle old) (read : AreRead {E = CloseFault} old mid (Ok plan))
-    (judged : AreClean mid → (held : Held) → AreHeld held old → IsJudged held names plan) where
+    (judged : AreClean mid → (held : Held) → AreHeld held old → IsJudged held names plan) (texts : AreClean mid → (held : Held) → AreHeld held old → AreInTheirOrder held old → HasItsTexts held) where
   abbrev closing : Closing
   closing = closing_content plan
 
@@ -170,6 +171,7 @@ module _ (names : FileNames) (old mid : Files) (plan : Plan) (rests : AreResting
             marks.fault,
             (read.store.keeps (cleans_unmarked clean).store, read.register.keeps (cleans_unmarked clean).register),
           );
+      texts = λ clean held has order. inr (texts (cleans_unmarked clean) held has order);
       store = λ clean. quiet old.store mid.store _ read.store.survives;
       register = λ clean. quiet old.register mid.register _ read.register.survives;
       mark = λ clean. lemma.mark_survives names old mid plan rests read judged end (Err why) marks (λ _. cleans_unmarked clean);
@@ -212,6 +214,7 @@ module _ (names : FileNames) (old mid : Files) (plan : Plan) (rests : AreResting
                 lemma.marked_now names old mid plan rests read judged marked z marks clean.archive_register (cleans_unraised clean) held has,
               ),
             );
+        texts = λ clean held has order. inr (texts (cleans_unraised clean) held has order);
         store = λ clean. quiet old.store mid.store _ read.store.survives;
         register = λ clean.
             lemma.raise_survives names old mid plan rests read judged end (Err why) raises unraised_files (λ _. cleans_unraised clean)
@@ -271,6 +274,7 @@ module _ (names : FileNames) (old mid : Files) (plan : Plan) (rests : AreResting
         untouched = λ no. absurd (no clears.fault);
         tells = λ clean held has. of_store_there held names old file.Store why clears.fault;
         stopped = λ clean held has. inr (file.Store, refl, clears.fault, (closing, has_archive (Err why) clears clean held has));
+        texts = λ clean held has order. inr (texts (cleans (Err why) clears clean) held has order);
         store = store_crash (Err why) clears;
         register = register_crash (Err why) clears;
         mark = mark_crash (Err why) clears;
@@ -303,6 +307,7 @@ module _ (names : FileNames) (old mid : Files) (plan : Plan) (rests : AreResting
         untouched = tt;
         tells = λ clean. tt;
         stopped = λ clean. tt;
+        texts = λ clean held has order. texts (cleans (Ok x) clears clean) held has order;
         store = store_crash (Ok x) clears;
         register = register_crash (Ok x) clears;
         mark = mark_crash (Ok x) clears;

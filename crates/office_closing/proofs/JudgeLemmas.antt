@@ -9,7 +9,7 @@ use Rattle.terminal_core.specs.Rows.{VisitContent}
 use Rattle.terminal_core.specs.State.{last_number}
 use Rattle.office_loading.specs.Tables.{LoadsOwn}
 use Rattle.office_closing.specs.Waiting.{AreWaitedFor}
-use Rattle.office_closing.proofs.WaitingLemmas.{accounts_by_id, all_found, goes_as}
+use Rattle.office_closing.proofs.WaitingLemmas.{accounts_by_id, all_found, goes_as, one_nexts}
 use Rattle.office_parts.specs.OwnLists.{ListName}
 use Rattle.office_closing.specs.declared.register.Segment.{Segment}
 use Rattle.office_closing.specs.Changes.{closed_with, marked_for, unmarked}
@@ -23,9 +23,9 @@ use Rattle.office_closing.specs.declared.planning.Stage.{Stage}
 use Rattle.office_closing.specs.Deleting.{is_among}
 use Rattle.office_closing.specs.Closes.{AreHeld, Closing, ClosesAll, Held, IsAtStage, IsBelowNext, IsClosing, PutsAway, closed_after, closed_before, closing_content, raised_register}
 use Rattle.office_closing.specs.Comparing.{IsComparedAs}
-use Rattle.office_closing.specs.Copies.{FileNames, HasCome, IsOpened, OfficeContent, archive_in, is_put_away_with, lists_at, numbers_from, numbers_of, raised_by, segments_of}
+use Rattle.office_closing.specs.Copies.{ClosesNone, FileNames, HasCome, IsOpened, OfficeContent, archive_in, closes_some, is_put_away_with, lists_at, numbers_from, numbers_of, raised_by, segment_of, segments_of}
 use Rattle.office_closing.specs.Files.{Files, IsRead, IsReadIfOpen}
-use Rattle.office_closing.specs.Judging.{IsComparedIf, IsJudged}
+use Rattle.office_closing.specs.Judging.{IsComparedIf, IsJudged, WantsAll}
 use Rattle.office_closing.specs.Steps.{is_unraised}
 use Rattle.office_closing.specs.Laws.{Raises}
 use Rattle.office_closing.specs.Planning.{IsPlan}
@@ -84,6 +84,10 @@ those_with archive (one ∷ lists) = by (one.archive == archive) refl (those_wit
         → AllByRecursion (λ (l : SettledListContent). l.archive ≡ archive) (cond b (one ∷ filter (is_put_away_with archive) lists) (filter (is_put_away_with archive) lists))
     by true e rest = (eqb-true one.archive archive e, rest)
     by false e rest = rest
+
+none_mapped : {A B : Type 0} (f : A → B) (xs : List A) → map f xs ≡ [] → xs ≡ []
+none_mapped f [] e = refl
+none_mapped f (x ∷ xs) e = absurd cc
 
 -- ---- a plan
 
@@ -287,6 +291,42 @@ module _ (held : Held) (old : Files) (has : AreHeld held old) (names : FileNames
   plan_judged compared =
       let at = at_by plan.stage is.is_copy.comes.has_come in
       record { is_closing = judged_by plan.stage at (puts_away at) compared; at = at }
+
+  -- ---- the texts
+
+  begins_by : (s : Stage) → IsAtStage held names closing s → is_unraised s ≡ true → held.register ≡ unmarked held.copied
+  begins_by stage.New at e = at.0
+  begins_by stage.Marked at e = at.0
+  begins_by stage.Raised at e = absurd cc
+
+  unraised_by : (s : Stage) → IsAtStage held names closing s → held.register ≡ unmarked held.copied → is_unraised s ≡ true
+  unraised_by stage.New at new = refl
+  unraised_by stage.Marked at new = refl
+  unraised_by stage.Raised at new = absurd (one_longer held.copied.archives closing.archive (ap (λ (c : RegisterContent). c.archives) (sym at.0 ∙ new)))
+
+  abbrev closed_of : List ℕ → List Numbers
+  closed_of nexts = filter closes_some (numbers_from (last_closed held.copied.segments) 1 nexts)
+
+  abbrev place : ℕ
+  place = (archive_in names.archive copy).place
+
+  segments_of_closed : plan.segments.items ≡ map (segment_of place) (closed_of copy.nexts)
+  segments_of_closed = is.segments ∙ ap (λ (c : RegisterContent). map (segment_of place) (filter closes_some (numbers_from (last_closed c.segments) 1 copy.nexts))) copy_register
+
+  -- all texts are wanted just if the closing begins and closes no number
+  pub wants_none : WantsAll plan → ClosesNone held.register held.copied held.copy
+  wants_none wants = record {
+    begins = begins_by plan.stage (at_by plan.stage is.is_copy.comes.has_come) wants.0;
+    nexts = copy.nexts;
+    are_nexts = of_copy.nexts held.copy has.copy;
+    none = none_mapped (segment_of place) (closed_of copy.nexts) (sym segments_of_closed ∙ wants.1);
+  }
+
+  pub none_wants : ClosesNone held.register held.copied held.copy → WantsAll plan
+  none_wants none = (
+    unraised_by plan.stage (at_by plan.stage is.is_copy.comes.has_come) none.begins,
+    segments_of_closed ∙ ap (map (segment_of place)) (ap closed_of (one_nexts held.copy copy.nexts none.nexts has.copy_orderly.accounts (of_copy.nexts held.copy has.copy) none.are_nexts) ∙ none.none),
+  )
 
 -- ==== ReadLemmas: Files that are read, one call after the other, whatever comes of it.
 

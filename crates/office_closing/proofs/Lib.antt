@@ -2,6 +2,9 @@ mod ClearLemmas
 mod NumberLemmas
 mod FileLemmas
 mod PlanLemmas
+mod ArrivingLemmas
+mod ArrivalQuery
+mod JournalLemmas
 mod JudgeLemmas
 mod ClosesLemmas
 mod StandLemmas

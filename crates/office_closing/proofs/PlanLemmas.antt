@@ -1,9 +1,9 @@
 -- What an archive closes, by its numbers and by its segments.
 use Rattle.std.proofs.Common.{◌≡◌, inl, inr, ℕ, suc, ◌<◌, ◌≤◌, ◌==◌, ◌||◌, List, [], ◌∷◌, Bool, true, false, cond, not, filter, get_or, refl, sym, ap, ap₂, subst, ◌∙◌, arith, ◌⊎◌, ◌+◌, ◌-◌, ◌&&◌, max, ◌++◌, if◌then◌else◌, map, length, take, drop, length-append, Ok, Err, IsTrue}
-use Rattle.std.specs.Prelude.{Contains, None, All, slice_get, nat_le, nat_lt}
+use Rattle.std.specs.Prelude.{◌↔◌, Contains, None, All, slice_get, nat_le, nat_lt}
 use Rattle.std.specs.List.{AllByRecursion, list_any, range_with_len}
 use Rattle.std.proofs.lemmas.Bool.{cases_Bool, eqb-true, le-leb, leb-true, and_parts, eq-eqb, lt-ltb, ltb-true}
-use Rattle.std.proofs.lemmas.List.{get_or_default, get_or-map, get_or_append_left, length-map, map-append, take_all, take-append-drop}
+use Rattle.std.proofs.lemmas.List.{get_or_default, get_or-map, get_or_append_left, length-map, map-append, take_all, take-append-drop, append-nil}
 use Rattle.std.proofs.lemmas.List.Elements.{filter_passes, recursion_from_All}
 use Rattle.std.proofs.lemmas.Bool.Decides.{nat_tests}
 use Rattle.std.proofs.lemmas.Option.{same_Some}
@@ -19,19 +19,20 @@ use Rattle.office_parts.specs.Parts.{Archived}
 use Rattle.office_parts.proofs.LeftOver.{may_go}
 use Rattle.office_parts.proofs.Opening.{own_beyond}
 use Rattle.office_closing.specs.declared.comparing.Numbers.{Numbers}
-use Rattle.office_closing.specs.Comparing.{IsComparedAs}
+use Rattle.office_closing.specs.Comparing.{IsComparedAs, IsOfFile}
 use Rattle.office_closing.specs.Deleting.{all_but, without_visits, goes, is_of, is_among}
 use Rattle.office_closing.specs.Laws.{Raises, ComparedIsHeld, ClearingLeavesTheRest, ClearedIsCarried}
 use Rattle.office_closing.specs.Visits.{AreToGo, GoesBelow}
 use Rattle.office_history.proofs.Kept.{head_in, tail_in}
 use Rattle.office_closing.specs.declared.register.Segment.{Segment}
 use Rattle.office_closing.specs.Register.{last_closed, RegisterContent}
-use Rattle.office_closing.specs.Copies.{AreAtMost, closes_some, numbers_from, segment_of, segments_of, FileNames, IsOpened, OfficeContent, AreFirst}
+use Rattle.office_closing.specs.Copies.{AreAtMost, ClosesNone, closes_some, numbers_from, segment_of, segments_of, FileNames, IsOpened, OfficeContent, AreFirst}
 use Rattle.office_closing.specs.declared.faults.CloseFault.{CloseFault}
 use Rattle.office_closing.specs.declared.faults.Refusal.{Refusal}
 use Rattle.office_closing.specs.Files.{Files}
 use Rattle.office_closing.specs.Planning.{IsRefused}
-use Rattle.office_closing.specs.Refusing.{HasReason, HasUnread, IsOfComparing, IsOfOpening, IsOfThis, IsOtherwise, IsUnopened, IsWhy}
+use Rattle.office_closing.specs.Arriving.{HasAll, HasFirst, HasTexts, arrivals}
+use Rattle.office_closing.specs.Refusing.{HasReason, HasUnfit, HasUnread, IsOfComparing, IsOfOpening, IsOfOrdering, IsOfThis, IsOtherwise, IsUnopened, IsWhy}
 use Rattle.office_closing.specs.Steps.{IsOfWriting, StepsIf}
 use Rattle.sqlite.specs.State.{State, HasCleanDisk, Survives}
 use Rattle.sqlite.proofs.StateLemmas.{survives_weaker}
@@ -323,6 +324,28 @@ this_more at Is Or more (fault.File of) is = (is.0, more of.fault is.1)
 this_more at Is Or more (fault.Comparing of) is = absurd is
 this_more at Is Or more fault.Memory is = tt
 
+-- what is wanted of texts may be less
+pub texts_for : {Wants Less : Type 0} {closed : ℕ → ℕ} {own copy : Rows} → (Less → Wants) → HasTexts Wants closed own copy → HasTexts Less closed own copy
+texts_for f texts = record { first = texts.first; all = λ less. texts.all (f less) }
+
+-- texts that are the same, that are the first of more, and others
+pub same_copied : (Wants : Type 0) (closed : ℕ → ℕ) (own copy : Rows) → HasAll closed own copy → HasTexts Wants closed own copy
+same_copied Wants closed own copy all = record { first = ([], sym all ∙ sym (append-nil (arrivals closed copy.interchanges))); all = λ wants. all }
+
+pub first_copied : (Wants : Type 0) (closed : ℕ → ℕ) (own copy : Rows) (wants : Bool) → (wants ≡ true) ↔ Wants → HasFirst closed own copy × ¬ HasAll closed own copy
+    → (not wants ≡ true) ↔ HasTexts Wants closed own copy
+first_copied Wants closed own copy true is told = (λ e. absurd cc, λ texts. absurd (told.1 (texts.all (is.0 refl))))
+first_copied Wants closed own copy false is told = (λ e. record { first = told.0; all = λ wants. absurd (let e = is.1 wants in cc) }, λ texts. refl)
+
+pub other_copied : (Wants : Type 0) (closed : ℕ → ℕ) (own copy : Rows) → ¬ HasFirst closed own copy → (false ≡ true) ↔ HasTexts Wants closed own copy
+other_copied Wants closed own copy told = (λ e. absurd cc, λ texts. absurd (told texts.first))
+
+of_store_if : (P : Type 0) (why : TableFault) → IsOfStoreOr ⊥ why → IsOfStoreOr P why
+of_store_if P (Store e) is = tt
+of_store_if P Memory is = tt
+of_store_if P Damaged is = absurd is
+of_store_if P Version is = is
+
 module _ (held : Held) (names : FileNames) (files : Files) where
   abbrev own : Rows
   own = held.own
@@ -359,12 +382,13 @@ module _ (held : Held) (names : FileNames) (files : Files) where
   written_tells (fault.Comparing of) is = absurd is
   written_tells fault.Memory is = absurd is
 
-  why_by : (why : Refusal) → HasReason names files why → IsWhy own copy names files why
+  why_by : (why : Refusal) → HasReason names files why → IsWhy held.register held.copied own copy names files why
   why_by (refusal.Interchange difference) has = absurd has.is_reason
   why_by refusal.Closed has = has
   why_by refusal.Office has = has
   why_by refusal.Later has = has
   why_by refusal.Register has = has
+  why_by refusal.Order has = absurd has.is_reason
   why_by (refusal.Visit number) has = has
 
   pub plan_tells : (here there : OfficeContent) → IsOpened files.store.now files.register.now here → IsOpened files.archive.now files.archive_register.now there → (why : CloseFault) → IsRefused here there names why → Tells held names files why
@@ -373,12 +397,13 @@ module _ (held : Held) (names : FileNames) (files : Files) where
   plan_tells here there a b (fault.Comparing of) is = absurd is
   plan_tells here there a b fault.Memory is = tt
 
-  otherwise_told : (why : Refusal) → IsOtherwise own copy why → IsWhy own copy names files why
+  otherwise_told : (why : Refusal) → IsOtherwise own copy why → IsWhy held.register held.copied own copy names files why
   otherwise_told (refusal.Interchange difference) is = is
   otherwise_told refusal.Closed is = absurd is
   otherwise_told refusal.Office is = absurd is
   otherwise_told refusal.Later is = absurd is
   otherwise_told refusal.Register is = absurd is
+  otherwise_told refusal.Order is = absurd is
   otherwise_told (refusal.Visit number) is = absurd is
 
   pub compared_tells : (why : CloseFault) → IsOfComparing own copy why → Tells held names files why
@@ -386,6 +411,26 @@ module _ (held : Held) (names : FileNames) (files : Files) where
   compared_tells (fault.File of) is = absurd is
   compared_tells (fault.Comparing of) is = is
   compared_tells fault.Memory is = absurd is
+
+  -- what is wanted is so if the closing begins and closes no number
+  pub ordering_tells : (Wants : Type 0) → (Wants → ClosesNone held.register held.copied copy) → (why : CloseFault)
+      → IsOfOrdering Wants (last_closed held.register.segments) own copy files.store.now files.archive.now why → Tells held names files why
+  ordering_tells Wants so (fault.Archive refusal.Order) is = λ order order' texts. is order order' (texts_for so texts)
+  ordering_tells Wants so (fault.Archive (refusal.Interchange difference)) is = absurd is
+  ordering_tells Wants so (fault.Archive refusal.Closed) is = absurd is
+  ordering_tells Wants so (fault.Archive refusal.Office) is = absurd is
+  ordering_tells Wants so (fault.Archive refusal.Later) is = absurd is
+  ordering_tells Wants so (fault.Archive refusal.Register) is = absurd is
+  ordering_tells Wants so (fault.Archive (refusal.Visit number)) is = absurd is
+  ordering_tells Wants so (fault.File of) is = absurd is
+  ordering_tells Wants so (fault.Comparing of) is = no_more of.file of.fault is
+    where
+      no_more : (at : File) (why : TableFault) → IsOfFile ⊥ ⊥ at why → IsOfFile (HasUnfit own) (HasUnfit copy) at why
+      no_more file.Store why is = of_store_if (HasUnfit own) why is
+      no_more file.Archive why is = of_store_if (HasUnfit copy) why is
+      no_more file.Register why is = is
+      no_more file.ArchiveRegister why is = is
+  ordering_tells Wants so fault.Memory is = tt
 
 -- ==== CopyLemmas: Lists that are compared from their front.
 

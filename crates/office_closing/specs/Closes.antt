@@ -1,5 +1,5 @@
 -- What a closing of a store does: what it closes, what is left, and what it leaves at a fault and by a crash.
-use Rattle.std.specs.Prelude.{◌≡◌, ◌⊎◌, ℕ, ◌+◌, ◌<◌, ◌≤◌, true, Bool, List, Contains, length, map, None, Some, Result, IfErr, IsTrue, OnErr, OnOk}
+use Rattle.std.specs.Prelude.{◌≡◌, ◌⊎◌, ℕ, ◌+◌, ◌<◌, ◌≤◌, true, Bool, List, Contains, length, map, None, Some, Result, Ok, Err, IfErr, IsTrue, OnErr, OnOk}
 use Rattle.std.specs.List.{AllByRecursion, range_with_len}
 use Rattle.sqlite.specs.Effect.{Database}
 use Rattle.sqlite.specs.State.{KeepsCommit, State, Survives}
@@ -37,8 +37,9 @@ use Rattle.office_closing.specs.declared.planning.Plan.{Plan}
 use Rattle.office_closing.specs.declared.planning.PutAway.{PutAway}
 use Rattle.office_closing.specs.declared.planning.Stage.{Stage}
 use Rattle.office_closing.specs.declared.planning.Stage.TheVariants as stage
+use Rattle.office_closing.specs.Arriving.{HasTexts, StandInOrder}
 use Rattle.office_closing.specs.Comparing.{IsOfEither}
-use Rattle.office_closing.specs.Copies.{FileNames, numbers_from, segments_of}
+use Rattle.office_closing.specs.Copies.{ClosesNone, FileNames, numbers_from, segments_of}
 use Rattle.office_closing.specs.Deleting.{all_but, goes, is_one_of, with_visits_that, without_visits}
 use Rattle.office_closing.specs.Files.{Files, AreClean, AreIdle, AreRead, IsRead}
 use Rattle.office_closing.specs.Laws.{Raises}
@@ -72,6 +73,11 @@ pub record AreHeld (held : Held) (files : Files) : Type 0 where
   pub copy_orderly : AreOrderly held.copy
   pub register_sound : IsSound held.register
   pub copied_sound : IsSound held.copied
+
+-- the rows have the interchanges of store and archive in the order in which they stand in the tables, that of arrival
+pub record AreInTheirOrder (held : Held) (files : Files) : Type 0 where
+  pub own : StandInOrder held.own.interchanges (files.store.now.trees 2)
+  pub copy : StandInOrder held.copy.interchanges (files.archive.now.trees 2)
 
 -- ---- what is closed
 
@@ -279,7 +285,8 @@ IsFaultIn held files file.ArchiveRegister fault = IsOfStore fault
 -- What a fault tells: why the archive is refused; what a file has that can't be read; of the store or of the archive, where they
 -- were compared, that it failed or has a reply that is no text.
 abbrev pub Tells : Held → FileNames → Files → CloseFault → Type 0
-Tells held names files (fault.Archive why) = IsWhy held.own held.copy names files why
+Tells held names files (fault.Archive why) =
+    IsWhy held.register held.copied held.own held.copy names files why
 Tells held names files (fault.File of) = IsFaultIn held files of.file of.fault
 Tells held names files (fault.Comparing of) = IsOfEither (HasUnfit held.own) (HasUnfit held.copy) of
 Tells held names files fault.Memory = Unit {0}
@@ -301,6 +308,19 @@ IsBeforehand (fault.File of) = ¬ IsOfStore of.fault
 IsBeforehand (fault.Comparing of) = Unit {0}
 IsBeforehand fault.Memory = Unit {0}
 
+-- ---- the order of arrival
+
+-- What the archive has beyond what the store's register closes, closed now or waiting, is the first of what the store has so.
+-- It is all of it if the closing begins and closes no number: else some of what an archive before it has would be told twice.
+abbrev pub HasItsTexts : Held → Type 0
+HasItsTexts held =
+    HasTexts (ClosesNone held.register held.copied held.copy) (closed_before held) held.own held.copy
+
+-- that was found before anything was written
+abbrev pub FindsTexts : {T : Type 0} → (old new : Files) → Held → Result T CloseFault → Type 0
+FindsTexts old new held (Ok closed) = HasItsTexts held
+FindsTexts old new held (Err why) = AreRead {T = Unit {0}} old new (Err why) ⊎ HasItsTexts held
+
 -- ---- the whole
 
 -- At Ok the store is closed. At a fault it is stopped somewhere, and before anything was written if the archive was refused
@@ -316,6 +336,8 @@ pub record Closes {T : Type 0} (names : FileNames) (old new : Files) (result : R
   pub stopped : AreClean new → IfErr result (λ fault. (held : Held) → AreHeld held old →
       AreRead old new result
       ⊎ ((file : File) × IsFileOf file fault × IsOfWriting fault × IsStoppedBy held names old new file))
+  pub texts : AreClean new → (held : Held) → AreHeld held old → AreInTheirOrder held old →
+      FindsTexts old new held result
   pub store : AreClean new → Survives old.store new.store (StoresLeftRows names old new)
   pub register : AreClean new → Survives old.register new.register (StoresRaised names old new)
   pub mark : AreClean new → Survives old.archive_register new.archive_register (StoresMarked names old)

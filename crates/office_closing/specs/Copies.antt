@@ -87,6 +87,13 @@ raised_by file lists copy =
     closed_with (archive_in file copy) (segments_of (archive_in file copy).place (numbers_of copy)) lists
     (unmarked copy.register)
 
+-- by the registers and the archive's rows a closing begins with the archive, and closes no number
+pub record ClosesNone (register copied : RegisterContent) (copy : Rows) : Type 0 where
+  pub begins : register ≡ unmarked copied
+  pub nexts : List ℕ
+  pub are_nexts : AreNexts copy nexts
+  pub none : filter closes_some (numbers_from (last_closed copied.segments) 1 nexts) ≡ []
+
 -- ---- lists
 
 -- the lists of this terminal that are done and not among those named, each as put away with that archive
@@ -175,11 +182,12 @@ pub record ComesToNone (own copy : OfficeContent) (names : FileNames) : Type 0 w
   pub none : (come : Stage) →
       ¬ ComesOn own copy names (lists_at own (archive_in names.archive copy).place done come) come
 
--- why the archive does not take the store's history; a number that it keeps otherwise is found in rows
+-- why the archive does not take the store's history; a number that it keeps otherwise, or in another order, is found in rows
 abbrev pub IsReason : OfficeContent → OfficeContent → FileNames → Refusal → Type 0
 IsReason own copy names refusal.Closed = own.register.closed_for ≢ None
 IsReason own copy names refusal.Office = ¬ IsSameOffice own copy
 IsReason own copy names refusal.Later = ¬ IsNoLater own copy
 IsReason own copy names refusal.Register = ComesToNone own copy names
 IsReason own copy names (refusal.Visit number) = IsCauseOf own.terminal.visits copy.terminal.visits (Differs number)
+IsReason own copy names refusal.Order = ⊥
 IsReason own copy names (refusal.Interchange difference) = ⊥

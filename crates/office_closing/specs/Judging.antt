@@ -1,5 +1,5 @@
 -- What is found of the four files before anything is written.
-use Rattle.std.specs.Prelude.{◌≡◌, true, None, IsTrue}
+use Rattle.std.specs.Prelude.{◌≡◌, true, [], None, IsTrue}
 use Rattle.sqlite.specs.State.{State}
 use Rattle.sqlite.specs.Tree.{Trees}
 use Rattle.office_closing.specs.declared.planning.Plan.{Plan}
@@ -18,6 +18,10 @@ pub record IsJudged (held : Held) (names : FileNames) (plan : Plan) : Type 0 whe
 abbrev pub IsComparedIf : Plan → Held → Type 0
 IsComparedIf plan held =
     is_unraised plan.stage ≡ true → IsComparedAs plan.numbers.items held.own held.copy None
+
+-- the archive's texts have to be all of the store's: the closing begins, and closes no number
+abbrev pub WantsAll : Plan → Type 0
+WantsAll plan = (is_unraised plan.stage ≡ true) × (plan.segments.items ≡ [])
 
 -- outside a transaction, while the connection is open: what was committed is in memory, and a crash leaves only that
 pub record IsResting (state : State) : Type 0 where

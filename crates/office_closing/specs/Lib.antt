@@ -4,6 +4,8 @@ pub mod Visits
 pub mod Clearing
 pub mod Files
 pub mod Copies
+pub mod Arriving
+pub mod Journal
 pub mod Planning
 pub mod Refusing
 pub mod Closes

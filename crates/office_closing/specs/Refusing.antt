@@ -12,10 +12,11 @@ use Rattle.office_closing.specs.declared.faults.CloseFault.{CloseFault}
 use Rattle.office_closing.specs.declared.faults.CloseFault.TheVariants as fault
 use Rattle.office_closing.specs.declared.faults.Refusal.{Refusal}
 use Rattle.office_closing.specs.declared.faults.Refusal.TheVariants as refusal
+use Rattle.office_closing.specs.Arriving.{HasTexts, StandInOrder}
 use Rattle.office_closing.specs.Comparing.{IsOfEither, IsToldAlike}
-use Rattle.office_closing.specs.Copies.{FileNames, IsOpened, IsReason, OfficeContent}
+use Rattle.office_closing.specs.Copies.{ClosesNone, FileNames, IsOpened, IsReason, OfficeContent}
 use Rattle.office_closing.specs.Files.{Files}
-use Rattle.office_closing.specs.Register.{RegisterContent, closed_by}
+use Rattle.office_closing.specs.Register.{RegisterContent, closed_by, last_closed}
 use Rattle.office_closing.specs.Waiting.{HasWaiting}
 
 -- ---- a file that can't be read
@@ -59,11 +60,23 @@ pub record HasReason (names : FileNames) (files : Files) (why : Refusal) : Type 
   pub copy_opens : IsOpened files.archive.now files.archive_register.now copy
   pub is_reason : IsReason own copy names why
 
--- why the archive is refused: it tells another text or reply under that number; or the offices give the reason
-abbrev pub IsWhy : (own copy : Rows) → FileNames → Files → Refusal → Type 0
-IsWhy own copy names files (refusal.Interchange difference) =
+-- where the tables have the interchanges in this order, those of the archive beyond what is closed are not the first of the
+-- store's, or not all of them, though that is wanted
+abbrev pub IsOutOfOrder : (wants_all : Type 0) (last_closed : ℕ → ℕ) → (own copy : Rows) → (store archive : Database) →
+    Type 0
+IsOutOfOrder wants_all last_closed own copy store archive =
+    StandInOrder own.interchanges (store.trees 2) → StandInOrder copy.interchanges (archive.trees 2)
+    → ¬ HasTexts wants_all last_closed own copy
+
+-- why the archive is refused: it tells another text or reply under that number; its texts are not the first of the store's,
+-- beyond what the store's register closes, or not all, though it closes no number; or the offices give the reason
+abbrev pub IsWhy : (register copied : RegisterContent) → (own copy : Rows) → FileNames → Files → Refusal → Type 0
+IsWhy register copied own copy names files (refusal.Interchange difference) =
     ¬ IsToldAlike difference.partner difference.number own copy
-IsWhy own copy names files why = HasReason names files why
+IsWhy register copied own copy names files refusal.Order =
+    IsOutOfOrder (ClosesNone register copied copy) (last_closed register.segments) own copy files.store.now
+    files.archive.now
+IsWhy register copied own copy names files why = HasReason names files why
 
 -- a reply is no text
 abbrev pub HasUnfit : Rows → Type 0
@@ -83,3 +96,15 @@ IsOfComparing own copy (fault.Archive why) = IsOtherwise own copy why
 IsOfComparing own copy (fault.File of) = ⊥
 IsOfComparing own copy (fault.Comparing of) = IsOfEither (HasUnfit own) (HasUnfit copy) of
 IsOfComparing own copy fault.Memory = ⊥
+
+-- ---- where their order is compared
+
+-- the archive is refused for its order, or one of the two failed
+abbrev pub IsOfOrdering : (wants_all : Type 0) (last_closed : ℕ → ℕ) → (own copy : Rows) → (store archive : Database) →
+    CloseFault → Type 0
+IsOfOrdering wants_all last_closed own copy store archive (fault.Archive refusal.Order) =
+    IsOutOfOrder wants_all last_closed own copy store archive
+IsOfOrdering wants_all last_closed own copy store archive (fault.Archive why) = ⊥
+IsOfOrdering wants_all last_closed own copy store archive (fault.File of) = ⊥
+IsOfOrdering wants_all last_closed own copy store archive (fault.Comparing of) = IsOfEither ⊥ ⊥ of
+IsOfOrdering wants_all last_closed own copy store archive fault.Memory = Unit {0}

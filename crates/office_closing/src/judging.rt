@@ -1,16 +1,17 @@
-ghost use Rattle.std.specs.Prelude.{◌≡◌, ◌≤◌, IfErr, IfOk, None, OnOk, IsTrue, length, map};
+ghost use Rattle.std.specs.Prelude.{◌≡◌, ◌↔◌, ◌≤◌, ℕ, IfErr, IfOk, None, OnOk, IsTrue, length, map, true};
 ghost use Rattle.office_loading.specs.Closed.{closed_content};
-ghost use Rattle.office_closing.specs.Closes.{AreHeld, Held, Tells};
+ghost use Rattle.office_closing.specs.Arriving.{HasTexts, IsTold, StandInOrder};
+ghost use Rattle.office_closing.specs.Closes.{AreHeld, AreInTheirOrder, HasItsTexts, Held, Tells};
 ghost use Rattle.office_closing.specs.Comparing.{IsComparedAs};
 ghost use Rattle.office_closing.specs.Copies.{IsOpened, office_content};
 ghost use Rattle.office_closing.specs.Files.{AreClean, AreRead, IsRead, IsReadIfOpen, files};
-ghost use Rattle.office_closing.specs.Judging.{IsComparedIf, IsJudged};
-ghost use Rattle.office_closing.specs.Refusing.{HasUnread, IsOfComparing, IsOfOpening, IsOfThis};
+ghost use Rattle.office_closing.specs.Judging.{IsComparedIf, IsJudged, WantsAll};
+ghost use Rattle.office_closing.specs.Refusing.{HasUnread, IsOfComparing, IsOfOpening, IsOfOrdering, IsOfThis};
 ghost use Rattle.office_closing.specs.Waiting.{AreWaitedFor, HaveNexts};
 ghost use Rattle.office_history.specs.After.{AreKeptOnce};
 ghost use Rattle.office_parts.specs.Named.{named_list_content};
 ghost use Rattle.office_loading.specs.Tables.{FailsToLoadOwn, HasHighNext, LoadsOwn};
-ghost use Rattle.office_closing.specs.Register.{RegisterContent, register_content};
+ghost use Rattle.office_closing.specs.Register.{RegisterContent, last_closed, register_content};
 ghost use Rattle.office_closing.specs.Sound.{IsSound, is_sound};
 ghost use Rattle.office_closing.specs.Stored.{HasRegister};
 ghost use Rattle.office_rows.specs.Rows.{Rows};
@@ -24,6 +25,7 @@ ghost use Rattle.office_tables.specs.Faults.{IsOfStore, IsOfStoreOr};
 ghost use Rattle.sqlite.specs.Held.{state};
 ghost use Rattle.sqlite.specs.State.{HasCleanDisk};
 
+use crate::arriving::{Likeness, likeness_of_texts};
 use crate::comparing::{Numbers, compare};
 use crate::faults::{CloseFault, File, FileFault, Refusal};
 use crate::planning::{Opened, Plan, is_unraised, make_plan};
@@ -52,6 +54,11 @@ pub(crate) fn judge<S: Alter, R: Alter, A: Alter, M: Alter>(
         IfOk result (λ plan. (held : Held) →
         AreHeld held (files S.Store R.Store A.Store M.Store store.old register.old archive.old archive_register.old) →
         IsJudged held (record { store = store_file.now; archive = archive_file.now }) plan) }
+    ensures texts { AreClean (files S.Store R.Store A.Store M.Store store.new register.new archive.new archive_register.new) →
+        OnOk result ((held : Held) →
+        AreHeld held (files S.Store R.Store A.Store M.Store store.old register.old archive.old archive_register.old) →
+        AreInTheirOrder held (files S.Store R.Store A.Store M.Store store.old register.old archive.old archive_register.old)
+        → HasItsTexts held) }
     ensures tells { AreClean (files S.Store R.Store A.Store M.Store store.new register.new archive.new archive_register.new) →
         IfErr result (λ fault. (held : Held) →
         AreHeld held (files S.Store R.Store A.Store M.Store store.old register.old archive.old archive_register.old) →
@@ -69,6 +76,7 @@ pub(crate) fn judge<S: Alter, R: Alter, A: Alter, M: Alter>(
     let named = waited_for(alloc, store, &own)?;
     let plan = make_plan(alloc, &own, copy, &named, store_file, archive_file)?;
     compare_all(store, archive, &plan)?;
+    check_order(alloc, store, archive, &own, &plan)?;
     Ok(plan)
 }
 
@@ -240,4 +248,60 @@ fn compare_numbers<S: Alter, A: Alter>(
         Ok(Some(difference)) => Err(CloseFault::Archive(Refusal::Interchange(difference))),
         Err(fault) => Err(CloseFault::Comparing(fault)),
     }
+}
+
+/// That the archive's texts, beyond what the store's register closes, are the first of the store's, in the order in which they
+/// arrived; and all of them, if the closing begins and closes no number.
+fn check_order<S: Alter, A: Alter>(
+    alloc: Global,
+    store: &mut Connection<S>,
+    archive: &mut Connection<A>,
+    own: &Opened,
+    plan: &Plan,
+) -> Result<(), CloseFault>
+    requires { IsTrue (is_sound (register_content own.now.register)) }
+    ensures texts { HasCleanDisk (state S.Store store.new) → HasCleanDisk (state A.Store archive.new) →
+        OnOk result ((rows copy : Rows) → HasRows rows (state S.Store store.old).now →
+        HasRows copy (state A.Store archive.old).now →
+        StandInOrder rows.interchanges ((state S.Store store.old).now.trees 2) →
+        StandInOrder copy.interchanges ((state A.Store archive.old).now.trees 2) →
+        HasTexts (WantsAll plan.now) (last_closed (register_content own.now.register).segments) rows copy) }
+    ensures fault { HasCleanDisk (state S.Store store.new) → HasCleanDisk (state A.Store archive.new) →
+        IfErr result (λ fault. (rows copy : Rows) → HasRows rows (state S.Store store.old).now →
+        HasRows copy (state A.Store archive.old).now →
+        IsOfOrdering (WantsAll plan.now) (last_closed (register_content own.now.register).segments) rows copy
+        (state S.Store store.old).now (state A.Store archive.old).now fault) }
+    ensures store_read { IsRead (state S.Store store.old) (state S.Store store.new) result }
+    ensures archive_read { IsRead (state A.Store archive.old) (state A.Store archive.new) result }
+{
+    let closed = own.register.closed(alloc)?;
+    match likeness_of_texts(store, archive, &closed) {
+        Ok(told) => {
+            if is_copied(told, plan) {
+                Ok(())
+            } else {
+                Err(CloseFault::Archive(Refusal::Order))
+            }
+        }
+        Err(fault) => Err(CloseFault::Comparing(fault)),
+    }
+}
+
+/// Whether an archive whose texts stand so to the store's may close what is planned.
+fn is_copied(told: Likeness, plan: &Plan) -> bool
+    ensures { (last_closed : ℕ → ℕ) (own copy : Rows) → IsTold last_closed own copy told →
+        ((result ≡ true) ↔ HasTexts (WantsAll plan.now) last_closed own copy) }
+{
+    match told {
+        Likeness::Same => true,
+        Likeness::First => !wants_all(plan),
+        Likeness::Other => false,
+    }
+}
+
+/// Whether the archive's texts have to be all of the store's: if the closing begins, and closes no number.
+fn wants_all(plan: &Plan) -> bool
+    ensures { (result ≡ true) ↔ WantsAll plan.now }
+{
+    is_unraised(plan.stage) && plan.segments.is_empty()
 }

@@ -4,6 +4,7 @@
 //! The law of these texts. The function has an empty body, and its contract is the law: a call brings it into the
 //! caller's proof.
 ghost use Rattle.office_closing.specs.Laws.{ComparedIsHeld, ClearingLeavesTheRest, ClearedIsCarried};
+ghost use Rattle.office_closing.specs.Journal.{ClosingsKeepJournal};
 ghost use Rattle.office_closing.specs.PuttingAway.{ClosedStoresStand, ListsThatGoAreAway};
 ghost use Rattle.office_closing.specs.DoneListLaws.{AwayStaysWithClosing, PutAwayListsAreAway};
 ghost use Rattle.office_closing.specs.Stopping.{StoppedClosingsGoOn, StopsAreOnTheWay};
@@ -62,4 +63,9 @@ pub fn away_stays_with_closing()
 /// A text is that of one list of lines at most.
 pub fn one_text_one_list()
     ensures { OneTextOneList }
+{}
+
+/// A closing leaves the journal of all files as it is: no text is left out of it, and none comes twice.
+pub fn closings_keep_journal()
+    ensures { ClosingsKeepJournal }
 {}

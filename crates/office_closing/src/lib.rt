@@ -8,6 +8,7 @@
 //! away, so that the list can be brought back from it.
 #![tactic(auto)]
 
+mod arriving;
 mod closing;
 mod comparing;
 mod creating;

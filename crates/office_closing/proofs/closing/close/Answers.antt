@@ -20,7 +20,7 @@ returns-in_err-mark_archive g c =
     let old = files g.S.Store g.R.Store g.A.Store g.M.Store c.args.store.now c.args.register.now c.args.archive.now c.args.archive_register.now in
     let mid = files g.S.Store g.R.Store g.A.Store g.M.Store c.judge.new.store c.judge.new.register c.judge.new.archive c.judge.new.archive_register in
     rw (p.1, p.2) (record {
-      closes = closes_unmarked names old mid c.in_ok-plan.plan c.check_idle.ensures c.requires.idle c.in_ok-plan.ensures.read c.in_ok-plan.ensures.judged
+      closes = closes_unmarked names old mid c.in_ok-plan.plan c.check_idle.ensures c.requires.idle c.in_ok-plan.ensures.read c.in_ok-plan.ensures.judged c.in_ok-plan.ensures.texts
           (state g.M.Store c.mark_archive.new.conn) c.in_err-mark_archive.field-0.0 c.in_err-mark_archive.ensures.steps c.in_err-mark_archive.ensures.file;
       put_away = λ clean. tt;
     })
@@ -32,7 +32,7 @@ returns-in_err-raise g c =
     let old = files g.S.Store g.R.Store g.A.Store g.M.Store c.args.store.now c.args.register.now c.args.archive.now c.args.archive_register.now in
     let mid = files g.S.Store g.R.Store g.A.Store g.M.Store c.judge.new.store c.judge.new.register c.judge.new.archive c.judge.new.archive_register in
     rw (p.1, p.2) (record {
-      closes = closes_unraised names old mid c.in_ok-plan.plan c.check_idle.ensures c.requires.idle c.in_ok-plan.ensures.read c.in_ok-plan.ensures.judged
+      closes = closes_unraised names old mid c.in_ok-plan.plan c.check_idle.ensures c.requires.idle c.in_ok-plan.ensures.read c.in_ok-plan.ensures.judged c.in_ok-plan.ensures.texts
           _ (state g.M.Store c.mark_archive.new.conn) c.in_ok-mark_archive.ensures.steps
           (state g.R.Store c.raise.new.conn) c.in_err-raise.field-0.0 c.in_err-raise.ensures.steps c.in_err-raise.ensures.file;
       put_away = λ clean. tt;
@@ -44,11 +44,11 @@ returns-in-Ok g c =
     let old = files g.S.Store g.R.Store g.A.Store g.M.Store c.args.store.now c.args.register.now c.args.archive.now c.args.archive_register.now in
     let mid = files g.S.Store g.R.Store g.A.Store g.M.Store c.judge.new.store c.judge.new.register c.judge.new.archive c.judge.new.archive_register in
     record {
-      closes = closes_whole names old mid c.in_ok-plan.plan c.check_idle.ensures c.requires.idle c.in_ok-plan.ensures.read c.in_ok-plan.ensures.judged
+      closes = closes_whole names old mid c.in_ok-plan.plan c.check_idle.ensures c.requires.idle c.in_ok-plan.ensures.read c.in_ok-plan.ensures.judged c.in_ok-plan.ensures.texts
           _ (state g.M.Store c.mark_archive.new.conn) c.in_ok-mark_archive.ensures.steps
           _ (state g.R.Store c.raise.new.conn) c.in_ok-raise.ensures.steps
           (state g.S.Store c.clear_all.new.conn) _ _ c.in-Ok.ensures.clears;
-      put_away = away_whole names old mid c.in_ok-plan.plan c.check_idle.ensures c.requires.idle c.in_ok-plan.ensures.read c.in_ok-plan.ensures.judged
+      put_away = away_whole names old mid c.in_ok-plan.plan c.check_idle.ensures c.requires.idle c.in_ok-plan.ensures.read c.in_ok-plan.ensures.judged c.in_ok-plan.ensures.texts
           _ (state g.M.Store c.mark_archive.new.conn) c.in_ok-mark_archive.ensures.steps
           _ (state g.R.Store c.raise.new.conn) c.in_ok-raise.ensures.steps
           (state g.S.Store c.clear_all.new.conn) _ c.in-Ok.ensures.clears _ c.put_away.ensures;
@@ -60,7 +60,7 @@ returns-in-Err g c =
     let old = files g.S.Store g.R.Store g.A.Store g.M.Store c.args.store.now c.args.register.now c.args.archive.now c.args.archive_register.now in
     let mid = files g.S.Store g.R.Store g.A.Store g.M.Store c.judge.new.store c.judge.new.register c.judge.new.archive c.judge.new.archive_register in
     record {
-      closes = rw c.not_written.ensures (closes_uncleared names old mid c.in_ok-plan.plan c.check_idle.ensures c.requires.idle c.in_ok-plan.ensures.read c.in_ok-plan.ensures.judged
+      closes = rw c.not_written.ensures (closes_uncleared names old mid c.in_ok-plan.plan c.check_idle.ensures c.requires.idle c.in_ok-plan.ensures.read c.in_ok-plan.ensures.judged c.in_ok-plan.ensures.texts
           _ (state g.M.Store c.mark_archive.new.conn) c.in_ok-mark_archive.ensures.steps
           _ (state g.R.Store c.raise.new.conn) c.in_ok-raise.ensures.steps
           (state g.S.Store c.clear_all.new.conn) _ c.in-Err.ensures.clears);
