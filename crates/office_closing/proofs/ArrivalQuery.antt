@@ -196,13 +196,13 @@ append_none (x ∷ xs) = ap (λ l. x ∷ l) (append_none xs)
 apart_none : (before tail rest : List Row) (one : Row) → before ≡ ((before ++ one ∷ []) ++ tail) ++ rest → ⊥
 apart_none before tail rest one e =
     let at : [] ≡ one ∷ (tail ++ rest) = after_same before [] (one ∷ (tail ++ rest))
-        (append_none before ∙ e ∙ ap (λ l. l ++ rest) (append_all before (one ∷ []) tail) ∙ append_all before (one ∷ tail) rest) in
+    (append_none before ∙ e ∙ ap (λ l. l ++ rest) (append_all before (one ∷ []) tail) ∙ append_all before (one ∷ tail) rest) in
     absurd cc
 
 apart_other : (before tail tail' rest : List Row) (one other : Row) → (before ++ other ∷ []) ++ tail' ≡ ((before ++ one ∷ []) ++ tail) ++ rest → other ≡ one
 apart_other before tail tail' rest one other e =
     let at : other ∷ tail' ≡ one ∷ (tail ++ rest) = after_same before (other ∷ tail') (one ∷ (tail ++ rest))
-        (sym (append_all before (other ∷ []) tail') ∙ e ∙ ap (λ l. l ++ rest) (append_all before (one ∷ []) tail) ∙ append_all before (one ∷ tail) rest) in
+    (sym (append_all before (other ∷ []) tail') ∙ e ∙ ap (λ l. l ++ rest) (append_all before (one ∷ []) tail) ∙ append_all before (one ∷ tail) rest) in
     ap row_or at
 
 -- ---- store and archive

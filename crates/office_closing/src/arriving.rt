@@ -96,10 +96,7 @@ fn likeness_of_queries<S: Alter, A: Alter>(
         }
     }
     // There are more rows than are counted.
-    Err(fault_in(
-        File::Archive,
-        Error::SqliteFailure(ErrorCode::OutOfMemory),
-    ))
+    Err(fault_in(File::Archive, Error::SqliteFailure(ErrorCode::OutOfMemory)))
 }
 
 /// How all texts stand to each other, if the next rows tell it; None if both show the same text.

@@ -232,8 +232,8 @@ returns-in_err-check_order-clause-tells g c clean =
     let opened_has = subst (HasRows held.own) (sym first.0.now_is) has.own in
     let waited = named.named named_clean held.own opened_has (record { accounts = has.own_orderly.accounts; are = opened.nexts held.own has.own; kept_once = has.own_orderly.once }) in
     let wants : WantsAll c.in_ok-plan.plan → ClosesNone held.register held.copied held.copy = wants_none held old has names (office_content c.in_ok-own.own) (office_content c.in_ok-copy.copy) opened (copy.opened archive_clean clean.archive_register)
-        (map named_list_content c.deref.result.now) (subst (λ l. AreWaitedFor (office_content c.in_ok-own.own).setup held.own (map named_list_content l)) (sym c.deref.ensures.value) waited)
-        c.in_ok-plan.plan c.in_ok-plan.ensures.ok c.utf8.archive_file c.utf8.store_file in
+    (map named_list_content c.deref.result.now) (subst (λ l. AreWaitedFor (office_content c.in_ok-own.own).setup held.own (map named_list_content l)) (sym c.deref.ensures.value) waited)
+    c.in_ok-plan.plan c.in_ok-plan.ensures.ok c.utf8.archive_file c.utf8.store_file in
     let registered = opened.registered held.register has.register has.register_sound in
     let of = last.fault clean.store clean.archive held.own held.copy (subst (HasRows held.own) (sym store_same) has.own) (subst (HasRows held.copy) (sym archive_same) has.copy) in
     let of_store = subst (λ (d : Database). IsOfOrdering (WantsAll c.in_ok-plan.plan) (last_closed (office_content c.in_ok-own.own).register.segments) held.own held.copy d (state g.A.Store c.compare_all.new.archive).now c.in_err-check_order.field-0.0) store_same of in
