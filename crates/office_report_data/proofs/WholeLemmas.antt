@@ -1,9 +1,10 @@
 -- A front, rows and a back are the JSON of the whole.
-use Rattle.std.proofs.Common.{◌≡◌, ℕ, List, ◌++◌, append_assoc, codes, decimal, false}
+use Rattle.std.proofs.Common.{◌≡◌, ◌∙◌, ap, ℕ, zero, suc, List, ◌∷◌, ◌++◌, append_assoc, codes, decimal, false, refl}
 use Rattle.json.specs.Print.{quoted}
-use Rattle.serde_json.specs.Data.{Items, array, object, member, no_members, number, unsigned, string}
-use Rattle.serde_json.specs.Written.{compact_text, items_text}
+use Rattle.serde_json.specs.Data.{Data, Items, Members, array, object, member, no_members, number, unsigned, string}
+use Rattle.serde_json.specs.Written.{compact_text, items_text, members_text}
 use Rattle.serde_json.proofs.OnLiterals.{serde_json_on_literals}
+use Rattle.office_report_data.specs.Archives.{archives_front, with_archives}
 use Rattle.office_report_data.specs.Rows.{list_back, object_back, rows_front}
 use Rattle.office_report_data.specs.Tickets.{closed_front, opened_front, ticket_back}
 use Rattle.office_report_data.specs.Visits.{visits_front}
@@ -64,3 +65,24 @@ unfolding closed_front opened_front ticket_back serde_json_on_literals
 ticket_whole reference closed opened partner =
     of_ticket (codes "{\"closed\":[") (items_text false closed) (codes ",\"number\":") (decimal reference) (codes ",\"opened\":[")
     (items_text false opened) (codes ",\"partner\":") (quoted partner) (codes "}")
+
+-- ---- an object with one member more
+
+of_archives : (a b c d : List ℕ) → (a ++ b ++ c ++ d) ≡ (a ++ (b ++ (c ++ d)))
+of_archives a b c d = simp append_assoc
+
+archives_whole : (count : ℕ) (key : List ℕ) (value : Data) (others : Members)
+    → (archives_front count ++ members_text false (member key value others))
+    ≡ compact_text (object (member (codes "archives") (number (unsigned count)) (member key value others)))
+unfolding archives_front serde_json_on_literals
+archives_whole count key value others =
+    of_archives (codes "{\"archives\":") (decimal count) (codes ",") (members_text false (member key value others))
+
+-- what stands before the other members of an object makes it one with archives
+pub archives_told : (count : ℕ) (json rest text : List ℕ) → ¬ (count ≡ 0) → json ≡ 123 ∷ rest → text ≡ archives_front count ++ rest
+    → (key : List ℕ) (value : Data) (others : Members) → json ≡ compact_text (object (member key value others))
+    → text ≡ compact_text (object (with_archives count (member key value others)))
+archives_told zero json rest text some begins is key value others whole = absurd (some refl)
+archives_told (suc n) json rest text some begins is key value others whole =
+    let same : rest ≡ members_text false (member key value others) = cc in
+    is ∙ ap (λ (bytes : List ℕ). archives_front (suc n) ++ bytes) same ∙ archives_whole (suc n) key value others

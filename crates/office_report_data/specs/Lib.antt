@@ -1,4 +1,5 @@
 pub mod Words
+pub mod Archives
 pub mod Rows
 pub mod Tables
 pub mod Containers

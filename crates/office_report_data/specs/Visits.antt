@@ -70,4 +70,4 @@ visits_table report = table_text visits_header (visit_fields report.setup) repor
 -- ---- as the code has it
 
 abbrev pub fields_content : PassageFields → List (List ℕ)
-fields_content fields = fields.way.now ∷ fields.partner.now ∷ string_bytes fields.number ∷ string_bytes fields.moment ∷ []
+fields_content fields = string_bytes fields.way ∷ string_bytes fields.partner ∷ string_bytes fields.number ∷ string_bytes fields.moment ∷ []

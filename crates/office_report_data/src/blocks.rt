@@ -130,11 +130,7 @@ fn push_records(
     Ok(())
 }
 
-fn push_block(
-    alloc: Global,
-    table: &mut Writer<Vec<u8>>,
-    row: BlockRow,
-) -> Result<(), AllocError>
+fn push_block(alloc: Global, table: &mut Writer<Vec<u8>>, row: BlockRow) -> Result<(), AllocError>
     requires { IsBetweenRecords table.old }
     ensures { OnOk result (HasGiven table.new (written_rows table.old ++ record_text (block_fields row))) }
 {

@@ -89,10 +89,7 @@ pub fn calls_csv(alloc: Global, report: &CallsReport<'_>) -> Result<String, Allo
     ensures { IfOk result
         (λ text. string_bytes text ≡ calls_table (lists_content report.now.lists.entries)) }
 {
-    let mut table = table_under(
-        alloc,
-        &[b"vessel", b"voyage", b"side", b"open", b"done"],
-    )?;
+    let mut table = table_under(alloc, &[b"vessel", b"voyage", b"side", b"open", b"done"])?;
     push_records(alloc, &mut table, &report.lists)?;
     table_text(table)
 }

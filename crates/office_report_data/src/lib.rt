@@ -2,6 +2,7 @@
 //! (`office_reports`). What allocates fails only for want of memory.
 #![tactic(auto)]
 
+mod archives;
 mod blocks;
 mod calls;
 mod containers;
@@ -15,6 +16,7 @@ mod words;
 mod work;
 mod yard;
 
+pub use archives::with_archives;
 pub use blocks::{blocks_csv, blocks_json};
 pub use calls::{calls_csv, calls_json};
 pub use containers::container_json;

@@ -16,10 +16,7 @@ pub(crate) fn table_under(alloc: Global, header: &[&[u8]]) -> Result<Writer<Vec<
 }
 
 /// Appends a record of these fields.
-pub(crate) fn push_record(
-    table: &mut Writer<Vec<u8>>,
-    fields: &[&[u8]],
-) -> Result<(), AllocError>
+pub(crate) fn push_record(table: &mut Writer<Vec<u8>>, fields: &[&[u8]]) -> Result<(), AllocError>
     requires { IsBetweenRecords table.old }
     ensures { OnOk result (HasGiven table.new
         (written_rows table.old ++ record_text (map (λ field. field.now) fields.now))) }

@@ -207,8 +207,8 @@ fn push_between(
     alloc: Global,
     table: &mut Writer<Vec<u8>>,
     visit: &Visit,
-    entry: &PassageFields<'_>,
-    exit: &PassageFields<'_>,
+    entry: &PassageFields,
+    exit: &PassageFields,
     days: &str,
 ) -> Result<(), AllocError>
     requires { IsBetweenRecords table.old }
@@ -245,38 +245,35 @@ fn push_between(
 
 /// What is said of a passage, and nothing if there is none.
 #[derive(Drop)]
-struct PassageFields<'a> {
-    way: &'a str,
-    partner: &'a str,
+struct PassageFields {
+    way: String,
+    partner: String,
     number: String,
     moment: String,
 }
 
-fn passage_fields<'a>(
-    alloc: Global,
-    passage: &Option<Passage<'a>>,
-) -> Result<PassageFields<'a>, AllocError>
+fn passage_fields(alloc: Global, passage: &Option<Passage<'_>>) -> Result<PassageFields, AllocError>
     ensures { IfOk result
         (λ fields. fields_content fields ≡ passage_fields (option_map passage_content passage.now)) }
 {
     match passage {
-        Some(passage) => some_fields(alloc, *passage),
+        Some(passage) => some_fields(alloc, passage),
         None => Ok(PassageFields {
-            way: "",
-            partner: "",
+            way: String::new(alloc),
+            partner: String::new(alloc),
             number: String::new(alloc),
             moment: String::new(alloc),
         }),
     }
 }
 
-fn some_fields<'a>(alloc: Global, passage: Passage<'a>) -> Result<PassageFields<'a>, AllocError>
+fn some_fields(alloc: Global, passage: &Passage<'_>) -> Result<PassageFields, AllocError>
     ensures { IfOk result
-        (λ fields. fields_content fields ≡ passage_fields (Some (passage_content passage))) }
+        (λ fields. fields_content fields ≡ passage_fields (Some (passage_content passage.now))) }
 {
     Ok(PassageFields {
-        way: way_word(passage.way),
-        partner: passage.partner,
+        way: String::from_str(alloc, way_word(passage.way))?,
+        partner: String::from_str(alloc, passage.partner)?,
         number: passage.number.to_string(alloc)?,
         moment: moment_text(alloc, passage.moment)?,
     })

@@ -68,13 +68,13 @@ pub(crate) fn container_field(
     }
 }
 
-pub(crate) fn load_word(is_laden: bool) -> &'static str
+pub(crate) fn load_word<'a>(is_laden: bool) -> &'a str
     ensures { result.now ≡ load_word is_laden }
 {
     if is_laden { "full" } else { "empty" }
 }
 
-pub(crate) fn way_word(way: Way) -> &'static str
+pub(crate) fn way_word<'a>(way: Way) -> &'a str
     ensures { result.now ≡ way_word way }
 {
     match way {
@@ -83,7 +83,7 @@ pub(crate) fn way_word(way: Way) -> &'static str
     }
 }
 
-pub(crate) fn side_word(side: Side) -> &'static str
+pub(crate) fn side_word<'a>(side: Side) -> &'a str
     ensures { result.now ≡ side_word (side_code side ∷ []) }
 {
     match side {
@@ -93,13 +93,13 @@ pub(crate) fn side_word(side: Side) -> &'static str
 }
 
 /// The same, by the number of a side in a key: 1 for loading, 2 for discharge.
-pub(crate) fn coded_side_word(code: u8) -> &'static str
+pub(crate) fn coded_side_word<'a>(code: u8) -> &'a str
     ensures { result.now ≡ side_word (code ∷ []) }
 {
     if code == 1 { "load" } else { "discharge" }
 }
 
-pub(crate) fn state_word(state: LineState) -> &'static str
+pub(crate) fn state_word<'a>(state: LineState) -> &'a str
     ensures { result.now ≡ state_word state }
 {
     match state {
@@ -108,7 +108,7 @@ pub(crate) fn state_word(state: LineState) -> &'static str
     }
 }
 
-pub(crate) fn kind_word(kind: PartnerKind) -> &'static str
+pub(crate) fn kind_word<'a>(kind: PartnerKind) -> &'a str
     ensures { result.now ≡ kind_word kind }
 {
     match kind {

@@ -128,20 +128,16 @@ fn size_or_null(alloc: Global, standing: Option<Standing>) -> Result<Value, Allo
 pub fn work_csv(alloc: Global, report: &WorkReport<'_>) -> Result<String, AllocError>
     ensures { IfOk result (λ text. string_bytes text ≡ work_table (work_content report.now)) }
 {
-    let rows = in_order(alloc, report.side, &report.jobs)?;
+    let jobs = in_order(alloc, report.side, &report.jobs)?;
     let mut table = table_under(
         alloc,
         &[b"slot", b"container", b"size_type", b"port", b"under"],
     )?;
-    push_records(alloc, &mut table, &rows)?;
+    push_records(alloc, &mut table, &jobs)?;
     table_text(table)
 }
 
-fn push_records(
-    alloc: Global,
-    table: &mut Writer<Vec<u8>>,
-    rows: &[&Job],
-) -> Result<(), AllocError>
+fn push_records(alloc: Global, table: &mut Writer<Vec<u8>>, rows: &[&Job]) -> Result<(), AllocError>
     requires { IsBetweenRecords table.old }
     ensures { OnOk result (HasGiven table.new (written_rows table.old
         ++ flat_map (λ job. record_text (job_fields job)) (map (λ job. job_content job.now) rows.now))) }

@@ -22,10 +22,7 @@ use std::collections::BTreeMap;
 /// The report as JSON: an object of `rows` by the texts of their slots, each of `container`, `load` (`full` or `empty`),
 /// `size_type` and `slot`.
 #[tactic(auto, using(crate::proofs::WholeLemmas::rows_whole))]
-pub fn yard_json(
-    alloc: Global,
-    yard: &BTreeMap<[u8; 7], Standing>,
-) -> Result<String, AllocError>
+pub fn yard_json(alloc: Global, yard: &BTreeMap<[u8; 7], Standing>) -> Result<String, AllocError>
     ensures { IfOk result (λ text. string_bytes text ≡ compact_text (yard_data yard.now.entries)) }
 {
     let mut text = rows_front(alloc)?;

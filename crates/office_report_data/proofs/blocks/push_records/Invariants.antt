@@ -8,5 +8,5 @@ abbrev pub invariant-loop-row : goal.invariant-loop-row
 invariant-loop-row l = record {
   between : IsBetweenRecords l.table;
   text : written_rows l.table ++ flat_map (λ row. record_text (block_fields row)) (drop l.row-index l.rows)
-    ≡ written_rows l.initial.table ++ flat_map (λ row. record_text (block_fields row)) (l.rows);
+      ≡ written_rows l.initial.table ++ flat_map (λ row. record_text (block_fields row)) (l.rows);
 }

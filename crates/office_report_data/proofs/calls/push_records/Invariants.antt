@@ -9,5 +9,5 @@ abbrev pub invariant-loop-vessel : goal.invariant-loop-vessel
 invariant-loop-vessel l = record {
   between : IsBetweenRecords l.table;
   text : written_rows l.table ++ flat_map (λ row. record_text (call_fields row)) (lists_content l.vessel-iterator)
-    ≡ written_rows l.initial.table ++ flat_map (λ row. record_text (call_fields row)) (lists_content l.initial.vessel-iterator);
+      ≡ written_rows l.initial.table ++ flat_map (λ row. record_text (call_fields row)) (lists_content l.initial.vessel-iterator);
 }

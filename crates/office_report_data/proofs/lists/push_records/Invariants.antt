@@ -9,5 +9,5 @@ abbrev pub invariant-loop-container : goal.invariant-loop-container
 invariant-loop-container l = record {
   between : IsBetweenRecords l.table;
   text : written_rows l.table ++ flat_map (λ row. record_text (listed_fields row)) (list_contents l.container-iterator)
-    ≡ written_rows l.initial.table ++ flat_map (λ row. record_text (listed_fields row)) (list_contents l.initial.container-iterator);
+      ≡ written_rows l.initial.table ++ flat_map (λ row. record_text (listed_fields row)) (list_contents l.initial.container-iterator);
 }

@@ -9,5 +9,5 @@ abbrev pub invariant-loop-row : goal.invariant-loop-row
 invariant-loop-row l = record {
   between : IsBetweenRecords l.table;
   text : written_rows l.table ++ flat_map (λ row. record_text (partner_fields row)) (map row_content (drop l.row-index l.rows))
-    ≡ written_rows l.initial.table ++ flat_map (λ row. record_text (partner_fields row)) (map row_content l.rows);
+      ≡ written_rows l.initial.table ++ flat_map (λ row. record_text (partner_fields row)) (map row_content l.rows);
 }

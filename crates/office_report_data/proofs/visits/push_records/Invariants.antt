@@ -10,5 +10,5 @@ abbrev pub invariant-loop-visit : goal.invariant-loop-visit
 invariant-loop-visit l = record {
   between : IsBetweenRecords l.table;
   text : written_rows l.table ++ flat_map (λ row. record_text (visit_fields (setup_content l.setup) row)) (map (λ visit. visit_content visit.now) (drop l.visit-index l.visits))
-    ≡ written_rows l.initial.table ++ flat_map (λ row. record_text (visit_fields (setup_content l.setup) row)) (map (λ visit. visit_content visit.now) l.visits);
+      ≡ written_rows l.initial.table ++ flat_map (λ row. record_text (visit_fields (setup_content l.setup) row)) (map (λ visit. visit_content visit.now) l.visits);
 }

@@ -9,5 +9,5 @@ abbrev pub invariant-loop-job : goal.invariant-loop-job
 invariant-loop-job l = record {
   between : IsBetweenRecords l.table;
   text : written_rows l.table ++ flat_map (λ row. record_text (job_fields row)) (map (λ job. job_content job.now) (drop l.job-index l.rows))
-    ≡ written_rows l.initial.table ++ flat_map (λ row. record_text (job_fields row)) (map (λ job. job_content job.now) l.rows);
+      ≡ written_rows l.initial.table ++ flat_map (λ row. record_text (job_fields row)) (map (λ job. job_content job.now) l.rows);
 }

@@ -7,5 +7,5 @@ abbrev pub invariant-loop-standing : goal.invariant-loop-standing
 invariant-loop-standing l = record {
   between : IsBetweenRecords l.table;
   text : written_rows l.table ++ flat_map standing_record (values_of l.standing-iterator)
-    ≡ written_rows l.initial.table ++ flat_map standing_record (values_of l.initial.standing-iterator);
+      ≡ written_rows l.initial.table ++ flat_map standing_record (values_of l.initial.standing-iterator);
 }
