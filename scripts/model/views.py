@@ -38,9 +38,9 @@ def passage(way):
 
 
 def with_archives(office, told):
-    """How many archives were not asked is a member, where there are any."""
+    """How many archives were not asked is a member, where there are any; also where there is nothing else to tell."""
     count = len(office.register.archives)
-    return dict(told, archives=count) if count else told
+    return dict(told or {}, archives=count) if count else told
 
 
 # ---- the yard
@@ -75,7 +75,7 @@ def container(office, box):
     terminal = office.fold().terminal
     visits = [(place, visit) for place, visit in own_visits(office) if visit.number == box]
     if not visits:
-        return None
+        return with_archives(office, None)
     place, visit = visits[-1]
     is_here = box in terminal.yard
     return with_archives(office, dict(
@@ -94,7 +94,7 @@ def visit_row(place, visit):
 def visits(office, box):
     """A row for each visit, by their numbers."""
     rows = [visit_row(place, visit) for place, visit in own_visits(office) if visit.number == box]
-    return with_archives(office, dict(container=box, rows=rows)) if rows else None
+    return with_archives(office, dict(container=box, rows=rows) if rows else None)
 
 
 # ---- vessels
@@ -256,7 +256,7 @@ def csv_of(office, kind, *values):
     if kind == 'yard':
         return yardcsv(office)
     told = OBJECTS[kind](office, *values)
-    if told is None:
+    if told is None or ROWS.get(kind, 'rows') not in told:
         return None
     text = io.StringIO()
     writer = csv.writer(text, lineterminator='\n')
@@ -268,7 +268,7 @@ def csv_of(office, kind, *values):
 
 # ---- examples that were worked out by hand
 
-def example():
+def example(register=EMPTY):
     """A full container under another, both to be loaded with a third that has not come, and a fourth that was loaded."""
     came, went = Passage('gate', ('HAULA', 1), '202403050910'), Passage('ship', ('QUAY1', 1), '202403070000')
     upper = Passage('gate', ('HAULA', 2), '202403050920')
@@ -287,7 +287,7 @@ def example():
     fold = SimpleNamespace(terminal=terminal, replies={('HAULA', 1): {}, ('QUAY1', 1): {}})
     return SimpleNamespace(
         fold=lambda: fold, setup=DEMO._replace(partners={'HAULA': 'gate', 'QUAY1': 'quay'}), deliveries=delivered,
-        register=EMPTY, gone=frozenset(), away=frozenset())
+        register=register, gone=frozenset(), away=frozenset())
 
 
 IN_JSON = [
@@ -343,6 +343,16 @@ IN_JSON = [
     (('ticket', 'HAULA', 2), None),
 ]
 
+WITH_ARCHIVES = [
+    (('container', 'ABCU0000038'), '{"archives":2}'),
+    (('visits', 'ABCU0000038'), '{"archives":2}'),
+    (('container', 'ABCU0000043'),
+     '{"archives":2,"container":"ABCU0000043","load":"full","passage":{"moment":"2024-03-07 00:00","number":1,'
+     '"partner":"QUAY1","way":"ship"},"size_type":"45G1","stay":null,"visit":3}'),
+    (('calls',), '{"rows":[{"done":1,"open":3,"side":"load","vessel":"9123456","voyage":"V12"}]}'),
+    (('partner', 'HAULB'), None),
+]
+
 IN_CSV = [
     (('yard',), 'slot,box,size,load\nA001011,ABCU0000017,22G1,full\nA001012,ABCU0000022,22G1,empty\n'),
     (('list', '9123456', 'V12', 'load'),
@@ -368,13 +378,16 @@ IN_CSV = [
 
 def differing():
     """What is asked of the example, where the answer is not the one that was worked out."""
+    beside = EMPTY._replace(archives=[None, None])
+    views = [
+        ('json', json_of, example(), IN_JSON), ('json', json_of, example(beside), WITH_ARCHIVES), ('csv', csv_of, example(), IN_CSV)]
     return [
         '%s %s: %r' % (view, ' '.join(map(str, asked)), given)
-        for view, of_view, answers in (('json', json_of, IN_JSON), ('csv', csv_of, IN_CSV))
-        for asked, wanted in answers for given in [of_view(example(), *asked)] if given != wanted]
+        for view, of_view, office, answers in views
+        for asked, wanted in answers for given in [of_view(office, *asked)] if given != wanted]
 
 
 if __name__ == '__main__':
     WRONG = differing()
-    print('\n'.join(WRONG) if WRONG else '%d views compared' % (len(IN_JSON) + len(IN_CSV)))
+    print('\n'.join(WRONG) if WRONG else '%d views compared' % (len(IN_JSON) + len(WITH_ARCHIVES) + len(IN_CSV)))
     raise SystemExit(1 if WRONG else 0)

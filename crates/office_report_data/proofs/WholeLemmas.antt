@@ -1,10 +1,10 @@
 -- A front, rows and a back are the JSON of the whole.
-use Rattle.std.proofs.Common.{◌≡◌, ◌∙◌, ap, ℕ, zero, suc, List, ◌∷◌, ◌++◌, append_assoc, codes, decimal, false, refl}
+use Rattle.std.proofs.Common.{◌≡◌, ◌∙◌, ap, ℕ, List, ◌∷◌, ◌++◌, append_assoc, codes, decimal, false}
 use Rattle.json.specs.Print.{quoted}
-use Rattle.serde_json.specs.Data.{Data, Items, Members, array, object, member, no_members, number, unsigned, string}
+use Rattle.serde_json.specs.Data.{Items, array, object, member, no_members, number, unsigned, string}
 use Rattle.serde_json.specs.Written.{compact_text, items_text, members_text}
 use Rattle.serde_json.proofs.OnLiterals.{serde_json_on_literals}
-use Rattle.office_report_data.specs.Archives.{archives_front, with_archives}
+use Rattle.office_report_data.specs.Archives.{ToldContent, archives_data, archives_front, members_of, told_data}
 use Rattle.office_report_data.specs.Rows.{list_back, object_back, rows_front}
 use Rattle.office_report_data.specs.Tickets.{closed_front, opened_front, ticket_back}
 use Rattle.office_report_data.specs.Visits.{visits_front}
@@ -68,21 +68,25 @@ ticket_whole reference closed opened partner =
 
 -- ---- an object with one member more
 
+of_two : (a b c : List ℕ) → (a ++ b ++ c) ≡ (a ++ (b ++ c))
+of_two a b c = simp append_assoc
+
+pub archives_alone : (count : ℕ) → (archives_front count ++ object_back) ≡ compact_text (archives_data count no_members)
+unfolding archives_front object_back serde_json_on_literals
+archives_alone count = of_two (codes "{\"archives\":") (decimal count) (codes "}")
+
 of_archives : (a b c d : List ℕ) → (a ++ b ++ c ++ d) ≡ (a ++ (b ++ (c ++ d)))
 of_archives a b c d = simp append_assoc
 
-archives_whole : (count : ℕ) (key : List ℕ) (value : Data) (others : Members)
-    → (archives_front count ++ members_text false (member key value others))
-    ≡ compact_text (object (member (codes "archives") (number (unsigned count)) (member key value others)))
+archives_whole : (count : ℕ) (told : ToldContent)
+    → (archives_front count ++ codes "," ++ members_text false (members_of told)) ≡ compact_text (archives_data count (members_of told))
 unfolding archives_front serde_json_on_literals
-archives_whole count key value others =
-    of_archives (codes "{\"archives\":") (decimal count) (codes ",") (members_text false (member key value others))
+archives_whole count told =
+    of_archives (codes "{\"archives\":") (decimal count) (codes ",") (members_text false (members_of told))
 
 -- what stands before the other members of an object makes it one with archives
-pub archives_told : (count : ℕ) (json rest text : List ℕ) → ¬ (count ≡ 0) → json ≡ 123 ∷ rest → text ≡ archives_front count ++ rest
-    → (key : List ℕ) (value : Data) (others : Members) → json ≡ compact_text (object (member key value others))
-    → text ≡ compact_text (object (with_archives count (member key value others)))
-archives_told zero json rest text some begins is key value others whole = absurd (some refl)
-archives_told (suc n) json rest text some begins is key value others whole =
-    let same : rest ≡ members_text false (member key value others) = cc in
-    is ∙ ap (λ (bytes : List ℕ). archives_front (suc n) ++ bytes) same ∙ archives_whole (suc n) key value others
+pub archives_told : (count : ℕ) (json rest text : List ℕ) → json ≡ 123 ∷ rest → text ≡ archives_front count ++ codes "," ++ rest
+    → (told : ToldContent) → json ≡ compact_text (told_data told) → text ≡ compact_text (archives_data count (members_of told))
+archives_told count json rest text begins is told whole =
+    let same : rest ≡ members_text false (members_of told) = cc in
+    is ∙ ap (λ (bytes : List ℕ). archives_front count ++ codes "," ++ bytes) same ∙ archives_whole count told

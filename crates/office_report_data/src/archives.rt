@@ -1,36 +1,64 @@
 //! How many archives were not asked, in JSON.
-ghost use Rattle.office_report_data.specs.Archives.{archives_front, with_archives};
-ghost use Rattle.serde_json.specs.Data.{Data, Members, member, object};
+ghost use Rattle.office_report_data.specs.Archives.{ToldContent, archives_data, archives_front, members_of, told_data, with_archives};
+ghost use Rattle.serde_json.specs.Data.{no_members};
 ghost use Rattle.serde_json.specs.Written.{compact_text};
-ghost use Rattle.std.specs.Prelude.{◌≡◌, ◌++◌, ℕ, List, string_bytes, IfOk, OnOk};
+ghost use Rattle.std.specs.Option.{option_map};
+ghost use Rattle.std.specs.Prelude.{◌≡◌, ◌++◌, Option, string_bytes, IfOk, OnOk};
 
+use crate::rows::push_back;
 use std::alloc::{AllocError, Global};
 
-/// The JSON of a report with how many archives were not asked as its first member, `archives`; as it is if there are
-/// none.
-pub fn with_archives(alloc: Global, json: &str, count: usize) -> Result<String, AllocError>
-    ensures { IfOk result (λ text. (key : List ℕ) (value : Data) (others : Members) →
-        json.now ≡ compact_text (object (member key value others)) →
-        string_bytes text ≡ compact_text (object (with_archives count (member key value others)))) }
+/// The JSON of a report with how many archives were not asked as its first member, `archives`, and only that if there is
+/// nothing to report; as it is if there are none.
+pub fn with_archives(
+    alloc: Global,
+    told: Option<String>,
+    count: usize,
+) -> Result<Option<String>, AllocError>
+    ensures { IfOk result (λ found. (what : Option ToldContent) →
+        option_map string_bytes told ≡ option_map (λ content. compact_text (told_data content)) what →
+        option_map string_bytes found ≡ option_map compact_text (with_archives count what)) }
 {
     if count == 0 {
-        return String::from_str(alloc, json);
+        return Ok(told);
     }
+    match told {
+        Some(json) => Ok(Some(with_count(alloc, json.as_str(), count)?)),
+        None => Ok(Some(only_count(alloc, count)?)),
+    }
+}
+
+/// An object with one member more.
+fn with_count(alloc: Global, json: &str, count: usize) -> Result<String, AllocError>
+    ensures { IfOk result (λ text. (content : ToldContent) → json.now ≡ compact_text (told_data content) →
+        string_bytes text ≡ compact_text (archives_data count (members_of content))) }
+{
     let Some(members) = json.strip_prefix('{') else {
+        // It is no object.
         return String::from_str(alloc, json);
     };
-    let mut text = String::new(alloc);
-    push_count(alloc, &mut text, count)?;
+    let mut text = archives_front(alloc, count)?;
+    text.push_str(",")?;
     text.push_str(members)?;
     Ok(text)
 }
 
+/// An object with this member.
+#[tactic(auto, using(crate::proofs::WholeLemmas::archives_alone))]
+fn only_count(alloc: Global, count: usize) -> Result<String, AllocError>
+    ensures { IfOk result (λ text. string_bytes text ≡ compact_text (archives_data count no_members)) }
+{
+    let mut text = archives_front(alloc, count)?;
+    push_back(&mut text)?;
+    Ok(text)
+}
+
 #[tactic(auto, unfolding(crate::specs::Archives::archives_front))]
-fn push_count(alloc: Global, text: &mut String, count: usize) -> Result<(), AllocError>
-    ensures { OnOk result (string_bytes text.new ≡ string_bytes text.old ++ archives_front count) }
+fn archives_front(alloc: Global, count: usize) -> Result<String, AllocError>
+    ensures { IfOk result (λ text. string_bytes text ≡ archives_front count) }
 {
     let count = count.to_string(alloc)?;
-    text.push_str("{\"archives\":")?;
+    let mut text = String::from_str(alloc, "{\"archives\":")?;
     text.push_str(count.as_str())?;
-    text.push_str(",")
+    Ok(text)
 }
