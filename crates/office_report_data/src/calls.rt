@@ -121,13 +121,18 @@ fn push_list(
     ensures { OnOk result (HasGiven table.new (written_rows table.old
         ++ record_text (call_fields (vessel.now ∷ voyage.now ∷ (side ∷ []) ∷ [], count)))) }
 {
+    let vessel = String::from_str(alloc, vessel)?;
+    let voyage = String::from_str(alloc, voyage)?;
     let open = count.pending.to_string(alloc)?;
     let done = count.done.to_string(alloc)?;
-    let vessel = vessel.as_bytes();
-    let voyage = voyage.as_bytes();
-    let side = coded_side_word(side).as_bytes();
     push_record(
         table,
-        &[vessel, voyage, side, open.as_bytes(), done.as_bytes()],
+        &[
+            vessel.as_bytes(),
+            voyage.as_bytes(),
+            coded_side_word(side).as_bytes(),
+            open.as_bytes(),
+            done.as_bytes(),
+        ],
     )
 }

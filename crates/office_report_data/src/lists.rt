@@ -112,7 +112,12 @@ fn push_listed(
         (written_rows table.old ++ record_text (listed_fields (container, shown_line line.now)))) }
 {
     let number = container.text();
-    let state = state_word(line.state).as_bytes();
-    let port = line.port.as_bytes();
-    push_record(table, &[&number, state, port])
+    push_record(
+        table,
+        &[
+            &number,
+            state_word(line.state).as_bytes(),
+            line.port.as_bytes(),
+        ],
+    )
 }

@@ -148,9 +148,17 @@ fn push_expected(
         ++ record_text (code.now ∷ kind_word kind ∷ decimal next ∷ [] ∷ [] ∷ [] ∷ []))) }
 {
     let next = next.to_string(alloc)?;
-    let code = code.as_bytes();
-    let kind = kind_word(kind).as_bytes();
-    push_record(table, &[code, kind, next.as_bytes(), b"", b"", b""])
+    push_record(
+        table,
+        &[
+            code.as_bytes(),
+            kind_word(kind).as_bytes(),
+            next.as_bytes(),
+            b"",
+            b"",
+            b"",
+        ],
+    )
 }
 
 /// The record of a partner whose next number is missing.

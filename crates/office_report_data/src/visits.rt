@@ -3,16 +3,15 @@ ghost use Rattle.office_admission.specs.Setups.{setup_content};
 ghost use Rattle.office_report_data.specs.Containers.{passage_data};
 ghost use Rattle.office_report_data.specs.Tables.{record_text};
 ghost use Rattle.office_report_data.specs.Visits.{days_data, days_field, fields_content, passage_fields, visit_data, visit_fields, visits_data, visits_front, visits_table};
-ghost use Rattle.office_report_data.specs.Words.{load_word, number_field, or_null};
+ghost use Rattle.office_report_data.specs.Words.{or_null};
 ghost use Rattle.office_reports.specs.Export.{HasGiven, IsBetweenRecords, written_rows};
-ghost use Rattle.office_reports.specs.Names.{slot_name};
 ghost use Rattle.office_reports.specs.Passages.{arrival_by, departure_by, passage_content};
 ghost use Rattle.office_reports.specs.Visits.{visits_content};
 ghost use Rattle.serde_json.specs.View.{items_of, view};
 ghost use Rattle.serde_json.specs.Written.{compact_text, items_text};
 ghost use Rattle.std.specs.List.{flat_map};
 ghost use Rattle.std.specs.Option.{option_map};
-ghost use Rattle.std.specs.Prelude.{◌≡◌, ◌++◌, ◌∷◌, [], Some, decimal, false, map, string_bytes, IfOk, OnOk};
+ghost use Rattle.std.specs.Prelude.{◌≡◌, ◌++◌, Some, false, map, string_bytes, IfOk, OnOk};
 ghost use Rattle.terminal_core.specs.Rows.{visit_content};
 
 use crate::containers::{passage_or_null, passage_value};
@@ -196,31 +195,13 @@ fn push_visit(
     ensures { OnOk result (HasGiven table.new (written_rows table.old
         ++ record_text (visit_fields (setup_content setup.now) (visit_content visit.now)))) }
 {
-    let entry = passage_fields(alloc, &Some(entry_of(setup, visit)))?;
-    let exit = passage_fields(alloc, &exit_of(setup, &visit.departure))?;
-    let days = days_field(alloc, visit.arrival.moment, &visit.departure)?;
-    push_between(alloc, table, visit, &entry, &exit, days.as_str())
-}
-
-/// Appends the record of a visit of these passages and days.
-fn push_between(
-    alloc: Global,
-    table: &mut Writer<Vec<u8>>,
-    visit: &Visit,
-    entry: &PassageFields,
-    exit: &PassageFields,
-    days: &str,
-) -> Result<(), AllocError>
-    requires { IsBetweenRecords table.old }
-    ensures { OnOk result (HasGiven table.new (written_rows table.old ++ record_text
-        (decimal visit.now.number ∷ visit.now.size_type ∷ load_word visit.now.is_laden ∷ (fields_content entry.now
-        ++ (slot_name visit.now.arrival.slot ∷ string_bytes visit.now.booking ∷ number_field visit.now.kilos
-        ∷ (fields_content exit.now ++ days.now ∷ [])))))) }
-{
     let number = visit.number.to_string(alloc)?;
     let size = visit.size_type.text();
     let slot = slot_text(alloc, visit.arrival.slot)?;
     let gross = number_field(alloc, visit.kilos)?;
+    let entry = passage_fields(alloc, &Some(entry_of(setup, visit)))?;
+    let exit = passage_fields(alloc, &exit_of(setup, &visit.departure))?;
+    let days = days_field(alloc, visit.arrival.moment, &visit.departure)?;
     push_record(
         table,
         &[

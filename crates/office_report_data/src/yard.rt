@@ -105,6 +105,13 @@ fn push_standing(table: &mut Writer<Vec<u8>>, standing: &Standing) -> Result<(),
     let slot = standing.slot.text();
     let number = standing.container.text();
     let size = standing.size_type.text();
-    let load = load_word(standing.is_laden).as_bytes();
-    push_record(table, &[&slot, &number, &size, load])
+    push_record(
+        table,
+        &[
+            &slot,
+            &number,
+            &size,
+            load_word(standing.is_laden).as_bytes(),
+        ],
+    )
 }
