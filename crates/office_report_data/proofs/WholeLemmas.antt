@@ -10,6 +10,16 @@ use Rattle.office_report_data.specs.Tickets.{closed_front, opened_front, ticket_
 use Rattle.office_report_data.specs.Visits.{visits_front}
 use Rattle.office_report_data.specs.Work.{lines_member, work_front}
 
+of_three : (start a b c : List ℕ) → (start ++ a ++ b ++ c) ≡ start ++ (a ++ b ++ c)
+of_three start a b c = simp append_assoc
+
+-- one after another
+pub three_pushed : (start one two three a b c : List ℕ) → one ≡ start ++ a → two ≡ one ++ b → three ≡ two ++ c
+    → three ≡ start ++ (a ++ b ++ c)
+three_pushed start one two three a b c first second third =
+    let all : three ≡ start ++ a ++ b ++ c = cc in
+    all ∙ of_three start a b c
+
 pub rows_whole : (items : Items)
     → (rows_front ++ items_text false items ++ object_back) ≡ compact_text (object (member (codes "rows") (array items) no_members))
 unfolding rows_front object_back serde_json_on_literals

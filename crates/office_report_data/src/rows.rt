@@ -62,6 +62,23 @@ pub(crate) fn push_quoted(alloc: Global, text: &mut String, shown: &str) -> Resu
     text.push_str(quoted.as_str())
 }
 
+/// Appends a text as JSON writes it, and what stands before and after it.
+#[tactic(auto, using(crate::proofs::WholeLemmas::three_pushed))]
+pub(crate) fn push_quoted_in(
+    alloc: Global,
+    text: &mut String,
+    front: &str,
+    shown: &str,
+    back: &str,
+) -> Result<(), AllocError>
+    ensures { OnOk result (string_bytes text.new
+        ≡ string_bytes text.old ++ (front.now ++ quoted shown.now ++ back.now)) }
+{
+    text.push_str(front)?;
+    push_quoted(alloc, text, shown)?;
+    text.push_str(back)
+}
+
 fn quoted_text(alloc: Global, text: &str) -> Result<String, AllocError>
     ensures { IfOk result (λ s. string_bytes s ≡ quoted text.now) }
 {

@@ -6,7 +6,7 @@ ghost use Rattle.serde_json.specs.Written.{compact_text, items_text};
 ghost use Rattle.std.specs.Prelude.{◌≡◌, ◌++◌, false, map, string_bytes, IfOk, OnOk};
 ghost use Rattle.terminal_core.specs.Rows.{visit_content};
 
-use crate::rows::{push_quoted, push_row};
+use crate::rows::{push_quoted_in, push_row};
 use crate::words::load_word;
 use office_reports::TicketReport;
 use office_reports::texts::{moment_text, number_text, size_text, slot_text};
@@ -50,9 +50,7 @@ fn push_opened_front(alloc: Global, text: &mut String, number: u32) -> Result<()
 fn push_ticket_back(alloc: Global, text: &mut String, partner: &str) -> Result<(), AllocError>
     ensures { OnOk result (string_bytes text.new ≡ string_bytes text.old ++ ticket_back partner.now) }
 {
-    text.push_str(",\"partner\":")?;
-    push_quoted(alloc, text, partner)?;
-    text.push_str("}")
+    push_quoted_in(alloc, text, ",\"partner\":", partner, "}")
 }
 
 /// Appends the visits that were closed, a comma between each two, and the end of their list.

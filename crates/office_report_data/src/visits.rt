@@ -15,7 +15,7 @@ ghost use Rattle.std.specs.Prelude.{◌≡◌, ◌++◌, Some, false, map, strin
 ghost use Rattle.terminal_core.specs.Rows.{visit_content};
 
 use crate::containers::{passage_or_null, passage_value};
-use crate::rows::{push_back, push_quoted, push_row};
+use crate::rows::{push_back, push_quoted_in, push_row};
 use crate::tables::{push_record, table_text, table_under};
 use crate::words::{load_word, number_field, number_or_null, text_or_null, way_word};
 use csv::Writer;
@@ -47,9 +47,7 @@ pub fn visits_json(alloc: Global, report: &VisitsReport<'_>) -> Result<String, A
 fn push_front(alloc: Global, text: &mut String, container: &str) -> Result<(), AllocError>
     ensures { OnOk result (string_bytes text.new ≡ string_bytes text.old ++ visits_front container.now) }
 {
-    text.push_str("{\"container\":")?;
-    push_quoted(alloc, text, container)?;
-    text.push_str(",\"rows\":[")
+    push_quoted_in(alloc, text, "{\"container\":", container, ",\"rows\":[")
 }
 
 /// Appends the visits, a comma between each two, and the end of their list.
