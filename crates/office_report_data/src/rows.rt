@@ -62,8 +62,23 @@ pub(crate) fn push_quoted(alloc: Global, text: &mut String, shown: &str) -> Resu
     text.push_str(quoted.as_str())
 }
 
-/// Appends a text as JSON writes it, and what stands before and after it.
+/// Appends three texts.
 #[tactic(auto, using(crate::proofs::WholeLemmas::three_pushed))]
+pub(crate) fn push_three(
+    text: &mut String,
+    front: &str,
+    middle: &str,
+    back: &str,
+) -> Result<(), AllocError>
+    ensures { OnOk result (string_bytes text.new
+        ≡ string_bytes text.old ++ (front.now ++ middle.now ++ back.now)) }
+{
+    text.push_str(front)?;
+    text.push_str(middle)?;
+    text.push_str(back)
+}
+
+/// Appends a text as JSON writes it, and what stands before and after it.
 pub(crate) fn push_quoted_in(
     alloc: Global,
     text: &mut String,
@@ -74,9 +89,8 @@ pub(crate) fn push_quoted_in(
     ensures { OnOk result (string_bytes text.new
         ≡ string_bytes text.old ++ (front.now ++ quoted shown.now ++ back.now)) }
 {
-    text.push_str(front)?;
-    push_quoted(alloc, text, shown)?;
-    text.push_str(back)
+    let quoted = quoted_text(alloc, shown)?;
+    push_three(text, front, quoted.as_str(), back)
 }
 
 fn quoted_text(alloc: Global, text: &str) -> Result<String, AllocError>

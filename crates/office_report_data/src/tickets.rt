@@ -6,7 +6,7 @@ ghost use Rattle.serde_json.specs.Written.{compact_text, items_text};
 ghost use Rattle.std.specs.Prelude.{◌≡◌, ◌++◌, false, map, string_bytes, IfOk, OnOk};
 ghost use Rattle.terminal_core.specs.Rows.{visit_content};
 
-use crate::rows::{push_quoted_in, push_row};
+use crate::rows::{push_quoted_in, push_row, push_three};
 use crate::words::load_word;
 use office_reports::TicketReport;
 use office_reports::texts::{moment_text, number_text, size_text, slot_text};
@@ -41,9 +41,7 @@ fn push_opened_front(alloc: Global, text: &mut String, number: u32) -> Result<()
     ensures { OnOk result (string_bytes text.new ≡ string_bytes text.old ++ opened_front number) }
 {
     let digits = number.to_string(alloc)?;
-    text.push_str(",\"number\":")?;
-    text.push_str(digits.as_str())?;
-    text.push_str(",\"opened\":[")
+    push_three(text, ",\"number\":", digits.as_str(), ",\"opened\":[")
 }
 
 #[tactic(auto, unfolding(crate::specs::Tickets::ticket_back))]

@@ -196,6 +196,7 @@ fn push_visit(
     let number = visit.number.to_string(alloc)?;
     let size = visit.size_type.text();
     let slot = slot_text(alloc, visit.arrival.slot)?;
+    let booking = String::from_str(alloc, visit.booking.as_str())?;
     let gross = number_field(alloc, visit.kilos)?;
     let entry = passage_fields(alloc, &Some(entry_of(setup, visit)))?;
     let exit = passage_fields(alloc, &exit_of(setup, &visit.departure))?;
@@ -211,7 +212,7 @@ fn push_visit(
             entry.number.as_bytes(),
             entry.moment.as_bytes(),
             slot.as_bytes(),
-            visit.booking.as_bytes(),
+            booking.as_bytes(),
             gross.as_bytes(),
             exit.way.as_bytes(),
             exit.partner.as_bytes(),

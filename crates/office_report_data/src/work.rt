@@ -8,7 +8,7 @@ ghost use Rattle.serde_json.specs.Written.{compact_text, items_text};
 ghost use Rattle.std.specs.List.{flat_map};
 ghost use Rattle.std.specs.Prelude.{◌≡◌, ◌++◌, false, map, string_bytes, IfOk, OnOk};
 
-use crate::rows::{push_list_back, push_row};
+use crate::rows::{push_list_back, push_row, push_three};
 use crate::tables::{push_record, table_text, table_under};
 use crate::words::{container_field, container_or_null, side_word, text_or_null};
 use csv::Writer;
@@ -44,9 +44,7 @@ fn push_front(alloc: Global, text: &mut String, done: usize) -> Result<(), Alloc
     ensures { OnOk result (string_bytes text.new ≡ string_bytes text.old ++ work_front done) }
 {
     let done = done.to_string(alloc)?;
-    text.push_str("{\"done\":")?;
-    text.push_str(done.as_str())?;
-    text.push_str(",\"jobs\":[")
+    push_three(text, "{\"done\":", done.as_str(), ",\"jobs\":[")
 }
 
 #[tactic(auto, unfolding(crate::specs::Work::lines_member))]
