@@ -3,7 +3,7 @@ ghost use Rattle.office_report_data.specs.Archives.{ToldContent, archives_data, 
 ghost use Rattle.serde_json.specs.Data.{no_members};
 ghost use Rattle.serde_json.specs.Written.{compact_text};
 ghost use Rattle.std.specs.Option.{option_map};
-ghost use Rattle.std.specs.Prelude.{◌≡◌, ◌++◌, Option, string_bytes, IfOk, OnOk};
+ghost use Rattle.std.specs.Prelude.{◌≡◌, ◌++◌, Option, codes, string_bytes, IfOk};
 
 use crate::rows::push_back;
 use std::alloc::{AllocError, Global};
@@ -33,10 +33,17 @@ fn with_count(alloc: Global, json: &str, count: usize) -> Result<String, AllocEr
     ensures { IfOk result (λ text. (content : ToldContent) → json.now ≡ compact_text (told_data content) →
         string_bytes text ≡ compact_text (archives_data count (members_of content))) }
 {
-    let Some(members) = json.strip_prefix('{') else {
-        // It is no object.
-        return String::from_str(alloc, json);
-    };
+    match json.strip_prefix('{') {
+        Some(members) => before_members(alloc, members, count),
+        None => String::from_str(alloc, json),
+    }
+}
+
+/// The member, and the others of an object after it.
+fn before_members(alloc: Global, members: &str, count: usize) -> Result<String, AllocError>
+    ensures { IfOk result
+        (λ text. string_bytes text ≡ archives_front count ++ codes "," ++ members.now) }
+{
     let mut text = archives_front(alloc, count)?;
     text.push_str(",")?;
     text.push_str(members)?;
