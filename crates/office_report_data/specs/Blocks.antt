@@ -24,7 +24,7 @@ blocks_data report = rows_object block_data report.rows
 
 -- ---- as CSV
 
-abbrev pub blocks_header : List (List ℕ)
+unfoldable pub blocks_header : List (List ℕ)
 blocks_header =
     codes "block" ∷ codes "bays" ∷ codes "rows" ∷ codes "tiers" ∷ codes "cells" ∷ codes "used" ∷ codes "twenties"
     ∷ codes "forties" ∷ codes "under" ∷ codes "highest" ∷ []

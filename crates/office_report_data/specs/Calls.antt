@@ -19,7 +19,7 @@ calls_data lists = rows_object call_data lists
 
 -- ---- as CSV
 
-abbrev pub calls_header : List (List ℕ)
+unfoldable pub calls_header : List (List ℕ)
 calls_header = codes "vessel" ∷ codes "voyage" ∷ codes "side" ∷ codes "open" ∷ codes "done" ∷ []
 
 abbrev pub call_fields : LineKey × ListCount → List (List ℕ)

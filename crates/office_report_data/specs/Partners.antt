@@ -22,7 +22,7 @@ partners_data report = rows_object partner_data report.rows
 
 -- ---- as CSV
 
-abbrev pub partners_header : List (List ℕ)
+unfoldable pub partners_header : List (List ℕ)
 partners_header =
     codes "code" ∷ codes "kind" ∷ codes "next" ∷ codes "waiting_count" ∷ codes "waiting_first" ∷ codes "waiting_last" ∷ []
 

@@ -42,7 +42,7 @@ visits_front container = codes "{\"container\":" ++ quoted container ++ codes ",
 
 -- ---- as CSV
 
-abbrev pub visits_header : List (List ℕ)
+unfoldable pub visits_header : List (List ℕ)
 visits_header =
     codes "visit" ∷ codes "size_type" ∷ codes "load" ∷ codes "entry_way" ∷ codes "entry_partner" ∷ codes "entry_number"
     ∷ codes "entry_moment" ∷ codes "slot" ∷ codes "booking" ∷ codes "gross" ∷ codes "exit_way" ∷ codes "exit_partner"

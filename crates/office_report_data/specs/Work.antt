@@ -40,7 +40,7 @@ lines_member whole = codes ",\"lines\":" ++ decimal whole
 
 -- ---- as CSV
 
-abbrev pub work_header : List (List ℕ)
+unfoldable pub work_header : List (List ℕ)
 work_header = codes "slot" ∷ codes "container" ∷ codes "size_type" ∷ codes "port" ∷ codes "under" ∷ []
 
 abbrev pub slot_field : Option Standing → List ℕ

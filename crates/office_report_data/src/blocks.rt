@@ -1,5 +1,5 @@
 //! The report on the blocks of the yard as JSON and as CSV.
-ghost use Rattle.office_report_data.specs.Blocks.{block_data, block_fields, blocks_data, blocks_table, letter_text};
+ghost use Rattle.office_report_data.specs.Blocks.{block_data, block_fields, blocks_data, blocks_header, blocks_table, letter_text};
 ghost use Rattle.office_report_data.specs.Tables.{record_text};
 ghost use Rattle.office_reports.specs.Blocks.{blocks_content, cell_count, used_cells};
 ghost use Rattle.office_reports.specs.Export.{HasGiven, IsBetweenRecords, written_rows};
@@ -96,7 +96,17 @@ fn used_cells(used: BlockUse) -> Option<usize>
 pub fn blocks_csv(alloc: Global, report: &BlocksReport) -> Result<String, AllocError>
     ensures { IfOk result (λ text. string_bytes text ≡ blocks_table (blocks_content report.now)) }
 {
-    let mut table = table_under(
+    let mut table = headed_table(alloc)?;
+    push_records(alloc, &mut table, &report.rows)?;
+    table_text(table)
+}
+
+/// The table with its header, and no row yet.
+#[tactic(auto, unfolding(crate::specs::Blocks::blocks_header))]
+fn headed_table(alloc: Global) -> Result<Writer<Vec<u8>>, AllocError>
+    ensures { IfOk result (λ table. HasGiven table (record_text blocks_header)) }
+{
+    table_under(
         alloc,
         &[
             b"block",
@@ -110,9 +120,7 @@ pub fn blocks_csv(alloc: Global, report: &BlocksReport) -> Result<String, AllocE
             b"under",
             b"highest",
         ],
-    )?;
-    push_records(alloc, &mut table, &report.rows)?;
-    table_text(table)
+    )
 }
 
 fn push_records(

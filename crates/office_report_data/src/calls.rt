@@ -1,5 +1,5 @@
 //! The report on the vessels' lists as JSON and as CSV.
-ghost use Rattle.office_report_data.specs.Calls.{call_data, call_fields, calls_data, calls_table};
+ghost use Rattle.office_report_data.specs.Calls.{call_data, call_fields, calls_data, calls_header, calls_table};
 ghost use Rattle.office_report_data.specs.Tables.{record_text};
 ghost use Rattle.office_reports.specs.Calls.{lists_content};
 ghost use Rattle.office_reports.specs.Export.{HasGiven, IsBetweenRecords, written_rows};
@@ -89,9 +89,17 @@ pub fn calls_csv(alloc: Global, report: &CallsReport<'_>) -> Result<String, Allo
     ensures { IfOk result
         (λ text. string_bytes text ≡ calls_table (lists_content report.now.lists.entries)) }
 {
-    let mut table = table_under(alloc, &[b"vessel", b"voyage", b"side", b"open", b"done"])?;
+    let mut table = headed_table(alloc)?;
     push_records(alloc, &mut table, &report.lists)?;
     table_text(table)
+}
+
+/// The table with its header, and no row yet.
+#[tactic(auto, unfolding(crate::specs::Calls::calls_header))]
+fn headed_table(alloc: Global) -> Result<Writer<Vec<u8>>, AllocError>
+    ensures { IfOk result (λ table. HasGiven table (record_text calls_header)) }
+{
+    table_under(alloc, &[b"vessel", b"voyage", b"side", b"open", b"done"])
 }
 
 fn push_records(

@@ -1,5 +1,5 @@
 //! The report on the partners as JSON and as CSV.
-ghost use Rattle.office_report_data.specs.Partners.{partner_data, partner_fields, partners_data, partners_table, waiting_data};
+ghost use Rattle.office_report_data.specs.Partners.{partner_data, partner_fields, partners_data, partners_header, partners_table, waiting_data};
 ghost use Rattle.office_report_data.specs.Tables.{record_text};
 ghost use Rattle.office_report_data.specs.Words.{field_of, kind_word, or_null};
 ghost use Rattle.office_reports.specs.Export.{HasGiven, IsBetweenRecords, written_rows};
@@ -90,7 +90,17 @@ fn waiting_value(alloc: Global, waiting: Waiting) -> Result<Value, AllocError>
 pub fn partners_csv(alloc: Global, report: &PartnersReport<'_>) -> Result<String, AllocError>
     ensures { IfOk result (λ text. string_bytes text ≡ partners_table (partners_content report.now)) }
 {
-    let mut table = table_under(
+    let mut table = headed_table(alloc)?;
+    push_records(alloc, &mut table, &report.rows)?;
+    table_text(table)
+}
+
+/// The table with its header, and no row yet.
+#[tactic(auto, unfolding(crate::specs::Partners::partners_header))]
+fn headed_table(alloc: Global) -> Result<Writer<Vec<u8>>, AllocError>
+    ensures { IfOk result (λ table. HasGiven table (record_text partners_header)) }
+{
+    table_under(
         alloc,
         &[
             b"code",
@@ -100,9 +110,7 @@ pub fn partners_csv(alloc: Global, report: &PartnersReport<'_>) -> Result<String
             b"waiting_first",
             b"waiting_last",
         ],
-    )?;
-    push_records(alloc, &mut table, &report.rows)?;
-    table_text(table)
+    )
 }
 
 fn push_records(

@@ -2,7 +2,7 @@
 ghost use Rattle.office_admission.specs.Setups.{setup_content};
 ghost use Rattle.office_report_data.specs.Containers.{passage_data};
 ghost use Rattle.office_report_data.specs.Tables.{record_text};
-ghost use Rattle.office_report_data.specs.Visits.{days_data, days_field, fields_content, passage_fields, visit_data, visit_fields, visits_data, visits_front, visits_table};
+ghost use Rattle.office_report_data.specs.Visits.{days_data, days_field, fields_content, passage_fields, visit_data, visit_fields, visits_data, visits_front, visits_header, visits_table};
 ghost use Rattle.office_report_data.specs.Words.{or_null};
 ghost use Rattle.office_reports.specs.Export.{HasGiven, IsBetweenRecords, written_rows};
 ghost use Rattle.office_reports.specs.Passages.{arrival_by, departure_by, passage_content};
@@ -142,7 +142,17 @@ fn days_value(entry: Moment, departure: &Option<Departure>) -> Value
 pub fn visits_csv(alloc: Global, report: &VisitsReport<'_>) -> Result<String, AllocError>
     ensures { IfOk result (λ text. string_bytes text ≡ visits_table (visits_content report.now)) }
 {
-    let mut table = table_under(
+    let mut table = headed_table(alloc)?;
+    push_records(alloc, &mut table, report.setup, &report.visits)?;
+    table_text(table)
+}
+
+/// The table with its header, and no row yet.
+#[tactic(auto, unfolding(crate::specs::Visits::visits_header))]
+fn headed_table(alloc: Global) -> Result<Writer<Vec<u8>>, AllocError>
+    ensures { IfOk result (λ table. HasGiven table (record_text visits_header)) }
+{
+    table_under(
         alloc,
         &[
             b"visit",
@@ -161,9 +171,7 @@ pub fn visits_csv(alloc: Global, report: &VisitsReport<'_>) -> Result<String, Al
             b"exit_moment",
             b"days",
         ],
-    )?;
-    push_records(alloc, &mut table, report.setup, &report.visits)?;
-    table_text(table)
+    )
 }
 
 fn push_records(

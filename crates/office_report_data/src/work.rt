@@ -1,6 +1,6 @@
 //! The report on what is left to do of a vessel's list as JSON and as CSV.
 ghost use Rattle.office_report_data.specs.Tables.{record_text};
-ghost use Rattle.office_report_data.specs.Work.{job_data, job_fields, lines_member, size_field, size_or_null, slot_field, slot_or_null, work_data, work_front, work_table};
+ghost use Rattle.office_report_data.specs.Work.{job_data, job_fields, lines_member, size_field, size_or_null, slot_field, slot_or_null, work_data, work_front, work_header, work_table};
 ghost use Rattle.office_reports.specs.Export.{HasGiven, IsBetweenRecords, written_rows};
 ghost use Rattle.office_reports.specs.Work.{job_content, work_content};
 ghost use Rattle.serde_json.specs.View.{items_of, view};
@@ -127,12 +127,20 @@ pub fn work_csv(alloc: Global, report: &WorkReport<'_>) -> Result<String, AllocE
     ensures { IfOk result (λ text. string_bytes text ≡ work_table (work_content report.now)) }
 {
     let jobs = in_order(alloc, report.side, &report.jobs)?;
-    let mut table = table_under(
-        alloc,
-        &[b"slot", b"container", b"size_type", b"port", b"under"],
-    )?;
+    let mut table = headed_table(alloc)?;
     push_records(alloc, &mut table, &jobs)?;
     table_text(table)
+}
+
+/// The table with its header, and no row yet.
+#[tactic(auto, unfolding(crate::specs::Work::work_header))]
+fn headed_table(alloc: Global) -> Result<Writer<Vec<u8>>, AllocError>
+    ensures { IfOk result (λ table. HasGiven table (record_text work_header)) }
+{
+    table_under(
+        alloc,
+        &[b"slot", b"container", b"size_type", b"port", b"under"],
+    )
 }
 
 fn push_records(alloc: Global, table: &mut Writer<Vec<u8>>, rows: &[&Job]) -> Result<(), AllocError>
