@@ -1,3 +1,5 @@
+pub mod Plain
 pub mod Shown
+pub mod Sides
 mod Splitting
 mod Titled

@@ -1,10 +1,16 @@
 pub mod Addresses
+pub mod Container
 pub mod Drawn
 pub mod Fixed
+pub mod Frame
 pub mod Laws
 pub mod Links
+pub mod Marks
 pub mod Meanings
 pub mod Pages
+pub mod Pieces
+pub mod Style
 pub mod Titles
 pub mod Typed
+pub mod Visits
 pub mod Words
