@@ -2,4 +2,5 @@ pub mod Plain
 pub mod Shown
 pub mod Sides
 mod Splitting
+pub mod Sums
 mod Titled

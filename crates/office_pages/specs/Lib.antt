@@ -1,4 +1,5 @@
 pub mod Addresses
+pub mod Calls
 pub mod Container
 pub mod Drawn
 pub mod Fixed
@@ -8,9 +9,12 @@ pub mod Links
 pub mod Marks
 pub mod Meanings
 pub mod Pages
+pub mod Partners
 pub mod Pieces
 pub mod Style
+pub mod Tables
 pub mod Titles
 pub mod Typed
 pub mod Visits
 pub mod Words
+pub mod Work

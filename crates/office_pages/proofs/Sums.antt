@@ -1,0 +1,24 @@
+-- Sums over lists as the code has them.
+use Rattle.std.proofs.Common.{◌≡◌, ℕ, ◌+◌, List, [], ◌∷◌, length, refl, sym, ap, ◌∙◌, sum_by}
+use Rattle.std.specs.Borrow.{Bor}
+use Rattle.std.specs.Map.{values_of}
+use Rattle.std.proofs.lemmas.List.{length-map}
+use Rattle.std.proofs.lemmas.List.Sums.{sum_by-cons}
+use Rattle.office_reports.specs.Calls.{key_content, lists_content}
+use Rattle.office_reports.specs.declared.calls.ListCount.{ListCount}
+use Rattle.office_pages.specs.Calls.{done_sum, open_sum}
+
+abbrev Lists : Type 0
+Lists = List ((Bor (List ℕ) × Bor (List ℕ) × ℕ) × ListCount)
+
+-- as many as the map has entries
+pub lists_len : (lists : Lists) → length (lists_content lists) ≡ length lists
+lists_len lists = length-map lists (λ list. (key_content list.0, list.1))
+
+pub open_summed : (lists : Lists) → open_sum (lists_content lists) ≡ sum_by (λ (count : ListCount). count.pending) (values_of lists)
+open_summed [] = refl
+open_summed (list ∷ lists) = ap (λ n. list.1.pending + n) (open_summed lists)
+
+pub done_summed : (lists : Lists) → done_sum (lists_content lists) ≡ sum_by (λ (count : ListCount). count.done) (values_of lists)
+done_summed [] = refl
+done_summed (list ∷ lists) = ap (λ n. list.1.done + n) (done_summed lists)

@@ -1,0 +1,568 @@
+//! The page of what is left to do of a vessel's list.
+ghost use Rattle.std.specs.List.{flat_map};
+ghost use Rattle.std.specs.Prelude.{◌≡◌, ◌++◌, codes, count_by, map, IfOk, OnOk, Some, string_bytes};
+ghost use Rattle.office_reports.specs.Work.{is_absent, is_covered, is_free, is_here, job_content, work_content};
+ghost use Rattle.office_pages.specs.Tables.{table_of};
+ghost use Rattle.office_pages.specs.Work.{absent_columns, absent_row, absent_section, blocked_row, blocker_note, covered_columns, covered_row, covered_section, done_view, expected_section, free_row, free_section, here_row, here_section, is_wanted, sections, standing_columns, standing_row, work_body, work_page, work_title, work_top};
+
+use crate::frame::push_top;
+use crate::layout::foot;
+use crate::marks::{done_kind, push_bar, side_name, side_word};
+use crate::pieces::Piece::{Container, Count, Markup, Part, SizeText, SlotText, Text};
+use crate::pieces::push_pieces;
+use crate::tables::{push_no_rows, push_section_head, push_table_end, push_table_head};
+use box6346::BoxNumber;
+use office_reports::{Job, Standing, WorkReport, in_order};
+use std::alloc::{AllocError, Global};
+use terminal_core::Side;
+
+/// The page of what is left to do of a vessel's list: of loads what is free, then what another container stands on, then
+/// what is not in the yard; of discharges what is to come, then what is in the yard already.
+pub fn work_page(alloc: Global, report: &WorkReport<'_>) -> Result<String, AllocError>
+    ensures { IfOk result (λ page. string_bytes page ≡ work_page (work_content report.now)) }
+{
+    let mut page = String::new(alloc);
+    push_work_top(
+        alloc,
+        &mut page,
+        report.call.vessel.as_str(),
+        report.call.voyage.as_str(),
+        report.side,
+    )?;
+    push_work(alloc, &mut page, report)?;
+    page.push_str(foot())?;
+    Ok(page)
+}
+
+fn push_work_top(
+    alloc: Global,
+    page: &mut String,
+    vessel: &str,
+    voyage: &str,
+    side: Side,
+) -> Result<(), AllocError>
+    ensures { OnOk result
+        (string_bytes page.new ≡ string_bytes page.old ++ work_top vessel.now voyage.now side) }
+{
+    push_top(
+        alloc,
+        page,
+        "/pages/calls",
+        true,
+        &[
+            Markup(side_name(side)),
+            Markup(" work of "),
+            Text(vessel),
+            Markup(" "),
+            Text(voyage),
+        ],
+    )?;
+    push_title(alloc, page, vessel, voyage, side)
+}
+
+fn push_title(
+    alloc: Global,
+    page: &mut String,
+    vessel: &str,
+    voyage: &str,
+    side: Side,
+) -> Result<(), AllocError>
+    ensures { OnOk result
+        (string_bytes page.new ≡ string_bytes page.old ++ work_title vessel.now voyage.now side) }
+{
+    push_pieces(
+        alloc,
+        page,
+        &[
+            Markup("<h1><small>"),
+            Markup(side_name(side)),
+            Markup(" work</small>"),
+            Text(vessel),
+            Markup(" "),
+            Text(voyage),
+            Markup("</h1>\n<p class='beside'><a href='/pages/lists/"),
+            Part(vessel),
+            Markup("/"),
+            Part(voyage),
+            Markup("/"),
+            Markup(side_word(side)),
+            Markup("'>The whole list</a></p>\n"),
+        ],
+    )
+}
+
+fn push_work(alloc: Global, page: &mut String, report: &WorkReport<'_>) -> Result<(), AllocError>
+    ensures { OnOk result
+        (string_bytes page.new ≡ string_bytes page.old ++ work_body (work_content report.now)) }
+{
+    let rows = in_order(alloc, report.side, &report.jobs)?;
+    push_done(alloc, page, report.done as u128, report.whole as u128)?;
+    push_sections(alloc, page, report.side, &report.jobs, &rows)
+}
+
+/// Appends how many of the list's lines are done.
+pub(crate) fn push_done(
+    alloc: Global,
+    page: &mut String,
+    done: u128,
+    whole: u128,
+) -> Result<(), AllocError>
+    ensures { OnOk result (string_bytes page.new ≡ string_bytes page.old ++ done_view done whole) }
+{
+    push_pieces(alloc, page, &[Markup("<p class='far'>")])?;
+    push_bar(alloc, page, done_kind(done, whole), done, whole)?;
+    push_pieces(
+        alloc,
+        page,
+        &[
+            Markup(" <b>"),
+            Count(done),
+            Markup(" of "),
+            Count(whole),
+            Markup(" done</b></p>\n"),
+        ],
+    )
+}
+
+/// Appends the tables of jobs, whose rows stand in their order.
+fn push_sections(
+    alloc: Global,
+    page: &mut String,
+    side: Side,
+    jobs: &[Job],
+    rows: &[&Job],
+) -> Result<(), AllocError>
+    ensures { OnOk result (string_bytes page.new ≡ string_bytes page.old
+        ++ sections side (map job_content jobs.now) (map (λ job. job_content job.now) rows.now)) }
+{
+    match side {
+        Side::Load => {
+            push_free(alloc, page, jobs, rows)?;
+            push_covered(alloc, page, jobs, rows)?;
+            push_absent(alloc, page, jobs, rows)
+        }
+        Side::Discharge => {
+            push_expected(alloc, page, jobs, rows)?;
+            push_here(alloc, page, jobs, rows)
+        }
+    }
+}
+
+/// Appends the loads that can be taken at once.
+fn push_free(
+    alloc: Global,
+    page: &mut String,
+    jobs: &[Job],
+    rows: &[&Job],
+) -> Result<(), AllocError>
+    ensures { OnOk result (string_bytes page.new ≡ string_bytes page.old
+        ++ free_section (map job_content jobs.now) (map (λ job. job_content job.now) rows.now)) }
+{
+    let count = free_count(jobs) as u128;
+    push_section_head(
+        alloc,
+        page,
+        "<b class='s ok'>free now</b>",
+        count,
+        ", by slot",
+    )?;
+    push_free_table(alloc, page, count, rows)
+}
+
+fn push_free_table(
+    alloc: Global,
+    page: &mut String,
+    count: u128,
+    rows: &[&Job],
+) -> Result<(), AllocError>
+    ensures { OnOk result (string_bytes page.new ≡ string_bytes page.old ++ table_of count standing_columns
+        (flat_map free_row (map (λ job. job_content job.now) rows.now)) (codes "Nothing is free.")) }
+{
+    if count == 0 {
+        return push_no_rows(alloc, page, "Nothing is free.");
+    }
+    push_table_head(alloc, page, standing_columns())?;
+    push_free_rows(alloc, page, rows)?;
+    push_table_end(alloc, page)
+}
+
+/// Appends the loads on which another container stands.
+fn push_covered(
+    alloc: Global,
+    page: &mut String,
+    jobs: &[Job],
+    rows: &[&Job],
+) -> Result<(), AllocError>
+    ensures { OnOk result (string_bytes page.new ≡ string_bytes page.old
+        ++ covered_section (map job_content jobs.now) (map (λ job. job_content job.now) rows.now)) }
+{
+    let count = covered_count(jobs) as u128;
+    push_section_head(
+        alloc,
+        page,
+        "<b class='s wait'>under another</b>",
+        count,
+        ", by slot, from the top down",
+    )?;
+    push_covered_table(alloc, page, count, jobs, rows)
+}
+
+fn push_covered_table(
+    alloc: Global,
+    page: &mut String,
+    count: u128,
+    jobs: &[Job],
+    rows: &[&Job],
+) -> Result<(), AllocError>
+    ensures { OnOk result (string_bytes page.new ≡ string_bytes page.old ++ table_of count covered_columns
+        (flat_map (covered_row (map job_content jobs.now)) (map (λ job. job_content job.now) rows.now)) (codes "Nothing is under another.")) }
+{
+    if count == 0 {
+        return push_no_rows(alloc, page, "Nothing is under another.");
+    }
+    push_table_head(alloc, page, covered_columns())?;
+    push_covered_rows(alloc, page, jobs, rows)?;
+    push_table_end(alloc, page)
+}
+
+/// Appends the loads that are not in the yard.
+fn push_absent(
+    alloc: Global,
+    page: &mut String,
+    jobs: &[Job],
+    rows: &[&Job],
+) -> Result<(), AllocError>
+    ensures { OnOk result (string_bytes page.new ≡ string_bytes page.old
+        ++ absent_section (map job_content jobs.now) (map (λ job. job_content job.now) rows.now)) }
+{
+    let count = absent_count(jobs) as u128;
+    push_section_head(
+        alloc,
+        page,
+        "<b class='s bad'>not in the yard</b>",
+        count,
+        "",
+    )?;
+    push_absent_table(alloc, page, count, rows)
+}
+
+fn push_absent_table(
+    alloc: Global,
+    page: &mut String,
+    count: u128,
+    rows: &[&Job],
+) -> Result<(), AllocError>
+    ensures { OnOk result (string_bytes page.new ≡ string_bytes page.old ++ table_of count absent_columns
+        (flat_map absent_row (map (λ job. job_content job.now) rows.now)) (codes "All are in the yard.")) }
+{
+    if count == 0 {
+        return push_no_rows(alloc, page, "All are in the yard.");
+    }
+    push_table_head(alloc, page, absent_columns())?;
+    push_absent_rows(alloc, page, rows)?;
+    push_table_end(alloc, page)
+}
+
+/// Appends what is still to come off the ship.
+fn push_expected(
+    alloc: Global,
+    page: &mut String,
+    jobs: &[Job],
+    rows: &[&Job],
+) -> Result<(), AllocError>
+    ensures { OnOk result (string_bytes page.new ≡ string_bytes page.old
+        ++ expected_section (map job_content jobs.now) (map (λ job. job_content job.now) rows.now)) }
+{
+    let count = absent_count(jobs) as u128;
+    push_section_head(alloc, page, "<b class='s ok'>to discharge</b>", count, "")?;
+    push_expected_table(alloc, page, count, rows)
+}
+
+fn push_expected_table(
+    alloc: Global,
+    page: &mut String,
+    count: u128,
+    rows: &[&Job],
+) -> Result<(), AllocError>
+    ensures { OnOk result (string_bytes page.new ≡ string_bytes page.old ++ table_of count absent_columns
+        (flat_map absent_row (map (λ job. job_content job.now) rows.now)) (codes "Nothing is to be discharged.")) }
+{
+    if count == 0 {
+        return push_no_rows(alloc, page, "Nothing is to be discharged.");
+    }
+    push_table_head(alloc, page, absent_columns())?;
+    push_absent_rows(alloc, page, rows)?;
+    push_table_end(alloc, page)
+}
+
+/// Appends what can't be discharged, since a container of that number is here.
+fn push_here(
+    alloc: Global,
+    page: &mut String,
+    jobs: &[Job],
+    rows: &[&Job],
+) -> Result<(), AllocError>
+    ensures { OnOk result (string_bytes page.new ≡ string_bytes page.old
+        ++ here_section (map job_content jobs.now) (map (λ job. job_content job.now) rows.now)) }
+{
+    let count = here_count(jobs) as u128;
+    push_section_head(
+        alloc,
+        page,
+        "<b class='s bad'>in the yard already</b>",
+        count,
+        "",
+    )?;
+    push_here_table(alloc, page, count, rows)
+}
+
+fn push_here_table(
+    alloc: Global,
+    page: &mut String,
+    count: u128,
+    rows: &[&Job],
+) -> Result<(), AllocError>
+    ensures { OnOk result (string_bytes page.new ≡ string_bytes page.old ++ table_of count standing_columns
+        (flat_map here_row (map (λ job. job_content job.now) rows.now)) (codes "None is in the yard already.")) }
+{
+    if count == 0 {
+        return push_no_rows(alloc, page, "None is in the yard already.");
+    }
+    push_table_head(alloc, page, standing_columns())?;
+    push_here_rows(alloc, page, rows)?;
+    push_table_end(alloc, page)
+}
+
+fn push_free_rows(alloc: Global, page: &mut String, rows: &[&Job]) -> Result<(), AllocError>
+    ensures { OnOk result (string_bytes page.new ≡ string_bytes page.old
+        ++ flat_map free_row (map (λ job. job_content job.now) rows.now)) }
+{
+    for job in rows {
+        push_free_row(alloc, page, job)?;
+    }
+    Ok(())
+}
+
+/// Appends the row of a load that is free, and nothing of another.
+fn push_free_row(alloc: Global, page: &mut String, job: &Job) -> Result<(), AllocError>
+    ensures { OnOk result (string_bytes page.new ≡ string_bytes page.old ++ free_row (job_content job.now)) }
+{
+    match (job.standing, job.blocker) {
+        (Some(standing), None) => push_standing_row(alloc, page, job, standing),
+        (Some(_), Some(_)) => Ok(()),
+        (None, _) => Ok(()),
+    }
+}
+
+fn push_standing_row(
+    alloc: Global,
+    page: &mut String,
+    job: &Job,
+    standing: Standing,
+) -> Result<(), AllocError>
+    ensures { OnOk result
+        (string_bytes page.new ≡ string_bytes page.old ++ standing_row (job_content job.now) standing) }
+{
+    push_pieces(
+        alloc,
+        page,
+        &[
+            Markup("<tr><td class='m'>"),
+            SlotText(standing.slot),
+            Markup("</td><td>"),
+            Container(job.container),
+            Markup("</td><td class='m'>"),
+            SizeText(standing.size_type),
+            Markup("</td><td class='m'>"),
+            Text(job.port.as_str()),
+            Markup("</td></tr>\n"),
+        ],
+    )
+}
+
+fn push_covered_rows(
+    alloc: Global,
+    page: &mut String,
+    jobs: &[Job],
+    rows: &[&Job],
+) -> Result<(), AllocError>
+    ensures { OnOk result (string_bytes page.new ≡ string_bytes page.old
+        ++ flat_map (covered_row (map job_content jobs.now)) (map (λ job. job_content job.now) rows.now)) }
+{
+    for job in rows {
+        push_covered_row(alloc, page, jobs, job)?;
+    }
+    Ok(())
+}
+
+/// Appends the row of a load on which another container stands, and nothing of another.
+fn push_covered_row(
+    alloc: Global,
+    page: &mut String,
+    jobs: &[Job],
+    job: &Job,
+) -> Result<(), AllocError>
+    ensures { OnOk result (string_bytes page.new ≡ string_bytes page.old
+        ++ covered_row (map job_content jobs.now) (job_content job.now)) }
+{
+    match (job.standing, job.blocker) {
+        (Some(standing), Some(blocker)) => {
+            let note = blocker_note(is_wanted(jobs, blocker));
+            push_blocked(alloc, page, job, standing, blocker, note)
+        }
+        (Some(_), None) => Ok(()),
+        (None, _) => Ok(()),
+    }
+}
+
+fn push_blocked(
+    alloc: Global,
+    page: &mut String,
+    job: &Job,
+    standing: Standing,
+    blocker: BoxNumber,
+    note: &str,
+) -> Result<(), AllocError>
+    ensures { OnOk result (string_bytes page.new
+        ≡ string_bytes page.old ++ blocked_row (job_content job.now) standing blocker note.now) }
+{
+    push_pieces(
+        alloc,
+        page,
+        &[
+            Markup("<tr><td class='m'>"),
+            SlotText(standing.slot),
+            Markup("</td><td>"),
+            Container(job.container),
+            Markup("</td><td class='m o'>"),
+            SizeText(standing.size_type),
+            Markup("</td><td class='m o'>"),
+            Text(job.port.as_str()),
+            Markup("</td><td>"),
+            Container(blocker),
+            Markup("<br><span class='note'>"),
+            Markup(note),
+            Markup("</span></td></tr>\n"),
+        ],
+    )
+}
+
+/// Whether what stands on a load is wanted too, or has to be put elsewhere.
+fn blocker_note(is_wanted: bool) -> &'static str
+    ensures { result.now ≡ blocker_note is_wanted }
+{
+    if is_wanted {
+        "on this list too"
+    } else {
+        "stays: it must move first"
+    }
+}
+
+fn is_wanted(jobs: &[Job], container: BoxNumber) -> bool
+    ensures { result ≡ is_wanted (map job_content jobs.now) container }
+{
+    jobs.iter().any(|job| job.container == container)
+}
+
+fn push_absent_rows(alloc: Global, page: &mut String, rows: &[&Job]) -> Result<(), AllocError>
+    ensures { OnOk result (string_bytes page.new ≡ string_bytes page.old
+        ++ flat_map absent_row (map (λ job. job_content job.now) rows.now)) }
+{
+    for job in rows {
+        push_absent_row(alloc, page, job)?;
+    }
+    Ok(())
+}
+
+/// Appends the row of one that is not in the yard, and nothing of another.
+fn push_absent_row(alloc: Global, page: &mut String, job: &Job) -> Result<(), AllocError>
+    ensures { OnOk result (string_bytes page.new ≡ string_bytes page.old ++ absent_row (job_content job.now)) }
+{
+    match job.standing {
+        Some(_) => Ok(()),
+        None => push_pieces(
+            alloc,
+            page,
+            &[
+                Markup("<tr><td>"),
+                Container(job.container),
+                Markup("</td><td class='m'>"),
+                Text(job.port.as_str()),
+                Markup("</td></tr>\n"),
+            ],
+        ),
+    }
+}
+
+fn push_here_rows(alloc: Global, page: &mut String, rows: &[&Job]) -> Result<(), AllocError>
+    ensures { OnOk result (string_bytes page.new ≡ string_bytes page.old
+        ++ flat_map here_row (map (λ job. job_content job.now) rows.now)) }
+{
+    for job in rows {
+        push_here_row(alloc, page, job)?;
+    }
+    Ok(())
+}
+
+/// Appends the row of one that is in the yard, and nothing of another.
+fn push_here_row(alloc: Global, page: &mut String, job: &Job) -> Result<(), AllocError>
+    ensures { OnOk result (string_bytes page.new ≡ string_bytes page.old ++ here_row (job_content job.now)) }
+{
+    match job.standing {
+        Some(standing) => push_standing_row(alloc, page, job, standing),
+        None => Ok(()),
+    }
+}
+
+/// How many are in the yard with nothing on them.
+fn free_count(jobs: &[Job]) -> usize
+    ensures { result ≡ count_by is_free (map job_content jobs.now) }
+{
+    jobs.iter()
+        .filter(|job| job.standing.is_some() && job.blocker.is_none())
+        .count()
+}
+
+/// How many are in the yard with another container on them.
+fn covered_count(jobs: &[Job]) -> usize
+    ensures { result ≡ count_by is_covered (map job_content jobs.now) }
+{
+    jobs.iter()
+        .filter(|job| job.standing.is_some() && job.blocker.is_some())
+        .count()
+}
+
+/// How many are not in the yard.
+fn absent_count(jobs: &[Job]) -> usize
+    ensures { result ≡ count_by is_absent (map job_content jobs.now) }
+{
+    jobs.iter().filter(|job| job.standing.is_none()).count()
+}
+
+/// How many are in the yard.
+fn here_count(jobs: &[Job]) -> usize
+    ensures { result ≡ count_by is_here (map job_content jobs.now) }
+{
+    jobs.iter().filter(|job| job.standing.is_some()).count()
+}
+
+#[tactic(auto, unfolding(crate::specs::Work::standing_columns))]
+fn standing_columns() -> &'static str
+    ensures { result.now ≡ standing_columns }
+{
+    "<th>Slot</th><th>Container</th><th>Size-type</th><th>Port</th>"
+}
+
+#[tactic(auto, unfolding(crate::specs::Work::covered_columns))]
+fn covered_columns() -> &'static str
+    ensures { result.now ≡ covered_columns }
+{
+    "<th>Slot</th><th>Container</th><th class='o'>Size-type</th><th class='o'>Port</th><th>What stands on it</th>"
+}
+
+#[tactic(auto, unfolding(crate::specs::Work::absent_columns))]
+fn absent_columns() -> &'static str
+    ensures { result.now ≡ absent_columns }
+{
+    "<th>Container</th><th>Port</th>"
+}
