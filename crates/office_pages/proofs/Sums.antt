@@ -5,7 +5,9 @@ use Rattle.std.specs.Map.{values_of}
 use Rattle.std.proofs.lemmas.List.{length-map}
 use Rattle.std.proofs.lemmas.List.Sums.{sum_by-cons}
 use Rattle.office_reports.specs.Calls.{key_content, lists_content}
+use Rattle.office_reports.specs.Lists.{list_contents, shown_line}
 use Rattle.office_reports.specs.declared.calls.ListCount.{ListCount}
+use Rattle.office_reports.specs.declared.lists.ListedLine.{ListedLine}
 use Rattle.office_pages.specs.Calls.{done_sum, open_sum}
 
 abbrev Lists : Type 0
@@ -22,3 +24,7 @@ open_summed (list ∷ lists) = ap (λ n. list.1.pending + n) (open_summed lists)
 pub done_summed : (lists : Lists) → done_sum (lists_content lists) ≡ sum_by (λ (count : ListCount). count.done) (values_of lists)
 done_summed [] = refl
 done_summed (list ∷ lists) = ap (λ n. list.1.done + n) (done_summed lists)
+
+-- a list has as many lines as its map has entries
+pub lines_len : (lines : List (List ℕ × ListedLine)) → length (list_contents lines) ≡ length lines
+lines_len lines = length-map lines (λ line. (line.0, shown_line line.1))

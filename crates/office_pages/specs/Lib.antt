@@ -1,4 +1,5 @@
 pub mod Addresses
+pub mod Blocks
 pub mod Calls
 pub mod Container
 pub mod Drawn
@@ -6,6 +7,7 @@ pub mod Fixed
 pub mod Frame
 pub mod Laws
 pub mod Links
+pub mod Lists
 pub mod Marks
 pub mod Meanings
 pub mod Pages
@@ -13,8 +15,10 @@ pub mod Partners
 pub mod Pieces
 pub mod Style
 pub mod Tables
+pub mod Tickets
 pub mod Titles
 pub mod Typed
 pub mod Visits
 pub mod Words
 pub mod Work
+pub mod Yard

@@ -1,6 +1,7 @@
 //! Pages of HTML that show the texts of reports.
 #![tactic(auto)]
 
+mod blocks;
 mod body;
 mod calls;
 mod container;
@@ -9,6 +10,7 @@ mod frame;
 pub mod laws;
 mod layout;
 mod links;
+mod lists;
 mod marks;
 mod meanings;
 mod notices;
@@ -18,14 +20,20 @@ mod pieces;
 mod related;
 mod style;
 mod tables;
+mod tickets;
 mod visits;
 mod work;
+mod yard;
 
+pub use blocks::blocks_page;
 pub use calls::calls_page;
 pub use container::container_page;
+pub use lists::list_page;
 pub use notices::{Notice, notice_page, typed_number};
 pub use pages::{has_page, page, start_page};
 pub use partners::partners_page;
 pub use related::second_of;
+pub use tickets::ticket_page;
 pub use visits::visits_page;
 pub use work::work_page;
+pub use yard::yard_page;
