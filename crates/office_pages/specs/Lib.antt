@@ -13,6 +13,7 @@ pub mod Meanings
 pub mod Pages
 pub mod Partners
 pub mod Pieces
+pub mod Start
 pub mod Style
 pub mod Tables
 pub mod Tickets

@@ -45,7 +45,7 @@ fn push_calls(
 }
 
 #[tactic(auto, using(crate::proofs::Sums::lists_len))]
-fn list_count(lists: &BTreeMap<ListKey<'_>, ListCount>) -> u128
+pub(crate) fn list_count(lists: &BTreeMap<ListKey<'_>, ListCount>) -> u128
     ensures { result ≡ length (lists_content lists.now.entries) }
 {
     lists.len() as u128
@@ -106,7 +106,7 @@ fn push_rows(
     Ok(())
 }
 
-fn push_row(
+pub(crate) fn push_row(
     alloc: Global,
     page: &mut String,
     vessel: &str,
@@ -284,7 +284,7 @@ fn finished_sum(counts: &[ListCount]) -> u128
 }
 
 #[tactic(auto, unfolding(crate::specs::Calls::call_columns))]
-fn call_columns() -> &'static str
+pub(crate) fn call_columns() -> &'static str
     ensures { result.now ≡ call_columns }
 {
     "<th>Call</th><th>Work</th><th>Done</th><th class='n'>Open</th><th></th>"

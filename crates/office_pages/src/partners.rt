@@ -260,7 +260,7 @@ fn push_next(alloc: Global, page: &mut String, code: &str, next: u32) -> Result<
     )
 }
 
-fn waiting_count(rows: &[PartnerRow<'_>]) -> usize
+pub(crate) fn waiting_count(rows: &[PartnerRow<'_>]) -> usize
     ensures { result ≡ count_by is_waiting (map row_content rows.now) }
 {
     rows.iter().filter(|row| row.waiting.is_some()).count()
