@@ -1,8 +1,8 @@
 """The pages of reports (own), each from what its report tells: tables with headings and sums, states as words on colours, and
 links to what things name.
 
-A page is at `/pages` and the path of its report. It needs no script and nothing from elsewhere. The page of a reply, a CONTRL, a
-partner and the picture are those of pages.py still.
+A page is at `/pages` and the path of its report. It needs no script and nothing from elsewhere. The page of a reply, a CONTRL
+and the picture are those of pages.py still.
 """
 import re
 
@@ -116,7 +116,7 @@ ASKED_AGAIN = "<meta http-equiv='refresh' content='60'>\n"
 TABS = [('/', 'Start'), ('/pages/yard', 'Yard'), ('/pages/blocks', 'Blocks'), ('/pages/picture', 'Picture'), ('/pages/calls', 'Calls'), ('/pages/partners', 'Partners')]
 
 # the kinds of reports that have a page of this form
-KINDS = ('yard', 'visits', 'list', 'ticket', 'container', 'work', 'partners', 'blocks', 'calls')
+KINDS = ('yard', 'visits', 'list', 'ticket', 'container', 'work', 'partners', 'partner', 'blocks', 'calls')
 
 
 # ---- what all pages have
@@ -415,6 +415,18 @@ def partners(office):
     return framed('/pages/partners', 'Partners', body, True)
 
 
+def partner(office, code):
+    """The page of a partner."""
+    expected, numbers = run(office.deliveries, code) + 1, waiting(office, code)
+    shown = fact('Next number', '%d' % expected) if not numbers else fact('Missing', "<b class='s wait'>%d</b>" % expected) + fact(
+        'Wait', '%s, %d to %d' % (count(len(numbers)), numbers[0], numbers[-1]))
+    body = '<h1><small>Partner</small>%s</h1>\n<section>\n<dl>\n%s%s</dl>\n</section>\n<section>\n<h2>Last interchanges</h2>\n' % (
+        escaped(code), fact('Kind', office.setup.partners[code]), shown)
+    last = [reply(code, number) + '\n' for number in range(expected - 1, 0, -1)][:20]
+    body += '<p>\n' + ''.join(last) + '</p>\n' if last else "<p class='fine'>It has sent none that was taken.</p>\n"
+    return framed('', 'Partner ' + escaped(code), body + '</section>\n')
+
+
 # ---- the yard
 
 def yard(office, block=None):
@@ -519,7 +531,7 @@ def start(office):
 
 PAGES = {
     'yard': yard, 'visits': visits, 'list': vessel_list, 'ticket': ticket, 'container': container, 'work': work, 'partners': partners,
-    'blocks': blocks, 'calls': calls}
+    'partner': partner, 'blocks': blocks, 'calls': calls}
 
 
 def page(office, kind, values):

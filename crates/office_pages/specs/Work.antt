@@ -1,7 +1,8 @@
 -- The page of what is left to do of a vessel's list: what is free first.
 use Rattle.std.specs.Prelude.{ℕ, Bool, true, List, [], ◌∷◌, ◌++◌, codes, count_by, if◌then◌else◌, Option, None, Some}
 use Rattle.std.specs.List.{flat_map, list_any}
-use Rattle.std.specs.Str.{bytes_eq}
+use Rattle.std.specs.Ordering.{eq_by_cmp, nat_cmp}
+use Rattle.std.specs.Cmp.Lexicographic.{slice_cmp}
 use Rattle.box6346.specs.declared.box_number.BoxNumber.{BoxNumber}
 use Rattle.terminal_core.specs.declared.lines.Side.{Side}
 use Rattle.terminal_core.specs.declared.lines.Side.TheVariants.{Load, Discharge}
@@ -55,8 +56,9 @@ free_row job = free_row_by job job.standing job.blocker
 abbrev pub blocker_note : (is_wanted : Bool) → List ℕ
 blocker_note is_wanted = if is_wanted then codes "on this list too" else codes "stays: it must move first"
 
+-- the container is one of the jobs'
 abbrev pub is_wanted : List JobContent → BoxNumber → Bool
-is_wanted jobs container = list_any (λ job. bytes_eq job.container container) jobs
+is_wanted jobs container = list_any (λ job. eq_by_cmp (slice_cmp nat_cmp) job.container container) jobs
 
 abbrev pub blocked_row : JobContent → Standing → BoxNumber → (note : List ℕ) → List ℕ
 blocked_row job standing blocker note = pieces_text
@@ -65,15 +67,15 @@ blocked_row job standing blocker note = pieces_text
     ∷ Markup (codes "</td><td>") ∷ Container blocker ∷ Markup (codes "<br><span class='note'>") ∷ Markup note
     ∷ Markup (codes "</span></td></tr>\n") ∷ [])
 
-abbrev pub covered_row_by : List JobContent → JobContent → Option Standing → Option BoxNumber → List ℕ
-covered_row_by jobs job (Some standing) (Some blocker) =
-    blocked_row job standing blocker (blocker_note (is_wanted jobs blocker))
-covered_row_by jobs job (Some standing) None = []
-covered_row_by jobs job None blocker = []
+abbrev pub covered_row_by : (BoxNumber → Bool) → JobContent → Option Standing → Option BoxNumber → List ℕ
+covered_row_by wanted job (Some standing) (Some blocker) =
+    blocked_row job standing blocker (blocker_note (wanted blocker))
+covered_row_by wanted job (Some standing) None = []
+covered_row_by wanted job None blocker = []
 
 -- that of a load on which another container stands
-abbrev pub covered_row : List JobContent → JobContent → List ℕ
-covered_row jobs job = covered_row_by jobs job job.standing job.blocker
+abbrev pub covered_row : (BoxNumber → Bool) → JobContent → List ℕ
+covered_row wanted job = covered_row_by wanted job job.standing job.blocker
 
 -- BOX PORT
 abbrev pub absent_row_by : JobContent → Option Standing → List ℕ
@@ -118,7 +120,7 @@ abbrev pub covered_section : List JobContent → List JobContent → List ℕ
 covered_section jobs rows =
     section_head (codes "<b class='s wait'>under another</b>") (count_by is_covered jobs)
     (codes ", by slot, from the top down")
-    ++ table_of (count_by is_covered jobs) covered_columns (flat_map (covered_row jobs) rows) (codes "Nothing is under another.")
+    ++ table_of (count_by is_covered jobs) covered_columns (flat_map (covered_row (is_wanted jobs)) rows) (codes "Nothing is under another.")
 
 abbrev pub absent_section : List JobContent → List JobContent → List ℕ
 absent_section jobs rows =

@@ -139,11 +139,11 @@ fn push_line(
     push_list(alloc, page, vessel, voyage, side)
 }
 
-fn push_call(
+fn push_call<'a>(
     alloc: Global,
     page: &mut String,
-    vessel: &str,
-    voyage: &str,
+    vessel: &'a str,
+    voyage: &'a str,
     side: Side,
 ) -> Result<(), AllocError>
     ensures { OnOk result
@@ -211,11 +211,11 @@ fn push_open(alloc: Global, page: &mut String, pending: usize) -> Result<(), All
 }
 
 /// Appends a link to the whole list.
-fn push_list(
+fn push_list<'a>(
     alloc: Global,
     page: &mut String,
-    vessel: &str,
-    voyage: &str,
+    vessel: &'a str,
+    voyage: &'a str,
     side: Side,
 ) -> Result<(), AllocError>
     ensures { OnOk result

@@ -185,12 +185,12 @@ fn push_passage(
     }
 }
 
-fn push_passage_fact(
+fn push_passage_fact<'a>(
     alloc: Global,
     page: &mut String,
-    label: &str,
+    label: &'a str,
     way: Way,
-    partner: &str,
+    partner: &'a str,
     number: u32,
     moment: Moment,
 ) -> Result<(), AllocError>
@@ -339,13 +339,13 @@ fn push_list_row(alloc: Global, page: &mut String, line: &Listing) -> Result<(),
     )
 }
 
-fn push_wanted_line(
+fn push_wanted_line<'a>(
     alloc: Global,
     page: &mut String,
-    vessel: &str,
-    voyage: &str,
+    vessel: &'a str,
+    voyage: &'a str,
     side: Side,
-    port: &str,
+    port: &'a str,
 ) -> Result<(), AllocError>
     ensures { OnOk result
         (string_bytes page.new ≡ string_bytes page.old ++ wanted_line vessel.now voyage.now side port.now) }

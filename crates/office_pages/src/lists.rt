@@ -35,11 +35,11 @@ pub fn list_page(alloc: Global, report: &ListReport<'_>) -> Result<String, Alloc
     Ok(page)
 }
 
-fn push_list_top(
+fn push_list_top<'a>(
     alloc: Global,
     page: &mut String,
-    vessel: &str,
-    voyage: &str,
+    vessel: &'a str,
+    voyage: &'a str,
     side: Side,
 ) -> Result<(), AllocError>
     ensures { OnOk result
@@ -61,11 +61,11 @@ fn push_list_top(
     push_title(alloc, page, vessel, voyage, side)
 }
 
-fn push_title(
+fn push_title<'a>(
     alloc: Global,
     page: &mut String,
-    vessel: &str,
-    voyage: &str,
+    vessel: &'a str,
+    voyage: &'a str,
     side: Side,
 ) -> Result<(), AllocError>
     ensures { OnOk result

@@ -116,7 +116,12 @@ fn push_waiting_row(
 }
 
 /// Appends a partner's code and what it is.
-fn push_partner(alloc: Global, page: &mut String, code: &str, kind: &str) -> Result<(), AllocError>
+fn push_partner<'a>(
+    alloc: Global,
+    page: &mut String,
+    code: &'a str,
+    kind: &'a str,
+) -> Result<(), AllocError>
     ensures { OnOk result (string_bytes page.new ≡ string_bytes page.old ++ partner_cells code.now kind.now) }
 {
     push_pieces(

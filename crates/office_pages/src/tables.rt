@@ -7,12 +7,12 @@ use crate::pieces::push_pieces;
 use std::alloc::{AllocError, Global};
 
 /// Appends a state or a name, how many rows the table below has, and what else is to be said of them.
-pub(crate) fn push_section_head(
+pub(crate) fn push_section_head<'a>(
     alloc: Global,
     page: &mut String,
-    name: &str,
+    name: &'a str,
     count: u128,
-    more: &str,
+    more: &'a str,
 ) -> Result<(), AllocError>
     ensures { OnOk result
         (string_bytes page.new ≡ string_bytes page.old ++ section_head name.now count more.now) }

@@ -1,6 +1,9 @@
 //! The page of what is left to do of a vessel's list.
+ghost use Rattle.std.specs.BTreeSet.{contains};
+ghost use Rattle.std.specs.Cmp.Lexicographic.{slice_cmp};
 ghost use Rattle.std.specs.List.{flat_map};
-ghost use Rattle.std.specs.Prelude.{◌≡◌, ◌++◌, codes, count_by, map, IfOk, OnOk, Some, string_bytes};
+ghost use Rattle.std.specs.Ordering.{nat_cmp};
+ghost use Rattle.std.specs.Prelude.{◌≡◌, ◌++◌, ℕ, List, codes, count_by, map, IfOk, OnOk, Some, string_bytes};
 ghost use Rattle.office_reports.specs.Work.{is_absent, is_covered, is_free, is_here, job_content, work_content};
 ghost use Rattle.office_pages.specs.Tables.{table_of};
 ghost use Rattle.office_pages.specs.Work.{absent_columns, absent_row, absent_section, blocked_row, blocker_note, covered_columns, covered_row, covered_section, done_view, expected_section, free_row, free_section, here_row, here_section, is_wanted, sections, standing_columns, standing_row, work_body, work_page, work_title, work_top};
@@ -14,6 +17,7 @@ use crate::tables::{push_no_rows, push_section_head, push_table_end, push_table_
 use box6346::BoxNumber;
 use office_reports::{Job, Standing, WorkReport, in_order};
 use std::alloc::{AllocError, Global};
+use std::collections::BTreeSet;
 use terminal_core::Side;
 
 /// The page of what is left to do of a vessel's list: of loads what is free, then what another container stands on, then
@@ -34,11 +38,11 @@ pub fn work_page(alloc: Global, report: &WorkReport<'_>) -> Result<String, Alloc
     Ok(page)
 }
 
-fn push_work_top(
+fn push_work_top<'a>(
     alloc: Global,
     page: &mut String,
-    vessel: &str,
-    voyage: &str,
+    vessel: &'a str,
+    voyage: &'a str,
     side: Side,
 ) -> Result<(), AllocError>
     ensures { OnOk result
@@ -60,11 +64,11 @@ fn push_work_top(
     push_title(alloc, page, vessel, voyage, side)
 }
 
-fn push_title(
+fn push_title<'a>(
     alloc: Global,
     page: &mut String,
-    vessel: &str,
-    voyage: &str,
+    vessel: &'a str,
+    voyage: &'a str,
     side: Side,
 ) -> Result<(), AllocError>
     ensures { OnOk result
@@ -197,6 +201,7 @@ fn push_covered(
         ++ covered_section (map job_content jobs.now) (map (λ job. job_content job.now) rows.now)) }
 {
     let count = covered_count(jobs) as u128;
+    let wanted = wanted_numbers(alloc, jobs)?;
     push_section_head(
         alloc,
         page,
@@ -204,24 +209,37 @@ fn push_covered(
         count,
         ", by slot, from the top down",
     )?;
-    push_covered_table(alloc, page, count, jobs, rows)
+    push_covered_table(alloc, page, count, &wanted, rows)
+}
+
+/// The numbers of the jobs' containers.
+fn wanted_numbers(alloc: Global, jobs: &[Job]) -> Result<BTreeSet<BoxNumber>, AllocError>
+    ensures { IfOk result (λ numbers. (container : List ℕ) →
+        contains (slice_cmp nat_cmp) numbers container ≡ is_wanted (map job_content jobs.now) container) }
+{
+    let mut numbers = BTreeSet::new(alloc);
+    for job in jobs {
+        numbers.insert(job.container)?;
+    }
+    Ok(numbers)
 }
 
 fn push_covered_table(
     alloc: Global,
     page: &mut String,
     count: u128,
-    jobs: &[Job],
+    wanted: &BTreeSet<BoxNumber>,
     rows: &[&Job],
 ) -> Result<(), AllocError>
     ensures { OnOk result (string_bytes page.new ≡ string_bytes page.old ++ table_of count covered_columns
-        (flat_map (covered_row (map job_content jobs.now)) (map (λ job. job_content job.now) rows.now)) (codes "Nothing is under another.")) }
+        (flat_map (covered_row (contains (slice_cmp nat_cmp) wanted.now)) (map (λ job. job_content job.now) rows.now))
+        (codes "Nothing is under another.")) }
 {
     if count == 0 {
         return push_no_rows(alloc, page, "Nothing is under another.");
     }
     push_table_head(alloc, page, covered_columns())?;
-    push_covered_rows(alloc, page, jobs, rows)?;
+    push_covered_rows(alloc, page, wanted, rows)?;
     push_table_end(alloc, page)
 }
 
@@ -383,14 +401,14 @@ fn push_standing_row(
 fn push_covered_rows(
     alloc: Global,
     page: &mut String,
-    jobs: &[Job],
+    wanted: &BTreeSet<BoxNumber>,
     rows: &[&Job],
 ) -> Result<(), AllocError>
     ensures { OnOk result (string_bytes page.new ≡ string_bytes page.old
-        ++ flat_map (covered_row (map job_content jobs.now)) (map (λ job. job_content job.now) rows.now)) }
+        ++ flat_map (covered_row (contains (slice_cmp nat_cmp) wanted.now)) (map (λ job. job_content job.now) rows.now)) }
 {
     for job in rows {
-        push_covered_row(alloc, page, jobs, job)?;
+        push_covered_row(alloc, page, wanted, job)?;
     }
     Ok(())
 }
@@ -399,15 +417,15 @@ fn push_covered_rows(
 fn push_covered_row(
     alloc: Global,
     page: &mut String,
-    jobs: &[Job],
+    wanted: &BTreeSet<BoxNumber>,
     job: &Job,
 ) -> Result<(), AllocError>
     ensures { OnOk result (string_bytes page.new ≡ string_bytes page.old
-        ++ covered_row (map job_content jobs.now) (job_content job.now)) }
+        ++ covered_row (contains (slice_cmp nat_cmp) wanted.now) (job_content job.now)) }
 {
     match (job.standing, job.blocker) {
         (Some(standing), Some(blocker)) => {
-            let note = blocker_note(is_wanted(jobs, blocker));
+            let note = blocker_note(wanted.contains(&blocker));
             push_blocked(alloc, page, job, standing, blocker, note)
         }
         (Some(_), None) => Ok(()),
@@ -415,13 +433,13 @@ fn push_covered_row(
     }
 }
 
-fn push_blocked(
+fn push_blocked<'a>(
     alloc: Global,
     page: &mut String,
-    job: &Job,
+    job: &'a Job,
     standing: Standing,
     blocker: BoxNumber,
-    note: &str,
+    note: &'a str,
 ) -> Result<(), AllocError>
     ensures { OnOk result (string_bytes page.new
         ≡ string_bytes page.old ++ blocked_row (job_content job.now) standing blocker note.now) }
@@ -456,12 +474,6 @@ fn blocker_note(is_wanted: bool) -> &'static str
     } else {
         "stays: it must move first"
     }
-}
-
-fn is_wanted(jobs: &[Job], container: BoxNumber) -> bool
-    ensures { result ≡ is_wanted (map job_content jobs.now) container }
-{
-    jobs.iter().any(|job| job.container == container)
 }
 
 fn push_absent_rows(alloc: Global, page: &mut String, rows: &[&Job]) -> Result<(), AllocError>
