@@ -3,4 +3,5 @@ pub mod Shown
 pub mod Sides
 mod Splitting
 pub mod Sums
+mod Texts
 mod Titled

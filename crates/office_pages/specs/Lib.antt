@@ -11,6 +11,7 @@ pub mod Lists
 pub mod Marks
 pub mod Meanings
 pub mod Pages
+pub mod Partner
 pub mod Partners
 pub mod Pieces
 pub mod Start

@@ -277,7 +277,7 @@ fn expected_count(rows: &[PartnerRow<'_>]) -> usize
     rows.iter().filter(|row| row.waiting.is_none()).count()
 }
 
-fn kind_word(kind: PartnerKind) -> &'static str
+pub(crate) fn kind_word(kind: PartnerKind) -> &'static str
     ensures { result.now ≡ kind_word kind }
 {
     match kind {
