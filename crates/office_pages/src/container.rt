@@ -325,7 +325,6 @@ fn push_list_rows(alloc: Global, page: &mut String, lists: &[&Listing]) -> Resul
     Ok(())
 }
 
-#[tactic(auto, using(crate::proofs::Sides::side_again))]
 fn push_list_row(alloc: Global, page: &mut String, line: &Listing) -> Result<(), AllocError>
     ensures { OnOk result (string_bytes page.new ≡ string_bytes page.old ++ wanted_row (line_entry line.now)) }
 {
