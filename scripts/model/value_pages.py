@@ -42,7 +42,7 @@ h2 small,.note{font-size:.875rem;font-weight:400;color:var(--faint)}
 .beside,.only{margin:.75rem 0 0}
 .beside a,.only a{background:var(--sheet);border:1px solid var(--edge)}
 .only [aria-current]{background:var(--full);border-color:var(--full-edge);color:#fff}
-section{margin:1.25rem 0 0;background:var(--sheet);border:1px solid var(--edge);border-radius:.5rem;overflow:hidden}
+section{margin:1.25rem 0 0;background:var(--sheet);border:1px solid var(--edge);border-radius:.5rem;overflow-x:auto}
 section>p{margin:0;padding:.75rem 1rem}
 .fine{border-top:1px solid var(--rule);color:var(--faint)}
 .two{display:grid;grid-template-columns:repeat(auto-fit,minmax(min(100%,30rem),1fr));gap:0 1.25rem;align-items:start}
@@ -225,7 +225,7 @@ def visits_section(stays):
 
 def visits(office, number):
     """The page of a container's visits."""
-    title = "<h1><small>Visits of</small>%s</h1>\n<p class='beside'><a href='/pages/containers/%s'>Where it is</a></p>\n" % (number, number)
+    title = "<h1><small>Visits of</small> %s</h1>\n<p class='beside'><a href='/pages/containers/%s'>Where it is</a></p>\n" % (number, number)
     return framed('', 'Visits of ' + number, title + visits_section(visits_of(office, number)))
 
 
@@ -271,7 +271,7 @@ def facts(terminal, number, visit):
 def container(office, number):
     """The page of a container."""
     terminal, stays = office.fold().terminal, visits_of(office, number)
-    body = '<h1><small>Container</small>%s</h1>\n<section>\n%s<dl>\n%s</dl>\n</section>\n' % (
+    body = '<h1><small>Container</small> %s</h1>\n<section>\n%s<dl>\n%s</dl>\n</section>\n' % (
         number, place_of(terminal, number), facts(terminal, number, stays[-1][1]))
     body += wanted(terminal, number) if number in terminal.yard else ''
     return framed('', 'Container ' + number, body + visits_section(stays))
@@ -294,7 +294,7 @@ def lines_of(office, vessel, voyage, side):
 
 def titled(what, where, beside, vessel, voyage, side):
     """What a page on a list is called, and the link to the other page on it."""
-    return "<h1><small>%s %s</small>%s</h1>\n<p class='beside'><a href='/pages/%s/%s'>%s</a></p>\n" % (
+    return "<h1><small>%s %s of</small> %s</h1>\n<p class='beside'><a href='/pages/%s/%s'>%s</a></p>\n" % (
         side.capitalize(), what, call(vessel, voyage), where, address(vessel, voyage, side), beside)
 
 
@@ -420,7 +420,7 @@ def partner(office, code):
     expected, numbers = run(office.deliveries, code) + 1, waiting(office, code)
     shown = fact('Next number', '%d' % expected) if not numbers else fact('Missing', "<b class='s wait'>%d</b>" % expected) + fact(
         'Wait', '%s, %d to %d' % (count(len(numbers)), numbers[0], numbers[-1]))
-    body = '<h1><small>Partner</small>%s</h1>\n<section>\n<dl>\n%s%s</dl>\n</section>\n<section>\n<h2>Last interchanges</h2>\n' % (
+    body = '<h1><small>Partner</small> %s</h1>\n<section>\n<dl>\n%s%s</dl>\n</section>\n<section>\n<h2>Last interchanges</h2>\n' % (
         escaped(code), fact('Kind', office.setup.partners[code]), shown)
     last = [reply(code, number) + '\n' for number in range(expected - 1, 0, -1)][:20]
     body += '<p>\n' + ''.join(last) + '</p>\n' if last else "<p class='fine'>It has sent none that was taken.</p>\n"
@@ -487,7 +487,7 @@ def ticket(office, partner, number):
     exits = [cells_of(visit) + " class='r'>%s</td></tr>\n" % moment_text(visit.exit.moment)
              for visit in seen if visit.exit and visit.exit.source == (partner, number)]
     name, where = '%s %d' % (escaped(partner), number), '%s/%d' % (address(partner), number)
-    body = "<h1><small>Ticket of</small>%s</h1>\n<p class='beside'>\n<a href='/pages/replies/%s'>Reply</a>\n<a href='/pages/contrls/%s'>CONTRL</a>\n<a href='/pages/partners/%s'>Partner</a>\n</p>\n" % (
+    body = "<h1><small>Ticket of</small> %s</h1>\n<p class='beside'>\n<a href='/pages/replies/%s'>Reply</a>\n<a href='/pages/contrls/%s'>CONTRL</a>\n<a href='/pages/partners/%s'>Partner</a>\n</p>\n" % (
         name, where, where, address(partner))
     body += section('Came in', len(entries)) + table(['Container', 'Size-type', 'Load', 'Slot', 'Moment'], entries, 'It brought nothing in.')
     body += section('Went out', len(exits)) + table(['Container', 'Size-type', 'Load', 'Moment'], exits, 'It took nothing out.')
@@ -522,7 +522,7 @@ def start(office):
     terminal, rows, lists = office.fold().terminal, partner_rows(office), lists_of(office)
     name, visit_number = escaped(office.setup.terminal), len(own_visits(office))
     pending = [row for row in lists if row[2]]
-    body = '<h1>%s</h1>\n<section>\n<h2>Needs attention</h2>\n' % name + attention(rows, visit_number, office.setup.most_visits)
+    body = '<h1><small>Office of</small> %s</h1>\n<section>\n<h2>Needs attention</h2>\n' % name + attention(rows, visit_number, office.setup.most_visits)
     body += sums(terminal, rows, visit_number)
     body += '<section>\n<h2>Calls with open work <small>%s of %s lists</small></h2>\n' % (count(len(pending)), count(len(lists)))
     body += table(CALLS, [call_row(*row) for row in pending], 'No list has an open line.') + blocks_section(terminal)

@@ -32,7 +32,7 @@ place_view (Some stay) = place_by stay stay.blocker
 
 abbrev pub place_section : ContainerContent → List ℕ
 place_section report =
-    pieces_text (Markup (codes "<h1><small>Container</small>") ∷ Number report.container ∷ Markup (codes "</h1>\n<section>\n") ∷ [])
+    pieces_text (Markup (codes "<h1><small>Container</small> ") ∷ Number report.container ∷ Markup (codes "</h1>\n<section>\n") ∷ [])
     ++ place_view report.stay
 
 -- ---- what is known of it

@@ -17,7 +17,7 @@ use Rattle.office_pages.specs.Work.{done_view}
 
 abbrev pub list_title : (vessel voyage : List ℕ) → Side → List ℕ
 list_title vessel voyage side = pieces_text
-    (Markup (codes "<h1><small>") ∷ Markup (side_name side) ∷ Markup (codes " list</small>") ∷ Text vessel ∷ Markup (codes " ")
+    (Markup (codes "<h1><small>") ∷ Markup (side_name side) ∷ Markup (codes " list of</small> ") ∷ Text vessel ∷ Markup (codes " ")
     ∷ Text voyage ∷ Markup (codes "</h1>\n<p class='beside'><a href='/pages/work/") ∷ Part vessel ∷ Markup (codes "/")
     ∷ Part voyage ∷ Markup (codes "/") ∷ Markup (side_word side) ∷ Markup (codes "'>What is left to do</a></p>\n") ∷ [])
 

@@ -12,7 +12,7 @@ partner_top code = page_top [] false (Markup (codes "Partner ") ∷ Text code �
 
 abbrev pub partner_heading : (code kind : List ℕ) → List ℕ
 partner_heading code kind = pieces_text
-    (Markup (codes "<h1><small>Partner</small>") ∷ Text code ∷ Markup (codes "</h1>\n<section>\n<dl>\n<dt>Kind</dt><dd>")
+    (Markup (codes "<h1><small>Partner</small> ") ∷ Text code ∷ Markup (codes "</h1>\n<section>\n<dl>\n<dt>Kind</dt><dd>")
     ∷ Markup kind ∷ Markup (codes "</dd>\n") ∷ [])
 
 -- the number that is expected, or that is missing and what waits for it

@@ -104,7 +104,7 @@ open_section lists =
 abbrev pub start_top : List ℕ → List ℕ
 start_top terminal =
     page_top (codes "/") true (Markup (codes "Office of ") ∷ Text terminal ∷ [])
-    ++ pieces_text (Markup (codes "<h1>") ∷ Text terminal ∷ Markup (codes "</h1>\n<section>\n<h2>Needs attention</h2>\n") ∷ [])
+    ++ pieces_text (Markup (codes "<h1><small>Office of</small> ") ∷ Text terminal ∷ Markup (codes "</h1>\n<section>\n<h2>Needs attention</h2>\n") ∷ [])
 
 abbrev pub start_body : StartContent → List ℕ
 start_body report =

@@ -55,7 +55,7 @@ outline =
 unfoldable pub parts : List ℕ
 parts =
     codes "section{margin:1.25rem 0 0;background:var(--sheet);border:1px solid var(--edge);"
-    ++ codes "border-radius:.5rem;overflow:hidden}\n"
+    ++ codes "border-radius:.5rem;overflow-x:auto}\n"
     ++ codes "section>p{margin:0;padding:.75rem 1rem}\n"
     ++ codes ".fine{border-top:1px solid var(--rule);color:var(--faint)}\n"
     ++ codes ".two{display:grid;grid-template-columns:repeat(auto-fit,minmax(min(100%,30rem),1fr));"

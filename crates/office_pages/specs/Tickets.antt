@@ -14,7 +14,7 @@ use Rattle.office_pages.specs.Tables.{section_head, table_of}
 -- PARTNER NUMBER, with links to the reply, its CONTRL and the partner
 abbrev pub ticket_title : List ℕ → ℕ → List ℕ
 ticket_title code number = pieces_text
-    (Markup (codes "<h1><small>Ticket of</small>") ∷ Text code ∷ Markup (codes " ") ∷ Digits number
+    (Markup (codes "<h1><small>Ticket of</small> ") ∷ Text code ∷ Markup (codes " ") ∷ Digits number
     ∷ Markup (codes "</h1>\n<p class='beside'>\n<a href='/pages/replies/") ∷ Part code ∷ Markup (codes "/") ∷ Digits number
     ∷ Markup (codes "'>Reply</a>\n<a href='/pages/contrls/") ∷ Part code ∷ Markup (codes "/") ∷ Digits number
     ∷ Markup (codes "'>CONTRL</a>\n<a href='/pages/partners/") ∷ Part code ∷ Markup (codes "'>Partner</a>\n</p>\n") ∷ [])

@@ -61,7 +61,7 @@ visits_section report =
 -- the container's number, with a link to where it is
 abbrev pub visits_title : BoxNumber → List ℕ
 visits_title container = pieces_text
-    (Markup (codes "<h1><small>Visits of</small>") ∷ Number container
+    (Markup (codes "<h1><small>Visits of</small> ") ∷ Number container
     ∷ Markup (codes "</h1>\n<p class='beside'><a href='/pages/containers/") ∷ Number container
     ∷ Markup (codes "'>Where it is</a></p>\n") ∷ [])
 

@@ -18,7 +18,7 @@ use Rattle.office_pages.specs.Tables.{section_head, table_of}
 
 abbrev pub work_title : (vessel voyage : List ℕ) → Side → List ℕ
 work_title vessel voyage side = pieces_text
-    (Markup (codes "<h1><small>") ∷ Markup (side_name side) ∷ Markup (codes " work</small>") ∷ Text vessel ∷ Markup (codes " ")
+    (Markup (codes "<h1><small>") ∷ Markup (side_name side) ∷ Markup (codes " work of</small> ") ∷ Text vessel ∷ Markup (codes " ")
     ∷ Text voyage ∷ Markup (codes "</h1>\n<p class='beside'><a href='/pages/lists/") ∷ Part vessel ∷ Markup (codes "/")
     ∷ Part voyage ∷ Markup (codes "/") ∷ Markup (side_word side) ∷ Markup (codes "'>The whole list</a></p>\n") ∷ [])
 

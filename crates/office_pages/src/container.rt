@@ -72,7 +72,7 @@ fn push_place(
         alloc,
         page,
         &[
-            Markup("<h1><small>Container</small>"),
+            Markup("<h1><small>Container</small> "),
             Number(number),
             Markup("</h1>\n<section>\n"),
         ],

@@ -77,7 +77,7 @@ fn push_title<'a>(
         &[
             Markup("<h1><small>"),
             Markup(side_name(side)),
-            Markup(" list</small>"),
+            Markup(" list of</small> "),
             Text(vessel),
             Markup(" "),
             Text(voyage),

@@ -44,7 +44,7 @@ fn push_heading<'a>(
         alloc,
         page,
         &[
-            Markup("<h1><small>Partner</small>"),
+            Markup("<h1><small>Partner</small> "),
             Text(code),
             Markup("</h1>\n<section>\n<dl>\n<dt>Kind</dt><dd>"),
             Markup(kind),

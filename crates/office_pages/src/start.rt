@@ -67,7 +67,7 @@ fn push_start_top(alloc: Global, page: &mut String, terminal: &str) -> Result<()
         alloc,
         page,
         &[
-            Markup("<h1>"),
+            Markup("<h1><small>Office of</small> "),
             Text(terminal),
             Markup("</h1>\n<section>\n<h2>Needs attention</h2>\n"),
         ],

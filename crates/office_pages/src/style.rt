@@ -49,7 +49,7 @@ const OUTLINE: &str = "*{box-sizing:border-box}\n\
 
 const PARTS: &str =
     "section{margin:1.25rem 0 0;background:var(--sheet);border:1px solid var(--edge);\
-    border-radius:.5rem;overflow:hidden}\n\
+    border-radius:.5rem;overflow-x:auto}\n\
     section>p{margin:0;padding:.75rem 1rem}\n\
     .fine{border-top:1px solid var(--rule);color:var(--faint)}\n\
     .two{display:grid;grid-template-columns:repeat(auto-fit,minmax(min(100%,30rem),1fr));\

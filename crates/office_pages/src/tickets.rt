@@ -69,7 +69,7 @@ fn push_title(alloc: Global, page: &mut String, code: &str, number: u128) -> Res
         alloc,
         page,
         &[
-            Markup("<h1><small>Ticket of</small>"),
+            Markup("<h1><small>Ticket of</small> "),
             Text(code),
             Markup(" "),
             Digits(number),

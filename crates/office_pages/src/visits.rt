@@ -41,7 +41,7 @@ fn push_title(alloc: Global, page: &mut String, container: BoxNumber) -> Result<
         alloc,
         page,
         &[
-            Markup("<h1><small>Visits of</small>"),
+            Markup("<h1><small>Visits of</small> "),
             Number(container),
             Markup("</h1>\n<p class='beside'><a href='/pages/containers/"),
             Number(container),

@@ -80,7 +80,7 @@ fn push_title<'a>(
         &[
             Markup("<h1><small>"),
             Markup(side_name(side)),
-            Markup(" work</small>"),
+            Markup(" work of</small> "),
             Text(vessel),
             Markup(" "),
             Text(voyage),
