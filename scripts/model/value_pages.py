@@ -84,7 +84,8 @@ dt{color:var(--faint)}
 dd{margin:0;overflow-wrap:anywhere}
 .place{display:flex;flex-wrap:wrap;gap:.5rem 1.5rem;align-items:center;padding:1rem}
 .place>.m{font-size:2rem;font-weight:600;line-height:1.1}
-@media(max-width:40rem){header>div{padding:.5rem}main{padding:1rem .5rem 2rem}nav{flex:1 1 100%;gap:0;justify-content:space-between}nav a{padding:.55rem .35rem;font-size:.9375rem}form{flex:1}input{flex:1;width:6rem;min-width:0}.o{display:none}th,td{padding:.55rem .3rem}th:first-child,td:first-child{padding-left:.6rem}th:last-child,td:last-child{padding-right:.6rem}h2{padding:.75rem .6rem}dl{padding-left:.6rem;padding-right:.6rem}.place,section>p,.todo li{padding:.75rem .6rem}.m{font-size:.875rem}.how span{width:auto}.how progress{display:block;width:100%;height:.5rem;margin:.35rem 0 .15rem}.sum{grid-template-columns:repeat(auto-fit,minmax(6rem,1fr));gap:.5rem}.sum li{padding:.6rem}}
+pre{margin:0;padding:.25rem 1rem 1rem;font:14px/1.7 ui-monospace,'DejaVu Sans Mono',Menlo,Consolas,monospace;white-space:pre-wrap;overflow-wrap:anywhere}
+@media(max-width:40rem){header>div{padding:.5rem}main{padding:1rem .5rem 2rem}nav{flex:1 1 100%;gap:0;justify-content:space-between}nav a{padding:.55rem .35rem;font-size:.9375rem}form{flex:1}input{flex:1;width:6rem;min-width:0}.o{display:none}th,td{padding:.55rem .3rem}th:first-child,td:first-child{padding-left:.6rem}th:last-child,td:last-child{padding-right:.6rem}h2{padding:.75rem .6rem}dl{padding-left:.6rem;padding-right:.6rem}.place,section>p,.todo li{padding:.75rem .6rem}.m{font-size:.875rem}pre{padding:.25rem .6rem .75rem;font-size:12.5px}.how span{width:auto}.how progress{display:block;width:100%;height:.5rem;margin:.35rem 0 .15rem}.sum{grid-template-columns:repeat(auto-fit,minmax(6rem,1fr));gap:.5rem}.sum li{padding:.6rem}}
 @media print{body{background:none;font-size:11pt}header,.beside,.only{display:none}main{max-width:none;padding:0}section{border:0}tr,li{break-inside:avoid}thead{display:table-header-group}a{color:inherit;text-decoration:none}.s{border-color:#16263a;background:none;color:#16263a}}
 '''
 HEAD = '''\
@@ -117,6 +118,8 @@ TABS = [('/', 'Start'), ('/pages/yard', 'Yard'), ('/pages/blocks', 'Blocks'), ('
 
 # the kinds of reports that have a page of this form
 KINDS = ('yard', 'visits', 'list', 'ticket', 'container', 'work', 'partners', 'partner', 'blocks', 'calls')
+# those that ask again each minute, and so does the start page
+ASKING = ('start', 'list', 'work', 'calls', 'partners')
 
 
 # ---- what all pages have

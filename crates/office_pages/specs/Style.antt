@@ -110,6 +110,8 @@ parts =
     ++ codes "dd{margin:0;overflow-wrap:anywhere}\n"
     ++ codes ".place{display:flex;flex-wrap:wrap;gap:.5rem 1.5rem;align-items:center;padding:1rem}\n"
     ++ codes ".place>.m{font-size:2rem;font-weight:600;line-height:1.1}\n"
+    ++ codes "pre{margin:0;padding:.25rem 1rem 1rem;font:14px/1.7 ui-monospace,'DejaVu Sans Mono',Menlo,"
+    ++ codes "Consolas,monospace;white-space:pre-wrap;overflow-wrap:anywhere}\n"
 
 -- a narrow screen, and paper
 unfoldable pub sheets : List ℕ
@@ -119,10 +121,10 @@ sheets =
     ++ codes "font-size:.9375rem}form{flex:1}input{flex:1;width:6rem;min-width:0}.o{display:none}th,td{"
     ++ codes "padding:.55rem .3rem}th:first-child,td:first-child{padding-left:.6rem}th:last-child,"
     ++ codes "td:last-child{padding-right:.6rem}h2{padding:.75rem .6rem}dl{padding-left:.6rem;"
-    ++ codes "padding-right:.6rem}.place,section>p,.todo li{padding:.75rem .6rem}.m{font-size:.875rem}"
-    ++ codes ".how span{width:auto}.how progress{display:block;width:100%;height:.5rem;"
-    ++ codes "margin:.35rem 0 .15rem}.sum{grid-template-columns:repeat(auto-fit,minmax(6rem,1fr));"
-    ++ codes "gap:.5rem}.sum li{padding:.6rem}}\n"
+    ++ codes "padding-right:.6rem}.place,section>p,.todo li{padding:.75rem .6rem}.m{font-size:.875rem}pre{"
+    ++ codes "padding:.25rem .6rem .75rem;font-size:12.5px}.how span{width:auto}.how progress{"
+    ++ codes "display:block;width:100%;height:.5rem;margin:.35rem 0 .15rem}.sum{"
+    ++ codes "grid-template-columns:repeat(auto-fit,minmax(6rem,1fr));gap:.5rem}.sum li{padding:.6rem}}\n"
     ++ codes "@media print{body{background:none;font-size:11pt}header,.beside,.only{display:none}main{"
     ++ codes "max-width:none;padding:0}section{border:0}tr,li{break-inside:avoid}thead{"
     ++ codes "display:table-header-group}a{color:inherit;text-decoration:none}.s{border-color:#16263a;"
