@@ -25,6 +25,7 @@ mod tables;
 mod tickets;
 mod visits;
 mod work;
+mod work_rows;
 mod yard;
 
 pub use blocks::blocks_page;
