@@ -1,4 +1,5 @@
 pub mod Addresses
+pub mod Archives
 pub mod Blocks
 pub mod Calls
 pub mod Container

@@ -1,6 +1,7 @@
 //! Pages of HTML that show the texts of reports.
 #![tactic(auto)]
 
+mod archives;
 mod blocks;
 mod body;
 mod calls;
@@ -28,6 +29,7 @@ mod work;
 mod work_rows;
 mod yard;
 
+pub use archives::with_archives;
 pub use blocks::blocks_page;
 pub use calls::calls_page;
 pub use container::container_page;
