@@ -1,5 +1,5 @@
 -- The page of a container: where it is or how it left, which lists want it, and its visits.
-use Rattle.std.specs.Prelude.{ℕ, ◌==◌, false, List, [], ◌∷◌, ◌++◌, codes, if◌then◌else◌, Option, None, Some}
+use Rattle.std.specs.Prelude.{ℕ, ◌==◌, false, List, [], ◌∷◌, ◌++◌, length, codes, if◌then◌else◌, Option, None, Some}
 use Rattle.std.specs.List.{flat_map}
 use Rattle.box6346.specs.declared.box_number.BoxNumber.{BoxNumber}
 use Rattle.box6346.specs.declared.slot.Slot.{Slot}
@@ -12,6 +12,7 @@ use Rattle.office_pages.specs.Fixed.{foot}
 use Rattle.office_pages.specs.Frame.{page_top}
 use Rattle.office_pages.specs.Marks.{load_mark, side_name, side_of, side_word, way_word}
 use Rattle.office_pages.specs.Pieces.{Container, Kilos, Letter, LetterPart, Markup, MomentText, Number, Part, Reply, SizeText, SlotText, Text, pieces_text}
+use Rattle.office_pages.specs.Tables.{table_of}
 use Rattle.office_pages.specs.Visits.{visits_section}
 
 -- ---- where it is
@@ -54,9 +55,9 @@ passage_fact label (Some passage) = pieces_text
     ∷ Reply passage.partner passage.number ∷ Markup (codes ", ") ∷ MomentText passage.moment ∷ Markup (codes "</dd>\n") ∷ [])
 
 abbrev pub booking_fact : List ℕ → List ℕ
-booking_fact [] = []
-booking_fact (b ∷ bs) =
-    pieces_text (Markup (codes "<dt>Booking</dt><dd>") ∷ Text (b ∷ bs) ∷ Markup (codes "</dd>\n") ∷ [])
+booking_fact booking =
+    if length booking == 0 then []
+    else pieces_text (Markup (codes "<dt>Booking</dt><dd>") ∷ Text booking ∷ Markup (codes "</dd>\n") ∷ [])
 
 abbrev pub gross_fact : ℕ → List ℕ
 gross_fact kilos =
@@ -92,10 +93,9 @@ wanted_row ((vessel ∷ voyage ∷ side ∷ container ∷ []), line) = wanted_li
 wanted_row (other, line) = []
 
 abbrev pub wanted_table : List (LineKey × LineContent) → List ℕ
-wanted_table [] = pieces_text (Markup (codes "<p class='fine'>No list has an open line for it.</p>\n</section>\n") ∷ [])
-wanted_table (list ∷ lists) =
-    pieces_text (Markup (codes "<table>\n<thead><tr><th>List</th><th>Call</th><th>Port</th></tr></thead>\n<tbody>\n") ∷ [])
-    ++ flat_map wanted_row (list ∷ lists) ++ pieces_text (Markup (codes "</tbody>\n</table>\n</section>\n") ∷ [])
+wanted_table lists =
+    table_of (length lists) (codes "<th>List</th><th>Call</th><th>Port</th>") (flat_map wanted_row lists)
+    (codes "No list has an open line for it.")
 
 abbrev pub wanted_view : Option StayContent → List ℕ
 wanted_view None = []

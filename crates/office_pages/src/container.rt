@@ -16,6 +16,7 @@ use crate::pieces::Piece::{
     SlotText, Text,
 };
 use crate::pieces::push_pieces;
+use crate::tables::{push_no_rows, push_table_end, push_table_head};
 use crate::visits::push_visits;
 use box6346::Slot;
 use edi_syntax::Moment;
@@ -298,21 +299,11 @@ fn push_lists(alloc: Global, page: &mut String, lists: &[&Listing]) -> Result<()
         ≡ string_bytes page.old ++ wanted_table (map (λ line. line_entry line.now) lists.now)) }
 {
     if lists.is_empty() {
-        return push_pieces(
-            alloc,
-            page,
-            &[Markup("<p class='fine'>No list has an open line for it.</p>\n</section>\n")],
-        );
+        return push_no_rows(alloc, page, "No list has an open line for it.");
     }
-    push_pieces(
-        alloc,
-        page,
-        &[Markup(
-            "<table>\n<thead><tr><th>List</th><th>Call</th><th>Port</th></tr></thead>\n<tbody>\n",
-        )],
-    )?;
+    push_table_head(alloc, page, "<th>List</th><th>Call</th><th>Port</th>")?;
     push_list_rows(alloc, page, lists)?;
-    push_pieces(alloc, page, &[Markup("</tbody>\n</table>\n</section>\n")])
+    push_table_end(alloc, page)
 }
 
 fn push_list_rows(alloc: Global, page: &mut String, lists: &[&Listing]) -> Result<(), AllocError>
