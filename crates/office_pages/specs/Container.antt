@@ -18,18 +18,18 @@ use Rattle.office_pages.specs.Visits.{visits_section}
 -- ---- where it is
 
 -- a slot, and what stands on the container there
-abbrev pub place_by : StayContent → Option BoxNumber → List ℕ
-place_by stay None = pieces_text
-    (Markup (codes "<div class='place'><b class='s ok'>in the yard</b><span class='m'>") ∷ SlotText stay.slot
+abbrev pub place_by : Slot → Option BoxNumber → List ℕ
+place_by slot None = pieces_text
+    (Markup (codes "<div class='place'><b class='s ok'>in the yard</b><span class='m'>") ∷ SlotText slot
     ∷ Markup (codes "</span><b class='s ok'>free</b></div>\n") ∷ [])
-place_by stay (Some blocker) = pieces_text
-    (Markup (codes "<div class='place'><b class='s ok'>in the yard</b><span class='m'>") ∷ SlotText stay.slot
+place_by slot (Some blocker) = pieces_text
+    (Markup (codes "<div class='place'><b class='s ok'>in the yard</b><span class='m'>") ∷ SlotText slot
     ∷ Markup (codes "</span><span><b class='s wait'>under</b> ") ∷ Container blocker ∷ Markup (codes "</span></div>\n") ∷ [])
 
 -- where it stands, or that it has left
 abbrev pub place_view : Option StayContent → List ℕ
 place_view None = pieces_text (Markup (codes "<div class='place'><b class='s off'>has left</b></div>\n") ∷ [])
-place_view (Some stay) = place_by stay stay.blocker
+place_view (Some stay) = place_by stay.slot stay.blocker
 
 abbrev pub place_section : ContainerContent → List ℕ
 place_section report =
@@ -97,10 +97,13 @@ wanted_table lists =
     table_of (length lists) (codes "<th>List</th><th>Call</th><th>Port</th>") (flat_map wanted_row lists)
     (codes "No list has an open line for it.")
 
+abbrev pub wanted_section : List (LineKey × LineContent) → List ℕ
+wanted_section lists =
+    pieces_text (Markup (codes "<section>\n<h2>Wanted by</h2>\n") ∷ []) ++ wanted_table lists
+
 abbrev pub wanted_view : Option StayContent → List ℕ
 wanted_view None = []
-wanted_view (Some stay) =
-    pieces_text (Markup (codes "<section>\n<h2>Wanted by</h2>\n") ∷ []) ++ wanted_table stay.lists
+wanted_view (Some stay) = wanted_section stay.lists
 
 -- ---- the page
 

@@ -19,15 +19,19 @@ passage_cell passage = pieces_text
     (Markup (way_word passage.way) ∷ Markup (codes ", ") ∷ Reply passage.partner passage.number
     ∷ Markup (codes "<br><span class='note'>") ∷ MomentText passage.moment ∷ Markup (codes "</span></td>") ∷ [])
 
--- by which it left, and the days from the date of entry to that of exit; a word while it is here
-abbrev pub exit_cells : SetupContent → (entry : CivilMoment) → Option Departure → List ℕ
-exit_cells setup entry None =
-    pieces_text (Markup (codes "<td><b class='s off'>still here</b></td><td class='n'></td></tr>\n") ∷ [])
-exit_cells setup entry (Some departure) =
+-- by which it left, and the days from the date of entry to that of exit
+abbrev pub left_cells : SetupContent → (entry : CivilMoment) → Departure → List ℕ
+left_cells setup entry departure =
     pieces_text (Markup (codes "<td>") ∷ [])
     ++ passage_cell (passage_by setup departure.way departure.source departure.moment)
     ++ pieces_text (Markup (codes "<td class='n'>") ∷ Days (day_number departure.moment -ℤ day_number entry)
     ∷ Markup (codes "</td></tr>\n") ∷ [])
+
+-- the same, and a word while it is here
+abbrev pub exit_cells : SetupContent → (entry : CivilMoment) → Option Departure → List ℕ
+exit_cells setup entry None =
+    pieces_text (Markup (codes "<td><b class='s off'>still here</b></td><td class='n'></td></tr>\n") ∷ [])
+exit_cells setup entry (Some departure) = left_cells setup entry departure
 
 -- what came, where it was put, its booking and its gross weight
 abbrev pub stay_cells : VisitContent → List ℕ

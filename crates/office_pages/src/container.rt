@@ -5,7 +5,7 @@ ghost use Rattle.std.specs.Prelude.{◌≡◌, ◌++◌, map, IfOk, OnOk, Some, 
 ghost use Rattle.office_reports.specs.Containers.{container_content, stay_content};
 ghost use Rattle.office_reports.specs.Passages.{passage_content};
 ghost use Rattle.office_reports.specs.Visits.{visits_content};
-ghost use Rattle.office_pages.specs.Container.{block_fact, booking_fact, container_body, container_page, facts_view, gross_fact, passage_fact, passage_label, place_by, place_section, place_view, size_fact, stay_facts, visits_view, wanted_line, wanted_row, wanted_table, wanted_view};
+ghost use Rattle.office_pages.specs.Container.{block_fact, booking_fact, container_body, container_page, facts_view, gross_fact, passage_fact, passage_label, place_by, place_section, place_view, size_fact, stay_facts, visits_view, wanted_line, wanted_row, wanted_section, wanted_table, wanted_view};
 ghost use Rattle.terminal_core.specs.Listings.{line_entry};
 
 use crate::frame::push_top;
@@ -18,7 +18,7 @@ use crate::pieces::Piece::{
 use crate::pieces::push_pieces;
 use crate::tables::{push_no_rows, push_table_end, push_table_head};
 use crate::visits::push_visits;
-use box6346::Slot;
+use box6346::{BoxNumber, Slot};
 use edi_syntax::Moment;
 use office_reports::{ContainerReport, Passage, Stay, VisitsReport};
 use std::alloc::{AllocError, Global};
@@ -78,8 +78,20 @@ fn push_place(
             Markup("</h1>\n<section>\n"),
         ],
     )?;
-    match &report.stay {
-        Some(stay) => push_slot(alloc, page, stay),
+    push_standing(alloc, page, &report.stay)
+}
+
+/// Appends where it stands, or that it has left.
+fn push_standing(
+    alloc: Global,
+    page: &mut String,
+    stay: &Option<Stay<'_>>,
+) -> Result<(), AllocError>
+    ensures { OnOk result
+        (string_bytes page.new ≡ string_bytes page.old ++ place_view (option_map stay_content stay.now)) }
+{
+    match stay {
+        Some(stay) => push_slot(alloc, page, stay.slot, stay.blocker),
         None => push_pieces(
             alloc,
             page,
@@ -89,17 +101,21 @@ fn push_place(
 }
 
 /// Appends the slot, and what stands on the container there.
-fn push_slot(alloc: Global, page: &mut String, stay: &Stay<'_>) -> Result<(), AllocError>
-    ensures { OnOk result
-        (string_bytes page.new ≡ string_bytes page.old ++ place_view (Some (stay_content stay.now))) }
+fn push_slot(
+    alloc: Global,
+    page: &mut String,
+    slot: Slot,
+    blocker: Option<BoxNumber>,
+) -> Result<(), AllocError>
+    ensures { OnOk result (string_bytes page.new ≡ string_bytes page.old ++ place_by slot blocker) }
 {
-    match stay.blocker {
+    match blocker {
         Some(blocker) => push_pieces(
             alloc,
             page,
             &[
                 Markup("<div class='place'><b class='s ok'>in the yard</b><span class='m'>"),
-                SlotText(stay.slot),
+                SlotText(slot),
                 Markup("</span><span><b class='s wait'>under</b> "),
                 Container(blocker),
                 Markup("</span></div>\n"),
@@ -110,7 +126,7 @@ fn push_slot(alloc: Global, page: &mut String, stay: &Stay<'_>) -> Result<(), Al
             page,
             &[
                 Markup("<div class='place'><b class='s ok'>in the yard</b><span class='m'>"),
-                SlotText(stay.slot),
+                SlotText(slot),
                 Markup("</span><b class='s ok'>free</b></div>\n"),
             ],
         ),
@@ -286,12 +302,21 @@ fn push_wanted(alloc: Global, page: &mut String, stay: &Option<Stay<'_>>) -> Res
         ≡ string_bytes page.old ++ wanted_view (option_map stay_content stay.now)) }
 {
     match stay {
-        Some(stay) => {
-            push_pieces(alloc, page, &[Markup("<section>\n<h2>Wanted by</h2>\n")])?;
-            push_lists(alloc, page, &stay.lists)
-        }
+        Some(stay) => push_wanted_section(alloc, page, &stay.lists),
         None => Ok(()),
     }
+}
+
+fn push_wanted_section(
+    alloc: Global,
+    page: &mut String,
+    lists: &[&Listing],
+) -> Result<(), AllocError>
+    ensures { OnOk result (string_bytes page.new
+        ≡ string_bytes page.old ++ wanted_section (map (λ line. line_entry line.now) lists.now)) }
+{
+    push_pieces(alloc, page, &[Markup("<section>\n<h2>Wanted by</h2>\n")])?;
+    push_lists(alloc, page, lists)
 }
 
 fn push_lists(alloc: Global, page: &mut String, lists: &[&Listing]) -> Result<(), AllocError>

@@ -4,7 +4,7 @@ ghost use Rattle.std.specs.Prelude.{◌≡◌, ◌++◌, map, IfOk, OnOk, string
 ghost use Rattle.office_admission.specs.Setups.{setup_content};
 ghost use Rattle.office_reports.specs.Passages.{passage_content};
 ghost use Rattle.office_reports.specs.Visits.{visits_content};
-ghost use Rattle.office_pages.specs.Visits.{exit_cells, passage_cell, stay_cells, visit_row, visits_front, visits_head, visits_page, visits_section, visits_title};
+ghost use Rattle.office_pages.specs.Visits.{exit_cells, left_cells, passage_cell, stay_cells, visit_row, visits_front, visits_head, visits_page, visits_section, visits_title};
 ghost use Rattle.terminal_core.specs.Rows.{visit_content};
 
 use crate::frame::push_top;
@@ -206,13 +206,27 @@ fn push_exit(
     ensures { OnOk result (string_bytes page.new
         ≡ string_bytes page.old ++ exit_cells (setup_content setup.now) entry departure.now) }
 {
-    let Some(departure) = departure else {
-        return push_pieces(
+    match departure {
+        Some(departure) => push_left(alloc, page, setup, entry, *departure),
+        None => push_pieces(
             alloc,
             page,
             &[Markup("<td><b class='s off'>still here</b></td><td class='n'></td></tr>\n")],
-        );
-    };
+        ),
+    }
+}
+
+/// Appends by which it left, and after how many days.
+fn push_left(
+    alloc: Global,
+    page: &mut String,
+    setup: &Setup,
+    entry: Moment,
+    departure: Departure,
+) -> Result<(), AllocError>
+    ensures { OnOk result (string_bytes page.new
+        ≡ string_bytes page.old ++ left_cells (setup_content setup.now) entry departure) }
+{
     let days = entry.days_until(departure.moment);
     let passage = passage_of(setup, departure.way, departure.source, departure.moment);
     push_pieces(alloc, page, &[Markup("<td>")])?;
