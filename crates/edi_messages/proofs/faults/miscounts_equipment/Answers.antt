@@ -5,4 +5,5 @@ use Rattle.edi_messages.proofs.faults.miscounts_equipment.Goals as goal
 pub returns-in-Some : goal.returns-in-Some
 returns-in-Some c =
     let survey = c.args.survey.now in
-    rw (c.is_count.ensures, c.component.ensures, survey.equipped, ← survey.controlled, c.in-Some.is) refl
+    let counted = rw c.requires at survey.equipped in
+    rw (c.is_count.ensures, c.component.ensures, counted, ← survey.controlled, c.in-Some.is) refl
