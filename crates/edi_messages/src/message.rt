@@ -1,5 +1,5 @@
 ghost use Rattle.std.specs.Option.{option_map};
-ghost use Rattle.std.specs.Prelude.{◌≡◌, ◌++◌, ◌∷◌, [], ⊥, IfSome, IfNone, Some, map, IfOk, IfErr, IsTrue, MatchOption, MatchResult, Ok};
+ghost use Rattle.std.specs.Prelude.{◌≡◌, ◌++◌, ◌∷◌, [], IfSome, IfNone, Some, map, IfOk, IfErr, IsTrue, MatchOption, MatchResult, Ok};
 ghost use Rattle.edi_messages.specs.ErrorCodes.{message_error};
 ghost use Rattle.edi_messages.specs.Message.{line_of, lines_of, reading};
 ghost use Rattle.edi_messages.specs.Owned.{call_content, line_content, message_content};
