@@ -41,7 +41,10 @@ UNSOUND = [
     "INSERT INTO settled VALUES ('9123456', 'V12', 1, 0, '')", "INSERT INTO settled VALUES ('9123456', 'V12', 0, 1, '')",
     "INSERT INTO settled VALUES ('9123456', 'V12', 3, 1, '')", "INSERT INTO settled VALUES ('', 'V12', 1, 1, '')",
     "INSERT INTO settled VALUES ('9123456', 'V' || char(9), 2, 1, '')",
-    "INSERT INTO settled VALUES ('%s', 'V12', 2, 1, '')" % ('V' * 36)]
+    "INSERT INTO settled VALUES ('%s', 'V12', 2, 1, '')" % ('V' * 36), 'UPDATE taken SET archive = 2',
+    'UPDATE taken SET last = 0 WHERE partner = 1', 'UPDATE taken SET last = 1000000000',
+    'UPDATE taken SET partner = 1000 WHERE partner = 1', 'UPDATE taken SET partner = 0 WHERE partner = 1',
+    'INSERT INTO taken VALUES (1, 0, 1)']
 EMPTIED = ''.join('DELETE FROM %s;' % table for table in REGISTER_COLUMNS)
 # what makes lines of lists unreadable
 UNREADABLE = [
@@ -246,7 +249,8 @@ def judged(path):
     found = registered_in(path)[0]
     register = Register(
         tuple(Archive(*row) for row in found['archive']), tuple(Segment(*row) for row in found['segment']),
-        found['closed_for'][0][0] if found['closed_for'] else None, tuple(Settled(*row) for row in found['settled']))
+        found['closed_for'][0][0] if found['closed_for'] else None, tuple(Settled(*row) for row in found['settled']),
+        tuple(Segment(*row) for row in found['taken']))
     is_one = len(found['closed_for']) <= 1 and is_sound(register)
     return fault_of_rows(rows_in(path)[0], register=register) if is_one else 'Damaged'
 
@@ -279,13 +283,21 @@ def try_registers(room, day):
 
 
 def try_older(room, day):
-    """Registers of before lists were put away, without a table of them: the next closing makes it."""
+    """Registers of before lists were put away, and of before they said what had been taken, without tables of that: the next
+    closing makes them."""
+    for missing in (['taken'], ['settled', 'taken']):
+        try_without(room, day, missing)
+
+
+def try_without(room, day, missing):
+    """Registers that lack these tables."""
     room.make('office.db', day)
     room.copy('office.db', 'first.db')
     room.close('office.db', 'first.db')
     for name in ('office.db', 'first.db'):
-        edit(room.path(name) + REGISTER, 'DROP TABLE settled')
+        edit(room.path(name) + REGISTER, ''.join('DROP TABLE %s;' % table for table in missing))
     office, vessels = room.offices[room.path('office.db')], Vessels(day.random, day)
+    office.register = office.register._replace(taken=())
     for kind in ('calls', 'archives'):
         room.beside.report('an older register', room.program('office.db'), office, kind)
     for text in vessels.new_call(office):

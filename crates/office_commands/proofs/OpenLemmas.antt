@@ -17,7 +17,7 @@ use Rattle.office_admission.specs.Given.{IsGiven}
 use Rattle.office_admission.specs.Setups.{SetupContent}
 use Rattle.office_admission.specs.Limits.{most_partners}
 use Rattle.office_closing.specs.Register.{RegisterContent, closed_by, last_closed, newest_visit}
-use Rattle.office_closing.specs.Sound.{are_in_order, are_sound_archives, are_sound_lists, are_sound_segments, close_more, is_sound, is_sound_mark, is_within}
+use Rattle.office_closing.specs.Sound.{are_in_order, are_sound_archives, are_sound_lists, are_sound_segments, are_sound_taken, close_more, is_sound, is_sound_mark, is_within}
 use Rattle.office_closing.specs.declared.register.Segment.{Segment}
 use Rattle.office_commands.specs.Opening.{BeginsAt, Shows}
 use Rattle.office_desk.specs.Desks.{IsSound, OpensAt}
@@ -96,7 +96,7 @@ none_within (segment ∷ segments) all =
 closes_nothing : (names : RegisterContent) → IsTrue (is_sound names) → names.archives ≡ [] → closed_by names ≡ nothing_closed
 closes_nothing names sound none =
     let many : ℕ = length names.archives in
-    let rest : Bool = are_sound_lists many names.lists && is_sound_mark names.closed_for in
+    let rest : Bool = are_sound_lists many names.lists && (are_sound_taken many names.taken && is_sound_mark names.closed_for) in
     let all = (and_parts (are_sound_archives names.archives) (are_sound_segments many names.segments && rest) sound).1 in
     let segments = (and_parts (are_sound_segments many names.segments) rest all).0 in
     let within = (and_parts (list_all (is_within many) names.segments) (are_in_order 0 0 names.segments && close_more [] names.segments) segments).0 in
