@@ -62,9 +62,13 @@ archive_of segments partner number =
 abbrev pub newest_visit : List ArchiveContent → ℕ
 newest_visit archives = fold (λ _ archive. archive.visits) 0 archives
 
+-- the next number of an account, of those in the order of the ids from 1
+abbrev pub next_of : List ℕ → ℕ → ℕ
+next_of nexts partner = get_or (0 ∷ nexts) partner 0
+
 -- the next number of its account is above the last one of the segment
 abbrev pub is_passed : List ℕ → Segment → Bool
-is_passed nexts segment = nat_lt segment.last (get_or (0 ∷ nexts) segment.partner 0)
+is_passed nexts segment = nat_lt segment.last (next_of nexts segment.partner)
 
 -- Of an account a number had been taken as an archive was closed that a store with these next numbers, in the order of the
 -- accounts, still awaits: the store is of a day before that.
