@@ -31,11 +31,11 @@ module _ {S : Type 0} (g : Ghosts S) (image : Image) (path : List ℕ) (store : 
   IsFoundAt place found.Nothing = Unit {0}
   IsFoundAt place found.Other = Unit {0}
 
-  -- a line for each of these archives of a store follows a text
-  abbrev pub FollowIn : List ArchiveContent → (before text : List ℕ) → Type 0
-  FollowIn [] before text = text ≡ before
-  FollowIn (archive ∷ archives) before text =
-      (found : Found) × IsFoundAt archive.place found × FollowIn archives (before ++ archive_line archive found) text
+-- a line for each of these archives follows a text, with what is found of it
+abbrev pub FollowIn : (IsFound : (place : ℕ) → Found → Type 0) → List ArchiveContent → (before text : List ℕ) → Type 0
+FollowIn IsFound [] before text = text ≡ before
+FollowIn IsFound (archive ∷ archives) before text =
+    (found : Found) × IsFound archive.place found × FollowIn IsFound archives (before ++ archive_line archive found) text
 
 -- with 1 if there is none
 abbrev pub listing_text : (count : ℕ) → (lines : List ℕ) → List ℕ
@@ -53,5 +53,5 @@ pub record IsListed {S T : Type 0} (g : Ghosts S) (h : Ghosts T) (held image : I
   pub looked : Held S
   pub store_is : HasCleanDisk (state g looked) → IsSetUpHeld held (closed_by names) store
   pub lines : List ℕ
-  pub follow : FollowIn h image path store names names.archives [] lines
+  pub follow : FollowIn (IsFoundAt h image path store names) names.archives [] lines
   pub printed : prints (listing_text (length names.archives) lines) (listing_status (length names.archives))

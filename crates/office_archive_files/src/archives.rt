@@ -4,12 +4,10 @@ ghost use Rattle.office_commands.specs.Ending.{Prints};
 ghost use Rattle.office_commands.specs.Refusing.{IsRefused};
 ghost use Rattle.office_closing.specs.Register.{archive_content, register_content};
 ghost use Rattle.office_reports.specs.Names.{line};
-ghost use Rattle.office_admission.specs.Setups.{setup_content};
-ghost use Rattle.sqlite.specs.Files.{over_files};
 ghost use Rattle.sqlite.specs.WalFiles.{image_at};
 
 use crate::in_files::InFiles;
-use crate::shelf::{ArchiveStart, FileShelf, Found};
+use crate::shelf::{ArchiveStart, Finds, Found};
 use office_closing::{Archive, Register};
 use office_commands::{DONE, OpenFault, REFUSED, look_at_office, print};
 use office_replies::Port;
@@ -54,13 +52,12 @@ fn print_listing<W: Write>(writer: &mut Port<W>, count: usize, lines: &str) -> u
 }
 
 /// A line for each archive.
-fn archive_lines<B: ArchiveStart>(
+fn archive_lines<F: Finds>(
     alloc: Global,
     register: &Register,
-    shelf: &FileShelf<'_, B>,
+    shelf: &F,
 ) -> Result<String, AllocError>
-    ensures { IfOk result (λ lines. FollowIn ⟦<sqlite::FileStore<sqlite::FileFrom<B>> as sqlite_trees::store::Store>⟧ (image_at B.Start) (string_bytes shelf.now.store)
-        (setup_content shelf.now.setup) (register_content register.now)
+    ensures { IfOk result (λ lines. FollowIn (F.is_found shelf.now (register_content register.now))
         (map archive_content register.now.archives.items) [] (string_bytes lines)) }
 {
     let mut lines = String::new(alloc);

@@ -1,11 +1,11 @@
 ghost use Rattle.std.specs.Prelude.{◌≡◌, ℕ, IfErr, IfOk, List, string_bytes};
 ghost use Rattle.office_archive_files.specs.Archives.{IsNamedAt, PassesAt, SaysNoArchive, going_on, segments_at};
-ghost use Rattle.office_archive_files.specs.Listing.{IsFoundAt};
+ghost use Rattle.office_archive_files.specs.declared.shelf.Found.{Found};
 ghost use Rattle.office_archive_files.specs.Shelves.{HoldArchiveAt};
 ghost use Rattle.office_archives.specs.Shelves.{IsOpenAt};
 ghost use Rattle.office_loading.specs.Closed.{closed_content};
 ghost use Rattle.office_parts.specs.Archives.{Archive};
-ghost use Rattle.office_closing.specs.Register.{register_content};
+ghost use Rattle.office_closing.specs.Register.{RegisterContent, register_content};
 ghost use Rattle.office_admission.specs.Setups.{setup_content};
 ghost use Rattle.sqlite.specs.Files.{over_files};
 ghost use Rattle.sqlite.specs.WalFiles.{image_at};
@@ -33,6 +33,16 @@ pub enum Found {
     Nothing,
     /// Another file, or one that can't be read.
     Other,
+}
+
+/// What tells which archives of a store are there.
+pub trait Finds {
+    /// Of the store with this register that is found of the archive at a place.
+    ghost is_found: { Self → RegisterContent → ℕ → Found → Type 0 };
+
+    /// What is found of the archive at a place, of which the store's register names the file. It is only read.
+    fn look_at(&self, names: &Register, place: u16, file: &str) -> Result<Found, AllocError>
+        ensures { IfOk result (is_found self.now (register_content names.now) place) };
 }
 
 /// What the files of an archive hold as they are opened, and which archive it is: nothing is said of the others. So what is
@@ -88,22 +98,6 @@ impl<'a, B: ArchiveStart> FileShelf<'a, B> {
             store,
             setup,
             start,
-        }
-    }
-
-    /// What is found of the archive at a place, of which the store's register names the file. It is only read.
-    pub fn look_at(&self, names: &Register, place: u16, file: &str) -> Result<Found, AllocError>
-        ensures { IfOk result (IsFoundAt ⟦<FileStore<FileFrom<B>> as sqlite_trees::store::Store>⟧ (image_at B.Start) (string_bytes self.now.store)
-            (setup_content self.now.setup) (register_content names.now) place) }
-    {
-        let path = beside_path(self.rt.alloc(), self.store.as_str(), file)?;
-        if let Ok(None) = found_at(self.rt, path.as_str()) {
-            return Ok(Found::Nothing);
-        }
-        match self.opened(names, place) {
-            Ok(_) => Ok(Found::Archive),
-            Err(TableFault::Memory) => Err(AllocError),
-            Err(_) => Ok(Found::Other),
         }
     }
 
@@ -195,6 +189,29 @@ fn segments_of(alloc: Global, segments: &[Segment], place: u16) -> Result<Vec<Se
         }
     }
     Ok(found)
+}
+
+impl<B: ArchiveStart> Finds for FileShelf<'_, B> {
+    ghost use Rattle.std.specs.Prelude.{string_bytes};
+    ghost use Rattle.office_admission.specs.Setups.{setup_content};
+    ghost use Rattle.office_archive_files.specs.Listing.{IsFoundAt};
+    ghost use Rattle.sqlite.specs.WalFiles.{image_at};
+
+    ghost is_found = { λ shelf names place.
+        IsFoundAt ⟦<FileStore<FileFrom<B>> as sqlite_trees::store::Store>⟧ (image_at B.Start) (string_bytes shelf.store)
+        (setup_content shelf.setup) names place };
+
+    fn look_at(&self, names: &Register, place: u16, file: &str) -> Result<Found, AllocError> {
+        let path = beside_path(self.rt.alloc(), self.store.as_str(), file)?;
+        if let Ok(None) = found_at(self.rt, path.as_str()) {
+            return Ok(Found::Nothing);
+        }
+        match self.opened(names, place) {
+            Ok(_) => Ok(Found::Archive),
+            Err(TableFault::Memory) => Err(AllocError),
+            Err(_) => Ok(Found::Other),
+        }
+    }
 }
 
 impl<B: ArchiveStart> Shelf<FileStore<FileFrom<B>>> for FileShelf<'_, B> {

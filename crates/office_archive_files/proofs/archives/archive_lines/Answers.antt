@@ -1,15 +1,12 @@
 use Rattle.std.proofs.Common.{◌≡◌, ◌+◌, ◌<◌, ◌∷◌, length, drop, map, get_or, string_bytes, rules, sym, ap, subst, ◌∙◌}
 use Rattle.std.proofs.lemmas.List.{drop_more}
-use Rattle.sqlite.specs.Files.{over_files}
-use Rattle.sqlite.specs.WalFiles.{image_at}
 use Rattle.office_closing.specs.Register.{archive_content, register_content}
-use Rattle.office_admission.specs.Setups.{setup_content}
 use Rattle.office_archive_files.specs.Listing.{FollowIn}
 use Rattle.office_archive_files.proofs.archives.archive_lines.Goals as goal
 
 pub loop-archive-preserved : goal.loop-archive-preserved
 loop-archive-preserved g c = λ text follows.
-    let follow = FollowIn over_files (image_at g.B.Start) (string_bytes c.args.shelf.now.store) (setup_content c.args.shelf.now.setup) (register_content c.args.register.now) in
+    let follow = FollowIn (g.F.Finds.is_found c.args.shelf.now (register_content c.args.register.now)) in
     let i = c.loop-archive.archive-index in
     let all = c.args.register.now.archives.items in
     let item = c.archive-item.result in

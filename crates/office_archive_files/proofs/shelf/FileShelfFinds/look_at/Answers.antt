@@ -1,4 +1,4 @@
-use Rattle.office_archive_files.proofs.shelf.FileShelf.look_at.Goals as goal
+use Rattle.office_archive_files.proofs.shelf.FileShelfFinds.look_at.Goals as goal
 
 -- It has passed.
 pub returns-in-Ok : goal.returns-in-Ok
