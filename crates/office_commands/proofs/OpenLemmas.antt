@@ -1,7 +1,7 @@
 -- A store that is opened on its files, beside its archives.
-use Rattle.std.proofs.Common.{◌≡◌, ◌≢◌, ◌==◌, ℕ, ◌+◌, List, [], ◌∷◌, Bool, true, false, length, refl, sym, ap, subst, ◌∙◌, arith}
-use Rattle.std.specs.Prelude.{◌&&◌, nat_le, not, IfSome, IsTrue, Option, None, Some}
-use Rattle.std.specs.List.{list_all, list_any}
+use Rattle.std.proofs.Common.{◌≡◌, ◌≢◌, ◌==◌, ℕ, ◌+◌, List, [], ◌∷◌, Bool, true, false, length, None, Some, refl, sym, ap, subst, ◌∙◌, arith}
+use Rattle.std.specs.Prelude.{◌&&◌, nat_le, IfSome, IsTrue, Option}
+use Rattle.std.specs.List.{list_all}
 use Rattle.std.proofs.lemmas.Bool.{and_parts, eqb-false, eqb-true, leb-true}
 use Rattle.sqlite.specs.Effect.{Database}
 use Rattle.sqlite.specs.Held.{Held, state}
@@ -9,25 +9,37 @@ use Rattle.sqlite.specs.Recovery.{Image}
 use Rattle.sqlite_trees.specs.declared.store.Store.{Ghosts}
 use Rattle.office_replies.specs.Events.{Event}
 use Rattle.edi_syntax.specs.Numbers.{last_number}
+use Rattle.sqlite.specs.Tree.{Trees}
+use Rattle.edi_messages.specs.Codes.{table_texts}
 use Rattle.office_loading.specs.Closed.{closed_content, nothing_closed}
+use Rattle.office_loading.specs.declared.closed.Closed.{Closed}
+use Rattle.office_history.proofs.Alike.{reopens}
+use Rattle.office_tables.proofs.MadeLemmas.{clean_first}
 use Rattle.office_rows.specs.Stored.{HasRows, StoresRows}
 use Rattle.office_rows.specs.Tables.{office_schema}
 use Rattle.office_rows.proofs.Creating.{stores}
 use Rattle.office_admission.specs.Given.{IsGiven}
-use Rattle.office_admission.specs.Setups.{SetupContent}
+use Rattle.office_admission.specs.Setups.{SetupContent, setup_content}
+use Rattle.office_admission.specs.declared.setup.Setup.{Setup}
 use Rattle.office_admission.specs.Limits.{most_partners}
-use Rattle.office_closing.specs.Register.{RegisterContent, closed_by, is_newer_than, is_passed, last_closed, newest_visit}
+use Rattle.office_closing.specs.Register.{RegisterContent, closed_by, is_newer_than, last_closed, newest_visit}
 use Rattle.office_closing.specs.Sound.{are_in_order, are_sound_archives, are_sound_lists, are_sound_segments, are_sound_taken, close_more, is_sound, is_sound_mark, is_within}
 use Rattle.office_closing.specs.declared.register.Segment.{Segment}
 use Rattle.office_commands.specs.Opening.{BeginsAt, Shows}
+use Rattle.office_desk.specs.Beside.{IsBeside, IsOrNone}
 use Rattle.office_desk.specs.Desks.{IsSound, OpensAt}
+use Rattle.office_desk.specs.Telling.{Holds}
 use Rattle.office_desk.specs.declared.beside.Beside.{Beside}
+use Rattle.office_desk.proofs.DeliverLemmas.{beside_loaded, office_with, shown_by_own}
+use Rattle.office_desk.proofs.HoldLemmas.{held_leaves, nexts_loaded}
+use Rattle.office_desk.proofs.OwnNumbers.{codes_after}
 use Rattle.office_desk.specs.declared.desk.Desk.{Desk}
 use Rattle.office_parts.specs.Archives.{Archive}
 use Rattle.office_parts.specs.OwnLists.{rows_without_lists}
+use Rattle.office_archives.specs.Shelves.{NamesAll}
 use Rattle.office_archives.specs.Together.{IsBesideAfter}
 use Rattle.office_archives.proofs.Filled.{opened_beside}
-use Rattle.office_commands.specs.Beside.{IsOpenedOver, IsOpenedWhole, OpensFor, OpensOn, OpensWith}
+use Rattle.office_commands.specs.Beside.{IsLoaded, IsOfDay, IsOpenedOver, IsOpenedWhole, OpensFor, OpensOn, OpensWith}
 
 pub opens_for : {S : Type 0} (g : Ghosts S) (found : Held S) (desk : Desk S g) → IsOpenedOver g found desk → IsSound g desk → (list : List Archive) (content : SetupContent) (es : List Event) → IsGiven content →
     (state g found).committed.schema ≡ office_schema → IsBesideAfter list (closed_content desk.closed) content es (state g found).committed.trees → OpensFor g list content es desk
@@ -94,7 +106,7 @@ none_within (segment ∷ segments) all =
     let high = leb-true segment.archive 0 both.1 in
     absurd (omega (arith, low, high))
 
-closes_nothing : (names : RegisterContent) → IsTrue (is_sound names) → names.archives ≡ [] → closed_by names ≡ nothing_closed
+pub closes_nothing : (names : RegisterContent) → IsTrue (is_sound names) → names.archives ≡ [] → closed_by names ≡ nothing_closed
 closes_nothing names sound none =
     let many : ℕ = length names.archives in
     let rest : Bool = are_sound_lists many names.lists && (are_sound_taken many names.taken && is_sound_mark names.closed_for) in
@@ -104,33 +116,94 @@ closes_nothing names sound none =
     let empty : names.segments ≡ [] = none_within names.segments (subst (λ (n : ℕ). list_all (is_within n) names.segments ≡ true) (ap length none) within) in
     λ i. record { last_closed = last_closed (empty i); newest_closed = newest_visit (none i) }
 
--- nor had anything been taken as one was closed
-never_newer : (names : RegisterContent) → IsTrue (is_sound names) → names.archives ≡ [] → (nexts : List ℕ) → is_newer_than nexts names ≡ false
-never_newer names sound none nexts =
-    let many : ℕ = length names.archives in
-    let last : Bool = are_sound_taken many names.taken && is_sound_mark names.closed_for in
-    let rest : Bool = are_sound_lists many names.lists && last in
-    let all = (and_parts (are_sound_archives names.archives) (are_sound_segments many names.segments && rest) sound).1 in
-    let taken = (and_parts (are_sound_taken many names.taken) (is_sound_mark names.closed_for) (and_parts (are_sound_lists many names.lists) last (and_parts (are_sound_segments many names.segments) rest all).1).1).0 in
-    let within = (and_parts (list_all (is_within many) names.taken) (are_in_order 0 0 names.taken) taken).0 in
-    let empty : names.taken ≡ [] = none_within names.taken (subst (λ (n : ℕ). list_all (is_within n) names.taken ≡ true) (ap length none) within) in
-    ap (λ (segments : List Segment). list_any (λ segment. not (is_passed nexts segment)) segments) empty
-
-of_this_day : (names : RegisterContent) → ((nexts : List ℕ) → is_newer_than nexts names ≡ false) → (there : Option Beside) → IfSome there (λ one. is_newer_than one.nexts.items names ≡ false)
-of_this_day names never None = tt
-of_this_day names never (Some there) = never there.nexts.items
-
-pub opens_alone : {S A : Type 0} (g : Ghosts S) (hold : List Archive → Type 0) (are : List Archive → A → Type 0) (image : Image) (found : Held S) (names : RegisterContent) (desk : Desk S g) (archives : A) → Shows g image found → IsOpenedWhole g found desk
-    → are [] archives → IsTrue (is_sound names) → names.archives ≡ [] → OpensWith g hold are image names (desk, archives)
-opens_alone g hold are image found names desk archives shows whole they sound none = record {
-  opens = opens_on g image found desk shows whole.over;
-  sound = sound;
-  closed = whole.closed ∙ sym (closes_nothing names sound none);
-  of_day = of_this_day names (never_newer names sound none) desk.beside;
-  these = λ list held named. subst (λ (l : List Archive). are l archives) (sym (none_named list (named.counted ∙ ap length none))) they;
-  alone = λ none. record { none = they; closed = whole.closed; events = opens_at g image found desk shows whole };
-}
+-- the list that it names is empty
+pub none_named : (names : RegisterContent) (list : List Archive) → names.archives ≡ [] → NamesAll names list → list ≡ []
+none_named names list none named = by list (named.counted ∙ ap length none)
   where
-    none_named : (list : List Archive) → length list ≡ 0 → list ≡ []
-    none_named [] many = refl
-    none_named (one ∷ list) many = absurd (omega (arith, many))
+    by : (list : List Archive) → length list ≡ 0 → list ≡ []
+    by [] many = refl
+    by (one ∷ list) many = absurd (omega (arith, many))
+
+-- ---- a desk over what was loaded
+
+module _ {S : Type 0} (g : Ghosts S) (found : Held S) (desk : Desk S g) (there : Beside) (loaded : IsLoaded g found desk.conn (closed_content desk.closed) (setup_content desk.setup) there) (is : desk.beside ≡ Some there)
+    (settled : IsSound g desk → (db : Trees) → (state g desk.conn).may_leave db → db ≡ (state g desk.conn).committed.trees) where
+  abbrev own : SetupContent
+  own = setup_content desk.setup
+
+  pub opened_over : IsOpenedOver g found desk
+  opened_over = record {
+    clean = λ sound. clean_first loaded.reads sound.0;
+    settled = settled;
+    office = λ sound schema.
+        let loads = loaded.loads sound.0 schema in
+        let still = loaded.reads.unchanged sound.0 in
+        record {
+          there = there;
+          beside = is;
+          loads = loads;
+          holds = λ rows has. office_with (closed_content desk.closed) own rows there.terminal (state g found).committed (state g desk.conn).committed None desk.beside still.0.committed_is
+              (subst (IsOrNone rows there.terminal) (sym is) (record { terminal_is = refl; nexts = loaded.nexts sound.0 rows has }))
+              (record { has = has; loads = loads; beside = tt });
+          unchanged = still;
+        };
+  }
+
+  -- of a store of which nothing was put away
+  pub opened_whole : closed_content desk.closed ≡ nothing_closed → IsOpenedWhole g found desk
+  opened_whole nothing = record {
+    over = opened_over;
+    closed = nothing;
+    events = λ sound content es rows given has after.
+        let closed = closed_content desk.closed in
+        let loads = loaded.loads sound.0 has.schema in
+        let still = loaded.reads.unchanged sound.0 in
+        let back = reopens content es rows (state g found).committed loads.0 own there.terminal after given has loads.1 (shown_by_own closed loads.0 own there.terminal loads.2) in
+        let opening : SetupContent = record content { codes = desk.setup.codes } in
+        let beside : IsBeside opening es (Some there) = record {
+          terminal = beside_loaded closed opening es rows (state g found).committed own there.terminal back.given back.rows_are has loads;
+          nexts = nexts_loaded opening es rows there.nexts.items back.rows_are (loaded.nexts sound.0 rows has);
+        } in
+        let held : Holds opening es own (state g desk.conn).committed desk.beside = record {
+          given = back.given;
+          now_is = back.now;
+          rows = rows;
+          has = subst (HasRows rows) (sym still.0.committed_is) has;
+          after = back.rows_are;
+          beside = subst (IsBeside opening es) (sym is) beside;
+        } in
+        record {
+          says = back.says;
+          opening = opening;
+          opening_says = record { terminal = refl; codes = back.says.codes ∙ ap table_texts (codes_after es content); partners = refl; blocks = refl; limit = refl };
+          stands = held;
+          leaves = held_leaves opening es own (state g desk.conn) desk.beside sound.1 (settled sound) held;
+        };
+  }
+
+-- the desk is over what was loaded
+pub loaded_as : {S : Type 0} (g : Ghosts S) (found conn : Held S) (closed : Closed) (setup : Setup) (there : Beside) (desk : Desk S g) → desk.conn ≡ conn → desk.closed ≡ closed → desk.setup ≡ setup → IsLoaded g found conn (closed_content closed) (setup_content setup) there
+    → IsLoaded g found desk.conn (closed_content desk.closed) (setup_content desk.setup) there
+loaded_as g found conn closed setup there desk conn_is closed_is setup_is loaded =
+    subst (λ (h : Held _). IsLoaded g found h (closed_content desk.closed) (setup_content desk.setup) there) (sym conn_is)
+    (subst (λ (k : Closed). IsLoaded g found conn (closed_content k) (setup_content desk.setup) there) (sym closed_is)
+    (subst (λ (s : Setup). IsLoaded g found conn (closed_content closed) (setup_content s) there) (sym setup_is) loaded))
+
+-- what stands beside it tells the day
+pub of_that_day : {S : Type 0} {g : Ghosts S} (names : RegisterContent) (desk : Desk S g) (there : Beside) → desk.beside ≡ Some there → is_newer_than there.nexts.items names ≡ false → IsOfDay names desk
+of_that_day names desk there is of_day = subst (λ (o : Option Beside). IfSome o (λ one. is_newer_than one.nexts.items names ≡ false)) (sym is) of_day
+
+-- beside the archives that the register names
+pub joined_with : {S A : Type 0} (g : Ghosts S) (hold : List Archive → Type 0) (are : List Archive → A → Type 0) (image : Image) (found : Held S) (names : RegisterContent) (desk : Desk S g) (there : Beside) (archives : A) → Shows g image found
+    → IsLoaded g found desk.conn (closed_content desk.closed) (setup_content desk.setup) there → desk.beside ≡ Some there → (IsSound g desk → (db : Trees) → (state g desk.conn).may_leave db → db ≡ (state g desk.conn).committed.trees) → IsTrue (is_sound names) → closed_content desk.closed ≡ closed_by names
+    → ((list : List Archive) → hold list → NamesAll names list → are list archives) → (names.archives ≡ [] → are [] archives) → is_newer_than there.nexts.items names ≡ false → OpensWith g hold are image names (desk, archives)
+joined_with g hold are image found names desk there archives shows loaded is settled sound closed these none of_day = record {
+  opens = opens_on g image found desk shows (opened_over g found desk there loaded is settled);
+  sound = sound;
+  closed = closed;
+  of_day = of_that_day names desk there is of_day;
+  these = these;
+  alone = λ empty.
+      let nothing = closed ∙ closes_nothing names sound empty in
+      record { none = none empty; closed = nothing; events = opens_at g image found desk shows (opened_whole g found desk there loaded is settled nothing) };
+}
