@@ -12,17 +12,17 @@ use Rattle.office_closing.proofs.planning.lists_that_go.Goals as goal
 pub returns-then-is_empty : goal.returns-then-is_empty
 returns-then-is_empty c =
     let named = map named_list_content c.args.named.now in
-    let lines = c.lines.result.now in
+    let lines = c.lines-lines.result.now in
     let none : c.args.segments.now ≡ [] = search rules in
     let empty : map list_content c.new.result.items ≡ [] = search rules in
-    done_in c.args.own.now.terminal named c.args.segments.now c.args.archive lines (map list_content c.new.result.items) c.lines.ensures.told c.lines.ensures.once
+    done_in c.args.own.now.terminal named c.args.segments.now c.args.archive lines (map list_content c.new.result.items) c.lines-lines.ensures.told c.lines-lines.ensures.once
     (subst (λ (s : _). GoWith s (map listing_content lines) named c.args.archive (map list_content c.new.result.items)) (sym none) empty)
 
 -- With some, those go that are done.
 pub returns : goal.returns
 returns c =
     let named = map named_list_content c.args.named.now in
-    let lines = c.lines.result.now in
+    let lines = c.lines-lines.result.now in
     let some : c.args.segments.now ≡ [] → ⊥ = λ none. search rules in
-    IfOk-weaker c.done_lists.result _ _ (λ done are. done_in c.args.own.now.terminal named c.args.segments.now c.args.archive lines (map list_content done.items) c.lines.ensures.told c.lines.ensures.once
+    IfOk-weaker c.done_lists.result _ _ (λ done are. done_in c.args.own.now.terminal named c.args.segments.now c.args.archive lines (map list_content done.items) c.lines-lines.ensures.told c.lines-lines.ensures.once
     (go_with c.args.segments.now (map listing_content lines) named c.args.archive (map list_content done.items) some are)) c.done_lists.ensures
