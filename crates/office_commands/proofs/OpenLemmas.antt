@@ -1,7 +1,7 @@
 -- A store that is opened on its files, beside its archives.
 use Rattle.std.proofs.Common.{◌≡◌, ◌≢◌, ◌==◌, ℕ, ◌+◌, List, [], ◌∷◌, Bool, true, false, length, refl, sym, ap, subst, ◌∙◌, arith}
-use Rattle.std.specs.Prelude.{◌&&◌, nat_le, IsTrue}
-use Rattle.std.specs.List.{list_all}
+use Rattle.std.specs.Prelude.{◌&&◌, nat_le, not, IfSome, IsTrue, Option, None, Some}
+use Rattle.std.specs.List.{list_all, list_any}
 use Rattle.std.proofs.lemmas.Bool.{and_parts, eqb-false, eqb-true, leb-true}
 use Rattle.sqlite.specs.Effect.{Database}
 use Rattle.sqlite.specs.Held.{Held, state}
@@ -16,11 +16,12 @@ use Rattle.office_rows.proofs.Creating.{stores}
 use Rattle.office_admission.specs.Given.{IsGiven}
 use Rattle.office_admission.specs.Setups.{SetupContent}
 use Rattle.office_admission.specs.Limits.{most_partners}
-use Rattle.office_closing.specs.Register.{RegisterContent, closed_by, last_closed, newest_visit}
-use Rattle.office_closing.specs.Sound.{are_in_order, are_sound_archives, are_sound_lists, are_sound_segments, close_more, is_sound, is_sound_mark, is_within}
+use Rattle.office_closing.specs.Register.{RegisterContent, closed_by, is_newer_than, is_passed, last_closed, newest_visit}
+use Rattle.office_closing.specs.Sound.{are_in_order, are_sound_archives, are_sound_lists, are_sound_segments, are_sound_taken, close_more, is_sound, is_sound_mark, is_within}
 use Rattle.office_closing.specs.declared.register.Segment.{Segment}
 use Rattle.office_commands.specs.Opening.{BeginsAt, Shows}
 use Rattle.office_desk.specs.Desks.{IsSound, OpensAt}
+use Rattle.office_desk.specs.declared.beside.Beside.{Beside}
 use Rattle.office_desk.specs.declared.desk.Desk.{Desk}
 use Rattle.office_parts.specs.Archives.{Archive}
 use Rattle.office_parts.specs.OwnLists.{rows_without_lists}
@@ -96,12 +97,28 @@ none_within (segment ∷ segments) all =
 closes_nothing : (names : RegisterContent) → IsTrue (is_sound names) → names.archives ≡ [] → closed_by names ≡ nothing_closed
 closes_nothing names sound none =
     let many : ℕ = length names.archives in
-    let rest : Bool = are_sound_lists many names.lists && is_sound_mark names.closed_for in
+    let rest : Bool = are_sound_lists many names.lists && (are_sound_taken many names.taken && is_sound_mark names.closed_for) in
     let all = (and_parts (are_sound_archives names.archives) (are_sound_segments many names.segments && rest) sound).1 in
     let segments = (and_parts (are_sound_segments many names.segments) rest all).0 in
     let within = (and_parts (list_all (is_within many) names.segments) (are_in_order 0 0 names.segments && close_more [] names.segments) segments).0 in
     let empty : names.segments ≡ [] = none_within names.segments (subst (λ (n : ℕ). list_all (is_within n) names.segments ≡ true) (ap length none) within) in
     λ i. record { last_closed = last_closed (empty i); newest_closed = newest_visit (none i) }
+
+-- nor had anything been taken as one was closed
+never_newer : (names : RegisterContent) → IsTrue (is_sound names) → names.archives ≡ [] → (nexts : List ℕ) → is_newer_than nexts names ≡ false
+never_newer names sound none nexts =
+    let many : ℕ = length names.archives in
+    let last : Bool = are_sound_taken many names.taken && is_sound_mark names.closed_for in
+    let rest : Bool = are_sound_lists many names.lists && last in
+    let all = (and_parts (are_sound_archives names.archives) (are_sound_segments many names.segments && rest) sound).1 in
+    let taken = (and_parts (are_sound_taken many names.taken) (is_sound_mark names.closed_for) (and_parts (are_sound_lists many names.lists) last (and_parts (are_sound_segments many names.segments) rest all).1).1).0 in
+    let within = (and_parts (list_all (is_within many) names.taken) (are_in_order 0 0 names.taken) taken).0 in
+    let empty : names.taken ≡ [] = none_within names.taken (subst (λ (n : ℕ). list_all (is_within n) names.taken ≡ true) (ap length none) within) in
+    ap (λ (segments : List Segment). list_any (λ segment. not (is_passed nexts segment)) segments) empty
+
+of_this_day : (names : RegisterContent) → ((nexts : List ℕ) → is_newer_than nexts names ≡ false) → (there : Option Beside) → IfSome there (λ one. is_newer_than one.nexts.items names ≡ false)
+of_this_day names never None = tt
+of_this_day names never (Some there) = never there.nexts.items
 
 pub opens_alone : {S A : Type 0} (g : Ghosts S) (hold : List Archive → Type 0) (are : List Archive → A → Type 0) (image : Image) (found : Held S) (names : RegisterContent) (desk : Desk S g) (archives : A) → Shows g image found → IsOpenedWhole g found desk
     → are [] archives → IsTrue (is_sound names) → names.archives ≡ [] → OpensWith g hold are image names (desk, archives)
@@ -109,6 +126,7 @@ opens_alone g hold are image found names desk archives shows whole they sound no
   opens = opens_on g image found desk shows whole.over;
   sound = sound;
   closed = whole.closed ∙ sym (closes_nothing names sound none);
+  of_day = of_this_day names (never_newer names sound none) desk.beside;
   these = λ list held named. subst (λ (l : List Archive). are l archives) (sym (none_named list (named.counted ∙ ap length none))) they;
   alone = λ none. record { none = they; closed = whole.closed; events = opens_at g image found desk shows whole };
 }

@@ -1,8 +1,9 @@
 ghost use Rattle.std.specs.Prelude.{◌≡◌, ◌≢◌, [], IfOk, IsTrue, None, false};
-ghost use Rattle.office_commands.specs.Beside.{IsBesideShelf, IsOpenedOver, IsOpenedWhole, OpensOn, OpensWith};
+ghost use Rattle.office_commands.specs.Beside.{IsBesideShelf, IsOfDay, IsOpenedOver, IsOpenedWhole, OpensOn, OpensWith};
 ghost use Rattle.office_commands.specs.Opening.{Shows, ShowsHeld};
-ghost use Rattle.office_closing.specs.Register.{RegisterContent, register_content};
+ghost use Rattle.office_closing.specs.Register.{RegisterContent, closed_by, register_content};
 ghost use Rattle.office_closing.specs.Sound.{is_sound};
+ghost use Rattle.office_loading.specs.Closed.{closed_content};
 ghost use Rattle.sqlite.specs.Files.{file_state, over_files};
 ghost use Rattle.sqlite.specs.Recovery.{Image};
 ghost use Rattle.sqlite.specs.State.{HasCleanDisk};
@@ -36,6 +37,9 @@ pub enum OpenFault {
     /// The register of its archives can't be read.
     #[error("the register of the archives can't be read")]
     Register(TableFault),
+    /// It is of a day before its register: it awaits an interchange that had been taken as an archive was closed.
+    #[error("the store is older than the register of its archives")]
+    Older,
 }
 
 impl From<AllocError> for OpenFault {
@@ -144,8 +148,7 @@ pub(crate) fn shelve<S: Alter + Drop, T: Alter, F: Shelf<T>, M: ShelfBeside<T, F
     ensures opened { IfOk result (λ opened. IsOpenedOver S.Store conn opened.0) }
     ensures beside { IfOk result (λ opened. IsBesideShelf M.hold F.holds (register_content register.now) opened.0 opened.1) }
 {
-    let closed = register.closed(alloc)?;
-    let (desk, setup) = open_desk(alloc, conn, closed)?;
+    let (desk, setup) = open_desk(alloc, conn, register)?;
     let path = String::from_str(alloc, store)?;
     Ok((desk, beside.shelf_of(path, setup)))
 }
@@ -212,28 +215,35 @@ fn join_archives<S: Alter + Drop, A: Archives, M: ArchivesBeside<A>>(
     ensures { IfOk result (λ office. (image : Image) → Shows S.Store image conn →
         OpensWith S.Store M.hold A.are image (register_content register) (office.desk, office.archives)) }
 {
-    let closed = register.closed(alloc)?;
-    let (desk, setup) = open_desk(alloc, conn, closed)?;
+    let (desk, setup) = open_desk(alloc, conn, &register)?;
     let path = String::from_str(alloc, store)?;
     let archives = beside.archives(path, setup, register);
     Ok(ArchivedDesk::new(desk, archives))
 }
 
-/// The desk over a store of which that is closed, and an equal set-up.
+/// The desk over a store, of which its register says what is closed, and an equal set-up.
+///
+/// Older if the store is of a day before the register.
 fn open_desk<S: Alter + Drop>(
     alloc: Global,
     conn: Connection<S>,
-    closed: Closed,
+    register: &Register,
 ) -> Result<(Desk<S>, Setup), OpenFault>
     requires idle { conn.in_transaction ≡ false }
+    requires sound { IsTrue (is_sound (register_content register.now)) }
     ensures opened { IfOk result (λ opened. IsOpenedOver S.Store conn opened.0) }
-    ensures closed { IfOk result (λ opened. opened.0.closed ≡ closed) }
+    ensures closed { IfOk result (λ opened. closed_content opened.0.closed ≡ closed_by (register_content register.now)) }
+    ensures of_day { IfOk result (λ opened. IsOfDay (register_content register.now) opened.0) }
 {
+    let closed = register.closed(alloc)?;
     let mut conn = conn;
     let is_idle = conn.is_autocommit();
     prove!(is_idle);
     match load_beside(alloc, &mut conn, &closed) {
         Ok((setup, beside)) => {
+            if register.is_newer_than(&beside.nexts) {
+                return Err(OpenFault::Older);
+            }
             let copy = setup.copy(alloc)?;
             Ok((Desk::new(conn, setup, closed, beside), copy))
         }

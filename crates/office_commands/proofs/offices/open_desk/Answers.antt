@@ -17,7 +17,7 @@ pub returns-in_ok-copy-in-Ok-clause-opened : goal.returns-in_ok-copy-in-Ok-claus
 returns-in_ok-copy-in-Ok-clause-opened g c =
     let desk = c.new.result in
     let own = c.in-Ok.setup in
-    let closed = closed_content c.args.closed in
+    let closed = closed_content c.in_ok-closed.closed in
     let there = c.in-Ok.beside in
     let old = state g.S.Store c.args.conn in
     let new = state g.S.Store c.load_beside.new.conn in
