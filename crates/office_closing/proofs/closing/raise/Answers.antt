@@ -16,9 +16,9 @@ returns-then-is_due-clause-steps g c =
     let steps = λ (b : Bool) (segments : List Segment) (lists : List SettledList) (taken : List Segment).
     StepsIf b unchanged (closed_with (archive_content plan.archive) segments (map list_content lists) taken) (state g.S.Store c.args.conn.now) (state g.S.Store c.raise_now.new.conn) c.raise_now.result in
     subst (λ b. steps b plan.segments.items plan.lists.items plan.taken.items) due
-    (subst (steps true plan.segments.items plan.lists.items) c.deref-3-then-is_due.ensures.value
-    (subst (λ l. steps true plan.segments.items l c.deref-3-then-is_due.result.now) c.deref-2.ensures.value
-    (subst (λ l. steps true l c.deref-2.result.now c.deref-3-then-is_due.result.now) c.deref.ensures.value c.raise_now.ensures.steps)))
+    (subst (steps true plan.segments.items plan.lists.items) c.deref-then-is_due-2.ensures.value
+    (subst (λ l. steps true plan.segments.items l c.deref-then-is_due-2.result.now) c.deref-then-is_due.ensures.value
+    (subst (λ l. steps true l c.deref-then-is_due.result.now c.deref-then-is_due-2.result.now) c.deref.ensures.value c.raise_now.ensures.steps)))
 
 pub returns-else-is_due-clause-steps : goal.returns-else-is_due-clause-steps
 returns-else-is_due-clause-steps g c =

@@ -35,10 +35,10 @@ returns-in_err-stage-clause-err c =
     let place = ap (λ (a : ArchiveContent). a.place) history.archive in
     let all = map list_content c.in_ok-lists.lists.all.items in
     let at = c.in_ok-history.history.archive.place in
-    let for = registers_for own copy at lists.done all lists.done (map list_content c.deref-2.result.now) refl (ap (map list_content) c.deref-2.ensures.value) lists.all in
-    let segments = c.deref-segments.ensures.value ∙ history.segments in
+    let for = registers_for own copy at lists.done all lists.done (map list_content c.deref-3.result.now) refl (ap (map list_content) c.deref-3.ensures.value) lists.all in
+    let segments = c.deref.ensures.value ∙ history.segments in
     let are = subst (λ s. AreDoneIn own.terminal (map named_list_content c.args.named.now) s (archive_in names.archive copy).place lists.done) segments
-    (subst (λ n. AreDoneIn own.terminal (map named_list_content c.args.named.now) c.deref-segments.result.now n lists.done) place lists.are_done) in
+    (subst (λ n. AreDoneIn own.terminal (map named_list_content c.args.named.now) c.deref.result.now n lists.done) place lists.are_done) in
     rw (p.1, p.2) (refused_with own copy names (map named_list_content c.args.named.now) lists.done are _ (c.in_err-stage.ensures.err names lists.done refl named for))
 
 pub returns-clause-ok : goal.returns-clause-ok
@@ -50,8 +50,8 @@ returns-clause-ok c =
     let named = ap (λ (a : ArchiveContent). a.file) (sym history.archive) in
     let place = ap (λ (a : ArchiveContent). a.place) history.archive in
     let come = c.in_ok-stage.stage in
-    let comes = subst (λ l. ComesOn own copy names (map list_content l) come) c.deref-2.ensures.value (c.in_ok-stage.ensures.ok names refl named) in
-    let segments = c.deref-segments.ensures.value ∙ history.segments in
+    let comes = subst (λ l. ComesOn own copy names (map list_content l) come) c.deref-3.ensures.value (c.in_ok-stage.ensures.ok names refl named) in
+    let segments = c.deref.ensures.value ∙ history.segments in
     let lists = subst (λ s. AreClosingLists own copy (map named_list_content c.args.named.now) s (archive_in names.archive copy).place c.in_ok-lists.lists) segments
-    (subst (λ n. AreClosingLists own copy (map named_list_content c.args.named.now) c.deref-segments.result.now n c.in_ok-lists.lists) place c.in_ok-lists.ensures) in
+    (subst (λ n. AreClosingLists own copy (map named_list_content c.args.named.now) c.deref.result.now n c.in_ok-lists.lists) place c.in_ok-lists.ensures) in
     plan_from own copy names (map named_list_content c.args.named.now) c.in_ok-history.history c.in_ok-lists.lists come c.plan_of.result c.in_ok-check_office.ensures.ok history lists comes c.plan_of.ensures
