@@ -1,5 +1,6 @@
 -- Transactions that delete, one after the other.
-use Rattle.std.proofs.Common.{◌≡◌, ℕ, List, [], ◌∷◌, Bool, true, false, ◌&&◌, ◌||◌, ◌==◌, not, Ok, IsTrue, codes, filter, refl, sym, ap₂, ◌∙◌, arith, Result, Err, IfErr, OnErr, OnOk, subst, ◌⊎◌, inl, inr, ◌++◌, ap, None, map}
+use Rattle.std.proofs.Common.{◌≡◌, ℕ, List, [], ◌∷◌, Bool, true, false, ◌&&◌, ◌||◌, ◌==◌, not, Ok, IsTrue, codes, filter, refl, sym, ap₂, ◌∙◌, arith, Result, Err, IfErr, OnErr, OnOk, subst, ◌⊎◌, inl, inr, ◌++◌, ap, None, map, length}
+use Rattle.std.proofs.lemmas.Bool.{eqb-true}
 use Rattle.std.proofs.lemmas.Bool.Decides.{nat_tests}
 use Rattle.sqlite.specs.Collation.TheVariants.{Binary}
 use Rattle.sqlite.specs.Command.TheVariants.{Delete}
@@ -471,6 +472,10 @@ done_in terminal named segments at lines done told once are = record {
   by_key = sym (listings_by lines) ∙ told;
   are = are;
 }
+
+pub none_is_empty : (segments : List Segment) → (length segments == 0) ≡ true → segments ≡ []
+none_is_empty [] e = refl
+none_is_empty (segment ∷ segments) e = absurd (omega (arith, eqb-true (length (segment ∷ segments)) 0 e))
 
 -- with some segment, what is done goes
 pub go_with : (segments : List Segment) (lines : List ListingContent) (named : List ListName) (archive : ℕ) (found : List SettledListContent) → (segments ≡ [] → ⊥) → AreDone lines named archive found → GoWith segments lines named archive found

@@ -373,7 +373,7 @@ module _ (held : Held) (old : Files) (has : AreHeld held old) (names : FileNames
   -- all texts are wanted just if the closing begins and closes no number
   pub wants_none : WantsAll plan → ClosesNone held.register held.copied held.copy
   wants_none wants = record {
-    begins = begins_by plan.stage (at_by plan.stage is.is_copy.comes.has_come) wants.0;
+    begins = begins_by plan.stage (at_by plan.stage is.taken is.is_copy.comes.has_come) wants.0;
     nexts = copy.nexts;
     are_nexts = of_copy.nexts held.copy has.copy;
     none = none_mapped (segment_of place) (closed_of copy.nexts) (sym segments_of_closed ∙ wants.1);
@@ -381,7 +381,7 @@ module _ (held : Held) (old : Files) (has : AreHeld held old) (names : FileNames
 
   pub none_wants : ClosesNone held.register held.copied held.copy → WantsAll plan
   none_wants none = (
-    unraised_by plan.stage (at_by plan.stage is.is_copy.comes.has_come) none.begins,
+    unraised_by plan.stage (at_by plan.stage is.taken is.is_copy.comes.has_come) none.begins,
     segments_of_closed ∙ ap (map (segment_of place)) (ap closed_of (one_nexts held.copy copy.nexts none.nexts has.copy_orderly.accounts (of_copy.nexts held.copy has.copy) none.are_nexts) ∙ none.none),
   )
 

@@ -4,7 +4,7 @@ use Rattle.office_parts.specs.Named.{named_list_content}
 use Rattle.office_closing.specs.Lists.{list_content}
 use Rattle.office_closing.specs.Register.{ArchiveContent}
 use Rattle.office_closing.specs.Copies.{AreDoneIn, ComesOn, FileNames, archive_in, office_content}
-use Rattle.office_closing.specs.Planning.{AreClosingLists}
+use Rattle.office_closing.specs.Planning.{AreClosingLists, IsTakenFor}
 use Rattle.office_closing.proofs.ClearLemmas.{plan_from, refused_with, registers_for}
 use Rattle.office_closing.proofs.planning.make_plan.Goals as goal
 
@@ -40,6 +40,15 @@ returns-in_err-stage-clause-err c =
     let are = subst (λ s. AreDoneIn own.terminal (map named_list_content c.args.named.now) s (archive_in names.archive copy).place lists.done) segments
     (subst (λ n. AreDoneIn own.terminal (map named_list_content c.args.named.now) c.deref.result.now n lists.done) place lists.are_done) in
     rw (p.1, p.2) (refused_with own copy names (map named_list_content c.args.named.now) lists.done are _ (c.in_err-stage.ensures.err names lists.done refl named for))
+
+pub stage_of-requires-clause-taken : goal.stage_of-requires-clause-taken
+stage_of-requires-clause-taken c =
+    let own = office_content c.args.own.now in
+    let copy = office_content c.args.copy in
+    let history = c.in_ok-history.ensures.ok in
+    let place = ap (λ (a : ArchiveContent). a.place) history.archive in
+    subst (IsTakenFor own copy c.in_ok-history.history.archive.place) (sym c.deref-4.ensures.value)
+    (subst (λ n. IsTakenFor own copy n c.in_ok-history.history.taken.items) (sym place) history.taken)
 
 pub returns-clause-ok : goal.returns-clause-ok
 returns-clause-ok c =
