@@ -1,4 +1,5 @@
-use Rattle.std.proofs.Common.{◌≡◌, None, not, refl, sym, ap, subst, ◌∙◌, IsTrue}
+use Rattle.std.proofs.Common.{◌≡◌, None, false, not, refl, sym, ap, subst, ◌∙◌, IsTrue}
+use Rattle.std.specs.Prelude.{IfSome}
 use Rattle.sqlite.specs.Held.{state}
 use Rattle.sqlite.specs.State.{HasCleanDisk, IsUnchanged}
 use Rattle.office_loading.specs.Closed.{closed_content}
@@ -10,7 +11,15 @@ use Rattle.office_tables.proofs.MadeLemmas.{clean_first}
 use Rattle.office_desk.specs.Beside.{IsOrNone}
 use Rattle.office_desk.specs.Offices.{HoldsOffice}
 use Rattle.office_desk.proofs.DeliverLemmas.{office_with}
+use Rattle.office_closing.specs.Register.{is_newer_than, register_content}
 use Rattle.office_commands.proofs.offices.open_desk.Goals as goal
+
+-- The store awaits nothing that the register says had been taken.
+pub returns-in_ok-copy-in-Ok-clause-of_day : goal.returns-in_ok-copy-in-Ok-clause-of_day
+returns-in_ok-copy-in-Ok-clause-of_day g c =
+    let names = register_content c.args.register.now in
+    let awaits = ap (λ nexts. is_newer_than nexts names) (sym c.deref.ensures.value) ∙ sym c.is_newer_than.ensures ∙ c.if-is_newer_than.false in
+    subst (λ beside. IfSome beside (λ there. is_newer_than there.nexts.items names ≡ false)) (sym c.new.ensures.beside) awaits
 
 -- The desk is the one that an opening makes of what was loaded.
 pub returns-in_ok-copy-in-Ok-clause-opened : goal.returns-in_ok-copy-in-Ok-clause-opened
