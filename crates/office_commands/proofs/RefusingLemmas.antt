@@ -1,6 +1,7 @@
 -- Why a store is not opened.
-use Rattle.std.proofs.Common.{◌≡◌, inl, Result, Ok, Err, IsTrue}
+use Rattle.std.proofs.Common.{◌≡◌, inl, inr, subst, Result, Ok, Err, IsTrue}
 use Rattle.std.specs.Prelude.{IfErr}
+use Rattle.sqlite.specs.Effect.{Database}
 use Rattle.sqlite.specs.Held.{Held, state}
 use Rattle.sqlite.specs.Recovery.{Image}
 use Rattle.sqlite.specs.State.{HasCleanDisk}
@@ -10,6 +11,8 @@ use Rattle.office_tables.specs.DeliveryReading.{OnlyReads}
 use Rattle.office_tables.specs.declared.table_fault.TableFault.{TableFault}
 use Rattle.office_closing.specs.Register.{RegisterContent, closed_by}
 use Rattle.office_closing.specs.Sound.{is_sound}
+use Rattle.office_desk.specs.Offices.{FailsToOpen}
+use Rattle.office_loading.specs.Closed.{ClosedContent}
 use Rattle.office_commands.specs.Opening.{Shows}
 use Rattle.office_commands.specs.Refusing.{IsOfRegister, IsRefused, IsUnloaded, IsUnloadedOver, IsUnopened}
 use Rattle.office_commands.specs.declared.offices.OpenFault.{OpenFault}
@@ -44,6 +47,10 @@ module _ {S T : Type 0} (g : Ghosts S) (image : Image) (found last : Held S) (na
     };
     deserved = deserved;
   }
+
+-- the fault is the one that its tables deserve
+pub unloaded : (db : Database) (own closed : ClosedContent) (fault : TableFault) → own ≡ closed → FailsToOpen own db fault → IsUnloaded closed db fault
+unloaded db own closed fault same fails = inr (subst (λ (k : ClosedContent). FailsToOpen k db fault) same fails)
 
 -- ---- what follows of faults
 

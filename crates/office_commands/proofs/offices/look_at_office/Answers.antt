@@ -6,8 +6,8 @@ use Rattle.office_closing.specs.Register.{register_content}
 use Rattle.office_commands.proofs.RefusingLemmas.{refused_names, unloaded_over}
 use Rattle.office_commands.proofs.offices.look_at_office.Goals as goal
 
-pub returns-in-Ok-clause-setup : goal.returns-in-Ok-clause-setup
-returns-in-Ok-clause-setup g c = c.in-Ok-2.ensures.setup (image_at g.S.Start) c.in-Ok.ensures.found
+pub returns-in-Ok-read_setup-clause-setup : goal.returns-in-Ok-read_setup-clause-setup
+returns-in-Ok-read_setup-clause-setup g c = c.in-Ok-read_setup.ensures.setup (image_at g.S.Start) c.in-Ok.ensures.found
 
 -- ---- why it is not opened
 
@@ -19,6 +19,6 @@ returns-in_err-register-clause-refused g c =
     let p = err_from_is_err_and c.from_residual.result c.from_residual.ensures.1 in
     rw (p.1, p.2) (refused_names over_files (image_at g.S.Start) ⊥ _ c.in_err-register.ensures.refused)
 
-pub returns-in-Err-2-clause-refused : goal.returns-in-Err-2-clause-refused
-returns-in-Err-2-clause-refused g c =
-    inr (unloaded_over over_files (image_at g.S.Start) c.in-Ok.looked.conn c.read_setup.new.looked.conn (register_content c.in_ok-register.register) c.read_setup.result c.in-Err-2.fault c.in-Ok.ensures.found c.in_ok-register.ensures.sound c.read_setup.ensures.reads c.in-Err-2.ensures.refused)
+pub returns-in-Err-read_setup-clause-refused : goal.returns-in-Err-read_setup-clause-refused
+returns-in-Err-read_setup-clause-refused g c =
+    inr (unloaded_over over_files (image_at g.S.Start) c.in-Ok.looked.conn c.read_setup.new.looked.conn (register_content c.in_ok-register.register) c.read_setup.result c.in-Err-read_setup.fault c.in-Ok.ensures.found c.in_ok-register.ensures.sound c.read_setup.ensures.reads c.in-Err-read_setup.ensures.refused)

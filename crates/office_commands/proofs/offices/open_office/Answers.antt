@@ -26,7 +26,7 @@ returns-in_err-looked-clause-refused g c =
 
 pub returns-in_err-register-clause-refused : goal.returns-in_err-register-clause-refused
 returns-in_err-register-clause-refused g c =
-    let p = err_from_is_err_and c.from_residual-2.result c.from_residual-2.ensures.1 in
+    let p = err_from_is_err_and c.from_residual-in_err-register.result c.from_residual-in_err-register.ensures.1 in
     rw (p.1, p.2) (refused_names over_files (image_at g.S.Start) IsMarked _ c.in_err-register.ensures.refused)
 
 pub returns-in-Err-clause-refused : goal.returns-in-Err-clause-refused

@@ -16,7 +16,7 @@ returns-in_ok-lines-in-Some-clause-ok g c image opens =
           string_bytes c.in_ok-text.field-0 c.in-Some.text _ _ c.in-Some.is c.in_ok-lines-in-Some.ensures c.as_str.ensures.value c.print.ensures;
     }
 
-pub returns-in_err-find-clause-fault : goal.returns-in_err-find-clause-fault
-returns-in_err-find-clause-fault g c =
+pub returns-in_err-text-clause-fault : goal.returns-in_err-text-clause-fault
+returns-in_err-text-clause-fault g c =
     let p = err_from_is_err_and c.from_residual.result c.from_residual.ensures.1 in
-    λ sound. rw (p.1, p.2) (c.in_err-find.ensures.fault sound)
+    λ sound. rw (p.1, p.2) (c.in_err-text.ensures.fault sound)

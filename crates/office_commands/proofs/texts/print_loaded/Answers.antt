@@ -55,4 +55,4 @@ returns g c found image shows loaded =
     }
 
 pub print_journal-requires : goal.print_journal-requires
-print_journal-requires g c = c.args.loaded.sound
+print_journal-requires g c = record { sound = c.args.loaded.sound }
