@@ -50,6 +50,11 @@ impl From<io::Error> for CopyFault {
     }
 }
 
+/// That the store is not opened.
+fn of_opening(fault: OpenFault) -> CopyFault {
+    CopyFault::Open(fault)
+}
+
 /// That the store's register can't be read.
 fn of_register(fault: TableFault) -> CopyFault {
     CopyFault::Open(OpenFault::Register(fault))
@@ -97,12 +102,15 @@ fn whole_store(rt: &HostRuntime, store: &str) -> Result<Files<FileFrom<Unknown>>
 fn left_files<D: Disk + Drop, A: Archives + Drop>(
     opened: Result<ArchivedDesk<FileStore<D>, A>, OpenFault>,
 ) -> Result<Files<D>, CopyFault> {
-    match opened {
-        Ok(office) => match leave_office(office) {
-            Ok(files) => Ok(files),
-            Err(_) => Err(CopyFault::Log),
-        },
-        Err(fault) => Err(CopyFault::Open(fault)),
+    let office = opened.map_err(of_opening)?;
+    whole_files(leave_office(office))
+}
+
+/// The files that were left whole.
+fn whole_files<D: Disk + Drop>(left: Left<D>) -> Result<Files<D>, CopyFault> {
+    match left {
+        Ok(files) => Ok(files),
+        Err(_) => Err(CopyFault::Log),
     }
 }
 

@@ -1,17 +1,17 @@
 -- What a stranger asks for.
-use Rattle.std.proofs.Common.{◌≡◌, ◌⊎◌, ℕ, List, [], Bool, true, false, ◌&&◌, cond, map, codes, Option, None, Some, Result, Ok, Err, inl, inr, refl, sym, ap, subst, ◌∙◌}
+use Rattle.std.proofs.Common.{◌≡◌, ℕ, List, [], Bool, true, false, ◌&&◌, cond, map, codes, Option, None, Some, Result, Ok, Err, inl, inr, refl, sym, ap, subst, ◌∙◌}
 use Rattle.std.specs.Str.{bytes_eq}
 use Rattle.httparse.specs.Grammar.{RequestHead}
 use Rattle.httparse.specs.Spans.{name_and_value}
 use Rattle.office_http.specs.Fields.{values_of}
-use Rattle.office_http.specs.Requests.{AsksAt, AsksWith, refused_in, StrangersAreRefused}
+use Rattle.office_http.specs.Requests.{AsksAt, AsksWith, LacksMemory, refused_in, StrangersAreRefused}
 use Rattle.office_http.specs.Routes.{endpoint_of}
 use Rattle.office_http.specs.Sites.{fetch_passes, host_passes, leads_to, origin_passes, site_passes, stranger, TellingNothingPasses, unless_stranger}
 use Rattle.office_http.specs.Targets.{view_of}
 use Rattle.office_http.specs.declared.routes.Endpoint.{Endpoint}
 use Rattle.office_http.specs.declared.targets.View.{View}
 use Rattle.office_http.specs.declared.response.Refusal.{Refusal}
-use Rattle.office_http.specs.declared.response.Refusal.TheVariants.{OtherHost, OtherSite, NotNow}
+use Rattle.office_http.specs.declared.response.Refusal.TheVariants.{OtherHost, OtherSite}
 use Rattle.office_http.specs.declared.requests.Request.{Request}
 use Rattle.office_http.specs.declared.requests.Request.TheVariants.{Refused}
 use Rattle.office_http.proofs.OneRequest.{heads_are_one}
@@ -32,13 +32,13 @@ module _ (name : Option (List ℕ)) (head : RequestHead) (refusal : Refusal) (is
   leads_nowhere : leads_to name head ≡ Err refusal
   leads_nowhere = ap (λ (o : Option Refusal). unless_stranger o (endpoint_of head.method head.target)) is
 
-  with_refused : (rest : List ℕ) (request : Request) → AsksWith name head rest request → (request ≡ Refused NotNow) ⊎ (request ≡ Refused refusal)
-  with_refused rest request (inl not_now) = inl not_now
+  with_refused : (rest : List ℕ) (request : Request) → AsksWith name head rest request → request ≡ Refused refusal
+  with_refused rest request (inl lacks) = absurd (subst (λ (to : Result Endpoint Refusal). LacksMemory to head rest request) leads_nowhere lacks)
   with_refused rest request (inr asks) =
       let refused : request ≡ refused_in (view_of head.target) refusal =
       subst (λ (to : Result Endpoint Refusal). AsksAt to head rest request) leads_nowhere asks in
-      inr (refused ∙ in_any (view_of head.target) (host_passes name (values_of (codes "Host") (map name_and_value head.fields)))
-      (site_passes (map name_and_value head.fields)) (bytes_eq head.method (codes "POST")) refusal is)
+      refused ∙ in_any (view_of head.target) (host_passes name (values_of (codes "Host") (map name_and_value head.fields)))
+      (site_passes (map name_and_value head.fields)) (bytes_eq head.method (codes "POST")) refusal is
 
 pub strangers_are_refused : StrangersAreRefused
 strangers_are_refused name stream head rest refusal request here is (inl (none, refused)) = absurd (none head rest here)

@@ -1,3 +1,7 @@
+ghost use Rattle.std.specs.Prelude.{◌≡◌, ◌-◌, ◌*◌};
+ghost use Rattle.std.specs.Duration.{as_nanos};
+ghost use Rattle.std.specs.Time.{instant_nanos};
+
 use std::time::{Duration, Instant};
 
 /// So many seconds.
@@ -13,12 +17,17 @@ pub(crate) struct Deadline {
 
 impl Deadline {
     /// So long from then.
-    pub(crate) fn after(begun: Instant, limit: Seconds) -> Deadline {
+    pub(crate) fn after(begun: Instant, limit: Seconds) -> Deadline
+        ensures begun { result.begun ≡ begun }
+        ensures limit { result.limit ≡ limit }
+    {
         Deadline { begun, limit }
     }
 
     /// How long it is from now till then, zero if it is over.
-    pub(crate) fn left(&self, now: Instant) -> Duration {
+    pub(crate) fn left(&self, now: Instant) -> Duration
+        ensures { as_nanos result ≡ self.now.limit.0 * 1_000_000_000 - (instant_nanos now - instant_nanos self.now.begun) }
+    {
         Duration::from_secs(self.limit.0).saturating_sub(now.duration_since(self.begun))
     }
 }

@@ -44,9 +44,14 @@ pub struct Gate {
 }
 
 impl Gate {
+    ghost use Rattle.std.specs.Prelude.{IfOk};
+    ghost use Rattle.office_http.specs.Gates.{IsFresh};
+
     /// Listens at an address, with all that it takes to wait there. None is accepted yet. Fails if the address can't be had,
     /// or the system or memory refuses what it takes.
-    pub fn bind<R: Net + Clock>(alloc: Global, rt: &R, address: SocketAddr) -> Result<Gate> {
+    pub fn bind<R: Net + Clock>(alloc: Global, rt: &R, address: SocketAddr) -> Result<Gate>
+        ensures { IfOk result IsFresh }
+    {
         let listener = TcpListener::from(mio::net::TcpListener::bind(rt, address)?);
         let poll = Poll::new(rt)?;
         let fd = listener.as_raw_fd();

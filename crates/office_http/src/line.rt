@@ -326,8 +326,12 @@ pub(crate) struct Ready {
 }
 
 impl Ready {
+    ghost use Rattle.std.specs.Prelude.{◌≡◌};
+
     /// What was asked, and what follows it.
-    pub(crate) fn inlet(&self) -> Inlet<'_> {
+    pub(crate) fn inlet(&self) -> Inlet<'_>
+        ensures { result.left.now ≡ self.now.asked.items }
+    {
         Inlet::new(self.asked.as_slice(), self.tail)
     }
 
@@ -347,7 +351,9 @@ impl Ready {
     }
 
     /// It was served: what is left of the response has to be taken.
-    pub(crate) fn served(self, rest: Vec<u8>, now: Instant) -> Telling {
+    pub(crate) fn served(self, rest: Vec<u8>, now: Instant) -> Telling
+        ensures { result.told ≡ rest }
+    {
         Telling::new(self.peer, rest, now)
     }
 }

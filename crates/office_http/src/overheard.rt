@@ -16,7 +16,9 @@ pub(crate) struct Overheard<T> {
 
 impl<T> Overheard<T> {
     /// Nothing has gone through.
-    pub(crate) fn new(inner: T) -> Overheard<T> {
+    pub(crate) fn new(inner: T) -> Overheard<T>
+        ensures { result.inner ≡ inner }
+    {
         Overheard {
             inner,
             front: ArrayVec::new(),

@@ -1,5 +1,6 @@
 ghost use Rattle.std.specs.Option.{ok_or, option_and_then};
-ghost use Rattle.std.specs.Prelude.{◌≡◌, ◌⊎◌, ◌≤◌, ◌+◌, ◌-◌, ◌++◌, length, take, drop, map, IfOk, IfSome, IsTrue, ◌↔◌, Ok};
+ghost use Rattle.std.specs.Prelude.{◌≡◌, ◌⊎◌, ◌≤◌, ◌+◌, ◌-◌, ◌++◌, length, take, drop, map, IfOk, IfSome, IsTrue, ◌↔◌, Ok, vec_len};
+ghost use Rattle.std.specs.Vec.{vec_capacity};
 ghost use Rattle.edi_syntax.specs.Interchange.{most_bytes};
 ghost use Rattle.httparse.specs.Grammar.{RequestHead};
 ghost use Rattle.httparse.specs.Spans.{header_bytes, IsRequestAt, IsRequestWithin, IsSectionWithin};
@@ -7,7 +8,7 @@ ghost use Rattle.office_http.specs.Deciding.{body_size, EndsWhenDecided, wanted_
 ghost use Rattle.office_http.specs.Fields.{body_length};
 ghost use Rattle.office_http.specs.Heads.{most_request_reads};
 ghost use Rattle.office_http.specs.Ports.{ReadsUpTo};
-ghost use Rattle.office_http.specs.Requests.{Asks, AsksWith, asked_in, Gets, Names, nothing_in, Posts, PostsAccount, PostsBy, PostsExplain, refused_in, sought, texts_asked};
+ghost use Rattle.office_http.specs.Requests.{Asks, AsksWith, asked_in, Gets, IsUnheld, Names, nothing_in, Posts, PostsAccount, PostsBy, PostsExplain, refused_in, sought, texts_asked};
 ghost use Rattle.office_http.specs.Routes.{key_in, partner_key_in};
 ghost use Rattle.office_http.specs.declared.targets.View.TheVariants.{Find};
 ghost use Rattle.office_http.specs.declared.requests.Request.TheVariants.{Refused};
@@ -140,7 +141,9 @@ fn read_post<R: Read>(
     found: FoundHead,
 ) -> Result<Request>
     requires { IsSectionWithin read.now headers.now found.spans.len found.spans.headers }
-    ensures posts { IfOk result (λ request. IfSome (R.remaining reader.old.inner) (λ left. (request ≡ Refused NotNow)
+    ensures posts { IfOk result (λ request. IfSome (R.remaining reader.old.inner) (λ left.
+        IsUnheld (body_length (map (header_bytes read.now) (take found.spans.headers headers.now)))
+        (drop found.spans.len read.now ++ left) request
         ⊎ Posts (body_length (map (header_bytes read.now) (take found.spans.headers headers.now)))
         (drop found.spans.len read.now ++ left) request)) }
     ensures reads { ReadsUpTo most_bytes reader.old reader.new result }
@@ -195,7 +198,9 @@ fn read_explained<R: Read>(
     found: FoundHead,
 ) -> Result<Request>
     requires { IsSectionWithin read.now headers.now found.spans.len found.spans.headers }
-    ensures posts { IfOk result (λ request. IfSome (R.remaining reader.old.inner) (λ left. (request ≡ Refused NotNow)
+    ensures posts { IfOk result (λ request. IfSome (R.remaining reader.old.inner) (λ left.
+        IsUnheld (body_length (map (header_bytes read.now) (take found.spans.headers headers.now)))
+        (drop found.spans.len read.now ++ left) request
         ⊎ PostsExplain (body_length (map (header_bytes read.now) (take found.spans.headers headers.now)))
         (drop found.spans.len read.now ++ left) request)) }
     ensures reads { ReadsUpTo most_bytes reader.old reader.new result }
@@ -217,7 +222,9 @@ fn read_account<R: Read>(
     path: &str,
 ) -> Result<Request>
     requires { IsSectionWithin read.now headers.now found.spans.len found.spans.headers }
-    ensures posts { IfOk result (λ request. IfSome (R.remaining reader.old.inner) (λ left. (request ≡ Refused NotNow)
+    ensures posts { IfOk result (λ request. IfSome (R.remaining reader.old.inner) (λ left.
+        IsUnheld (body_length (map (header_bytes read.now) (take found.spans.headers headers.now)))
+        (drop found.spans.len read.now ++ left) request
         ⊎ PostsAccount (body_length (map (header_bytes read.now) (take found.spans.headers headers.now)))
         (drop found.spans.len read.now ++ left) (option_and_then account_in (partner_key_in path.now)) request)) }
     ensures reads { ReadsUpTo most_bytes reader.old reader.new result }
@@ -309,12 +316,13 @@ pub(crate) fn read_delivery<R: Read>(
     size: usize,
 ) -> Result<Request>
     ensures posts { IfOk result (λ request. IfSome (R.remaining reader.old.inner) (λ left.
-        (request ≡ Refused NotNow) ⊎ Posts (Ok size) (front.now ++ left) request)) }
+        IsUnheld (Ok size) (front.now ++ left) request ⊎ Posts (Ok size) (front.now ++ left) request)) }
     ensures reads { ReadsUpTo (size - length front.now) reader.old reader.new result }
 {
-    let Ok(mut body) = Vec::from_slice(alloc, &front[..min(front.len(), size)]) else {
-        return Ok(Request::Refused(Refusal::NotNow));
+    let Ok(mut body) = Vec::with_capacity(alloc, size) else {
+        return pass_by(reader, front, size);
     };
+    append(&mut body, &front[..min(front.len(), size)]);
     let mut buffer = [0; ROOM];
     'reads: while body.len() < size {
         let count = reader.read(&mut buffer)?;
@@ -322,11 +330,33 @@ pub(crate) fn read_delivery<R: Read>(
             return Ok(Request::Refused(Refusal::BadRequest));
         }
         let taken = min(count, size - body.len());
-        let Ok(()) = body.extend_from_slice(&buffer[..taken]) else {
-            return Ok(Request::Refused(Refusal::NotNow));
-        };
+        append(&mut body, &buffer[..taken]);
     }
     Ok(Request::Delivery(body))
+}
+
+/// Appends bytes for which there is room.
+fn append(body: &mut Vec<u8>, bytes: &[u8])
+    requires { vec_len body.old + length bytes.now ≤ vec_capacity body.old }
+    ensures items { body.new.items ≡ body.old.items ++ bytes.now }
+    ensures room { vec_capacity body.old ≤ vec_capacity body.new }
+{
+    let Ok(()) = body.extend_from_slice(bytes) else {
+        unreachable!()
+    };
+}
+
+/// Reads past a body of that size, for which there is no memory: it may come again, if it is whole.
+fn pass_by<R: Read>(reader: &mut Port<R>, front: &[u8], size: usize) -> Result<Request>
+    ensures posts { IfOk result (λ request. IfSome (R.remaining reader.old.inner) (λ left.
+        IsUnheld (Ok size) (front.now ++ left) request ⊎ Posts (Ok size) (front.now ++ left) request)) }
+    ensures reads { ReadsUpTo (size - length front.now) reader.old reader.new result }
+{
+    if skip_body(reader, front, size)? {
+        Ok(Request::Refused(Refusal::NotNow))
+    } else {
+        Ok(Request::Refused(Refusal::BadRequest))
+    }
 }
 
 /// Reads past a body of that size, whose front was read already; true if it is whole. It takes no memory.

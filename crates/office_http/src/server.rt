@@ -1,4 +1,7 @@
-ghost use Rattle.office_http.specs.Served.{AtMost, calls_of};
+ghost use Rattle.std.specs.Prelude.{◌≡◌, ◌⊎◌};
+ghost use Rattle.office_http.specs.Served.{AtMost, Serves, calls_of};
+ghost use Rattle.office_http.specs.Steps.{NotesAtMost};
+ghost use Rattle.office_http.specs.declared.serve.Seen.{Seen};
 
 use crate::gate::Gate;
 use crate::line::Ready;
@@ -30,6 +33,9 @@ pub fn serve_on<C: Clock, D: Report + AddAccount + OfTerminal, H: Watch>(
 )
     // At most the calls of so many requests are made of the desk.
     ensures steps { AtMost D.leads D.enrols D.looks (calls_of count) desk.old desk.new }
+
+    // What watches is told of no more.
+    ensures noted { NotesAtMost H.notes count watch.old watch.new }
 {
     gate.expect(count);
     'connections: for _ in 0..count {
@@ -49,6 +55,7 @@ fn serve_next<C: Clock, D: Report + AddAccount + OfTerminal, H: Watch>(
     watch: &mut H,
 )
     ensures steps { AtMost D.leads D.enrols D.looks (calls_of 1) desk.old desk.new }
+    ensures noted { NotesAtMost H.notes 1 watch.old watch.new }
 {
     if let Some(ready) = gate.next(clock, site) {
         let lines = gate.lines();
@@ -59,7 +66,7 @@ fn serve_next<C: Clock, D: Report + AddAccount + OfTerminal, H: Watch>(
 }
 
 /// Answers the one request of a connection, which can't be served again: what is left of it is its response. None: nothing
-/// is left.
+/// is left. What was asked on it is done, or nothing is, if it was given up.
 fn serve_line<C: Clock, D: Report + AddAccount + OfTerminal, H: Watch>(
     alloc: Global,
     clock: &C,
@@ -71,6 +78,9 @@ fn serve_line<C: Clock, D: Report + AddAccount + OfTerminal, H: Watch>(
     watch: &mut H,
 ) -> Option<Telling>
     ensures steps { AtMost D.leads D.enrols D.looks (calls_of 1) desk.old desk.new }
+    ensures noted { (seen : Seen) × H.notes watch.old seen watch.new }
+    ensures serves { (desk.new ≡ desk.old)
+        ⊎ Serves D.leads D.enrols D.looks D.terminal_name site.now ahead ready.asked.items desk.old desk.new (λ _. Unit {0}) }
 {
     let mut asked = Overheard::new(ready.inlet());
     let mut told = Overheard::new(Outlet::new(alloc, &ready, lines));

@@ -4,6 +4,8 @@ ghost use Rattle.std.specs.Str.{str_eq_ignore_ascii_case};
 ghost use Rattle.httparse.specs.Spans.{header_bytes, IsHeaderWithin};
 ghost use Rattle.office_explain.specs.Blocks.{IsExplanation};
 ghost use Rattle.office_explain.specs.declared.partners.Partners.{Partners};
+ghost use Rattle.office_pages.specs.Pages.{notice_bytes};
+ghost use Rattle.office_pages.specs.declared.notices.Notice.TheVariants.{NotHere, Form};
 ghost use Rattle.office_http.specs.Fields.{values_of};
 ghost use Rattle.office_http.specs.Routes.{endpoint_of};
 ghost use Rattle.office_http.specs.Sites.{after, are_three_octets, are_two_octets, before, fetch_passes, host_passes, is_end, is_loopback, is_loopback_6, is_named, is_octet, is_own, is_own_host, is_port, is_site_of, is_site_of_one, origin_passes, site_passes, stranger, unless_stranger};
@@ -14,29 +16,37 @@ use crate::routes::{Endpoint, endpoint_of, router};
 use httparse::spans::HeaderSpan;
 use matchit::Router;
 use office_explain::{Explanation, Partners, explain_file};
+use office_pages::{Notice, notice_page};
 use office_reports::number_of;
 use std::alloc::{AllocError, Global};
 use std::marker::Model;
 
 /// What a server is for all requests: the name that it is served under beside this machine's own, if it has one, where its
-/// paths lead, and what explains a text. It is made once.
+/// paths lead, what explains a text, and the pages that are the same for all. It is made once.
 #[derive(Drop)]
 pub struct Site {
     name: Option<String>,
     router: Router<Endpoint>,
     partners: Partners,
+    /// The page that there is nothing under an address.
+    not_here: String,
+    /// The page that what was typed is no container number.
+    no_number: String,
 }
 
 impl Model for Site {
     ghost use Rattle.std.specs.Prelude.{◌≡◌, ℕ, List, Option, option_map, string_bytes};
     ghost use Rattle.std.specs.Prelude.{false};
     ghost use Rattle.office_http.specs.Routes.{endpoints};
+    ghost use Rattle.office_pages.specs.Pages.{notice_bytes};
+    ghost use Rattle.office_pages.specs.declared.notices.Notice.TheVariants.{NotHere, Form};
 
     ghost Value = { Option (List ℕ) };
 
     ghost view = { λ site. option_map string_bytes site.name };
 
-    ghost invariant = { λ site. (site.router ≡ endpoints) × (site.partners.are_known ≡ false) };
+    ghost invariant = { λ site. (site.router ≡ endpoints) × (site.partners.are_known ≡ false)
+        × (string_bytes site.not_here ≡ notice_bytes NotHere) × (string_bytes site.no_number ≡ notice_bytes Form) };
 }
 
 impl Site {
@@ -48,11 +58,29 @@ impl Site {
         let (Ok(router), Ok(partners)) = (router(alloc), Partners::unknown(alloc)) else {
             return Err(AllocError);
         };
+        let not_here = notice_page(alloc, &Notice::NotHere)?;
+        let no_number = notice_page(alloc, &Notice::Form)?;
         Ok(Site {
             name,
             router,
             partners,
+            not_here,
+            no_number,
         })
+    }
+
+    /// The page that there is nothing under an address.
+    pub(crate) fn not_here(&self) -> &str
+        ensures { result.now ≡ notice_bytes NotHere }
+    {
+        self.not_here.as_str()
+    }
+
+    /// The page that what was typed is no container number.
+    pub(crate) fn no_number(&self) -> &str
+        ensures { result.now ≡ notice_bytes Form }
+    {
+        self.no_number.as_str()
     }
 
     /// What is wrong with a text, where nothing is known of partners. An error is that memory was refused.

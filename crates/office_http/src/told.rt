@@ -27,8 +27,13 @@ pub(crate) struct Telling {
 }
 
 impl Telling {
+    ghost use Rattle.std.specs.Prelude.{◌≡◌};
+
     /// That is left of a response.
-    pub(crate) fn new(mut peer: Peer, rest: Vec<u8>, now: Instant) -> Telling {
+    pub(crate) fn new(mut peer: Peer, rest: Vec<u8>, now: Instant) -> Telling
+        ensures rest { result.told ≡ rest }
+        ensures taken { result.taken ≡ 0 }
+    {
         peer.moved = now;
         peer.is_awake = true;
         Telling {

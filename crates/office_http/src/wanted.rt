@@ -25,12 +25,20 @@ pub(crate) struct Inlet<'a> {
 }
 
 impl<'a> Inlet<'a> {
-    pub(crate) fn new(left: &'a [u8], tail: Tail) -> Inlet<'a> {
+    ghost use Rattle.std.specs.Prelude.{◌≡◌};
+
+    pub(crate) fn new(left: &'a [u8], tail: Tail) -> Inlet<'a>
+        ensures { result.left.now ≡ left.now }
+    {
         Inlet { left, tail }
     }
 }
 
 impl Read for Inlet<'_> {
+    ghost use Rattle.std.specs.Prelude.{Some};
+
+    ghost remaining = { λ inlet. Some inlet.left.now };
+
     fn read(&mut self, buf: &mut [u8]) -> Result<usize> {
         if self.left.is_empty() {
             return match self.tail {

@@ -1,5 +1,5 @@
-use Rattle.std.proofs.Common.{ℕ, List, None, OnOk, inl, subst}
-use Rattle.std.specs.Io.KnownBytes.{Appends}
+use Rattle.std.proofs.Common.{ℕ, List, None, inl, subst}
+use Rattle.office_http.specs.Ports.{Sends}
 use Rattle.office_http.specs.Responses.{response_bytes}
 use Rattle.office_http.specs.declared.head.ContentType.TheVariants.{Text}
 use Rattle.office_http.proofs.serve.answer_explain.Goals as goal
@@ -13,6 +13,6 @@ returns-in-Ok-clause-does g c =
       c.in-Ok.explanation,
       told.1,
       told.2,
-      subst (λ (t : List ℕ). OnOk c.write_text.result (Appends (g.W.Write.contents c.args.writer.now.inner) (g.W.Write.contents c.write_text.new.port.inner) (response_bytes 200 Text None t)))
-          c.as_str.ensures.value c.write_text.ensures.appends,
+      subst (λ (t : List ℕ). Sends c.write_text.result (g.W.Write.contents c.args.writer.now.inner) (g.W.Write.contents c.write_text.new.port.inner) (response_bytes 200 Text None t))
+          c.as_str.ensures.value c.write_text.ensures.sends,
     )
