@@ -6,7 +6,7 @@ use Rattle.office_closing.specs.Register.{register_content}
 use Rattle.office_closing.specs.declared.register.Register.{Register}
 use Rattle.office_commands.specs.Beside.{OpensWith}
 use Rattle.office_commands.specs.Refusing.{IsMarked}
-use Rattle.office_commands.proofs.RefusingLemmas.{refused_names, refused_opening, unloaded_over}
+use Rattle.office_commands.proofs.RefusingLemmas.{older_over, refused_names, refused_opening, unloaded_over}
 use Rattle.office_commands.proofs.offices.open_office.Goals as goal
 
 -- It shows what the files held, and was loaded by the register that was read.
@@ -32,3 +32,7 @@ returns-in_err-register-clause-refused g c =
 pub returns-in-Err-clause-refused : goal.returns-in-Err-clause-refused
 returns-in-Err-clause-refused g c =
     inr (unloaded_over over_files (image_at g.S.Start) c.in_ok-looked.looked.inner.conn c.load_office.new.looked.inner.conn (register_content c.in_ok-register.register) c.load_office.result c.in-Err.fault c.in_ok-looked.ensures.found c.in_ok-register.ensures.sound c.load_office.ensures.reads c.in-Err.ensures.refused)
+
+-- what was loaded awaits what had been taken
+pub returns-then-is_older-clause-refused : goal.returns-then-is_older-clause-refused
+returns-then-is_older-clause-refused g c = ?

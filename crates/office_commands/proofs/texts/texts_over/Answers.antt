@@ -3,7 +3,7 @@ use Rattle.std.proofs.lemmas.Result.{err_from_is_err_and}
 use Rattle.sqlite.specs.Files.{over_files}
 use Rattle.sqlite.specs.WalFiles.{image_at}
 use Rattle.office_closing.specs.Register.{register_content}
-use Rattle.office_commands.proofs.RefusingLemmas.{refused_names, refused_opening, unloaded_over}
+use Rattle.office_commands.proofs.RefusingLemmas.{older_over, refused_names, refused_opening, unloaded_over}
 use Rattle.office_commands.proofs.texts.texts_over.Goals as goal
 
 -- It shows what the files held.
