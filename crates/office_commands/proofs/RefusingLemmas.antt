@@ -11,8 +11,8 @@ use Rattle.office_rows.specs.Shown.{AreNexts}
 use Rattle.office_rows.specs.Stored.{HasRows}
 use Rattle.office_rows.specs.Tables.{office_schema}
 use Rattle.office_tables.specs.DeliveryReading.{OnlyReads}
-use Rattle.office_tables.specs.Reading.{Reads}
 use Rattle.office_tables.specs.declared.table_fault.TableFault.{TableFault}
+use Rattle.office_tables.proofs.WriteLemmas.{only_on}
 use Rattle.office_closing.specs.Register.{RegisterContent, closed_by, is_newer_than}
 use Rattle.office_closing.specs.Sound.{is_sound}
 use Rattle.office_desk.specs.Offices.{FailsToOpen}
@@ -59,7 +59,7 @@ pub unloaded : (db : Database) (own closed : ClosedContent) (fault : TableFault)
 unloaded db own closed fault same fails = inr (subst (λ (k : ClosedContent). FailsToOpen k db fault) same fails)
 
 -- its rows are of a day before its register, by their next numbers
-pub older_over : {S : Type 0} (g : Ghosts S) (image : Image) (found last : Held S) (names : RegisterContent) (nexts : List ℕ) → Shows g image found → IsTrue (is_sound names) → Reads {T = Unit {0}} (state g found) (state g last) (Ok tt)
+pub older_over : {S X : Type 0} (g : Ghosts S) (image : Image) (found last : Held S) (names : RegisterContent) (nexts : List ℕ) {read : X} → Shows g image found → IsTrue (is_sound names) → OnlyReads (state g found) (state g last) (Ok read)
     → (HasCleanDisk (state g last) → (rows : Rows) → HasRows rows (state g found).committed → AreNexts rows nexts) → is_newer_than nexts names ≡ true → IsOlderOver g image
 older_over g image found last names nexts shows sound reads are newer = record {
   found = found;
@@ -67,7 +67,7 @@ older_over g image found last names nexts shows sound reads are newer = record {
   names = names;
   shows = shows;
   sound = sound;
-  reads = reads;
+  reads = only_on (Ok tt) reads;
   older = λ clean rows has. (nexts, are clean rows has, newer);
 }
 

@@ -10,7 +10,6 @@ use Rattle.office_rows.specs.Stored.{HasRows}
 use Rattle.office_rows.specs.Tables.{office_schema}
 use Rattle.office_tables.specs.DeliveryReading.{OnlyReads}
 use Rattle.office_tables.specs.Faults.{IsOfStore, IsOfStoreOr}
-use Rattle.office_tables.specs.Reading.{Reads}
 use Rattle.office_tables.specs.declared.table_fault.TableFault.{TableFault}
 use Rattle.office_tables.specs.declared.table_fault.TableFault.TheVariants.{Memory}
 use Rattle.office_loading.specs.Closed.{ClosedContent}
@@ -66,7 +65,7 @@ pub record IsOlderOver {S : Type 0} (g : Ghosts S) (image : Image) : Type 0 wher
   pub names : RegisterContent
   pub shows : Shows g image found
   pub sound : IsTrue (is_sound names)
-  pub reads : Reads {T = Unit {0}} (state g found) (state g last) (Ok tt)
+  pub reads : OnlyReads {T = Unit {0}} (state g found) (state g last) (Ok tt)
   pub older : HasCleanDisk (state g last) → (rows : Rows) → HasRows rows (state g found).committed → AreOlder names rows
 
 -- It is an archive, if that counts; its file can't be opened, or its tables can't be loaded; its register can't be read; or it is
