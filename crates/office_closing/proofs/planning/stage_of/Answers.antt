@@ -1,5 +1,6 @@
 use Rattle.std.proofs.Common.{◌≡◌, ℕ, Bool, true, List, None, Some, map, refl, sym, ap, subst, ◌∙◌}
 use Rattle.std.specs.Prelude.{◌↔◌, string_bytes}
+use Rattle.std.proofs.lemmas.Bool.{false≢true}
 use Rattle.office_closing.specs.declared.register.Segment.{Segment}
 use Rattle.office_closing.specs.Changes.{closed_with, unmarked}
 use Rattle.office_closing.specs.Lists.{SettledListContent, list_content}
@@ -106,10 +107,10 @@ returns-clause-err c =
           let known = taken_come own copy names (archive_in names.archive copy).place taken c.requires.unclosed (of_taken names) lists come it.has_come in
           let is = is_raised names archive ∙ ap (λ t. raised_by names.archive lists t copy) known in
           let may : c.if-branch.may ≡ true = elim c.if-branch.branch [
-            | then-branch v ↦ (let same = ap sound.is_file_name store in cc (same, it.may.mark, v.may-is, v.is_file_name-may.ensures))
-            | else-branch v ↦ (let same = ap sound.is_sound is in cc (same, it.may.raised, v.if-branch.false, c.in_ok-may.ensures))
+            | then-branch v ↦ v.may-is ∙ v.is_file_name-may.ensures ∙ ap sound.is_file_name (sym store) ∙ it.may.mark
+            | else-branch v ↦ absurd (false≢true (sym v.if-branch.false ∙ c.in_ok-may.ensures ∙ ap sound.is_sound is ∙ it.may.raised))
           ] in
-          cc (may, w.if-may.false))
+          false≢true (sym w.if-may.false ∙ may))
       | in_default w ↦ rw w.result-is (λ names done store archive for come comes.
           let it = comes_with own copy names c.args.archive.now.place (archive_in names.archive copy).place done lists c.requires.unclosed for place come comes in
           let marked = subst (λ s. IsMarkedAs copy.register.closed_for s c.mark_of-mark.result) (sym store) c.mark_of-mark.ensures in
