@@ -107,7 +107,7 @@ returns-clause-err c =
           let known = taken_come own copy names (archive_in names.archive copy).place taken c.requires.unclosed (of_taken names) lists come it.has_come in
           let is = is_raised names archive ∙ ap (λ t. raised_by names.archive lists t copy) known in
           let may : c.if-branch.may ≡ true = elim c.if-branch.branch [
-            | then-branch v ↦ v.may-is ∙ v.is_file_name-may.ensures ∙ ap sound.is_file_name (sym store) ∙ it.may.mark
+            | then-branch v ↦ v.may-is ∙ v.is_file_name-may.ensures ∙ ap sound.is_file_name (v.as_bytes.ensures.value ∙ sym store) ∙ it.may.mark
             | else-branch v ↦ absurd (false≢true (sym v.if-branch.false ∙ c.in_ok-may.ensures ∙ ap sound.is_sound is ∙ it.may.raised))
           ] in
           false≢true (sym w.if-may.false ∙ may))
