@@ -1,4 +1,5 @@
 pub mod SurveyLemmas
+pub mod DetailLemmas
 pub mod SameSegments
 pub mod WritableContrl
 pub mod ContrlFaults

@@ -237,6 +237,33 @@ pub first_step : (found next : Option Content) (sought : Content → Bool) (is_s
     first_in found sought segments ≡ first_in next sought rest
 first_step found next sought is_sought segment segments rest e b s = rw (s, e, b) (one_more found sought segment rest)
 
+-- ---- what is kept of the first of what is sought
+
+-- what was kept, or else what is kept of the first in the segments
+abbrev pub kept_in : {T : Type 0} → Option T → (Content → T) → (Content → Bool) → List Content → Option T
+kept_in kept of sought segments = option_or kept (option_map of (find sought segments))
+
+one_more_kept : {T : Type 0} (kept : Option T) (of : Content → T) (sought : Content → Bool) (segment : Content) (rest : List Content) →
+    kept_in kept of sought (segment ∷ rest)
+    ≡ kept_in (option_or kept (cond (sought segment) (Some (of segment)) None)) of sought rest
+one_more_kept (Some other) of sought segment rest = refl
+one_more_kept None of sought segment rest = by_test (sought segment)
+  where
+    by_test : (a : Bool) → option_map of (cond a (Some segment) (find sought rest)) ≡ kept_in (cond a (Some (of segment)) None) of sought rest
+    by_test true = refl
+    by_test false = refl
+
+pub kept_step : {T : Type 0} (kept next : Option T) (of : Content → T) (sought : Content → Bool) (segment : Content) (segments rest : List Content) →
+    next ≡ option_or kept (cond (sought segment) (Some (of segment)) None) → segments ≡ segment ∷ rest →
+    kept_in kept of sought segments ≡ kept_in next of sought rest
+kept_step kept next of sought segment segments rest e s = rw (s, e) (one_more_kept kept of sought segment rest)
+
+-- what is read of what was kept is read of the segment
+pub kept_as : {T U V : Type 0} (of : T → U) (read : U → V) (otherwise : V) (kept : Option U) (found : Option T) → kept ≡ option_map of found →
+    option_map_or read kept otherwise ≡ option_map_or (λ (x : T). read (of x)) found otherwise
+kept_as of read otherwise kept None e = rw e refl
+kept_as of read otherwise kept (Some x) e = rw e refl
+
 -- ---- the first in a heading
 
 -- the same, as long as the heading goes on

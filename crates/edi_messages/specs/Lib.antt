@@ -9,6 +9,7 @@ pub mod Orders
 pub mod Message
 pub mod LineFaults
 pub mod Laws
+pub mod Kept
 pub mod Spans
 pub mod Owned
 pub mod Contrl

@@ -6,6 +6,7 @@ mod call;
 pub mod code;
 pub mod codes;
 pub mod contrl;
+mod details;
 mod faults;
 mod group_reading;
 pub mod laws;

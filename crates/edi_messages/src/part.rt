@@ -5,7 +5,7 @@ ghost use Rattle.std.specs.Str.{bytes_eq};
 ghost use Rattle.edi_messages.specs.Faults.{names_call, call_in, purpose_of};
 ghost use Rattle.edi_messages.specs.Orders.{booking, port, name_kept};
 ghost use Rattle.edi_messages.specs.Owned.{call_content};
-ghost use Rattle.edi_messages.specs.Parts.{is_equipment, ends_group, before_end, part_left, is_qualified, states_moment, states_weight};
+ghost use Rattle.edi_messages.specs.Parts.{is_equipment, ends_group, before_end, part_left, is_qualified, states_weight};
 ghost use Rattle.edi_messages.specs.Purposes.{kind_of, call_of};
 ghost use Rattle.edi_messages.specs.Spans.{call_spanned, purpose_spanned, group_content};
 ghost use Rattle.edi_syntax.specs.Characters.{is_printable};
@@ -135,16 +135,6 @@ pub(crate) fn is_qualified(segment: &Segment<'_>, tag: &[u8], qualifier: &[u8]) 
     segment.has_tag(tag) && is_value(segment.component(1, 1), qualifier)
 }
 
-pub(crate) fn states_moment(segment: &Segment<'_>) -> bool
-    ensures { result ≡ states_moment (content segment.now) }
-{
-    if !segment.has_tag(b"DTM") {
-        return false;
-    }
-    let format = segment.component(1, 3);
-    is_value(format, b"203") || is_value(format, b"102")
-}
-
 pub(crate) fn states_weight(segment: &Segment<'_>) -> bool
     ensures { result ≡ states_weight (content segment.now) }
 {
@@ -204,11 +194,12 @@ fn own_text_by_bytes(alloc: Global, component: Component<'_>) -> Result<String, 
     requires { IsTrue (list_all is_printable (value component)) }
     ensures { IfOk result (λ text. string_bytes text ≡ value component.entry) }
 {
-    let mut text = String::with_capacity(alloc, component.len())?;
-    for byte in component.bytes() {
-        text.push(char::from(byte))?;
+    let mut bytes = Vec::with_capacity(alloc, component.len())?;
+    component.value_into(&mut bytes)?;
+    match String::from_utf8(bytes) {
+        Ok(text) => Ok(text),
+        Err(_) => Err(AllocError),
     }
-    Ok(text)
 }
 
 /// The text of a value that is a name. A value that is none is kept as empty.
@@ -237,7 +228,7 @@ pub(crate) fn own_booking(alloc: Global, group: &Group<'_>) -> Result<String, Al
     ensures { IfOk result (λ text. string_bytes text ≡ booking (group_content group.now)) }
 {
     match group.booking {
-        Some(segment) => own_name(alloc, segment.component(1, 2)),
+        Some(name) => own_name(alloc, name),
         None => Ok(String::new(alloc)),
     }
 }
