@@ -1,10 +1,41 @@
 -- What is kept of the segments that speak of an equipment is what the first of what is sought states.
 use Rattle.std.proofs.Common.{◌≡◌, ◌&&◌, ◌||◌, ℕ, zero, suc, Bool, true, false, cond, IsTrue, List, [], ◌∷◌, get_or, codes, Option, Some, None, refl, sym, ap, ◌∙◌}
+use Rattle.std.specs.List.{find}
+use Rattle.std.specs.Option.{option_map, option_map_or, option_or}
 use Rattle.std.specs.Str.{bytes_eq}
 use Rattle.edi_syntax.specs.Moments.{CivilMoment}
 use Rattle.edi_syntax.specs.Text.{Content, has_tag, component_of, element_of}
 use Rattle.edi_messages.specs.Orders.{digits_wanted, moment_of_length, moment_stated}
 use Rattle.edi_messages.specs.Parts.{is_qualified, states_moment}
+
+-- ---- what is kept of the first of what is sought
+
+-- what was kept, or else what is kept of the first in the segments
+abbrev pub kept_in : {T : Type 0} → Option T → (Content → T) → (Content → Bool) → List Content → Option T
+kept_in kept of sought segments = option_or kept (option_map of (find sought segments))
+
+one_more_kept : {T : Type 0} (kept : Option T) (of : Content → T) (sought : Content → Bool) (segment : Content) (rest : List Content) →
+    kept_in kept of sought (segment ∷ rest)
+    ≡ kept_in (option_or kept (cond (sought segment) (Some (of segment)) None)) of sought rest
+one_more_kept (Some other) of sought segment rest = refl
+one_more_kept None of sought segment rest = by_test (sought segment)
+  where
+    by_test : (a : Bool) → option_map of (cond a (Some segment) (find sought rest)) ≡ kept_in (cond a (Some (of segment)) None) of sought rest
+    by_test true = refl
+    by_test false = refl
+
+pub kept_step : {T : Type 0} (kept next : Option T) (of : Content → T) (sought : Content → Bool) (segment : Content) (segments rest : List Content) →
+    next ≡ option_or kept (cond (sought segment) (Some (of segment)) None) → segments ≡ segment ∷ rest →
+    kept_in kept of sought segments ≡ kept_in next of sought rest
+kept_step kept next of sought segment segments rest e s = rw (s, e) (one_more_kept kept of sought segment rest)
+
+-- what is read of what was kept is read of the segment
+pub kept_as : {T U V : Type 0} (of : T → U) (read : U → V) (otherwise : V) (kept : Option U) (found : Option T) → kept ≡ option_map of found →
+    option_map_or read kept otherwise ≡ option_map_or (λ (x : T). read (of x)) found otherwise
+kept_as of read otherwise kept None e = rw e refl
+kept_as of read otherwise kept (Some x) e = rw e refl
+
+-- ---- the values of an element
 
 -- a value of an element that is missing is one that is empty
 value_in_place : (elements : List (List (List ℕ))) (i k : ℕ) →

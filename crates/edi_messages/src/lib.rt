@@ -14,6 +14,7 @@ pub mod line;
 pub mod message;
 pub mod order;
 pub mod part;
+mod survey;
 
 pub use call::Call;
 pub use code::{CodeFault, CodeTable};

@@ -86,10 +86,10 @@ pub(crate) struct Group<'a> {
 }
 
 impl<'a> Group<'a> {
-    ghost use Rattle.std.specs.Prelude.{◌≤◌, length};
     ghost use Rattle.edi_syntax.specs.Frames.{message_segments_left};
-    ghost use Rattle.edi_messages.specs.Parts.{before_end, groups_of};
+    ghost use Rattle.edi_messages.specs.Parts.{before_end};
     ghost use Rattle.edi_messages.specs.Spans.{group_content};
+    ghost use Rattle.edi_messages.specs.Walks.{from_end};
 
     /// The group that the equipment begins, by one look at each segment that speaks of it.
     pub fn of(equipment: Segment<'a>, segments: MessageSegments<'a>) -> Group<'a>
@@ -97,10 +97,7 @@ impl<'a> Group<'a> {
           equipment = content equipment.entry;
           details = before_end (message_segments_left segments.entry);
         } }
-        ensures others { groups_of (message_segments_left result.behind)
-            ≡ groups_of (message_segments_left segments.entry) }
-        ensures shorter { length (message_segments_left result.behind)
-            ≤ length (message_segments_left segments.entry) }
+        ensures behind { message_segments_left result.behind ≡ from_end (message_segments_left segments.entry) }
     {
         let mut moment = None;
         let mut slot = None;

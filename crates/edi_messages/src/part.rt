@@ -5,9 +5,10 @@ ghost use Rattle.std.specs.Str.{bytes_eq};
 ghost use Rattle.edi_messages.specs.Faults.{names_call, call_in, purpose_of};
 ghost use Rattle.edi_messages.specs.Orders.{booking, port, name_kept};
 ghost use Rattle.edi_messages.specs.Owned.{call_content};
-ghost use Rattle.edi_messages.specs.Parts.{is_equipment, ends_group, before_end, part_left, is_qualified, states_weight};
+ghost use Rattle.edi_messages.specs.Parts.{is_equipment, ends_group, before_end, heading, part_left, is_qualified, states_weight};
 ghost use Rattle.edi_messages.specs.Purposes.{kind_of, call_of};
 ghost use Rattle.edi_messages.specs.Spans.{call_spanned, purpose_spanned, group_content};
+ghost use Rattle.edi_messages.specs.Walks.{from_end};
 ghost use Rattle.edi_syntax.specs.Characters.{is_printable};
 ghost use Rattle.edi_syntax.specs.Segment.{content, value};
 ghost use Rattle.edi_syntax.specs.Frames.{message, message_segments_left};
@@ -16,8 +17,8 @@ use crate::call::{Call, CallSpan, PurposeSpan};
 use crate::codes::Codes;
 use crate::faults::{is_name, names_call, order_kind};
 use crate::line::Group;
-use crate::message::Survey;
 use crate::order::OrderKind;
+use crate::survey::Survey;
 use edi_syntax::{Component, MessageSegments, Segment};
 use std::alloc::{AllocError, Global};
 
@@ -91,10 +92,27 @@ impl<'a> Part<'a> {
     }
 }
 
+/// The next segment of a heading.
+pub(crate) fn next_of_heading<'a>(rest: &mut MessageSegments<'a>) -> Option<Segment<'a>>
+    ensures left { MatchOption result (heading (message_segments_left rest.old) ≡ []) (λ segment.
+        message_segments_left rest.old ≡ content segment ∷ message_segments_left rest.new) }
+    ensures inside { IfSome result (λ segment. is_equipment (content segment) ≡ false) }
+    ensures same { IfNone result (rest.new ≡ rest.old) }
+{
+    let mut ahead = *rest;
+    let segment = ahead.next()?;
+    if is_equipment(&segment) {
+        return None;
+    }
+    *rest = ahead;
+    Some(segment)
+}
+
 /// The next segment of a group.
 pub(crate) fn next_of_group<'a>(rest: &mut MessageSegments<'a>) -> Option<Segment<'a>>
     ensures left { MatchOption result (before_end (message_segments_left rest.old) ≡ []) (λ segment.
         message_segments_left rest.old ≡ content segment ∷ message_segments_left rest.new) }
+    ensures end { IfNone result (from_end (message_segments_left rest.old) ≡ message_segments_left rest.old) }
     ensures inside { IfSome result (λ segment. ends_group (content segment) ≡ false) }
     ensures same { IfNone result (rest.new ≡ rest.old) }
 {

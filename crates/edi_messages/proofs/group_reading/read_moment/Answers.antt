@@ -7,7 +7,7 @@ use Rattle.edi_messages.specs.Kept.{moment_kept}
 use Rattle.edi_messages.specs.Orders.{moment_stated}
 use Rattle.edi_messages.specs.Parts.{part_left, states_moment}
 use Rattle.edi_messages.specs.declared.line.LineFault.TheVariants.{Moment}
-use Rattle.edi_messages.proofs.SurveyLemmas.{kept_as}
+use Rattle.edi_messages.proofs.DetailLemmas.{kept_as}
 use Rattle.edi_messages.proofs.group_reading.read_moment.Goals as goal
 
 pub returns-in-Some-moment_of : goal.returns-in-Some-moment_of

@@ -7,7 +7,7 @@ use Rattle.edi_syntax.specs.Text.{component_of}
 use Rattle.edi_messages.specs.Orders.{name_kept, booking}
 use Rattle.edi_messages.specs.Parts.{part_left, is_qualified}
 use Rattle.edi_messages.specs.Spans.{group_content}
-use Rattle.edi_messages.proofs.SurveyLemmas.{kept_as}
+use Rattle.edi_messages.proofs.DetailLemmas.{kept_as}
 use Rattle.edi_messages.proofs.part.own_booking.Goals as goal
 
 pub returns-in-Some : goal.returns-in-Some

@@ -1,11 +1,13 @@
 -- One segment more of the group.
-use Rattle.std.proofs.Common.{sym, ap, ◌∙◌, refl, arith, codes, length}
+use Rattle.std.proofs.Common.{sym, ◌∙◌, refl, codes}
 use Rattle.edi_syntax.specs.Segment.{content}
 use Rattle.edi_syntax.specs.Text.{component_of}
 use Rattle.edi_syntax.specs.Frames.{message_segments_left}
 use Rattle.edi_messages.specs.Orders.{moment_stated}
 use Rattle.edi_messages.specs.Parts.{is_qualified, states_moment, states_weight}
-use Rattle.edi_messages.proofs.SurveyLemmas.{first_step, kept_step, group_goes_on, same_groups}
+use Rattle.edi_messages.proofs.SurveyLemmas.{first_step, group_goes_on}
+use Rattle.edi_messages.proofs.DetailLemmas.{kept_step}
+use Rattle.edi_messages.proofs.WalkLemmas.{goes_on_to_end}
 use Rattle.edi_messages.proofs.line.Group.of.Goals as goal
 
 pub loop-segment-preserved : goal.loop-segment-preserved
@@ -31,6 +33,5 @@ loop-segment-preserved c =
           c.keep_booking.ensures within;
       weight = i.weight
           ∙ first_step _ _ states_weight _ segment _ _ c.keep_first.ensures c.states_weight.ensures within;
-      others = sym (same_groups segment _ _ inside left) ∙ i.others;
-      shorter = omega (arith, i.shorter, ap length left);
+      behind = sym (goes_on_to_end segment _ _ inside left) ∙ i.behind;
     }

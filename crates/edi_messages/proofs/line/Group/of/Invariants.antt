@@ -1,4 +1,4 @@
-use Rattle.std.proofs.Common.{◌≡◌, ◌≤◌, length, codes}
+use Rattle.std.proofs.Common.{◌≡◌, length, codes}
 use Rattle.std.specs.List.{find}
 use Rattle.std.specs.Option.{option_map}
 use Rattle.edi_syntax.specs.Segment.{content, value}
@@ -6,8 +6,10 @@ use Rattle.edi_syntax.specs.Text.{component_of}
 use Rattle.edi_syntax.specs.Frames.{message_segments_left}
 use Rattle.edi_messages.specs.Kept.{moment_kept}
 use Rattle.edi_messages.specs.Orders.{moment_stated}
-use Rattle.edi_messages.specs.Parts.{before_end, groups_of, is_qualified, states_moment, states_weight}
-use Rattle.edi_messages.proofs.SurveyLemmas.{first_in, kept_in}
+use Rattle.edi_messages.specs.Parts.{before_end, is_qualified, states_moment, states_weight}
+use Rattle.edi_messages.specs.Walks.{from_end}
+use Rattle.edi_messages.proofs.SurveyLemmas.{first_in}
+use Rattle.edi_messages.proofs.DetailLemmas.{kept_in}
 use Rattle.edi_messages.proofs.line.Group.of.Given as goal
 
 abbrev pub invariant-loop-segment : goal.invariant-loop-segment
@@ -25,8 +27,7 @@ invariant-loop-segment l =
           ≡ kept_in (option_map value l.booking) (λ segment. component_of segment 1 2)
           (is_qualified (codes "RFF") (codes "BN")) left;
       weight : find states_weight all ≡ first_in (option_map content l.weight) states_weight left;
-      others : groups_of (message_segments_left l.behind) ≡ groups_of (message_segments_left l.segments);
-      shorter : length (message_segments_left l.behind) ≤ length (message_segments_left l.segments);
+      behind : from_end (message_segments_left l.behind) ≡ from_end (message_segments_left l.segments);
     }
 
 abbrev pub decreases-loop-segment : goal.decreases-loop-segment
