@@ -120,6 +120,7 @@ lines_without purpose opened segment segments rest none s = rw s (by_test (is_eq
         map (line_of purpose opened) (cond a (record { equipment = segment; details = before_end rest } ∷ filter is_container_group (groups_of rest)) (filter is_container_group (groups_of rest)))
         ≡ lines_of purpose opened rest
     of_group a e = rw e refl
+
     by_test : (a : Bool) →
         map (line_of purpose opened) (filter is_container_group (cond a (record { equipment = segment; details = before_end rest } ∷ groups_of rest) (groups_of rest)))
         ≡ lines_of purpose opened rest
@@ -137,6 +138,7 @@ lines_with purpose opened segment segments rest is s =
         map (line_of purpose opened) (cond a (record { equipment = segment; details = before_end rest } ∷ filter is_container_group (groups_of rest)) (filter is_container_group (groups_of rest)))
         ≡ line_of purpose opened (record { equipment = segment; details = before_end rest }) ∷ lines_of purpose opened rest
     of_group a e = rw e refl
+
     by_test : (a : Bool) → a ≡ true →
         map (line_of purpose opened) (filter is_container_group (cond a (record { equipment = segment; details = before_end rest } ∷ groups_of rest) (groups_of rest)))
         ≡ line_of purpose opened (record { equipment = segment; details = before_end rest }) ∷ lines_of purpose opened rest
