@@ -112,3 +112,14 @@ booking_by_values segment values is_booking is e test =
     (component_of segment 1 2) is_booking (get_or values 1 []) is
     (ap (λ (v : List ℕ). bytes_eq v (codes "BN")) (value_of_first segment values 0 e) ∙ test)
     (value_of_first segment values 1 e)
+
+-- a booking is named, maybe by an empty name
+pub booking_named : (segment : Content) (values : List (List ℕ)) →
+    IsTrue (has_tag (codes "RFF") segment) → element_of segment 1 ≡ values →
+    bytes_eq (get_or values 0 []) (codes "BN") ≡ true →
+    Some (component_of segment 1 2)
+    ≡ cond (is_qualified (codes "RFF") (codes "BN") segment) (Some (component_of segment 1 2)) None
+booking_named segment values is e test =
+    sym (booking_by_parts (has_tag (codes "RFF") segment) (bytes_eq (component_of segment 1 1) (codes "BN"))
+    (component_of segment 1 2) true (component_of segment 1 2) is
+    (ap (λ (v : List ℕ). bytes_eq v (codes "BN")) (value_of_first segment values 0 e) ∙ test) refl)

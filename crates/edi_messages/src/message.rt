@@ -187,7 +187,7 @@ fn build(
     replaces: bool,
     lines: Option<Vec<Line>>,
 ) -> Option<Message>
-    ensures { IfSome result (λ built. IsSomeAnd lines.entry (λ kept. message_content built ≡ record {
+    ensures { IfSome result (λ built. IsSomeAnd lines (λ kept. message_content built ≡ record {
       kind = kind_of (purpose_spanned purpose.entry);
       call = call_of (purpose_spanned purpose.entry);
       replaces = replaces;
@@ -248,7 +248,7 @@ fn with_line(
     group: &Group<'_>,
     lines: Option<Vec<Line>>,
 ) -> Option<Vec<Line>>
-    ensures { IfSome result (λ more. IsSomeAnd lines.entry (λ kept. map line_content more.items ≡ map line_content kept.items
+    ensures { IfSome result (λ more. IsSomeAnd lines (λ kept. map line_content more.items ≡ map line_content kept.items
         ++ line_of (purpose_spanned purpose.entry) opened (group_content group.now) ∷ [])) }
 {
     let mut lines = lines?;

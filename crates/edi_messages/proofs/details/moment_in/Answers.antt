@@ -29,3 +29,17 @@ returns-then-is_value c =
     sym (moment_by_values (content c.args.segment.now) _ c.requires
     (three_values _ _ _ _ _ _ _ (sym c.components-values.ensures ∙ c.in_ok-next.ensures.steps) c.in_ok-text.ensures.steps c.in_ok-format.ensures.steps)
     ∙ moment_with_time (value c.in_ok-format.format) (value c.in_ok-text.text) (sym c.is_value.ensures ∙ c.if-is_value.true))
+
+pub returns-then-is_value-2 : goal.returns-then-is_value-2
+returns-then-is_value-2 c =
+    sym (moment_by_values (content c.args.segment.now) _ c.requires
+    (three_values _ _ _ _ _ _ _ (sym c.components-values.ensures ∙ c.in_ok-next.ensures.steps) c.in_ok-text.ensures.steps c.in_ok-format.ensures.steps)
+    ∙ moment_without_time (value c.in_ok-format.format) (value c.in_ok-text.text) (sym c.is_value.ensures ∙ c.if-is_value.false)
+    (sym c.is_value-else-is_value.ensures ∙ c.if-is_value-2.true))
+
+pub returns-else-is_value-2 : goal.returns-else-is_value-2
+returns-else-is_value-2 c =
+    sym (moment_by_values (content c.args.segment.now) _ c.requires
+    (three_values _ _ _ _ _ _ _ (sym c.components-values.ensures ∙ c.in_ok-next.ensures.steps) c.in_ok-text.ensures.steps c.in_ok-format.ensures.steps)
+    ∙ moment_unread (value c.in_ok-format.format) (value c.in_ok-text.text) (sym c.is_value.ensures ∙ c.if-is_value.false)
+    (sym c.is_value-else-is_value.ensures ∙ c.if-is_value-2.false))

@@ -22,4 +22,4 @@ returns-in-None c =
     let group = c.args.group.now in
     let same = kept_as (λ segment. component_of segment 1 2) name_kept [] (option_map value group.booking) (find (is_qualified (codes "RFF") (codes "BN")) (part_left group.details)) group.booked in
     let none : [] ≡ booking (group_content group) = rw c.in-None.is at same in
-    c.new.ensures ∙ none
+    c.new.ensures.bytes ∙ none

@@ -7,16 +7,16 @@ use Rattle.edi_messages.specs.Parts.{is_equipment, is_qualified}
 use Rattle.edi_messages.proofs.SurveyLemmas.{first_step, count_step, one_if, one_at_most, few_before_trailer}
 use Rattle.edi_messages.proofs.survey.Survey.next_segment.Goals as goal
 
-pub overflow_add-equipments : goal.overflow_add-equipments
-overflow_add-equipments c =
+pub overflow_add-self : goal.overflow_add-self
+overflow_add-self c =
     let survey = c.args.self.now in
     let one = one_at_most _ _ (one_if _ _ _ c.from.ensures c.is_equipment.ensures) in
     omega (arith, one, survey.few_equipments, ap length c.in_ok-segment.ensures.steps, few_before_trailer (segments_left survey.frame.behind), survey.frame.bounded)
 
-pub overflow_add-containers : goal.overflow_add-containers
-overflow_add-containers c =
+pub overflow_add-self-2 : goal.overflow_add-self-2
+overflow_add-self-2 c =
     let survey = c.args.self.now in
-    let one = one_at_most _ _ (one_if _ _ _ c.from-2.ensures c.is_container.ensures) in
+    let one = one_at_most _ _ (one_if _ _ _ c.from-2.ensures c.is_container-is_container.ensures) in
     omega (arith, one, survey.few_containers, ap length c.in_ok-segment.ensures.steps, few_before_trailer (segments_left survey.frame.behind), survey.frame.bounded)
 
 pub invariant_of-self : goal.invariant_of-self
@@ -25,7 +25,7 @@ invariant_of-self c =
     let segment = content c.in_ok-segment.segment in
     let left = c.in_ok-segment.ensures.steps in
     let equips = one_if _ _ (is_equipment segment) c.from.ensures c.is_equipment.ensures in
-    let contains = one_if _ _ (is_container segment) c.from-2.ensures c.is_container.ensures in
+    let contains = one_if _ _ (is_container segment) c.from-2.ensures c.is_container-is_container.ensures in
     record {
       typed = survey.typed;
       begun = survey.begun;
