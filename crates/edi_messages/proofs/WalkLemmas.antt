@@ -1,5 +1,5 @@
 -- One walk over the segments of a message: what is found in those that are passed, and what in those that are left.
-use Rattle.std.proofs.Common.{◌≡◌, ℕ, ◌&&◌, ◌||◌, ◌+◌, ◌≤◌, Bool, true, false, cond, List, [], ◌∷◌, ◌++◌, length, map, codes, None, Some, Option, refl, sym, ap, ◌∙◌, append_assoc, arith}
+use Rattle.std.proofs.Common.{Vec, Global, ◌≡◌, ℕ, ◌&&◌, ◌||◌, ◌+◌, ◌≤◌, Bool, true, false, cond, List, [], ◌∷◌, ◌++◌, length, map, codes, None, Some, Option, refl, sym, ap, ◌∙◌, append_assoc, arith}
 use Rattle.std.specs.Prelude.{filter, Result, Ok, Err, IfSome, IsSomeAnd}
 use Rattle.std.specs.List.{find}
 use Rattle.std.specs.Option.{option_or, option_map_or}
@@ -11,6 +11,8 @@ use Rattle.edi_syntax.specs.Text.{Content, has_tag, component_of}
 use Rattle.edi_syntax.specs.Messages.{Message}
 use Rattle.edi_messages.specs.Faults.{is_container, applies, fault_of, purpose_of}
 use Rattle.edi_messages.specs.Message.{LineContent, MessageContent, is_container_group, line_of, lines_of, message_of, judged_message, reading}
+use Rattle.edi_messages.specs.Owned.{line_content}
+use Rattle.edi_messages.specs.declared.line.Line.{Line}
 use Rattle.edi_messages.specs.Parts.{EquipmentGroup, is_equipment, is_qualified, heading, before_end, ends_group, groups_of}
 use Rattle.edi_messages.specs.Purposes.{Purpose, kind_of, call_of}
 use Rattle.edi_messages.specs.Walks.{counted_on, from_end, heading_fault_of, equipment_fault_of}
@@ -149,6 +151,9 @@ pub lines_same : (purpose : Purpose) (opened : CivilMoment) (segments others : L
 lines_same purpose opened segments others same =
     ap (λ (groups : List EquipmentGroup). map (line_of purpose opened) (filter is_container_group groups)) same
 
+abbrev pub line_contents : Vec Line Global → List LineContent
+line_contents lines = map line_content lines.items
+
 -- the line of one group more, after those that were kept
 pub lines_more : {X : Type 0} (view : X → List LineContent) (kept more : Option X) (all left rest : List LineContent) (line : LineContent) →
     IfSome kept (λ old. all ≡ view old ++ left) →
@@ -230,9 +235,9 @@ read_for codes opened message purpose none faultless e =
 
 -- ---- a message with the lines that were kept
 
-pub built_of : {X : Type 0} (view : X → List LineContent) (kept : Option X) (built : MessageContent) (purpose : Purpose) (replaces : Bool) (lines : List LineContent) →
-    IfSome kept (λ some. view some ≡ lines) →
+pub built_of : {X : Type 0} (view : X → List LineContent) (kept : Option X) (built : MessageContent) (purpose : Purpose) (replaces is : Bool) (lines all : List LineContent) →
+    IfSome kept (λ some. view some ≡ lines) → lines ≡ all → replaces ≡ is →
     IsSomeAnd kept (λ some. built ≡ record { kind = kind_of purpose; call = call_of purpose; replaces = replaces; lines = view some }) →
-    built ≡ record { kind = kind_of purpose; call = call_of purpose; replaces = replaces; lines = lines }
-built_of view None built purpose replaces lines same is = absurd is
-built_of view (Some some) built purpose replaces lines same is = rw (← same) is
+    built ≡ record { kind = kind_of purpose; call = call_of purpose; replaces = is; lines = all }
+built_of view None built purpose replaces is lines all same more told made = absurd made
+built_of view (Some some) built purpose replaces is lines all same more told made = rw (← more, ← same, ← told) made

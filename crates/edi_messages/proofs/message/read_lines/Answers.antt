@@ -1,14 +1,13 @@
 -- The lines that were kept, and those of the segments that are left.
-use Rattle.std.proofs.Common.{◌≡◌, ◌∷◌, ◌<◌, true, List, length, map, sym, ap, ◌∙◌, arith}
+use Rattle.std.proofs.Common.{◌≡◌, ◌∷◌, ◌<◌, true, List, length, sym, ap, ◌∙◌, arith}
 use Rattle.edi_syntax.specs.Segment.{content}
 use Rattle.edi_syntax.specs.Frames.{message_segments_left}
 use Rattle.edi_messages.specs.Faults.{is_container}
 use Rattle.edi_messages.specs.Message.{LineContent, line_of, lines_of}
-use Rattle.edi_messages.specs.Owned.{line_content}
 use Rattle.edi_messages.specs.Parts.{EquipmentGroup, before_end}
 use Rattle.edi_messages.specs.Spans.{group_content, purpose_spanned}
 use Rattle.edi_messages.specs.declared.survey.Survey.{Survey}
-use Rattle.edi_messages.proofs.WalkLemmas.{lines_with, lines_without, lines_same, lines_more, lines_still, lines_all}
+use Rattle.edi_messages.proofs.WalkLemmas.{lines_with, lines_without, lines_same, line_contents, lines_more, lines_still, lines_all}
 use Rattle.edi_messages.proofs.message.read_lines.Goals as goal
 use Rattle.edi_messages.proofs.message.read_lines.Goals.{then-is_container, else-is_container}
 
@@ -32,14 +31,14 @@ loop-counted-preserved c =
           (sym w.next_group-group.ensures.group) in
           record {
             lines = rw (w.lines-is, w.survey-is)
-                (lines_more (λ kept. map line_content kept.items) c.loop-counted.lines w.with_line.result _ _
+                (lines_more line_contents c.loop-counted.lines w.with_line.result _ _
                 (lines_of p c.args.opened further) _ i.lines w.with_line.ensures one);
             same = ap (λ (s : Survey). s.frame) w.survey-is ∙ w.next_group-group.ensures.same ∙ c.in-Some.ensures.same ∙ i.same;
           }
       | else-is_container w ↦
           record {
             lines = rw (w.lines-is, w.survey-is)
-                (lines_still (λ kept. map line_content kept.items) c.loop-counted.lines _ _
+                (lines_still line_contents c.loop-counted.lines _ _
                 (lines_of p c.args.opened behind) i.lines
                 (lines_without p c.args.opened segment (message_segments_left c.loop-counted.survey.rest) behind
                 (sym c.in-Some.ensures.container ∙ w.if-is_container.false) left));
@@ -58,6 +57,6 @@ loop-counted-smaller c =
 pub returns-clause-lines : goal.returns-clause-lines
 returns-clause-lines c =
     let p = purpose_spanned c.args.purpose in
-    lines_all (λ kept. map line_content kept.items) c.loop-counted.lines _
+    lines_all line_contents c.loop-counted.lines _
     (lines_of p c.args.opened (message_segments_left c.loop-counted.survey.rest)) c.loop-counted.invariant.lines
     (ap (lines_of p c.args.opened) c.in-None.ensures.left.0)

@@ -1,16 +1,16 @@
 -- What was found is of the message.
-use Rattle.std.proofs.Common.{◌≡◌, Option, Some, None, Ok, IfSome, map, refl, sym, ap, ◌∙◌}
+use Rattle.std.proofs.Common.{◌≡◌, Option, Some, None, Ok, refl, sym, ap, ◌∙◌}
 use Rattle.std.specs.Option.{option_map}
-use Rattle.edi_syntax.specs.Frames.{message}
+use Rattle.edi_syntax.specs.Frames.{message, message_segments_left}
 use Rattle.edi_syntax.specs.declared.frames.Frame.{Frame}
 use Rattle.edi_messages.specs.Faults.{purpose_of, replaces_list}
 use Rattle.edi_messages.specs.Message.{lines_of}
-use Rattle.edi_messages.specs.Owned.{line_content, message_content}
+use Rattle.edi_messages.specs.Owned.{message_content}
 use Rattle.edi_messages.specs.Spans.{purpose_spanned}
 use Rattle.edi_messages.specs.Walks.{heading_fault_of, equipment_fault_of}
 use Rattle.edi_messages.specs.declared.message.MessageFault.{MessageFault}
 use Rattle.edi_messages.proofs.SurveyLemmas.{purpose_there}
-use Rattle.edi_messages.proofs.WalkLemmas.{rejected_by_heading, rejected_by_equipment, read_for, built_of, lines_same}
+use Rattle.edi_messages.proofs.WalkLemmas.{rejected_by_heading, rejected_by_equipment, read_for, line_contents, built_of, lines_same}
 use Rattle.edi_messages.proofs.message.read_message.Goals as goal
 
 pub returns-in-Some-clause-err : goal.returns-in-Some-clause-err
@@ -59,10 +59,12 @@ returns-in-Some-build-clause-ok c =
     ap (λ (f : Frame). purpose_of codes (message f)) (sym same) ∙ sym c.purpose.ensures ∙ ap (option_map purpose_spanned) c.in-Some-purpose.is in
     let replaces : c.replaces_list.result ≡ replaces_list m =
     c.replaces_list.ensures ∙ ap (λ (f : Frame). replaces_list (message f)) (c.read_lines-lines.ensures.same ∙ same) in
-    let lines : IfSome c.read_lines-lines.result (λ kept. map line_content kept.items ≡ lines_of p c.args.opened m.segments) =
-    rw (← lines_same p c.args.opened _ _ c.look_at_heading-survey.ensures.groups) c.read_lines-lines.ensures.lines in
     read_for codes c.args.opened m p none faultless is_for
-    ∙ ap Ok (sym (built_of (λ kept. map line_content kept.items) c.read_lines-lines.result (message_content c.in-Some-build.message) p (replaces_list m) (lines_of p c.args.opened m.segments) lines (rw (← replaces) c.in-Some-build.ensures)))
+    ∙ ap Ok (sym (built_of line_contents c.read_lines-lines.result (message_content c.in-Some-build.message) p
+    c.replaces_list.result (replaces_list m)
+    (lines_of p c.args.opened (message_segments_left c.look_at_heading-survey.result.rest)) (lines_of p c.args.opened m.segments)
+    c.read_lines-lines.ensures.lines (lines_same p c.args.opened _ _ c.look_at_heading-survey.ensures.groups) replaces
+    c.in-Some-build.ensures))
 
 pub returns-in-None-clause-err : goal.returns-in-None-clause-err
 returns-in-None-clause-err c =
