@@ -255,9 +255,13 @@ fn with_line(
     if lines.len() as u64 == MOST_CONTAINERS {
         return None;
     }
-    let line = read_line(alloc, purpose, opened, group).ok()?;
-    lines.push(line).ok()?;
-    Some(lines)
+    let Ok(line) = read_line(alloc, purpose, opened, group) else {
+        return None;
+    };
+    match lines.push(line) {
+        Ok(()) => Some(lines),
+        Err(_) => None,
+    }
 }
 
 fn read_line(
