@@ -31,8 +31,8 @@ loop-counted-preserved c =
           (sym w.next_group-group.ensures.group) in
           record {
             lines = rw (w.lines-is, w.survey-is)
-                (lines_more line_contents c.loop-counted.lines w.with_line.result _ _
-                (lines_of p c.args.opened further) _ i.lines w.with_line.ensures one);
+                (lines_more line_contents c.loop-counted.lines w.with_line-lines.result _ _
+                (lines_of p c.args.opened further) _ i.lines w.with_line-lines.ensures one);
             same = ap (λ (s : Survey). s.frame) w.survey-is ∙ w.next_group-group.ensures.same ∙ c.in-Some.ensures.same ∙ i.same;
           }
       | else-is_container w ↦

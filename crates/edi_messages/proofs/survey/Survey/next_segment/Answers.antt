@@ -11,13 +11,17 @@ pub overflow_add-self : goal.overflow_add-self
 overflow_add-self c =
     let survey = c.args.self.now in
     let one = one_at_most _ _ (one_if _ _ _ c.from.ensures c.is_equipment.ensures) in
-    omega (arith, one, survey.few_equipments, ap length c.in_ok-segment.ensures.steps, few_before_trailer (segments_left survey.frame.behind), survey.frame.bounded)
+    let few : survey.equipments + length (message_segments_left survey.rest) ≤ length (message survey.frame).segments =
+    survey.few_equipments in
+    omega (arith, one, few, ap length c.in_ok-segment.ensures.steps, few_before_trailer (segments_left survey.frame.behind), survey.frame.bounded)
 
 pub overflow_add-self-2 : goal.overflow_add-self-2
 overflow_add-self-2 c =
     let survey = c.args.self.now in
     let one = one_at_most _ _ (one_if _ _ _ c.from-2.ensures c.is_container-is_container.ensures) in
-    omega (arith, one, survey.few_containers, ap length c.in_ok-segment.ensures.steps, few_before_trailer (segments_left survey.frame.behind), survey.frame.bounded)
+    let few : survey.containers + length (message_segments_left survey.rest) ≤ length (message survey.frame).segments =
+    survey.few_containers in
+    omega (arith, one, few, ap length c.in_ok-segment.ensures.steps, few_before_trailer (segments_left survey.frame.behind), survey.frame.bounded)
 
 pub invariant_of-self : goal.invariant_of-self
 invariant_of-self c =
