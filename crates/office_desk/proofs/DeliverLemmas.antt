@@ -1,78 +1,48 @@
 -- One delivery more to a desk.
 use Rattle.std.proofs.Common.{◌≡◌, ℕ, List, [], ◌∷◌, ◌++◌, Option, Ok, Err, string_bytes, refl, sym, ap, subst, ◌∙◌, ◌⊎◌, ◌+◌, ◌<◌, ◌≤◌, length, map, inl, inr, Some, arith, None, Bool, true, false, cond}
 use Rattle.std.proofs.lemmas.Simd.{map-map}
-use Rattle.sqlite.specs.Effect.{Database}
-use Rattle.sqlite.specs.Held.{state}
+use Rattle.std.proofs.lemmas.List.Sorted.{Contains-permutation, IsPermutation-sym, IsPermutation-trans}
+use Rattle.sqlite.specs.{Effect.Database, Held.state}
 use Rattle.sqlite_trees.specs.declared.store.Store.{Ghosts}
-use Rattle.edi_syntax.specs.Interchange.{interchange_of, segments_in}
-use Rattle.edi_syntax.specs.Envelope.{header_of}
-use Rattle.partner_core.specs.Answers.{AnswerModel}
-use Rattle.office_replies.specs.Events.{Event, delivered}
-use Rattle.office_replies.specs.Contents.{GivesOrNotNow, content_of}
-use Rattle.office_replies.specs.Delivering.{with_answered}
+use Rattle.edi_syntax.specs.{Interchange.interchange_of, Interchange.segments_in, Envelope.header_of}
+use Rattle.partner_core.specs.{Answers.AnswerModel, Deliveries.delivery, Numbered.with_number}
+use Rattle.office_replies.specs.{Events.Event, Events.delivered, Contents.GivesOrNotNow, Contents.content_of, Delivering.with_answered}
 use Rattle.office_replies.specs.declared.deliver.Response.{Response}
-use Rattle.office_admission.specs.Parties.{Parties, parties_of}
-use Rattle.office_admission.specs.Setups.{SetupContent, setup_content}
-use Rattle.office_admission.specs.declared.setup.Setup.{Setup}
-use Rattle.office_admission.specs.Admission.{admission}
-use Rattle.office_admission.specs.Outcomes.{IsRefused, fault_in}
-use Rattle.office_admission.specs.Refusals.{refusal_of, MayBeNotNow, RefusedSurely}
-use Rattle.office_admission.specs.declared.refusal.Refusal.{Refusal}
+use Rattle.office_admission.specs.{Parties.Parties, Parties.parties_of, Setups.SetupContent, Setups.setup_content, declared.setup.Setup.Setup}
+use Rattle.office_admission.specs.{Admission.admission, Outcomes.IsRefused, Outcomes.fault_in}
+use Rattle.office_admission.specs.{Refusals.refusal_of, Refusals.MayBeNotNow, Refusals.RefusedSurely, declared.refusal.Refusal.Refusal}
+use Rattle.office_admission.specs.{Taking.MachineState, Taking.interchange_taken, Taking.interchange_changes, Given.IsGiven}
 use Rattle.office_history.specs.After.{content_after, parties_in, AreKeptOnce, accounts_from, AreAfter, deliveries_of, opening_of, machine_after, machine_with, taking_in}
 use Rattle.office_history.specs.Laws.{answer_model_of}
-use Rattle.office_history.proofs.Lawful.{now_same, refused_adds}
-use Rattle.office_loading.specs.Closed.{closed_content, ClosedContent}
+use Rattle.office_history.proofs.{Lawful.now_same, Lawful.refused_adds, Loads.partner_one, Loads.ShowsSetupAndTerminal, Loads.one_terminal}
+use Rattle.office_history.proofs.{Kept.Rises, Kept.same_records, Kept.shown_in, KeptNumbers.have_runs, Offices.state_given, Places.alone_in}
+use Rattle.office_loading.specs.{Closed.closed_content, Closed.ClosedContent, OwnOffice.AreInOrder, OwnOffice.AreOwnNumbers, OwnOffice.IsOwnOffice}
+use Rattle.office_loading.specs.{Tables.LoadsOwn, Checks.visits_after, Checks.AreOwnVisits}
 use Rattle.office_desk.specs.Answers.{AnswersNext, answer_by_model, answer_at, answer_to, code_of}
 use Rattle.office_desk.proofs.OwnNumbers.{refused_for, KeepsBeyond, account_there, by_number, keeps_own}
-use Rattle.office_desk.specs.Telling.{Answers, Comes, Holds}
-use Rattle.office_desk.specs.Desks.{StandsFor}
+use Rattle.office_desk.specs.{Telling.Answers, Telling.Comes, Telling.Holds, Desks.StandsFor, Noting.IsNow, Noting.NotesFault, Noting.NotesMemory}
+use Rattle.office_desk.specs.{Offices.DeskHolds, Offices.HoldsOffice, declared.beside.Beside.Beside, declared.desk.Desk.Desk}
+use Rattle.office_desk.specs.{Crashes.Leaves, Crashes.LeavesBehind, Beside.IsOrNone, Finding.StaysBeside}
 use Rattle.office_desk.specs.Kept.{AnswersAt, AnswersByKept, AnswersOver, IsNotedFor, Office}
-use Rattle.office_desk.specs.Noting.{IsNow, NotesFault, NotesMemory}
-use Rattle.office_desk.specs.Offices.{DeskHolds, HoldsOffice}
-use Rattle.office_desk.specs.declared.beside.Beside.{Beside}
-use Rattle.office_desk.specs.declared.desk.Desk.{Desk}
-use Rattle.office_tables.specs.declared.table_fault.TableFault.{TableFault}
+use Rattle.office_tables.specs.{declared.table_fault.TableFault.TableFault, Answers.IsNextOf, Answers.has_id}
 use Rattle.office_tables.specs.declared.table_fault.TableFault.TheVariants.{Memory}
-use Rattle.partner_core.specs.Deliveries.{delivery}
-use Rattle.office_desk.specs.Crashes.{Leaves, LeavesBehind}
 use Rattle.office_desk.proofs.HoldLemmas.{answered_behind, refused_leaves, beside_same, next_by, nexts_are, number_of}
 use Rattle.std.specs.List.Sorted.{IsPermutation}
 use Rattle.std.proofs.lemmas.Bool.{eq-eqb, eqb-true, leb-true, leb-false}
-use Rattle.std.proofs.lemmas.List.Sorted.{Contains-permutation, IsPermutation-sym, IsPermutation-trans}
 use Rattle.sqlite_rules.proofs.ListLemmas.{contains_had, has_contained, has_filtered, has_kept}
-use Rattle.partner_core.specs.Numbered.{with_number}
 use Rattle.terminal_core.specs.State.{TerminalState, AreNumbered, IsWhole, last_from}
-use Rattle.office_rows.specs.Rows.{Partner, Rows}
-use Rattle.office_rows.specs.Values.{number_value, interchange_values, partner_values}
-use Rattle.office_rows.specs.Stored.{HasRows}
-use Rattle.office_rows.specs.Shown.{AreNexts, columns_at}
-use Rattle.office_rows.specs.Opened.{NumberKept, OpenedRows, Shows, number_kept}
+use Rattle.office_rows.specs.{Rows.Rows, Values.interchange_values, Values.partner_values, Stored.HasRows, Shown.AreNexts, Shown.columns_at}
 use Rattle.office_rows.specs.Tables.{partner_table as partners_table}
+use Rattle.office_rows.specs.Opened.{NumberKept, OpenedRows, Shows, number_kept}
 use Rattle.office_rows.proofs.Listed.{unmapped}
-use Rattle.office_tables.specs.Answers.{IsNextOf, has_id}
-use Rattle.office_loading.specs.OwnOffice.{AreInOrder, AreOwnNumbers, IsOwnOffice}
-use Rattle.office_history.proofs.Loads.{partner_one, ShowsSetupAndTerminal, one_terminal}
 use Rattle.office_history.proofs.Once.{numbers_same, once_if_rising, place, place_of}
-use Rattle.office_history.proofs.Kept.{Rises, same_records, shown_in}
-use Rattle.office_history.proofs.KeptNumbers.{have_runs}
-use Rattle.office_loading.specs.Tables.{LoadsOwn}
-use Rattle.office_desk.specs.Beside.{IsOrNone}
-use Rattle.office_desk.specs.Finding.{StaysBeside}
 use Rattle.std.specs.Prelude.{◌==◌, not, nat_le}
-use Rattle.terminal_core.specs.declared.visits.Departure.{Departure}
+use Rattle.terminal_core.specs.{declared.visits.Departure.Departure, OneByOne.GoOneByOne, Versions.newest}
 use Rattle.terminal_core.specs.Rows.{VisitContent, ChangeContent, visit_opened, visit_closed, placed_at, moved_to, removed_from, listed_on, line_done, unlisted}
 use Rattle.terminal_core.specs.Changes.{TerminalRows, rows_of, rows_with, visit_with_departure, rows_with_all, IsApplicable, AreApplicable}
-use Rattle.terminal_core.specs.OneByOne.{GoOneByOne}
-use Rattle.terminal_core.proofs.Open.{kept_number}
-use Rattle.office_loading.specs.Checks.{visits_after, AreOwnVisits}
+use Rattle.terminal_core.proofs.Open.{kept_number, numbered_one_more}
 use Rattle.office_loading.proofs.Offices.{after_all}
-use Rattle.office_admission.specs.Taking.{MachineState, interchange_taken, interchange_changes}
-use Rattle.office_admission.proofs.Takings.{interchange_leads}
-use Rattle.terminal_core.specs.Versions.{newest}
-use Rattle.office_admission.specs.Given.{IsGiven}
-use Rattle.office_history.proofs.Offices.{state_given}
-use Rattle.office_history.proofs.Places.{alone_in}
-use Rattle.office_admission.proofs.Forming.{runs_alone}
+use Rattle.office_admission.proofs.{Takings.interchange_leads, Forming.runs_alone}
 use Rattle.partner_core.specs.Answers as told
 use Rattle.office_replies.specs.declared.deliver.Response.TheVariants as response
 use Rattle.office_replies.specs.declared.deliver.Worst.TheVariants as worst
@@ -118,7 +88,7 @@ module _ {S : Type 0} (g : Ghosts S) (content : SetupContent) (es : List Event) 
   abbrev parties : Parties
   parties = parties_in (content_after content es)
 
-  -- the accounts of a desk that stands there are those so far
+  -- the accounts of a desk that is there are those so far
   pub parties_now : (desk : Desk S g) → StandsFor g content es desk → parties_of desk.setup ≡ parties
   parties_now desk stands = parties_same desk.setup ∙ ap parties_in (sym stands.now_is)
 
@@ -299,7 +269,7 @@ module _ (closed : ClosedContent) (content : SetupContent) (rows : Rows) (its : 
       let inside = Contains-permutation _ rows.partners account.0 (IsPermutation-sym _ _ its.by_id) account.1 in
       (account.0, contains_had _ account.0 (has_kept (has_id p) rows.partners account.0 (has_contained _ account.0 inside) (eq-eqb account.0.id p account.2)), account.3)
 
-  -- the number that stands at a partner's place is its next
+  -- the number that is at a partner's place is its next
   pub next_at : (nexts : List ℕ) (p next : ℕ) → 1 ≤ p → p ≤ length content.partners → AreNexts rows nexts → with_number nexts p ≡ Some next → IsNextOf p rows next
   next_at nexts p next one most are is =
       let here : next ≡ its.runs p + 1 =
@@ -308,7 +278,7 @@ module _ (closed : ClosedContent) (content : SetupContent) (rows : Rows) (its : 
 
 -- ==== OfficeLemmas: What holds of the rows of an office, whether or not deliveries led to them.
 
--- ---- what stands beside the rows
+-- ---- what is beside the rows
 
 -- what there is stays
 pub same_beside : (closed : ClosedContent) (db : Database) (there : Option Beside) → StaysBeside closed db there there
@@ -320,7 +290,7 @@ none_beside closed db before = record { events = λ content es rows given has af
 
 -- ---- the office
 
--- the same rows hold the same office, with what stands beside them or without
+-- the same rows hold the same office, with what is beside them or without
 pub office_with : (closed : ClosedContent) (content : SetupContent) (rows : Rows) (terminal : TerminalState) (db db' : Database) (there there' : Option Beside) → db' ≡ db → IsOrNone rows terminal there' →
     HoldsOffice closed content rows terminal db there → HoldsOffice closed content rows terminal db' there'
 office_with closed content rows terminal db db' there there' same beside holds = record {
@@ -358,10 +328,6 @@ office_once closed content rows terminal db there holds = own_once closed db row
 
 -- ---- one visit more
 
-numbered_more : (above : ℕ) (visits : List VisitContent) (visit : VisitContent) → AreNumbered above visits → last_from above visits < visit.number → AreNumbered above (visits ++ visit ∷ [])
-numbered_more above [] visit rise far = (far, tt)
-numbered_more above (v ∷ visits) visit rise far = (rise.0, numbered_more v.number visits visit rise.1 far)
-
 one_more : (next above : ℕ) (visits : List VisitContent) (visit : VisitContent) → above + 1 ≡ next → GoOneByOne next visits → visit.number ≡ last_from above visits + 1 → GoOneByOne next (visits ++ visit ∷ [])
 one_more next above [] visit e go is = (is ∙ e, tt)
 one_more next above (v ∷ visits) visit e go is = (go.0, one_more (next + 1) v.number visits visit (ap (λ n. n + 1) go.0) go.1 is)
@@ -388,7 +354,7 @@ module _ (newest : ℕ) where
       at false e go more =
           let far : newest < v.number = leb-false v.number newest e in
           let all : later visits ≡ visits = after_all newest v.number visits (omega (arith, far)) rise.1 in
-          let with_it : later (visits ++ visit ∷ []) ≡ visits ++ visit ∷ [] = after_all newest v.number (visits ++ visit ∷ []) (omega (arith, far)) (numbered_more v.number visits visit rise.1 (omega (arith, is))) in (
+          let with_it : later (visits ++ visit ∷ []) ≡ visits ++ visit ∷ [] = after_all newest v.number (visits ++ visit ∷ []) (omega (arith, far)) (numbered_one_more v.number visits visit rise.1 (omega (arith, is))) in (
             go.0,
             subst (GoOneByOne (newest + 1 + 1)) (sym with_it)
                 (one_more (newest + 1 + 1) v.number visits visit (ap (λ n. n + 1) go.0) (subst (GoOneByOne (newest + 1 + 1)) all go.1) is),
@@ -427,7 +393,7 @@ module _ (newest : ℕ) where
 
   one_change : (rows : TerminalRows) (change : ChangeContent) → IsApplicable rows change → AreOwnVisits newest rows.visits → AreOwnVisits newest (rows_with rows change).visits
   one_change rows (visit_opened visit) is own = record {
-    rise = numbered_more 0 rows.visits visit own.rise (omega (arith, is.next));
+    rise = numbered_one_more 0 rows.visits visit own.rise (omega (arith, is.next));
     one_by_one = own_more 0 rows.visits visit (omega arith) own.rise own.one_by_one is.next;
   }
   one_change rows (visit_closed number departure) is own = record {

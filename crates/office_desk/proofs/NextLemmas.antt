@@ -1,32 +1,20 @@
 -- That nothing is kept under a partner's next number.
 use Rattle.std.proofs.Common.{◌≡◌, ℕ, ◌+◌, ◌≤◌, List, [], ◌∷◌, Option, None, Some, Contains, refl, sym, ap, subst, ◌∙◌}
 use Rattle.std.specs.Option.{option_map}
-use Rattle.sqlite.specs.Effect.{Database}
-use Rattle.sqlite.specs.State.{State}
-use Rattle.partner_core.specs.Deliveries.{Delivery, run}
-use Rattle.partner_core.specs.Numbered.{with_number}
+use Rattle.sqlite.specs.{Effect.Database, State.State}
+use Rattle.partner_core.specs.{Deliveries.Delivery, Deliveries.run, Numbered.with_number}
 use Rattle.partner_core.proofs.Orders.{free_after_run}
 use Rattle.terminal_core.specs.State.{TerminalState}
 use Rattle.office_replies.specs.Events.{Event}
-use Rattle.office_rows.specs.Rows.{Interchange, Rows}
-use Rattle.office_rows.specs.Stored.{HasRows}
+use Rattle.office_rows.specs.{Rows.Interchange, Rows.Rows, Stored.HasRows}
 use Rattle.office_admission.specs.Setups.{SetupContent}
 use Rattle.office_loading.specs.Closed.{ClosedContent}
-use Rattle.office_tables.specs.Answers.{IsKept, pair_of}
-use Rattle.office_tables.specs.declared.interchanges.Kept.{Kept}
-use Rattle.office_history.specs.After.{AreKeptOnce, deliveries_of}
-use Rattle.office_history.specs.Cascade.{text_in}
+use Rattle.office_tables.specs.{Answers.IsKept, Answers.pair_of, declared.interchanges.Kept.Kept}
+use Rattle.office_history.specs.{After.AreKeptOnce, After.deliveries_of, Cascade.text_in}
 use Rattle.office_history.proofs.Kept.{head_in}
 use Rattle.office_tables.proofs.WriteLemmas.{no_text, one_kept}
-use Rattle.office_desk.specs.Finding.{KeepsBeside}
-use Rattle.office_desk.specs.Kept.{Office}
-use Rattle.office_desk.specs.Offices.{HoldsOffice}
-use Rattle.office_desk.specs.Taking.{IsNew}
-use Rattle.office_desk.specs.Telling.{Holds}
-use Rattle.office_desk.specs.declared.beside.Beside.{Beside}
-use Rattle.office_desk.proofs.HoldLemmas.{next_is}
-use Rattle.office_desk.proofs.KeptLemmas.{next_found}
-use Rattle.office_desk.proofs.DeliverLemmas.{keeps_accounts, next_follows}
+use Rattle.office_desk.specs.{Finding.KeepsBeside, Kept.Office, Offices.HoldsOffice, Taking.IsNew, Telling.Holds, declared.beside.Beside.Beside}
+use Rattle.office_desk.proofs.{HoldLemmas.next_is, KeptLemmas.next_found, DeliverLemmas.keeps_accounts, DeliverLemmas.next_follows}
 
 -- a number with no text has no interchange
 none_in : (partner number : ℕ) (rows : Rows) → AreKeptOnce rows.interchanges → text_in rows partner number ≡ None → IsKept partner number rows None
@@ -39,7 +27,7 @@ none_in partner number rows once free = at (pair_of partner number rows) refl
         let there : text_in rows partner number ≡ Some i.body = ap (option_map (λ (x : Interchange). x.body)) (one_kept partner number rows i once inside) in
         let never : Some i.body ≡ None = sym there ∙ free in cc
 
--- what any rows keep, those keep that this stands beside
+-- what any rows keep, those keep that this is beside
 pub read_beside : (closed : ClosedContent) (partner number : ℕ) (db : Database) (there : Beside) (kept : Option Kept) → ((rows : Rows) → HasRows rows db → IsKept partner number rows kept) → KeepsBeside closed partner number db there kept
 read_beside closed partner number db there kept each = record { events = λ content es rows has after at. each rows has; office = λ content rows terminal holds. each rows holds.has }
 

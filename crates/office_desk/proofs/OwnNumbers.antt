@@ -1,60 +1,33 @@
 -- What a store keeps of its partners' interchanges, of which some were put away: by number, and by what its tables show.
-use Rattle.std.proofs.Common.{◌≡◌, ℕ, ◌-◌, ◌≤◌, List, [], Ok, Err, Some, refl, sym, ap, subst, ◌∙◌, string_bytes, ◌+◌, ◌∷◌, ◌++◌, Result, ap₂, ◌⊎◌, zero, suc, ◌<◌, inl, inr, length, map, All, Option, None, is_some, true, arith}
+use Rattle.std.proofs.Common.{◌≡◌, ℕ, ◌-◌, ◌≤◌, List, [], Ok, Err, Some, refl, sym, ap, subst, ◌∙◌, string_bytes, ◌+◌, ◌∷◌, ◌++◌, Result, ap₂, ◌⊎◌, zero, suc, ◌<◌, inl, inr, length, map, Option, None, is_some, true, arith}
 use Rattle.std.specs.Prelude.{slice_get, nat_le, if◌then◌else◌, find, filter, Contains}
-use Rattle.std.specs.Option.{unwrap_or, option_map, option_and_then}
-use Rattle.std.proofs.lemmas.Option.{slice_get-map}
-use Rattle.edi_syntax.specs.Text.{Content}
-use Rattle.edi_syntax.specs.Interchange.{interchange_of, segments_in}
-use Rattle.edi_syntax.specs.Envelope.{header_of}
-use Rattle.edi_syntax.specs.Header.{control_number}
-use Rattle.partner_core.specs.Numbered.{with_number}
-use Rattle.partner_core.proofs.Keepings.{with_number-below}
-use Rattle.office_replies.specs.Contents.{GivesOrNotNow}
-use Rattle.office_replies.specs.declared.deliver.Fault.{Fault}
-use Rattle.office_replies.specs.declared.deliver.Response.{Response}
-use Rattle.office_admission.specs.Parties.{Parties, parties_of, partner_codes}
-use Rattle.office_admission.specs.declared.setup.Account.{Account}
-use Rattle.office_admission.specs.declared.setup.Setup.{Setup}
-use Rattle.office_admission.specs.Admission.{admission, number_in}
-use Rattle.office_admission.specs.Outcomes.{IsRefused, fault_in}
-use Rattle.office_admission.specs.Refusals.{RefusedSurely, refusal_of}
-use Rattle.office_admission.specs.declared.refusal.Refusal.{Refusal}
+use Rattle.std.specs.{Option.unwrap_or, Option.option_map, Option.option_and_then, List.range_with_len, List.AllByRecursion, List.Sorted.IsPermutation}
+use Rattle.std.proofs.{lemmas.Option.slice_get-map, lemmas.Bool.cases_order, lemmas.List.Elements.All-contains}
+use Rattle.std.proofs.lemmas.List.Sorted.{IsPermutation-sym, Contains-permutation}
+use Rattle.edi_syntax.specs.{Text.Content, Interchange.interchange_of, Interchange.segments_in, Envelope.header_of, Header.control_number}
+use Rattle.partner_core.specs.{Numbered.with_number, Order.state}
+use Rattle.partner_core.proofs.{Keepings.with_number-below, Orders.none_of}
+use Rattle.office_replies.specs.{Contents.GivesOrNotNow, declared.deliver.Fault.Fault, declared.deliver.Response.Response, Events.Event}
+use Rattle.office_admission.specs.{Parties.Parties, Parties.parties_of, Parties.partner_codes, declared.setup.Account.Account, declared.setup.Setup.Setup}
+use Rattle.office_admission.specs.{Admission.admission, Admission.number_in, Outcomes.IsRefused, Outcomes.fault_in, Refusals.RefusedSurely, Refusals.refusal_of}
+use Rattle.office_admission.specs.{declared.refusal.Refusal.Refusal, Setups.SetupContent, Setups.parties_in}
 use Rattle.office_admission.specs.declared.refusal.Refusal.TheVariants.{Plain, WithContrl}
-use Rattle.edi_messages.specs.Codes.{table_texts}
-use Rattle.edi_messages.specs.declared.code.CodeTable.{CodeTable}
+use Rattle.edi_messages.specs.{Codes.table_texts, declared.code.CodeTable.CodeTable, declared.codes.PartnerKind.PartnerKind}
 use Rattle.partner_core.specs.Deliveries.{Delivery, delivery, first_text, run}
-use Rattle.partner_core.specs.Order.{state}
 use Rattle.partner_core.specs.Answers.{AnswerModel, Taken, Repeat, Waiting, Clash, is_other, answer_of}
 use Rattle.terminal_core.specs.Versions.{newest}
-use Rattle.office_replies.specs.Events.{Event}
-use Rattle.office_admission.specs.Setups.{SetupContent, parties_in}
 use Rattle.office_history.specs.After.{SaysSame, content_after, deliveries_of, machine_after, opening_of, taking_in, AreKeptOnce, accounts_from, reply_if_any, reply_in}
-use Rattle.office_history.specs.Laws.{answer_model_of}
+use Rattle.office_history.specs.{Laws.answer_model_of, Cascade.text_in}
 use Rattle.office_history.proofs.Alike.{after_with_codes, delivered_with_codes, now_with_codes, opening_like, reply_like, state_like, taking_with_codes, with_codes}
-use Rattle.office_parts.specs.Kept.{kept}
+use Rattle.office_parts.specs.{Kept.kept, Closing.is_beyond}
 use Rattle.office_desk.specs.Answers.{code_of, answer_by_model, answer_at, answer_to}
 use Rattle.office_desk.specs.Alike.{AnswersAlike}
-use Rattle.std.specs.List.{range_with_len, AllByRecursion}
-use Rattle.std.specs.List.Sorted.{IsPermutation}
-use Rattle.std.proofs.lemmas.Bool.{cases_order}
-use Rattle.std.proofs.lemmas.List.Elements.{All-contains}
-use Rattle.std.proofs.lemmas.List.Sorted.{IsPermutation-sym, Contains-permutation}
-use Rattle.edi_messages.specs.declared.codes.PartnerKind.{PartnerKind}
-use Rattle.partner_core.proofs.Orders.{none_of}
-use Rattle.office_rows.specs.Rows.{Partner, Interchange, Rows}
-use Rattle.office_rows.specs.Effects.{is_pair}
-use Rattle.office_rows.specs.Opened.{NumberKept, number_kept}
-use Rattle.office_rows.specs.Office.{AreWaiting}
-use Rattle.office_loading.specs.Checks.{AreKeptBeyond, taken_beyond}
-use Rattle.office_loading.specs.OwnOffice.{AreInOrder, AreOwnNumbers, IsClosedBelow}
-use Rattle.office_history.specs.Cascade.{text_in}
+use Rattle.office_rows.specs.{Rows.Partner, Rows.Interchange, Rows.Rows, Effects.is_pair, Opened.NumberKept, Opened.number_kept, Office.AreWaiting}
+use Rattle.office_loading.specs.{Checks.AreKeptBeyond, Checks.taken_beyond, OwnOffice.AreInOrder, OwnOffice.AreOwnNumbers, OwnOffice.IsClosedBelow}
 use Rattle.office_history.proofs.Kept.{Has, taken_by, found_only, head_in, tail_in}
 use Rattle.office_history.proofs.KeptNumbers.{HaveRuns, found_pair, has_in, has_left, has_right, has_taken, replies, within_at}
 use Rattle.office_history.proofs.Runs.{is_pair_at}
-use Rattle.office_parts.specs.Closing.{is_beyond}
-use Rattle.office_parts.proofs.Opening.{IsBeyond}
-use Rattle.office_parts.proofs.Orders.{beyond_numbered}
-use Rattle.office_parts.proofs.OwnOffices.{KeepsOwn, beyond_in, in_beyond}
+use Rattle.office_parts.proofs.{Opening.IsBeyond, Orders.beyond_numbered, OwnOffices.KeepsOwn, OwnOffices.beyond_in, OwnOffices.in_beyond}
 pub use Rattle.office_history.proofs.Alike.{codes_after}
 
 -- ==== Admitted: What is known of a text that was admitted, or refused.
@@ -187,7 +160,7 @@ module _ (closed : ℕ → ℕ) (count : ℕ) (runs : ℕ → ℕ) (rows : Rows)
       let its = keeps.range i pair.0 in
       (omega (arith, its.0, pair.1), omega (arith, its.1, pair.1), omega (arith, its.2, pair.2), omega (arith, its.3, pair.2))
 
-  -- what stands beyond a partner's run waits
+  -- what is beyond a partner's run waits
   beyond_run : (p k : ℕ) (i : Interchange) → Found p k (Some i) → runs p < k → (i.partner ≡ p) × (i.number ≡ k) × IsBeyond closed count runs (number_kept i)
   beyond_run p k i e far =
       let pair = found_pair rows p k i e in

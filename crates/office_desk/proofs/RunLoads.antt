@@ -1,43 +1,24 @@
 -- The rows after a run are those of an office again.
 use Rattle.std.proofs.Common.{◌≡◌, ℕ, ◌+◌, ◌<◌, ◌≤◌, List, [], ◌∷◌, length, map, Bool, true, false, cond, None, Some, is_some, refl, sym, ap, subst, ◌∙◌, arith, zero, suc, ◌-◌, inl, inr, Option, ◌≢◌}
 use Rattle.std.specs.Prelude.{◌==◌, ◌&&◌}
-use Rattle.std.specs.List.Sorted.{IsPermutation}
+use Rattle.std.specs.{List.Sorted.IsPermutation, Option.option_or}
 use Rattle.std.proofs.lemmas.Bool.{cond-false, cases_order, cond-true, eq-eqb, ne_eqb, cases_eq, eqb-true}
 use Rattle.std.proofs.lemmas.List.Sorted.{IsPermutation-map, IsPermutation-refl, IsPermutation-sym, IsPermutation-trans}
-use Rattle.sqlite.specs.Order.{Row}
-use Rattle.sqlite.specs.Table.{Table}
-use Rattle.sqlite.specs.Effect.{Database}
-use Rattle.terminal_core.specs.State.{TerminalState, IsWhole}
-use Rattle.office_rows.specs.Rows.{Rows}
+use Rattle.sqlite.specs.{Order.Row, Table.Table, Effect.Database}
+use Rattle.terminal_core.specs.{State.TerminalState, State.IsWhole, Versions.newest, Forms.IsWellFormed}
+use Rattle.office_rows.specs.{Rows.Rows, Stored.HasRows, Stored.Holds, Stored.columns_of, Effects.with_waiting, Shown.ShowsTable, Shown.columns_at}
+use Rattle.office_rows.specs.{Office.settings_by_name, Office.HasAccounts, Opened.OpenedRows, Opened.Shows}
 use Rattle.office_rows.specs.Values.{partner_values, visit_values, place_values, line_values, setting_values, block_values}
-use Rattle.office_rows.specs.Stored.{HasRows, Holds, columns_of}
-use Rattle.office_rows.specs.Effects.{with_waiting}
-use Rattle.office_rows.specs.Shown.{ShowsTable, columns_at}
-use Rattle.office_rows.specs.Office.{settings_by_name, HasAccounts}
-use Rattle.office_rows.specs.Opened.{OpenedRows, Shows}
 use Rattle.office_rows.specs.Tables.{partner_table, visit_table, place_table, listing_table, block_table, setting_table}
-use Rattle.office_admission.specs.Setups.{SetupContent}
-use Rattle.office_loading.specs.Closed.{ClosedContent}
+use Rattle.office_admission.specs.{Setups.SetupContent, Taking.MachineState, Taking.interchange_taken}
+use Rattle.office_loading.specs.{Closed.ClosedContent, Tables.LoadsOwn, Checks.AreOwnVisits}
 use Rattle.office_history.specs.Cascade.{text_in, TakenContent, AreTakenFrom, texts_with, with_run}
 use Rattle.office_history.proofs.Afters.{once_with, pair_is, reply_with, text_with, RunTaken, run_taken}
-use Rattle.office_history.proofs.Kept.{shown_in}
-use Rattle.office_loading.specs.Tables.{LoadsOwn}
+use Rattle.office_history.proofs.{Kept.shown_in, Accounted.IsAccounted, Accounted.interchange_keeps, Ground.OnGround, Ground.interchange_stays}
 use Rattle.office_parts.proofs.OwnOffices.{AreOfOwn, own_shown}
-use Rattle.office_desk.proofs.DeliverLemmas.{keeps_accounts, interchange_keeps_own}
-use Rattle.office_desk.proofs.OwnNumbers.{KeepsBeyond, by_interchange}
-use Rattle.std.specs.Option.{option_or}
-use Rattle.partner_core.specs.Cascade.{TakesTexts, for_each_partner}
-use Rattle.partner_core.specs.Deliveries.{run}
-use Rattle.partner_core.specs.Machine.{Taking}
-use Rattle.partner_core.specs.Order.{numbers_above, reply_among}
-use Rattle.terminal_core.specs.Versions.{newest}
-use Rattle.terminal_core.specs.Forms.{IsWellFormed}
-use Rattle.office_loading.specs.Checks.{AreOwnVisits}
-use Rattle.office_admission.specs.Taking.{MachineState, interchange_taken}
-use Rattle.office_admission.proofs.Forming.{interchange_formed, terminal_alone}
-use Rattle.office_admission.proofs.Takings.{interchange_leads}
-use Rattle.office_history.proofs.Accounted.{IsAccounted, interchange_keeps}
-use Rattle.office_history.proofs.Ground.{OnGround, interchange_stays}
+use Rattle.office_desk.proofs.{DeliverLemmas.keeps_accounts, DeliverLemmas.interchange_keeps_own, OwnNumbers.KeepsBeyond, OwnNumbers.by_interchange}
+use Rattle.partner_core.specs.{Cascade.TakesTexts, Cascade.for_each_partner, Machine.Taking, Order.numbers_above, Order.reply_among}
+use Rattle.office_admission.proofs.{Forming.interchange_formed, Forming.terminal_alone, Takings.interchange_leads}
 use Rattle.std.proofs.lemmas.List.{length-map}
 use Rattle.partner_core.proofs.Orders.{some_of}
 use Rattle.office_history.specs.After.{machine_with, reply_in}
@@ -174,7 +155,7 @@ early_loads closed content rows p k text terminal db db' has loads has' one most
 
 -- ---- interchanges, one after the other
 
--- the machine is sound as that of a store is whose newest closing was that, and stands on the ground of the first
+-- the machine is sound as that of a store is whose newest closing was that, and has the plan and limit of the first
 pub record StandsOn (newest_closed : ℕ) (first machine : MachineState) : Type 0 where
   pub ground : OnGround first.terminal machine.terminal
   pub few : length machine.kinds ≤ 999

@@ -1,26 +1,17 @@
 -- What a desk answers to an account that is to be added, and what it leaves.
 use Rattle.std.specs.Prelude.{◌≡◌, ◌⊎◌, ℕ, List, [], ◌∷◌, ◌++◌, Option, None, Some, string_bytes}
-use Rattle.sqlite.specs.Held.{state}
-use Rattle.sqlite.specs.State.{State}
-use Rattle.sqlite.specs.Tree.{Trees}
+use Rattle.sqlite.specs.{Held.state, State.State, Tree.Trees}
 use Rattle.sqlite_trees.specs.declared.store.Store.{Ghosts}
 use Rattle.edi_messages.specs.declared.codes.PartnerKind.{PartnerKind}
 use Rattle.office_admission.specs.Accounts.{AccountContent, AccountPair, added_as, known_as, refused_for, account_answer, content_after}
-use Rattle.office_replies.specs.AccountAnswers.{account_added_text, account_known_text}
-use Rattle.office_replies.specs.Events.{Event, added}
+use Rattle.office_replies.specs.{AccountAnswers.account_added_text, AccountAnswers.account_known_text, Events.Event, Events.added}
 use Rattle.office_replies.specs.declared.accounts.AccountAnswer.{AccountAnswer}
 use Rattle.office_replies.specs.declared.accounts.AccountAnswer.TheVariants.{Added, Known, Refused, NotNow}
-use Rattle.office_rows.specs.Effects.{with_partner}
-use Rattle.office_rows.specs.Rows.{Rows}
-use Rattle.office_rows.specs.Stored.{HasRows, StoresRows}
-use Rattle.office_admission.specs.Kinds.{kind_named}
-use Rattle.office_admission.specs.Setups.{SetupContent, setup_content, setup_with_account}
-use Rattle.office_desk.specs.Crashes.{IsAfter, Leaves}
-use Rattle.office_desk.specs.Leaving.{LeavesRows}
-use Rattle.office_desk.specs.declared.accounts.AccountStanding.{AccountStanding}
+use Rattle.office_rows.specs.{Effects.with_partner, Rows.Rows, Stored.HasRows, Stored.StoresRows}
+use Rattle.office_admission.specs.{Kinds.kind_named, Setups.SetupContent, Setups.setup_content, Setups.setup_with_account}
+use Rattle.office_desk.specs.{Crashes.IsAfter, Crashes.Leaves, Leaving.LeavesRows, declared.accounts.AccountStanding.AccountStanding}
+use Rattle.office_desk.specs.{declared.beside.Beside.Beside, declared.desk.Desk.Desk}
 use Rattle.office_desk.specs.declared.accounts.AccountStanding.TheVariants as standing
-use Rattle.office_desk.specs.declared.beside.Beside.{Beside}
-use Rattle.office_desk.specs.declared.desk.Desk.{Desk}
 
 -- ---- the answer
 
@@ -43,7 +34,7 @@ abbrev pub AnswersAccount : SetupContent → List Event → List ℕ → List �
 AnswersAccount content es code kind answer =
     Says (account_answer (content_after content es).partners code kind) code answer
 
--- ---- what stands beside the rows
+-- ---- what is beside the rows
 
 -- with the number 1 for one partner more, or none as before
 abbrev pub IsLengthened : (old new : Option Beside) → Type 0
@@ -58,7 +49,7 @@ IsSameOrNone old new = (new ≡ old) ⊎ (new ≡ None)
 
 -- ---- what is left
 
--- whatever rows it has: an account that is added is one in the set-up, in the rows and beside them; what is refused or
+-- with any rows: an account that is added is one in the set-up, in the rows and beside them; what is refused or
 -- known changes nothing at all; NotNow leaves the set-up and the rows, and beside them what was there or nothing
 abbrev pub AddsOver : {S : Type 0} (g : Ghosts S) (old : Desk S g) → List ℕ → List ℕ → AccountAnswer → Desk S g → Type 0
 AddsOver g old code kind (Added id body) new =
@@ -73,14 +64,14 @@ AddsOver g old code kind NotNow new =
 AddsOver g old code kind answer new =
     (new.conn ≡ old.conn) × (new.setup ≡ old.setup) × (new.beside ≡ old.beside)
 
--- what is added stands, and what is answered NotNow is there whole or not at all
+-- what is added stays, and what is answered NotNow is there whole or not at all
 abbrev pub LeavesAdded : SetupContent → List Event → List ℕ → List ℕ → AccountAnswer → State → Type 0
 LeavesAdded content es code kind (Added id body) s = Leaves content (es ++ added code kind ∷ []) s
 LeavesAdded content es code kind NotNow s =
     (db : Trees) → s.may_leave db → IsAfter content es db ⊎ IsAfter content (es ++ added code kind ∷ []) db
 LeavesAdded content es code kind answer s = Leaves content es s
 
--- of whatever rows were committed: with an account that is added a crash leaves only those with it; NotNow leaves these
+-- of any rows that were committed: with an account that is added a crash leaves only those with it; NotNow leaves these
 -- or the old ones; any other answer leaves the old ones
 abbrev pub LeavesAddedOver : List AccountPair → Rows → List ℕ → List ℕ → AccountAnswer → State → Type 0
 LeavesAddedOver accounts rows code kind (Added id body) s =

@@ -1,39 +1,24 @@
 -- What one call does to a desk: all that is said of it, in one piece, so that whoever knows a desk only by its traits can
 -- hand it on.
 use Rattle.std.specs.Prelude.{◌≡◌, ℕ, List, Ok, Option, Result, OnOk}
-use Rattle.sqlite.specs.Held.{state}
-use Rattle.sqlite.specs.State.{HasCleanDisk}
+use Rattle.sqlite.specs.{Held.state, State.HasCleanDisk}
 use Rattle.sqlite_trees.specs.declared.store.Store.{Ghosts}
 use Rattle.edi_syntax.specs.Interchange.{interchange_of}
 use Rattle.terminal_core.specs.State.{TerminalState}
-use Rattle.office_replies.specs.Adding.{Adds}
-use Rattle.office_replies.specs.Delivering.{AreAnswered, Delivers, LeadsOn}
-use Rattle.office_replies.specs.Events.{Event}
-use Rattle.office_replies.specs.declared.accounts.AccountAnswer.{AccountAnswer}
-use Rattle.office_replies.specs.declared.deliver.Response.{Response}
-use Rattle.office_reports.specs.Looking.{Look, Tells}
-use Rattle.office_reports.specs.declared.query.NotNow.{NotNow}
-use Rattle.office_admission.specs.Parties.{parties_of}
-use Rattle.office_admission.specs.Setups.{SetupContent, setup_content}
-use Rattle.office_admission.specs.Accounts.{account_answer}
-use Rattle.office_admission.specs.Admission.{admission}
+use Rattle.office_replies.specs.{Adding.Adds, Delivering.AreAnswered, Delivering.Delivers, Delivering.LeadsOn, Events.Event}
+use Rattle.office_replies.specs.{declared.accounts.AccountAnswer.AccountAnswer, declared.deliver.Response.Response}
+use Rattle.office_reports.specs.{Looking.Look, Looking.Tells, declared.query.NotNow.NotNow}
+use Rattle.office_admission.specs.{Parties.parties_of, Setups.SetupContent, Setups.setup_content, Accounts.account_answer, Admission.admission}
 use Rattle.office_admission.specs.Refusals.{RefusedSurely}
-use Rattle.office_rows.specs.Rows.{Rows}
-use Rattle.office_rows.specs.Stored.{HasRows}
-use Rattle.office_rows.specs.Tables.{office_schema}
+use Rattle.office_rows.specs.{Rows.Rows, Stored.HasRows, Tables.office_schema}
 use Rattle.office_desk.specs.Accounts.{AddsOver, AnswersAccount, LeavesAdded, LeavesAddedOver, Says}
-use Rattle.office_desk.specs.Answers.{AnswersNext}
-use Rattle.office_desk.specs.Crashes.{Leaves, LeavesAll, LeavesBehind, LeavesNoMore}
-use Rattle.office_desk.specs.Desks.{IsSound, StandsFor, Refuses}
-use Rattle.office_desk.specs.Kept.{AnswersOver, Office}
-use Rattle.office_desk.specs.Leaving.{LeavesOver}
-use Rattle.office_desk.specs.Looking.{DeskShows, IsOpenAt, ShowsUnfitReply}
-use Rattle.office_desk.specs.Noting.{IsNow, NotesCause, NotesFault, NotesLook, NotesStore}
-use Rattle.office_desk.specs.Offices.{DeskHolds}
-use Rattle.office_desk.specs.Order.{AddsInOrder, DeliversInOrder}
+use Rattle.office_desk.specs.{Answers.AnswersNext, Desks.IsSound, Desks.StandsFor, Desks.Refuses, Kept.AnswersOver, Kept.Office, Leaving.LeavesOver}
+use Rattle.office_desk.specs.{Looking.DeskShows, Looking.IsOpenAt, Looking.ShowsUnfitReply, Offices.DeskHolds, Order.AddsInOrder, Order.DeliversInOrder}
 use Rattle.office_desk.specs.declared.desk.Desk.{Desk}
+use Rattle.office_desk.specs.Crashes.{Leaves, LeavesAll, LeavesBehind, LeavesNoMore}
+use Rattle.office_desk.specs.Noting.{IsNow, NotesCause, NotesFault, NotesLook, NotesStore}
 
--- A text was delivered, with that response. From whatever events it is answered at its place; over any office's rows by
+-- A text was delivered, with that response. From any events it is answered at its place; over any office's rows by
 -- what is kept; what a crash leaves, from both; the order of arrival is kept; the set-up stays; what is refused is refused so, and
 -- touches nothing; why it is NotNow; and what is admitted and answered otherwise is so over an open connection.
 pub record Leads {S : Type 0} (g : Ghosts S) (old : Desk S g) (sent : List ℕ) (response : Response) (new : Desk S g)
@@ -59,8 +44,8 @@ pub record Leads {S : Type 0} (g : Ghosts S) (old : Desk S g) (sent : List ℕ) 
   pub answered : HasCleanDisk (state g new.conn) → (place : ℕ × ℕ) →
       admission (parties_of old.setup) (interchange_of sent) ≡ Ok place → IsNow response → IsSound g new
 
--- An account was asked for under a code, of a kind, with that answer. From whatever events it is answered at its place;
--- by the desk's own set-up, whatever rows it has; what a crash leaves, from both; the order of arrival is kept; and why it
+-- An account was asked for under a code, of a kind, with that answer. From any events it is answered at its place;
+-- by the desk's own set-up, with any rows; what a crash leaves, from both; the order of arrival is kept; and why it
 -- is NotNow.
 pub record Enrols {S : Type 0} (g : Ghosts S) (old : Desk S g) (code kind : List ℕ) (answer : AccountAnswer)
     (new : Desk S g) : Type 0 where
@@ -78,7 +63,7 @@ pub record Enrols {S : Type 0} (g : Ghosts S) (old : Desk S g) (code kind : List
   pub order : AddsInOrder g old code kind answer new
   pub noted : NotesStore answer old.last_fault new.last_fault
 
--- The desk stands where it stood, and holds what it held: what is committed stays as it is; a crash leaves nothing that it
+-- The desk is where it was, and holds what it held: what is committed stays as it is; a crash leaves nothing that it
 -- would not have left before; the set-up stays; and what isn't sound stays so.
 pub record OnlyLooks {S : Type 0} (g : Ghosts S) (old new : Desk S g) : Type 0 where
   pub same : IsSound g new → (content : SetupContent) (es : List Event) → StandsFor g content es old →
@@ -93,8 +78,8 @@ pub record OnlyLooks {S : Type 0} (g : Ghosts S) (old new : Desk S g) : Type 0 w
   pub stays : IsSound g new → IsSound g old
   pub clean : HasCleanDisk (state g new.conn) → HasCleanDisk (state g old.conn)
 
--- A report, or a page of the kept texts, was asked for. What was found is what the rows tell; the desk only looked; why it
--- can't be reported now: over an office's rows only by the store or the memory, or by what is asked for; and where it's told
+-- A report, or a page of the kept texts, was asked for. What was found is what the rows say; the desk only looked; why it
+-- can't be reported now: over an office's rows only by the store or the memory, or by what is asked for; and where it's said
 -- that the office can be asked, the store is open.
 pub record Looks {S : Type 0} (g : Ghosts S) (old : Desk S g) (look : Look) (found : Result (Option (List ℕ)) NotNow)
     (new : Desk S g) : Type 0 where
@@ -107,14 +92,14 @@ pub record Looks {S : Type 0} (g : Ghosts S) (old : Desk S g) (look : Look) (fou
 
 -- ---- what follows of deliveries, one after the other
 
--- each is answered at its place, by a desk that stands after some events
+-- each is answered at its place, by a desk that is after some events
 abbrev pub DeliveriesAreAnswered : {S : Type 0} → Ghosts S → Type 0
 DeliveriesAreAnswered {S} g =
     (old new : Desk S g) (texts : List (List ℕ)) (responses : List Response) →
     LeadsOn (Leads g) old texts responses new → IsSound g new → (content : SetupContent) (es : List Event) →
     StandsFor g content es old → AreAnswered (StandsFor g content) (AnswersNext content) es new texts responses
 
--- what a crash leaves behind them, of a desk that stands after some events
+-- what a crash leaves behind them, of a desk that is after some events
 abbrev pub DeliveriesOutlastCrashes : {S : Type 0} → Ghosts S → Type 0
 DeliveriesOutlastCrashes {S} g =
     (old new : Desk S g) (texts : List (List ℕ)) (responses : List Response) →

@@ -1,13 +1,9 @@
 -- What a crash leaves.
 use Rattle.std.specs.Prelude.{◌⊎◌, ℕ, List, [], ◌∷◌, ◌++◌}
-use Rattle.sqlite.specs.State.{State}
-use Rattle.sqlite.specs.Tree.{Trees}
-use Rattle.office_replies.specs.Delivering.{with_answered}
-use Rattle.office_replies.specs.Events.{Event, delivered}
-use Rattle.office_replies.specs.declared.deliver.Response.{Response}
+use Rattle.sqlite.specs.{State.State, Tree.Trees}
+use Rattle.office_replies.specs.{Delivering.with_answered, Events.Event, Events.delivered, declared.deliver.Response.Response}
 use Rattle.office_replies.specs.declared.deliver.Response.TheVariants as response
-use Rattle.office_rows.specs.Rows.{Rows}
-use Rattle.office_rows.specs.Stored.{StoresRows}
+use Rattle.office_rows.specs.{Rows.Rows, Stored.StoresRows}
 use Rattle.office_admission.specs.Setups.{SetupContent}
 use Rattle.office_history.specs.After.{AreAfter}
 
@@ -30,7 +26,7 @@ LeavesEither content es sent s =
 abbrev pub LeavesNoMore : State → State → Type 0
 LeavesNoMore old new = (db : Trees) → new.may_leave db → old.may_leave db
 
--- what is answered stands, and a delivery that is answered NotNow is there whole or not at all
+-- what is answered stays, and a delivery that is answered NotNow is there whole or not at all
 abbrev pub LeavesBehind : SetupContent → List Event → List ℕ → Response → State → Type 0
 LeavesBehind content es sent response.NotNow s = LeavesEither content es sent s
 LeavesBehind content es sent given s = Leaves content (es ++ delivered sent ∷ []) s

@@ -1,20 +1,14 @@
--- What a desk tells of whatever is looked at: a report, a page of the kept texts, or an archive's report.
+-- What a desk shows for any look: a report, a page of the kept texts, or an archive's report.
 use Rattle.std.specs.Prelude.{◌≡◌, ℕ, List, Option, None}
-use Rattle.sqlite.specs.Effect.{Database}
-use Rattle.sqlite.specs.Held.{state}
-use Rattle.sqlite.specs.State.{State}
+use Rattle.sqlite.specs.{Effect.Database, Held.state, State.State}
 use Rattle.sqlite_trees.specs.declared.store.Store.{Ghosts}
 use Rattle.office_replies.specs.Events.{Event}
 use Rattle.office_admission.specs.Setups.{SetupContent}
-use Rattle.office_rows.specs.Rows.{Rows}
-use Rattle.office_rows.specs.Stored.{HasRows}
-use Rattle.office_rows.specs.Tables.{interchange_table}
+use Rattle.office_rows.specs.{Rows.Rows, Stored.HasRows, Tables.interchange_table}
 use Rattle.office_history.specs.After.{AreAfter}
 use Rattle.office_reports.specs.Looking.{Look, of_archive, report, texts_after}
 use Rattle.office_loading.specs.Pages.{TellsLines, most_page_bytes}
-use Rattle.office_desk.specs.Causes.{AsksUnfitReply}
-use Rattle.office_desk.specs.Reports.{DeskTells, IsOpenFor, TellsAfter}
-use Rattle.office_desk.specs.declared.desk.Desk.{Desk}
+use Rattle.office_desk.specs.{Causes.AsksUnfitReply, Reports.DeskTells, Reports.IsOpenFor, Reports.TellsAfter, declared.desk.Desk.Desk}
 
 -- ---- the kept texts
 
@@ -35,9 +29,9 @@ pub record HandsAfter (content : SetupContent) (es : List Event) (from : ℕ) (f
   pub after : AreAfter content es rows
   pub pages : PagesOf db from found
 
--- ---- whatever is looked at
+-- ---- any look
 
--- what the desk tells of it; of its store nothing was put away, so no archive tells anything
+-- what the desk shows for it; of its store nothing was put away, so no archive shows anything
 abbrev pub DeskShows : {S : Type 0} (g : Ghosts S) → Desk S g → Look → Option (List ℕ) → Type 0
 DeskShows g desk (report query) found = DeskTells g desk query found
 DeskShows g desk (texts_after from) found = DeskHands g desk from found
@@ -49,7 +43,7 @@ ShowsAfter content es (report query) found = TellsAfter content es query found
 ShowsAfter content es (texts_after from) found = HandsAfter content es from found
 ShowsAfter content es (of_archive place query) found = found ≡ None
 
--- the reply that it tells of is no text; a page of texts is reported whatever their bytes are
+-- the reply that it reports is no text; a page of texts is reported with any bytes
 abbrev pub ShowsUnfitReply : SetupContent → Rows → Look → Type 0
 ShowsUnfitReply content rows (report query) = AsksUnfitReply content rows query
 ShowsUnfitReply content rows (texts_after from) = ⊥

@@ -1,31 +1,18 @@
--- Interchanges that stand in the order of arrival: what a call makes of them, and what a crash leaves.
+-- Interchanges that are in the order of arrival: what a call makes of them, and what a crash leaves.
 use Rattle.std.specs.Prelude.{◌⊎◌, ℕ, List, [], ◌∷◌, ◌++◌, Result, Ok, Err, OnErr, OnOk, Option, IsTrue}
-use Rattle.sqlite.specs.Effect.{Database}
-use Rattle.sqlite.specs.Held.{state}
-use Rattle.sqlite.specs.State.{State, HasCleanDisk}
-use Rattle.sqlite.specs.Tree.{Trees}
+use Rattle.sqlite.specs.{Effect.Database, Held.state, State.State, State.HasCleanDisk, Tree.Trees}
 use Rattle.sqlite_trees.specs.declared.store.Store.{Ghosts}
 use Rattle.partner_core.specs.Deliveries.{Delivery}
-use Rattle.office_replies.specs.Adding.{with_added}
-use Rattle.office_replies.specs.Delivering.{with_answered}
-use Rattle.office_replies.specs.Events.{Event, delivered, added}
-use Rattle.office_replies.specs.declared.accounts.AccountAnswer.{AccountAnswer}
+use Rattle.office_replies.specs.{Adding.with_added, Delivering.with_answered, Events.Event, Events.delivered, Events.added}
+use Rattle.office_replies.specs.{declared.accounts.AccountAnswer.AccountAnswer, declared.deliver.Response.Response}
 use Rattle.office_replies.specs.declared.accounts.AccountAnswer.TheVariants as account
-use Rattle.office_replies.specs.declared.deliver.Response.{Response}
 use Rattle.office_replies.specs.declared.deliver.Response.TheVariants as response
-use Rattle.office_rows.specs.Rows.{Rows}
-use Rattle.office_rows.specs.Tables.{office_schema}
-use Rattle.office_admission.specs.Setups.{SetupContent}
-use Rattle.office_admission.specs.declared.setup.Setup.{Setup}
-use Rattle.office_admission.specs.Taking.{MachineState, machine_of}
-use Rattle.office_tables.specs.Order.{HasRowsInOrder}
-use Rattle.office_tables.specs.declared.table_fault.TableFault.{TableFault}
+use Rattle.office_rows.specs.{Rows.Rows, Tables.office_schema}
+use Rattle.office_admission.specs.{Setups.SetupContent, declared.setup.Setup.Setup, Taking.MachineState, Taking.machine_of}
+use Rattle.office_tables.specs.{Order.HasRowsInOrder, declared.table_fault.TableFault.TableFault}
 use Rattle.office_history.specs.Cascade.{TakenContent, AreTakenFrom, texts_with, with_run}
 use Rattle.office_parts.specs.InOrder.{AreAfterInOrder}
-use Rattle.office_desk.specs.Desks.{IsSound, StandsFor}
-use Rattle.office_desk.specs.Taking.{HasNumbered}
-use Rattle.office_desk.specs.Telling.{Comes, Holds}
-use Rattle.office_desk.specs.declared.beside.Beside.{Beside}
+use Rattle.office_desk.specs.{Desks.IsSound, Desks.StandsFor, Taking.HasNumbered, Telling.Comes, Telling.Holds, declared.beside.Beside.Beside}
 use Rattle.office_desk.specs.declared.desk.Desk.{Desk}
 
 -- the database has the rows after those events, the interchanges in the order of arrival, under the rowids 1, 2, 3 and so
@@ -54,7 +41,7 @@ LeavesEitherInOrder content es event s =
 
 -- ---- a call to a desk
 
--- for that opening set-up, after those events, it is this desk, and its interchanges stand in the order of arrival
+-- for that opening set-up, after those events, it is this desk, and its interchanges are in the order of arrival
 pub record StandsInOrder {S : Type 0} (g : Ghosts S) (content : SetupContent) (es : List Event) (desk : Desk S g)
     : Type 0 where
   pub stands : StandsFor g content es desk
@@ -71,7 +58,7 @@ LeavesAddedInOrder content es code kind (account.Added id body) s = LeavesInOrde
 LeavesAddedInOrder content es code kind account.NotNow s = LeavesEitherInOrder content es (added code kind) s
 LeavesAddedInOrder content es code kind answer s = LeavesInOrder content es s
 
--- A text was delivered. If the interchanges stood in the order of arrival, they do with this delivery; as before, if it is
+-- A text was delivered. If the interchanges were in the order of arrival, they are with this delivery; as before, if it is
 -- answered NotNow. A crash leaves none out of order.
 pub record DeliversInOrder {S : Type 0} (g : Ghosts S) (old : Desk S g) (sent : List ℕ) (response : Response)
     (new : Desk S g) : Type 0 where

@@ -1,42 +1,23 @@
--- What the desk tells: the reports of the rows that it holds.
+-- What the desk reports: the reports of the rows that it holds.
 use Rattle.std.specs.Prelude.{◌≡◌, ℕ, ◌+◌, ◌-◌, List, [], ◌∷◌, Option, None, Some, IsTrue, codes, decimal, option_and_then, slice_get, string_bytes}
 use Rattle.std.specs.List.Sorted.{IsPermutation}
-use Rattle.sqlite.specs.Held.{state}
-use Rattle.sqlite.specs.State.{State}
+use Rattle.sqlite.specs.{Held.state, State.State}
 use Rattle.sqlite_trees.specs.declared.store.Store.{Ghosts}
-use Rattle.edi_messages.specs.declared.codes.PartnerKind.{PartnerKind}
-use Rattle.edi_messages.specs.Owned.{call_content}
-use Rattle.terminal_core.specs.Rows.{VisitContent}
-use Rattle.terminal_core.specs.State.{TerminalState}
-use Rattle.office_replies.specs.Events.{Event}
-use Rattle.office_replies.specs.Bodies.{answer_text, waiting_text}
-use Rattle.office_rows.specs.Opening.{tables_version}
-use Rattle.office_rows.specs.Rows.{Rows}
-use Rattle.office_admission.specs.Parties.{partner_from}
-use Rattle.office_admission.specs.Setups.{SetupContent, setup_content}
+use Rattle.edi_messages.specs.{declared.codes.PartnerKind.PartnerKind, Owned.call_content}
+use Rattle.terminal_core.specs.{Rows.VisitContent, State.TerminalState}
+use Rattle.office_replies.specs.{Events.Event, Bodies.answer_text, Bodies.waiting_text}
+use Rattle.office_rows.specs.{Opening.tables_version, Rows.Rows}
+use Rattle.office_admission.specs.{Parties.partner_from, Setups.SetupContent, Setups.setup_content}
 use Rattle.office_tables.specs.Answers.{IsNextOf}
 use Rattle.office_loading.specs.Waiting.{waiting_numbers}
 use Rattle.office_history.specs.After.{AreAfter, content_after, machine_after, parties_in, reply_in}
 use Rattle.office_history.specs.Cascade.{text_in}
-use Rattle.office_reports.specs.Program.{program_version}
-use Rattle.office_reports.specs.declared.query.Query.{Query}
+use Rattle.office_reports.specs.{Program.program_version, declared.query.Query.Query, Blocks.IsBlocksReport, Calls.calls_text, Containers.container_report}
+use Rattle.office_reports.specs.{Contrls.contrl_in, Metrics.metrics_text, Metrics.ready_text}
+use Rattle.office_reports.specs.{Partners.PartnerContent, Partners.partner_line, Partners.partners_text, Work.IsWorkReport, Picture.IsPicture}
+use Rattle.office_reports.specs.{Export.IsYardExport, Lists.IsListReport, Tickets.ticket_text, Visits.visit_report, Yard.IsYardReport}
 use Rattle.office_reports.specs.declared.query.Query.TheVariants as query
-use Rattle.office_reports.specs.Blocks.{IsBlocksReport}
-use Rattle.office_reports.specs.Calls.{calls_text}
-use Rattle.office_reports.specs.Containers.{container_report}
-use Rattle.office_reports.specs.Contrls.{contrl_in}
-use Rattle.office_reports.specs.Metrics.{metrics_text, ready_text}
-use Rattle.office_reports.specs.Partners.{PartnerContent, partner_line, partners_text}
-use Rattle.office_reports.specs.Work.{IsWorkReport}
-use Rattle.office_reports.specs.Picture.{IsPicture}
-use Rattle.office_reports.specs.Export.{IsYardExport}
-use Rattle.office_reports.specs.Lists.{IsListReport}
-use Rattle.office_reports.specs.Tickets.{ticket_text}
-use Rattle.office_reports.specs.Visits.{visit_report}
-use Rattle.office_reports.specs.Yard.{IsYardReport}
-use Rattle.office_desk.specs.Offices.{DeskHolds}
-use Rattle.office_desk.specs.Telling.{Holds}
-use Rattle.office_desk.specs.declared.desk.Desk.{Desk}
+use Rattle.office_desk.specs.{Offices.DeskHolds, Telling.Holds, declared.desk.Desk.Desk}
 
 -- the number of the partner of that code
 abbrev pub partner_called : SetupContent → List ℕ → Option ℕ
@@ -96,12 +77,12 @@ AreLookedUp rows id (account ∷ accounts) [] = ⊥
 AreLookedUp rows id (account ∷ accounts) (partner ∷ partners) =
     IsLookedUp rows id account partner × AreLookedUp rows (id + 1) accounts partners
 
--- the text tells of each account, in the order of the ids
+-- the text has each account, in the order of the ids
 abbrev pub TellsPartners : Rows → List (List ℕ × PartnerKind) → (found : Option (List ℕ)) → Type 0
 TellsPartners rows accounts found =
     (partners : List PartnerContent) × AreLookedUp rows 1 accounts partners × (found ≡ Some (partners_text partners))
 
--- the text tells of the account under that id, as the report on all partners does; of none there is nothing to tell
+-- the text has the account under that id, as the report on all partners does; of none there is no report
 abbrev pub TellsPartner : Rows → List (List ℕ × PartnerKind) → Option ℕ → (found : Option (List ℕ)) → Type 0
 TellsPartner rows accounts None found = found ≡ None
 TellsPartner rows accounts (Some id) found =
@@ -123,7 +104,7 @@ TellsMetrics content state rows found =
 
 -- ---- all reports
 
--- the text, if there is one, is what the rows tell at the query, which are those of that set-up and of that terminal
+-- the text, if there is one, is what the rows say at the query, which are those of that set-up and of that terminal
 abbrev pub TellsOf : SetupContent → TerminalState → Rows → Query → Option (List ℕ) → Type 0
 TellsOf content state rows query.Yard found = (text : List ℕ) × (found ≡ Some text) × IsYardReport state text
 TellsOf content state rows query.YardTable found = (text : List ℕ) × (found ≡ Some text) × IsYardExport state text
@@ -153,15 +134,15 @@ abbrev pub IsOpenFor : Query → State → Type 0
 IsOpenFor query.Health s = IsTrue s.is_open
 IsOpenFor other s = Unit {0}
 
--- what the rows after those events tell
+-- what the rows after those events say
 pub record TellsAfter (content : SetupContent) (es : List Event) (query : Query)
     (found : Option (List ℕ)) : Type 0 where
   pub rows : Rows
   pub after : AreAfter content es rows
   pub tells : TellsOf (content_after content es) (machine_after content es).terminal rows query found
 
--- what the desk tells, whatever rows it has: those after events tell what the rows after that tell; those of any
--- office tell what they are
+-- what the desk says, with any rows: those after events say what the rows after that say; those of any
+-- office say what they are
 pub record DeskTells {S : Type 0} (g : Ghosts S) (desk : Desk S g) (query : Query)
     (found : Option (List ℕ)) : Type 0 where
   pub after : (content : SetupContent) (es : List Event) →

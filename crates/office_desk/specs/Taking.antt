@@ -1,31 +1,17 @@
--- What taking a delivery in does to the tables, and to what stands beside them.
+-- What taking a delivery in does to the tables, and to what is beside them.
 use Rattle.std.specs.Prelude.{◌≡◌, ◌⊎◌, ℕ, ◌≤◌, List, [], ◌∷◌, ◌++◌, Option, None, Result, Ok, Err, IfErr, IfOk, IsTrue, OnErr}
-use Rattle.sqlite.specs.Effect.{Database}
-use Rattle.sqlite.specs.State.{State, HasCleanDisk}
-use Rattle.sqlite.specs.Tree.{Trees}
+use Rattle.sqlite.specs.{Effect.Database, State.State, State.HasCleanDisk, Tree.Trees}
 use Rattle.edi_syntax.specs.Numbers.{last_number}
 use Rattle.partner_core.specs.Deliveries.{Delivery}
-use Rattle.office_replies.specs.Events.{Event, delivered}
-use Rattle.office_replies.specs.declared.deliver.Response.{Response}
+use Rattle.office_replies.specs.{Events.Event, Events.delivered, declared.deliver.Response.Response}
 use Rattle.office_loading.specs.Closed.{ClosedContent}
-use Rattle.office_rows.specs.Rows.{Rows}
-use Rattle.office_rows.specs.Stored.{HasRows}
-use Rattle.office_admission.specs.Setups.{SetupContent}
-use Rattle.office_admission.specs.declared.setup.Setup.{Setup}
-use Rattle.office_admission.specs.Outcomes.{IsAdmitted}
-use Rattle.office_tables.specs.Faults.{IsOfStoreOr}
-use Rattle.office_tables.specs.declared.table_fault.TableFault.{TableFault}
-use Rattle.office_admission.specs.Taking.{machine_of}
-use Rattle.office_tables.specs.DeliveryReading.{HasUnfitBehind}
-use Rattle.office_tables.specs.Taking.{IsNumbered}
-use Rattle.office_desk.specs.Crashes.{Leaves, LeavesEither}
-use Rattle.office_desk.specs.Finding.{KeepsBeside}
-use Rattle.office_desk.specs.Kept.{AnswersOrStays, Office}
-use Rattle.office_desk.specs.Leaving.{LeavesRows, LeavesTakenOver}
-use Rattle.office_desk.specs.Offices.{HoldsOffice}
-use Rattle.office_desk.specs.Telling.{Answers, Comes, Holds, IsRunDone, TakesNext}
-use Rattle.office_desk.specs.declared.beside.Beside.{Beside}
+use Rattle.office_rows.specs.{Rows.Rows, Stored.HasRows}
+use Rattle.office_admission.specs.{Setups.SetupContent, declared.setup.Setup.Setup, Outcomes.IsAdmitted, Taking.machine_of}
+use Rattle.office_tables.specs.{Faults.IsOfStoreOr, declared.table_fault.TableFault.TableFault, DeliveryReading.HasUnfitBehind, Taking.IsNumbered}
+use Rattle.office_desk.specs.{Crashes.Leaves, Crashes.LeavesEither, Finding.KeepsBeside, Kept.AnswersOrStays, Kept.Office}
+use Rattle.office_desk.specs.{Leaving.LeavesRows, Leaving.LeavesTakenOver, Offices.HoldsOffice, declared.beside.Beside.Beside}
 use Rattle.office_desk.specs.declared.taking.Delivery.{Delivery as Delivered}
+use Rattle.office_desk.specs.Telling.{Answers, Comes, Holds, IsRunDone, TakesNext}
 
 -- ---- what comes
 
@@ -35,7 +21,7 @@ pub record IsDelivered (setup : Setup) (d : Delivered) : Type 0 where
   pub number : d.number ≤ last_number
   pub admitted : IsAdmitted setup d.text.now d.admitted
 
--- no change is under way, and the rows that this stands beside keep nothing under its number
+-- no change is under way, and the rows that this is beside keep nothing under its number
 pub record IsNew (closed : ClosedContent) (d : Delivery) (there : Beside) (s : State) : Type 0 where
   pub settled : s.now ≡ s.committed
   pub free : KeepsBeside closed d.partner d.number s.committed there None

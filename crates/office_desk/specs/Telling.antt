@@ -1,27 +1,14 @@
 -- What the desk answers, and what it leaves.
 use Rattle.std.specs.Prelude.{◌≡◌, ℕ, ◌+◌, ◌-◌, List, [], ◌∷◌, ◌++◌, length, slice_set, Option, Some, IsTrue}
-use Rattle.sqlite.specs.Effect.{Database}
-use Rattle.sqlite.specs.State.{State}
-use Rattle.sqlite.specs.Tree.{Trees}
+use Rattle.sqlite.specs.{Effect.Database, State.State, Tree.Trees}
 use Rattle.edi_syntax.specs.Interchange.{interchange_of}
-use Rattle.partner_core.specs.Answers.{Taken}
-use Rattle.partner_core.specs.Deliveries.{Delivery, delivery}
-use Rattle.office_replies.specs.Events.{Event, delivered}
-use Rattle.office_replies.specs.Contents.{content_of}
-use Rattle.office_replies.specs.declared.deliver.Response.{Response}
-use Rattle.office_rows.specs.Rows.{Rows}
-use Rattle.office_rows.specs.Stored.{HasRows, StoresRows}
-use Rattle.office_admission.specs.Given.{IsGiven}
-use Rattle.office_admission.specs.Setups.{SetupContent}
-use Rattle.office_admission.specs.declared.setup.Setup.{Setup}
-use Rattle.office_admission.specs.Taking.{MachineState, machine_of}
-use Rattle.office_history.specs.After.{AreAfter, content_after}
+use Rattle.partner_core.specs.{Answers.Taken, Deliveries.Delivery, Deliveries.delivery}
+use Rattle.office_replies.specs.{Events.Event, Events.delivered, Contents.content_of, declared.deliver.Response.Response}
+use Rattle.office_rows.specs.{Rows.Rows, Stored.HasRows, Stored.StoresRows}
+use Rattle.office_admission.specs.{Given.IsGiven, Setups.SetupContent, declared.setup.Setup.Setup, Taking.MachineState, Taking.machine_of}
+use Rattle.office_history.specs.{After.AreAfter, After.content_after, Laws.IsFor, Laws.answer_model_of}
 use Rattle.office_history.specs.Cascade.{TakenContent, AreTakenFrom, texts_with, with_run}
-use Rattle.office_history.specs.Laws.{IsFor, answer_model_of}
-use Rattle.office_desk.specs.Answers.{answer_by_model}
-use Rattle.office_desk.specs.Beside.{IsBeside}
-use Rattle.office_desk.specs.declared.beside.Beside.{Beside}
-use Rattle.office_desk.specs.declared.taking.Delivery.{Delivery as Delivered}
+use Rattle.office_desk.specs.{Answers.answer_by_model, Beside.IsBeside, declared.beside.Beside.Beside, declared.taking.Delivery.Delivery as Delivered}
 
 -- the text is taken, and those that become next by it, and the partner's number is raised by the length of this run;
 -- the response has the reply of the first, and the rows are committed, so that a crash leaves only these
@@ -45,7 +32,7 @@ pub record IsRunDone (rows : Rows) (d : Delivery) (old : MachineState) (db : Tre
   pub are : StoresRows (with_run d.partner d.number d.text taken rows) db
 
 -- for that opening set-up, after those events: with the accounts so far it is the set-up of now, the database has the
--- rows, and what stands beside it is at them
+-- rows, and what is beside it is at them
 pub record Holds (content : SetupContent) (es : List Event) (now : SetupContent) (db : Database) (there : Option Beside)
     : Type 0 where
   pub given : IsGiven content

@@ -1,22 +1,15 @@
 -- The interchanges that are kept: of each partner those up to its run, which were taken, and those that wait.
 use Rattle.std.proofs.Common.{◌≡◌, ℕ, zero, suc, ◌+◌, ◌<◌, ◌≤◌, List, [], ◌∷◌, length, map, Bool, true, false, cond, Option, None, Some, is_some, refl, sym, ap, ap₂, subst, ◌∙◌, arith, ◌⊎◌, ◌-◌, inl, inr, ◌++◌}
 use Rattle.std.specs.Prelude.{find, count_by, Contains, slice_index_or}
-use Rattle.std.specs.List.Sorted.{IsPermutation}
+use Rattle.std.specs.{List.Sorted.IsPermutation, List.range_with_len, List.AllByRecursion}
 use Rattle.std.proofs.lemmas.List.Sums.{sum_by-cons}
 use Rattle.std.proofs.lemmas.List.Sorted.{IsPermutation-trans, IsPermutation-sym, Contains-permutation}
-use Rattle.sqlite.specs.Order.{Row}
-use Rattle.sqlite.specs.Table.{Table}
-use Rattle.sqlite.specs.Effect.{Database}
-use Rattle.terminal_core.proofs.Indexed.{found_is, is_found, one_passes}
-use Rattle.terminal_core.proofs.Whole.{contained, found_at}
-use Rattle.office_rows.specs.Stored.{Holds}
-use Rattle.office_rows.specs.Shown.{columns_at, ShowsTable}
-use Rattle.office_rows.proofs.Listed.{unmapped}
-use Rattle.std.specs.List.{range_with_len, AllByRecursion}
 use Rattle.std.proofs.lemmas.Bool.{cases_order}
+use Rattle.sqlite.specs.{Order.Row, Table.Table, Effect.Database}
+use Rattle.terminal_core.proofs.{Indexed.found_is, Indexed.is_found, Indexed.one_passes, Whole.contained, Whole.found_at}
+use Rattle.office_rows.specs.{Stored.Holds, Shown.columns_at, Shown.ShowsTable, Rows.Partner, Opened.NumberKept}
+use Rattle.office_rows.proofs.Listed.{unmapped}
 use Rattle.edi_messages.specs.declared.codes.PartnerKind.{PartnerKind}
-use Rattle.office_rows.specs.Rows.{Partner}
-use Rattle.office_rows.specs.Opened.{NumberKept}
 use Rattle.office_rows.specs.Office.{AreAccounts, AreWaiting, AreKept, taken_numbers}
 use Rattle.office_history.specs.After.{accounts_from}
 
@@ -24,7 +17,7 @@ use Rattle.office_history.specs.After.{accounts_from}
 
 -- ---- lists
 
--- what only one element passes is found in whatever order
+-- what only one element passes is found in any order
 pub found_same : {A : Type 0} (p : A → Bool) (xs ys : List A) → count_by p xs ≤ 1 → IsPermutation xs ys → find p ys ≡ find p xs
 found_same {A} p xs ys once same =
     elim (find p ys) as (λ o. find p ys ≡ o → o ≡ find p xs) [
@@ -180,7 +173,7 @@ abbrev pub Rise : List NumberKept → Type 0
 Rise [] = Unit {0}
 Rise (n ∷ ns) = Starts n.partner n.number ns × Rise ns
 
-abbrev From : ℕ → List NumberKept → Type 0
+abbrev pub From : ℕ → List NumberKept → Type 0
 From p [] = Unit {0}
 From p (n ∷ ns) = p ≤ n.partner
 
@@ -188,7 +181,7 @@ abbrev pub Has : ℕ → ℕ → List NumberKept → Type 0
 Has p k [] = ⊥
 Has p k (n ∷ ns) = ((n.partner ≡ p) × (n.number ≡ k)) ⊎ Has p k ns
 
--- what is kept is one of so many partners', and was taken if it is within the partner's run
+-- what is kept is of one of that many partners, and was taken if it is within the partner's run
 pub record IsWithinRuns (count : ℕ) (runs : ℕ → ℕ) (n : NumberKept) : Type 0 where
   pub partner_low : 1 ≤ n.partner
   pub partner_high : n.partner ≤ count
@@ -198,7 +191,7 @@ pub record IsWithinRuns (count : ℕ) (runs : ℕ → ℕ) (n : NumberKept) : Ty
   pub waits : runs n.partner < n.number → (runs n.partner + 1 < n.number) × (n.is_taken ≡ false)
 
 -- what follows in order comes after
-has_after : (q m : ℕ) (ns : List NumberKept) (p k : ℕ) → Starts q m ns → Rise ns → Has p k ns → (q < p) ⊎ ((p ≡ q) × (m < k))
+pub has_after : (q m : ℕ) (ns : List NumberKept) (p k : ℕ) → Starts q m ns → Rise ns → Has p k ns → (q < p) ⊎ ((p ≡ q) × (m < k))
 has_after q m [] p k starts rise has = absurd has
 has_after q m (n ∷ ns) p k starts rise (inl here) = elim starts [
   | inl far ↦ inl (omega (arith, here.0, far))

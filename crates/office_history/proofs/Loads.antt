@@ -1,54 +1,31 @@
--- Whatever one database shows is of one office: one state, and one set-up.
+-- All that one database shows is of one office: one state, and one set-up.
 use Rattle.std.proofs.Common.{◌≡◌, ℕ, suc, ◌+◌, ◌<◌, ◌≤◌, inl, inr, List, [], ◌∷◌, map, Bool, true, false, cond, Option, None, Some, refl, sym, ap, ap₂, subst, ◌∙◌, arith}
 use Rattle.std.specs.Prelude.{find, count_by, Contains, IsTrue, codes, decimal}
-use Rattle.std.specs.Option.{option_map}
-use Rattle.std.specs.List.Sorted.{IsPermutation, IsNonDecreasingBy}
-use Rattle.std.specs.Ordering.{eq_by_cmp}
-use Rattle.std.proofs.lemmas.Bool.{cases_order}
-use Rattle.std.proofs.lemmas.Fmt.{decimal_injective}
+use Rattle.std.specs.{Option.option_map, List.Sorted.IsPermutation, List.Sorted.IsNonDecreasingBy, Ordering.eq_by_cmp, Str.bytes_eq}
+use Rattle.std.proofs.{lemmas.Bool.cases_order, lemmas.Fmt.decimal_injective}
 use Rattle.std.proofs.lemmas.List.Sorted.{IsPermutation-map, IsPermutation-sym, IsPermutation-trans, Contains-permutation}
-use Rattle.sqlite.specs.declared.types.Value.{Value}
+use Rattle.sqlite.specs.{declared.types.Value.Value, Order.Row, Order.column, Effect.Database, Table.Table}
 use Rattle.sqlite.specs.declared.types.Value.TheVariants.{Text}
-use Rattle.sqlite.specs.Order.{Row, column}
-use Rattle.sqlite.specs.Effect.{Database}
-use Rattle.sqlite.specs.Table.{Table}
-use Rattle.box6346.specs.declared.slot.Slot.{Slot}
-use Rattle.box6346.specs.SlotName.{IsNamed, slot_of, slot_text}
+use Rattle.box6346.specs.{declared.slot.Slot.Slot, SlotName.IsNamed, SlotName.slot_of, SlotName.slot_text}
 use Rattle.box6346.proofs.SlotNames.{names_are_read_again_lem}
 use Rattle.edi_syntax.specs.Moments.{CivilMoment, is_moment, moment_of, moment_digits}
 use Rattle.edi_syntax.proofs.DigitLemmas.{read_back}
-use Rattle.edi_messages.specs.declared.codes.PartnerKind.{PartnerKind}
+use Rattle.edi_messages.specs.{declared.codes.PartnerKind.PartnerKind, Codes.table_texts}
 use Rattle.edi_messages.specs.declared.codes.PartnerKind.TheVariants.{Gate, Line, Quay, Yard}
-use Rattle.edi_messages.specs.Codes.{table_texts}
-use Rattle.yard_core.specs.declared.plan.Block.{Block}
-use Rattle.yard_core.specs.declared.placements.Placement.{Placement}
-use Rattle.yard_core.specs.Plan.{AreApart}
-use Rattle.yard_core.specs.YardMap.{placement_of}
-use Rattle.terminal_core.specs.declared.visits.Departure.{Departure}
-use Rattle.terminal_core.specs.declared.lines.LineState.{LineState}
+use Rattle.yard_core.specs.{declared.plan.Block.Block, declared.placements.Placement.Placement, Plan.AreApart, YardMap.placement_of}
+use Rattle.terminal_core.specs.{declared.visits.Departure.Departure, declared.lines.LineState.LineState, declared.lines.Side.Side, declared.visits.Way.Way}
+use Rattle.terminal_core.specs.{Forms.IsFormedVisit, Forms.IsFormedExit, Forms.IsWellFormed, Rows.VisitContent, Step.number_of_visit}
 use Rattle.terminal_core.specs.declared.lines.LineState.TheVariants.{Pending, Done}
-use Rattle.terminal_core.specs.declared.lines.Side.{Side}
 use Rattle.terminal_core.specs.declared.lines.Side.TheVariants.{Load, Discharge}
-use Rattle.terminal_core.specs.declared.visits.Way.{Way}
 use Rattle.terminal_core.specs.Changes.{Standing, standing_in, standing_of, TerminalRows, rows_of}
-use Rattle.terminal_core.specs.Forms.{IsFormedVisit, IsFormedExit, IsWellFormed}
-use Rattle.terminal_core.specs.Rows.{VisitContent}
 use Rattle.terminal_core.specs.State.{TerminalState, LineKey, AreNumbered, IsWhole, side_code, open_visit}
-use Rattle.terminal_core.specs.Step.{number_of_visit}
-use Rattle.terminal_core.proofs.Open.{same_self}
-use Rattle.terminal_core.proofs.Indexed.{found_is}
-use Rattle.terminal_core.proofs.Formed.{state_of_rows}
+use Rattle.terminal_core.proofs.{Open.same_self, Indexed.found_is, Formed.state_of_rows}
 use Rattle.terminal_core.proofs.Lined.{order, keys_total, keys_apart, same_key}
-use Rattle.office_admission.specs.Given.{IsGiven}
-use Rattle.office_admission.specs.Setups.{SetupContent}
-use Rattle.std.specs.Str.{bytes_eq}
+use Rattle.office_admission.specs.{Given.IsGiven, Setups.SetupContent}
 use Rattle.office_rows.specs.Rows.{Partner, PlaceContent, ListingContent, Setting}
 use Rattle.office_rows.specs.Values.{number_value, kind_code, partner_values, way_code, laden_code, state_code, out_by, out_partner, out_number, out_at, visit_values, place_values, line_values, setting_values, block_values}
-use Rattle.office_rows.specs.Effects.{stands_for, is_line}
+use Rattle.office_rows.specs.{Effects.stands_for, Effects.is_line, Opening.setting_row, Opened.OpenedRows, Opened.Shows, Shown.columns_at, Shown.ShowsTable}
 use Rattle.office_rows.specs.ByKey.{standing_by, lines_by, line_entry, ArePlacedOnce, AreListedOnce}
-use Rattle.office_rows.specs.Opening.{setting_row}
-use Rattle.office_rows.specs.Opened.{OpenedRows, Shows}
-use Rattle.office_rows.specs.Shown.{columns_at, ShowsTable}
 use Rattle.office_rows.proofs.Listed.{unmapped}
 use Rattle.office_rows.specs.Office.{settings_by_name, AreAccounts, IsOffice, opened_terminal}
 use Rattle.office_rows.specs.Tables.{partner_table, visit_table, place_table, listing_table, block_table, setting_table as settings_table}
@@ -90,7 +67,7 @@ side_one Load Load e = refl
 side_one Discharge Discharge e = refl
 side_one a b e = absurd (omega (arith, e))
 
-done_one : (a b : LineState) → state_code a ≡ state_code b → a ≡ b
+pub done_one : (a b : LineState) → state_code a ≡ state_code b → a ≡ b
 done_one Pending Pending e = refl
 done_one Done Done e = refl
 done_one a b e = absurd (omega (arith, e))
@@ -171,7 +148,7 @@ block_one a b fa fb e =
     let tiers = number_one a.tiers b.tiers (at 3 ra rb e) in
     λ i. record { letter = letter i; bays = bays i; rows = rows i; tiers = tiers i }
 
-kind_one : (a b : PartnerKind) → kind_code a ≡ kind_code b → a ≡ b
+pub kind_one : (a b : PartnerKind) → kind_code a ≡ kind_code b → a ≡ b
 kind_one Gate Gate e = refl
 kind_one Line Line e = refl
 kind_one Quay Quay e = refl
@@ -244,7 +221,7 @@ any_head (b ∷ blocks) = omega arith
 
 -- ---- places
 
--- the container of a place stands in a slot that has a name
+-- the container of a place is in a slot that has a name
 named_at : (state : TerminalState) (place : PlaceContent) (o : Option Placement) (n : ℕ) → placement_of state.yard.boxes place.container ≡ o
     → Some (standing_in place.visit place.slot) ≡ option_map (λ (s : Placement). standing_in n s.slot) o → IsWellFormed state → IsNamed place.slot
 named_at state place None n there e formed = cc
@@ -308,7 +285,7 @@ shown_twice table columns key values xs ys db one two =
     let shuffled = IsPermutation-map (columns_at columns) one.by_key two.by_key (IsPermutation-trans _ _ _ (IsPermutation-sym _ _ one.same) two.same) in
     unmapped values xs (map values ys) (subst (IsPermutation (map values xs)) (sym two.is) (subst (λ l. IsPermutation l (map (columns_at columns) two.by_key)) (sym one.is) shuffled))
 
--- ---- the set-up and the terminal of rows, whatever interchanges they have, and whichever closed visits
+-- ---- the set-up and the terminal of rows, with any interchanges, and whichever closed visits
 
 pub record ShowsSetupAndTerminal (rows : OpenedRows) (content : SetupContent) (state : TerminalState) : Type 0 where
   pub given : IsGiven content

@@ -3,23 +3,16 @@ use Rattle.std.proofs.Common.{◌≡◌, ℕ, zero, suc, ◌+◌, ◌*◌, ◌-�
 use Rattle.std.specs.Prelude.{count_by}
 use Rattle.std.specs.List.{range_with_len}
 use Rattle.std.proofs.lemmas.List.Sorted.{IsPermutation-trans, sum_by-IsPermutation}
-use Rattle.sqlite.specs.Order.{column}
-use Rattle.sqlite.specs.Effect.{Database}
+use Rattle.sqlite.specs.{Order.column, Effect.Database}
 use Rattle.edi_messages.specs.declared.codes.PartnerKind.{PartnerKind}
 use Rattle.terminal_core.specs.State.{TerminalState}
 use Rattle.office_admission.specs.Setups.{SetupContent}
-use Rattle.office_rows.specs.Rows.{Partner, Interchange, Rows}
-use Rattle.office_rows.specs.Values.{interchange_values}
-use Rattle.office_rows.specs.Stored.{HasRows}
-use Rattle.office_rows.specs.Effects.{is_pair}
+use Rattle.office_rows.specs.{Rows.Partner, Rows.Interchange, Rows.Rows, Values.interchange_values, Stored.HasRows, Effects.is_pair, Shown.columns_at}
 use Rattle.office_rows.specs.Opened.{NumberKept, OpenedRows, Shows, number_kept, reply_values}
 use Rattle.office_rows.specs.Office.{AreAccounts, AreWaiting, AreKept, IsOffice}
-use Rattle.office_rows.specs.Shown.{columns_at}
 use Rattle.office_rows.proofs.Listed.{unmapped}
 use Rattle.office_history.specs.After.{AreKeptOnce}
-use Rattle.office_history.proofs.Kept.{taken_by, Rises, one_at}
-use Rattle.office_history.proofs.Loads.{number_one, text_one}
-use Rattle.office_history.proofs.Runs.{pair_of}
+use Rattle.office_history.proofs.{Kept.taken_by, Kept.Rises, Kept.one_at, Loads.number_one, Loads.text_one, Runs.pair_of}
 
 -- ---- rising lists
 
@@ -111,7 +104,7 @@ rises_in low (x ∷ xs) rises = (rises.0, rises_in (place_in x) xs rises.1)
 pair_at : (partner number : ℕ) (i : Interchange) → is_pair partner number i ≡ true → place_in i ≡ place_of partner number
 pair_at partner number i passes = let pair = pair_of partner number i passes in ap₂ place_of pair.0 pair.1
 
--- if what the table shows rises by partner and number, none stands there twice
+-- if what the table shows rises by partner and number, none is there twice
 pub once_if_rising : (db : Database) (rows : Rows) (shown : OpenedRows) → HasRows rows db → Shows db shown → Rises place (place_of 1 0) shown.numbers → AreKeptOnce rows.interchanges
 once_if_rising db rows shown has shows rises partner number =
     let its = shows.numbers in

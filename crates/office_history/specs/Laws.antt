@@ -1,41 +1,26 @@
 -- What the rows are after events: the laws.
 use Rattle.std.specs.Prelude.{◌≡◌, ℕ, ◌+◌, ◌<◌, ◌≤◌, List, [], ◌∷◌, ◌++◌, length, Contains, None, Some, Ok, Err}
 use Rattle.edi_messages.specs.declared.codes.PartnerKind.{PartnerKind}
-use Rattle.edi_syntax.specs.Interchange.{interchange_of}
-use Rattle.edi_syntax.specs.Numbers.{last_number}
+use Rattle.edi_syntax.specs.{Interchange.interchange_of, Numbers.last_number}
 use Rattle.partner_core.specs.Deliveries.{delivery, run}
 use Rattle.partner_core.specs.Answers.{AnswerModel, answer_of, Taken, Repeat, Waiting, Clash}
-use Rattle.terminal_core.specs.Rows.{ChangeContent}
-use Rattle.terminal_core.specs.Changes.{TerminalRows, rows_with_all, AreApplicable}
-use Rattle.office_admission.specs.Admission.{admission}
-use Rattle.office_admission.specs.Accounts.{content_after, account_answer, added_as}
-use Rattle.office_admission.specs.Deliveries.{deliveries_of}
+use Rattle.terminal_core.specs.{Rows.ChangeContent, Changes.TerminalRows, Changes.rows_with_all, Changes.AreApplicable, State.TerminalState, Versions.newest}
+use Rattle.terminal_core.specs.declared.change.Version.{Version}
+use Rattle.office_admission.specs.{Admission.admission, Accounts.content_after, Accounts.account_answer, Accounts.added_as, Deliveries.deliveries_of}
+use Rattle.office_admission.specs.{Kinds.kind_named, Setups.SetupContent, Setups.parties_in, Given.IsGiven, Taking.MachineState, TakingLaws.IsSoundMachine}
+use Rattle.office_admission.specs.Growth.{with_account}
 use Rattle.office_replies.specs.Events.{Event, delivered, migrated, added}
 use Rattle.office_replies.specs.declared.deliver.Fault.{Fault}
 use Rattle.sqlite.specs.Effect.{Database}
-use Rattle.terminal_core.specs.State.{TerminalState}
-use Rattle.terminal_core.specs.Versions.{newest}
-use Rattle.terminal_core.specs.declared.change.Version.{Version}
-use Rattle.office_rows.specs.Rows.{Partner, Rows}
-use Rattle.office_rows.specs.Stored.{AreRows, HasRows}
-use Rattle.office_rows.specs.Opened.{OpenedRows, Shows}
-use Rattle.office_rows.specs.Office.{IsOffice}
-use Rattle.office_rows.specs.Effects.{with_waiting, with_partner}
-use Rattle.office_rows.specs.Opening.{opening_rows}
-use Rattle.office_rows.specs.Migrated.{migrated_settings, migrated_rows}
+use Rattle.office_rows.specs.{Rows.Partner, Rows.Rows, Stored.AreRows, Stored.HasRows, Opened.OpenedRows, Opened.Shows, Office.IsOffice}
+use Rattle.office_rows.specs.{Effects.with_waiting, Effects.with_partner, Opening.opening_rows, Migrated.migrated_settings, Migrated.migrated_rows}
 use Rattle.office_rows.specs.ByKey.{terminal_rows, ArePlacedOnce, AreListedOnce}
-use Rattle.office_admission.specs.Kinds.{kind_named}
-use Rattle.office_admission.specs.Setups.{SetupContent, parties_in}
-use Rattle.office_admission.specs.Given.{IsGiven}
-use Rattle.office_admission.specs.Taking.{MachineState}
-use Rattle.office_admission.specs.TakingLaws.{IsSoundMachine}
-use Rattle.office_admission.specs.Growth.{with_account}
 use Rattle.office_history.specs.Cascade.{text_in, TakenContent, with_changes, texts_with, with_run, AreTakenFrom}
 use Rattle.office_history.specs.After.{opening_of, taking_in, migration_in, machine_after, reply_in, SaysSame, AreAfterBy, AreAfter}
 
 -- ---- changes of the tables and of the terminal's rows
 
--- the tables' rows are by key these rows of the terminal, and no key stands twice
+-- the tables' rows are by key these rows of the terminal, and no key is there twice
 pub record AreRowsByKey (rows : Rows) (terminal : TerminalRows) : Type 0 where
   pub same : terminal_rows rows ≡ terminal
   pub placed_once : ArePlacedOnce rows.places
@@ -59,7 +44,7 @@ abbrev pub DeliveriesLeaveSound : Type 0
 DeliveriesLeaveSound =
     (content : SetupContent) (es : List Event) → IsGiven content → IsSoundMachine (machine_after content es)
 
--- ---- what the rows tell
+-- ---- what the rows say
 
 -- a text is kept for an account, under a number of an interchange
 abbrev pub NumbersAreWithin : Type 0
@@ -173,7 +158,7 @@ answer_model_of content es partner number sent =
     answer_of (taking_in newest content es) (opening_of (content_after content es)) (deliveries_of content es)
     (delivery partner number (interchange_of sent))
 
--- how the rows tell the answer
+-- how the rows give the answer
 pub record AnswersBy (content : SetupContent) (es : List Event) (rows : Rows) (sent : List ℕ)
     (partner number : ℕ) : Type 0 where
   pub clash : (kept : List ℕ) → text_in rows partner number ≡ Some kept → (kept ≡ interchange_of sent → ⊥) →
@@ -222,7 +207,7 @@ LoadingGivesSetup =
     → AreAfter content es rows → IsGiven content → HasRows rows db → Shows db shown → IsOffice shown other state
     → Reopens content es rows other
 
--- whatever came, the queries of all rows show those of an office: its own rows are never found damaged
+-- after any events the queries of all rows show those of an office: its own rows are never found damaged
 abbrev pub RowsAreAnOffice : Type 0
 RowsAreAnOffice =
     (content : SetupContent) (es : List Event) (rows : Rows) (db : Database) → IsGiven content →

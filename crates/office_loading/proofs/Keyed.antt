@@ -1,40 +1,21 @@
 -- The rows of places and lines by their keys, typed or as contents.
 use Rattle.std.proofs.Common.{◌≡◌, ◌⊎◌, ℕ, ◌+◌, ◌-◌, ◌<◌, ◌≤◌, zero, suc, List, [], ◌∷◌, ◌++◌, length, drop, map, get_or, Bool, true, false, cond, IsTrue, refl, sym, ap, ◌∙◌, arith, subst, inl, inr, ◌↔◌, Option, Some, string_bytes}
 use Rattle.std.specs.Prelude.{nat_le, not, filter, slice_get, find, count_by, ◌&&◌, ◌==◌}
-use Rattle.std.specs.List.{range_with_len}
-use Rattle.std.proofs.lemmas.Bool.{leb-true}
-use Rattle.edi_messages.specs.declared.codes.PartnerKind.{PartnerKind}
-use Rattle.office_rows.specs.Rows.{Partner, PlaceContent, listing_content}
-use Rattle.office_rows.specs.Opened.{NumberKept}
+use Rattle.std.specs.{List.range_with_len, Option.option_map, Str.bytes_eq, Cmp.eq_by_cmp_equiv}
+use Rattle.std.proofs.{lemmas.Bool.leb-true, Math.Bool.and_comm, lemmas.List.Sums.sum_by-cons, lemmas.Simd.map-map}
+use Rattle.std.proofs.lemmas.Option.{same_Some, slice_get_within}
+use Rattle.edi_messages.specs.{declared.codes.PartnerKind.PartnerKind, Purposes.CallContent, Owned.call_content}
+use Rattle.office_rows.specs.{Rows.Partner, Rows.PlaceContent, Rows.listing_content, Opened.NumberKept, Effects.stands_for, Effects.is_line}
 use Rattle.office_rows.specs.Office.{taken_numbers, AreWaiting, AreKept, AreAccounts}
-use Rattle.office_loading.specs.Checks.{numbers_beyond}
-use Rattle.office_loading.specs.Contents.{number_content, place_content}
-use Rattle.office_loading.specs.OwnOffice.{ComesAfter, IsInOrder, AreInOrder}
+use Rattle.office_loading.specs.{Checks.numbers_beyond, Contents.number_content, Contents.place_content, OwnOffice.IsInOrder, OwnOffice.AreInOrder}
 use Rattle.office_loading.specs.declared.numbers.NumberRow.{NumberRow}
 use Rattle.office_loading.proofs.Kept.{next_of}
-use Rattle.std.specs.Option.{option_map}
-use Rattle.std.specs.Str.{bytes_eq}
-use Rattle.std.specs.Cmp.{eq_by_cmp_equiv}
-use Rattle.std.proofs.Math.Bool.{and_comm}
-use Rattle.std.proofs.lemmas.List.Sums.{sum_by-cons}
-use Rattle.std.proofs.lemmas.Simd.{map-map}
-use Rattle.std.proofs.lemmas.Option.{same_Some, slice_get_within}
 use Rattle.box6346.specs.declared.box_number.BoxNumber.{BoxNumber}
-use Rattle.edi_messages.specs.Purposes.{CallContent}
-use Rattle.edi_messages.specs.Owned.{call_content}
-use Rattle.terminal_core.specs.declared.lines.Listing.{Listing}
-use Rattle.terminal_core.specs.declared.change.Place.{Place}
-use Rattle.terminal_core.specs.declared.lines.Side.{Side}
+use Rattle.terminal_core.specs.{declared.lines.Listing.Listing, declared.change.Place.Place, declared.lines.Side.Side, declared.visits.Visit.Visit}
+use Rattle.terminal_core.specs.{Rows.visit_content, State.line_key, State.side_code, Changes.Standing, Changes.standing_in, Restoring.AreOnce}
 use Rattle.terminal_core.specs.declared.lines.Side.TheVariants.{Load, Discharge}
-use Rattle.terminal_core.specs.declared.visits.Visit.{Visit}
-use Rattle.terminal_core.specs.Rows.{visit_content}
-use Rattle.terminal_core.specs.State.{line_key, side_code}
-use Rattle.terminal_core.specs.Changes.{Standing, standing_in}
-use Rattle.terminal_core.specs.Restoring.{AreOnce}
 use Rattle.terminal_core.proofs.Lined.{keys_total, same_key, line_tied, line_first}
-use Rattle.terminal_core.proofs.Indexed.{counts, one_passes}
-use Rattle.terminal_core.proofs.Whole.{contained}
-use Rattle.office_rows.specs.Effects.{stands_for, is_line}
+use Rattle.terminal_core.proofs.{Indexed.counts, Indexed.one_passes, Whole.contained}
 use Rattle.office_rows.specs.ByKey.{standing_by, line_entry, lines_by, ArePlacedOnce, AreListedOnce}
 use Rattle.std.specs.FinMap as finite_map
 use Rattle.terminal_core.specs.Listings as typed
@@ -83,7 +64,7 @@ taken_then partner number (suc count) next waiting below high wait = (refl, omeg
 own_of : (p : Partner) (waiting : List NumberKept) → 1 ≤ p.next → p.next ≤ 1000000000 → AreWaiting p.id p.next waiting → AreOf p.id 0 (taken_numbers p ++ waiting)
 own_of p waiting low high wait = taken_then p.id 0 (p.next - 1) p.next waiting (omega (arith, low)) high wait
 
--- one partner's stand before those of later ones
+-- one partner's come before those of later ones
 before_later : (count partner number : ℕ) (own others : List NumberKept) → partner ≤ count → AreOf partner number own → ((number : ℕ) → AreInOrder count partner number others) → AreInOrder count partner number (own ++ others)
 before_later count partner number [] others few own rest = rest number
 before_later count partner number (n ∷ own) others few are rest =
@@ -274,7 +255,7 @@ side_is Discharge Discharge e = refl
 pub own_line : (row : Listing) → typed.is_line (call_content row.call) row.side row.container row ≡ true
 own_line row = sym (line_tied (call_content row.call) row.side row.container row) ∙ (eq_by_cmp_equiv keys_total).refl (typed.key_of row)
 
--- each row of lines that stand once is there under its key
+-- each row of lines that are there once is there under its key
 pub line_there : (rows : List Listing) (k : ℕ) (row : Listing) → AreOnce rows → slice_get rows k ≡ Some row → finite_map.get (typed.lines_of rows) (typed.key_of row) ≡ Some (typed.line_content row)
 line_there rows k row once at = elim (first_or_none (call_content row.call) row.side row.container rows) [
   | inl first ↦ (let same : first.1.row ≡ row = one_passes (typed.is_line (call_content row.call) row.side row.container) rows first.1.row row (once (call_content row.call) row.side row.container) (contained rows first.0 first.1.row first.1.at)

@@ -1,90 +1,60 @@
 -- The rows of an office have keys that differ, and say what their columns say.
-use Rattle.std.proofs.Common.{◌≡◌, ℕ, ◌^◌, List, [], ◌∷◌, Bool, map, filter, codes, Some, None, Ok, Err, inl, inr, refl, sym, ap, ap₂, subst, ◌∙◌, false, Ordering, Less, Equal, is_gt, IsSorted, ◌++◌, Result, zero, suc, ◌+◌, ◌-◌, ◌<◌, ◌≤◌, true, ◌||◌, ◌==◌, length, Option, IsTrue, arith, slice_index_or, slice_get}
+use Rattle.std.proofs.Common.{◌≡◌, ℕ, ◌^◌, List, [], ◌∷◌, Bool, map, filter, codes, Some, None, Ok, Err, inl, inr, refl, sym, ap, ap₂, subst, ◌∙◌, false, Ordering, Less, is_gt, IsSorted, ◌++◌, Result, zero, suc, ◌+◌, ◌-◌, ◌<◌, ◌≤◌, true, ◌||◌, ◌==◌, length, Option, IsTrue, arith, slice_index_or, slice_get}
 use Rattle.std.specs.Prelude.{nat_le, Vec, IsUtf8}
-use Rattle.std.specs.Ordering.{is_lt, on}
-use Rattle.std.specs.List.Sorted.{IsPermutation, IsSortedBy}
-use Rattle.std.proofs.lemmas.Bool.{cases_Bool, and_parts}
+use Rattle.std.specs.{Ordering.is_lt, Ordering.on, List.Sorted.IsPermutation, List.Sorted.IsSortedBy, Cmp.IsTotalOrder, Str.IsAscii}
+use Rattle.std.specs.List.{AllByRecursion, list_all}
+use Rattle.std.proofs.{lemmas.Bool.cases_Bool, lemmas.Bool.and_parts, lemmas.Cmp.on_total, lemmas.Cmp.then_total, lemmas.Bool.Decides.nat_tests}
+use Rattle.std.proofs.lemmas.Str.{IsUtf8-from_ascii, IsUtf8-nil}
 use Rattle.std.proofs.lemmas.List.Sorted.{IsPermutation-map, IsPermutation-sym, Contains-permutation, sum_by-IsPermutation}
 use Rattle.sqlite.specs.declared.types.Value.TheVariants.{Null}
 use Rattle.sqlite.specs.Collation.TheVariants.{Binary}
-use Rattle.sqlite.specs.Order.{Row, column, value_cmp}
-use Rattle.sqlite.specs.Schema.{Schema}
-use Rattle.sqlite.specs.Term.{Term, eval_all}
-use Rattle.sqlite.specs.Query.{Output, key_cmp, Query}
-use Rattle.sqlite.specs.Program.{overlay}
+use Rattle.sqlite.specs.{Order.Row, Order.column, Order.value_cmp, Schema.Schema, Term.Term, Term.eval_all, Query.Output, Query.key_cmp, Query.Query}
+use Rattle.sqlite.specs.{Program.overlay, Listing.understood, Listing.listing_schema, Clock.timed}
 use Rattle.sqlite.specs.Tree.{Trees, rowid, IsAscending, IsTable}
-use Rattle.sqlite.specs.Listing.{understood, listing_schema}
 use Rattle.sqlite.specs.State.{State, Shown, IsUnchanged, Begins}
 use Rattle.sqlite.proofs.Callers.{IsPlain, command_of, reads_as, begins_shown, EndsIn}
-use Rattle.sqlite_value.specs.Keys.{ascending}
-use Rattle.sqlite_value.specs.declared.keys.Key.{Key}
+use Rattle.sqlite_value.specs.{Keys.ascending, declared.keys.Key.Key}
 use Rattle.sqlite_schema.specs.Names.{table_named, same_name}
-use Rattle.sqlite_resolve.specs.declared.error.CompileError.{CompileError}
+use Rattle.sqlite_resolve.specs.{declared.error.CompileError.CompileError, Lowering.Checked, Compile.first}
 use Rattle.sqlite_resolve.specs.declared.error.CompileError.TheVariants.{NoSuchTable, NoSuchColumn}
 use Rattle.sqlite_syntax.specs.declared.statement.Parsed.{Parsed}
-use Rattle.sqlite_resolve.specs.Lowering.{Checked}
-use Rattle.sqlite_resolve.specs.Compile.{first}
 use Rattle.sqlite_trees.proofs.ListLemmas.{map-map, filter_all, all_of, ascending-map, ascending_weaker}
-use Rattle.office_rows.specs.Stored.{columns_of}
-use Rattle.office_rows.specs.Shown.{columns_at, ShowsTable}
-use Rattle.office_rows.proofs.Listed.{unmapped, sorted_as}
-use Rattle.office_rows.proofs.Reading.{select_setting, select_setting_shown, select_setting_order}
+use Rattle.office_rows.specs.{Stored.columns_of, Shown.columns_at, Shown.ShowsTable, Tables.office_schema, Opened.NumberKept, Office.AreAccounts}
+use Rattle.office_rows.proofs.{Listed.unmapped, Listed.sorted_as, Reading.select_setting, Reading.select_setting_shown, Reading.select_setting_order}
 use Rattle.office_rows.proofs.WriteLemmas.{passes, answer_in_order}
-use Rattle.office_loading.specs.Settings.{HasNoSettings, HasSettings, setting_in}
-use Rattle.office_loading.proofs.MissingLemmas.{ParsedAs, not_understood}
+use Rattle.office_loading.specs.{Settings.HasNoSettings, Settings.HasSettings, Settings.setting_in, Decoded.DecodesAll, Decoded.ReadsShown}
+use Rattle.office_loading.specs.{OwnOffice.AreInOrder, Columns.exit_values}
+use Rattle.office_loading.proofs.{MissingLemmas.ParsedAs, MissingLemmas.not_understood, Keyed.side_is}
 use Rattle.office_loading.proofs.LackingLemmas.{lacking_fails, setting_one, setting_selects, one_order, rising_ties}
 use Rattle.office_loading.proofs.SettingQuery.{IsOfSettings, SelectsSettings, with_settings, settings_command, RunsSettings, unlisted, understands_settings}
-use Rattle.std.specs.Cmp.{IsTotalOrder}
-use Rattle.std.proofs.lemmas.Cmp.{on_total, then_total}
 use Rattle.sqlite_value.proofs.OrderLemmas.{value_cmp_total}
 use Rattle.sqlite_rules.proofs.ListLemmas.{contains_had, has_contained}
 use Rattle.sqlite_exec.proofs.PartitionLemmas.{ascending_from_sorted}
-use Rattle.sqlite.specs.Clock.{timed}
 use Rattle.sqlite.specs.Command.TheVariants.{Select}
 use Rattle.sqlite_rules.specs.Lists.{Has}
-use Rattle.office_rows.specs.Tables.{office_schema}
 use Rattle.office_rows.specs.Layouts.{Layout, bare, weighed, bare_schema, schema_in}
-use Rattle.office_tables.specs.declared.table_fault.TableFault.{TableFault}
+use Rattle.office_tables.specs.{declared.table_fault.TableFault.TableFault, Faults.IsOfStore}
 use Rattle.office_tables.specs.declared.table_fault.TableFault.TheVariants.{Store, Damaged, Version, Memory}
-use Rattle.office_tables.specs.Faults.{IsOfStore}
-use Rattle.office_loading.specs.Decoded.{DecodesAll, ReadsShown}
-use Rattle.std.specs.Str.{IsAscii}
-use Rattle.std.specs.List.{AllByRecursion, list_all}
-use Rattle.std.proofs.lemmas.Bool.Decides.{nat_tests}
-use Rattle.std.proofs.lemmas.Str.{IsUtf8-from_ascii, IsUtf8-nil}
-use Rattle.edi_syntax.specs.Characters.{is_printable}
-use Rattle.edi_messages.specs.Forms.{is_name_if_any}
-use Rattle.edi_messages.specs.Texts.{is_name}
-use Rattle.edi_messages.specs.declared.codes.PartnerKind.{PartnerKind}
+use Rattle.edi_syntax.specs.{Characters.is_printable, Moments.CivilMoment, Moments.moment_of, Moments.moment_digits}
+use Rattle.edi_messages.specs.{Forms.is_name_if_any, Texts.is_name, declared.codes.PartnerKind.PartnerKind}
 use Rattle.edi_syntax.proofs.DigitLemmas.{read_back}
 use Rattle.box6346.proofs.SlotNames.{names_are_read_again_lem}
-use Rattle.terminal_core.specs.declared.visits.Departure.{Departure}
-use Rattle.terminal_core.specs.declared.change.Source.{Source}
-use Rattle.terminal_core.specs.Forms.{IsSource, IsFormedExit, IsFormedVisit}
-use Rattle.terminal_core.specs.Rows.{VisitContent}
-use Rattle.terminal_core.specs.State.{AreNumbered, last_from, side_code}
+use Rattle.terminal_core.specs.{declared.visits.Departure.Departure, declared.change.Source.Source, Forms.IsSource, Forms.IsFormedExit, Forms.IsFormedVisit}
+use Rattle.terminal_core.specs.{Rows.VisitContent, State.AreNumbered, State.last_from, State.side_code}
+use Rattle.terminal_core.specs.declared.visits.Way.{Way}
 use Rattle.terminal_core.proofs.Open.{last_highest}
-use Rattle.yard_core.specs.declared.plan.Block.{Block}
-use Rattle.yard_core.specs.Plan.{IsSized, AreApart}
+use Rattle.yard_core.specs.{declared.plan.Block.Block, Plan.IsSized, Plan.AreApart}
 use Rattle.office_admission.specs.Given.{is_party_byte, is_party_code}
 use Rattle.office_rows.specs.Rows.{Partner, PlaceContent, ListingContent, Setting}
-use Rattle.office_rows.specs.Opened.{NumberKept}
-use Rattle.office_rows.specs.Office.{AreAccounts}
-use Rattle.office_loading.specs.OwnOffice.{AreInOrder}
 use Rattle.office_loading.specs.Fits.{FitsPartner, FitsNumber, FitsSource, FitsExit, FitsVisit, FitsBlock, IsSlot, IsMoment, FitsPlace, FitsLine, FitsSetting}
-use Rattle.box6346.specs.SlotName.{slot_of, slot_text}
-use Rattle.box6346.specs.declared.slot.Slot.{Slot}
-use Rattle.edi_syntax.specs.Moments.{CivilMoment, moment_of, moment_digits}
-use Rattle.edi_messages.specs.declared.codes.PartnerKind.TheVariants.{Gate, Line, Quay, Yard}
-use Rattle.terminal_core.specs.declared.lines.LineState.{LineState}
-use Rattle.terminal_core.specs.declared.lines.LineState.TheVariants.{Pending, Done}
-use Rattle.terminal_core.specs.declared.visits.Way.{Way}
+use Rattle.box6346.specs.{SlotName.slot_of, SlotName.slot_text, declared.slot.Slot.Slot}
+use Rattle.edi_messages.specs.declared.codes.PartnerKind.TheVariants.{Gate}
 use Rattle.office_rows.specs.Values.{kind_code, way_code, laden_code, state_code, partner_values, visit_values, place_values, line_values, setting_values, block_values}
-use Rattle.office_loading.specs.Columns.{exit_values}
-use Rattle.office_loading.proofs.Keyed.{side_is}
 use Rattle.office_rows.proofs.Reading as texts
 use Rattle.office_rows.proofs.BareReading as bare_texts
 use Rattle.terminal_core.specs.declared.visits.Way.TheVariants as way
+use Rattle.office_history.proofs.Loads.{way_one, laden_one, kind_one, done_one}
+use Rattle.office_history.proofs.Runs.{none_total}
 
 -- ==== ListedLemmas: What the query of the settings shows under any schema.
 
@@ -152,14 +122,11 @@ module _ (old new : State) (tree : ℕ) (has : HasSettings old.now.schema tree) 
   pub lists_settings : Shown select_setting [] old new answer → ShowsTable (setting_in tree) (0 ∷ 1 ∷ []) (0 ∷ []) old.now answer
   lists_settings = shows_in tree has.tree_is
 
--- ==== RowidLemmas: Rows in the order of their numbers are the rows as they stand.
+-- ==== RowidLemmas: Rows in the order of their numbers are the rows as they are.
 
 -- the order of ORDER BY rowid
 abbrev pub rowid_cmp : Output → Output → Ordering
 rowid_cmp = on (λ (o : Output). o.0) (key_cmp 0 (ascending Binary ∷ []))
-
-none_total : IsTotalOrder (λ (a b : Row). Equal)
-none_total = record { antisymm = λ x y. refl; trans = λ x y z p q. p; congr = λ x y z p. refl }
 
 rowid_total : IsTotalOrder rowid_cmp
 rowid_total = on_total (λ (o : Output). o.0) (then_total (on_total (λ (r : Row). column r 0) value_cmp_total) none_total)
@@ -322,42 +289,6 @@ visits_fit above (v ∷ visits) numbered within formed =
 
 -- ---- codes
 
-kind_is : (a b : PartnerKind) → kind_code a ≡ kind_code b → a ≡ b
-kind_is Gate Gate h = refl
-kind_is Gate Line h = absurd cc
-kind_is Gate Quay h = absurd cc
-kind_is Gate Yard h = absurd cc
-kind_is Line Gate h = absurd cc
-kind_is Line Line h = refl
-kind_is Line Quay h = absurd cc
-kind_is Line Yard h = absurd cc
-kind_is Quay Gate h = absurd cc
-kind_is Quay Line h = absurd cc
-kind_is Quay Quay h = refl
-kind_is Quay Yard h = absurd cc
-kind_is Yard Gate h = absurd cc
-kind_is Yard Line h = absurd cc
-kind_is Yard Quay h = absurd cc
-kind_is Yard Yard h = refl
-
-way_is : (a b : Way) → way_code a ≡ way_code b → a ≡ b
-way_is way.Gate way.Gate h = refl
-way_is way.Gate way.Ship h = absurd cc
-way_is way.Ship way.Gate h = absurd cc
-way_is way.Ship way.Ship h = refl
-
-laden_is : (a b : Bool) → laden_code a ≡ laden_code b → a ≡ b
-laden_is true true h = refl
-laden_is true false h = absurd cc
-laden_is false true h = absurd cc
-laden_is false false h = refl
-
-state_is : (a b : LineState) → state_code a ≡ state_code b → a ≡ b
-state_is Pending Pending h = refl
-state_is Pending Done h = absurd cc
-state_is Done Pending h = absurd cc
-state_is Done Done h = refl
-
 slot_is : (a b : Slot) → IsSlot a → IsSlot b → slot_text a ≡ slot_text b → a ≡ b
 slot_is a b p q same = let e : Some a ≡ Some b = sym p ∙ ap slot_of same ∙ q in cc
 
@@ -372,7 +303,7 @@ one_partner x y p q same =
     let code : x.code ≡ y.code = cc in
     let kind : kind_code x.kind ≡ kind_code y.kind = cc in
     let next : x.next ≡ y.next = cc in
-    let k = kind_is x.kind y.kind kind in
+    let k = kind_one x.kind y.kind kind in
     λ i. record { id = id i; code = code i; kind = k i; next = next i }
 
 pub one_setting : (x y : Setting) → FitsSetting x → FitsSetting y → setting_values x ≡ setting_values y → x ≡ y
@@ -406,7 +337,7 @@ one_line x y p q same =
     let port : x.port ≡ y.port = cc in
     let state_same : state_code x.state ≡ state_code y.state = cc in
     let side = side_is x.side y.side side_same in
-    let state = state_is x.state y.state state_same in
+    let state = done_one x.state y.state state_same in
     λ i. record { call = record { vessel = vessel i; voyage = voyage i }; side = side i; container = container i; port = port i; state = state i }
 
 no_way : (w : Way) → 0 ≡ way_code w → ⊥
@@ -422,7 +353,7 @@ exit_is (Some a) (Some b) p q same =
     let partner : a.source.partner ≡ b.source.partner = cc in
     let n : a.source.number ≡ b.source.number = cc in
     let digits : moment_digits a.moment ≡ moment_digits b.moment = cc in
-    let w = way_is a.way b.way code in
+    let w = way_one a.way b.way code in
     let moment = moment_is a.moment b.moment p.moment q.moment digits in
     λ i. Some (record { way = w i; source = record { partner = partner i; number = n i }; moment = moment i })
 
@@ -440,8 +371,8 @@ one_visit x y p q same =
     let text : slot_text x.arrival.slot ≡ slot_text y.arrival.slot = cc in
     let exits : exit_values x.departure ≡ exit_values y.departure = cc in
     let kilos : x.kilos ≡ y.kilos = cc in
-    let is_laden = laden_is x.is_laden y.is_laden laden in
-    let w = way_is x.arrival.way y.arrival.way code in
+    let is_laden = laden_one x.is_laden y.is_laden laden in
+    let w = way_one x.arrival.way y.arrival.way code in
     let moment = moment_is x.arrival.moment y.arrival.moment p.arrival.moment q.arrival.moment digits in
     let slot = slot_is x.arrival.slot y.arrival.slot p.arrival.slot q.arrival.slot text in
     let exit = exit_is x.departure y.departure p.exit q.exit exits in

@@ -1,20 +1,13 @@
 -- What is copied from one store to another.
 use Rattle.std.specs.Prelude.{◌≡◌, List, [], ◌∷◌, map, take, Ok}
-use Rattle.sqlite.specs.Order.{Row, column}
-use Rattle.sqlite.specs.State.{State, HasCleanDisk}
+use Rattle.sqlite.specs.{Order.Row, Order.column, State.State, State.HasCleanDisk}
 use Rattle.sqlite.specs.declared.types.Value.TheVariants.{Text, Blob}
 use Rattle.sqlite_trees.specs.View.{IsShaped}
 use Rattle.sqlite_trees.specs.declared.store.Shape.TheVariants as shape
-use Rattle.office_rows.specs.Tables.{interchange_table, office_tables}
-use Rattle.office_rows.specs.Layouts.{bare_schema}
-use Rattle.office_rows.specs.Rows.{Interchange, Rows}
-use Rattle.office_rows.specs.Values.{number_value, interchange_values}
-use Rattle.office_rows.specs.Stored.{columns_of, HasEmpty}
-use Rattle.office_rows.specs.Opened.{OpenedRows}
-use Rattle.office_rows.specs.Opening.{with_interchanges}
+use Rattle.office_rows.specs.{Tables.interchange_table, Tables.office_tables, Layouts.bare_schema, Rows.Interchange, Rows.Rows}
+use Rattle.office_rows.specs.{Values.number_value, Values.interchange_values, Stored.columns_of, Stored.HasEmpty, Opened.OpenedRows, Opening.with_interchanges}
 use Rattle.office_rows.specs.Steps.{Turns}
-use Rattle.office_tables.specs.Order.{HasRowsInOrder}
-use Rattle.office_tables.specs.Writes.{Writes, WritesIfOpen}
+use Rattle.office_tables.specs.{Order.HasRowsInOrder, Writes.Writes, Writes.WritesIfOpen}
 
 -- ---- interchanges
 
@@ -25,7 +18,7 @@ pub record ShowsInterchange (row : Row) (i : Interchange) : Type 0 where
   pub partner : column row 2 ≡ number_value i.partner
   pub number : column row 3 ≡ number_value i.number
 
--- these are the interchanges of a tree in the order in which they stand there, which is that of their rowids
+-- these are the interchanges of a tree in their order there, which is that of their rowids
 abbrev pub AreStanding : List Row → List Interchange → Type 0
 AreStanding stored copied =
     IsShaped shape.Table stored → map interchange_values copied ≡ map (columns_of interchange_table) stored
@@ -37,7 +30,7 @@ pub record AddsShown (row : Row) (old new : State) : Type 0 where
   pub writes : Writes {T = Unit {0}} (with_interchanges (one ∷ [])) old new (Ok tt)
 
 -- interchanges are added: those of the store that was read, if its tables are those of version 1 or 2, in the order in
--- which they stand there
+-- which they are there
 pub record AddsStanding (from read old new : State) : Type 0 where
   pub copied : List Interchange
   pub are : HasCleanDisk read → from.now.schema ≡ bare_schema → AreStanding (from.now.trees 2) copied

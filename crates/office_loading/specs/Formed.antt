@@ -4,24 +4,16 @@ use Rattle.std.specs.List.Sorted.{IsNonDecreasingBy}
 use Rattle.box6346.specs.SlotName.{IsNamed}
 use Rattle.yard_core.specs.declared.plan.Block.{Block}
 use Rattle.edi_syntax.specs.Moments.{is_moment}
-use Rattle.terminal_core.specs.declared.visits.Arrival.{Arrival}
-use Rattle.terminal_core.specs.declared.visits.Departure.{Departure}
-use Rattle.terminal_core.specs.declared.change.Source.{Source}
-use Rattle.terminal_core.specs.declared.lines.Listing.{Listing}
-use Rattle.terminal_core.specs.declared.change.Place.{Place}
-use Rattle.terminal_core.specs.declared.restoring.RestoreFault.{RestoreFault}
+use Rattle.terminal_core.specs.{declared.visits.Arrival.Arrival, declared.visits.Departure.Departure, declared.change.Source.Source}
+use Rattle.terminal_core.specs.{declared.lines.Listing.Listing, declared.change.Place.Place, declared.restoring.RestoreFault.RestoreFault}
+use Rattle.terminal_core.specs.{declared.visits.Visit.Visit, Forms.IsSource, Forms.IsFormedVisit, Forms.IsFormedLine, Listings.line_content}
+use Rattle.terminal_core.specs.{Restoring.AreRowsOf, Rows.VisitContent, Rows.visit_content, State.TerminalState}
 use Rattle.terminal_core.specs.declared.restoring.RestoreFault.TheVariants.{Unsound, Memory}
-use Rattle.terminal_core.specs.declared.visits.Visit.{Visit}
-use Rattle.terminal_core.specs.Forms.{IsSource, IsFormedVisit, IsFormedLine}
-use Rattle.terminal_core.specs.Listings.{line_content}
-use Rattle.terminal_core.specs.Restoring.{AreRowsOf}
-use Rattle.terminal_core.specs.Rows.{VisitContent, visit_content}
-use Rattle.terminal_core.specs.State.{TerminalState}
 use Rattle.edi_messages.specs.Owned.{call_content}
 use Rattle.office_rows.specs.Office.{HasAccounts}
 use Rattle.office_loading.specs.Checks.{AreOwnVisits}
 
--- the source has its form, and its partner is among so many
+-- the source has its form, and its partner is one of that many
 abbrev pub IsSoundSource : ℕ → Source → Type 0
 IsSoundSource count source = IsSource source × (source.partner ≤ count)
 
@@ -36,7 +28,7 @@ abbrev pub IsSoundExit : ℕ → Option Departure → Type 0
 IsSoundExit count None = Unit {0}
 IsSoundExit count (Some departure) = IsSoundDeparture count departure
 
--- the visit has its form, and those who opened and closed it are among so many partners
+-- the visit has its form, and those who opened and closed it are of that many partners
 pub record IsSoundVisit (count : ℕ) (visit : VisitContent) : Type 0 where
   pub formed : IsFormedVisit visit
   pub accounted : HasAccounts count visit
@@ -50,7 +42,7 @@ AreSoundVisits count visits = All (λ (visit : Visit). IsSoundVisit count (visit
 abbrev pub AreSoundLines : List Listing → Type 0
 AreSoundLines lines = All IsSoundLine lines
 
--- the blocks stand by their letters
+-- the blocks are in the order of their letters
 abbrev pub AreByLetter : List Block → Type 0
 AreByLetter blocks = IsNonDecreasingBy (λ (block : Block). block.letter) blocks
 

@@ -1,22 +1,13 @@
 -- What a migration leaves.
 use Rattle.std.specs.Prelude.{◌≡◌, List, IsTrue, map}
-use Rattle.sqlite.specs.Order.{Row}
-use Rattle.sqlite.specs.State.{State}
-use Rattle.sqlite.specs.Effect.{Database}
-use Rattle.sqlite.specs.Tree.{Trees}
+use Rattle.sqlite.specs.{Order.Row, State.State, Effect.Database, Tree.Trees}
 use Rattle.terminal_core.specs.State.{TerminalState}
 use Rattle.office_admission.specs.Setups.{SetupContent}
-use Rattle.office_rows.specs.Tables.{interchange_table, no_schema, office_schema}
-use Rattle.office_rows.specs.Layouts.{bare_schema}
-use Rattle.office_rows.specs.Rows.{Interchange, Rows}
-use Rattle.office_rows.specs.Opened.{OpenedRows}
-use Rattle.office_rows.specs.Stored.{columns_of, HasRows, StoresRows}
-use Rattle.office_rows.specs.Bare.{HasBareRows}
-use Rattle.office_rows.specs.Migrated.{migrated_rows}
+use Rattle.office_rows.specs.{Tables.interchange_table, Tables.no_schema, Tables.office_schema, Layouts.bare_schema, Rows.Interchange, Rows.Rows}
+use Rattle.office_rows.specs.{Opened.OpenedRows, Stored.columns_of, Stored.HasRows, Stored.StoresRows, Bare.HasBareRows, Migrated.migrated_rows}
 use Rattle.office_rows.specs.Places.{ArePlaced}
 use Rattle.office_tables.specs.Order.{HasRowsInOrder}
-use Rattle.office_loading.specs.Older.{LoadsOlder}
-use Rattle.office_loading.specs.Copies.{AreStanding, copied_rows}
+use Rattle.office_loading.specs.{Older.LoadsOlder, Copies.AreStanding, Copies.copied_rows}
 
 -- what was committed is all there is, and a crash leaves only that
 pub record IsSettled (s : State) : Type 0 where
@@ -26,14 +17,14 @@ pub record IsSettled (s : State) : Type 0 where
 
 -- ---- the rows that were read, with interchanges
 
--- an empty database has these rows and the old store's interchanges, in the order in which they stand there, committed
+-- an empty database has these rows and the old store's interchanges, in their order there, committed
 pub record Copies (old : Database) (tables : OpenedRows) (before after : State) : Type 0 where
   pub copied : List Interchange
   pub are : AreStanding (old.trees 2) copied
   pub rows : before.committed.schema ≡ no_schema → HasRowsInOrder (copied_rows tables copied) after.committed
   pub stays : IsSettled after
 
--- these are these rows and the old store's interchanges, in the order in which they stand there, whole
+-- these are these rows and the old store's interchanges, in their order there, whole
 abbrev pub IsCopy : Database → OpenedRows → Database → Trees → Type 0
 IsCopy old tables before db = before.schema ≡ no_schema → old.schema ≡ bare_schema →
     (copied : List Interchange) × AreStanding (old.trees 2) copied
@@ -41,13 +32,13 @@ IsCopy old tables before db = before.schema ≡ no_schema → old.schema ≡ bar
 
 -- ---- the rows of a store
 
--- the rows of one table stand in the other in the same order, and there under the rowids 1, 2, 3 and so on
+-- the rows of one table are in the other in the same order, and there under the rowids 1, 2, 3 and so on
 pub record StandAlike (old new : List Row) : Type 0 where
   pub placed : ArePlaced 1 new
   pub same : map (columns_of interchange_table) new ≡ map (columns_of interchange_table) old
 
 -- the old store holds an office of version 1 or 2; an empty database has its rows, brought to the newest version,
--- committed, and the interchanges in the order in which they stand in the old store
+-- committed, and the interchanges in their order in the old store
 pub record Migrates (old : Database) (before after : State) : Type 0 where
   pub content : SetupContent
   pub terminal : TerminalState
@@ -59,7 +50,7 @@ pub record Migrates (old : Database) (before after : State) : Type 0 where
   pub stays : IsSettled after
 
 -- these are the rows of the old store, brought to the newest version, whole, and the interchanges in the order in which
--- they stand there
+-- they are there
 abbrev pub IsMigration : Database → Database → Trees → Type 0
 IsMigration old before db = before.schema ≡ no_schema → (rows : Rows) → HasBareRows rows old →
     StoresRows (migrated_rows rows) db × StandAlike (old.trees 2) (db 2)

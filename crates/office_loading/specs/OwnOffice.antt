@@ -2,18 +2,11 @@
 -- what the opened tables of any store are checked for.
 use Rattle.std.specs.Prelude.{◌≡◌, ◌⊎◌, ◌↔◌, ℕ, ◌<◌, ◌≤◌, List, [], ◌∷◌, length, All, Contains}
 use Rattle.edi_syntax.specs.Numbers.{last_number}
-use Rattle.terminal_core.specs.Rows.{VisitContent}
-use Rattle.terminal_core.specs.Changes.{rows_of}
-use Rattle.terminal_core.specs.Forms.{IsWellFormed}
-use Rattle.terminal_core.specs.State.{TerminalState, IsWhole}
-use Rattle.office_admission.specs.Setups.{SetupContent}
-use Rattle.office_admission.specs.Given.{IsGiven}
-use Rattle.office_rows.specs.Rows.{Partner}
-use Rattle.office_rows.specs.Opened.{NumberKept, OpenedRows}
-use Rattle.office_rows.specs.ByKey.{ArePlacedOnce, AreListedOnce}
+use Rattle.terminal_core.specs.{Rows.VisitContent, Changes.rows_of, Forms.IsWellFormed, State.TerminalState, State.IsWhole}
+use Rattle.office_admission.specs.{Setups.SetupContent, Given.IsGiven}
+use Rattle.office_rows.specs.{Rows.Partner, Opened.NumberKept, Opened.OpenedRows, ByKey.ArePlacedOnce, ByKey.AreListedOnce}
 use Rattle.office_rows.specs.Office.{settings_by_name, AreAccounts, HasAccounts, opened_terminal, IsOffice}
-use Rattle.office_loading.specs.Checks.{numbers_beyond, AreKeptBeyond, AreOwnVisits}
-use Rattle.office_loading.specs.Closed.{ClosedContent, nothing_closed}
+use Rattle.office_loading.specs.{Checks.numbers_beyond, Checks.AreKeptBeyond, Checks.AreOwnVisits, Closed.ClosedContent, Closed.nothing_closed}
 
 -- ---- the interchanges
 
@@ -25,11 +18,11 @@ IsClosedBelow last_closed partner = last_closed partner.id < partner.next
 abbrev pub ComesAfter : (partner number : ℕ) → NumberKept → Type 0
 ComesAfter partner number n = ((n.partner ≡ partner) × (number < n.number)) ⊎ ((partner < n.partner) × (1 ≤ n.number))
 
--- it comes after, is of one of so many partners, and its number is one that there is
+-- it comes after, is of one of that many partners, and its number is one that there is
 abbrev pub IsInOrder : (count partner number : ℕ) → NumberKept → Type 0
 IsInOrder count partner number n = ComesAfter partner number n × (n.partner ≤ count) × (n.number ≤ last_number)
 
--- they stand by partner and number, none twice
+-- they are in the order of partner and number, none twice
 abbrev pub AreInOrder : (count partner number : ℕ) → List NumberKept → Type 0
 AreInOrder count partner number [] = Unit {0}
 AreInOrder count partner number (n ∷ numbers) =

@@ -2,9 +2,8 @@
 use Rattle.std.specs.Prelude.{◌≡◌, ◌≢◌, ◌==◌, ◌||◌, ◌⊎◌, ℕ, ◌+◌, ◌<◌, ◌≤◌, nat_lt, Bool, true, false, List, [], ◌∷◌, ◌++◌, length, flat_map, Option, Some, None}
 use Rattle.sqlite.specs.Order.{Row, column}
 use Rattle.sqlite.specs.declared.types.Value.TheVariants.{Blob}
-use Rattle.office_loading.specs.Texts.{AreTextsAfter, has_reached}
+use Rattle.office_loading.specs.{Texts.AreTextsAfter, Texts.has_reached, declared.page.TextsPage.TextsPage}
 use Rattle.edi_syntax.specs.Bytes.{line_feed}
-use Rattle.office_loading.specs.declared.page.TextsPage.{TextsPage}
 
 -- the most bytes that one page has, unless its first text has more (our own)
 abbrev pub most_page_bytes : ℕ
@@ -26,7 +25,7 @@ pub record IsPage (most : ℕ) (all page : List (List ℕ)) : Type 0 where
   pub fits : length page ≤ 1 ⊎ length (lines_of page) ≤ most
   pub full : IsFull most page later
 
--- these are the lines of a page of the texts after a number, and so many they are
+-- these are the lines of a page of the texts after a number, and their count
 pub record TellsPage (from most : ℕ) (stored : List Row) (lines : List ℕ) (count : ℕ) : Type 0 where
   pub all : List (List ℕ)
   pub after : AreTextsAfter from stored all
@@ -49,7 +48,7 @@ TellsLines from most stored (Some lines) =
 
 -- ---- one text more
 
--- a text after these lines of so many: the first has room, and a later one that fits with its LF
+-- a text after these lines of that many: the first has room, and a later one that fits with its LF
 abbrev pub has_room : ℕ → List ℕ → ℕ → List ℕ → Bool
 has_room most lines count text = (count == 0) || nat_lt (length lines + length text) most
 

@@ -1,32 +1,20 @@
 -- What reading the tables answers.
 use Rattle.std.specs.Prelude.{◌≡◌, ℕ, ◌<◌, ◌^◌, List, [], ◌∷◌, map, Contains, codes, Result, Ok, Err, Vec}
 use Rattle.std.specs.List.{AllByRecursion}
-use Rattle.sqlite.specs.Order.{Row}
-use Rattle.sqlite.specs.Effect.{Database}
-use Rattle.terminal_core.specs.Rows.{VisitContent}
-use Rattle.terminal_core.specs.State.{TerminalState}
-use Rattle.terminal_core.specs.declared.restoring.RestoreFault.{RestoreFault}
+use Rattle.sqlite.specs.{Order.Row, Effect.Database}
+use Rattle.terminal_core.specs.{Rows.VisitContent, State.TerminalState, declared.restoring.RestoreFault.RestoreFault}
 use Rattle.terminal_core.specs.declared.restoring.RestoreFault.TheVariants as restoring
 use Rattle.yard_core.specs.declared.plan.Block.{Block}
 use Rattle.office_admission.specs.Setups.{SetupContent}
 use Rattle.office_rows.specs.Tables as table
 use Rattle.office_rows.specs.Rows.{Partner, PlaceContent, ListingContent, Setting}
 use Rattle.office_rows.specs.Values.{partner_values, visit_values, place_values, line_values, setting_values, block_values}
-use Rattle.office_rows.specs.Opening.{setting_row, tables_version}
-use Rattle.office_rows.specs.Layouts.{Layout, bare, weighed}
-use Rattle.office_rows.specs.Bare.{weighed_in}
-use Rattle.office_rows.specs.Stored.{columns_of}
-use Rattle.office_rows.specs.Shown.{ShowsTable}
-use Rattle.office_rows.specs.Opened.{OpenedRows, Shows}
-use Rattle.office_rows.specs.Office.{IsOffice}
-use Rattle.office_loading.specs.Closed.{ClosedContent}
-use Rattle.office_loading.specs.Contents.{opened_rows, setting_content}
-use Rattle.office_loading.specs.OwnOffice.{IsOwnOffice}
-use Rattle.office_loading.specs.declared.restoring.OpenedTables.{OpenedTables}
-use Rattle.office_tables.specs.declared.table_fault.TableFault.{TableFault}
+use Rattle.office_rows.specs.{Opening.setting_row, Opening.tables_version, Layouts.Layout, Layouts.bare, Layouts.weighed, Bare.weighed_in, Stored.columns_of}
+use Rattle.office_rows.specs.{Shown.ShowsTable, Opened.OpenedRows, Opened.Shows, Office.IsOffice}
+use Rattle.office_loading.specs.{Closed.ClosedContent, Contents.opened_rows, Contents.setting_content, OwnOffice.IsOwnOffice}
+use Rattle.office_loading.specs.{declared.restoring.OpenedTables.OpenedTables, declared.table_reading.Weights.Weights}
+use Rattle.office_tables.specs.{declared.table_fault.TableFault.TableFault, Faults.IsOfStoreOr}
 use Rattle.office_tables.specs.declared.table_fault.TableFault.TheVariants.{Store, Damaged, Version, Memory}
-use Rattle.office_tables.specs.Faults.{IsOfStoreOr}
-use Rattle.office_loading.specs.declared.table_reading.Weights.{Weights}
 use Rattle.office_loading.specs.declared.table_reading.Weights.TheVariants.{Absent, Kept}
 use Rattle.office_loading.specs.Fits.{FitsPartner, FitsNumber, FitsVisit, FitsPlace, FitsLine, FitsSetting, FitsBlock}
 
@@ -113,7 +101,7 @@ pub record FitsRows (rows : OpenedRows) : Type 0 where
   pub settings : AllByRecursion FitsSetting rows.settings
   pub blocks : AllByRecursion FitsBlock rows.blocks
 
--- whatever rows the tables show, some don't fit the types of a row
+-- of any rows that the tables show some don't fit the types of a row
 abbrev pub ShowsUnfit : Database → Type 0
 ShowsUnfit db = (rows : OpenedRows) → Shows db rows → ¬ FitsRows rows
 
@@ -148,7 +136,7 @@ ReadsOthers layout db settings (Err fault) = IsOfStoreOr (ShowsUnfit (weighed_in
 abbrev pub Loads : Database → SetupContent → TerminalState → Type 0
 Loads db content state = (rows : OpenedRows) × Shows db rows × IsOffice rows content state
 
--- whatever rows the tables show, they are those of no office
+-- any rows that the tables show are those of no office
 abbrev pub ShowsNoOffice : Database → Type 0
 ShowsNoOffice db = (rows : OpenedRows) (content : SetupContent) (state : TerminalState) → Shows db rows →
     ¬ IsOffice rows content state
@@ -163,7 +151,7 @@ FailsToLoad db fault = FailsByVersion (HasVersion db) (ShowsNoOffice db) fault
 abbrev pub LoadsOwn : ClosedContent → Database → SetupContent → TerminalState → Type 0
 LoadsOwn closed db content state = (rows : OpenedRows) × Shows db rows × IsOwnOffice closed rows content state
 
--- whatever rows the tables show, they are those of no office
+-- any rows that the tables show are those of no office
 abbrev pub ShowsNoOwnOffice : ClosedContent → Database → Type 0
 ShowsNoOwnOffice closed db = (rows : OpenedRows) (content : SetupContent) (state : TerminalState) → Shows db rows →
     ¬ IsOwnOffice closed rows content state

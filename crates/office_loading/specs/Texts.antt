@@ -1,10 +1,8 @@
 -- The kept texts in the order in which they came: that of the numbers of their rows.
 use Rattle.std.specs.Prelude.{◌≡◌, ◌==◌, ◌||◌, ℕ, Bool, List, map, filter}
-use Rattle.std.specs.List.{list_any}
-use Rattle.std.specs.Ordering.{is_gt, is_ge}
+use Rattle.std.specs.{List.list_any, Ordering.is_gt, Ordering.is_ge}
 use Rattle.sqlite.specs.declared.types.Value.TheVariants.{Blob}
-use Rattle.sqlite.specs.Order.{Row, column, value_cmp}
-use Rattle.sqlite.specs.Tree.{rowid}
+use Rattle.sqlite.specs.{Order.Row, Order.column, Order.value_cmp, Tree.rowid}
 use Rattle.office_rows.specs.Values.{number_value}
 
 -- the row's number is above that one
@@ -19,7 +17,7 @@ is_from from row = is_ge (value_cmp (rowid row) (number_value from))
 abbrev pub AreTextsAfter : ℕ → List Row → List (List ℕ) → Type 0
 AreTextsAfter from stored texts = map Blob texts ≡ map (λ row. column row 3) (filter (is_after from) stored)
 
--- there are at least so many texts: the number of some row is that one or above, or it is 0
+-- there are at least that many texts: the number of some row is that one or above, or it is 0
 abbrev pub has_reached : ℕ → List Row → Bool
 has_reached from stored = (from == 0) || list_any (is_from from) stored
 

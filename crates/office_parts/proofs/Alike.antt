@@ -2,19 +2,15 @@
 use Rattle.std.proofs.Common.{◌≡◌, ◌⊎◌, inl, inr, ℕ, suc, ◌+◌, List, [], ◌∷◌, ◌++◌, length, ◌≤◌, arith, Bool, true, false, cond, Option, None, Some, is_some, refl, sym, ap, subst, ◌∙◌, append_assoc, ◌≢◌, ◌<◌}
 use Rattle.std.specs.Prelude.{nat_le, if◌then◌else◌}
 use Rattle.std.proofs.lemmas.Bool.{cases_Bool, cond-true, cond-false, lt-leb, false_from_ne_true, cases_order}
-use Rattle.std.specs.Option.{option_or, unwrap_or}
-use Rattle.std.specs.List.{AllByRecursion}
-use Rattle.std.proofs.lemmas.List.{append-nil, length-append}
-use Rattle.std.proofs.lemmas.List.Elements.{All-from_recursion}
-use Rattle.partner_core.specs.Machine.{Taking}
+use Rattle.std.specs.{Option.option_or, Option.unwrap_or, List.AllByRecursion}
+use Rattle.std.proofs.{lemmas.List.append-nil, lemmas.List.length-append, lemmas.List.Elements.All-from_recursion, lemmas.Grind.flat_map-append}
+use Rattle.partner_core.specs.{Machine.Taking, Growth.ComesToSame}
 use Rattle.partner_core.specs.Deliveries.{Delivery, first_text, is_under, is_used, run}
 use Rattle.partner_core.specs.Order.{numbers_between, numbers_made_next, order, text_under, state_after, reply_among, state, reply_of}
 use Rattle.partner_core.specs.Answers.{answer_of, is_other, Taken, Repeat, Waiting, Clash}
-use Rattle.partner_core.specs.Growth.{ComesToSame}
 use Rattle.partner_core.proofs.Orders.{used_within_run, free_after_run, beyond_run, run_is, order-append, first-new, none_of}
 use Rattle.partner_core.proofs.OnceEach.{adds_nothing, under_self}
 use Rattle.office_parts.specs.Kept.{kept_after, kept, IsFirst, KeptAdds, KeptAreFirst, DecidesSame, KeptDecides}
-use Rattle.std.proofs.lemmas.Grind.{flat_map-append}
 use Rattle.edi_syntax.specs.Bytes.{line_feed}
 use Rattle.office_loading.specs.Pages.{lines_of, IsFull, IsPage}
 use Rattle.office_parts.specs.TextPages.{TextsHaveOnePage}
@@ -71,7 +67,7 @@ alike-nothing ds d used =
     let adds = adds_nothing {S = ℕ} (λ s p t. (s, [])) 0 ds d used in
     record { firsts = λ q j. sym (adds.first q j); orders = sym adds.in_order }
 
--- whatever comes later
+-- any later events
 pub alike-all : (ds es later : List Delivery) → Alike ds es → Alike (ds ++ later) (es ++ later)
 alike-all ds es [] a = subst (λ xs. Alike xs (es ++ [])) (sym (append-nil ds)) (subst (Alike ds) (sym (append-nil es)) a)
 alike-all ds es (d ∷ later) a =
@@ -201,7 +197,7 @@ kept_shorter before (d ∷ ds) = on (is_used before d.partner d.number) (kept_sh
     on true h = omega arith
     on false h = omega arith
 
--- no number stands twice among what is kept
+-- no number is there twice among what is kept
 pub new_among : (before later : List Delivery) (d : Delivery) → kept (before ++ d ∷ later) ≡ before ++ d ∷ later → is_used before d.partner d.number ≡ false
 unfolding kept
 new_among before later d all = false_from_ne_true (is_used before d.partner d.number) (λ used.

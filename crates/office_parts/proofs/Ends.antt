@@ -3,28 +3,23 @@ use Rattle.std.proofs.Common.{◌≡◌, ◌⊎◌, ℕ, ◌<◌, ◌≤◌, Boo
 use Rattle.std.proofs.lemmas.Bool.{and_from, cases_Bool, cases_order, le-leb, and_parts, cond-false, ltb-false, eqb-true}
 use Rattle.std.proofs.lemmas.List.{length-append, length-take, append-nil, length-drop, drop_at}
 use Rattle.std.proofs.lemmas.Slice.Eq.{bytes_eq-Decides}
-use Rattle.edi_syntax.specs.Characters.{begins_with_advice, is_tag_byte, is_break}
+use Rattle.edi_syntax.specs.{Characters.begins_with_advice, Characters.is_tag_byte, Characters.is_break, Positions.position_after}
+use Rattle.edi_syntax.specs.{declared.characters.Service.Service, Faults.applies, Faults.fault_of}
 use Rattle.edi_syntax.specs.Advice.{advised_characters, may_be_used, default_service, service_with, has_advice, service_at, has_bad_advice, without_breaks}
-use Rattle.edi_syntax.specs.Positions.{position_after}
 use Rattle.edi_syntax.specs.Cuts.{is_in_advice, breaks_advice, past_advice, is_closed, IsOpen}
-use Rattle.edi_syntax.proofs.CutLemmas.{in_advice}
-use Rattle.std.specs.Option.{option_map, option_map_or}
-use Rattle.std.specs.List.{list_all}
-use Rattle.std.specs.Str.{bytes_eq}
+use Rattle.edi_syntax.proofs.{CutLemmas.in_advice, SegmentLemmas.segment_at, SegmentLemmas.segment_complete}
+use Rattle.std.specs.{Option.option_map, Option.option_map_or, List.list_all, Str.bytes_eq}
 use Rattle.edi_syntax.specs.Interchange.{segments_in, is_segment_text, without_breaks_at_end, interchange_of}
 use Rattle.edi_syntax.specs.Text.{Content, no_segment, has_tag, SegmentText, SegmentsText}
 use Rattle.edi_syntax.specs.Reading.{body_len, content_of, breaks_len, next_at, segments_of, are_segments}
-use Rattle.edi_syntax.specs.declared.characters.Service.{Service}
 use Rattle.edi_syntax.specs.declared.interchange.SyntaxFault.TheVariants.{TooLong, Service as ServiceFault, Segment, NoEnvelope, Group, Version, Number, Moment, Test, MessageFrame}
 use Rattle.edi_syntax.proofs.SegmentsLemmas.{break_at_end, breaks_only, tag_is_no_break, no_break_before, next_of_segments, next_of_are_segments}
-use Rattle.edi_syntax.proofs.SegmentLemmas.{segment_at, segment_complete}
 use Rattle.edi_syntax.specs.Messages.{begins_message, ends_message, is_inner, are_messages}
 use Rattle.edi_syntax.specs.Envelope.{header_of, behind_header, last_of, trailer_of, has_envelope}
-use Rattle.edi_syntax.specs.Faults.{applies, fault_of}
 
 -- ==== Advised: A front of a text is read as the text is, or ends within its advice.
 
--- the front has the text's service characters, and what stands after its advice is a front of what does in the text
+-- the front has the text's service characters, and what is after its advice is a front of what is there in the text
 pub record IsRead (front more : List ℕ) : Type 0 where
   pub service : service_at front ≡ service_at (front ++ more)
   pub past : past_advice (front ++ more) ≡ past_advice front ++ more
@@ -241,7 +236,7 @@ breaks_at_end front (b ∷ breaks) all =
     let parts = and_parts (is_break b) (list_all is_break breaks) all in
     ap without_breaks_at_end (sym (append_assoc front (b ∷ []) breaks)) ∙ breaks_at_end (front ++ b ∷ []) breaks parts.1 ∙ break_at_end front b parts.0
 
--- no breaks stand at the end of a stripped text
+-- there are no breaks at the end of a stripped text
 pub none_at_end : (front breaks : List ℕ) → interchange_of (front ++ breaks) ≡ front ++ breaks → list_all is_break breaks ≡ true → breaks ≡ []
 none_at_end front [] stripped all = refl
 none_at_end front (b ∷ breaks) stripped all =
@@ -277,7 +272,7 @@ next_is : (s : Service) (segment : Content) (first rest : List ℕ) → SegmentT
 unfolding unbroken_behind
 next_is s segment first rest spelled = next_by_segment s (first ++ rest) ∙ ap (option_map unbroken_behind) (segment_complete s segment first rest spelled)
 
--- the segments of bytes are these, and then those of what stands after them
+-- the segments of bytes are these, and then those of what is after them
 pub record Goes (s : Service) (bytes : List ℕ) (segments : List Content) (rest : List ℕ) : Type 0 where
   pub segments_are : segments_of s bytes ≡ segments ++ segments_of s rest
   pub are_all : are_segments s bytes ≡ are_segments s rest
@@ -326,7 +321,7 @@ all_go s (segment ∷ segments) front tail (first, breaks, rest, spelled, are_br
       are_all = ap (are_segments s) regrouped ∙ here.are_all ∙ ap (are_segments s) left ∙ later.are_all;
     }
 
--- ---- a UNZ stands last only
+-- ---- a UNZ is last only
 
 has_that_tag : (tag : List ℕ) (segment : Content) → segment.tag ≡ tag → (other : List ℕ) → has_tag other segment ≡ bytes_eq tag other
 has_that_tag tag segment is other = ap (λ t. bytes_eq t other) is
@@ -378,7 +373,7 @@ trailer_last segments before trailer later envelope messages parts tag = on befo
 
 -- ---- the last segment
 
--- the last of these segments, and what stands before and after it
+-- the last of these segments, and what is before and after it
 pub record EndsBy (s : Service) (last_is : Content) (text : List ℕ) : Type 0 where
   pub before : List Content
   pub front : List ℕ

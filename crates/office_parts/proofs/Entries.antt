@@ -3,23 +3,19 @@ use Rattle.std.proofs.Common.{◌≡◌, ℕ, suc, Bool, true, false, inl, inr, 
 use Rattle.std.specs.Prelude.{drop, take}
 use Rattle.std.specs.List.{list_all, AllByRecursion}
 use Rattle.std.proofs.lemmas.Bool.{cases_Bool, cond-true, cond-false, cases_order}
-use Rattle.edi_syntax.specs.Characters.{is_break}
-use Rattle.edi_syntax.specs.Reading.{breaks_len}
-use Rattle.edi_syntax.specs.Advice.{without_breaks}
-use Rattle.edi_syntax.specs.Interchange.{without_breaks_at_end, interchange_of}
+use Rattle.edi_syntax.specs.{Characters.is_break, Reading.breaks_len, Advice.without_breaks, Interchange.without_breaks_at_end, Interchange.interchange_of}
 use Rattle.std.proofs.lemmas.List.{append-nil, map-append, length-append, length-map, take_at, take_all}
 use Rattle.std.proofs.lemmas.List.Elements.{All-from_recursion}
 use Rattle.partner_core.specs.Deliveries.{Delivery, delivery, first_text, is_under, is_used}
 use Rattle.office_replies.specs.Events.{Event, delivered, migrated, added}
 use Rattle.office_replies.specs.declared.deliver.Fault.{Fault}
-use Rattle.office_admission.specs.Setups.{SetupContent, parties_in}
-use Rattle.office_admission.specs.Accounts.{content_with, content_after}
-use Rattle.office_admission.specs.Admission.{admission}
+use Rattle.office_admission.specs.{Setups.SetupContent, Setups.parties_in, Accounts.content_with, Accounts.content_after, Admission.admission}
 use Rattle.office_admission.specs.Deliveries.{with_delivery, deliveries_of}
 use Rattle.office_admission.proofs.Adding.{deliveries_on, account_adds, migration_adds, first_admitted}
 use Rattle.office_parts.specs.Kept.{kept, kept_after, IsFirst}
 use Rattle.office_parts.specs.Journal.{text_of, kept_texts, delivered_all, accounts_in, IsEntry, KeptTextsAreEntries, JournalGrows, WasJournal, FrontsWereJournals}
 use Rattle.office_parts.proofs.Alike.{kept-append, kept_adds, kept_one, kept_twice, firsts_are_kept}
+use Rattle.edi_syntax.proofs.BehindLemmas.{none_left}
 
 at_end_none : (b : ℕ) (bytes : List ℕ) → list_all is_break (b ∷ bytes) ≡ true → without_breaks_at_end (b ∷ bytes) ≡ []
 at_end_none b bytes e = cond-true (list_all is_break (b ∷ bytes)) [] (b ∷ without_breaks_at_end bytes) e
@@ -44,17 +40,6 @@ stays_at_end (b ∷ bytes) = elim (cases_Bool (list_all is_break (b ∷ bytes)))
       ∙ ap (λ t. b ∷ t) (stays_at_end bytes) ∙ sym (at_end_some b bytes e)
 ]
 
-front_stays : (bytes : List ℕ) → breaks_len (without_breaks bytes) ≡ 0
-front_stays [] = refl
-front_stays (b ∷ bytes) = elim (cases_Bool (is_break b)) [
-  | inl e ↦
-      let more : without_breaks (b ∷ bytes) ≡ without_breaks bytes = rw e refl in
-      ap breaks_len more ∙ front_stays bytes
-  | inr e ↦
-      let none : without_breaks (b ∷ bytes) ≡ b ∷ bytes = rw e refl in
-      ap breaks_len none ∙ cond-false (is_break b) (suc (breaks_len bytes)) 0 e
-]
-
 end_keeps_front : (bytes : List ℕ) → breaks_len bytes ≡ 0 → breaks_len (without_breaks_at_end bytes) ≡ 0
 end_keeps_front [] h = refl
 end_keeps_front (b ∷ bytes) h = elim (cases_Bool (list_all is_break (b ∷ bytes))) [
@@ -71,7 +56,7 @@ without_nothing bytes h = ap (λ n. drop n bytes) h
 
 pub interchange_twice : (bytes : List ℕ) → interchange_of (interchange_of bytes) ≡ interchange_of bytes
 interchange_twice bytes =
-    ap without_breaks_at_end (without_nothing (interchange_of bytes) (end_keeps_front (without_breaks bytes) (front_stays bytes)))
+    ap without_breaks_at_end (without_nothing (interchange_of bytes) (end_keeps_front (without_breaks bytes) (none_left bytes)))
     ∙ stays_at_end (without_breaks bytes)
 
 -- ---- a kept text has no CR and LF at its ends

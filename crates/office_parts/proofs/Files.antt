@@ -2,36 +2,24 @@
 use Rattle.std.proofs.Common.{◌≡◌, inl, inr, ℕ, ◌≤◌, List, [], ◌∷◌, ◌++◌, map, Bool, true, false, cond, refl, sym, ap, ◌∙◌, arith, length, Result, Ok, Err, zero-le, subst}
 use Rattle.std.specs.Prelude.{filter, nat_le, not, drop}
 use Rattle.std.specs.List.{AllByRecursion}
-use Rattle.std.proofs.lemmas.Bool.{cases_Bool, leb-true, le-leb}
+use Rattle.std.proofs.{lemmas.Bool.cases_Bool, lemmas.Bool.leb-true, lemmas.Bool.le-leb, lemmas.List.Elements.filter-append}
 use Rattle.partner_core.specs.Deliveries.{Delivery, is_used, run, delivery}
 use Rattle.partner_core.proofs.Orders.{used-kept, used_within_run}
-use Rattle.office_rows.specs.Rows.{Interchange, Rows}
-use Rattle.office_parts.specs.InOrder.{as_delivery}
-use Rattle.office_parts.specs.Kept.{kept_after, kept}
-use Rattle.office_parts.specs.Closing.{is_beyond}
+use Rattle.office_rows.specs.{Rows.Interchange, Rows.Rows, Effects.with_waiting}
+use Rattle.office_parts.specs.{InOrder.as_delivery, Kept.kept_after, Kept.kept, Closing.is_beyond, Journal.text_of, Archives.Archive}
 use Rattle.office_parts.specs.Copies.{is_above, HasInOrder, AreDayCopies, closed_after}
 use Rattle.std.proofs.lemmas.List.{drop_at, length-map, map-append, append-nil, append_assoc}
-use Rattle.std.proofs.lemmas.List.Elements.{filter-append}
 use Rattle.edi_syntax.specs.Interchange.{interchange_of}
-use Rattle.office_admission.specs.Accounts.{content_after, content_with}
-use Rattle.office_admission.specs.Admission.{admission}
-use Rattle.office_admission.specs.Deliveries.{deliveries_of, with_delivery}
+use Rattle.office_admission.specs.{Accounts.content_after, Accounts.content_with, Admission.admission, Deliveries.deliveries_of, Deliveries.with_delivery}
+use Rattle.office_admission.specs.Setups.{SetupContent, parties_in}
 use Rattle.office_admission.proofs.Adding.{content_on, deliveries_on, account_adds}
-use Rattle.office_history.proofs.Accounted.{within}
+use Rattle.office_history.proofs.{Accounted.within, Places.refused_more}
 use Rattle.office_replies.specs.Events.{Event, delivered, migrated, added}
 use Rattle.office_replies.specs.declared.deliver.Fault.{Fault}
-use Rattle.office_admission.specs.Setups.{SetupContent, parties_in}
-use Rattle.office_parts.specs.Journal.{text_of}
-use Rattle.office_parts.proofs.Alike.{kept-append, kept_after-append}
-use Rattle.office_parts.specs.Archives.{Archive}
+use Rattle.office_parts.proofs.{Alike.kept-append, Alike.kept_after-append, JournalOrders.admitted_kept, JournalOrders.shown, JournalOrders.taken_shown}
 use Rattle.office_parts.specs.ArchiveJournal.{body_of, texts_beyond, texts_added, carried_on, journal_beyond}
 use Rattle.office_parts.specs.ArchiveJournalLaws.{JournalIsOfAllFiles, ClosingStaysInOrder, EventsStayInOrder, CopiesStayInOrder}
-use Rattle.terminal_core.specs.Rows.{ChangeContent, visit_opened, visit_closed, placed_at, moved_to, removed_from, listed_on, line_done, unlisted}
-use Rattle.office_history.specs.Cascade.{TakenContent, with_changes, with_interchange, with_interchanges}
-use Rattle.office_history.specs.Laws.{IsFor}
-use Rattle.office_history.proofs.Places.{refused_more}
-use Rattle.office_rows.specs.Effects.{with_waiting, with_change}
-use Rattle.office_parts.proofs.JournalOrders.{admitted_kept, reply_shown}
+use Rattle.office_history.specs.{Cascade.with_interchanges, Laws.IsFor}
 
 -- ==== Beyond: Interchanges and deliveries beyond what is closed.
 
@@ -228,30 +216,6 @@ closing_stays_in_order content es before then_ interchanges left up has same =
     ∙ above_twice before then_ up (kept (deliveries_of content es))
 
 -- ---- what taking leaves
-
-abbrev shown : Rows → List Delivery
-shown rows = map as_delivery rows.interchanges
-
-change_shown : (change : ChangeContent) (rows : Rows) → shown (with_change change rows) ≡ shown rows
-change_shown (visit_opened visit) rows = refl
-change_shown (visit_closed number departure) rows = refl
-change_shown (placed_at container visit slot) rows = refl
-change_shown (moved_to container slot) rows = refl
-change_shown (removed_from container) rows = refl
-change_shown (listed_on call side container port) rows = refl
-change_shown (line_done call side container) rows = refl
-change_shown (unlisted call side container) rows = refl
-
-changes_shown : (changes : List ChangeContent) (rows : Rows) → shown (with_changes changes rows) ≡ shown rows
-changes_shown [] rows = refl
-changes_shown (change ∷ changes) rows = changes_shown changes (with_change change rows) ∙ change_shown change rows
-
-taken_shown : (partner : ℕ) (taken : List TakenContent) (rows : Rows) → shown (with_interchanges partner taken rows) ≡ shown rows
-taken_shown partner [] rows = refl
-taken_shown partner (t ∷ taken) rows =
-    taken_shown partner taken (with_interchange partner t rows)
-    ∙ reply_shown partner t.number t.reply (with_changes t.changes rows).interchanges
-    ∙ changes_shown t.changes rows
 
 -- ---- one event more
 

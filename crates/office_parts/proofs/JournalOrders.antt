@@ -1,4 +1,4 @@
--- Rows whose interchanges stand in the order of arrival, after one event more.
+-- Rows whose interchanges are in the order of arrival, after one event more.
 use Rattle.std.proofs.Common.{◌≡◌, ℕ, Bool, true, false, cond, List, [], ◌∷◌, ◌++◌, map, None, refl, sym, ap, ◌∙◌}
 use Rattle.std.specs.Prelude.{is_some}
 use Rattle.std.proofs.lemmas.List.{append-nil, map-append}
@@ -6,24 +6,17 @@ use Rattle.edi_syntax.specs.Interchange.{interchange_of}
 use Rattle.partner_core.specs.Deliveries.{Delivery, delivery, is_used}
 use Rattle.terminal_core.specs.Rows.{ChangeContent, visit_opened, visit_closed, placed_at, moved_to, removed_from, listed_on, line_done, unlisted}
 use Rattle.office_replies.specs.Events.{Event, delivered}
-use Rattle.office_admission.specs.Setups.{SetupContent}
-use Rattle.office_admission.specs.Deliveries.{deliveries_of}
+use Rattle.office_admission.specs.{Setups.SetupContent, Deliveries.deliveries_of}
 use Rattle.office_admission.proofs.Adding.{account_adds, migration_adds}
 use Rattle.sqlite.specs.declared.types.Value.TheVariants.{Blob}
 use Rattle.sqlite.specs.Order.{Row, column}
-use Rattle.office_rows.specs.Tables.{interchange_table}
-use Rattle.office_rows.specs.Values.{interchange_values}
-use Rattle.office_rows.specs.Stored.{columns_of}
-use Rattle.office_rows.specs.Rows.{Interchange, Rows}
+use Rattle.office_rows.specs.{Tables.interchange_table, Values.interchange_values, Stored.columns_of, Rows.Interchange, Rows.Rows}
 use Rattle.office_rows.specs.Effects.{is_pair, with_waiting, with_change}
 use Rattle.office_history.specs.Cascade.{text_in, TakenContent, with_changes, with_interchange, with_interchanges}
 use Rattle.office_history.specs.Laws.{IsFor}
 use Rattle.office_history.proofs.Lawful.{opening_after, refused_adds, used_adds, early_adds, next_adds}
-use Rattle.office_history.proofs.Places.{admitted_more, refused_more}
-use Rattle.office_history.proofs.Ground.{account_adds_row}
-use Rattle.office_history.proofs.KeptNumbers.{migration_goes_on}
-use Rattle.office_parts.specs.Kept.{kept}
-use Rattle.office_parts.specs.Journal.{text_of}
+use Rattle.office_history.proofs.{Places.admitted_more, Places.refused_more, Ground.account_adds_row, KeptNumbers.migration_goes_on}
+use Rattle.office_parts.specs.{Kept.kept, Journal.text_of}
 use Rattle.office_parts.specs.InOrder.{as_delivery, AreInOrder, AreAfterInOrder, BodiesAreJournal, StoredIsJournal, OpeningIsInOrder, RefusedStaysInOrder, UsedStaysInOrder, EarlyAddsInOrder, NextAddsInOrder, AccountStaysInOrder, MigrationStaysInOrder}
 use Rattle.office_parts.proofs.Alike.{kept_adds}
 
@@ -52,7 +45,7 @@ stored_is_journal content es rows stored are held = (
 
 -- ---- what taking leaves
 
-abbrev shown : Rows → List Delivery
+abbrev pub shown : Rows → List Delivery
 shown rows = map as_delivery rows.interchanges
 
 pub reply_shown : (partner number : ℕ) (reply : List ℕ) (interchanges : List Interchange)
@@ -79,7 +72,7 @@ changes_shown : (changes : List ChangeContent) (rows : Rows) → shown (with_cha
 changes_shown [] rows = refl
 changes_shown (change ∷ changes) rows = changes_shown changes (with_change change rows) ∙ change_shown change rows
 
-taken_shown : (partner : ℕ) (taken : List TakenContent) (rows : Rows) → shown (with_interchanges partner taken rows) ≡ shown rows
+pub taken_shown : (partner : ℕ) (taken : List TakenContent) (rows : Rows) → shown (with_interchanges partner taken rows) ≡ shown rows
 taken_shown partner [] rows = refl
 taken_shown partner (t ∷ taken) rows =
     taken_shown partner taken (with_interchange partner t rows)

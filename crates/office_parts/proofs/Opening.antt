@@ -1,58 +1,36 @@
 -- What a store's own rows are checked for when it is opened.
-use Rattle.std.proofs.Common.{◌≡◌, ◌⊎◌, ℕ, zero, suc, ◌+◌, ◌-◌, ◌<◌, ◌≤◌, inl, inr, List, [], ◌∷◌, ◌++◌, length, map, true, false, refl, sym, ap, ap₂, subst, ◌∙◌, arith, Bool, cond, Option, None, Some, is_some}
-use Rattle.std.specs.List.{range_with_len, AllByRecursion}
+use Rattle.std.proofs.Common.{◌≡◌, ℕ, zero, suc, ◌+◌, ◌-◌, ◌<◌, ◌≤◌, inl, inr, List, [], ◌∷◌, ◌++◌, length, map, true, false, refl, sym, ap, ap₂, subst, ◌∙◌, arith, Bool, cond, Option, None, Some, is_some}
+use Rattle.std.specs.{List.range_with_len, List.AllByRecursion, List.Sorted.IsPermutation, Option.option_map, Option.option_and_then}
 use Rattle.std.proofs.lemmas.Bool.{cases_order, le-leb, leb-true, ne_eqb}
 use Rattle.edi_messages.specs.declared.codes.PartnerKind.{PartnerKind}
-use Rattle.office_rows.specs.Rows.{Partner, Interchange, Rows}
-use Rattle.office_rows.specs.Opened.{NumberKept, number_kept, reply_values}
-use Rattle.office_rows.specs.Office.{AreWaiting}
+use Rattle.office_rows.specs.{Rows.Partner, Rows.Interchange, Rows.Rows, Opened.NumberKept, Opened.number_kept, Opened.reply_values, Office.AreWaiting}
+use Rattle.office_rows.specs.{Effects.is_pair, Tables.interchange_table, Values.interchange_values}
 use Rattle.office_history.specs.After.{accounts_from, content_after, deliveries_of, opening_of, machine_after, taking_in, reply_if_any, reply_in}
-use Rattle.office_history.proofs.Kept.{Starts, Rise, Has, found_only, head_in, tail_in}
+use Rattle.office_history.proofs.Kept.{Starts, Rise, Has, found_only, head_in, tail_in, has_after, From}
 use Rattle.office_loading.specs.Checks.{taken_beyond, AreKeptBeyond, visits_after, numbers_beyond}
 use Rattle.std.specs.Prelude.{Contains, ◌==◌, not, nat_le, find, count_by, filter}
-use Rattle.std.specs.List.Sorted.{IsPermutation}
-use Rattle.std.specs.Option.{option_map, option_and_then}
 use Rattle.std.proofs.lemmas.List.Sorted.{IsPermutation-sym, Contains-permutation, sum_by-IsPermutation}
 use Rattle.sqlite_trees.proofs.ListLemmas.{IsPermutation-filter}
-use Rattle.partner_core.specs.Deliveries.{Delivery, first_text, run}
-use Rattle.partner_core.specs.Machine.{Taking}
-use Rattle.partner_core.proofs.OnceEach.{within_replied}
-use Rattle.partner_core.proofs.Orders.{used_within_run, free_after_run}
-use Rattle.terminal_core.specs.OneByOne.{GoOneByOne}
-use Rattle.terminal_core.specs.Rows.{VisitContent}
-use Rattle.terminal_core.specs.State.{AreNumbered, last_from, last_number}
-use Rattle.terminal_core.specs.Versions.{newest}
-use Rattle.terminal_core.proofs.Indexed.{found_is}
-use Rattle.terminal_core.proofs.Whole.{contained}
-use Rattle.terminal_core.proofs.Open.{last_highest}
+use Rattle.partner_core.specs.{Deliveries.Delivery, Deliveries.first_text, Deliveries.run, Machine.Taking}
+use Rattle.partner_core.proofs.{OnceEach.within_replied, Orders.used_within_run, Orders.free_after_run}
+use Rattle.terminal_core.specs.{OneByOne.GoOneByOne, Rows.VisitContent, State.AreNumbered, State.last_from, State.last_number, Versions.newest}
+use Rattle.terminal_core.proofs.{Indexed.found_is, Whole.contained, Open.last_highest}
 use Rattle.office_admission.proofs.Adding.{given_after}
 use Rattle.office_replies.specs.Events.{Event}
-use Rattle.office_rows.specs.Effects.{is_pair}
-use Rattle.office_rows.specs.Tables.{interchange_table}
-use Rattle.office_rows.specs.Values.{interchange_values}
-use Rattle.office_admission.specs.Given.{IsGiven}
-use Rattle.office_admission.specs.Setups.{SetupContent}
-use Rattle.office_admission.specs.TakingLaws.{IsSoundMachine}
-use Rattle.office_admission.specs.Taking.{MachineState}
+use Rattle.office_admission.specs.{Given.IsGiven, Setups.SetupContent, TakingLaws.IsSoundMachine, Taking.MachineState}
 use Rattle.office_history.specs.Cascade.{text_in}
-use Rattle.office_history.proofs.Afters.{state_sound, unreplied}
-use Rattle.office_history.proofs.Places.{sound_in}
-use Rattle.office_history.proofs.Runs.{is_pair_at, pair_of, InTurn, is_before, shows_records, by_keys}
-use Rattle.office_history.proofs.Accounted.{delivered_within}
-use Rattle.office_parts.specs.OwnTerminal.{own_visits}
-use Rattle.office_parts.specs.Parts.{Archived, ArePartsAfter}
-use Rattle.office_parts.specs.Closing.{is_closed, is_beyond}
-use Rattle.office_parts.specs.LeftOver.{rows_beyond}
-use Rattle.office_parts.specs.Laws.{OwnAreBeyond, NewVisitsAreNew, OwnNumbersAreKept, OwnVisitsGoOn}
-use Rattle.office_parts.proofs.Takings.{visits_same}
-use Rattle.office_parts.proofs.Orders.{StandInOrder, in_order, order_filtered, rise_of, beyond_numbered, found_beyond, once_here, numbers_told, closed_within}
-use Rattle.office_parts.proofs.LeftOver.{far_beyond}
-use Rattle.office_parts.proofs.Splits.{own_rise, Has as HasElement, has_contained, contained_has, has_right}
+use Rattle.office_history.proofs.{Afters.state_sound, Afters.unreplied, Places.sound_in, Accounted.delivered_within}
 use Rattle.office_history.proofs.KeptNumbers.{all_numbered, has_at}
+use Rattle.office_history.proofs.Runs.{is_pair_at, pair_of, InTurn, is_before, shows_records, by_keys}
+use Rattle.office_parts.specs.{OwnTerminal.own_visits, Parts.Archived, Parts.ArePartsAfter, Closing.is_closed, Closing.is_beyond, LeftOver.rows_beyond}
+use Rattle.office_parts.specs.Laws.{OwnAreBeyond, NewVisitsAreNew, OwnNumbersAreKept, OwnVisitsGoOn}
+use Rattle.office_parts.proofs.{Takings.visits_same, LeftOver.far_beyond}
+use Rattle.office_parts.proofs.Orders.{StandInOrder, in_order, order_filtered, rise_of, beyond_numbered, found_beyond, once_here, numbers_told, closed_within}
+use Rattle.office_parts.proofs.Splits.{own_rise, Has as HasElement, has_contained, contained_has, has_right}
 
 -- ==== Beyond: The interchanges that a store keeps beyond what is closed.
 
--- what is kept is one of so many partners', beyond what is closed, and was taken if it is within the partner's run
+-- what is kept is of one of that many partners, beyond what is closed, and was taken if it is within the partner's run
 pub record IsBeyond (closed : ℕ → ℕ) (count : ℕ) (runs : ℕ → ℕ) (n : NumberKept) : Type 0 where
   pub partner_low : 1 ≤ n.partner
   pub partner_high : n.partner ≤ count
@@ -64,22 +42,6 @@ pub record IsBeyond (closed : ℕ → ℕ) (count : ℕ) (runs : ℕ → ℕ) (n
 -- each number beyond what is closed, within the runs of partners after that one, is there
 abbrev pub IsComplete : (closed runs : ℕ → ℕ) → ℕ → List NumberKept → Type 0
 IsComplete closed runs p ns = (q k : ℕ) → p < q → closed q < k → k ≤ runs q → Has q k ns
-
-abbrev From : ℕ → List NumberKept → Type 0
-From p [] = Unit {0}
-From p (n ∷ ns) = p ≤ n.partner
-
--- what follows in order comes after
-has_after : (q m : ℕ) (ns : List NumberKept) (p k : ℕ) → Starts q m ns → Rise ns → Has p k ns → (q < p) ⊎ ((p ≡ q) × (m < k))
-has_after q m [] p k starts rise has = absurd has
-has_after q m (n ∷ ns) p k starts rise (inl here) = elim starts [
-  | inl far ↦ inl (omega (arith, here.0, far))
-  | inr near ↦ inr (sym here.0 ∙ near.0, omega (arith, here.1, near.1))
-]
-has_after q m (n ∷ ns) p k starts rise (inr later) = elim (has_after n.partner n.number ns p k rise.0 rise.1 later) [
-  | inl beyond ↦ elim starts [ inl far ↦ inl (omega (arith, beyond, far)) | inr near ↦ inl (omega (arith, beyond, near.0)) ]
-  | inr own ↦ elim starts [ inl far ↦ inl (omega (arith, own.0, far)) | inr near ↦ inr (own.0 ∙ near.0, omega (arith, own.1, near.1)) ]
-]
 
 module _ (closed : ℕ → ℕ) (count : ℕ) (runs : ℕ → ℕ) (below : (p : ℕ) → 1 ≤ p → p ≤ count → closed p ≤ runs p) where
   abbrev next : ℕ → ℕ

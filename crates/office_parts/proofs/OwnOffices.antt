@@ -1,42 +1,28 @@
 -- Rows of which some were put away: what a database shows of them are a store's own.
-use Rattle.std.proofs.Common.{◌≡◌, suc, ◌⊎◌, ℕ, ◌+◌, ◌<◌, ◌≤◌, inl, inr, List, [], ◌∷◌, length, map, All, Bool, true, false, cond, refl, sym, ap, subst, ◌∙◌, arith, Ordering, Equal, Greater, is_lt}
+use Rattle.std.proofs.Common.{◌≡◌, suc, ◌⊎◌, ℕ, ◌+◌, ◌<◌, ◌≤◌, inl, inr, List, [], ◌∷◌, length, map, All, Bool, true, false, cond, refl, sym, ap, subst, ◌∙◌, arith, Equal}
 use Rattle.std.specs.Prelude.{Contains, codes, count_by, filter, not, nat_le}
-use Rattle.std.specs.List.{AllByRecursion}
-use Rattle.std.specs.List.Sorted.{IsPermutation}
-use Rattle.std.specs.Ordering.{nat_cmp, ordering_then}
-use Rattle.std.specs.Cmp.Lexicographic.{slice_cmp}
-use Rattle.std.proofs.lemmas.Bool.{leb-true, leb-false}
-use Rattle.std.proofs.lemmas.Bool.Decides.{nat_tests}
-use Rattle.std.proofs.lemmas.List.Elements.{All-cons, All-nil}
+use Rattle.std.specs.{List.AllByRecursion, List.Sorted.IsPermutation}
+use Rattle.std.proofs.{lemmas.Bool.leb-true, lemmas.Bool.leb-false, lemmas.List.Elements.All-cons, lemmas.List.Elements.All-nil}
 use Rattle.std.proofs.lemmas.List.Sorted.{IsPermutation-refl, IsPermutation-sym, Contains-permutation, sum_by-IsPermutation}
 use Rattle.sqlite.specs.Effect.{Database}
 use Rattle.edi_messages.specs.declared.codes.PartnerKind.{PartnerKind}
-use Rattle.terminal_core.specs.Changes.{TerminalRows, rows_of}
-use Rattle.terminal_core.specs.Forms.{IsWellFormed}
-use Rattle.terminal_core.specs.Rows.{VisitContent}
-use Rattle.terminal_core.specs.State.{TerminalState, IsWhole}
-use Rattle.office_admission.specs.Given.{IsGiven}
-use Rattle.office_admission.specs.Setups.{SetupContent}
-use Rattle.office_rows.specs.Rows.{Partner, Interchange, Rows}
-use Rattle.office_rows.specs.Values.{partner_values, interchange_values, visit_values, place_values, line_values, setting_values, block_values}
-use Rattle.office_rows.specs.Stored.{AreRows}
-use Rattle.office_rows.specs.Effects.{stands_for, is_line, is_pair}
-use Rattle.office_rows.specs.Opened.{NumberKept, number_kept, reply_values, OpenedRows, Shows}
+use Rattle.terminal_core.specs.{Changes.TerminalRows, Changes.rows_of, Forms.IsWellFormed, Rows.VisitContent, State.TerminalState, State.IsWhole}
+use Rattle.office_admission.specs.{Given.IsGiven, Setups.SetupContent}
+use Rattle.office_rows.specs.{Rows.Partner, Rows.Interchange, Rows.Rows, Stored.AreRows, Effects.stands_for, Effects.is_line, Effects.is_pair}
 use Rattle.office_rows.specs.Office.{settings_by_name, AreAccounts, HasAccounts}
+use Rattle.office_rows.specs.Values.{partner_values, interchange_values, visit_values, place_values, line_values, setting_values, block_values}
+use Rattle.office_rows.specs.Opened.{NumberKept, number_kept, reply_values, OpenedRows, Shows}
 use Rattle.office_rows.specs.Tables.{partner_table, interchange_table, visit_table, place_table, listing_table, block_table, setting_table as settings_table}
-use Rattle.office_loading.specs.Checks.{numbers_beyond, AreKeptBeyond, AreOwnVisits}
-use Rattle.office_loading.specs.Closed.{ClosedContent}
+use Rattle.office_loading.specs.{Checks.numbers_beyond, Checks.AreKeptBeyond, Checks.AreOwnVisits, Closed.ClosedContent}
 use Rattle.office_loading.specs.OwnOffice.{ComesAfter, AreInOrder, IsClosedBelow, AreOwnNumbers, IsOwnOffice}
-use Rattle.office_history.specs.After.{AreKeptOnce, accounts_from}
-use Rattle.office_history.specs.Laws.{AreRowsByKey}
-use Rattle.office_history.proofs.Kept.{Starts, Rise, Has, accounts_are, Rises, count_more}
+use Rattle.office_history.specs.{After.AreKeptOnce, After.accounts_from, Laws.AreRowsByKey}
+use Rattle.office_history.proofs.Kept.{Starts, Rise, Has, accounts_are, Rises}
 use Rattle.office_history.proofs.Loads.{accounts_rise, numbered_rise, letter_key, blocks_rise, any_head, places_same, lines_same}
 use Rattle.office_history.proofs.Runs.{InTurn, is_before, shows_records, by_keys}
 use Rattle.office_parts.specs.Closing.{is_beyond}
-use Rattle.office_parts.proofs.Opening.{IsBeyond, IsComplete, all_kept}
+use Rattle.office_parts.proofs.{Opening.IsBeyond, Opening.IsComplete, Opening.all_kept, Splits.Has as HasElement, Splits.has_contained, Splits.contained_has}
 use Rattle.office_parts.proofs.Orders.{in_order, order_filtered, rise_of, beyond_numbered}
-use Rattle.office_parts.proofs.Splits.{Has as HasElement, has_contained, contained_has}
-use Rattle.office_history.proofs.KeptNumbers.{all_numbered, has_at}
+use Rattle.office_history.proofs.{KeptNumbers.all_numbered, KeptNumbers.has_at, ByKeys.count_left}
 use Rattle.office_history.proofs.Offices.{not_before, not_before_byte, rising_in_turn, text_after}
 
 -- ---- keys in order
@@ -115,14 +101,6 @@ pub record KeepsOwn (closed : ℕ → ℕ) (count : ℕ) (runs : ℕ → ℕ) (r
   pub there : (p k : ℕ) → closed p < k → k ≤ runs p → (i : Interchange) × Contains rows.interchanges i × (i.partner ≡ p) × (i.number ≡ k)
   pub below : (p : ℕ) → 1 ≤ p → p ≤ count → closed p ≤ runs p
 
-fewer_left : {A : Type 0} (p q : A → Bool) (xs : List A) → count_by p (filter q xs) ≤ count_by p xs
-fewer_left p q [] = omega arith
-fewer_left p q (x ∷ xs) = by (q x) (p x) refl (fewer_left p q xs)
-  where
-    by : (own is : Bool) → p x ≡ is → count_by p (filter q xs) ≤ count_by p xs → count_by p (cond own (x ∷ filter q xs) (filter q xs)) ≤ count_by p (x ∷ xs)
-    by true is e rest = omega (arith, count_more p x (filter q xs) is e, count_more p x xs is e, rest)
-    by false is e rest = omega (arith, count_more p x xs is e, rest)
-
 module _ (closed : ℕ → ℕ) (count : ℕ) (runs : ℕ → ℕ) (rows : Rows) (keeps : KeepsOwn closed count runs rows) (zs : List Interchange) (same : IsPermutation rows.interchanges zs) (turn : InTurn (is_before (0 ∷ 1 ∷ []) interchange_values) zs) where
   abbrev numbers : List NumberKept
   numbers = map number_kept zs
@@ -166,7 +144,7 @@ module _ (closed : ℕ → ℕ) (count : ℕ) (runs : ℕ → ℕ) (rows : Rows)
       subst (λ m. Has q m (map number_kept (filter (far closed) zs))) there.3 (subst (λ r. Has r there.0.number (map number_kept (filter (far closed) zs))) there.2 has)
 
   fewer_beyond : (p k : ℕ) → count_by (is_pair p k) (filter (far closed) zs) ≤ 1
-  fewer_beyond p k = omega (arith, fewer_left (is_pair p k) (far closed) zs, once_in p k)
+  fewer_beyond p k = omega (arith, count_left (is_pair p k) (far closed) zs, once_in p k)
 
   kept_beyond : (accounts : List (List ℕ × PartnerKind)) → length accounts ≡ count → AreKeptBeyond closed (accounts_from 1 (λ p. runs p + 1) accounts) (numbers_beyond closed numbers)
   kept_beyond accounts counted =

@@ -1,42 +1,27 @@
--- The store's tables show a store's own rows, whichever closed interchanges still stand there.
-use Rattle.std.proofs.Common.{◌≡◌, [], ◌∷◌, ℕ, ◌<◌, ◌≤◌, inl, inr, List, length, true, Some, is_some, refl, sym, ap, subst, ◌∙◌, arith}
+-- The store's tables show a store's own rows, whichever closed interchanges are still there.
+use Rattle.std.proofs.Common.{◌≡◌, [], ◌∷◌, ℕ, ◌<◌, ◌≤◌, List, length, true, Some, is_some, refl, sym, ap, subst, ◌∙◌, arith}
 use Rattle.std.specs.Prelude.{Contains, find, filter}
-use Rattle.std.specs.List.Sorted.{IsPermutation}
-use Rattle.std.specs.Option.{option_map}
-use Rattle.std.proofs.lemmas.Bool.{cases_order}
+use Rattle.std.specs.{List.Sorted.IsPermutation, Option.option_map}
 use Rattle.partner_core.specs.Deliveries.{Delivery, first_text, run}
-use Rattle.partner_core.proofs.Orders.{some_of, used_within_run}
-use Rattle.terminal_core.specs.Changes.{TerminalRows, rows_of}
-use Rattle.terminal_core.specs.State.{TerminalState}
-use Rattle.terminal_core.specs.Versions.{newest}
-use Rattle.terminal_core.proofs.Indexed.{found_is}
-use Rattle.terminal_core.proofs.Whole.{contained}
+use Rattle.partner_core.proofs.Orders.{used_within_run}
+use Rattle.terminal_core.specs.{Changes.TerminalRows, Changes.rows_of, State.TerminalState, Versions.newest}
+use Rattle.terminal_core.proofs.{Indexed.found_is, Whole.contained}
 use Rattle.office_admission.proofs.Adding.{given_after}
 use Rattle.office_replies.specs.Events.{Event}
-use Rattle.office_rows.specs.Effects.{is_pair}
-use Rattle.office_rows.specs.Office.{settings_by_name}
-use Rattle.office_rows.specs.Opening.{settings_in}
-use Rattle.office_rows.specs.Rows.{Interchange, Rows}
+use Rattle.office_rows.specs.{Effects.is_pair, Office.settings_by_name, Opening.settings_in, Rows.Interchange, Rows.Rows}
 use Rattle.office_rows.specs.ByKey.{terminal_rows, ArePlacedOnce, AreListedOnce}
-use Rattle.office_admission.specs.Given.{IsGiven}
-use Rattle.office_admission.specs.Setups.{SetupContent}
+use Rattle.office_admission.specs.{Given.IsGiven, Setups.SetupContent}
 use Rattle.office_loading.specs.Checks.{AreOwnVisits}
 use Rattle.office_history.specs.After.{AreKeptOnce, content_after, deliveries_of, opening_of, machine_after}
 use Rattle.office_history.specs.Cascade.{text_in}
-use Rattle.office_history.proofs.Accounted.{state_accounted, delivered_within}
-use Rattle.office_history.proofs.Ground.{state_on_ground}
-use Rattle.office_history.proofs.Runs.{is_pair_at, pair_of}
-use Rattle.office_history.proofs.Kept.{found_only}
+use Rattle.office_history.proofs.{Accounted.state_accounted, Accounted.delivered_within, Ground.state_on_ground, Runs.is_pair_at, Runs.pair_of, Kept.found_only}
 use Rattle.office_parts.specs.OwnTerminal.{is_own, own_visits, own_terminal, MayStay}
-use Rattle.office_parts.specs.Parts.{Archived, ArePartsAfter}
-use Rattle.office_parts.specs.Closing.{is_beyond}
-use Rattle.office_parts.specs.LeftOver.{rows_beyond}
-use Rattle.office_parts.specs.Laws.{OwnRowsAreOwnOffice}
-use Rattle.office_parts.proofs.Takings.{visits_same, own_rows}
-use Rattle.office_parts.proofs.Orders.{numbers_told, closed_within}
+use Rattle.office_parts.specs.{Parts.Archived, Parts.ArePartsAfter, Closing.is_beyond, LeftOver.rows_beyond, Laws.OwnRowsAreOwnOffice}
+use Rattle.office_parts.proofs.{Takings.visits_same, Takings.own_rows, Orders.numbers_told, Orders.closed_within}
 use Rattle.office_parts.proofs.Opening.{sound_after, own_visits_go, is_beyond_closed, body_found}
 use Rattle.office_parts.proofs.OwnOffices.{KeepsOwn, AreOfOwn, beyond_in, in_beyond, own_shown}
 use Rattle.office_parts.proofs.Splits.{has_contained, contained_has, had_filtered, own_sound}
+use Rattle.office_history.proofs.Offices.{run_within}
 
 -- the settings by their names, as exchanges of two at a time give them, the last first
 settings_shuffled : (content : SetupContent) → IsPermutation (settings_in newest content) (settings_by_name content)
@@ -45,18 +30,6 @@ settings_shuffled content = record {
   below = (omega arith, omega arith, (omega arith, omega arith, (omega arith, omega arith, (omega arith, omega arith, (omega arith, omega arith, (omega arith, omega arith, (omega arith, omega arith, (omega arith, omega arith, tt))))))));
   is = refl;
 }
-
--- no run goes past the numbers of interchanges
-run_high : (content : SetupContent) (es : List Event) (p : ℕ) → run (deliveries_of content es) p ≤ 999999999
-run_high content es p = elim (cases_order (run (deliveries_of content es) p) 0) [
-  | inl none ↦ omega arith
-  | inr o ↦ elim o [
-    | inl below ↦ absurd (omega arith)
-    | inr some ↦
-        let last = some_of (first_text (deliveries_of content es) p (run (deliveries_of content es) p)) (used_within_run (deliveries_of content es) p (run (deliveries_of content es) p) (omega arith) (omega arith)) in
-        (delivered_within content es p (run (deliveries_of content es) p) last.0 last.1).3
-  ]
-]
 
 module _ (content : SetupContent) (es : List Event) (archived : Archived) (own whole rows : Rows) (newest_closed : ℕ) (given : IsGiven content) (are : ArePartsAfter content es archived own whole)
     (left : rows_beyond archived.last_closed rows ≡ own) (once : AreKeptOnce rows.interchanges) (of_whole : (i : Interchange) → Contains rows.interchanges i → Contains whole.interchanges i)
@@ -130,7 +103,7 @@ module _ (content : SetupContent) (es : List Event) (archived : Archived) (own w
       record {
         given = given_after es content given;
         partners = ap (λ (r : Rows). r.partners) left ∙ sym are.parts.partners ∙ are.after.partners;
-        high = run_high content es;
+        high = run_within content es;
         keeps = keeps;
         by_key = record {
           same = same;

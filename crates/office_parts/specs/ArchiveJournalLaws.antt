@@ -2,20 +2,11 @@
 use Rattle.std.specs.Prelude.{◌≡◌, ℕ, ◌≤◌, List, [], ◌∷◌, ◌++◌, filter, true, false, Err}
 use Rattle.edi_syntax.specs.Interchange.{interchange_of}
 use Rattle.partner_core.specs.Deliveries.{is_used, run}
-use Rattle.office_admission.specs.Admission.{admission}
-use Rattle.office_admission.specs.Accounts.{content_after}
-use Rattle.office_admission.specs.Deliveries.{deliveries_of}
-use Rattle.office_history.specs.Cascade.{TakenContent, with_run}
-use Rattle.office_history.specs.Laws.{IsFor}
-use Rattle.office_replies.specs.Events.{Event, delivered, added}
-use Rattle.office_replies.specs.declared.deliver.Fault.{Fault}
-use Rattle.office_rows.specs.Effects.{with_waiting}
-use Rattle.office_rows.specs.Rows.{Interchange, Rows}
-use Rattle.office_admission.specs.Setups.{SetupContent, parties_in}
-use Rattle.office_parts.specs.Journal.{kept_texts}
-use Rattle.office_parts.specs.Archives.{Archive}
-use Rattle.office_parts.specs.Closing.{is_beyond}
-use Rattle.office_parts.specs.Copies.{HasInOrder, AreCopiesInOrder, closed_after}
+use Rattle.office_admission.specs.{Admission.admission, Accounts.content_after, Deliveries.deliveries_of, Setups.SetupContent, Setups.parties_in}
+use Rattle.office_history.specs.{Cascade.TakenContent, Cascade.with_run, Laws.IsFor}
+use Rattle.office_replies.specs.{Events.Event, Events.delivered, Events.added, declared.deliver.Fault.Fault}
+use Rattle.office_rows.specs.{Effects.with_waiting, Rows.Interchange, Rows.Rows}
+use Rattle.office_parts.specs.{Journal.kept_texts, Archives.Archive, Closing.is_beyond, Copies.HasInOrder, Copies.AreCopiesInOrder, Copies.closed_after}
 use Rattle.office_parts.specs.ArchiveJournal.{journal_of}
 
 -- The journal over the files is the journal of the events, byte for byte, as if nothing had been put away.
@@ -27,7 +18,7 @@ JournalIsOfAllFiles =
 
 -- ---- what keeps a file in order
 
--- what is closed besides, and whatever of it is deleted, leaves the rest in order
+-- what is closed besides, and any of it that is deleted, leaves the rest in order
 abbrev pub ClosingStaysInOrder : Type 0
 ClosingStaysInOrder =
     (content : SetupContent) (es : List Event) (before then_ : ℕ → ℕ) (interchanges left : List Interchange) →

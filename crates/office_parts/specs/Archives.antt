@@ -3,8 +3,7 @@ use Rattle.std.specs.Prelude.{◌≡◌, ℕ, ◌<◌, ◌≤◌, false, Bool, n
 use Rattle.std.specs.Option.{option_and_then}
 use Rattle.terminal_core.specs.Rows.{VisitContent}
 use Rattle.office_rows.specs.Rows.{ListingContent, Rows}
-use Rattle.office_history.specs.Cascade.{text_in}
-use Rattle.office_history.specs.After.{reply_in}
+use Rattle.office_history.specs.{Cascade.text_in, After.reply_in}
 use Rattle.office_parts.specs.Parts.{Archived, rows_of_archives}
 
 -- an archive: a copy of a store's rows, the last number of each partner that was closed by it, and of each list that was put

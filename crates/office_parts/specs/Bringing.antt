@@ -1,14 +1,11 @@
--- A list is brought back: its lines stand in the store again, after those that stand there.
+-- A list is brought back: its lines are in the store again, after those that are there.
 use Rattle.std.specs.Prelude.{◌≡◌, Bool, true, not, ◌&&◌, ◌||◌, List, filter, IsPermutation}
-use Rattle.std.specs.Ordering.{nat_cmp, eq_by_cmp}
-use Rattle.std.specs.Cmp.Lexicographic.{slice_cmp}
+use Rattle.std.specs.{Ordering.nat_cmp, Ordering.eq_by_cmp, Cmp.Lexicographic.slice_cmp}
 use Rattle.office_history.specs.After.{AreAfter}
-use Rattle.office_parts.specs.Parts.{Archived, ArePartsAfter}
+use Rattle.office_parts.specs.{Parts.Archived, Parts.ArePartsAfter, OwnLists.ListName, OwnLists.list_name, OwnLists.rows_without_lists}
 use Rattle.office_replies.specs.Events.{Event}
-use Rattle.office_rows.specs.Opening.{with_lines}
-use Rattle.office_rows.specs.Rows.{ListingContent, Rows}
+use Rattle.office_rows.specs.{Opening.with_lines, Rows.ListingContent, Rows.Rows}
 use Rattle.office_admission.specs.Setups.{SetupContent}
-use Rattle.office_parts.specs.OwnLists.{ListName, list_name, rows_without_lists}
 
 abbrev pub is_list : ListName → ListName → Bool
 is_list list other = eq_by_cmp (slice_cmp (slice_cmp nat_cmp)) list other
@@ -20,7 +17,7 @@ all_but list away other = away other && not (is_list list other)
 abbrev pub is_of : ListName → ListingContent → Bool
 is_of list line = is_list list (list_name line.call line.side)
 
--- the lines of the list, as they stand
+-- the lines of the list, as they are
 abbrev pub lines_of : ListName → Rows → List ListingContent
 lines_of list rows = filter (is_of list) rows.lines
 
@@ -37,14 +34,14 @@ pub record BringsBack (content : SetupContent) (es : List Event) (archived : Arc
 
 -- ---- the laws
 
--- lines may stand in any order
+-- lines may be in any order
 abbrev pub LinesStandInAnyOrder : Type 0
 LinesStandInAnyOrder =
     (content : SetupContent) (es : List Event) (rows : Rows) (lines : List ListingContent) → AreAfter content es rows →
     IsPermutation rows.lines lines
     → AreAfter content es (record rows { lines = lines })
 
--- a list that was put away is brought back by its lines, in whatever order
+-- a list that was put away is brought back by its lines, in any order
 abbrev pub ListsAreBroughtBack : Type 0
 ListsAreBroughtBack =
     (content : SetupContent) (es : List Event) (archived : Archived) (own whole : Rows) (away : ListName → Bool)
@@ -52,7 +49,7 @@ ListsAreBroughtBack =
     IsPermutation (lines_of list own) back
     → BringsBack content es archived away list back own
 
--- to put more lists away is to take their lines out of those that stand there
+-- to put more lists away is to take their lines out of those that are there
 abbrev pub MoreListsArePutAway : Type 0
 MoreListsArePutAway =
     (away more : ListName → Bool) (rows : Rows)

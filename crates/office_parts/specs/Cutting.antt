@@ -1,9 +1,6 @@
 -- The journal as a stream: the lines of its texts are cut into just these texts.
 use Rattle.std.specs.Prelude.{◌≡◌, ℕ, List, [], All, take, drop, None}
-use Rattle.edi_syntax.specs.Interchange.{interchange_of}
-use Rattle.edi_syntax.specs.Faults.{fault_of}
-use Rattle.edi_syntax.specs.Cuts.{IsInterchange}
-use Rattle.edi_syntax.specs.Streams.{AreCuts}
+use Rattle.edi_syntax.specs.{Interchange.interchange_of, Faults.fault_of, Cuts.IsInterchange, Streams.AreCuts}
 use Rattle.office_replies.specs.Events.{Event}
 use Rattle.office_admission.specs.Setups.{SetupContent}
 use Rattle.office_parts.specs.Journal.{kept_texts}
@@ -18,7 +15,7 @@ pub record IsFaultless (text : List ℕ) : Type 0 where
 abbrev pub FaultlessIsInterchange : Type 0
 FaultlessIsInterchange = (text : List ℕ) → IsFaultless text → IsInterchange text
 
--- The lines of such texts are cut into these texts, whatever service characters each has, and nothing is left over.
+-- The lines of such texts are cut into these texts, with any service characters, and nothing is left over.
 abbrev pub LinesAreCut : Type 0
 LinesAreCut = (texts : List (List ℕ)) → All IsFaultless texts → AreCuts (lines_of texts) texts []
 

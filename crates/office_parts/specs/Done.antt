@@ -1,26 +1,25 @@
 -- A line that is done stays done.
 use Rattle.std.specs.Prelude.{◌≡◌, ℕ, List, Option, Some}
 use Rattle.std.specs.FinMap as finite_map
-use Rattle.terminal_core.specs.declared.change.Version.{Version}
+use Rattle.terminal_core.specs.{declared.change.Version.Version, State.LineContent, State.LineKey, State.Lines}
 use Rattle.terminal_core.specs.declared.lines.LineState.TheVariants.{Done}
-use Rattle.terminal_core.specs.State.{LineContent, LineKey, Lines}
 use Rattle.office_history.specs.Cascade.{TakenContent, AreTakenFrom}
 use Rattle.office_admission.specs.Taking.{MachineState, interchange_taken_by}
 
--- the line with this key stands, and is done
+-- the line with this key is there, and is done
 pub record IsDoneLine (lines : Lines) (key : LineKey) : Type 0 where
   pub line : LineContent
   pub there : finite_map.get lines key ≡ Some line
   pub is_done : line.state ≡ Done
 
--- whatever interchange is taken
+-- any interchange that is taken
 abbrev pub DoneLinesStay : Type 0
 DoneLinesStay =
     (version : Version) (machine : MachineState) (partner : ℕ) (text : List ℕ) (key : LineKey) →
     IsDoneLine machine.terminal.lines key
     → IsDoneLine (interchange_taken_by version machine partner text).0.terminal.lines key
 
--- and whatever run of them. So a list with such a line never loses all its lines.
+-- and any run of them. So a list with such a line never loses all its lines.
 abbrev pub DoneLinesStayInRuns : Type 0
 DoneLinesStayInRuns =
     (partner : ℕ) (texts : ℕ → Option (List ℕ)) (number : ℕ) (machine : MachineState) (taken : List TakenContent)

@@ -1,9 +1,6 @@
 -- What an office keeps of what is delivered: the first delivery under each number, in the order of arrival.
 use Rattle.std.specs.Prelude.{◌≡◌, ℕ, List, [], ◌∷◌, ◌++◌, All, Some, if◌then◌else◌}
-use Rattle.partner_core.specs.Machine.{Taking}
-use Rattle.partner_core.specs.Deliveries.{Delivery, first_text, is_used}
-use Rattle.partner_core.specs.Answers.{answer_of}
-use Rattle.partner_core.specs.Growth.{ComesToSame}
+use Rattle.partner_core.specs.{Machine.Taking, Deliveries.Delivery, Deliveries.first_text, Deliveries.is_used, Answers.answer_of, Growth.ComesToSame}
 
 -- of deliveries that come after others, those under a number that was free when they came
 abbrev pub kept_after : List Delivery → List Delivery → List Delivery
@@ -39,7 +36,7 @@ pub record DecidesSame {S : Type 0} (taken : Taking S) (opening : S) (ds es : Li
   pub comes : ComesToSame taken opening ds es
   pub answers : (d : Delivery) → answer_of taken opening ds d ≡ answer_of taken opening es d
 
--- what is kept decides all, now and after whatever comes later
+-- what is kept decides all, now and after any later events
 abbrev pub KeptDecides : {S : Type 0} → Taking S → Type 0
 KeptDecides {S} taken =
     (opening : S) (ds later : List Delivery) → DecidesSame taken opening (kept ds ++ later) (ds ++ later)

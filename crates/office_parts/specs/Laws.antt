@@ -2,32 +2,17 @@
 use Rattle.std.specs.Prelude.{◌≡◌, ℕ, ◌+◌, ◌<◌, ◌≤◌, Bool, true, List, [], ◌∷◌, ◌++◌, length, Contains, Option, None, Some}
 use Rattle.std.specs.List.{AllByRecursion}
 use Rattle.sqlite.specs.Effect.{Database}
-use Rattle.edi_messages.specs.Orders.{OrderContent}
-use Rattle.edi_messages.specs.declared.codes.PartnerKind.{PartnerKind}
+use Rattle.edi_messages.specs.{Orders.OrderContent, declared.codes.PartnerKind.PartnerKind}
 use Rattle.edi_syntax.specs.Interchange.{interchange_of}
-use Rattle.partner_core.specs.Deliveries.{first_text, run}
-use Rattle.partner_core.specs.Answers.{Repeat, Clash}
-use Rattle.partner_core.specs.Order.{reply_of}
-use Rattle.terminal_core.specs.declared.change.Source.{Source}
-use Rattle.terminal_core.specs.declared.change.Version.{Version}
+use Rattle.partner_core.specs.{Deliveries.first_text, Deliveries.run, Answers.Repeat, Answers.Clash, Order.reply_of}
+use Rattle.terminal_core.specs.{declared.change.Source.Source, declared.change.Version.Version, Forms.IsWellFormed, Rows.VisitContent, Rows.ChangeContent}
+use Rattle.terminal_core.specs.{State.TerminalState, State.IsWhole, State.last_number, Step.step_by, Versions.newest}
 use Rattle.terminal_core.specs.Changes.{TerminalRows, rows_of, rows_with_all, AreApplicable}
-use Rattle.terminal_core.specs.Forms.{IsWellFormed}
-use Rattle.terminal_core.specs.Rows.{VisitContent, ChangeContent}
-use Rattle.terminal_core.specs.State.{TerminalState, IsWhole, last_number}
-use Rattle.terminal_core.specs.Step.{step_by}
-use Rattle.terminal_core.specs.Versions.{newest}
-use Rattle.office_admission.specs.Accounts.{content_after, account_answer, added_as}
-use Rattle.office_admission.specs.Deliveries.{deliveries_of}
+use Rattle.office_admission.specs.{Accounts.content_after, Accounts.account_answer, Accounts.added_as, Deliveries.deliveries_of, Given.IsGiven}
+use Rattle.office_admission.specs.{Kinds.kind_named, Setups.SetupContent, Taking.MachineState, Taking.interchange_taken_by, Taking.interchange_changes_by}
 use Rattle.office_replies.specs.Events.{Event, delivered, added}
-use Rattle.office_rows.specs.ByKey.{terminal_rows}
-use Rattle.office_rows.specs.Effects.{with_waiting, with_partner}
+use Rattle.office_rows.specs.{ByKey.terminal_rows, Effects.with_waiting, Effects.with_partner, Rows.Interchange, Rows.ListingContent, Rows.Rows, Stored.HasRows}
 use Rattle.office_rows.specs.Opened.{NumberKept, ShowsNumbers, OpenedRows, Shows}
-use Rattle.office_rows.specs.Rows.{Interchange, ListingContent, Rows}
-use Rattle.office_rows.specs.Stored.{HasRows}
-use Rattle.office_admission.specs.Given.{IsGiven}
-use Rattle.office_admission.specs.Kinds.{kind_named}
-use Rattle.office_admission.specs.Setups.{SetupContent}
-use Rattle.office_admission.specs.Taking.{MachineState, interchange_taken_by, interchange_changes_by}
 use Rattle.office_history.specs.After.{opening_of, taking_in, machine_after, reply_in, AreAfter, AreKeptOnce}
 use Rattle.office_history.specs.Cascade.{text_in, TakenContent, texts_with, with_run, AreTakenFrom}
 use Rattle.office_history.specs.Laws.{IsFor, answer_model_of, AddsRun}
@@ -35,8 +20,7 @@ use Rattle.office_parts.specs.OwnTerminal.{own_terminal, own_step, own_machine, 
 use Rattle.office_parts.specs.Parts.{Archived, nothing_archived, rows_of_archives, ArePartsAfter}
 use Rattle.office_parts.specs.Closing.{carried, archived_with, whole_with, MayClose}
 use Rattle.office_parts.specs.Archives.{Archive, text_by, reply_by, Hold, HoldsWhatGoes}
-use Rattle.office_loading.specs.Checks.{numbers_beyond, AreKeptBeyond, AreOwnVisits}
-use Rattle.office_loading.specs.OwnOffice.{IsOwnOffice}
+use Rattle.office_loading.specs.{Checks.numbers_beyond, Checks.AreKeptBeyond, Checks.AreOwnVisits, OwnOffice.IsOwnOffice}
 use Rattle.office_parts.specs.LeftOver.{rows_beyond}
 
 -- ---- the terminal
@@ -85,10 +69,10 @@ InterchangesAreTakenAlike =
     → IsWhole machine.terminal → MayStay stays machine.terminal.visits
     → IsTakenAlike stays version machine partner text
 
--- ---- what the parts tell
+-- ---- what the parts say
 
--- Of a number that is closed the archives tell text and reply, and the store has nothing under it; of any other the
--- store tells both.
+-- Of a number that is closed the archives have text and reply, and the store has nothing under it; of any other the
+-- store has both.
 pub record IsTold (content : SetupContent) (es : List Event) (archived : Archived) (own : Rows) (partner number : ℕ)
     : Type 0 where
   pub own_text : archived.last_closed partner < number →
@@ -168,7 +152,7 @@ EarlyAddsToParts =
     (with_waiting partner number (interchange_of sent) own) (with_waiting partner number (interchange_of sent) whole)
 
 -- it is taken by the whole's texts and at the whole machine too; what was taken is written to the store, and the parts are
--- those after the delivery; beside the store stands its own machine
+-- those after the delivery; beside the store is its own machine
 pub record AddsToParts (content : SetupContent) (es : List Event) (archived : Archived) (own whole : Rows)
     (sent : List ℕ) (partner number : ℕ) (taken : List TakenContent) (there : MachineState) : Type 0 where
   pub machine : MachineState
@@ -242,7 +226,7 @@ OwnAreBeyond =
     ArePartsAfter content es archived own whole → rows_beyond archived.last_closed own ≡ own
 
 -- what the interchanges of a store show, in order, is beyond what is closed what is looked for, whichever closed ones
--- still stand there
+-- are still there
 abbrev pub OwnNumbersAreKept : Type 0
 OwnNumbersAreKept =
     (content : SetupContent) (es : List Event) (archived : Archived) (own whole rows : Rows) (db : Database) →
@@ -258,7 +242,7 @@ OwnVisitsGoOn =
     ((number : ℕ) → newest_closed < number → archived.stays number ≡ true)
     → AreOwnVisits newest_closed own.visits
 
--- Whatever closed interchanges still stand in the store, its tables show what every store is checked for, where those
+-- With any closed interchanges still in the store, its tables show what every store is checked for, where those
 -- numbers are closed and each visit after the newest closing stays: the set-up with the accounts so far, and the
 -- store's own terminal. The rows are of the whole, and none has the partner and the number of another.
 abbrev pub OwnRowsAreOwnOffice : Type 0

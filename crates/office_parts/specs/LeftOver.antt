@@ -1,10 +1,8 @@
--- Interchanges that are closed and still stand in a store: they are no part of it. So numbers may be closed in one place
--- before their rows are deleted in another, and whatever stops in between does no harm.
+-- Interchanges that are closed and still in a store: they are no part of it. So numbers may be closed in one place
+-- before their rows are deleted in another, and any stop in between does no harm.
 use Rattle.std.specs.Prelude.{◌≡◌, ℕ, ◌<◌, ◌≤◌, not, true, Bool, List, filter}
-use Rattle.office_rows.specs.Effects.{with_waiting}
-use Rattle.office_rows.specs.Rows.{Interchange, Rows}
-use Rattle.office_history.specs.After.{reply_in}
-use Rattle.office_history.specs.Cascade.{text_in, TakenContent, with_run}
+use Rattle.office_rows.specs.{Effects.with_waiting, Rows.Interchange, Rows.Rows}
+use Rattle.office_history.specs.{After.reply_in, Cascade.text_in, Cascade.TakenContent, Cascade.with_run}
 use Rattle.office_parts.specs.Closing.{is_closed, is_beyond, carried}
 
 -- the rows without the interchanges that are closed
@@ -17,7 +15,7 @@ rows_without deleted rows = record rows { interchanges = filter (λ (i : Interch
 
 -- ---- the laws
 
--- beyond what is closed, text and reply are looked up as if no closed interchange stood there
+-- beyond what is closed, text and reply are looked up as if no closed interchange were there
 pub record IsToldBeyond (last_closed : ℕ → ℕ) (rows : Rows) (partner number : ℕ) : Type 0 where
   pub text : text_in (rows_beyond last_closed rows) partner number ≡ text_in rows partner number
   pub reply : reply_in (rows_beyond last_closed rows) partner number ≡ reply_in rows partner number
@@ -27,7 +25,7 @@ LeftOverTellNothing =
     (last_closed : ℕ → ℕ) (rows : Rows) (partner number : ℕ) → last_closed partner < number
     → IsToldBeyond last_closed rows partner number
 
--- what is written beyond it is written as if none stood there: a text that waits, and a run
+-- what is written beyond it is written as if none were there: a text that waits, and a run
 pub record IsWrittenBeyond (last_closed : ℕ → ℕ) (rows : Rows) (partner number : ℕ) (text : List ℕ)
     (taken : List TakenContent) : Type 0 where
   pub waiting : rows_beyond last_closed (with_waiting partner number text rows)

@@ -3,27 +3,18 @@ use Rattle.std.specs.Prelude.{◌≡◌, ℕ, ◌+◌, ◌<◌, Bool, true, List
 use Rattle.sqlite.specs.Effect.{Database}
 use Rattle.edi_syntax.specs.Interchange.{interchange_of}
 use Rattle.partner_core.specs.Deliveries.{run}
-use Rattle.office_admission.specs.Accounts.{content_after}
-use Rattle.office_admission.specs.Deliveries.{deliveries_of}
+use Rattle.office_admission.specs.{Accounts.content_after, Deliveries.deliveries_of, Given.IsGiven, Setups.SetupContent, Taking.MachineState}
 use Rattle.office_replies.specs.Events.{Event, delivered}
-use Rattle.office_rows.specs.Opened.{OpenedRows, Shows}
-use Rattle.office_rows.specs.Rows.{Interchange, Rows}
-use Rattle.office_rows.specs.Stored.{HasRows}
-use Rattle.office_admission.specs.Given.{IsGiven}
-use Rattle.office_admission.specs.Setups.{SetupContent}
-use Rattle.office_admission.specs.Taking.{MachineState}
+use Rattle.office_rows.specs.{Opened.OpenedRows, Opened.Shows, Rows.Interchange, Rows.Rows, Stored.HasRows}
 use Rattle.office_loading.specs.OwnOffice.{IsOwnOffice}
-use Rattle.office_history.specs.After.{machine_after, AreKeptOnce}
+use Rattle.office_history.specs.{After.machine_after, After.AreKeptOnce, Laws.IsFor, Laws.AddsRun}
 use Rattle.office_history.specs.Cascade.{text_in, TakenContent, texts_with, with_run, AreTakenFrom}
-use Rattle.office_history.specs.Laws.{IsFor, AddsRun}
-use Rattle.office_parts.specs.LeftOver.{rows_beyond}
-use Rattle.office_parts.specs.OwnTerminal.{own_terminal, own_machine}
-use Rattle.office_parts.specs.Parts.{Archived, ArePartsAfter}
-use Rattle.office_parts.specs.OwnLists.{ListName, without_lists, machine_without, rows_without_lists}
+use Rattle.office_parts.specs.{LeftOver.rows_beyond, OwnTerminal.own_terminal, OwnTerminal.own_machine, Parts.Archived, Parts.ArePartsAfter}
 use Rattle.office_parts.specs.ListLaws.{NameOwnLists}
+use Rattle.office_parts.specs.OwnLists.{ListName, without_lists, machine_without, rows_without_lists}
 
 -- It is taken with the lists that were put away as without them. What was taken is written to the rows without them;
--- with them these are parts of the whole after the delivery, and beside them stands the store's own machine without them.
+-- with them these are parts of the whole after the delivery, and beside them is the store's own machine without them.
 pub record AddsWithoutLists (content : SetupContent) (es : List Event) (archived : Archived) (own whole : Rows)
     (away : ListName → Bool) (sent : List ℕ) (partner number : ℕ) (taken : List TakenContent) (there : MachineState)
     : Type 0 where
@@ -51,7 +42,7 @@ NextAddsWithoutLists =
     (machine_without away (own_machine archived.stays (machine_after content es))) taken there
     → AddsWithoutLists content es archived own whole away sent partner number taken there
 
--- Whatever closed interchanges still stand in the store, its tables show what every store is checked for, where those
+-- With any closed interchanges still in the store, its tables show what every store is checked for, where those
 -- numbers are closed and each visit after the newest closing stays: the set-up with the accounts so far, and the store's
 -- own terminal without the lists that were put away. The interchanges are of the whole, and none has the partner and the
 -- number of another.

@@ -2,9 +2,8 @@
 use Rattle.std.specs.Prelude.{ℕ, Bool, not, List, [], ◌∷◌, filter}
 use Rattle.std.specs.FinMap as finite_map
 use Rattle.edi_messages.specs.Purposes.{CallContent}
-use Rattle.terminal_core.specs.declared.lines.Side.{Side}
+use Rattle.terminal_core.specs.{declared.lines.Side.Side, Step.StepResult, Step.step_with}
 use Rattle.terminal_core.specs.State.{TerminalState, LineKey, Lines, side_code}
-use Rattle.terminal_core.specs.Step.{StepResult, step_with}
 use Rattle.office_rows.specs.Rows.{ListingContent, Rows}
 use Rattle.office_admission.specs.Taking.{MachineState}
 

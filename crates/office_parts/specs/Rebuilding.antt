@@ -1,14 +1,10 @@
 -- An office that is made again, or followed, by its journal.
 use Rattle.std.specs.Prelude.{◌≡◌, ◌⊎◌, ℕ, ◌+◌, ◌≤◌, Option, map, List, ◌∷◌, ◌++◌, length, take}
-use Rattle.partner_core.specs.Answers.{AnswerModel, Taken, Waiting}
-use Rattle.partner_core.specs.Deliveries.{Delivery, run}
+use Rattle.partner_core.specs.{Answers.AnswerModel, Answers.Taken, Answers.Waiting, Deliveries.Delivery, Deliveries.run}
 use Rattle.office_replies.specs.Events.{Event}
-use Rattle.office_admission.specs.Setups.{SetupContent}
-use Rattle.office_admission.specs.Accounts.{content_after}
-use Rattle.office_admission.specs.Deliveries.{deliveries_of}
+use Rattle.office_admission.specs.{Setups.SetupContent, Accounts.content_after, Deliveries.deliveries_of}
 use Rattle.office_rows.specs.Rows.{Rows}
-use Rattle.office_history.specs.After.{machine_after, AreAfter}
-use Rattle.office_history.specs.Laws.{HasNoMigration, answer_model_of}
+use Rattle.office_history.specs.{After.machine_after, After.AreAfter, Laws.HasNoMigration, Laws.answer_model_of}
 use Rattle.office_parts.specs.Kept.{kept}
 use Rattle.office_parts.specs.Journal.{text_of, kept_texts, texts_since, delivered_all, accounts_in}
 
@@ -25,14 +21,14 @@ pub record HasSameJournal (one : SetupContent) (es : List Event) (other : SetupC
   pub setup : content_after one es ≡ content_after other fs
   pub texts : kept_texts one es ≡ kept_texts other fs
 
--- are the same office, now and after whatever comes later
+-- are the same office, now and after any later events
 abbrev pub JournalDecides : Type 0
 JournalDecides =
     (one other : SetupContent) (es fs later : List Event) →
     HasNoMigration (es ++ later) → HasNoMigration (fs ++ later) → HasSameJournal one es other fs
     → IsSameOffice one (es ++ later) other (fs ++ later)
 
--- Whatever came, and whatever comes later: a new office, set up with the accounts so far, to which the journal is
+-- After any events, and any later ones: a new office, set up with the accounts so far, to which the journal is
 -- delivered, is the same.
 abbrev pub Rebuilding : Type 0
 Rebuilding =

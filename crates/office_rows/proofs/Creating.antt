@@ -1,10 +1,8 @@
 -- What the texts mean that make the tables.
 use Rattle.std.proofs.Common.{◌≡◌, ℤ, inl, inr, List, [], ◌∷◌, ◌++◌, map, filter, Bool, true, false, not, ◌||◌, cond, Ordering, Less, Equal, Greater, refl, sym, ap, ◌∙◌, true≢false, ◌⊎◌, IsTrue, Result, Ok, Err, OnOk, IfOk, subst, ℕ, slice_get, Some, None, Contains, arith, codes, zero, suc, ◌+◌, take, length, append_assoc, add-zero}
-use Rattle.std.specs.Ordering.{is_eq, match_ordering}
-use Rattle.std.specs.List.{list_any}
-use Rattle.std.specs.List.Sorted.{IsPermutation}
+use Rattle.std.specs.{Ordering.is_eq, Ordering.match_ordering, List.list_any, List.Sorted.IsPermutation}
 use Rattle.std.proofs.lemmas.Bool.{and_parts, or_parts, not-true, cases_Bool}
-use Rattle.std.proofs.lemmas.Cmp.{tied_itself}
+use Rattle.std.proofs.{lemmas.Cmp.tied_itself, lemmas.List.take_more, lemmas.Option.slice_get_within, lemmas.Option.get_or_from_slice_get}
 use Rattle.std.proofs.lemmas.List.Sorted.{IsPermutation-refl, IsPermutation-sym, IsPermutation-trans, IsPermutation-cons, IsPermutation-middle, IsPermutation-append, IsPermutation-append_right, list_any-IsPermutation, Contains-permutation, length_permutation}
 use Rattle.sqlite_value.specs.declared.value.Value.TheVariants.{Int}
 use Rattle.sqlite_value.specs.Order.{Row, value_cmp}
@@ -16,24 +14,14 @@ use Rattle.sqlite_trees.proofs.TreeLemmas.{IsTable-put_row, all-put_row}
 use Rattle.sqlite_rules.specs.Lists.{Has}
 use Rattle.sqlite_rules.specs.Edit.{id_in, put_all, without_all, is_taken, are_fresh, have_rowids}
 use Rattle.sqlite_rules.proofs.ListLemmas.{all_has, all_from, some_has, some_from, has_filtered, has_kept, has_contained, contains_had}
-use Rattle.sqlite_rules.proofs.TableLemmas.{int_is}
-use Rattle.sqlite_rules.proofs.PlaceLemmas.{tied_same}
-use Rattle.sqlite.specs.State.{State, Shows, IsUnchanged, IsRolledBack, KeepsCommit, Survives, Shown, ShowsRows, FailsToQuery, FailsToShow, IsNotRun, CommitsShowing}
-use Rattle.office_rows.specs.Stored.{HasRows, StoresRows}
-use Rattle.sqlite.proofs.StateLemmas.{survives_then}
-use Rattle.office_rows.specs.Rows.{Rows, Partner, Setting}
-use Rattle.sqlite.specs.Effect.{Database}
-use Rattle.office_rows.specs.Steps.{Steps, Turns}
-use Rattle.sqlite.specs.declared.error.Error.{Error}
-use Rattle.sqlite.specs.Clock.{timed}
-use Rattle.sqlite.specs.Listing.{understood}
-use Rattle.sqlite.proofs.Callers.{IsPlain, command_of, statement_of}
+use Rattle.sqlite_rules.proofs.{TableLemmas.int_is, PlaceLemmas.tied_same}
+use Rattle.sqlite.specs.State.{State, Shows, IsUnchanged, IsRolledBack, KeepsCommit, Survives, CommitsShowing}
+use Rattle.office_rows.specs.{Stored.HasRows, Stored.StoresRows, Rows.Rows, Rows.Partner, Rows.Setting, Steps.Steps, Steps.Turns}
+use Rattle.sqlite.proofs.{StateLemmas.survives_then, Callers.IsPlain, Callers.command_of, Callers.statement_of}
+use Rattle.sqlite.specs.{Effect.Database, Listing.understood, Compile.table_defined_by}
 use Rattle.sqlite.specs.Command.TheVariants.{CreateTable}
-use Rattle.sqlite.specs.Compile.{table_defined_by}
 use Rattle.sqlite_tied.specs.Compute.{everything}
 use Rattle.office_rows.specs.Tables.{partner_table, interchange_table, visit_table, place_table, listing_table, setting_table, block_table, no_schema, schema_of}
-use Rattle.std.proofs.lemmas.List.{take_more}
-use Rattle.std.proofs.lemmas.Option.{slice_get_within, get_or_from_slice_get}
 use Rattle.edi_messages.specs.declared.codes.PartnerKind.{PartnerKind}
 use Rattle.yard_core.specs.declared.plan.Block.{Block}
 use Rattle.office_rows.specs.Opening.{partners_from, setting_row, settings_named, with_partners, with_settings, with_blocks}
@@ -189,12 +177,6 @@ steps_turn P rows change a b c p q = record { now = λ h. q.rows rows (p.now h);
 
 -- ==== ReadLemmas: From the rows of an answer to the records.
 
-pub shown_same : (sql : List ℕ) (params : Row) (old new : State) (rows : List Row) → IsPlain (understood old.now.schema sql) → Shown sql params old new rows → IsUnchanged old new
-unfolding Shown
-shown_same sql params old new rows plain h =
-    let none = (subst IsPlain h.1.is plain).0 in
-    (subst (ShowsRows old new sql h.0 (timed params h.0.formats h.1.now) rows) none h.2).3
-
 pub has_mapped : {A B : Type 0} (f : A → B) (xs : List A) (y : B) → Has (map f xs) y → (x : A) × Has xs x × (y ≡ f x)
 has_mapped f [] y h = absurd h
 has_mapped f (x ∷ xs) y (inl same) = (x, inl refl, same)
@@ -215,14 +197,6 @@ some_first f xs (z ∷ ys) y same some =
 
 -- ---- a query commits nothing, whether it answers or fails
 
-pub failed_keeps : (sql : List ℕ) (params : Row) (old new : State) (e : Error) → IsPlain (understood old.now.schema sql) → FailsToQuery sql params old new e → KeepsCommit old new
-unfolding FailsToQuery IsNotRun
-failed_keeps sql params old new e plain (inl (inl stopped)) = stops_keep old new (inl stopped.1)
-failed_keeps sql params old new e plain (inl (inr failed)) = stops_keep old new (inr failed.3)
-failed_keeps sql params old new e plain (inr h) =
-    let none = (subst IsPlain h.1.is plain).0 in
-    stops_keep old new (inl (subst (FailsToShow old new sql h.0 (timed params h.0.formats h.1.now) e) none h.2).3)
-
 pub query_survives : (sql : List ℕ) (params : Row) (old new : State) → IsPlain (understood old.now.schema sql) → Survives old new (CommitsShowing sql params old) → Survives old new (λ _. ⊥)
 unfolding CommitsShowing
 query_survives sql params old new plain s = record {
@@ -242,13 +216,9 @@ query_survives sql params old new plain s = record {
 abbrev pub create_partner : List ℕ
 create_partner = codes "CREATE TABLE partner (id INTEGER PRIMARY KEY, code TEXT NOT NULL UNIQUE, kind INTEGER NOT NULL, next INTEGER NOT NULL) STRICT"
 
-pub create_partner_is : (command_of (understood no_schema create_partner) ≡ CreateTable) × (statement_of create_partner (understood no_schema create_partner) ≡ create_partner)
+pub create_partner_is : (command_of (understood no_schema create_partner) ≡ CreateTable) × (statement_of create_partner (understood no_schema create_partner) ≡ create_partner) × IsPlain (understood no_schema create_partner)
 unfolding understood everything
-create_partner_is = (refl, refl)
-
-pub create_partner_plain : IsPlain (understood no_schema create_partner)
-unfolding understood everything
-create_partner_plain = (refl, refl)
+create_partner_is = (refl, refl, (refl, refl))
 
 pub partner_defined : table_defined_by create_partner ≡ Ok (record partner_table { tree = 0 })
 unfolding understood everything
@@ -257,13 +227,9 @@ partner_defined = refl
 abbrev pub create_interchange : List ℕ
 create_interchange = codes "CREATE TABLE interchange (partner INTEGER NOT NULL REFERENCES partner(id), number INTEGER NOT NULL, body BLOB NOT NULL, reply TEXT NOT NULL, PRIMARY KEY(partner, number)) STRICT"
 
-pub create_interchange_is : (command_of (understood (schema_of (partner_table ∷ [])) create_interchange) ≡ CreateTable) × (statement_of create_interchange (understood (schema_of (partner_table ∷ [])) create_interchange) ≡ create_interchange)
+pub create_interchange_is : (command_of (understood (schema_of (partner_table ∷ [])) create_interchange) ≡ CreateTable) × (statement_of create_interchange (understood (schema_of (partner_table ∷ [])) create_interchange) ≡ create_interchange) × IsPlain (understood (schema_of (partner_table ∷ [])) create_interchange)
 unfolding understood everything
-create_interchange_is = (refl, refl)
-
-pub create_interchange_plain : IsPlain (understood (schema_of (partner_table ∷ [])) create_interchange)
-unfolding understood everything
-create_interchange_plain = (refl, refl)
+create_interchange_is = (refl, refl, (refl, refl))
 
 pub interchange_defined : table_defined_by create_interchange ≡ Ok (record interchange_table { tree = 0 })
 unfolding understood everything
@@ -272,13 +238,9 @@ interchange_defined = refl
 abbrev pub create_visit : List ℕ
 create_visit = codes "CREATE TABLE visit (visit INTEGER PRIMARY KEY, box TEXT NOT NULL, size TEXT NOT NULL, laden INTEGER NOT NULL, booking TEXT NOT NULL, in_by INTEGER NOT NULL, in_partner INTEGER NOT NULL, in_number INTEGER NOT NULL, in_at TEXT NOT NULL, in_slot TEXT NOT NULL, out_by INTEGER NOT NULL, out_partner INTEGER NOT NULL, out_number INTEGER NOT NULL, out_at TEXT NOT NULL, kilos INTEGER NOT NULL) STRICT"
 
-pub create_visit_is : (command_of (understood (schema_of (partner_table ∷ interchange_table ∷ [])) create_visit) ≡ CreateTable) × (statement_of create_visit (understood (schema_of (partner_table ∷ interchange_table ∷ [])) create_visit) ≡ create_visit)
+pub create_visit_is : (command_of (understood (schema_of (partner_table ∷ interchange_table ∷ [])) create_visit) ≡ CreateTable) × (statement_of create_visit (understood (schema_of (partner_table ∷ interchange_table ∷ [])) create_visit) ≡ create_visit) × IsPlain (understood (schema_of (partner_table ∷ interchange_table ∷ [])) create_visit)
 unfolding understood everything
-create_visit_is = (refl, refl)
-
-pub create_visit_plain : IsPlain (understood (schema_of (partner_table ∷ interchange_table ∷ [])) create_visit)
-unfolding understood everything
-create_visit_plain = (refl, refl)
+create_visit_is = (refl, refl, (refl, refl))
 
 pub visit_defined : table_defined_by create_visit ≡ Ok (record visit_table { tree = 0 })
 unfolding understood everything
@@ -287,13 +249,9 @@ visit_defined = refl
 abbrev pub create_place : List ℕ
 create_place = codes "CREATE TABLE place (box TEXT PRIMARY KEY, visit INTEGER NOT NULL UNIQUE REFERENCES visit(visit), slot TEXT NOT NULL UNIQUE) STRICT"
 
-pub create_place_is : (command_of (understood (schema_of (partner_table ∷ interchange_table ∷ visit_table ∷ [])) create_place) ≡ CreateTable) × (statement_of create_place (understood (schema_of (partner_table ∷ interchange_table ∷ visit_table ∷ [])) create_place) ≡ create_place)
+pub create_place_is : (command_of (understood (schema_of (partner_table ∷ interchange_table ∷ visit_table ∷ [])) create_place) ≡ CreateTable) × (statement_of create_place (understood (schema_of (partner_table ∷ interchange_table ∷ visit_table ∷ [])) create_place) ≡ create_place) × IsPlain (understood (schema_of (partner_table ∷ interchange_table ∷ visit_table ∷ [])) create_place)
 unfolding understood everything
-create_place_is = (refl, refl)
-
-pub create_place_plain : IsPlain (understood (schema_of (partner_table ∷ interchange_table ∷ visit_table ∷ [])) create_place)
-unfolding understood everything
-create_place_plain = (refl, refl)
+create_place_is = (refl, refl, (refl, refl))
 
 pub place_defined : table_defined_by create_place ≡ Ok (record place_table { tree = 0 })
 unfolding understood everything
@@ -302,13 +260,9 @@ place_defined = refl
 abbrev pub create_listed : List ℕ
 create_listed = codes "CREATE TABLE listed (vessel TEXT NOT NULL, voyage TEXT NOT NULL, side INTEGER NOT NULL, box TEXT NOT NULL, port TEXT NOT NULL, done INTEGER NOT NULL, PRIMARY KEY(vessel, voyage, side, box)) STRICT"
 
-pub create_listed_is : (command_of (understood (schema_of (partner_table ∷ interchange_table ∷ visit_table ∷ place_table ∷ [])) create_listed) ≡ CreateTable) × (statement_of create_listed (understood (schema_of (partner_table ∷ interchange_table ∷ visit_table ∷ place_table ∷ [])) create_listed) ≡ create_listed)
+pub create_listed_is : (command_of (understood (schema_of (partner_table ∷ interchange_table ∷ visit_table ∷ place_table ∷ [])) create_listed) ≡ CreateTable) × (statement_of create_listed (understood (schema_of (partner_table ∷ interchange_table ∷ visit_table ∷ place_table ∷ [])) create_listed) ≡ create_listed) × IsPlain (understood (schema_of (partner_table ∷ interchange_table ∷ visit_table ∷ place_table ∷ [])) create_listed)
 unfolding understood everything
-create_listed_is = (refl, refl)
-
-pub create_listed_plain : IsPlain (understood (schema_of (partner_table ∷ interchange_table ∷ visit_table ∷ place_table ∷ [])) create_listed)
-unfolding understood everything
-create_listed_plain = (refl, refl)
+create_listed_is = (refl, refl, (refl, refl))
 
 pub listed_defined : table_defined_by create_listed ≡ Ok (record listing_table { tree = 0 })
 unfolding understood everything
@@ -317,13 +271,9 @@ listed_defined = refl
 abbrev pub create_setting : List ℕ
 create_setting = codes "CREATE TABLE setting (name TEXT PRIMARY KEY, value TEXT NOT NULL) STRICT"
 
-pub create_setting_is : (command_of (understood (schema_of (partner_table ∷ interchange_table ∷ visit_table ∷ place_table ∷ listing_table ∷ [])) create_setting) ≡ CreateTable) × (statement_of create_setting (understood (schema_of (partner_table ∷ interchange_table ∷ visit_table ∷ place_table ∷ listing_table ∷ [])) create_setting) ≡ create_setting)
+pub create_setting_is : (command_of (understood (schema_of (partner_table ∷ interchange_table ∷ visit_table ∷ place_table ∷ listing_table ∷ [])) create_setting) ≡ CreateTable) × (statement_of create_setting (understood (schema_of (partner_table ∷ interchange_table ∷ visit_table ∷ place_table ∷ listing_table ∷ [])) create_setting) ≡ create_setting) × IsPlain (understood (schema_of (partner_table ∷ interchange_table ∷ visit_table ∷ place_table ∷ listing_table ∷ [])) create_setting)
 unfolding understood everything
-create_setting_is = (refl, refl)
-
-pub create_setting_plain : IsPlain (understood (schema_of (partner_table ∷ interchange_table ∷ visit_table ∷ place_table ∷ listing_table ∷ [])) create_setting)
-unfolding understood everything
-create_setting_plain = (refl, refl)
+create_setting_is = (refl, refl, (refl, refl))
 
 pub setting_defined : table_defined_by create_setting ≡ Ok (record setting_table { tree = 0 })
 unfolding understood everything
@@ -332,13 +282,9 @@ setting_defined = refl
 abbrev pub create_block : List ℕ
 create_block = codes "CREATE TABLE block (letter TEXT PRIMARY KEY, bays INTEGER NOT NULL, lanes INTEGER NOT NULL, tiers INTEGER NOT NULL) STRICT"
 
-pub create_block_is : (command_of (understood (schema_of (partner_table ∷ interchange_table ∷ visit_table ∷ place_table ∷ listing_table ∷ setting_table ∷ [])) create_block) ≡ CreateTable) × (statement_of create_block (understood (schema_of (partner_table ∷ interchange_table ∷ visit_table ∷ place_table ∷ listing_table ∷ setting_table ∷ [])) create_block) ≡ create_block)
+pub create_block_is : (command_of (understood (schema_of (partner_table ∷ interchange_table ∷ visit_table ∷ place_table ∷ listing_table ∷ setting_table ∷ [])) create_block) ≡ CreateTable) × (statement_of create_block (understood (schema_of (partner_table ∷ interchange_table ∷ visit_table ∷ place_table ∷ listing_table ∷ setting_table ∷ [])) create_block) ≡ create_block) × IsPlain (understood (schema_of (partner_table ∷ interchange_table ∷ visit_table ∷ place_table ∷ listing_table ∷ setting_table ∷ [])) create_block)
 unfolding understood everything
-create_block_is = (refl, refl)
-
-pub create_block_plain : IsPlain (understood (schema_of (partner_table ∷ interchange_table ∷ visit_table ∷ place_table ∷ listing_table ∷ setting_table ∷ [])) create_block)
-unfolding understood everything
-create_block_plain = (refl, refl)
+create_block_is = (refl, refl, (refl, refl))
 
 pub block_defined : table_defined_by create_block ≡ Ok (record block_table { tree = 0 })
 unfolding understood everything

@@ -1,39 +1,22 @@
 -- What each statement that writes interchanges makes of their order.
 use Rattle.std.proofs.Common.{◌≡◌, inl, inr, ℕ, ◌+◌, ◌<◌, pos, List, [], ◌∷◌, ◌++◌, length, map, filter, drop, Bool, true, false, ◌&&◌, cond, Ok, refl, sym, ap, ap₂, subst, ◌∙◌, arith, Less, IsPermutation, IsTrue}
 use Rattle.std.specs.List.{AllByRecursion}
-use Rattle.std.proofs.lemmas.Bool.{cases_Bool}
-use Rattle.std.proofs.lemmas.List.{map-append}
-use Rattle.std.proofs.lemmas.List.Sorted.{IsPermutation-map}
+use Rattle.std.proofs.{lemmas.Bool.cases_Bool, lemmas.List.map-append, lemmas.List.Sorted.IsPermutation-map}
 use Rattle.sqlite.specs.declared.types.Value.TheVariants.{Null, Int, Text, Blob}
-use Rattle.sqlite.specs.Order.{Row, column}
-use Rattle.sqlite.specs.Table.{Table}
-use Rattle.sqlite.specs.Tree.{Trees}
-use Rattle.sqlite.specs.Listing.{understood}
-use Rattle.sqlite.specs.Source.TheVariants.{Values}
-use Rattle.sqlite.specs.Command.TheVariants.{Insert, Update}
-use Rattle.sqlite.specs.State.{State, Executes}
-use Rattle.sqlite.proofs.Callers.{statement_of, runs_as}
+use Rattle.sqlite.specs.{Order.Row, Order.column, Table.Table, Tree.Trees, State.State, State.Executes}
 use Rattle.sqlite_value.specs.Order.{value_cmp}
 use Rattle.sqlite_schema.specs.declared.schema.Keys.TheVariants.{Enforced}
-use Rattle.sqlite_trees.specs.Tree.{IsTable, rowid}
-use Rattle.sqlite_trees.specs.View.{is_int, IsShaped}
+use Rattle.sqlite_trees.specs.{Tree.IsTable, Tree.rowid, View.is_int, View.IsShaped}
 use Rattle.sqlite_trees.proofs.ListLemmas.{map-map}
-use Rattle.sqlite_rules.specs.Cast.{cast, cast_row}
-use Rattle.sqlite_rules.specs.Calls.{ids_of}
+use Rattle.sqlite_rules.specs.{Cast.cast, Cast.cast_row, Calls.ids_of}
 use Rattle.sqlite_rules.specs.declared.error.Rowids.TheVariants.{Chosen, Given}
 use Rattle.sqlite_rules.specs.Edit.{edit_of, Applies, without_all, put_all, id_in}
-use Rattle.office_rows.specs.Tables.{interchange_table, office_schema}
-use Rattle.office_rows.specs.Rows.{Interchange, Rows}
-use Rattle.office_rows.specs.Values.{number_value, interchange_values}
-use Rattle.office_rows.specs.Effects.{is_pair, with_waiting, with_reply}
-use Rattle.office_rows.specs.Stored.{columns_of, HasRows}
-use Rattle.office_rows.proofs.Creating.{updated, put_all_shaped, without_all_shaped}
-use Rattle.office_rows.proofs.WriteLemmas.{cast_null, cast_int, equal_numbers, passes, inserts, updates, rows_of, given_numbered}
-use Rattle.office_rows.specs.Places.{ArePlaced}
+use Rattle.office_rows.specs.{Tables.interchange_table, Tables.office_schema, Rows.Interchange, Rows.Rows, Values.number_value, Values.interchange_values}
+use Rattle.office_rows.specs.{Effects.is_pair, Effects.with_waiting, Effects.with_reply, Stored.columns_of, Stored.HasRows, Places.ArePlaced}
+use Rattle.office_rows.proofs.{Creating.updated, Creating.put_all_shaped, Creating.without_all_shaped, Placed.less, Placed.insert_adds_last}
+use Rattle.office_rows.proofs.{Ordered.rows_have_one_order, Listed.and_true}
+use Rattle.office_rows.proofs.WriteLemmas.{cast_null, cast_int, equal_numbers, passes, run_insert, run_update, given_numbered}
 use Rattle.office_rows.specs.InPlace.{AreInPlace, InterchangesAreInPlace, AddsInPlace, says, is_row_of, replied, RepliesInPlace, OthersKeepPlaces}
-use Rattle.office_rows.proofs.Placed.{less, insert_adds_last}
-use Rattle.office_rows.proofs.Ordered.{rows_have_one_order}
-use Rattle.office_rows.proofs.Listed.{and_true}
 use Rattle.sqlite.specs.Kind.TheVariants as kind
 use Rattle.sqlite_trees.specs.declared.store.Shape.TheVariants as shape
 use Rattle.office_rows.proofs.Writing as texts
@@ -90,7 +73,7 @@ module _ {A : Type 0} (table : Table) (values : A → Row) (records : List A) (o
   abbrev up : Row → Row
   up r = cast_row table (drop 1 (shown r))
 
-  -- what stands in place of a row
+  -- what is in place of a row
   abbrev replaced : Row → Row
   replaced r = cond (p r) (up r) r
 
@@ -164,7 +147,7 @@ pub adds_in_place : AddsInPlace
 adds_in_place old new interchanges i held it =
     inserted interchange_table interchange_values interchanges old new (Null ∷ interchange_values i) i held cast_null (λ n. simp cast_int) it
 
--- what is said of the columns, whatever tests and terms find and write the rows
+-- what is said of the columns, by any tests and terms that find and write the rows
 replies_by : (old new : Trees) (rows : Rows) (partner number_of : ℕ) (reply : List ℕ) (p : Row → Bool) → ((r : Row) → p r ≡ is_row_of partner number_of r) → InterchangesAreInPlace rows.interchanges old
     → (found : List Row) → IsPermutation (map (replied reply) (filter p (old interchange_table.tree))) found
     → Applies office_schema Enforced old (edit_of old interchange_table (ids_of found) Given 1 found) new
@@ -191,9 +174,7 @@ pub keeps_in_place : (old new : State) (rows : Rows) (count partner number_of : 
 keeps_in_place old new rows count partner number_of body has held h =
     let a : Interchange = record { partner = partner; number = number_of; body = body; reply = [] } in
     let params = number_value partner ∷ number_value number_of ∷ Blob body ∷ [] in
-    let text = statement_of texts.insert_interchange (understood office_schema texts.insert_interchange) in
-    let w = runs_as texts.insert_interchange params old new office_schema has.schema (Insert 1 (Values texts.insert_interchange_terms 5)) texts.insert_interchange_is texts.insert_interchange_plain count h in
-    let it = inserts old new has.schema 1 interchange_table refl refl params text count texts.insert_interchange_terms 5 w in
+    let it = run_insert old new has.schema 1 interchange_table refl refl texts.insert_interchange params count texts.insert_interchange_terms 5 texts.insert_interchange_is h in
     adds_in_place old.now.trees new.now.trees rows.interchanges a held it.edits.applies
 
 pub copies_in_place : (old new : State) (rows : Rows) (count : ℕ) (a : Interchange) → HasRows rows old.now → InterchangesAreInPlace rows.interchanges old.now.trees
@@ -201,9 +182,7 @@ pub copies_in_place : (old new : State) (rows : Rows) (count : ℕ) (a : Interch
     → InterchangesAreInPlace (rows.interchanges ++ a ∷ []) new.now.trees
 copies_in_place old new rows count a has held h =
     let params = interchange_values a in
-    let text = statement_of texts.insert_whole (understood office_schema texts.insert_whole) in
-    let w = runs_as texts.insert_whole params old new office_schema has.schema (Insert 1 (Values texts.insert_whole_terms 5)) texts.insert_whole_is texts.insert_whole_plain count h in
-    let it = inserts old new has.schema 1 interchange_table refl refl params text count texts.insert_whole_terms 5 w in
+    let it = run_insert old new has.schema 1 interchange_table refl refl texts.insert_whole params count texts.insert_whole_terms 5 texts.insert_whole_is h in
     adds_in_place old.now.trees new.now.trees rows.interchanges a held it.edits.applies
 
 pub update_replies_in_place : (old new : State) (rows : Rows) (count partner number_of : ℕ) (reply : List ℕ) → HasRows rows old.now → InterchangesAreInPlace rows.interchanges old.now.trees
@@ -211,7 +190,5 @@ pub update_replies_in_place : (old new : State) (rows : Rows) (count partner num
     → InterchangesAreInPlace (with_reply partner number_of reply rows).interchanges new.now.trees
 update_replies_in_place old new rows count partner number_of reply has held h =
     let params = number_value partner ∷ number_value number_of ∷ Text reply ∷ [] in
-    let text = statement_of texts.update_reply (understood office_schema texts.update_reply) in
-    let w = runs_as texts.update_reply params old new office_schema has.schema (Update 1 (record { lets = []; body = rows_of 2 texts.update_reply_tests texts.update_reply_shown })) texts.update_reply_is texts.update_reply_plain count h in
-    let it = updates old new has.schema 1 interchange_table refl refl params text count texts.update_reply_tests texts.update_reply_shown (λ trees. refl) w in
+    let it = run_update old new has.schema 1 interchange_table refl refl texts.update_reply params count texts.update_reply_tests texts.update_reply_shown (λ trees. refl) texts.update_reply_is h in
     replies_by old.now.trees new.now.trees rows partner number_of reply (passes params texts.update_reply_tests) (λ r. ap (λ b. says r 1 partner && b) (and_true (says r 2 number_of))) held it.answer it.answers it.edits.applies

@@ -1,41 +1,25 @@
 -- What each query of all rows of a table shows.
 use Rattle.std.proofs.Common.{◌≡◌, ℕ, ◌==◌, ◌&&◌, List, [], ◌∷◌, Bool, true, false, map, filter, refl, ap₂, ◌∙◌, zero, suc, ◌+◌, ◌<◌, IsSorted, length, set, slice_index_or, sym, ap, subst, arith, pos}
-use Rattle.std.specs.List.Sorted.{IsPermutation, IsSortedBy}
+use Rattle.std.specs.{List.Sorted.IsPermutation, List.Sorted.IsSortedBy, List.swap}
 use Rattle.std.proofs.lemmas.List.Sorted.{IsPermutation-trans, IsPermutation-refl, IsPermutation-map, IsPermutation-swap, IsPermutation-keeps}
 use Rattle.sqlite.specs.declared.types.Value.TheVariants.{Null}
-use Rattle.sqlite.specs.Order.{Row, column}
+use Rattle.sqlite.specs.{Order.Row, Order.column, Ops.binary, Ops.is_true, State.State, State.Shown, Listing.understood, Listing.reads_listing, Table.Table}
+use Rattle.sqlite.specs.{Term.Term, Term.eval_all, Query.Output, Query.key_cmp, Program.overlay, Tree.Trees, Effect.Database, Schema.Schema}
 use Rattle.sqlite.specs.Collation.TheVariants.{Binary}
-use Rattle.sqlite.specs.Ops.{binary, is_true}
 use Rattle.sqlite_sql.specs.declared.ops.BinaryOp.TheVariants.{Compare}
 use Rattle.sqlite_sql.specs.declared.ops.CompareOp.TheVariants.{Eq}
 use Rattle.sqlite.specs.Command.TheVariants.{Select}
-use Rattle.sqlite.specs.State.{State, Shown}
-use Rattle.sqlite.specs.Listing.{understood, reads_listing}
 use Rattle.sqlite.proofs.Callers.{IsPlain, command_of, reads_as}
 use Rattle.office_rows.specs.Tables.{partner_table, interchange_table, office_schema, visit_table, place_table, listing_table, setting_table, block_table}
-use Rattle.office_rows.specs.Rows.{Interchange, Rows, Partner}
+use Rattle.office_rows.specs.{Rows.Interchange, Rows.Rows, Rows.Partner, Stored.Holds, Stored.HasRows, Stored.columns_of, Effects.is_pair}
+use Rattle.office_rows.specs.{Bare.weighed_row, Bare.with_weights, Bare.weighed_in, Shown.columns_at, Shown.ShowsTable, Shown.AreNexts}
 use Rattle.office_rows.specs.Values.{number_value, partner_values, interchange_values, kept_values, next_values}
-use Rattle.office_rows.specs.Stored.{Holds, HasRows, columns_of}
 use Rattle.office_rows.specs.Layouts.{Layout, bare, weighed, schema_in, bare_schema}
-use Rattle.office_rows.specs.Effects.{is_pair}
 use Rattle.office_rows.proofs.WriteLemmas.{equal_numbers, rows_of, answer_is, holds_read, passes, answer_in_order}
-use Rattle.std.specs.List.{swap}
 use Rattle.std.specs.Ordering.{is_lt, on, nat_cmp, int_cmp}
-use Rattle.std.proofs.lemmas.List.{length-map, map-set}
-use Rattle.sqlite.specs.Table.{Table}
-use Rattle.sqlite.specs.Term.{Term, eval_all}
-use Rattle.sqlite.specs.Query.{Output, key_cmp}
-use Rattle.sqlite.specs.Program.{overlay}
-use Rattle.sqlite.specs.Tree.{Trees}
-use Rattle.sqlite.specs.Effect.{Database}
+use Rattle.std.proofs.{lemmas.List.length-map, lemmas.List.map-set, lemmas.Int.ints, lemmas.Bool.Decides.nat_tests}
 use Rattle.sqlite_trees.proofs.ListLemmas.{map-map, filter_all, all_of}
-use Rattle.sqlite_value.specs.Keys.{ascending}
-use Rattle.sqlite_value.specs.declared.keys.Key.{Key}
-use Rattle.office_rows.specs.Bare.{weighed_row, with_weights, weighed_in}
-use Rattle.office_rows.specs.Shown.{columns_at, ShowsTable, AreNexts}
-use Rattle.sqlite.specs.Schema.{Schema}
-use Rattle.std.proofs.lemmas.Int.{ints}
-use Rattle.std.proofs.lemmas.Bool.Decides.{nat_tests}
+use Rattle.sqlite_value.specs.{Keys.ascending, declared.keys.Key.Key}
 use Rattle.sqlite_value.proofs.OrderLemmas.{value_cmp-Int, then-Equal}
 use Rattle.office_rows.proofs.Reading as texts
 use Rattle.office_rows.proofs.BareReading as bare_texts
@@ -49,19 +33,15 @@ and_true false = refl
 abbrev equals : Row → ℕ → ℕ → Bool
 equals c at n = is_true (binary (Compare Eq Binary) (column c at) (number_value n))
 
-kept_is : (layout : Layout) → (command_of (understood (schema_in layout) texts.select_kept) ≡ Select (record { lets = []; body = rows_of 2 texts.select_kept_tests texts.select_kept_shown }) texts.select_kept_names) × (reads_listing (schema_in layout) texts.select_kept ≡ false)
+kept_is : (layout : Layout) → (command_of (understood (schema_in layout) texts.select_kept) ≡ Select (record { lets = []; body = rows_of 2 texts.select_kept_tests texts.select_kept_shown }) texts.select_kept_names) × (reads_listing (schema_in layout) texts.select_kept ≡ false) × IsPlain (understood (schema_in layout) texts.select_kept)
 kept_is bare = bare_texts.select_kept_is
 kept_is weighed = texts.select_kept_is
-
-pub kept_plain : (layout : Layout) → IsPlain (understood (schema_in layout) texts.select_kept)
-kept_plain bare = bare_texts.select_kept_plain
-kept_plain weighed = texts.select_kept_plain
 
 -- where the tables are those of some version, the interchanges of a pair are found
 pub finds_pair : (old new : State) (answer : List Row) (layout : Layout) → old.now.schema ≡ schema_in layout → (interchanges : List Interchange) → Holds interchange_table interchange_values interchanges (old.now.trees 2) → (p n : ℕ) → Shown texts.select_kept (number_value p ∷ number_value n ∷ []) old new answer → IsPermutation (map kept_values (filter (is_pair p n) interchanges)) answer
 finds_pair old new answer layout is interchanges held p n h =
     let params = number_value p ∷ number_value n ∷ [] in
-    let read = reads_as texts.select_kept params old new (schema_in layout) is (Select (record { lets = []; body = rows_of 2 texts.select_kept_tests texts.select_kept_shown }) texts.select_kept_names) (kept_is layout).0 (kept_plain layout) (kept_is layout).1 answer h in
+    let read = reads_as texts.select_kept params old new (schema_in layout) is (Select (record { lets = []; body = rows_of 2 texts.select_kept_tests texts.select_kept_shown }) texts.select_kept_names) (kept_is layout).0 (kept_is layout).2 (kept_is layout).1 answer h in
     IsPermutation-trans _ _ _ (holds_read interchange_table interchange_values interchanges (old.now.trees 2) held params texts.select_kept_tests texts.select_kept_shown
     (λ c. equals c 0 p && (equals c 1 n && true)) (λ c. column c 2 ∷ column c 3 ∷ []) (is_pair p n) kept_values
     (λ r. refl) (λ r. refl) (λ i. ap₂ ◌&&◌ (equal_numbers i.partner p) (and_true _ ∙ equal_numbers i.number n)) (λ i. refl))
@@ -74,7 +54,7 @@ module _ (old new : State) (rows : Rows) (answer : List Row) (has : HasRows rows
   pub finds_next : (id : ℕ) → Shown texts.select_next (number_value id ∷ []) old new answer → IsPermutation (map next_values (filter (λ p. p.id == id) rows.partners)) answer
   finds_next id h =
       let params = number_value id ∷ [] in
-      let read = reads_as texts.select_next params old new office_schema has.schema (Select (record { lets = []; body = rows_of 0 texts.select_next_tests texts.select_next_shown }) texts.select_next_names) texts.select_next_is.0 texts.select_next_plain texts.select_next_is.1 answer h in
+      let read = reads_as texts.select_next params old new office_schema has.schema (Select (record { lets = []; body = rows_of 0 texts.select_next_tests texts.select_next_shown }) texts.select_next_names) texts.select_next_is.0 texts.select_next_is.2 texts.select_next_is.1 answer h in
       IsPermutation-trans _ _ _ (holds_read partner_table partner_values rows.partners (old.now.trees 0) has.rows_are.partners params texts.select_next_tests texts.select_next_shown
       (λ c. equals c 0 id && true) (λ c. column c 3 ∷ []) (λ p. p.id == id) next_values
       (λ r. refl) (λ r. refl) (λ p. and_true _ ∙ equal_numbers p.id id) (λ p. refl))
@@ -131,15 +111,15 @@ record ByKey (tree : ℕ) (columns_in : Row → Row) (shown key : List ℕ) (db 
 
 module _ (schema : Schema) (old new : State) (has : old.now.schema ≡ schema) (answer : List Row) where
   rows_shown : (tree : ℕ) (columns_in : Row → Row) (sql : List ℕ) (shown : List Term) (order : List (Term × Key)) (names : List (List ℕ)) (columns key : List ℕ)
-      → (command_of (understood schema sql) ≡ Select (record { lets = []; body = record (rows_of tree [] shown) { order = order } }) names) × (reads_listing schema sql ≡ false)
-      → IsPlain (understood schema sql) → ((trees : Trees) → overlay trees [] tree ≡ trees tree)
+      → (command_of (understood schema sql) ≡ Select (record { lets = []; body = record (rows_of tree [] shown) { order = order } }) names) × (reads_listing schema sql ≡ false) × IsPlain (understood schema sql)
+      → ((trees : Trees) → overlay trees [] tree ≡ trees tree)
       → ((r : Row) → eval_all shown ([] ∷ r ∷ []) ≡ columns_at columns (columns_in r))
       → ((r : Row) → eval_all (map (λ (k : Term × Key). k.0) order) ([] ∷ r ∷ []) ≡ columns_at key (columns_in r))
       → map (λ (k : Term × Key). k.1) order ≡ map (λ (n : ℕ). ascending Binary) key
       → Shown sql [] old new answer → ByKey tree columns_in columns key old.now answer
-  rows_shown tree columns_in sql shown order names columns key is plain seen shows keys ascends h =
+  rows_shown tree columns_in sql shown order names columns key is seen shows keys ascends h =
       let q = record (rows_of tree [] shown) { order = order } in
-      let read = reads_as sql [] old new schema has (Select (record { lets = []; body = q }) names) is.0 plain is.1 answer h in
+      let read = reads_as sql [] old new schema has (Select (record { lets = []; body = q }) names) is.0 is.2 is.1 answer h in
       let stored = old.now.trees tree in
       let keyed : Row → Output = λ r. (eval_all (map (λ (k : Term × Key). k.0) order) ([] ∷ r ∷ []), eval_all shown ([] ∷ r ∷ [])) in
       let given = answer_in_order [] [] tree shown order old.now.trees answer (seen old.now.trees) (read.answer Null) in
@@ -158,58 +138,58 @@ module _ (schema : Schema) (old new : State) (has : old.now.schema ≡ schema) (
       }
 
   lists : (table : Table) (sql : List ℕ) (shown : List Term) (order : List (Term × Key)) (names : List (List ℕ)) (columns key : List ℕ)
-      → (command_of (understood schema sql) ≡ Select (record { lets = []; body = record (rows_of table.tree [] shown) { order = order } }) names) × (reads_listing schema sql ≡ false)
-      → IsPlain (understood schema sql) → ((trees : Trees) → overlay trees [] table.tree ≡ trees table.tree)
+      → (command_of (understood schema sql) ≡ Select (record { lets = []; body = record (rows_of table.tree [] shown) { order = order } }) names) × (reads_listing schema sql ≡ false) × IsPlain (understood schema sql)
+      → ((trees : Trees) → overlay trees [] table.tree ≡ trees table.tree)
       → ((r : Row) → eval_all shown ([] ∷ r ∷ []) ≡ columns_at columns (columns_of table r))
       → ((r : Row) → eval_all (map (λ (k : Term × Key). k.0) order) ([] ∷ r ∷ []) ≡ columns_at key (columns_of table r))
       → map (λ (k : Term × Key). k.1) order ≡ map (λ (n : ℕ). ascending Binary) key
       → Shown sql [] old new answer → ShowsTable table columns key old.now answer
-  lists table sql shown order names columns key is plain seen shows keys ascends h =
-      let s = rows_shown table.tree (columns_of table) sql shown order names columns key is plain seen shows keys ascends h in
+  lists table sql shown order names columns key is seen shows keys ascends h =
+      let s = rows_shown table.tree (columns_of table) sql shown order names columns key is seen shows keys ascends h in
       record { by_key = s.by_key; same = s.same; ordered = s.ordered; is = s.is }
 
 module _ (old new : State) (answer : List Row) where
   pub lists_partner : (layout : Layout) → old.now.schema ≡ schema_in layout → Shown texts.select_partner [] old new answer → ShowsTable partner_table (0 ∷ 1 ∷ 2 ∷ 3 ∷ []) (0 ∷ []) (weighed_in layout old.now) answer
   lists_partner bare has h =
-      let s = lists bare_schema old new has answer partner_table texts.select_partner texts.select_partner_shown texts.select_partner_order texts.select_partner_names (0 ∷ 1 ∷ 2 ∷ 3 ∷ []) (0 ∷ []) bare_texts.select_partner_is bare_texts.select_partner_plain (λ trees. refl) (λ r. refl) (λ r. refl) refl h in
+      let s = lists bare_schema old new has answer partner_table texts.select_partner texts.select_partner_shown texts.select_partner_order texts.select_partner_names (0 ∷ 1 ∷ 2 ∷ 3 ∷ []) (0 ∷ []) bare_texts.select_partner_is (λ trees. refl) (λ r. refl) (λ r. refl) refl h in
       record { by_key = s.by_key; same = s.same; ordered = s.ordered; is = s.is }
-  lists_partner weighed has h = lists office_schema old new has answer partner_table texts.select_partner texts.select_partner_shown texts.select_partner_order texts.select_partner_names (0 ∷ 1 ∷ 2 ∷ 3 ∷ []) (0 ∷ []) texts.select_partner_is texts.select_partner_plain (λ trees. refl) (λ r. refl) (λ r. refl) refl h
+  lists_partner weighed has h = lists office_schema old new has answer partner_table texts.select_partner texts.select_partner_shown texts.select_partner_order texts.select_partner_names (0 ∷ 1 ∷ 2 ∷ 3 ∷ []) (0 ∷ []) texts.select_partner_is (λ trees. refl) (λ r. refl) (λ r. refl) refl h
 
   pub lists_interchange : (layout : Layout) → old.now.schema ≡ schema_in layout → Shown texts.select_interchange [] old new answer → ShowsTable interchange_table (0 ∷ 1 ∷ 3 ∷ []) (0 ∷ 1 ∷ []) (weighed_in layout old.now) answer
   lists_interchange bare has h =
-      let s = lists bare_schema old new has answer interchange_table texts.select_interchange texts.select_interchange_shown texts.select_interchange_order texts.select_interchange_names (0 ∷ 1 ∷ 3 ∷ []) (0 ∷ 1 ∷ []) bare_texts.select_interchange_is bare_texts.select_interchange_plain (λ trees. refl) (λ r. refl) (λ r. refl) refl h in
+      let s = lists bare_schema old new has answer interchange_table texts.select_interchange texts.select_interchange_shown texts.select_interchange_order texts.select_interchange_names (0 ∷ 1 ∷ 3 ∷ []) (0 ∷ 1 ∷ []) bare_texts.select_interchange_is (λ trees. refl) (λ r. refl) (λ r. refl) refl h in
       record { by_key = s.by_key; same = s.same; ordered = s.ordered; is = s.is }
-  lists_interchange weighed has h = lists office_schema old new has answer interchange_table texts.select_interchange texts.select_interchange_shown texts.select_interchange_order texts.select_interchange_names (0 ∷ 1 ∷ 3 ∷ []) (0 ∷ 1 ∷ []) texts.select_interchange_is texts.select_interchange_plain (λ trees. refl) (λ r. refl) (λ r. refl) refl h
+  lists_interchange weighed has h = lists office_schema old new has answer interchange_table texts.select_interchange texts.select_interchange_shown texts.select_interchange_order texts.select_interchange_names (0 ∷ 1 ∷ 3 ∷ []) (0 ∷ 1 ∷ []) texts.select_interchange_is (λ trees. refl) (λ r. refl) (λ r. refl) refl h
 
   pub lists_place : (layout : Layout) → old.now.schema ≡ schema_in layout → Shown texts.select_place [] old new answer → ShowsTable place_table (0 ∷ 1 ∷ 2 ∷ []) (0 ∷ []) (weighed_in layout old.now) answer
   lists_place bare has h =
-      let s = lists bare_schema old new has answer place_table texts.select_place texts.select_place_shown texts.select_place_order texts.select_place_names (0 ∷ 1 ∷ 2 ∷ []) (0 ∷ []) bare_texts.select_place_is bare_texts.select_place_plain (λ trees. refl) (λ r. refl) (λ r. refl) refl h in
+      let s = lists bare_schema old new has answer place_table texts.select_place texts.select_place_shown texts.select_place_order texts.select_place_names (0 ∷ 1 ∷ 2 ∷ []) (0 ∷ []) bare_texts.select_place_is (λ trees. refl) (λ r. refl) (λ r. refl) refl h in
       record { by_key = s.by_key; same = s.same; ordered = s.ordered; is = s.is }
-  lists_place weighed has h = lists office_schema old new has answer place_table texts.select_place texts.select_place_shown texts.select_place_order texts.select_place_names (0 ∷ 1 ∷ 2 ∷ []) (0 ∷ []) texts.select_place_is texts.select_place_plain (λ trees. refl) (λ r. refl) (λ r. refl) refl h
+  lists_place weighed has h = lists office_schema old new has answer place_table texts.select_place texts.select_place_shown texts.select_place_order texts.select_place_names (0 ∷ 1 ∷ 2 ∷ []) (0 ∷ []) texts.select_place_is (λ trees. refl) (λ r. refl) (λ r. refl) refl h
 
   pub lists_listed : (layout : Layout) → old.now.schema ≡ schema_in layout → Shown texts.select_listed [] old new answer → ShowsTable listing_table (0 ∷ 1 ∷ 2 ∷ 3 ∷ 4 ∷ 5 ∷ []) (0 ∷ 1 ∷ 2 ∷ 3 ∷ []) (weighed_in layout old.now) answer
   lists_listed bare has h =
-      let s = lists bare_schema old new has answer listing_table texts.select_listed texts.select_listed_shown texts.select_listed_order texts.select_listed_names (0 ∷ 1 ∷ 2 ∷ 3 ∷ 4 ∷ 5 ∷ []) (0 ∷ 1 ∷ 2 ∷ 3 ∷ []) bare_texts.select_listed_is bare_texts.select_listed_plain (λ trees. refl) (λ r. refl) (λ r. refl) refl h in
+      let s = lists bare_schema old new has answer listing_table texts.select_listed texts.select_listed_shown texts.select_listed_order texts.select_listed_names (0 ∷ 1 ∷ 2 ∷ 3 ∷ 4 ∷ 5 ∷ []) (0 ∷ 1 ∷ 2 ∷ 3 ∷ []) bare_texts.select_listed_is (λ trees. refl) (λ r. refl) (λ r. refl) refl h in
       record { by_key = s.by_key; same = s.same; ordered = s.ordered; is = s.is }
-  lists_listed weighed has h = lists office_schema old new has answer listing_table texts.select_listed texts.select_listed_shown texts.select_listed_order texts.select_listed_names (0 ∷ 1 ∷ 2 ∷ 3 ∷ 4 ∷ 5 ∷ []) (0 ∷ 1 ∷ 2 ∷ 3 ∷ []) texts.select_listed_is texts.select_listed_plain (λ trees. refl) (λ r. refl) (λ r. refl) refl h
+  lists_listed weighed has h = lists office_schema old new has answer listing_table texts.select_listed texts.select_listed_shown texts.select_listed_order texts.select_listed_names (0 ∷ 1 ∷ 2 ∷ 3 ∷ 4 ∷ 5 ∷ []) (0 ∷ 1 ∷ 2 ∷ 3 ∷ []) texts.select_listed_is (λ trees. refl) (λ r. refl) (λ r. refl) refl h
 
   pub lists_setting : (layout : Layout) → old.now.schema ≡ schema_in layout → Shown texts.select_setting [] old new answer → ShowsTable setting_table (0 ∷ 1 ∷ []) (0 ∷ []) old.now answer
-  lists_setting bare has h = lists bare_schema old new has answer setting_table texts.select_setting texts.select_setting_shown texts.select_setting_order texts.select_setting_names (0 ∷ 1 ∷ []) (0 ∷ []) bare_texts.select_setting_is bare_texts.select_setting_plain (λ trees. refl) (λ r. refl) (λ r. refl) refl h
-  lists_setting weighed has h = lists office_schema old new has answer setting_table texts.select_setting texts.select_setting_shown texts.select_setting_order texts.select_setting_names (0 ∷ 1 ∷ []) (0 ∷ []) texts.select_setting_is texts.select_setting_plain (λ trees. refl) (λ r. refl) (λ r. refl) refl h
+  lists_setting bare has h = lists bare_schema old new has answer setting_table texts.select_setting texts.select_setting_shown texts.select_setting_order texts.select_setting_names (0 ∷ 1 ∷ []) (0 ∷ []) bare_texts.select_setting_is (λ trees. refl) (λ r. refl) (λ r. refl) refl h
+  lists_setting weighed has h = lists office_schema old new has answer setting_table texts.select_setting texts.select_setting_shown texts.select_setting_order texts.select_setting_names (0 ∷ 1 ∷ []) (0 ∷ []) texts.select_setting_is (λ trees. refl) (λ r. refl) (λ r. refl) refl h
 
   pub lists_block : (layout : Layout) → old.now.schema ≡ schema_in layout → Shown texts.select_block [] old new answer → ShowsTable block_table (0 ∷ 1 ∷ 2 ∷ 3 ∷ []) (0 ∷ []) (weighed_in layout old.now) answer
   lists_block bare has h =
-      let s = lists bare_schema old new has answer block_table texts.select_block texts.select_block_shown texts.select_block_order texts.select_block_names (0 ∷ 1 ∷ 2 ∷ 3 ∷ []) (0 ∷ []) bare_texts.select_block_is bare_texts.select_block_plain (λ trees. refl) (λ r. refl) (λ r. refl) refl h in
+      let s = lists bare_schema old new has answer block_table texts.select_block texts.select_block_shown texts.select_block_order texts.select_block_names (0 ∷ 1 ∷ 2 ∷ 3 ∷ []) (0 ∷ []) bare_texts.select_block_is (λ trees. refl) (λ r. refl) (λ r. refl) refl h in
       record { by_key = s.by_key; same = s.same; ordered = s.ordered; is = s.is }
-  lists_block weighed has h = lists office_schema old new has answer block_table texts.select_block texts.select_block_shown texts.select_block_order texts.select_block_names (0 ∷ 1 ∷ 2 ∷ 3 ∷ []) (0 ∷ []) texts.select_block_is texts.select_block_plain (λ trees. refl) (λ r. refl) (λ r. refl) refl h
+  lists_block weighed has h = lists office_schema old new has answer block_table texts.select_block texts.select_block_shown texts.select_block_order texts.select_block_names (0 ∷ 1 ∷ 2 ∷ 3 ∷ []) (0 ∷ []) texts.select_block_is (λ trees. refl) (λ r. refl) (λ r. refl) refl h
 
   pub lists_visit : old.now.schema ≡ office_schema → Shown texts.select_visit [] old new answer → ShowsTable visit_table (0 ∷ 1 ∷ 2 ∷ 3 ∷ 4 ∷ 5 ∷ 6 ∷ 7 ∷ 8 ∷ 9 ∷ 10 ∷ 11 ∷ 12 ∷ 13 ∷ 14 ∷ []) (0 ∷ []) old.now answer
-  lists_visit has h = lists office_schema old new has answer visit_table texts.select_visit texts.select_visit_shown texts.select_visit_order texts.select_visit_names (0 ∷ 1 ∷ 2 ∷ 3 ∷ 4 ∷ 5 ∷ 6 ∷ 7 ∷ 8 ∷ 9 ∷ 10 ∷ 11 ∷ 12 ∷ 13 ∷ 14 ∷ []) (0 ∷ []) texts.select_visit_is texts.select_visit_plain (λ trees. refl) (λ r. refl) (λ r. refl) refl h
+  lists_visit has h = lists office_schema old new has answer visit_table texts.select_visit texts.select_visit_shown texts.select_visit_order texts.select_visit_names (0 ∷ 1 ∷ 2 ∷ 3 ∷ 4 ∷ 5 ∷ 6 ∷ 7 ∷ 8 ∷ 9 ∷ 10 ∷ 11 ∷ 12 ∷ 13 ∷ 14 ∷ []) (0 ∷ []) texts.select_visit_is (λ trees. refl) (λ r. refl) (λ r. refl) refl h
 
   pub lists_bare_visit : old.now.schema ≡ bare_schema → Shown bare_texts.select_visit [] old new answer → ShowsTable visit_table (0 ∷ 1 ∷ 2 ∷ 3 ∷ 4 ∷ 5 ∷ 6 ∷ 7 ∷ 8 ∷ 9 ∷ 10 ∷ 11 ∷ 12 ∷ 13 ∷ 14 ∷ []) (0 ∷ []) (with_weights old.now) answer
   lists_bare_visit has h =
       let columns_in : Row → Row = λ row. columns_of visit_table (weighed_row row) in
-      let s = rows_shown bare_schema old new has answer 4 columns_in bare_texts.select_visit bare_texts.select_visit_shown texts.select_visit_order texts.select_visit_names (0 ∷ 1 ∷ 2 ∷ 3 ∷ 4 ∷ 5 ∷ 6 ∷ 7 ∷ 8 ∷ 9 ∷ 10 ∷ 11 ∷ 12 ∷ 13 ∷ 14 ∷ []) (0 ∷ []) bare_texts.select_visit_is bare_texts.select_visit_plain (λ trees. refl) (λ r. refl) (λ r. refl) refl h in
+      let s = rows_shown bare_schema old new has answer 4 columns_in bare_texts.select_visit bare_texts.select_visit_shown texts.select_visit_order texts.select_visit_names (0 ∷ 1 ∷ 2 ∷ 3 ∷ 4 ∷ 5 ∷ 6 ∷ 7 ∷ 8 ∷ 9 ∷ 10 ∷ 11 ∷ 12 ∷ 13 ∷ 14 ∷ []) (0 ∷ []) bare_texts.select_visit_is (λ trees. refl) (λ r. refl) (λ r. refl) refl h in
       let stored = old.now.trees 4 in
       record {
         by_key = s.by_key;

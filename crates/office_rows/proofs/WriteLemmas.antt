@@ -1,51 +1,36 @@
 -- From what a statement means to the rows of its table.
 use Rattle.std.proofs.Common.{◌≡◌, ◌≢◌, ◌⊎◌, ℕ, ◌==◌, ℤ, pos, negsuc, inl, inr, List, [], ◌∷◌, map, filter, slice_get, Bool, true, false, cond, Some, None, Result, Ok, Err, refl, sym, ap, subst, ◌∙◌, length, ◌/◌, arith, is_eq, is_lt, int_cmp, fold, MatchBool, if◌then◌else◌, ◌++◌, append-nil, drop, not}
 use Rattle.std.specs.List.{flat_map, filter_map, list_all, AllByRecursion}
-use Rattle.std.specs.List.Sorted.{IsPermutation}
-use Rattle.std.proofs.lemmas.Bool.{cases_Bool}
-use Rattle.std.proofs.lemmas.Bool.Decides.{nat_tests}
-use Rattle.std.proofs.lemmas.Int.{ints}
+use Rattle.std.specs.{List.Sorted.IsPermutation, Str.bytes_eq, Ordering.nat_cmp, Ordering.on, Cmp.Lexicographic.slice_cmp}
+use Rattle.std.proofs.{lemmas.Bool.cases_Bool, lemmas.Bool.Decides.nat_tests, lemmas.Int.ints, lemmas.Map.Text.is_eq-slice_cmp}
 use Rattle.std.proofs.lemmas.List.Sorted.{IsPermutation-map, IsPermutation-trans, IsPermutation-cons, IsPermutation-middle}
 use Rattle.sqlite.specs.Collation.TheVariants.{Binary}
-use Rattle.sqlite.specs.declared.types.Value.{Value}
+use Rattle.sqlite.specs.{declared.types.Value.Value, Order.Row, Ops.unary, Ops.binary, Ops.is_true, Program.overlay, Table.Table, Tree.Trees}
+use Rattle.sqlite.specs.{Effect.Database, Effect.IsDatabase, Effect.value_rows, Listing.understood, State.State, State.mode_of, State.Writes, State.Executes, State.Runs}
 use Rattle.sqlite.specs.declared.types.Value.TheVariants.{Null, Int, Text}
-use Rattle.sqlite.specs.Order.{Row, column}
 use Rattle.sqlite_value.proofs.OrderLemmas.{value_cmp-Int, value_cmp-Text}
-use Rattle.std.specs.Str.{bytes_eq}
-use Rattle.std.specs.Ordering.{nat_cmp, on}
-use Rattle.std.specs.Cmp.Lexicographic.{slice_cmp}
-use Rattle.std.proofs.lemmas.Map.Text.{is_eq-slice_cmp}
-use Rattle.sqlite.specs.Term.{Term, Env, lit, eval_all, holds}
-use Rattle.sqlite.specs.Ops.{unary, binary, is_true}
+use Rattle.sqlite.specs.Term.{Term, lit, eval_all, holds}
 use Rattle.sqlite_sql.specs.declared.ops.BinaryOp.TheVariants.{Compare}
 use Rattle.sqlite_sql.specs.declared.ops.CompareOp.TheVariants.{Eq}
 use Rattle.sqlite.specs.Query.{Query, inner, end, IsAnswer, output, Output, key_cmp}
 use Rattle.sqlite_value.specs.declared.keys.Key.{Key}
 use Rattle.std.specs.Prelude.{IsSorted}
-use Rattle.sqlite.specs.Program.{overlay}
-use Rattle.sqlite.specs.Table.{Table}
 use Rattle.sqlite.specs.Kind.TheVariants.{Integer}
 use Rattle.sqlite.specs.Source.TheVariants.{Values}
 use Rattle.sqlite.specs.Command.TheVariants.{Insert, Update, Delete}
 use Rattle.sqlite_schema.specs.declared.schema.Keys.TheVariants.{Enforced}
-use Rattle.sqlite_schema.specs.Rules.{parent_key}
-use Rattle.sqlite.specs.Tree.{Trees}
+use Rattle.sqlite_schema.specs.{Rules.parent_key, declared.command.Command.Command}
 use Rattle.sqlite_trees.proofs.ListLemmas.{map-map, IsPermutation-filter}
-use Rattle.sqlite_rules.specs.Cast.{cast, cast_row}
-use Rattle.sqlite_rules.specs.Calls.{ids_of}
+use Rattle.sqlite_rules.specs.{Cast.cast, Cast.cast_row, Calls.ids_of}
 use Rattle.sqlite_rules.specs.declared.error.Rowids.TheVariants.{Chosen, Above, Given}
 use Rattle.sqlite_rules.specs.Edit.{Edit, edit_of, taken_by, Applies, numbered, with_rowid, without_all, put_all, id_in}
 use Rattle.sqlite_rules.specs.Action.{works, work_by, pairs, deed_for, Writes as Steps}
-use Rattle.sqlite.specs.Effect.{Database, IsDatabase, value_rows}
-use Rattle.sqlite_trees.specs.Objects.{catalog_tree}
+use Rattle.sqlite_trees.specs.{Objects.catalog_tree, Tree.rowid, Tree.put_row}
 use Rattle.sqlite_catalog.specs.Listing.{Lists}
 use Rattle.sqlite.specs.Rows.{Written, Task, stamped, CountsIn, count_of, higher, rowids_for, sequence, Gives}
 use Rattle.sqlite.specs.Does.{Tally, Does, OnRows, AtPlace}
-use Rattle.sqlite.specs.State.{State, mode_of, Writes}
-use Rattle.sqlite.proofs.Callers.{one_step}
-use Rattle.office_rows.specs.Tables.{office_schema}
-use Rattle.sqlite_trees.specs.Tree.{rowid, put_row}
-use Rattle.office_rows.specs.Stored.{Holds, columns_of}
+use Rattle.sqlite.proofs.Callers.{IsPlain, command_of, statement_of, one_step, runs_as}
+use Rattle.office_rows.specs.{Tables.office_schema, Stored.Holds, Stored.columns_of}
 use Rattle.office_rows.proofs.Creating.{put_all_fresh, put_all_shaped, without_all_shaped, updated, deleted}
 
 -- ==== WriteLemmas: From what a statement means to the rows of its table.
@@ -234,6 +219,26 @@ module _ (old new : State) (has : old.now.schema ≡ office_schema) (at : ℕ) (
         answers = answer_is params tests table.tree shown old.now.trees given.0 (seen old.now.trees) (given.1.answer Null);
         edits = record { schema = ap (λ (d : Database). d.schema) now; lists = listed_by new.now (ap (λ (d : Database). d.schema) now) w.sound; applies = subst (λ t. Applies office_schema Enforced old.now.trees edit t) (sym trees) step };
       }
+
+-- the same of a text that is run, by what it says
+module _ (old new : State) (has : old.now.schema ≡ office_schema) (at : ℕ) (table : Table) (listed : slice_get office_schema.tables at ≡ Some table) (uncounted : table.is_counted ≡ false)
+    (sql : List ℕ) (params : Row) (count : ℕ) where
+  abbrev pub Says : Command → Type 0
+  Says command = (command_of (understood office_schema sql) ≡ command) × IsPlain (understood office_schema sql)
+
+  ran : (command : Command) → Says command → Executes sql params old new (Ok count) → Runs old new None command (statement_of sql (understood office_schema sql)) params count
+  ran command is h = runs_as sql params old new office_schema has command is.0 is.1 count h
+
+  pub run_insert : (terms : List Term) (width : ℕ) → Says (Insert at (Values terms width)) → Executes sql params old new (Ok count)
+      → Inserts table (value_rows (stamped table params) width (length terms / width) terms) old.now new.now
+  run_insert terms width is h = inserts old new has at table listed uncounted params _ count terms width (ran _ is h)
+
+  module _ (tests shown : List Term) (seen : (trees : Trees) → overlay trees [] table.tree ≡ trees table.tree) where
+    pub run_update : Says (Update at (record { lets = []; body = rows_of table.tree tests shown })) → Executes sql params old new (Ok count) → Updates table params tests shown old.now new.now
+    run_update is h = updates old new has at table listed uncounted params _ count tests shown seen (ran _ is h)
+
+    pub run_delete : Says (Delete at (record { lets = []; body = rows_of table.tree tests shown })) → Executes sql params old new (Ok count) → Deletes table params tests shown old.now new.now
+    run_delete is h = deletes old new has at table listed uncounted params _ count tests shown seen (ran _ is h)
 
 -- ==== HoldLemmas: What a write makes of the records of its table.
 

@@ -4,14 +4,12 @@ use Rattle.std.specs.Option.{option_map}
 use Rattle.std.specs.FinMap as finite_map
 use Rattle.box6346.specs.declared.box_number.BoxNumber.{BoxNumber}
 use Rattle.edi_messages.specs.Purposes.{CallContent}
-use Rattle.terminal_core.specs.declared.lines.Side.{Side}
-use Rattle.terminal_core.specs.Changes.{Standing, standing_in, TerminalRows}
+use Rattle.terminal_core.specs.{declared.lines.Side.Side, Changes.Standing, Changes.standing_in, Changes.TerminalRows}
 use Rattle.terminal_core.specs.State.{LineContent, LineKey, Lines, line_key}
-use Rattle.office_rows.specs.Rows.{PlaceContent, ListingContent, Rows}
-use Rattle.office_rows.specs.Effects.{stands_for, is_line}
+use Rattle.office_rows.specs.{Rows.PlaceContent, Rows.ListingContent, Rows.Rows, Effects.stands_for, Effects.is_line}
 use Rattle.std.specs.Prelude.{map}
 
--- where a container stands by the places: of two the first counts
+-- where a container is by the places: of two the first counts
 abbrev pub standing_by : List PlaceContent → BoxNumber → Option Standing
 standing_by places container =
     option_map (λ (place : PlaceContent). standing_in place.visit place.slot) (find (stands_for container) places)
@@ -30,7 +28,7 @@ terminal_rows rows = record { visits = rows.visits; places = standing_by rows.pl
 abbrev pub ArePlacedOnce : List PlaceContent → Type 0
 ArePlacedOnce places = (container : BoxNumber) → count_by (stands_for container) places ≤ 1
 
--- no line stands twice
+-- no line is there twice
 abbrev pub AreListedOnce : List ListingContent → Type 0
 AreListedOnce lines =
     (call : CallContent) (side : Side) (container : BoxNumber) → count_by (is_line call side container) lines ≤ 1

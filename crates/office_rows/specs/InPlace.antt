@@ -3,22 +3,14 @@ use Rattle.std.specs.Prelude.{◌≡◌, ◌≢◌, ℕ, Bool, ◌&&◌, List, [
 use Rattle.std.specs.List.Sorted.{IsPermutation}
 use Rattle.sqlite.specs.Collation.TheVariants.{Binary}
 use Rattle.sqlite.specs.declared.types.Value.TheVariants.{Null, Text}
-use Rattle.sqlite.specs.Ops.{binary, is_true}
-use Rattle.sqlite.specs.Order.{Row, column}
-use Rattle.sqlite.specs.Table.{Table}
-use Rattle.sqlite.specs.Tree.{Trees}
+use Rattle.sqlite.specs.{Ops.binary, Ops.is_true, Order.Row, Order.column, Table.Table, Tree.Trees}
 use Rattle.sqlite_sql.specs.declared.ops.BinaryOp.TheVariants.{Compare}
 use Rattle.sqlite_sql.specs.declared.ops.CompareOp.TheVariants.{Eq}
 use Rattle.sqlite_schema.specs.declared.schema.Keys.TheVariants.{Enforced}
-use Rattle.sqlite_rules.specs.Calls.{ids_of}
+use Rattle.sqlite_rules.specs.{Calls.ids_of, Edit.Edit, Edit.edit_of, Edit.Applies}
 use Rattle.sqlite_rules.specs.declared.error.Rowids.TheVariants.{Chosen, Given}
-use Rattle.sqlite_rules.specs.Edit.{Edit, edit_of, Applies}
-use Rattle.office_rows.specs.Tables.{interchange_table, office_schema}
-use Rattle.office_rows.specs.Rows.{Interchange, Rows}
-use Rattle.office_rows.specs.Values.{number_value, interchange_values}
-use Rattle.office_rows.specs.Effects.{with_reply}
-use Rattle.office_rows.specs.Stored.{columns_of}
-use Rattle.office_rows.specs.Places.{ArePlaced}
+use Rattle.office_rows.specs.{Tables.interchange_table, Tables.office_schema, Rows.Interchange, Rows.Rows, Values.number_value, Values.interchange_values}
+use Rattle.office_rows.specs.{Effects.with_reply, Stored.columns_of, Places.ArePlaced}
 
 -- the tree has these records, in this order, under the rowids 1, 2, 3 and so on
 pub record AreInPlace {A : Type 0} (table : Table) (values : A → Row) (records : List A) (stored : List Row)
@@ -26,7 +18,7 @@ pub record AreInPlace {A : Type 0} (table : Table) (values : A → Row) (records
   pub placed : ArePlaced 1 stored
   pub same : map values records ≡ map (columns_of table) stored
 
--- the interchanges of these rows stand so in the trees
+-- the interchanges of these rows are so in the trees
 abbrev pub InterchangesAreInPlace : List Interchange → Trees → Type 0
 InterchangesAreInPlace interchanges trees =
     AreInPlace interchange_table interchange_values interchanges (trees interchange_table.tree)
@@ -65,7 +57,7 @@ pub record Replies (partner number_of : ℕ) (reply : List ℕ) (old new : Trees
   pub finds : IsPermutation (map (replied reply) (filter (is_row_of partner number_of) (old interchange_table.tree))) found
   pub applies : Applies office_schema Enforced old (edit_of old interchange_table (ids_of found) Given 1 found) new
 
--- each interchange stands where it stood
+-- each interchange is where it was
 abbrev pub RepliesInPlace : Type 0
 RepliesInPlace =
     (old new : Trees) (rows : Rows) (partner number_of : ℕ) (reply : List ℕ) →

@@ -1,8 +1,7 @@
 -- The rows of all tables as the queries of all rows show them.
 use Rattle.std.specs.Prelude.{◌≡◌, ℕ, ◌==◌, not, Bool, List, [], ◌∷◌, length, map}
 use Rattle.sqlite.specs.declared.types.Value.TheVariants.{Text}
-use Rattle.sqlite.specs.Order.{Row}
-use Rattle.sqlite.specs.Effect.{Database}
+use Rattle.sqlite.specs.{Order.Row, Effect.Database}
 use Rattle.terminal_core.specs.Rows.{VisitContent}
 use Rattle.yard_core.specs.declared.plan.Block.{Block}
 use Rattle.office_rows.specs.Tables.{partner_table, interchange_table, visit_table, place_table, listing_table, setting_table, block_table}
@@ -33,7 +32,7 @@ pub record OpenedRows : Type 0 where
   pub settings : List Setting
   pub blocks : List Block
 
--- the interchanges show these, whatever their bodies are
+-- the interchanges show these, with any bodies
 pub record ShowsNumbers (db : Database) (numbers : List NumberKept) : Type 0 where
   pub interchanges : List Interchange
   pub shown : ShowsTable interchange_table (0 ∷ 1 ∷ 3 ∷ []) (0 ∷ 1 ∷ []) db (map reply_values interchanges)

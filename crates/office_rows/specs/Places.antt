@@ -20,7 +20,7 @@ pub record AddsLast (rows : List Row) (source : Row) : Type 0 where
 abbrev pub InsertAddsLast : Type 0
 InsertAddsLast = (rows : List Row) (source : Row) → ArePlaced 1 rows → rowid source ≡ Null → AddsLast rows source
 
--- Rows stand in one order: two lists of the same rows, whose rowids rise, are equal. So what an UPDATE leaves under the
--- same rowids stands where it stood.
+-- Rows have one order: two lists of the same rows, whose rowids rise, are equal. So what an UPDATE leaves under the
+-- same rowids is where it was.
 abbrev pub RowsHaveOneOrder : Type 0
 RowsHaveOneOrder = (rows other : List Row) → IsTable rows → IsTable other → IsPermutation rows other → other ≡ rows

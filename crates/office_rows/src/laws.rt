@@ -1,29 +1,21 @@
-//! The laws of rowids. Each function has an empty body, and its contract is the law.
+//! The laws of rowids. Each function has an empty body, and its clauses are the laws.
 
-ghost use Rattle.office_rows.specs.Places.{InsertAddsLast, RowsHaveOneOrder};
-ghost use Rattle.office_rows.specs.InPlace.{AddsInPlace, RepliesInPlace, OthersKeepPlaces};
+ghost use Rattle.office_rows.specs.{Places.InsertAddsLast, Places.RowsHaveOneOrder, InPlace.AddsInPlace, InPlace.RepliesInPlace, InPlace.OthersKeepPlaces};
 
-/// A row that is inserted without a rowid is the last, under the next number.
-pub fn insert_adds_last()
-    ensures { InsertAddsLast }
+/// The rowids of rows.
+pub fn rowids()
+    // A row that is inserted without a rowid is the last, under the next number.
+    ensures insert_adds_last { InsertAddsLast }
+    // Rows whose rowids rise have one order.
+    ensures rows_have_one_order { RowsHaveOneOrder }
 {}
 
-/// Rows whose rowids rise have one order.
-pub fn rows_have_one_order()
-    ensures { RowsHaveOneOrder }
-{}
-
-/// An interchange that is inserted is the last row of its table, under the next rowid.
-pub fn adds_in_place()
-    ensures { AddsInPlace }
-{}
-
-/// An interchange that gets its reply stays under its rowid, and so do all others.
-pub fn replies_in_place()
-    ensures { RepliesInPlace }
-{}
-
-/// What is written to another table leaves the interchanges at their places.
-pub fn others_keep_places()
-    ensures { OthersKeepPlaces }
+/// Interchanges stay at their places.
+pub fn interchanges_in_place()
+    // An interchange that is inserted is the last row of its table, under the next rowid.
+    ensures adds_in_place { AddsInPlace }
+    // An interchange that gets its reply stays under its rowid, and so do all others.
+    ensures replies_in_place { RepliesInPlace }
+    // What is written to another table leaves the interchanges at their places.
+    ensures others_keep_places { OthersKeepPlaces }
 {}

@@ -1,41 +1,26 @@
 -- An interchange that is inserted is the only one of its partner and number.
 use Rattle.std.proofs.Common.{◌≡◌, ℕ, ◌&&◌, ◌||◌, List, [], ◌∷◌, ◌++◌, Bool, true, false, if◌then◌else◌, Result, Ok, Err, OnOk, map, inl, inr, refl, sym, ap, ap₂, eq-eqb, ◌∙◌, ◌≢◌, Some, slice_get, subst, arith}
 use Rattle.std.specs.List.{list_any}
-use Rattle.std.proofs.lemmas.Bool.{or_parts}
-use Rattle.std.proofs.lemmas.List.{map-append}
-use Rattle.std.proofs.lemmas.List.Sorted.{list_any-IsPermutation}
+use Rattle.std.proofs.{lemmas.Bool.or_parts, lemmas.List.map-append, lemmas.List.Sorted.list_any-IsPermutation}
 use Rattle.sqlite.specs.declared.types.Value.TheVariants.{Null}
 use Rattle.sqlite.specs.Collation.TheVariants.{Binary}
-use Rattle.sqlite.specs.Order.{Row, column}
-use Rattle.sqlite.specs.Listing.{understood}
+use Rattle.sqlite.specs.{Order.Row, Order.column, Listing.understood, State.State, State.Executes, Term.Term, Table.Table, Tree.Trees, Program.overlay}
 use Rattle.sqlite.specs.Source.TheVariants.{Values}
 use Rattle.sqlite.specs.Command.TheVariants.{Insert, Update, Delete}
-use Rattle.sqlite.specs.State.{State, Executes}
-use Rattle.sqlite.proofs.Callers.{statement_of, runs_as, IsPlain, command_of}
+use Rattle.sqlite.proofs.Callers.{IsPlain, command_of}
 use Rattle.sqlite_value.specs.Keys.{first_key}
-use Rattle.sqlite_schema.specs.declared.schema.Index.{Index}
-use Rattle.sqlite_schema.specs.Rules.{equal}
+use Rattle.sqlite_schema.specs.{declared.schema.Index.Index, Rules.equal}
 use Rattle.sqlite_catalog.specs.Listing.{automatic}
-use Rattle.sqlite_rules.specs.Cast.{cast_row}
+use Rattle.sqlite_rules.specs.{Cast.cast_row, Edit.with_rowid, Edit.Edit}
 use Rattle.sqlite_rules.specs.declared.error.Rowids.TheVariants.{Chosen}
-use Rattle.sqlite_rules.specs.Edit.{with_rowid, Edit}
 use Rattle.sqlite_tied.proofs.RuleLemmas.{and_true}
 use Rattle.office_rows.specs.Tables.{interchange_table, office_schema, partner_table, visit_table, place_table, listing_table, setting_table, block_table}
-use Rattle.office_rows.specs.Rows.{Interchange, Rows}
-use Rattle.office_rows.specs.Values.{number_value, interchange_values}
-use Rattle.office_rows.specs.Steps.{Steps}
-use Rattle.office_rows.specs.Stored.{HasRows, columns_of}
-use Rattle.office_rows.specs.Effects.{is_pair}
-use Rattle.office_rows.specs.Opening.{with_interchanges, interchange_row as interchange_of}
-use Rattle.office_rows.proofs.WriteLemmas.{cast_null, cast_int, equal_numbers, inserts, Edits, rows_of, updates, deletes}
-use Rattle.office_tables.specs.Kept.{with_kept_reply}
-use Rattle.office_tables.specs.Order.{KeepsOrder}
-use Rattle.office_tables.proofs.KeyLemmas.{new_key}
-use Rattle.sqlite.specs.Term.{Term}
-use Rattle.sqlite.specs.Table.{Table}
-use Rattle.sqlite.specs.Tree.{Trees}
-use Rattle.sqlite.specs.Program.{overlay}
+use Rattle.office_rows.specs.{Rows.Interchange, Rows.Rows, Values.number_value, Values.interchange_values, Steps.Steps, Stored.HasRows, Stored.columns_of}
+use Rattle.office_rows.specs.{Effects.is_pair, Opening.with_interchanges, Opening.interchange_row as interchange_of}
 use Rattle.office_rows.specs.InPlace.{AreInPlace, InterchangesAreInPlace}
+use Rattle.office_rows.proofs.WriteLemmas.{cast_null, cast_int, equal_numbers, run_insert, Edits, rows_of, run_update, run_delete}
+use Rattle.office_tables.specs.{Kept.with_kept_reply, Order.KeepsOrder}
+use Rattle.office_tables.proofs.KeyLemmas.{new_key}
 use Rattle.office_rows.proofs.InPlace.{others_keep_places}
 use Rattle.office_rows.proofs.Writing as texts
 
@@ -59,9 +44,7 @@ module _ (old new : State) (rows : Rows) (count : ℕ) (has : HasRows rows old.n
   new_pair a h =
       let params = interchange_values a in
       let source : Row = Null ∷ interchange_values a in
-      let text = statement_of texts.insert_whole (understood office_schema texts.insert_whole) in
-      let w = runs_as texts.insert_whole params old new office_schema has.schema (Insert 1 (Values texts.insert_whole_terms 5)) texts.insert_whole_is texts.insert_whole_plain count h in
-      let it = inserts old new has.schema 1 interchange_table refl refl params text count texts.insert_whole_terms 5 w in
+      let it = run_insert old new has.schema 1 interchange_table refl refl texts.insert_whole params count texts.insert_whole_terms 5 texts.insert_whole_is h in
       let held = has.rows_are.interchanges in
       let stored = old.now.trees 2 in
       let row : Row = with_rowid Chosen stored (cast_row interchange_table source) in
@@ -111,7 +94,7 @@ pub order_kept : {X E : Type 0} (p n : ℕ) (body reply : List ℕ) (old new : S
 order_kept p n body reply old new (Ok x) keeps none = λ rows held. rw (← kept_with_reply p n body reply rows (none rows held.has)) (keeps rows held)
 order_kept p n body reply old new (Err e) keeps none = keeps
 
--- ==== OrderLemmas: Statements that write to another table leave the interchanges as they stand.
+-- ==== OrderLemmas: Statements that write to another table leave the interchanges as they are.
 
 module _ (old new : State) (rows : Rows) (count : ℕ) (has : HasRows rows old.now) (held : InterchangesAreInPlace rows.interchanges old.now.trees) (params : Row) where
   abbrev pub Stay : Type 0
@@ -121,61 +104,49 @@ module _ (old new : State) (rows : Rows) (count : ℕ) (has : HasRows rows old.n
   stay table edit edits other =
       subst (AreInPlace interchange_table interchange_values rows.interchanges) (sym (others_keep_places old.now.trees new.now.trees edit edits.applies other)) held
 
-  module _ (at : ℕ) (table : Table) (listed : slice_get office_schema.tables at ≡ Some table) (uncounted : table.is_counted ≡ false) (other : table.tree ≢ interchange_table.tree) (sql : List ℕ) (plain : IsPlain (understood office_schema sql)) where
-    inserted : (terms : List Term) (width : ℕ) → command_of (understood office_schema sql) ≡ Insert at (Values terms width) → Executes sql params old new (Ok count) → Stay
-    inserted terms width is h =
-        let text = statement_of sql (understood office_schema sql) in
-        let w = runs_as sql params old new office_schema has.schema (Insert at (Values terms width)) is plain count h in
-        let it = inserts old new has.schema at table listed uncounted params text count terms width w in
-        stay table _ it.edits other
+  module _ (at : ℕ) (table : Table) (listed : slice_get office_schema.tables at ≡ Some table) (uncounted : table.is_counted ≡ false) (other : table.tree ≢ interchange_table.tree) (sql : List ℕ) where
+    inserted : (terms : List Term) (width : ℕ) → (command_of (understood office_schema sql) ≡ Insert at (Values terms width)) × IsPlain (understood office_schema sql) → Executes sql params old new (Ok count) → Stay
+    inserted terms width is h = stay table _ (run_insert old new has.schema at table listed uncounted sql params count terms width is h).edits other
 
     module _ (seen : (trees : Trees) → overlay trees [] table.tree ≡ trees table.tree) (tests shown : List Term) where
-      updated : command_of (understood office_schema sql) ≡ Update at (record { lets = []; body = rows_of table.tree tests shown }) → Executes sql params old new (Ok count) → Stay
-      updated is h =
-          let text = statement_of sql (understood office_schema sql) in
-          let w = runs_as sql params old new office_schema has.schema (Update at (record { lets = []; body = rows_of table.tree tests shown })) is plain count h in
-          let it = updates old new has.schema at table listed uncounted params text count tests shown seen w in
-          stay table _ it.edits other
+      updated : (command_of (understood office_schema sql) ≡ Update at (record { lets = []; body = rows_of table.tree tests shown })) × IsPlain (understood office_schema sql) → Executes sql params old new (Ok count) → Stay
+      updated is h = stay table _ (run_update old new has.schema at table listed uncounted sql params count tests shown seen is h).edits other
 
-      deleted : command_of (understood office_schema sql) ≡ Delete at (record { lets = []; body = rows_of table.tree tests shown }) → Executes sql params old new (Ok count) → Stay
-      deleted is h =
-          let text = statement_of sql (understood office_schema sql) in
-          let w = runs_as sql params old new office_schema has.schema (Delete at (record { lets = []; body = rows_of table.tree tests shown })) is plain count h in
-          let it = deletes old new has.schema at table listed uncounted params text count tests shown seen w in
-          stay table _ it.edits other
+      deleted : (command_of (understood office_schema sql) ≡ Delete at (record { lets = []; body = rows_of table.tree tests shown })) × IsPlain (understood office_schema sql) → Executes sql params old new (Ok count) → Stay
+      deleted is h = stay table _ (run_delete old new has.schema at table listed uncounted sql params count tests shown seen is h).edits other
 
   pub insert_partner_stays : Executes texts.insert_partner params old new (Ok count) → Stay
-  insert_partner_stays = inserted 0 partner_table refl refl (λ e. omega (arith, e)) texts.insert_partner texts.insert_partner_plain texts.insert_partner_terms 5 texts.insert_partner_is
+  insert_partner_stays = inserted 0 partner_table refl refl (λ e. omega (arith, e)) texts.insert_partner texts.insert_partner_terms 5 texts.insert_partner_is
 
   pub insert_visit_stays : Executes texts.insert_visit params old new (Ok count) → Stay
-  insert_visit_stays = inserted 2 visit_table refl refl (λ e. omega (arith, e)) texts.insert_visit texts.insert_visit_plain texts.insert_visit_terms 16 texts.insert_visit_is
+  insert_visit_stays = inserted 2 visit_table refl refl (λ e. omega (arith, e)) texts.insert_visit texts.insert_visit_terms 16 texts.insert_visit_is
 
   pub insert_place_stays : Executes texts.insert_place params old new (Ok count) → Stay
-  insert_place_stays = inserted 3 place_table refl refl (λ e. omega (arith, e)) texts.insert_place texts.insert_place_plain texts.insert_place_terms 4 texts.insert_place_is
+  insert_place_stays = inserted 3 place_table refl refl (λ e. omega (arith, e)) texts.insert_place texts.insert_place_terms 4 texts.insert_place_is
 
   pub insert_listed_stays : Executes texts.insert_listed params old new (Ok count) → Stay
-  insert_listed_stays = inserted 4 listing_table refl refl (λ e. omega (arith, e)) texts.insert_listed texts.insert_listed_plain texts.insert_listed_terms 7 texts.insert_listed_is
+  insert_listed_stays = inserted 4 listing_table refl refl (λ e. omega (arith, e)) texts.insert_listed texts.insert_listed_terms 7 texts.insert_listed_is
 
   pub insert_setting_stays : Executes texts.insert_setting params old new (Ok count) → Stay
-  insert_setting_stays = inserted 5 setting_table refl refl (λ e. omega (arith, e)) texts.insert_setting texts.insert_setting_plain texts.insert_setting_terms 3 texts.insert_setting_is
+  insert_setting_stays = inserted 5 setting_table refl refl (λ e. omega (arith, e)) texts.insert_setting texts.insert_setting_terms 3 texts.insert_setting_is
 
   pub insert_block_stays : Executes texts.insert_block params old new (Ok count) → Stay
-  insert_block_stays = inserted 6 block_table refl refl (λ e. omega (arith, e)) texts.insert_block texts.insert_block_plain texts.insert_block_terms 5 texts.insert_block_is
+  insert_block_stays = inserted 6 block_table refl refl (λ e. omega (arith, e)) texts.insert_block texts.insert_block_terms 5 texts.insert_block_is
 
   pub update_next_stays : Executes texts.update_next params old new (Ok count) → Stay
-  update_next_stays = updated 0 partner_table refl refl (λ e. omega (arith, e)) texts.update_next texts.update_next_plain (λ trees. refl) texts.update_next_tests texts.update_next_shown texts.update_next_is
+  update_next_stays = updated 0 partner_table refl refl (λ e. omega (arith, e)) texts.update_next (λ trees. refl) texts.update_next_tests texts.update_next_shown texts.update_next_is
 
   pub update_exit_stays : Executes texts.update_exit params old new (Ok count) → Stay
-  update_exit_stays = updated 2 visit_table refl refl (λ e. omega (arith, e)) texts.update_exit texts.update_exit_plain (λ trees. refl) texts.update_exit_tests texts.update_exit_shown texts.update_exit_is
+  update_exit_stays = updated 2 visit_table refl refl (λ e. omega (arith, e)) texts.update_exit (λ trees. refl) texts.update_exit_tests texts.update_exit_shown texts.update_exit_is
 
   pub update_slot_stays : Executes texts.update_slot params old new (Ok count) → Stay
-  update_slot_stays = updated 3 place_table refl refl (λ e. omega (arith, e)) texts.update_slot texts.update_slot_plain (λ trees. refl) texts.update_slot_tests texts.update_slot_shown texts.update_slot_is
+  update_slot_stays = updated 3 place_table refl refl (λ e. omega (arith, e)) texts.update_slot (λ trees. refl) texts.update_slot_tests texts.update_slot_shown texts.update_slot_is
 
   pub update_done_stays : Executes texts.update_done params old new (Ok count) → Stay
-  update_done_stays = updated 4 listing_table refl refl (λ e. omega (arith, e)) texts.update_done texts.update_done_plain (λ trees. refl) texts.update_done_tests texts.update_done_shown texts.update_done_is
+  update_done_stays = updated 4 listing_table refl refl (λ e. omega (arith, e)) texts.update_done (λ trees. refl) texts.update_done_tests texts.update_done_shown texts.update_done_is
 
   pub delete_place_stays : Executes texts.delete_place params old new (Ok count) → Stay
-  delete_place_stays = deleted 3 place_table refl refl (λ e. omega (arith, e)) texts.delete_place texts.delete_place_plain (λ trees. refl) texts.delete_place_tests texts.delete_place_shown texts.delete_place_is
+  delete_place_stays = deleted 3 place_table refl refl (λ e. omega (arith, e)) texts.delete_place (λ trees. refl) texts.delete_place_tests texts.delete_place_shown texts.delete_place_is
 
   pub delete_line_stays : Executes texts.delete_line params old new (Ok count) → Stay
-  delete_line_stays = deleted 4 listing_table refl refl (λ e. omega (arith, e)) texts.delete_line texts.delete_line_plain (λ trees. refl) texts.delete_line_tests texts.delete_line_shown texts.delete_line_is
+  delete_line_stays = deleted 4 listing_table refl refl (λ e. omega (arith, e)) texts.delete_line (λ trees. refl) texts.delete_line_tests texts.delete_line_shown texts.delete_line_is

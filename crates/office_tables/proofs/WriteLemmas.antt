@@ -4,40 +4,25 @@ use Rattle.std.specs.Option.{option_map}
 use Rattle.sqlite_rules.specs.Lists.{Has}
 use Rattle.sqlite_rules.proofs.ListLemmas.{contains_had, has_contained, has_filtered, has_kept}
 use Rattle.sqlite.specs.State.{State, HasCleanDisk, IsUnchanged, Survives, Shows}
-use Rattle.sqlite.proofs.Callers.{unchanged_then, survives_begin}
-use Rattle.terminal_core.proofs.Indexed.{found_is, some_or_none}
-use Rattle.terminal_core.proofs.Whole.{contained}
-use Rattle.office_rows.specs.Rows.{Interchange, Rows}
+use Rattle.sqlite.proofs.{Callers.unchanged_then, Callers.survives_begin, StateLemmas.survives_then}
+use Rattle.terminal_core.proofs.{Indexed.found_is, Indexed.some_or_none, Whole.contained}
+use Rattle.office_rows.specs.{Rows.Interchange, Rows.Rows, Steps.Steps}
 use Rattle.office_rows.specs.Effects.{is_pair, with_waiting, with_reply, with_next, with_change}
 use Rattle.office_rows.proofs.Creating.{keep_then, on_ok, quiet_then, steps_then, steps_same, stores}
-use Rattle.office_tables.specs.Answers.{IsKept, pair_of}
-use Rattle.office_tables.specs.Reading.{Reads}
-use Rattle.office_tables.specs.declared.interchanges.Kept.{Kept}
-use Rattle.office_tables.specs.declared.table_fault.TableFault.{TableFault}
+use Rattle.office_tables.specs.{Answers.IsKept, Answers.pair_of, Reading.Reads, declared.interchanges.Kept.Kept, declared.table_fault.TableFault.TableFault}
+use Rattle.office_tables.specs.{DeliveryReading.IsSame, DeliveryReading.OnlyReads, Taken.taken_content, Taken.taken_contents, Taking.IsTaken}
+use Rattle.office_tables.specs.{declared.running.Taken.Taken, Faults.IsOfStore, Kept.with_kept_reply, Order.HasRowsInOrder, Order.KeepsOrder}
+use Rattle.office_tables.specs.Writes.{Writes, WritesIfOpen}
 use Rattle.office_tables.proofs.MadeLemmas.{clean_first, if_open_on, if_open_stopped}
 use Rattle.office_history.specs.Cascade.{text_in, TakenContent, AreTakenFrom, texts_with, with_changes, with_interchange, with_interchanges, with_run}
 use Rattle.office_history.specs.After.{AreKeptOnce}
 use Rattle.office_history.proofs.Kept.{found_only}
-use Rattle.office_tables.specs.DeliveryReading.{IsSame, OnlyReads}
-use Rattle.std.proofs.lemmas.Bool.{ne_eqb}
-use Rattle.std.proofs.lemmas.List.{append-nil, append_assoc, map-append}
+use Rattle.std.proofs.{lemmas.Bool.ne_eqb, lemmas.List.append-nil, lemmas.List.append_assoc, lemmas.List.map-append, lemmas.List.Sums.fold_push}
 use Rattle.office_admission.specs.Taking.{MachineState, machine_of, interchange_taken, interchange_changes}
-use Rattle.terminal_core.specs.Rows.{ChangeContent, visit_opened}
-use Rattle.terminal_core.specs.State.{TerminalState}
+use Rattle.terminal_core.specs.{Rows.ChangeContent, Rows.visit_opened, State.TerminalState}
 use Rattle.office_admission.specs.declared.setup.Setup.{Setup}
-use Rattle.office_tables.specs.Taken.{taken_content, taken_contents}
-use Rattle.office_tables.specs.Taking.{IsTaken}
-use Rattle.office_tables.specs.declared.running.Taken.{Taken}
-use Rattle.std.proofs.lemmas.List.Sums.{fold_push}
-use Rattle.sqlite.specs.Held.{Held, state}
-use Rattle.sqlite.specs.Tree.{Trees}
-use Rattle.sqlite.proofs.StateLemmas.{survives_then}
+use Rattle.sqlite.specs.{Held.Held, Held.state, Tree.Trees}
 use Rattle.sqlite_trees.specs.declared.store.Store.{Ghosts}
-use Rattle.office_rows.specs.Steps.{Steps}
-use Rattle.office_tables.specs.Faults.{IsOfStore}
-use Rattle.office_tables.specs.Kept.{with_kept_reply}
-use Rattle.office_tables.specs.Order.{HasRowsInOrder, KeepsOrder}
-use Rattle.office_tables.specs.Writes.{Writes, WritesIfOpen}
 use Rattle.office_tables.proofs.WritesLemmas.{order_then, order_same, writes_then, writes_then_if_open, writes_same}
 use Rattle.office_tables.specs.Writing.{Commits, IsUndone, IsWhole, IsWholeInOrder, WritesWhole}
 
@@ -81,7 +66,7 @@ one_read {old} {new} {result} r = record {
   reads = record { unchanged = λ clean was. r.unchanged clean; keeps = r.keeps; mode = r.mode; survives = r.survives };
 }
 
--- whatever comes of what was read
+-- any outcome of what was read
 pub only_on : {X Y : Type 0} {old new : State} {x : X} (result : Result Y TableFault) → OnlyReads old new (Ok x) → OnlyReads old new result
 only_on result r = record { same = λ clean. on_both result (r.same clean); reads = if_open_on result r.reads }
 
@@ -112,7 +97,7 @@ only_then {a} {b} {c} {result} p q = record {
   };
 }
 
--- what reads in the end reads, whatever it did before
+-- what reads in the end reads, after anything before
 pub then_read : {X Y : Type 0} {a b c : State} {x : X} {result : Result Y TableFault} → OnlyReads a b (Ok x) → Reads b c result → Reads a c result
 then_read {a} {b} {c} {result} p q = record {
   unchanged = λ clean.

@@ -1,12 +1,11 @@
 -- What a call that only reads does to its connection.
 use Rattle.std.specs.Prelude.{◌≡◌, ℕ, List, None, Result, Ok, OnOk, IsTrue, false}
-use Rattle.sqlite.specs.Listing.{understood}
-use Rattle.sqlite.specs.Schema.{Schema}
+use Rattle.sqlite.specs.{Listing.understood, Schema.Schema}
 use Rattle.sqlite.specs.State.{State, HasCleanDisk, IsUnchanged, KeepsCommit, Survives}
 use Rattle.sqlite_resolve.specs.declared.compiled.Compiled.{Compiled}
 use Rattle.office_tables.specs.declared.table_fault.TableFault.{TableFault}
 
--- Whatever tables there are: at Ok the database is as it was; whatever the call answers, nothing is committed, no
+-- With any tables: at Ok the database is as it was; with any answer, nothing is committed, no
 -- transaction begins, and a crash leaves what it left before. If the disk is clean or the connection open as the call
 -- ends, it was so as it began.
 pub record Reads {T : Type 0} (old new : State) (result : Result T TableFault) : Type 0 where

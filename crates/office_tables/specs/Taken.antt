@@ -1,4 +1,4 @@
--- An interchange that was taken, whatever memory holds it.
+-- An interchange that was taken, in any memory.
 use Rattle.std.specs.Prelude.{List, map, string_bytes}
 use Rattle.terminal_core.specs.Rows.{change_content}
 use Rattle.office_history.specs.Cascade.{TakenContent}

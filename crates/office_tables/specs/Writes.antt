@@ -1,18 +1,11 @@
 -- What a call that writes does to the transaction that it is in.
 use Rattle.std.specs.Prelude.{Result, OnOk, IfErr, IsTrue, List, take}
-use Rattle.sqlite.specs.Effect.{Database}
+use Rattle.sqlite.specs.{Effect.Database, Table.Table}
 use Rattle.sqlite.specs.State.{State, HasCleanDisk, KeepsCommit, Survives}
-use Rattle.sqlite.specs.Table.{Table}
-use Rattle.office_rows.specs.Rows.{Rows}
-use Rattle.office_rows.specs.Steps.{Steps, Turns}
-use Rattle.office_rows.specs.Stored.{HasEmpty, HasRows}
-use Rattle.office_rows.specs.Tables.{office_tables}
-use Rattle.office_tables.specs.declared.table_fault.TableFault.{TableFault}
-use Rattle.office_tables.specs.Faults.{IsOfStore}
-use Rattle.office_tables.specs.Opened.{AreMissing, MakesTables}
-use Rattle.office_tables.specs.Order.{KeepsOrder}
+use Rattle.office_rows.specs.{Rows.Rows, Steps.Steps, Steps.Turns, Stored.HasEmpty, Stored.HasRows, Tables.office_tables}
+use Rattle.office_tables.specs.{declared.table_fault.TableFault.TableFault, Faults.IsOfStore, Opened.AreMissing, Opened.MakesTables, Order.KeepsOrder}
 
--- where it went well the rows are these, in order if they were before; whatever it answers, nothing is committed and a
+-- where it went well the rows are these, in order if they were before; with any answer, nothing is committed and a
 -- crash leaves what it left before; and it fails only as the store does, or memory
 pub record Writes {T : Type 0} (change : Rows → Rows) (old new : State) (result : Result T TableFault) : Type 0 where
   pub steps : HasCleanDisk new → IsTrue old.in_transaction → OnOk result (Steps change old new)

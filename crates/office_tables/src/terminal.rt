@@ -1,7 +1,6 @@
 ghost use Rattle.std.specs.Prelude.{◌≡◌, pos, [], ◌∷◌};
 ghost use Rattle.edi_messages.specs.Owned.{call_content};
-ghost use Rattle.office_rows.specs.Effects.{with_change};
-ghost use Rattle.office_rows.specs.Opening.{listing_row, with_lines};
+ghost use Rattle.office_rows.specs.{Effects.with_change, Opening.listing_row, Opening.with_lines};
 ghost use Rattle.office_rows.specs.Values.{kind_code, way_code, laden_code, state_code, out_by, out_partner, out_number, out_at};
 ghost use Rattle.office_tables.specs.Writes.{Writes};
 ghost use Rattle.sqlite.specs.Held.{state};

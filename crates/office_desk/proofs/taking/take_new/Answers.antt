@@ -1,19 +1,15 @@
 use Rattle.std.proofs.Common.{◌≡◌, ◌∷◌, ◌++◌, [], Some, inl, inr, length, refl, sym, ap, subst, ◌∙◌, arith}
-use Rattle.std.proofs.lemmas.Bool.{cases_order}
-use Rattle.std.proofs.lemmas.List.{length-map}
+use Rattle.std.proofs.{lemmas.Bool.cases_order, lemmas.List.length-map}
 use Rattle.sqlite.specs.Held.{state}
 use Rattle.partner_core.specs.Answers.{Waiting}
 use Rattle.office_replies.specs.Events.{delivered}
 use Rattle.office_rows.specs.Stored.{HasRows}
-use Rattle.office_tables.specs.Writing.{Commits}
+use Rattle.office_tables.specs.{Writing.Commits, Faults.IsOfStore}
 use Rattle.office_rows.proofs.Creating.{if_ok, on_ok}
 use Rattle.office_admission.specs.Setups.{setup_content}
-use Rattle.office_tables.specs.Faults.{IsOfStore}
 use Rattle.office_tables.proofs.WritesLemmas.{of_store_alone, of_store_or}
 use Rattle.office_history.specs.After.{machine_with}
-use Rattle.office_desk.specs.Beside.{IsBeside, IsOrNone}
-use Rattle.office_desk.specs.Order.{IsInOrder, IsRunInOrder, stored}
-use Rattle.office_desk.specs.Taking.{HasNumbered}
+use Rattle.office_desk.specs.{Beside.IsBeside, Beside.IsOrNone, Order.IsInOrder, Order.IsRunInOrder, Order.stored, Taking.HasNumbered}
 use Rattle.office_desk.specs.Telling.{IsRunDone, delivery_of}
 use Rattle.office_desk.proofs.HoldLemmas.{committed_leaves, either_of, run_after, held_with, machine_same, next_answers, next_is, numbered, number_within, early_events, early_leaves, failed_holds, failed_leaves}
 use Rattle.office_desk.proofs.DeliverLemmas.{is_now, keeps_accounts, next_follows, office_with}

@@ -1,7 +1,6 @@
 use Rattle.std.proofs.Common.{◌≡◌, [], ◌∷◌, ◌++◌, false, IfErr, refl, ap, append_assoc, ◌∙◌, arith, rules}
 use Rattle.std.proofs.lemmas.List.{append-nil}
-use Rattle.sqlite.specs.Held.{state}
-use Rattle.sqlite.specs.Given.{HasGiven}
+use Rattle.sqlite.specs.{Held.state, Given.HasGiven}
 use Rattle.sqlite.specs.State.{HasCleanDisk, IsUnchanged, FailsToQuery, Survives, CommitsShowing}
 use Rattle.office_rows.specs.Opening.{with_interchanges}
 use Rattle.office_tables.proofs.MadeLemmas.{reads_same, reads_failed, query_survives, ◌then◌}

@@ -1,7 +1,6 @@
 use Rattle.std.proofs.Common.{◌≡◌, [], false, Ok, IfErr, refl, ◌∙◌, rules, arith}
 use Rattle.std.proofs.lemmas.Result.{err_from_is_err_and}
-use Rattle.sqlite.specs.Held.{state}
-use Rattle.sqlite.specs.Given.{HasGiven}
+use Rattle.sqlite.specs.{Held.state, Given.HasGiven}
 use Rattle.sqlite.specs.State.{HasCleanDisk, IsUnchanged, FailsToQuery, Survives, CommitsShowing}
 use Rattle.office_tables.specs.Faults.{IsOfStoreOr}
 use Rattle.office_tables.proofs.MadeLemmas.{reads_same, reads_failed, query_survives, ◌then◌}

@@ -1,8 +1,6 @@
 use Rattle.std.proofs.Common.{[], ◌∷◌, take}
 use Rattle.sqlite.specs.Held.{state}
-use Rattle.office_rows.specs.Tables.{office_tables, block_table}
-use Rattle.office_rows.specs.Rows.{no_rows}
-use Rattle.office_rows.specs.Stored.{HasEmpty, HasRows}
+use Rattle.office_rows.specs.{Tables.office_tables, Tables.block_table, Rows.no_rows, Stored.HasEmpty, Stored.HasRows}
 use Rattle.office_rows.proofs.Reading.{created_block}
 use Rattle.office_rows.proofs.Creating as texts
 use Rattle.office_tables.proofs.MadeLemmas.{creates_of, makes_one, block_anew}

@@ -1,6 +1,5 @@
 use Rattle.std.proofs.Common.{◌≡◌, IsTrue, OnErr, true, not, ap, subst, ◌∙◌, rules}
-use Rattle.sqlite.specs.Held.{state}
-use Rattle.sqlite.specs.State.{HasCleanDisk, Survives}
+use Rattle.sqlite.specs.{Held.state, State.HasCleanDisk, State.Survives}
 use Rattle.office_rows.specs.Effects.{with_partner}
 use Rattle.office_tables.specs.Writing.{IsWholeInOrder, WritesWhole}
 use Rattle.office_tables.proofs.WriteLemmas.{none_left, crash_in_order, written_whole}

@@ -1,0 +1,12 @@
+use Rattle.office_history.proofs.{Afters.state_sound, Places.sound_in}
+use Rattle.office_history.specs.After.{content_after, deliveries_of, taking_in}
+use Rattle.terminal_core.specs.Versions.{newest}
+use Rattle.office_admission.proofs.Adding.{given_after}
+use Rattle.office_history.proofs.Accounted.{answers}
+use Rattle.office_history.proofs.laws.answers.Goals as goal
+
+pub returns-clause-deliveries_leave_sound : goal.returns-clause-deliveries_leave_sound
+returns-clause-deliveries_leave_sound c = λ content es given. state_sound (taking_in newest content es) (content_after content es) (deliveries_of content es) (sound_in newest content es) (given_after es content given)
+
+pub returns-clause-rows_answer : goal.returns-clause-rows_answer
+returns-clause-rows_answer c = answers
