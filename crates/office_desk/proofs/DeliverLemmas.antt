@@ -1,48 +1,36 @@
 -- One delivery more to a desk.
+use Rattle.std.{specs.{List.Sorted.IsPermutation, Prelude.{◌==◌, not, nat_le}}, proofs.lemmas.Simd.map-map}
 use Rattle.std.proofs.Common.{◌≡◌, ℕ, List, [], ◌∷◌, ◌++◌, Option, Ok, Err, string_bytes, refl, sym, ap, subst, ◌∙◌, ◌⊎◌, ◌+◌, ◌<◌, ◌≤◌, length, map, inl, inr, Some, arith, None, Bool, true, false, cond}
-use Rattle.std.proofs.lemmas.Simd.{map-map}
-use Rattle.std.proofs.lemmas.List.Sorted.{Contains-permutation, IsPermutation-sym, IsPermutation-trans}
+use Rattle.std.proofs.{lemmas.List.Sorted.{Contains-permutation, IsPermutation-sym, IsPermutation-trans}, lemmas.Bool.{eq-eqb, eqb-true, leb-true, leb-false}}
 use Rattle.sqlite.specs.{Effect.Database, Held.state}
 use Rattle.sqlite_trees.specs.declared.store.Store.{Ghosts}
-use Rattle.edi_syntax.specs.{Interchange.interchange_of, Interchange.segments_in, Envelope.header_of}
+use Rattle.edi_syntax.specs.{Interchange.{interchange_of, segments_in}, Envelope.header_of}
 use Rattle.partner_core.specs.{Answers.AnswerModel, Deliveries.delivery, Numbered.with_number}
-use Rattle.office_replies.specs.{Events.Event, Events.delivered, Contents.GivesOrNotNow, Contents.content_of, Delivering.with_answered}
-use Rattle.office_replies.specs.declared.deliver.Response.{Response}
-use Rattle.office_admission.specs.{Parties.Parties, Parties.parties_of, Setups.SetupContent, Setups.setup_content, declared.setup.Setup.Setup}
-use Rattle.office_admission.specs.{Admission.admission, Outcomes.IsRefused, Outcomes.fault_in}
-use Rattle.office_admission.specs.{Refusals.refusal_of, Refusals.MayBeNotNow, Refusals.RefusedSurely, declared.refusal.Refusal.Refusal}
-use Rattle.office_admission.specs.{Taking.MachineState, Taking.interchange_taken, Taking.interchange_changes, Given.IsGiven}
+use Rattle.office_replies.specs.{Events.{Event, delivered}, Contents.{GivesOrNotNow, content_of}, Delivering.with_answered, declared.deliver.Response.Response}
+use Rattle.office_admission.specs.{Parties.{Parties, parties_of}, Setups.{SetupContent, setup_content}, declared.setup.Setup.Setup, Admission.admission}
+use Rattle.office_admission.specs.{Outcomes.{IsRefused, fault_in}, Refusals.{refusal_of, MayBeNotNow, RefusedSurely}, declared.refusal.Refusal.Refusal}
+use Rattle.office_admission.{specs.{Taking.{MachineState, interchange_taken, interchange_changes}, Given.IsGiven}, proofs.Takings.interchange_leads}
+use Rattle.office_admission.proofs.Forming.{runs_alone}
 use Rattle.office_history.specs.After.{content_after, parties_in, AreKeptOnce, accounts_from, AreAfter, deliveries_of, opening_of, machine_after, machine_with, taking_in}
-use Rattle.office_history.specs.Laws.{answer_model_of}
-use Rattle.office_history.proofs.{Lawful.now_same, Lawful.refused_adds, Loads.partner_one, Loads.ShowsSetupAndTerminal, Loads.one_terminal}
-use Rattle.office_history.proofs.{Kept.Rises, Kept.same_records, Kept.shown_in, KeptNumbers.have_runs, Offices.state_given, Places.alone_in}
-use Rattle.office_loading.specs.{Closed.closed_content, Closed.ClosedContent, OwnOffice.AreInOrder, OwnOffice.AreOwnNumbers, OwnOffice.IsOwnOffice}
-use Rattle.office_loading.specs.{Tables.LoadsOwn, Checks.visits_after, Checks.AreOwnVisits}
-use Rattle.office_desk.specs.Answers.{AnswersNext, answer_by_model, answer_at, answer_to, code_of}
-use Rattle.office_desk.proofs.OwnNumbers.{refused_for, KeepsBeyond, account_there, by_number, keeps_own}
-use Rattle.office_desk.specs.{Telling.Answers, Telling.Comes, Telling.Holds, Desks.StandsFor, Noting.IsNow, Noting.NotesFault, Noting.NotesMemory}
-use Rattle.office_desk.specs.{Offices.DeskHolds, Offices.HoldsOffice, declared.beside.Beside.Beside, declared.desk.Desk.Desk}
-use Rattle.office_desk.specs.{Crashes.Leaves, Crashes.LeavesBehind, Beside.IsOrNone, Finding.StaysBeside}
-use Rattle.office_desk.specs.Kept.{AnswersAt, AnswersByKept, AnswersOver, IsNotedFor, Office}
-use Rattle.office_tables.specs.{declared.table_fault.TableFault.TableFault, Answers.IsNextOf, Answers.has_id}
-use Rattle.office_tables.specs.declared.table_fault.TableFault.TheVariants.{Memory}
-use Rattle.office_desk.proofs.HoldLemmas.{answered_behind, refused_leaves, beside_same, next_by, nexts_are, number_of}
-use Rattle.std.specs.List.Sorted.{IsPermutation}
-use Rattle.std.proofs.lemmas.Bool.{eq-eqb, eqb-true, leb-true, leb-false}
-use Rattle.sqlite_rules.proofs.ListLemmas.{contains_had, has_contained, has_filtered, has_kept}
-use Rattle.terminal_core.specs.State.{TerminalState, AreNumbered, IsWhole, last_from}
-use Rattle.office_rows.specs.{Rows.Rows, Values.interchange_values, Values.partner_values, Stored.HasRows, Shown.AreNexts, Shown.columns_at}
-use Rattle.office_rows.specs.Tables.{partner_table as partners_table}
-use Rattle.office_rows.specs.Opened.{NumberKept, OpenedRows, Shows, number_kept}
-use Rattle.office_rows.proofs.Listed.{unmapped}
+use Rattle.office_history.{specs.Laws.answer_model_of, proofs.{Lawful.{now_same, refused_adds}, Loads.{partner_one, ShowsSetupAndTerminal, one_terminal}}}
+use Rattle.office_history.proofs.{Kept.{Rises, same_records, shown_in}, KeptNumbers.have_runs, Offices.state_given, Places.alone_in}
 use Rattle.office_history.proofs.Once.{numbers_same, once_if_rising, place, place_of}
-use Rattle.std.specs.Prelude.{◌==◌, not, nat_le}
-use Rattle.terminal_core.specs.{declared.visits.Departure.Departure, OneByOne.GoOneByOne, Versions.newest}
+use Rattle.office_loading.specs.{Closed.{closed_content, ClosedContent}, OwnOffice.{AreInOrder, AreOwnNumbers, IsOwnOffice}, Tables.LoadsOwn}
+use Rattle.office_loading.{specs.Checks.{visits_after, AreOwnVisits}, proofs.Offices.after_all}
+use Rattle.office_desk.specs.{Answers.{AnswersNext, answer_by_model, answer_at, answer_to, code_of}, Telling.{Answers, Comes, Holds}, Desks.StandsFor}
+use Rattle.office_desk.specs.{Noting.{IsNow, NotesFault, NotesMemory}, Offices.{DeskHolds, HoldsOffice}, declared.beside.Beside.Beside, declared.desk.Desk.Desk}
+use Rattle.office_desk.specs.{Crashes.{Leaves, LeavesBehind}, Beside.IsOrNone, Finding.StaysBeside}
+use Rattle.office_desk.specs.Kept.{AnswersAt, AnswersByKept, AnswersOver, IsNotedFor, Office}
+use Rattle.office_desk.proofs.OwnNumbers.{refused_for, KeepsBeyond, account_there, by_number, keeps_own}
+use Rattle.office_desk.proofs.HoldLemmas.{answered_behind, refused_leaves, beside_same, next_by, nexts_are, number_of}
+use Rattle.office_tables.specs.{declared.table_fault.TableFault.TableFault, Answers.{IsNextOf, has_id}, declared.table_fault.TableFault.TheVariants.Memory}
+use Rattle.sqlite_rules.proofs.ListLemmas.{contains_had, has_contained, has_filtered, has_kept}
+use Rattle.terminal_core.specs.{State.{TerminalState, AreNumbered, IsWhole, last_from}, declared.visits.Departure.Departure, OneByOne.GoOneByOne}
+use Rattle.terminal_core.specs.{Versions.newest, Changes.{TerminalRows, rows_of, rows_with, visit_with_departure, rows_with_all, IsApplicable, AreApplicable}}
 use Rattle.terminal_core.specs.Rows.{VisitContent, ChangeContent, visit_opened, visit_closed, placed_at, moved_to, removed_from, listed_on, line_done, unlisted}
-use Rattle.terminal_core.specs.Changes.{TerminalRows, rows_of, rows_with, visit_with_departure, rows_with_all, IsApplicable, AreApplicable}
 use Rattle.terminal_core.proofs.Open.{kept_number, numbered_one_more}
-use Rattle.office_loading.proofs.Offices.{after_all}
-use Rattle.office_admission.proofs.{Takings.interchange_leads, Forming.runs_alone}
+use Rattle.office_rows.{specs.{Rows.Rows, Values.{interchange_values, partner_values}, Stored.HasRows, Shown.{AreNexts, columns_at}}, proofs.Listed.unmapped}
+use Rattle.office_rows.specs.{Tables.partner_table as partners_table, Opened.{NumberKept, OpenedRows, Shows, number_kept}}
 use Rattle.partner_core.specs.Answers as told
 use Rattle.office_replies.specs.declared.deliver.Response.TheVariants as response
 use Rattle.office_replies.specs.declared.deliver.Worst.TheVariants as worst

@@ -1,43 +1,36 @@
 -- What a desk answers by what it keeps.
+use Rattle.std.specs.{Prelude.{◌==◌, Contains, IsSorted, slice_set, find}, List.{range_with_len, AllByRecursion}, List.Sorted.IsPermutation, Ordering.nat_cmp}
+use Rattle.std.{specs.{Option.option_map, Result.IsErrAnd}, proofs.lemmas.Bool.{cond-true, cond-false, eq-eqb, ne_eqb, le-ltb, lt-ltb}}
 use Rattle.std.proofs.Common.{◌≡◌, ℕ, ◌+◌, ◌-◌, ◌≤◌, List, [], ◌∷◌, length, map, Bool, true, false, cond, Option, refl, sym, ap, ap₂, subst, ◌∙◌, arith, ◌<◌, None, Some, Result, Ok, Err, IfOk, IfErr, OnOk, OnErr, string_bytes, ◌++◌, append_assoc}
-use Rattle.std.specs.Prelude.{◌==◌, Contains, IsSorted, slice_set, find}
-use Rattle.std.specs.{List.range_with_len, List.AllByRecursion, List.Sorted.IsPermutation, Ordering.nat_cmp, Option.option_map, Result.IsErrAnd}
-use Rattle.std.proofs.lemmas.Bool.{cond-true, cond-false, eq-eqb, ne_eqb, le-ltb, lt-ltb}
-use Rattle.std.proofs.lemmas.List.Sorted.{Contains-permutation, IsPermutation-map, IsPermutation-sym, length_permutation}
+use Rattle.std.proofs.{lemmas.List.Sorted.{Contains-permutation, IsPermutation-map, IsPermutation-sym, length_permutation}, lemmas.List.append-nil}
+use Rattle.std.proofs.{lemmas.List.FromFn.length-map-range_with_len, lemmas.List.Elements.recursion_from_All}
 use Rattle.edi_messages.specs.declared.codes.PartnerKind.{PartnerKind}
-use Rattle.office_rows.specs.{Rows.Partner, Rows.Rows, Rows.Interchange, Effects.with_waiting, Effects.is_pair, Shown.AreNexts}
-use Rattle.office_rows.specs.{Stored.HasRows, Stored.columns_of, Opening.opening_rows, Tables.interchange_table, Values.interchange_values, InPlace.AreInPlace}
-use Rattle.office_admission.specs.{Taking.MachineState, Taking.interchange_taken, Taking.machine_of, Setups.SetupContent, Setups.setup_content}
-use Rattle.office_admission.specs.{declared.setup.Setup.Setup, Given.IsGiven, Accounts.content_after, Deliveries.deliveries_of}
-use Rattle.office_history.specs.After.{accounts_from, AreKeptOnce, machine_with, reply_in, AreAfter, SaysSame}
+use Rattle.office_rows.specs.{Rows.{Partner, Rows, Interchange}, Effects.{with_waiting, is_pair}, Shown.AreNexts, Stored.{HasRows, columns_of}}
+use Rattle.office_rows.specs.{Opening.opening_rows, Tables.interchange_table, Values.interchange_values, InPlace.AreInPlace}
+use Rattle.office_admission.specs.{Taking.{MachineState, interchange_taken, machine_of}, Setups.{SetupContent, setup_content}, declared.setup.Setup.Setup}
+use Rattle.office_admission.specs.{Given.IsGiven, Accounts.content_after, Deliveries.deliveries_of}
+use Rattle.office_history.specs.{After.{accounts_from, AreKeptOnce, machine_with, reply_in, AreAfter, SaysSame}, Laws.HasNoMigration}
 use Rattle.office_history.specs.Cascade.{TakenContent, AreTakenFrom, with_interchange, with_interchanges, with_run, text_in, texts_with}
-use Rattle.office_history.proofs.{Runs.changes_beside, Kept.head_in, Kept.tail_in}
+use Rattle.office_history.proofs.{Runs.changes_beside, Kept.{head_in, tail_in}}
+use Rattle.office_desk.specs.{Answers.{answer_by_model, AnswersNext}, Beside.{IsOf, IsBeside, nexts_after}, Offices.HoldsOffice, Telling.TakesNext, Calls.Leads}
+use Rattle.office_desk.specs.{declared.beside.Beside.Beside, Desks.IsSound, Noting.IsNow, Order.{IsInOrder, StandsInOrder}, declared.desk.Desk.Desk}
+use Rattle.office_desk.{specs.Kept.{Office, TakesIn, AnswersByKept, AnswersOrStays, LacksAnswer}, proofs.{OwnNumbers.answers_alike, AccountLemmas.sound_before}}
+use Rattle.office_desk.specs.Rebuilding.{DesksAreRebuilt, DesksKeepJournals, LooksStayInOrder, NewStoresAreInOrder, OpenedStandInOrder}
 use Rattle.office_desk.proofs.HoldLemmas.{id_of, ids_are, next_by, nexts_are, set_one, machine_same, reply_kept, number_within}
-use Rattle.std.proofs.{lemmas.List.FromFn.length-map-range_with_len, lemmas.List.append-nil, lemmas.List.Elements.recursion_from_All}
-use Rattle.sqlite.specs.{Effect.Database, State.State, Order.Row}
-use Rattle.partner_core.specs.{Answers.Taken, Answers.Waiting, Answers.answer_by, Deliveries.Delivery, Deliveries.run, Numbered.with_number}
-use Rattle.partner_core.specs.Standings.{standing_of, is_same_text}
-use Rattle.partner_core.specs.declared.runs.Standing.TheVariants.{Known, Other, Early, Next}
-use Rattle.office_replies.specs.{Contents.content_of, declared.deliver.Response.Response, Events.Event, Events.delivered}
-use Rattle.office_loading.specs.{Closed.ClosedContent, Tables.LoadsOwn}
-use Rattle.office_tables.specs.{Answers.IsKept, Answers.IsNextOf, Faults.IsOfStore, Faults.IsOfStoreOr, declared.interchanges.Kept.Kept}
-use Rattle.office_tables.specs.{declared.table_fault.TableFault.TableFault, Taking.IsNumbered, Writing.Commits, Order.HasRowsInOrder}
-use Rattle.office_tables.proofs.{WritesLemmas.of_store_or, WriteLemmas.text_kept}
-use Rattle.office_desk.specs.{Answers.answer_by_model, Answers.AnswersNext, Beside.IsOf, Beside.IsBeside, Beside.nexts_after, Offices.HoldsOffice}
-use Rattle.office_desk.specs.{Telling.TakesNext, declared.beside.Beside.Beside, Calls.Leads, Desks.IsSound, Noting.IsNow, Order.IsInOrder, Order.StandsInOrder}
-use Rattle.office_desk.specs.declared.desk.Desk.{Desk}
-use Rattle.office_desk.specs.Kept.{Office, TakesIn, AnswersByKept, AnswersOrStays, LacksAnswer}
 use Rattle.office_desk.proofs.DeliverLemmas.{KeepsAccounts, keeps_accounts, next_at, next_follows, office_once, office_with}
 use Rattle.office_desk.proofs.RunLoads.{early_loads, has_in_order, in_order, run_loads}
-use Rattle.sqlite.specs.declared.types.Value.TheVariants.{Blob}
-use Rattle.sqlite_trees.specs.declared.store.Store.{Ghosts}
+use Rattle.sqlite.specs.{Effect.Database, State.State, Order.Row, declared.types.Value.TheVariants.Blob}
+use Rattle.partner_core.specs.{Answers.{Taken, Waiting, answer_by}, Deliveries.{Delivery, run}, Numbered.with_number, Standings.{standing_of, is_same_text}}
+use Rattle.partner_core.specs.declared.runs.Standing.TheVariants.{Known, Other, Early, Next}
+use Rattle.office_replies.specs.{Contents.content_of, declared.deliver.Response.Response, Events.{Event, delivered}}
 use Rattle.office_replies.specs.Delivering.{AreAnswered, LeadsOn, events_behind, with_answered}
-use Rattle.office_history.specs.Laws.{HasNoMigration}
-use Rattle.office_parts.specs.{Journal.delivered_all, Journal.kept_texts, Kept.kept, Rebuilding.IsSameOffice}
-use Rattle.office_parts.proofs.{Again.rebuilding, Alike.kept_twice, Entries.again, Entries.delivered_content}
-use Rattle.office_parts.proofs.JournalOrders.{opening_is_in_order, stored_is_journal}
-use Rattle.office_desk.specs.Rebuilding.{DesksAreRebuilt, DesksKeepJournals, LooksStayInOrder, NewStoresAreInOrder, OpenedStandInOrder}
-use Rattle.office_desk.proofs.{OwnNumbers.answers_alike, AccountLemmas.sound_before}
+use Rattle.office_loading.specs.{Closed.ClosedContent, Tables.LoadsOwn}
+use Rattle.office_tables.specs.{Answers.{IsKept, IsNextOf}, Faults.{IsOfStore, IsOfStoreOr}, declared.interchanges.Kept.Kept, Taking.IsNumbered}
+use Rattle.office_tables.{specs.{declared.table_fault.TableFault.TableFault, Writing.Commits, Order.HasRowsInOrder}, proofs.WritesLemmas.of_store_or}
+use Rattle.office_tables.proofs.WriteLemmas.{text_kept}
+use Rattle.sqlite_trees.specs.declared.store.Store.{Ghosts}
+use Rattle.office_parts.{specs.{Journal.{delivered_all, kept_texts}, Kept.kept, Rebuilding.IsSameOffice}, proofs.{Again.rebuilding, Alike.kept_twice}}
+use Rattle.office_parts.proofs.{Entries.{again, delivered_content}, JournalOrders.{opening_is_in_order, stored_is_journal}}
 use Rattle.office_replies.specs.declared.deliver.Response.TheVariants as response
 
 -- ==== RunNexts: The partners' next numbers after a run: its own partner's follows it.

@@ -3,14 +3,13 @@ use Rattle.std.specs.Prelude.{◌≡◌, ◌⊎◌, ℕ, List, [], ◌∷◌, �
 use Rattle.sqlite.specs.{Held.state, State.State, Tree.Trees}
 use Rattle.sqlite_trees.specs.declared.store.Store.{Ghosts}
 use Rattle.edi_messages.specs.declared.codes.PartnerKind.{PartnerKind}
-use Rattle.office_admission.specs.Accounts.{AccountContent, AccountPair, added_as, known_as, refused_for, account_answer, content_after}
-use Rattle.office_replies.specs.{AccountAnswers.account_added_text, AccountAnswers.account_known_text, Events.Event, Events.added}
-use Rattle.office_replies.specs.declared.accounts.AccountAnswer.{AccountAnswer}
+use Rattle.office_admission.specs.{Accounts.{AccountContent, AccountPair, added_as, known_as, refused_for, account_answer, content_after}, Kinds.kind_named}
+use Rattle.office_admission.specs.Setups.{SetupContent, setup_content, setup_with_account}
+use Rattle.office_replies.specs.{AccountAnswers.{account_added_text, account_known_text}, Events.{Event, added}, declared.accounts.AccountAnswer.AccountAnswer}
 use Rattle.office_replies.specs.declared.accounts.AccountAnswer.TheVariants.{Added, Known, Refused, NotNow}
-use Rattle.office_rows.specs.{Effects.with_partner, Rows.Rows, Stored.HasRows, Stored.StoresRows}
-use Rattle.office_admission.specs.{Kinds.kind_named, Setups.SetupContent, Setups.setup_content, Setups.setup_with_account}
-use Rattle.office_desk.specs.{Crashes.IsAfter, Crashes.Leaves, Leaving.LeavesRows, declared.accounts.AccountStanding.AccountStanding}
-use Rattle.office_desk.specs.{declared.beside.Beside.Beside, declared.desk.Desk.Desk}
+use Rattle.office_rows.specs.{Effects.with_partner, Rows.Rows, Stored.{HasRows, StoresRows}}
+use Rattle.office_desk.specs.{Crashes.{IsAfter, Leaves}, Leaving.LeavesRows, declared.accounts.AccountStanding.AccountStanding, declared.beside.Beside.Beside}
+use Rattle.office_desk.specs.declared.desk.Desk.{Desk}
 use Rattle.office_desk.specs.declared.accounts.AccountStanding.TheVariants as standing
 
 -- ---- the answer

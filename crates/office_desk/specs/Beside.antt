@@ -1,6 +1,5 @@
 -- When what is in memory is beside the rows of the tables.
-use Rattle.std.specs.Prelude.{◌≡◌, ℕ, ◌+◌, List, length, map, Option, None, Some}
-use Rattle.std.specs.List.{range_with_len}
+use Rattle.std.specs.{Prelude.{◌≡◌, ℕ, ◌+◌, List, length, map, Option, None, Some}, List.range_with_len}
 use Rattle.partner_core.specs.Deliveries.{run}
 use Rattle.terminal_core.specs.State.{TerminalState}
 use Rattle.office_replies.specs.Events.{Event}

@@ -5,17 +5,15 @@ use Rattle.sqlite.specs.{Held.state, State.HasCleanDisk}
 use Rattle.sqlite_trees.specs.declared.store.Store.{Ghosts}
 use Rattle.edi_syntax.specs.Interchange.{interchange_of}
 use Rattle.terminal_core.specs.State.{TerminalState}
-use Rattle.office_replies.specs.{Adding.Adds, Delivering.AreAnswered, Delivering.Delivers, Delivering.LeadsOn, Events.Event}
-use Rattle.office_replies.specs.{declared.accounts.AccountAnswer.AccountAnswer, declared.deliver.Response.Response}
-use Rattle.office_reports.specs.{Looking.Look, Looking.Tells, declared.query.NotNow.NotNow}
-use Rattle.office_admission.specs.{Parties.parties_of, Setups.SetupContent, Setups.setup_content, Accounts.account_answer, Admission.admission}
+use Rattle.office_replies.specs.{Adding.Adds, Delivering.{AreAnswered, Delivers, LeadsOn}, Events.Event, declared.accounts.AccountAnswer.AccountAnswer}
+use Rattle.office_replies.specs.declared.deliver.Response.{Response}
+use Rattle.office_reports.specs.{Looking.{Look, Tells}, declared.query.NotNow.NotNow}
+use Rattle.office_admission.specs.{Parties.parties_of, Setups.{SetupContent, setup_content}, Accounts.account_answer, Admission.admission}
 use Rattle.office_admission.specs.Refusals.{RefusedSurely}
 use Rattle.office_rows.specs.{Rows.Rows, Stored.HasRows, Tables.office_schema}
-use Rattle.office_desk.specs.Accounts.{AddsOver, AnswersAccount, LeavesAdded, LeavesAddedOver, Says}
-use Rattle.office_desk.specs.{Answers.AnswersNext, Desks.IsSound, Desks.StandsFor, Desks.Refuses, Kept.AnswersOver, Kept.Office, Leaving.LeavesOver}
-use Rattle.office_desk.specs.{Looking.DeskShows, Looking.IsOpenAt, Looking.ShowsUnfitReply, Offices.DeskHolds, Order.AddsInOrder, Order.DeliversInOrder}
-use Rattle.office_desk.specs.declared.desk.Desk.{Desk}
-use Rattle.office_desk.specs.Crashes.{Leaves, LeavesAll, LeavesBehind, LeavesNoMore}
+use Rattle.office_desk.specs.{Accounts.{AddsOver, AnswersAccount, LeavesAdded, LeavesAddedOver, Says}, Answers.AnswersNext, Desks.{IsSound, StandsFor, Refuses}}
+use Rattle.office_desk.specs.{Kept.{AnswersOver, Office}, Leaving.LeavesOver, Looking.{DeskShows, IsOpenAt, ShowsUnfitReply}, Offices.DeskHolds}
+use Rattle.office_desk.specs.{Order.{AddsInOrder, DeliversInOrder}, declared.desk.Desk.Desk, Crashes.{Leaves, LeavesAll, LeavesBehind, LeavesNoMore}}
 use Rattle.office_desk.specs.Noting.{IsNow, NotesCause, NotesFault, NotesLook, NotesStore}
 
 -- A text was delivered, with that response. From any events it is answered at its place; over any office's rows by

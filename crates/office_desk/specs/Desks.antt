@@ -2,9 +2,9 @@
 use Rattle.std.specs.Prelude.{◌≡◌, ℕ, List, Err, IsTrue}
 use Rattle.sqlite.specs.{Held.state, State.HasCleanDisk}
 use Rattle.sqlite_trees.specs.declared.store.Store.{Ghosts}
-use Rattle.edi_syntax.specs.{Interchange.interchange_of, Interchange.segments_in, Envelope.header_of}
+use Rattle.edi_syntax.specs.{Interchange.{interchange_of, segments_in}, Envelope.header_of}
 use Rattle.office_replies.specs.{Events.Event, Contents.GivesOrNotNow, declared.deliver.Fault.Fault, declared.deliver.Response.Response}
-use Rattle.office_admission.specs.{Parties.parties_of, Setups.SetupContent, Setups.setup_content, Admission.admission, Refusals.refusal_of}
+use Rattle.office_admission.specs.{Parties.parties_of, Setups.{SetupContent, setup_content}, Admission.admission, Refusals.refusal_of}
 use Rattle.office_history.specs.After.{SaysSame, content_after}
 use Rattle.office_desk.specs.{Telling.Holds, Crashes.Leaves, declared.desk.Desk.Desk}
 

@@ -6,10 +6,10 @@ use Rattle.office_replies.specs.Events.{Event}
 use Rattle.office_loading.specs.Closed.{ClosedContent}
 use Rattle.office_rows.specs.{Rows.Rows, Stored.HasRows}
 use Rattle.office_admission.specs.{Given.IsGiven, Setups.SetupContent}
-use Rattle.office_tables.specs.{Answers.HasUnfitReply, Answers.IsKept, Faults.IsOfStoreOr, declared.interchanges.Kept.Kept}
+use Rattle.office_tables.specs.{Answers.{HasUnfitReply, IsKept}, Faults.IsOfStoreOr, declared.interchanges.Kept.Kept}
 use Rattle.office_tables.specs.declared.table_fault.TableFault.{TableFault}
 use Rattle.office_history.specs.After.{AreAfter}
-use Rattle.office_desk.specs.{Beside.IsAt, Beside.IsBeside, Beside.IsOrNone, Offices.HoldsOffice, declared.beside.Beside.Beside, declared.taking.Found.Found}
+use Rattle.office_desk.specs.{Beside.{IsAt, IsBeside, IsOrNone}, Offices.HoldsOffice, declared.beside.Beside.Beside, declared.taking.Found.Found}
 
 -- with any rows in the database, what is beside them in the end is theirs if what was there before was: of those
 -- after some events, and of those of an office

@@ -8,7 +8,7 @@ use Rattle.office_rows.specs.{Rows.Rows, Stored.HasRows, Tables.interchange_tabl
 use Rattle.office_history.specs.After.{AreAfter}
 use Rattle.office_reports.specs.Looking.{Look, of_archive, report, texts_after}
 use Rattle.office_loading.specs.Pages.{TellsLines, most_page_bytes}
-use Rattle.office_desk.specs.{Causes.AsksUnfitReply, Reports.DeskTells, Reports.IsOpenFor, Reports.TellsAfter, declared.desk.Desk.Desk}
+use Rattle.office_desk.specs.{Causes.AsksUnfitReply, Reports.{DeskTells, IsOpenFor, TellsAfter}, declared.desk.Desk.Desk}
 
 -- ---- the kept texts
 

@@ -1,9 +1,9 @@
 -- A desk over the rows of an office, whether or not events led to them.
 use Rattle.std.specs.Prelude.{◌≡◌, ◌⊎◌, Err, Option, Some}
-use Rattle.sqlite.specs.{Effect.Database, Held.Held, Held.state, State.State, State.HasCleanDisk, State.IsUnchanged}
+use Rattle.sqlite.specs.{Effect.Database, Held.{Held, state}, State.{State, HasCleanDisk, IsUnchanged}}
 use Rattle.sqlite_trees.specs.declared.store.Store.{Ghosts}
 use Rattle.terminal_core.specs.State.{TerminalState}
-use Rattle.office_loading.specs.{Closed.ClosedContent, Closed.closed_content, Tables.FailsToLoadOwn, Tables.LoadsOwn}
+use Rattle.office_loading.specs.{Closed.{ClosedContent, closed_content}, Tables.{FailsToLoadOwn, LoadsOwn}}
 use Rattle.office_rows.specs.{Rows.Rows, Stored.HasRows, Tables.office_schema}
 use Rattle.office_admission.specs.Setups.{SetupContent, setup_content}
 use Rattle.office_tables.specs.{Faults.IsOfStore, Reading.Reads, declared.table_fault.TableFault.TableFault}

@@ -1,17 +1,16 @@
 -- A desk's rows are in the order of arrival, after any call; and what they keep, delivered in that order to a new desk,
 -- makes the same office.
 use Rattle.std.specs.Prelude.{◌≡◌, ℕ, ◌<◌, ◌≤◌, List, [], All, drop, length, map, Option, None, Some}
-use Rattle.sqlite.specs.{Effect.Database, Held.Held, Held.state, Order.column}
-use Rattle.sqlite.specs.declared.types.Value.TheVariants.{Blob}
+use Rattle.sqlite.specs.{Effect.Database, Held.{Held, state}, Order.column, declared.types.Value.TheVariants.Blob}
 use Rattle.sqlite_trees.specs.declared.store.Store.{Ghosts}
-use Rattle.office_replies.specs.{Delivering.AreAnswered, Delivering.LeadsOn, Events.Event, declared.deliver.Response.Response}
+use Rattle.office_replies.specs.{Delivering.{AreAnswered, LeadsOn}, Events.Event, declared.deliver.Response.Response}
 use Rattle.office_rows.specs.{Opening.opening_rows, Stored.HasRows, Tables.interchange_table, Places.ArePlaced}
 use Rattle.office_admission.specs.Setups.{SetupContent}
 use Rattle.office_history.specs.{After.content_after, Laws.HasNoMigration}
 use Rattle.office_parts.specs.Journal.{kept_texts}
 use Rattle.office_loading.specs.Pages.{IsPage, lines_of, most_page_bytes}
-use Rattle.office_desk.specs.{Answers.AnswersNext, Calls.Leads, Calls.OnlyLooks, Desks.IsSound, Desks.OpensAt, Looking.DeskHands, Noting.IsNow}
-use Rattle.office_desk.specs.{Offices.OpensOffice, Order.IsInOrder, Order.StandsInOrder, declared.desk.Desk.Desk}
+use Rattle.office_desk.specs.{Answers.AnswersNext, Calls.{Leads, OnlyLooks}, Desks.{IsSound, OpensAt}, Looking.DeskHands, Noting.IsNow, Offices.OpensOffice}
+use Rattle.office_desk.specs.{Order.{IsInOrder, StandsInOrder}, declared.desk.Desk.Desk}
 
 -- ---- the order of arrival
 

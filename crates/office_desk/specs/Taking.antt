@@ -1,16 +1,15 @@
 -- What taking a delivery in does to the tables, and to what is beside them.
 use Rattle.std.specs.Prelude.{◌≡◌, ◌⊎◌, ℕ, ◌≤◌, List, [], ◌∷◌, ◌++◌, Option, None, Result, Ok, Err, IfErr, IfOk, IsTrue, OnErr}
-use Rattle.sqlite.specs.{Effect.Database, State.State, State.HasCleanDisk, Tree.Trees}
+use Rattle.sqlite.specs.{Effect.Database, State.{State, HasCleanDisk}, Tree.Trees}
 use Rattle.edi_syntax.specs.Numbers.{last_number}
 use Rattle.partner_core.specs.Deliveries.{Delivery}
-use Rattle.office_replies.specs.{Events.Event, Events.delivered, declared.deliver.Response.Response}
+use Rattle.office_replies.specs.{Events.{Event, delivered}, declared.deliver.Response.Response}
 use Rattle.office_loading.specs.Closed.{ClosedContent}
 use Rattle.office_rows.specs.{Rows.Rows, Stored.HasRows}
 use Rattle.office_admission.specs.{Setups.SetupContent, declared.setup.Setup.Setup, Outcomes.IsAdmitted, Taking.machine_of}
 use Rattle.office_tables.specs.{Faults.IsOfStoreOr, declared.table_fault.TableFault.TableFault, DeliveryReading.HasUnfitBehind, Taking.IsNumbered}
-use Rattle.office_desk.specs.{Crashes.Leaves, Crashes.LeavesEither, Finding.KeepsBeside, Kept.AnswersOrStays, Kept.Office}
-use Rattle.office_desk.specs.{Leaving.LeavesRows, Leaving.LeavesTakenOver, Offices.HoldsOffice, declared.beside.Beside.Beside}
-use Rattle.office_desk.specs.declared.taking.Delivery.{Delivery as Delivered}
+use Rattle.office_desk.specs.{Crashes.{Leaves, LeavesEither}, Finding.KeepsBeside, Kept.{AnswersOrStays, Office}, Leaving.{LeavesRows, LeavesTakenOver}}
+use Rattle.office_desk.specs.{Offices.HoldsOffice, declared.beside.Beside.Beside, declared.taking.Delivery.Delivery as Delivered}
 use Rattle.office_desk.specs.Telling.{Answers, Comes, Holds, IsRunDone, TakesNext}
 
 -- ---- what comes

@@ -2,12 +2,11 @@
 use Rattle.std.specs.Prelude.{◌≡◌, ℕ, ◌+◌, ◌-◌, List, [], ◌∷◌, ◌++◌, length, slice_set, Option, Some, IsTrue}
 use Rattle.sqlite.specs.{Effect.Database, State.State, Tree.Trees}
 use Rattle.edi_syntax.specs.Interchange.{interchange_of}
-use Rattle.partner_core.specs.{Answers.Taken, Deliveries.Delivery, Deliveries.delivery}
-use Rattle.office_replies.specs.{Events.Event, Events.delivered, Contents.content_of, declared.deliver.Response.Response}
-use Rattle.office_rows.specs.{Rows.Rows, Stored.HasRows, Stored.StoresRows}
-use Rattle.office_admission.specs.{Given.IsGiven, Setups.SetupContent, declared.setup.Setup.Setup, Taking.MachineState, Taking.machine_of}
-use Rattle.office_history.specs.{After.AreAfter, After.content_after, Laws.IsFor, Laws.answer_model_of}
-use Rattle.office_history.specs.Cascade.{TakenContent, AreTakenFrom, texts_with, with_run}
+use Rattle.partner_core.specs.{Answers.Taken, Deliveries.{Delivery, delivery}}
+use Rattle.office_replies.specs.{Events.{Event, delivered}, Contents.content_of, declared.deliver.Response.Response}
+use Rattle.office_rows.specs.{Rows.Rows, Stored.{HasRows, StoresRows}}
+use Rattle.office_admission.specs.{Given.IsGiven, Setups.SetupContent, declared.setup.Setup.Setup, Taking.{MachineState, machine_of}}
+use Rattle.office_history.specs.{After.{AreAfter, content_after}, Laws.{IsFor, answer_model_of}, Cascade.{TakenContent, AreTakenFrom, texts_with, with_run}}
 use Rattle.office_desk.specs.{Answers.answer_by_model, Beside.IsBeside, declared.beside.Beside.Beside, declared.taking.Delivery.Delivery as Delivered}
 
 -- the text is taken, and those that become next by it, and the partner's number is raised by the length of this run;

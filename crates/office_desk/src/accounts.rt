@@ -1,13 +1,12 @@
 ghost use Rattle.std.specs.Prelude.{◌≡◌, ◌<◌, false, length, string_bytes, IfOk, OnOk, OnErr, IsTrue, ◌≤◌, ◌++◌, [], ◌∷◌, Some, IfErr, map, option_map};
-ghost use Rattle.office_tables.specs.{DeliveryReading.OnlyReads, Writing.IsWholeInOrder, Writing.WritesWhole, Faults.IsOfStoreOr, Reading.Reads};
-ghost use Rattle.office_desk.specs.{Accounts.IsLengthened, Accounts.IsSameOrNone, Causes.LacksNumbers, Causes.LacksSome};
+ghost use Rattle.office_tables.specs.{DeliveryReading.OnlyReads, Writing.{IsWholeInOrder, WritesWhole}, Faults.IsOfStoreOr, Reading.Reads};
+ghost use Rattle.office_desk.specs.{Accounts.{IsLengthened, IsSameOrNone}, Causes.{LacksNumbers, LacksSome}};
 ghost use Rattle.office_desk.specs.Reports.{AreLookedUp, IsLookedUp, TellsPartners, TellsNext, TellsPartner, partner_called};
 ghost use Rattle.office_reports.specs.Partners.{partner_content};
 ghost use Rattle.office_replies.specs.AccountAnswers.{account_added_text};
 ghost use Rattle.office_rows.specs.{Effects.with_partner, Rows.Rows, Stored.HasRows};
-ghost use Rattle.office_admission.specs.{Limits.most_partners, PartyCodes.is_party_code};
-ghost use Rattle.office_admission.specs.Setups.{setup_content, setup_with_account, account_contents};
-ghost use Rattle.sqlite.specs.{Held.state, State.HasCleanDisk, State.Survives};
+ghost use Rattle.office_admission.specs.{Limits.most_partners, PartyCodes.is_party_code, Setups.{setup_content, setup_with_account, account_contents}};
+ghost use Rattle.sqlite.specs.{Held.state, State.{HasCleanDisk, Survives}};
 
 use crate::beside::Beside;
 use edi_messages::PartnerKind;

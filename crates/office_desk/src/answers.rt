@@ -1,16 +1,13 @@
-ghost use Rattle.std.specs.Option.{option_map, option_and_then};
-ghost use Rattle.std.specs.Prelude.{◌≡◌, None, Some, IfOk, string_bytes, ◌≤◌, ◌⊎◌, IfErr, is_some, length, OnOk};
-ghost use Rattle.office_tables.specs.{DeliveryReading.OnlyReads, Answers.HasUnfitReply, Answers.LacksNext, Faults.IsOfStoreOr, Reading.Reads};
-ghost use Rattle.office_desk.specs.{Answers.answer_by_model, Causes.AsksUnreadable, Noting.Notes, Noting.NotesMemory};
+ghost use Rattle.std.specs.{Option.{option_map, option_and_then}, Prelude.{◌≡◌, None, Some, IfOk, string_bytes, ◌≤◌, ◌⊎◌, IfErr, is_some, length, OnOk}};
+ghost use Rattle.office_tables.specs.{DeliveryReading.OnlyReads, Answers.{HasUnfitReply, LacksNext}, Faults.IsOfStoreOr, Reading.Reads};
+ghost use Rattle.office_desk.specs.{Answers.answer_by_model, Causes.AsksUnreadable, Noting.{Notes, NotesMemory}};
 ghost use Rattle.office_desk.specs.Reports.{TellsOf, TellsReply, reply_text, ticket_if_taken, IsOpenFor};
-ghost use Rattle.office_history.specs.{After.AreKeptOnce, After.reply_in, Cascade.text_in};
+ghost use Rattle.office_history.specs.{After.{AreKeptOnce, reply_in}, Cascade.text_in};
 ghost use Rattle.office_reports.specs.{Contrls.contrl_in, Picture.IsPicture};
 ghost use Rattle.office_replies.specs.Contents.{content_of};
 ghost use Rattle.office_rows.specs.{Rows.Rows, Stored.HasRows};
 ghost use Rattle.office_admission.specs.{Limits.most_partners, Setups.setup_content};
-ghost use Rattle.partner_core.specs.Answers.{Clash, Repeat, Waiting, answer_by};
-ghost use Rattle.partner_core.specs.Standings.{standing_of};
-ghost use Rattle.partner_core.specs.declared.runs.Standing.TheVariants.{Known};
+ghost use Rattle.partner_core.specs.{Answers.{Clash, Repeat, Waiting, answer_by}, Standings.standing_of, declared.runs.Standing.TheVariants.Known};
 ghost use Rattle.sqlite.specs.{Held.state, State.HasCleanDisk};
 
 use crate::accounts::{tell_next, tell_partner, tell_partners};

@@ -1,10 +1,10 @@
 ghost use Rattle.std.specs.Prelude.{◌≡◌, ◌≤◌, ◌-◌, length, slice_set, Some, IfOk, IfErr, option_map, string_bytes};
 ghost use Rattle.office_loading.specs.{Closed.closed_content, Tables.LoadsOwn};
-ghost use Rattle.office_tables.specs.{DeliveryReading.OnlyReads, Answers.LacksNext, Faults.IsOfStore, Faults.IsOfStoreOr, Reading.Reads};
-ghost use Rattle.office_desk.specs.{Causes.LacksSome, Finding.StaysBeside, Offices.FailsToOpen, Offices.HoldsOffice, Reports.TellsMetrics};
+ghost use Rattle.office_tables.specs.{DeliveryReading.OnlyReads, Answers.LacksNext, Faults.{IsOfStore, IsOfStoreOr}, Reading.Reads};
+ghost use Rattle.office_desk.specs.{Causes.LacksSome, Finding.StaysBeside, Offices.{FailsToOpen, HoldsOffice}, Reports.TellsMetrics};
 ghost use Rattle.office_reports.specs.Metrics.{ready_text};
 ghost use Rattle.office_rows.specs.{Rows.Rows, Shown.AreNexts, Stored.HasRows, Tables.office_schema};
-ghost use Rattle.office_admission.specs.{Given.IsGiven, Limits.most_partners, Setups.SetupContent, Setups.setup_content};
+ghost use Rattle.office_admission.specs.{Given.IsGiven, Limits.most_partners, Setups.{SetupContent, setup_content}};
 ghost use Rattle.partner_core.specs.Numbered.{with_number};
 ghost use Rattle.sqlite.specs.{Held.state, State.HasCleanDisk};
 ghost use Rattle.terminal_core.specs.State.{TerminalState};

@@ -1,8 +1,7 @@
 //! Laws of the definitions: each function has an empty body, and its clauses are the laws of one topic.
 
-ghost use Rattle.office_desk.specs.{Alike.SameSetupsAnswerAlike, Calls.DeliveriesAreAnswered, Calls.DeliveriesOutlastCrashes};
-ghost use Rattle.office_desk.specs.Rebuilding.{DesksKeepJournals, DesksHandOutJournals, DesksAreRebuilt};
-ghost use Rattle.office_desk.specs.Rebuilding.{NewStoresAreInOrder, OpenedStandInOrder, LooksStayInOrder, DeliveriesStayInOrder};
+ghost use Rattle.office_desk.specs.{Alike.SameSetupsAnswerAlike, Calls.{DeliveriesAreAnswered, DeliveriesOutlastCrashes}};
+ghost use Rattle.office_desk.specs.Rebuilding.{DesksKeepJournals, DesksHandOutJournals, DesksAreRebuilt, NewStoresAreInOrder, OpenedStandInOrder, LooksStayInOrder, DeliveriesStayInOrder};
 
 use sqlite::Alter;
 

@@ -1,16 +1,14 @@
 ghost use Rattle.std.specs.Prelude.{◌≡◌, None, Some, false, IfOk, IsTrue, OnOk, ◌≤◌, IfErr, ◌+◌, List, MatchOption, length, map, nat_lt, if◌then◌else◌};
-ghost use Rattle.office_admission.specs.Accounts.{AccountPair, account_answer, added_as, by_number, by_own_kind, refused_for};
+ghost use Rattle.office_admission.specs.{Accounts.{AccountPair, account_answer, added_as, by_number, by_own_kind, refused_for}, Given.IsGiven};
+ghost use Rattle.office_admission.specs.{Kinds.kind_named, Limits.most_partners, Parties.partner_from, PartyCodes.is_party_code, Setups.setup_content};
 ghost use Rattle.office_loading.specs.Closed.{ClosedContent, closed_content};
-ghost use Rattle.office_tables.specs.{DeliveryReading.OnlyReads, Writing.EndsIdle, Writing.IsWholeInOrder, Writing.WritesWhole};
-ghost use Rattle.office_desk.specs.{Accounts.standing_content, Answers.answer_by_model, Finding.IsFound, Finding.IsNotFound, Finding.IsOpenIfKept};
-ghost use Rattle.office_desk.specs.{Noting.IsNow, Order.RunsInOrder, Order.TakesInOrder, Telling.delivery_of};
-ghost use Rattle.office_desk.specs.Taking.{IsDelivered, IsNew, TakesDelivery, TakesRun};
+ghost use Rattle.office_tables.specs.{DeliveryReading.OnlyReads, Writing.{EndsIdle, IsWholeInOrder, WritesWhole}};
+ghost use Rattle.office_desk.specs.{Accounts.standing_content, Answers.answer_by_model, Finding.{IsFound, IsNotFound, IsOpenIfKept}, Noting.IsNow};
+ghost use Rattle.office_desk.specs.{Order.{RunsInOrder, TakesInOrder}, Telling.delivery_of, Taking.{IsDelivered, IsNew, TakesDelivery, TakesRun}};
 ghost use Rattle.office_replies.specs.Contents.{content_of};
 ghost use Rattle.office_rows.specs.Effects.{with_waiting};
-ghost use Rattle.office_admission.specs.{Given.IsGiven, Kinds.kind_named, Limits.most_partners, Parties.partner_from, PartyCodes.is_party_code};
-ghost use Rattle.office_admission.specs.Setups.{setup_content};
 ghost use Rattle.partner_core.specs.{Answers.Waiting, Numbered.with_number};
-ghost use Rattle.sqlite.specs.{Held.state, State.HasCleanDisk, State.Survives};
+ghost use Rattle.sqlite.specs.{Held.state, State.{HasCleanDisk, Survives}};
 ghost use Rattle.office_replies.specs.declared.accounts.AccountFault.TheVariants as fault;
 
 use crate::accounts::AccountStanding;

@@ -1,30 +1,24 @@
 -- The rows after deliveries are those of an office.
+use Rattle.std.specs.{Prelude.{cond, Contains, codes}, List.Sorted.IsPermutation, Ordering.{nat_cmp, ordering_then}, Cmp.Lexicographic.slice_cmp, Str.bytes_eq}
 use Rattle.std.proofs.Common.{◌≡◌, ℕ, ◌+◌, ◌<◌, ◌≤◌, inl, inr, List, [], ◌∷◌, length, map, Bool, false, is_some, refl, sym, ap, subst, ◌∙◌, arith, Ordering, Equal, Greater, is_lt}
-use Rattle.std.specs.Prelude.{cond, Contains, codes}
-use Rattle.std.specs.{List.Sorted.IsPermutation, Ordering.nat_cmp, Ordering.ordering_then, Cmp.Lexicographic.slice_cmp, Str.bytes_eq}
-use Rattle.std.proofs.{lemmas.Bool.cases_order, lemmas.Bool.Decides.nat_tests, lemmas.List.Sorted.IsPermutation-refl, lemmas.List.Sorted.sum_by-IsPermutation}
-use Rattle.sqlite.specs.Effect.{Database}
-use Rattle.sqlite.specs.declared.types.Value.TheVariants.{Text}
+use Rattle.std.proofs.{lemmas.Bool.cases_order, lemmas.Bool.Decides.nat_tests, lemmas.List.Sorted.{IsPermutation-refl, sum_by-IsPermutation}}
+use Rattle.sqlite.specs.{Effect.Database, declared.types.Value.TheVariants.Text}
 use Rattle.sqlite_value.specs.Order.{value_cmp}
-use Rattle.partner_core.specs.{Deliveries.Delivery, Deliveries.first_text, Deliveries.run, Machine.Taking, Order.state}
-use Rattle.partner_core.proofs.{Orders.some_of, Orders.used_within_run, Orders.free_after_run, OnceEach.within_replied}
-use Rattle.terminal_core.specs.{Changes.TerminalRows, Changes.rows_of, Forms.IsWellFormed, OneByOne.GoOneByOne, Rows.VisitContent}
-use Rattle.terminal_core.specs.{State.TerminalState, State.IsWhole, Versions.newest, declared.change.Version.Version}
+use Rattle.partner_core.{specs.{Deliveries.{Delivery, first_text, run}, Machine.Taking, Order.state}, proofs.Orders.{some_of, used_within_run, free_after_run}}
+use Rattle.partner_core.proofs.OnceEach.{within_replied}
+use Rattle.terminal_core.specs.{Changes.{TerminalRows, rows_of}, Forms.IsWellFormed, OneByOne.GoOneByOne, Rows.VisitContent, State.{TerminalState, IsWhole}}
+use Rattle.terminal_core.specs.{Versions.newest, declared.change.Version.Version, declared.change.Version.TheVariants.{First, Second, Third}}
 use Rattle.office_replies.specs.Events.{Event}
 use Rattle.office_admission.specs.{Given.IsGiven, Setups.SetupContent, Taking.MachineState, Accounts.content_after, Deliveries.deliveries_of}
-use Rattle.office_rows.specs.Rows.{Partner, Interchange, PlaceContent, ListingContent, Setting, Rows}
+use Rattle.office_admission.proofs.Adding.{given_after}
+use Rattle.office_rows.specs.{Rows.{Partner, Interchange, PlaceContent, ListingContent, Setting, Rows}, Stored.{AreRows, HasRows}, Migrated.migrated_settings}
 use Rattle.office_rows.specs.Values.{number_value, partner_values, interchange_values, visit_values, place_values, line_values, setting_values, block_values}
-use Rattle.office_rows.specs.{Stored.AreRows, Stored.HasRows, Effects.stands_for, Effects.is_line, Opening.version_text, Opening.settings_in}
-use Rattle.office_rows.specs.Migrated.{migrated_settings}
-use Rattle.office_rows.specs.Opened.{number_kept, reply_values, OpenedRows, Shows}
+use Rattle.office_rows.specs.{Effects.{stands_for, is_line}, Opening.{version_text, settings_in}, Opened.{number_kept, reply_values, OpenedRows, Shows}}
 use Rattle.office_rows.specs.Office.{settings_by_name, AreAccounts, AreKept, HasAccounts, IsOffice}
 use Rattle.office_rows.specs.Tables.{partner_table, interchange_table, visit_table, place_table, listing_table, block_table, setting_table as settings_table}
-use Rattle.terminal_core.specs.declared.change.Version.TheVariants.{First, Second, Third}
-use Rattle.office_admission.proofs.Adding.{given_after}
-use Rattle.office_history.proofs.{Places.sound_in, Accounted.state_accounted, Accounted.delivered_within, Afters.state_sound, Afters.unreplied}
-use Rattle.office_history.proofs.{Ground.state_on_ground, Kept.accounts_are, Kept.Rises, KeptNumbers.KeepsNumbers, KeptNumbers.numbers_kept}
-use Rattle.office_history.specs.After.{SaysSame, accounts_from, machine_after, opening_of, taking_in, AreAfter, AreAfterBy}
-use Rattle.office_history.specs.Laws.{AreRowsByKey, RowsAreAnOffice, OlderRowsAreAnOffice}
+use Rattle.office_history.{specs.After.{SaysSame, accounts_from, machine_after, opening_of, taking_in, AreAfter, AreAfterBy}, proofs.Places.sound_in}
+use Rattle.office_history.{specs.Laws.{AreRowsByKey, RowsAreAnOffice, OlderRowsAreAnOffice}, proofs.Accounted.{state_accounted, delivered_within}}
+use Rattle.office_history.proofs.{Afters.{state_sound, unreplied}, Ground.state_on_ground, Kept.{accounts_are, Rises}, KeptNumbers.{KeepsNumbers, numbers_kept}}
 use Rattle.office_history.proofs.Loads.{accounts_rise, numbered_rise, letter_key, blocks_rise, any_head, places_same, lines_same, one_terminal, one_setup, ShowsSetupAndTerminal, shown_by_office}
 use Rattle.office_history.proofs.Runs.{InTurn, is_before, number_order, text_order, shows_records, by_keys}
 

@@ -1,9 +1,7 @@
 //! What follows only from the definitions of rows and events. Each function has an empty body, and its clauses
 //! are the laws of one topic: a call brings them into the caller's proof.
 
-ghost use Rattle.office_history.specs.Laws.{ChangesAgree, OpeningIsAfterNone, DeliveriesLeaveSound, NumbersAreWithin, NextFollowsRun};
-ghost use Rattle.office_history.specs.Laws.{RefusedAddsNoRow, UsedAddsNoRow, EarlyAddsWaiting, NextAddsRun, RowsAnswer, LoadingGivesState, LoadingGivesSetup};
-ghost use Rattle.office_history.specs.Laws.{RowsAreAnOffice, OlderRowsAreAnOffice, AccountAddsRow, MigrationGoesOn};
+ghost use Rattle.office_history.specs.Laws.{ChangesAgree, OpeningIsAfterNone, DeliveriesLeaveSound, NumbersAreWithin, NextFollowsRun, RefusedAddsNoRow, UsedAddsNoRow, EarlyAddsWaiting, NextAddsRun, RowsAnswer, LoadingGivesState, LoadingGivesSetup, RowsAreAnOffice, OlderRowsAreAnOffice, AccountAddsRow, MigrationGoesOn};
 
 /// What the rows are after no event, and what one event more makes of them.
 pub fn one_event_more()

@@ -1,22 +1,18 @@
 -- The rows that were copied are those of the old store, brought to the newest version, and its interchanges are as there.
-use Rattle.std.proofs.Common.{◌≡◌, ℕ, List, [], ◌∷◌, map, refl, sym, ap, subst, ◌∙◌, take}
-use Rattle.std.specs.List.Sorted.{IsPermutation}
+use Rattle.std.{specs.List.Sorted.IsPermutation, proofs.Common.{◌≡◌, ℕ, List, [], ◌∷◌, map, refl, sym, ap, subst, ◌∙◌, take}}
 use Rattle.std.proofs.lemmas.List.Sorted.{IsPermutation-trans, IsPermutation-map}
-use Rattle.sqlite.specs.{Order.Row, Table.Table, Tree.Trees, Effect.Database, State.State, State.HasCleanDisk}
+use Rattle.sqlite.specs.{Order.Row, Table.Table, Tree.Trees, Effect.Database, State.{State, HasCleanDisk}}
 use Rattle.sqlite_trees.proofs.ListLemmas.{map-map}
 use Rattle.terminal_core.specs.State.{TerminalState}
 use Rattle.office_admission.specs.Setups.{SetupContent}
 use Rattle.office_rows.specs.Tables.{partner_table, interchange_table, visit_table, place_table, listing_table, setting_table, block_table, office_tables, no_schema, office_schema}
-use Rattle.office_rows.specs.{Rows.Interchange, Rows.Rows, Steps.Turns, Shown.columns_at, Shown.ShowsTable, Opened.OpenedRows, Opened.Shows}
-use Rattle.office_rows.specs.{Bare.HasBareRows, Bare.with_weights, Migrated.migrated_rows, Migrated.migrated_settings, Migrated.migrated_opened}
-use Rattle.office_rows.specs.Office.{IsOffice}
+use Rattle.office_rows.specs.{Rows.{Interchange, Rows}, Steps.Turns, Shown.{columns_at, ShowsTable}, Opened.{OpenedRows, Shows}, Office.IsOffice}
+use Rattle.office_rows.{specs.{Bare.{HasBareRows, with_weights}, Migrated.{migrated_rows, migrated_settings, migrated_opened}}, proofs.Creating.stores}
 use Rattle.office_rows.specs.Values.{partner_values, interchange_values, visit_values, place_values, line_values, setting_values, block_values}
 use Rattle.office_rows.specs.Stored.{Holds, AreRows, HasRows, HasEmpty, columns_of}
-use Rattle.office_rows.proofs.Creating.{stores}
 use Rattle.office_tables.specs.{declared.table_fault.TableFault.TableFault, Faults.IsOfStore, Order.HasRowsInOrder}
 use Rattle.office_tables.specs.declared.table_fault.TableFault.TheVariants.{Store, Damaged, Version, Memory}
-use Rattle.office_loading.specs.{Older.FailsToLoadOlder, Copies.AreStanding, Copies.copied_rows, Copies.MakesCopy}
-use Rattle.office_loading.specs.Migration.{IsCopy, IsMigration, StandAlike}
+use Rattle.office_loading.specs.{Older.FailsToLoadOlder, Copies.{AreStanding, copied_rows, MakesCopy}, Migration.{IsCopy, IsMigration, StandAlike}}
 use Rattle.office_loading.proofs.OlderOffice.{renamed_columns, renamed_all}
 
 module _ {A : Type 0} (table : Table) (values : A → Row) where

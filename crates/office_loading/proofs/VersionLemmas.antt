@@ -1,37 +1,27 @@
 -- The row of the version.
+use Rattle.std.specs.{List.{AllByRecursion, AllZip, list_any}, Str.bytes_eq, Cmp.Lexicographic.slice_cmp, Ordering.{nat_cmp, int_cmp, ordering_then}}
+use Rattle.std.{specs.Prelude.Vec, proofs.{lemmas.Bool.and_parts, lemmas.Slice.Eq.bytes_eq-Decides, lemmas.Map.Text.is_eq-slice_cmp, lemmas.Int.ints}}
 use Rattle.std.proofs.Common.{◌≡◌, ℕ, List, [], ◌∷◌, map, refl, sym, subst, subst₂, Ordering, Equal, IsPermutation, IsSorted, Contains, Result, Ok, Err, inl, inr, ap, ap₂, ◌∙◌, true, false, codes, IfErr, pos, arith, Less, Greater, is_eq, ◌^◌, Bool, ◌||◌}
-use Rattle.std.specs.{List.AllByRecursion, List.AllZip, List.list_any, Str.bytes_eq, Cmp.Lexicographic.slice_cmp}
-use Rattle.std.specs.Ordering.{nat_cmp, int_cmp, ordering_then}
-use Rattle.std.proofs.{lemmas.Bool.and_parts, lemmas.Slice.Eq.bytes_eq-Decides, lemmas.Map.Text.is_eq-slice_cmp}
-use Rattle.std.proofs.{lemmas.Bool.Decides.nat_tests, lemmas.Int.ints}
+use Rattle.std.proofs.lemmas.Bool.Decides.{nat_tests}
 use Rattle.std.proofs.lemmas.List.Sorted.{IsPermutation-sym, IsPermutation-trans, IsPermutation-map, sum_by-IsPermutation, Contains-permutation}
-use Rattle.sqlite.specs.Collation.TheVariants.{Binary}
-use Rattle.sqlite.specs.{Order.Row, Order.column, Table.Table, Effect.Database, Query.key_cmp, declared.types.Value.Value, State.State, State.HasCleanDisk}
-use Rattle.sqlite.specs.Schema.{Schema}
-use Rattle.sqlite_value.specs.{Keys.ascending, Order.value_cmp}
-use Rattle.sqlite_value.proofs.OrderLemmas.{value_cmp-Int, value_cmp-Text}
-use Rattle.sqlite_rules.specs.Lists.{Has}
+use Rattle.sqlite.specs.{Collation.TheVariants.Binary, Order.{Row, column}, Table.Table, Effect.Database, Query.key_cmp, declared.types.Value.Value}
+use Rattle.sqlite.specs.{State.{State, HasCleanDisk}, Schema.Schema, declared.types.Value.TheVariants.{Null, Int, Real, Text, Blob}}
+use Rattle.sqlite_value.{specs.{Keys.ascending, Order.value_cmp}, proofs.OrderLemmas.{value_cmp-Int, value_cmp-Text}}
+use Rattle.sqlite_rules.{specs.Lists.Has, proofs.ListLemmas.{has_contained, contains_had, some_has, some_from}}
 use Rattle.sqlite_exec.proofs.{RowsLemmas.IsSorted-map, PartitionLemmas.ascending_from_sorted}
-use Rattle.office_rows.specs.{Shown.columns_at, Shown.ShowsTable, Tables.interchange_table, Tables.setting_table, Tables.partner_table}
-use Rattle.office_rows.specs.{Opening.setting_row as setting_of, Opening.version_text, Values.setting_values, Values.number_value, Values.partner_values}
-use Rattle.office_rows.specs.{Stored.columns_of, Stored.HasRows, Bare.weighed_in, Bare.with_weights, Migrated.migrated_settings}
-use Rattle.office_loading.proofs.LackingLemmas.{one_order, all_in}
-use Rattle.std.specs.Prelude.{Vec}
-use Rattle.sqlite_rules.proofs.ListLemmas.{has_contained, contains_had, some_has, some_from}
-use Rattle.office_rows.specs.Rows.{Interchange, Setting, Partner, Rows}
-use Rattle.office_rows.specs.Opened.{NumberKept, number_kept, reply_values, ShowsNumbers, OpenedRows, Shows}
-use Rattle.office_tables.specs.{declared.table_fault.TableFault.TableFault, Faults.IsOfStore, Faults.IsOfStoreOr, Reading.Reads}
-use Rattle.office_tables.specs.declared.table_fault.TableFault.TheVariants.{Store, Damaged, Version, Memory}
-use Rattle.office_tables.proofs.{WritesLemmas.of_store_or, WritesLemmas.of_store_weaker, MadeLemmas.clean_first}
-use Rattle.office_loading.specs.Decoded.{IsSaid, FailsOne, DecodesAll, itself}
-use Rattle.office_loading.specs.Columns.{SaysNumbered, is_text, names_version, SaysNumber, is_older}
-use Rattle.office_loading.specs.{Fits.FitsNumber, Fits.FitsSetting, Settings.setting_in, Contents.opened_rows, declared.restoring.OpenedTables.OpenedTables}
+use Rattle.office_rows.specs.{Shown.{columns_at, ShowsTable}, Tables.{interchange_table, setting_table, partner_table}, Stored.{columns_of, HasRows}}
+use Rattle.office_rows.specs.{Opening.{setting_row as setting_of, version_text}, Values.{setting_values, number_value, partner_values}}
+use Rattle.office_rows.{specs.{Bare.{weighed_in, with_weights}, Migrated.migrated_settings, Rows.{Interchange, Setting, Partner, Rows}}, proofs.Listed.unmapped}
+use Rattle.office_rows.specs.{Opened.{NumberKept, number_kept, reply_values, ShowsNumbers, OpenedRows, Shows}, Layouts.{Layout, weighed, schema_in, bare}}
+use Rattle.office_rows.proofs.Creating.{has_mapped}
+use Rattle.office_loading.specs.{Decoded.{IsSaid, FailsOne, DecodesAll, itself}, Columns.{SaysNumbered, is_text, names_version, SaysNumber, is_older}}
+use Rattle.office_loading.specs.{Fits.{FitsNumber, FitsSetting}, Settings.setting_in, Contents.opened_rows, declared.restoring.OpenedTables.OpenedTables}
 use Rattle.office_loading.specs.Tables.{FailsTable, ReadsTable, HasVersion, Names, Tells, FailsByVersion, ReadsSettings, ShowsSettings, FailsTables, FailsSettings, ReadsTables, ReadsOthers, ShowsUnfit, FitsRows, with_shown, HasHighNext, ShowsPartners}
-use Rattle.office_rows.proofs.{Creating.has_mapped, Listed.unmapped}
-use Rattle.sqlite.specs.declared.types.Value.TheVariants.{Null, Int, Real, Text, Blob}
-use Rattle.office_rows.specs.Layouts.{Layout, weighed, schema_in, bare}
+use Rattle.office_loading.{specs.Older.{HasOlder, NamesOlder, FailsOlderSettings, FailsOlderTables, ReadsOlderTables}, proofs.LackingLemmas.{one_order, all_in}}
+use Rattle.office_tables.{specs.{declared.table_fault.TableFault.TableFault, Faults.{IsOfStore, IsOfStoreOr}, Reading.Reads}, proofs.MadeLemmas.clean_first}
+use Rattle.office_tables.specs.declared.table_fault.TableFault.TheVariants.{Store, Damaged, Version, Memory}
+use Rattle.office_tables.proofs.WritesLemmas.{of_store_or, of_store_weaker}
 use Rattle.terminal_core.specs.declared.change.Version.TheVariants.{First, Second}
-use Rattle.office_loading.specs.Older.{HasOlder, NamesOlder, FailsOlderSettings, FailsOlderTables, ReadsOlderTables}
 pub use Rattle.office_history.proofs.Runs.{keys_total, keys_cmp}
 
 -- ==== ShownLemmas: What a table shows is shown in one order.

@@ -1,8 +1,7 @@
 -- The accounts that rows of partners say: what the code relies on, and no caller has to read.
-use Rattle.std.specs.Prelude.{◌≡◌, ℕ, ◌≤◌, List, length, map, string_bytes, true}
-use Rattle.std.specs.List.{list_all}
+use Rattle.std.specs.{Prelude.{◌≡◌, ℕ, ◌≤◌, List, length, map, string_bytes, true}, List.list_all}
 use Rattle.edi_messages.specs.declared.codes.PartnerKind.{PartnerKind}
-use Rattle.office_admission.specs.{Given.is_party_code, Given.AreDistinct, Limits.most_partners}
+use Rattle.office_admission.specs.{Given.{is_party_code, AreDistinct}, Limits.most_partners}
 use Rattle.office_rows.specs.Office.{AreAccounts}
 use Rattle.office_loading.specs.{Contents.partner_content, declared.numbers.PartnerRow.PartnerRow}
 

@@ -1,6 +1,5 @@
 -- What interchanges and visits are checked for, where some were put away.
-use Rattle.std.specs.Prelude.{◌≡◌, ℕ, ◌+◌, ◌-◌, Bool, nat_le, not, List, [], ◌∷◌, ◌++◌, map, filter, true}
-use Rattle.std.specs.List.{range_with_len}
+use Rattle.std.specs.{Prelude.{◌≡◌, ℕ, ◌+◌, ◌-◌, Bool, nat_le, not, List, [], ◌∷◌, ◌++◌, map, filter, true}, List.range_with_len}
 use Rattle.terminal_core.specs.{OneByOne.GoOneByOne, Rows.VisitContent, State.AreNumbered}
 use Rattle.office_rows.specs.{Rows.Partner, Opened.NumberKept, Office.AreWaiting}
 

@@ -1,8 +1,7 @@
 -- What rows that were read say, in any memory.
 use Rattle.std.specs.Prelude.{map, string_bytes}
 use Rattle.terminal_core.specs.{declared.change.Place.Place, Rows.visit_content}
-use Rattle.office_rows.specs.Rows.{Partner, PlaceContent, Setting, listing_content}
-use Rattle.office_rows.specs.Opened.{NumberKept, OpenedRows}
+use Rattle.office_rows.specs.{Rows.{Partner, PlaceContent, Setting, listing_content}, Opened.{NumberKept, OpenedRows}}
 use Rattle.office_loading.specs.{declared.numbers.NumberRow.NumberRow, declared.restoring.OpenedTables.OpenedTables, declared.numbers.PartnerRow.PartnerRow}
 use Rattle.office_loading.specs.declared.settings.Setting as read
 

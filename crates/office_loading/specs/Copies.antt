@@ -1,13 +1,11 @@
 -- What is copied from one store to another.
 use Rattle.std.specs.Prelude.{◌≡◌, List, [], ◌∷◌, map, take, Ok}
-use Rattle.sqlite.specs.{Order.Row, Order.column, State.State, State.HasCleanDisk}
-use Rattle.sqlite.specs.declared.types.Value.TheVariants.{Text, Blob}
+use Rattle.sqlite.specs.{Order.{Row, column}, State.{State, HasCleanDisk}, declared.types.Value.TheVariants.{Text, Blob}}
 use Rattle.sqlite_trees.specs.View.{IsShaped}
+use Rattle.office_rows.specs.{Tables.{interchange_table, office_tables}, Layouts.bare_schema, Rows.{Interchange, Rows}, Stored.{columns_of, HasEmpty}}
+use Rattle.office_rows.specs.{Values.{number_value, interchange_values}, Opened.OpenedRows, Opening.with_interchanges, Steps.Turns}
+use Rattle.office_tables.specs.{Order.HasRowsInOrder, Writes.{Writes, WritesIfOpen}}
 use Rattle.sqlite_trees.specs.declared.store.Shape.TheVariants as shape
-use Rattle.office_rows.specs.{Tables.interchange_table, Tables.office_tables, Layouts.bare_schema, Rows.Interchange, Rows.Rows}
-use Rattle.office_rows.specs.{Values.number_value, Values.interchange_values, Stored.columns_of, Stored.HasEmpty, Opened.OpenedRows, Opening.with_interchanges}
-use Rattle.office_rows.specs.Steps.{Turns}
-use Rattle.office_tables.specs.{Order.HasRowsInOrder, Writes.Writes, Writes.WritesIfOpen}
 
 -- ---- interchanges
 

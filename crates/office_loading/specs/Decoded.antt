@@ -1,9 +1,6 @@
 -- What reading a row, or a column, answers: what the code relies on, and no caller has to read.
-use Rattle.std.specs.Prelude.{ℕ, List, [], Contains, Result, Ok, Err, Vec}
-use Rattle.std.specs.List.{AllZip}
-use Rattle.sqlite.specs.{Order.Row, declared.error.Error.Error}
-use Rattle.sqlite.specs.State.{State, IsUnchanged, Begins, Shown}
-use Rattle.sqlite.specs.declared.error.Error.TheVariants.{SqliteFailure}
+use Rattle.std.specs.{Prelude.{ℕ, List, [], Contains, Result, Ok, Err, Vec}, List.AllZip}
+use Rattle.sqlite.specs.{Order.Row, declared.error.Error.Error, State.{State, IsUnchanged, Begins, Shown}, declared.error.Error.TheVariants.SqliteFailure}
 use Rattle.sqlite.specs.declared.error.ErrorCode.TheVariants.{OutOfMemory}
 use Rattle.office_tables.specs.{declared.table_fault.TableFault.TableFault, Faults.IsOfStoreOr}
 use Rattle.office_tables.specs.declared.table_fault.TableFault.TheVariants.{Store, Damaged, Version, Memory}

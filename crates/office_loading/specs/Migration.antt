@@ -3,11 +3,10 @@ use Rattle.std.specs.Prelude.{◌≡◌, List, IsTrue, map}
 use Rattle.sqlite.specs.{Order.Row, State.State, Effect.Database, Tree.Trees}
 use Rattle.terminal_core.specs.State.{TerminalState}
 use Rattle.office_admission.specs.Setups.{SetupContent}
-use Rattle.office_rows.specs.{Tables.interchange_table, Tables.no_schema, Tables.office_schema, Layouts.bare_schema, Rows.Interchange, Rows.Rows}
-use Rattle.office_rows.specs.{Opened.OpenedRows, Stored.columns_of, Stored.HasRows, Stored.StoresRows, Bare.HasBareRows, Migrated.migrated_rows}
-use Rattle.office_rows.specs.Places.{ArePlaced}
+use Rattle.office_rows.specs.{Tables.{interchange_table, no_schema, office_schema}, Layouts.bare_schema, Rows.{Interchange, Rows}, Opened.OpenedRows}
+use Rattle.office_rows.specs.{Stored.{columns_of, HasRows, StoresRows}, Bare.HasBareRows, Migrated.migrated_rows, Places.ArePlaced}
 use Rattle.office_tables.specs.Order.{HasRowsInOrder}
-use Rattle.office_loading.specs.{Older.LoadsOlder, Copies.AreStanding, Copies.copied_rows}
+use Rattle.office_loading.specs.{Older.LoadsOlder, Copies.{AreStanding, copied_rows}}
 
 -- what was committed is all there is, and a crash leaves only that
 pub record IsSettled (s : State) : Type 0 where

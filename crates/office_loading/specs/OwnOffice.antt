@@ -2,11 +2,11 @@
 -- what the opened tables of any store are checked for.
 use Rattle.std.specs.Prelude.{◌≡◌, ◌⊎◌, ◌↔◌, ℕ, ◌<◌, ◌≤◌, List, [], ◌∷◌, length, All, Contains}
 use Rattle.edi_syntax.specs.Numbers.{last_number}
-use Rattle.terminal_core.specs.{Rows.VisitContent, Changes.rows_of, Forms.IsWellFormed, State.TerminalState, State.IsWhole}
+use Rattle.terminal_core.specs.{Rows.VisitContent, Changes.rows_of, Forms.IsWellFormed, State.{TerminalState, IsWhole}}
 use Rattle.office_admission.specs.{Setups.SetupContent, Given.IsGiven}
-use Rattle.office_rows.specs.{Rows.Partner, Opened.NumberKept, Opened.OpenedRows, ByKey.ArePlacedOnce, ByKey.AreListedOnce}
+use Rattle.office_rows.specs.{Rows.Partner, Opened.{NumberKept, OpenedRows}, ByKey.{ArePlacedOnce, AreListedOnce}}
 use Rattle.office_rows.specs.Office.{settings_by_name, AreAccounts, HasAccounts, opened_terminal, IsOffice}
-use Rattle.office_loading.specs.{Checks.numbers_beyond, Checks.AreKeptBeyond, Checks.AreOwnVisits, Closed.ClosedContent, Closed.nothing_closed}
+use Rattle.office_loading.specs.{Checks.{numbers_beyond, AreKeptBeyond, AreOwnVisits}, Closed.{ClosedContent, nothing_closed}}
 
 -- ---- the interchanges
 

@@ -1,7 +1,7 @@
 -- What a database has for a table of settings, with any other tables.
 use Rattle.std.specs.Prelude.{◌≡◌, ◌⊎◌, ℕ, List, ◌++◌, Some, None, slice_get, codes}
 use Rattle.sqlite.specs.{Schema.Schema, Table.Table}
-use Rattle.sqlite_schema.specs.{declared.schema.Column.Column, Names.table_named, Names.view_named, Names.column_named}
+use Rattle.sqlite_schema.specs.{declared.schema.Column.Column, Names.{table_named, view_named, column_named}}
 use Rattle.office_rows.specs.Tables.{setting_table}
 
 -- neither a table nor a view has the name

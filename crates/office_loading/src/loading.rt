@@ -1,12 +1,11 @@
 ghost use Rattle.std.specs.Prelude.{◌≡◌, ℕ, IfOk, IfErr, IsErrAnd, ◌<◌, ◌^◌, List, ⊤, map};
-ghost use Rattle.office_loading.specs.{Closed.closed_content, Closed.nothing_closed, Contents.opened_rows, OwnOffice.IsOwnOffice, Refusals.RefusesTables};
-ghost use Rattle.office_loading.specs.Settings.{HasNoSettings, HasSettings};
-ghost use Rattle.office_loading.specs.Columns.{SaysSource, SaysArrival, SaysExit, IsOpen, SaysNumber};
+ghost use Rattle.office_loading.specs.{Closed.{closed_content, nothing_closed}, Contents.opened_rows, OwnOffice.IsOwnOffice, Refusals.RefusesTables};
+ghost use Rattle.office_loading.specs.{Settings.{HasNoSettings, HasSettings}, Columns.{SaysSource, SaysArrival, SaysExit, IsOpen, SaysNumber}};
 ghost use Rattle.office_loading.specs.Decoded.{Decodes, ReadsAs, itself, IsSaid, FailsOne};
 ghost use Rattle.office_loading.specs.Tables.{Loads, LoadsOwn, FailsToLoad, FailsToLoadOwn, TellsVersion, fault_of_restoring, ReadsTables, HasHighNext, ShowsPartners};
 ghost use Rattle.office_rows.specs.{Rows.Partner, Shown.AreNexts, Stored.HasRows, Tables.office_schema, Values.number_value};
 ghost use Rattle.office_admission.specs.{Given.IsGiven, Setups.setup_content};
-ghost use Rattle.office_tables.specs.{Faults.IsOfStore, Faults.IsOfStoreOr, Reading.Reads};
+ghost use Rattle.office_tables.specs.{Faults.{IsOfStore, IsOfStoreOr}, Reading.Reads};
 ghost use Rattle.sqlite.specs.{Held.state, Order.column, State.HasCleanDisk};
 
 use crate::columns::{bytes_at, moment_at, number_at, short_at, slot_at, way_at};

@@ -1,14 +1,13 @@
 ghost use Rattle.std.specs.Prelude.{◌≡◌, ℕ, List, [], ◌∷◌, ◌++◌, map, false, IfErr, IsErrAnd, OnOk, OnErr, IsTrue};
-ghost use Rattle.office_loading.specs.Contents.{opened_rows, setting_content, partner_content, place_content};
-ghost use Rattle.office_loading.specs.{Older.FailsToLoadOlder, Older.TellsOlder, Settings.HasNoSettings, Settings.HasSettings};
-ghost use Rattle.office_loading.specs.{Copies.MakesCopy, Copies.without_interchanges, History.IsOlderAfter, History.HoldsAfter, History.StoresAfter};
-ghost use Rattle.office_loading.specs.Migration.{Copies, IsCopy, Migrates, IsMigration};
+ghost use Rattle.office_loading.specs.{Contents.{opened_rows, setting_content, partner_content, place_content}, Older.{FailsToLoadOlder, TellsOlder}};
+ghost use Rattle.office_loading.specs.{Settings.{HasNoSettings, HasSettings}, Copies.{MakesCopy, without_interchanges}};
+ghost use Rattle.office_loading.specs.{History.{IsOlderAfter, HoldsAfter, StoresAfter}, Migration.{Copies, IsCopy, Migrates, IsMigration}};
 ghost use Rattle.office_replies.specs.Events.{Event, migrated};
-ghost use Rattle.office_rows.specs.{Layouts.bare_schema, Rows.listing_content, Tables.office_tables, Tables.no_schema};
+ghost use Rattle.office_rows.specs.{Layouts.bare_schema, Rows.listing_content, Tables.{office_tables, no_schema}};
 ghost use Rattle.office_rows.specs.Opening.{with_settings, with_partners, with_visits, with_places, with_lines};
 ghost use Rattle.office_admission.specs.Setups.{SetupContent};
-ghost use Rattle.office_tables.specs.{Faults.IsOfStore, Opened.AreMissing, Reading.Reads, Reading.ReadsIfOpen, Writes.MakesOffice, Writes.WritesIfOpen};
-ghost use Rattle.sqlite.specs.{Held.state, State.HasCleanDisk, State.KeepsCommit, State.Survives};
+ghost use Rattle.office_tables.specs.{Faults.IsOfStore, Opened.AreMissing, Reading.{Reads, ReadsIfOpen}, Writes.{MakesOffice, WritesIfOpen}};
+ghost use Rattle.sqlite.specs.{Held.state, State.{HasCleanDisk, KeepsCommit, Survives}};
 ghost use Rattle.terminal_core.specs.{Rows.visit_content, declared.change.Version.Version};
 
 use crate::copying::copy_interchanges;

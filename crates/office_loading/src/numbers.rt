@@ -1,12 +1,11 @@
 ghost use Rattle.std.specs.List.{range_with_len, list_all};
 ghost use Rattle.std.specs.Prelude.{◌≡◌, ◌<◌, ◌≤◌, ◌+◌, ◌-◌, ◌^◌, ◌==◌, ◌↔◌, IsTrue, All, map, not, nat_le, length, take, drop, true, false, ℕ, IfOk, Some, slice_get, string_bytes};
 ghost use Rattle.edi_syntax.specs.Numbers.{last_number};
-ghost use Rattle.office_loading.specs.{Accounts.accounts_in, Accounts.AreWholeAccounts, Checks.IsKeptBeyond, Checks.AreKeptBeyond, Checks.numbers_beyond};
-ghost use Rattle.office_loading.specs.{Closed.last_closed, Contents.number_content, Contents.partner_content, Owned.AreOwn, Owned.BeginsElse};
-ghost use Rattle.office_loading.specs.declared.numbers.PartnerRow.{PartnerRow};
+ghost use Rattle.office_loading.specs.{Accounts.{accounts_in, AreWholeAccounts}, Checks.{IsKeptBeyond, AreKeptBeyond, numbers_beyond}, Closed.last_closed};
+ghost use Rattle.office_loading.specs.{Contents.{number_content, partner_content}, Owned.{AreOwn, BeginsElse}, declared.numbers.PartnerRow.PartnerRow};
 ghost use Rattle.office_loading.specs.OwnOffice.{AreOwnNumbers, AreInOrder, ComesAfter, IsClosedBelow, IsInOrder};
 ghost use Rattle.office_rows.specs.Office.{AreWaiting, AreAccounts};
-ghost use Rattle.office_admission.specs.{Given.is_party_code, Given.AreDistinct, Limits.most_partners, Setups.account_contents};
+ghost use Rattle.office_admission.specs.{Given.{is_party_code, AreDistinct}, Limits.most_partners, Setups.account_contents};
 
 use crate::closed::Closed;
 use crate::settings::are_same;

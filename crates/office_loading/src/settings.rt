@@ -1,6 +1,6 @@
 ghost use Rattle.std.specs.Prelude.{◌≡◌, ◌↔◌, IsTrue, ◌≤◌, [], string_bytes, ◌≢◌, ◌<◌, ℕ, IfOk, IfErr, Some, None, MatchOption, map, length, slice_get, decimal};
 ghost use Rattle.box6346.specs.{NumberText.is_number, SizeText.is_size, SlotName.IsNamed};
-ghost use Rattle.edi_messages.specs.{CodeText.table_fault, Codes.table_texts, Forms.is_name_if_any, Forms.IsFormedCall, Owned.call_content, Texts.is_name};
+ghost use Rattle.edi_messages.specs.{CodeText.table_fault, Codes.table_texts, Forms.{is_name_if_any, IsFormedCall}, Owned.call_content, Texts.is_name};
 ghost use Rattle.edi_syntax.specs.Moments.{is_moment};
 ghost use Rattle.office_loading.specs.{Checks.AreOwnVisits, Contents.setting_content};
 ghost use Rattle.office_loading.specs.Formed.{IsSoundSource, IsSoundArrival, IsSoundDeparture, IsSoundExit, IsSoundVisit, IsSoundLine, AreSoundVisits, AreSoundLines, AreByLetter, MayFollow};

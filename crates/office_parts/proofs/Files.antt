@@ -1,25 +1,19 @@
 -- The journal over the files, file by file: what each one adds is what was kept since the day of the one before it.
+use Rattle.std.{specs.{Prelude.{filter, nat_le, not, drop}, List.AllByRecursion}, proofs.lemmas.Bool.{cases_Bool, leb-true, le-leb}}
 use Rattle.std.proofs.Common.{◌≡◌, inl, inr, ℕ, ◌≤◌, List, [], ◌∷◌, ◌++◌, map, Bool, true, false, cond, refl, sym, ap, ◌∙◌, arith, length, Result, Ok, Err, zero-le, subst}
-use Rattle.std.specs.Prelude.{filter, nat_le, not, drop}
-use Rattle.std.specs.List.{AllByRecursion}
-use Rattle.std.proofs.{lemmas.Bool.cases_Bool, lemmas.Bool.leb-true, lemmas.Bool.le-leb, lemmas.List.Elements.filter-append}
-use Rattle.partner_core.specs.Deliveries.{Delivery, is_used, run, delivery}
-use Rattle.partner_core.proofs.Orders.{used-kept, used_within_run}
-use Rattle.office_rows.specs.{Rows.Interchange, Rows.Rows, Effects.with_waiting}
-use Rattle.office_parts.specs.{InOrder.as_delivery, Kept.kept_after, Kept.kept, Closing.is_beyond, Journal.text_of, Archives.Archive}
-use Rattle.office_parts.specs.Copies.{is_above, HasInOrder, AreDayCopies, closed_after}
-use Rattle.std.proofs.lemmas.List.{drop_at, length-map, map-append, append-nil, append_assoc}
-use Rattle.edi_syntax.specs.Interchange.{interchange_of}
-use Rattle.office_admission.specs.{Accounts.content_after, Accounts.content_with, Admission.admission, Deliveries.deliveries_of, Deliveries.with_delivery}
-use Rattle.office_admission.specs.Setups.{SetupContent, parties_in}
-use Rattle.office_admission.proofs.Adding.{content_on, deliveries_on, account_adds}
-use Rattle.office_history.proofs.{Accounted.within, Places.refused_more}
-use Rattle.office_replies.specs.Events.{Event, delivered, migrated, added}
-use Rattle.office_replies.specs.declared.deliver.Fault.{Fault}
-use Rattle.office_parts.proofs.{Alike.kept-append, Alike.kept_after-append, JournalOrders.admitted_kept, JournalOrders.shown, JournalOrders.taken_shown}
+use Rattle.std.proofs.{lemmas.List.Elements.filter-append, lemmas.List.{drop_at, length-map, map-append, append-nil, append_assoc}}
+use Rattle.partner_core.{specs.Deliveries.{Delivery, is_used, run, delivery}, proofs.Orders.{used-kept, used_within_run}}
+use Rattle.office_rows.specs.{Rows.{Interchange, Rows}, Effects.with_waiting}
+use Rattle.office_parts.specs.{InOrder.as_delivery, Kept.{kept_after, kept}, Closing.is_beyond, Journal.text_of, Archives.Archive}
+use Rattle.office_parts.{specs.Copies.{is_above, HasInOrder, AreDayCopies, closed_after}, proofs.Alike.{kept-append, kept_after-append}}
 use Rattle.office_parts.specs.ArchiveJournal.{body_of, texts_beyond, texts_added, carried_on, journal_beyond}
 use Rattle.office_parts.specs.ArchiveJournalLaws.{JournalIsOfAllFiles, ClosingStaysInOrder, EventsStayInOrder, CopiesStayInOrder}
-use Rattle.office_history.specs.{Cascade.with_interchanges, Laws.IsFor}
+use Rattle.office_parts.proofs.JournalOrders.{admitted_kept, shown, taken_shown}
+use Rattle.edi_syntax.specs.Interchange.{interchange_of}
+use Rattle.office_admission.specs.{Accounts.{content_after, content_with}, Admission.admission, Deliveries.{deliveries_of, with_delivery}}
+use Rattle.office_admission.{specs.Setups.{SetupContent, parties_in}, proofs.Adding.{content_on, deliveries_on, account_adds}}
+use Rattle.office_history.{specs.{Cascade.with_interchanges, Laws.IsFor}, proofs.{Accounted.within, Places.refused_more}}
+use Rattle.office_replies.specs.{Events.{Event, delivered, migrated, added}, declared.deliver.Fault.Fault}
 
 -- ==== Beyond: Interchanges and deliveries beyond what is closed.
 

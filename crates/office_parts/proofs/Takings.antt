@@ -1,35 +1,28 @@
 -- Interchanges at the store's own machine, beside the visits that were put away; and a run of them.
+use Rattle.std.specs.{Prelude.◌==◌, List.AllByRecursion, Option.option_map}
 use Rattle.std.proofs.Common.{◌≡◌, ℕ, ◌+◌, ◌<◌, ◌≤◌, List, [], ◌∷◌, ◌++◌, length, true, cond, None, Some, refl, sym, ap, subst, ◌∙◌, arith, Bool, false, Option, Result, Ok, Err, ap₂}
-use Rattle.std.specs.Prelude.{◌==◌}
-use Rattle.std.specs.{List.AllByRecursion, Option.option_map}
-use Rattle.edi_syntax.specs.{Interchange.interchange_of, Interchange.segments_in, Moments.CivilMoment, Text.Content, Envelope.header_of, Envelope.messages_of}
-use Rattle.edi_syntax.specs.{Header.preparation, Messages.Message}
+use Rattle.edi_syntax.specs.{Interchange.{interchange_of, segments_in}, Moments.CivilMoment, Text.Content, Envelope.{header_of, messages_of}, Messages.Message}
+use Rattle.edi_syntax.specs.Header.{preparation}
 use Rattle.partner_core.specs.{Deliveries.run, Numbered.with_number}
-use Rattle.terminal_core.specs.{Rows.VisitContent, Rows.ChangeContent, State.last_number, State.TerminalState, State.IsWhole, Versions.newest}
-use Rattle.terminal_core.specs.{declared.lines.Side.Side, declared.change.Source.Source, declared.change.Version.Version, Step.number_of_visit}
+use Rattle.terminal_core.specs.{Rows.{VisitContent, ChangeContent}, State.{last_number, TerminalState, IsWhole}, Versions.newest, declared.lines.Side.Side}
+use Rattle.terminal_core.specs.{declared.change.Source.Source, declared.change.Version.Version, Step.number_of_visit}
 use Rattle.terminal_core.specs.Changes.{TerminalRows, standing_in, standing_of, rows_of}
-use Rattle.office_admission.specs.{Accounts.content_after, Deliveries.deliveries_of, Given.IsGiven, Setups.SetupContent, Admission.admission, Admission.is_for}
-use Rattle.office_admission.specs.Readings.{reading_by}
-use Rattle.office_admission.proofs.Adding.{given_after}
-use Rattle.office_replies.specs.{Events.Event, Events.delivered, Messages.accepted}
-use Rattle.office_rows.specs.{Effects.with_waiting, Rows.Rows, ByKey.standing_by, ByKey.lines_by}
+use Rattle.office_admission.specs.{Accounts.content_after, Deliveries.deliveries_of, Given.IsGiven, Setups.SetupContent, Admission.{admission, is_for}}
+use Rattle.office_admission.{specs.Readings.reading_by, proofs.Adding.given_after}
 use Rattle.office_admission.specs.Taking.{MachineState, number_ordered, before_report, clearing_of, clearing_for, ListClearing, list_replaced, line_taken_by, line_changes_by, lines_taken_by, lines_changes_by, verdict_on_by, verdict_changes_by, report_on, before_message, messages_taken_by, messages_changes_by, with_messages, codes_for, source_in, nothing_taken, taken_at_by, taken_of_by, interchange_taken_by, changes_at_by, changes_of_by, interchange_changes_by, interchange_taken}
-use Rattle.office_history.specs.{After.machine_after, After.taking_in, After.AreAfter, Laws.IsFor, Laws.AddsRun}
-use Rattle.office_history.specs.Cascade.{text_in, TakenContent, texts_with, with_run, AreTakenFrom}
-use Rattle.office_history.proofs.{Afters.state_sound, Ground.account_adds_row, Lawful.early_adds, Lawful.next_adds, Places.sound_in}
-use Rattle.office_parts.specs.OwnTerminal.{own_visits, IsOverOrStays, MayStay, own_terminal, own_machine}
-use Rattle.office_parts.specs.Parts.{Archived, nothing_archived, AreClosed, AreParts, ArePartsAfter}
-use Rattle.office_parts.specs.Archives.{Hold}
-use Rattle.office_parts.specs.Laws.{RowsAreParts, EarlyAddsToParts, AccountAddsToParts, InterchangesAreTakenAlike, NextAddsToParts, OwnRowsGiveOwnTerminal}
-use Rattle.office_parts.proofs.Splits.{has_contained, open_kept, changes_spared}
-use Rattle.office_parts.proofs.Orders.{body_there, found_beyond, closed_within, steps_beside}
-use Rattle.office_parts.proofs.Moving.{differ, waiting_parts, account_parts, runs_parts}
-use Rattle.box6346.specs.declared.box_number.BoxNumber.{BoxNumber}
-use Rattle.edi_messages.specs.Message.{LineContent, ordered, refused, MessageContent}
-use Rattle.edi_messages.specs.{Purposes.CallContent, declared.codes.Codes.Codes, declared.message.MessageFault.MessageFault}
-use Rattle.edi_messages.specs.declared.codes.PartnerKind.{PartnerKind}
-use Rattle.yard_core.specs.YardMap.{placement_of}
 use Rattle.office_admission.proofs.Takings.{Leads, line_leads, clearing_leads, verdict_leads, interchange_leads_by}
+use Rattle.office_replies.specs.{Events.{Event, delivered}, Messages.accepted}
+use Rattle.office_rows.specs.{Effects.with_waiting, Rows.Rows, ByKey.{standing_by, lines_by}}
+use Rattle.office_history.{specs.{After.{machine_after, taking_in, AreAfter}, Laws.{IsFor, AddsRun}}, proofs.{Afters.state_sound, Ground.account_adds_row}}
+use Rattle.office_history.{specs.Cascade.{text_in, TakenContent, texts_with, with_run, AreTakenFrom}, proofs.{Lawful.{early_adds, next_adds}, Places.sound_in}}
+use Rattle.office_parts.specs.{OwnTerminal.{own_visits, IsOverOrStays, MayStay, own_terminal, own_machine}, Archives.Hold}
+use Rattle.office_parts.{specs.Parts.{Archived, nothing_archived, AreClosed, AreParts, ArePartsAfter}, proofs.Splits.{has_contained, open_kept, changes_spared}}
+use Rattle.office_parts.specs.Laws.{RowsAreParts, EarlyAddsToParts, AccountAddsToParts, InterchangesAreTakenAlike, NextAddsToParts, OwnRowsGiveOwnTerminal}
+use Rattle.office_parts.proofs.{Orders.{body_there, found_beyond, closed_within, steps_beside}, Moving.{differ, waiting_parts, account_parts, runs_parts}}
+use Rattle.box6346.specs.declared.box_number.BoxNumber.{BoxNumber}
+use Rattle.edi_messages.specs.{Message.{LineContent, ordered, refused, MessageContent}, Purposes.CallContent, declared.codes.Codes.Codes}
+use Rattle.edi_messages.specs.{declared.message.MessageFault.MessageFault, declared.codes.PartnerKind.PartnerKind}
+use Rattle.yard_core.specs.YardMap.{placement_of}
 
 -- ==== Events: The parts after one event more.
 

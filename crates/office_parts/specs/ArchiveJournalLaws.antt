@@ -2,11 +2,11 @@
 use Rattle.std.specs.Prelude.{◌≡◌, ℕ, ◌≤◌, List, [], ◌∷◌, ◌++◌, filter, true, false, Err}
 use Rattle.edi_syntax.specs.Interchange.{interchange_of}
 use Rattle.partner_core.specs.Deliveries.{is_used, run}
-use Rattle.office_admission.specs.{Admission.admission, Accounts.content_after, Deliveries.deliveries_of, Setups.SetupContent, Setups.parties_in}
-use Rattle.office_history.specs.{Cascade.TakenContent, Cascade.with_run, Laws.IsFor}
-use Rattle.office_replies.specs.{Events.Event, Events.delivered, Events.added, declared.deliver.Fault.Fault}
-use Rattle.office_rows.specs.{Effects.with_waiting, Rows.Interchange, Rows.Rows}
-use Rattle.office_parts.specs.{Journal.kept_texts, Archives.Archive, Closing.is_beyond, Copies.HasInOrder, Copies.AreCopiesInOrder, Copies.closed_after}
+use Rattle.office_admission.specs.{Admission.admission, Accounts.content_after, Deliveries.deliveries_of, Setups.{SetupContent, parties_in}}
+use Rattle.office_history.specs.{Cascade.{TakenContent, with_run}, Laws.IsFor}
+use Rattle.office_replies.specs.{Events.{Event, delivered, added}, declared.deliver.Fault.Fault}
+use Rattle.office_rows.specs.{Effects.with_waiting, Rows.{Interchange, Rows}}
+use Rattle.office_parts.specs.{Journal.kept_texts, Archives.Archive, Closing.is_beyond, Copies.{HasInOrder, AreCopiesInOrder, closed_after}}
 use Rattle.office_parts.specs.ArchiveJournal.{journal_of}
 
 -- The journal over the files is the journal of the events, byte for byte, as if nothing had been put away.

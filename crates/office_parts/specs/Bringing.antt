@@ -1,10 +1,9 @@
 -- A list is brought back: its lines are in the store again, after those that are there.
-use Rattle.std.specs.Prelude.{◌≡◌, Bool, true, not, ◌&&◌, ◌||◌, List, filter, IsPermutation}
-use Rattle.std.specs.{Ordering.nat_cmp, Ordering.eq_by_cmp, Cmp.Lexicographic.slice_cmp}
+use Rattle.std.specs.{Prelude.{◌≡◌, Bool, true, not, ◌&&◌, ◌||◌, List, filter, IsPermutation}, Ordering.{nat_cmp, eq_by_cmp}, Cmp.Lexicographic.slice_cmp}
 use Rattle.office_history.specs.After.{AreAfter}
-use Rattle.office_parts.specs.{Parts.Archived, Parts.ArePartsAfter, OwnLists.ListName, OwnLists.list_name, OwnLists.rows_without_lists}
+use Rattle.office_parts.specs.{Parts.{Archived, ArePartsAfter}, OwnLists.{ListName, list_name, rows_without_lists}}
 use Rattle.office_replies.specs.Events.{Event}
-use Rattle.office_rows.specs.{Opening.with_lines, Rows.ListingContent, Rows.Rows}
+use Rattle.office_rows.specs.{Opening.with_lines, Rows.{ListingContent, Rows}}
 use Rattle.office_admission.specs.Setups.{SetupContent}
 
 abbrev pub is_list : ListName → ListName → Bool

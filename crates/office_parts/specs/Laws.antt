@@ -1,27 +1,23 @@
 -- The laws of a store and its archives.
-use Rattle.std.specs.Prelude.{◌≡◌, ℕ, ◌+◌, ◌<◌, ◌≤◌, Bool, true, List, [], ◌∷◌, ◌++◌, length, Contains, Option, None, Some}
-use Rattle.std.specs.List.{AllByRecursion}
+use Rattle.std.specs.{Prelude.{◌≡◌, ℕ, ◌+◌, ◌<◌, ◌≤◌, Bool, true, List, [], ◌∷◌, ◌++◌, length, Contains, Option, None, Some}, List.AllByRecursion}
 use Rattle.sqlite.specs.Effect.{Database}
 use Rattle.edi_messages.specs.{Orders.OrderContent, declared.codes.PartnerKind.PartnerKind}
 use Rattle.edi_syntax.specs.Interchange.{interchange_of}
-use Rattle.partner_core.specs.{Deliveries.first_text, Deliveries.run, Answers.Repeat, Answers.Clash, Order.reply_of}
-use Rattle.terminal_core.specs.{declared.change.Source.Source, declared.change.Version.Version, Forms.IsWellFormed, Rows.VisitContent, Rows.ChangeContent}
-use Rattle.terminal_core.specs.{State.TerminalState, State.IsWhole, State.last_number, Step.step_by, Versions.newest}
+use Rattle.partner_core.specs.{Deliveries.{first_text, run}, Answers.{Repeat, Clash}, Order.reply_of}
+use Rattle.terminal_core.specs.{declared.change.Source.Source, declared.change.Version.Version, Forms.IsWellFormed, Rows.{VisitContent, ChangeContent}}
+use Rattle.terminal_core.specs.{State.{TerminalState, IsWhole, last_number}, Step.step_by, Versions.newest}
 use Rattle.terminal_core.specs.Changes.{TerminalRows, rows_of, rows_with_all, AreApplicable}
-use Rattle.office_admission.specs.{Accounts.content_after, Accounts.account_answer, Accounts.added_as, Deliveries.deliveries_of, Given.IsGiven}
-use Rattle.office_admission.specs.{Kinds.kind_named, Setups.SetupContent, Taking.MachineState, Taking.interchange_taken_by, Taking.interchange_changes_by}
+use Rattle.office_admission.specs.{Accounts.{content_after, account_answer, added_as}, Deliveries.deliveries_of, Given.IsGiven, Kinds.kind_named}
+use Rattle.office_admission.specs.{Setups.SetupContent, Taking.{MachineState, interchange_taken_by, interchange_changes_by}}
 use Rattle.office_replies.specs.Events.{Event, delivered, added}
-use Rattle.office_rows.specs.{ByKey.terminal_rows, Effects.with_waiting, Effects.with_partner, Rows.Interchange, Rows.ListingContent, Rows.Rows, Stored.HasRows}
+use Rattle.office_rows.specs.{ByKey.terminal_rows, Effects.{with_waiting, with_partner}, Rows.{Interchange, ListingContent, Rows}, Stored.HasRows}
 use Rattle.office_rows.specs.Opened.{NumberKept, ShowsNumbers, OpenedRows, Shows}
-use Rattle.office_history.specs.After.{opening_of, taking_in, machine_after, reply_in, AreAfter, AreKeptOnce}
+use Rattle.office_history.specs.{After.{opening_of, taking_in, machine_after, reply_in, AreAfter, AreKeptOnce}, Laws.{IsFor, answer_model_of, AddsRun}}
 use Rattle.office_history.specs.Cascade.{text_in, TakenContent, texts_with, with_run, AreTakenFrom}
-use Rattle.office_history.specs.Laws.{IsFor, answer_model_of, AddsRun}
-use Rattle.office_parts.specs.OwnTerminal.{own_terminal, own_step, own_machine, MayStay, IsOfOwn}
-use Rattle.office_parts.specs.Parts.{Archived, nothing_archived, rows_of_archives, ArePartsAfter}
-use Rattle.office_parts.specs.Closing.{carried, archived_with, whole_with, MayClose}
-use Rattle.office_parts.specs.Archives.{Archive, text_by, reply_by, Hold, HoldsWhatGoes}
-use Rattle.office_loading.specs.{Checks.numbers_beyond, Checks.AreKeptBeyond, Checks.AreOwnVisits, OwnOffice.IsOwnOffice}
+use Rattle.office_parts.specs.{OwnTerminal.{own_terminal, own_step, own_machine, MayStay, IsOfOwn}, Closing.{carried, archived_with, whole_with, MayClose}}
+use Rattle.office_parts.specs.{Parts.{Archived, nothing_archived, rows_of_archives, ArePartsAfter}, Archives.{Archive, text_by, reply_by, Hold, HoldsWhatGoes}}
 use Rattle.office_parts.specs.LeftOver.{rows_beyond}
+use Rattle.office_loading.specs.{Checks.{numbers_beyond, AreKeptBeyond, AreOwnVisits}, OwnOffice.IsOwnOffice}
 
 -- ---- the terminal
 

@@ -1,6 +1,6 @@
 -- What holds beside lists that were put away, for interchanges that name none of them.
 use Rattle.std.specs.Prelude.{◌≡◌, ℕ, ◌≤◌, Bool, List, Option, Some}
-use Rattle.terminal_core.specs.{State.TerminalState, State.IsWhole, Forms.IsWellFormed, Changes.rows_of, Versions.newest, Step.step_by}
+use Rattle.terminal_core.specs.{State.{TerminalState, IsWhole}, Forms.IsWellFormed, Changes.rows_of, Versions.newest, Step.step_by}
 use Rattle.terminal_core.specs.{declared.change.Source.Source, declared.change.Version.Version}
 use Rattle.edi_messages.specs.Orders.{OrderContent}
 use Rattle.office_rows.specs.{Rows.Rows, ByKey.terminal_rows}

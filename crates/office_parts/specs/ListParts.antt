@@ -5,12 +5,10 @@ use Rattle.edi_syntax.specs.Interchange.{interchange_of}
 use Rattle.partner_core.specs.Deliveries.{run}
 use Rattle.office_admission.specs.{Accounts.content_after, Deliveries.deliveries_of, Given.IsGiven, Setups.SetupContent, Taking.MachineState}
 use Rattle.office_replies.specs.Events.{Event, delivered}
-use Rattle.office_rows.specs.{Opened.OpenedRows, Opened.Shows, Rows.Interchange, Rows.Rows, Stored.HasRows}
+use Rattle.office_rows.specs.{Opened.{OpenedRows, Shows}, Rows.{Interchange, Rows}, Stored.HasRows}
 use Rattle.office_loading.specs.OwnOffice.{IsOwnOffice}
-use Rattle.office_history.specs.{After.machine_after, After.AreKeptOnce, Laws.IsFor, Laws.AddsRun}
-use Rattle.office_history.specs.Cascade.{text_in, TakenContent, texts_with, with_run, AreTakenFrom}
-use Rattle.office_parts.specs.{LeftOver.rows_beyond, OwnTerminal.own_terminal, OwnTerminal.own_machine, Parts.Archived, Parts.ArePartsAfter}
-use Rattle.office_parts.specs.ListLaws.{NameOwnLists}
+use Rattle.office_history.specs.{After.{machine_after, AreKeptOnce}, Laws.{IsFor, AddsRun}, Cascade.{text_in, TakenContent, texts_with, with_run, AreTakenFrom}}
+use Rattle.office_parts.specs.{LeftOver.rows_beyond, OwnTerminal.{own_terminal, own_machine}, Parts.{Archived, ArePartsAfter}, ListLaws.NameOwnLists}
 use Rattle.office_parts.specs.OwnLists.{ListName, without_lists, machine_without, rows_without_lists}
 
 -- It is taken with the lists that were put away as without them. What was taken is written to the rows without them;

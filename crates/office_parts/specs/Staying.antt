@@ -4,16 +4,15 @@ use Rattle.box6346.specs.declared.box_number.BoxNumber.{BoxNumber}
 use Rattle.edi_messages.specs.{Purposes.CallContent, declared.codes.PartnerKind.PartnerKind}
 use Rattle.edi_syntax.specs.Interchange.{interchange_of}
 use Rattle.partner_core.specs.Deliveries.{run}
-use Rattle.terminal_core.specs.{State.LineContent, State.TerminalState, State.line_of, declared.lines.Side.Side}
-use Rattle.office_admission.specs.{Accounts.account_answer, Accounts.added_as, Accounts.content_after, Deliveries.deliveries_of, Kinds.kind_named}
-use Rattle.office_admission.specs.{Setups.SetupContent, Taking.MachineState}
-use Rattle.office_history.specs.{After.machine_after, Laws.AddsNoRow, Laws.IsFor}
-use Rattle.office_history.specs.Cascade.{TakenContent, text_in, texts_with, with_run}
-use Rattle.office_parts.specs.{Archives.Archive, OwnTerminal.own_terminal, Parts.Archived, Parts.ArePartsAfter, Away.AreAway, Away.lines_away, Away.lists_after}
-use Rattle.office_parts.specs.{Bringing.BringsBack, Bringing.all_but, ListLaws.NameOwnLists, Naming.AreHere}
-use Rattle.office_parts.specs.{OwnLists.ListName, OwnLists.list_name, OwnLists.without_lists, ListParts.AddsWithoutLists}
+use Rattle.terminal_core.specs.{State.{LineContent, TerminalState, line_of}, declared.lines.Side.Side}
+use Rattle.office_admission.specs.{Accounts.{account_answer, added_as, content_after}, Deliveries.deliveries_of, Kinds.kind_named, Setups.SetupContent}
+use Rattle.office_admission.specs.Taking.{MachineState}
+use Rattle.office_history.specs.{After.machine_after, Laws.{AddsNoRow, IsFor}, Cascade.{TakenContent, text_in, texts_with, with_run}}
+use Rattle.office_parts.specs.{Archives.Archive, OwnTerminal.own_terminal, Parts.{Archived, ArePartsAfter}, Away.{AreAway, lines_away, lists_after}}
+use Rattle.office_parts.specs.{Bringing.{BringsBack, all_but}, ListLaws.NameOwnLists, Naming.AreHere, OwnLists.{ListName, list_name, without_lists}}
+use Rattle.office_parts.specs.ListParts.{AddsWithoutLists}
 use Rattle.office_replies.specs.Events.{Event, added, delivered}
-use Rattle.office_rows.specs.{Effects.with_partner, Effects.with_waiting, Rows.ListingContent, Rows.Rows}
+use Rattle.office_rows.specs.{Effects.{with_partner, with_waiting}, Rows.{ListingContent, Rows}}
 
 -- ---- deliveries
 

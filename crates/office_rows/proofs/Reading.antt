@@ -1,20 +1,15 @@
 -- What the texts mean that read.
-use Rattle.std.proofs.Common.{◌≡◌, ℕ, List, [], ◌∷◌, ◌++◌, codes, false, refl, None, Ok, ap, sym, subst, ◌∙◌}
-use Rattle.std.specs.List.{AllByRecursion}
-use Rattle.sqlite.specs.{Term.Term, Term.col, Listing.understood, Listing.reads_listing, Order.Row, Table.Table, Compile.table_defined_by, Effect.Database, Effect.IsDatabase}
-use Rattle.sqlite.specs.{Does.Tally, Does.lacks_sequence, State.State, State.Executes, State.Writes}
-use Rattle.sqlite.specs.Collation.TheVariants.{Binary}
-use Rattle.sqlite.specs.Command.TheVariants.{Select, CreateTable}
-use Rattle.sqlite_tied.specs.Compute.{everything}
-use Rattle.sqlite.proofs.Callers.{IsPlain, command_of, statement_of, runs_as}
-use Rattle.sqlite_value.specs.{Keys.ascending, declared.keys.Key.Key}
-use Rattle.office_rows.proofs.WriteLemmas.{rows_of, listed_by, went, same_value}
-use Rattle.office_rows.proofs.Writing.{equals}
-use Rattle.office_rows.specs.Tables.{office_schema, partner_table, interchange_table, visit_table, place_table, listing_table, setting_table, block_table, schema_of, office_tables}
+use Rattle.std.{specs.List.AllByRecursion, proofs.Common.{◌≡◌, ℕ, List, [], ◌∷◌, ◌++◌, codes, false, refl, None, Ok, ap, sym, subst, ◌∙◌}}
 use Rattle.std.proofs.lemmas.List.Sorted.{IsPermutation-refl}
-use Rattle.sqlite_catalog.specs.{Change.created, Change.next_tree, Change.KeepsRows, Listing.Lists}
+use Rattle.sqlite.specs.{Term.{Term, col}, Listing.{understood, reads_listing}, Order.Row, Table.Table, Compile.table_defined_by, Effect.{Database, IsDatabase}}
+use Rattle.sqlite.specs.{Does.{Tally, lacks_sequence}, State.{State, Executes, Writes}, Collation.TheVariants.Binary, Command.TheVariants.{Select, CreateTable}}
+use Rattle.sqlite.proofs.Callers.{IsPlain, command_of, statement_of, runs_as}
+use Rattle.sqlite_tied.specs.Compute.{everything}
+use Rattle.sqlite_value.specs.{Keys.ascending, declared.keys.Key.Key}
+use Rattle.office_rows.specs.Tables.{office_schema, partner_table, interchange_table, visit_table, place_table, listing_table, setting_table, block_table, schema_of, office_tables}
+use Rattle.office_rows.{specs.{Rows.no_rows, Stored.{Holds, HasRows, HasEmpty}}, proofs.{WriteLemmas.{rows_of, listed_by, went, same_value}, Writing.equals}}
+use Rattle.sqlite_catalog.specs.{Change.{created, next_tree, KeepsRows}, Listing.Lists}
 use Rattle.sqlite_trees.specs.{Objects.catalog_tree, Tree.Trees}
-use Rattle.office_rows.specs.{Rows.no_rows, Stored.Holds, Stored.HasRows, Stored.HasEmpty}
 use Rattle.office_rows.proofs.Creating as texts
 
 -- ==== Reading: What the texts mean that read.

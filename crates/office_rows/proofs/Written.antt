@@ -4,20 +4,15 @@ use Rattle.box6346.specs.{declared.box_number.BoxNumber.BoxNumber, declared.slot
 use Rattle.edi_syntax.specs.Moments.{moment_digits}
 use Rattle.edi_messages.specs.Purposes.{CallContent}
 use Rattle.yard_core.specs.declared.plan.Block.{Block}
-use Rattle.terminal_core.specs.{declared.visits.Departure.Departure, declared.lines.Side.Side, State.side_code}
-use Rattle.terminal_core.specs.declared.lines.LineState.TheVariants.{Done}
+use Rattle.terminal_core.specs.{declared.visits.Departure.Departure, declared.lines.Side.Side, State.side_code, declared.lines.LineState.TheVariants.Done}
 use Rattle.terminal_core.specs.Rows.{VisitContent, visit_closed, moved_to, removed_from, line_done, unlisted}
-use Rattle.sqlite.specs.declared.types.Value.TheVariants.{Null, Text, Blob}
-use Rattle.sqlite.specs.{Order.Row, Order.column, Ops.binary, Ops.is_true, State.State, State.Executes}
+use Rattle.sqlite.specs.{declared.types.Value.TheVariants.{Null, Text, Blob}, Order.{Row, column}, Ops.{binary, is_true}, State.{State, Executes}}
 use Rattle.sqlite.specs.Collation.TheVariants.{Binary}
-use Rattle.sqlite_sql.specs.declared.ops.BinaryOp.TheVariants.{Compare}
-use Rattle.sqlite_sql.specs.declared.ops.CompareOp.TheVariants.{Eq}
-use Rattle.sqlite_rules.specs.{Cast.cast, Calls.ids_of}
-use Rattle.sqlite_rules.specs.declared.error.Rowids.TheVariants.{Chosen, Given}
-use Rattle.office_rows.specs.Tables.{partner_table, interchange_table, visit_table, place_table, listing_table, setting_table, block_table}
+use Rattle.sqlite_sql.specs.{declared.ops.BinaryOp.TheVariants.Compare, declared.ops.CompareOp.TheVariants.Eq}
+use Rattle.sqlite_rules.specs.{Cast.cast, Calls.ids_of, declared.error.Rowids.TheVariants.{Chosen, Given}}
+use Rattle.office_rows.specs.{Tables.{partner_table, interchange_table, visit_table, place_table, listing_table, setting_table, block_table}, Stored.HasRows}
 use Rattle.office_rows.specs.Rows.{Partner, Interchange, PlaceContent, ListingContent, Setting, Rows}
 use Rattle.office_rows.specs.Values.{number_value, way_code, partner_values, interchange_values, visit_values, place_values, line_values, setting_values, block_values}
-use Rattle.office_rows.specs.Stored.{HasRows}
 use Rattle.office_rows.specs.Effects.{is_pair, stands_for, is_line, with_waiting, with_reply, with_next, with_change}
 use Rattle.office_rows.proofs.WriteLemmas.{cast_null, cast_int, equal_numbers, equal_texts, run_insert, run_update, run_delete, holds_inserted, holds_updated, holds_deleted}
 use Rattle.office_rows.proofs.Writing.{only_partners, only_interchanges, only_visits, only_places, only_lines, only_settings, only_blocks}

@@ -1,16 +1,12 @@
 -- How a table has its records in the order in which they were inserted.
-use Rattle.std.specs.Prelude.{◌≡◌, ◌≢◌, ℕ, Bool, ◌&&◌, List, [], ◌∷◌, ◌++◌, map, filter}
-use Rattle.std.specs.List.Sorted.{IsPermutation}
-use Rattle.sqlite.specs.Collation.TheVariants.{Binary}
-use Rattle.sqlite.specs.declared.types.Value.TheVariants.{Null, Text}
-use Rattle.sqlite.specs.{Ops.binary, Ops.is_true, Order.Row, Order.column, Table.Table, Tree.Trees}
-use Rattle.sqlite_sql.specs.declared.ops.BinaryOp.TheVariants.{Compare}
-use Rattle.sqlite_sql.specs.declared.ops.CompareOp.TheVariants.{Eq}
+use Rattle.std.specs.{Prelude.{◌≡◌, ◌≢◌, ℕ, Bool, ◌&&◌, List, [], ◌∷◌, ◌++◌, map, filter}, List.Sorted.IsPermutation}
+use Rattle.sqlite.specs.{Collation.TheVariants.Binary, declared.types.Value.TheVariants.{Null, Text}, Ops.{binary, is_true}, Order.{Row, column}, Table.Table}
+use Rattle.sqlite.specs.Tree.{Trees}
+use Rattle.sqlite_sql.specs.{declared.ops.BinaryOp.TheVariants.Compare, declared.ops.CompareOp.TheVariants.Eq}
 use Rattle.sqlite_schema.specs.declared.schema.Keys.TheVariants.{Enforced}
-use Rattle.sqlite_rules.specs.{Calls.ids_of, Edit.Edit, Edit.edit_of, Edit.Applies}
-use Rattle.sqlite_rules.specs.declared.error.Rowids.TheVariants.{Chosen, Given}
-use Rattle.office_rows.specs.{Tables.interchange_table, Tables.office_schema, Rows.Interchange, Rows.Rows, Values.number_value, Values.interchange_values}
-use Rattle.office_rows.specs.{Effects.with_reply, Stored.columns_of, Places.ArePlaced}
+use Rattle.sqlite_rules.specs.{Calls.ids_of, Edit.{Edit, edit_of, Applies}, declared.error.Rowids.TheVariants.{Chosen, Given}}
+use Rattle.office_rows.specs.{Tables.{interchange_table, office_schema}, Rows.{Interchange, Rows}, Values.{number_value, interchange_values}, Stored.columns_of}
+use Rattle.office_rows.specs.{Effects.with_reply, Places.ArePlaced}
 
 -- the tree has these records, in this order, under the rowids 1, 2, 3 and so on
 pub record AreInPlace {A : Type 0} (table : Table) (values : A → Row) (records : List A) (stored : List Row)

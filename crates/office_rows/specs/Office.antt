@@ -3,10 +3,10 @@ use Rattle.std.specs.Prelude.{◌≡◌, ℕ, ◌+◌, ◌-◌, ◌<◌, ◌≤�
 use Rattle.std.specs.List.{range_with_len}
 use Rattle.edi_syntax.specs.Numbers.{last_number}
 use Rattle.edi_messages.specs.{declared.codes.PartnerKind.PartnerKind, Codes.table_texts}
-use Rattle.terminal_core.specs.{declared.visits.Departure.Departure, Rows.VisitContent, Changes.TerminalRows, Changes.rows_of, Forms.IsWellFormed}
-use Rattle.terminal_core.specs.{OneByOne.GoOneByOne, State.TerminalState, State.IsWhole}
+use Rattle.terminal_core.specs.{declared.visits.Departure.Departure, Rows.VisitContent, Changes.{TerminalRows, rows_of}, Forms.IsWellFormed}
+use Rattle.terminal_core.specs.{OneByOne.GoOneByOne, State.{TerminalState, IsWhole}}
 use Rattle.office_admission.specs.{Setups.SetupContent, Given.IsGiven}
-use Rattle.office_rows.specs.{Rows.Partner, Rows.Setting, Opening.setting_row, Opening.tables_version, Opened.NumberKept, Opened.OpenedRows}
+use Rattle.office_rows.specs.{Rows.{Partner, Setting}, Opening.{setting_row, tables_version}, Opened.{NumberKept, OpenedRows}}
 use Rattle.office_rows.specs.ByKey.{standing_by, lines_by, ArePlacedOnce, AreListedOnce}
 
 -- ---- the set-up

@@ -1,6 +1,6 @@
 //! The laws of rowids. Each function has an empty body, and its clauses are the laws.
 
-ghost use Rattle.office_rows.specs.{Places.InsertAddsLast, Places.RowsHaveOneOrder, InPlace.AddsInPlace, InPlace.RepliesInPlace, InPlace.OthersKeepPlaces};
+ghost use Rattle.office_rows.specs.{Places.{InsertAddsLast, RowsHaveOneOrder}, InPlace.{AddsInPlace, RepliesInPlace, OthersKeepPlaces}};
 
 /// The rowids of rows.
 pub fn rowids()

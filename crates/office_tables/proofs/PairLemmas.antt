@@ -1,27 +1,19 @@
 -- An interchange that is inserted is the only one of its partner and number.
+use Rattle.std.{specs.List.list_any, proofs.{lemmas.Bool.or_parts, lemmas.List.map-append, lemmas.List.Sorted.list_any-IsPermutation}}
 use Rattle.std.proofs.Common.{◌≡◌, ℕ, ◌&&◌, ◌||◌, List, [], ◌∷◌, ◌++◌, Bool, true, false, if◌then◌else◌, Result, Ok, Err, OnOk, map, inl, inr, refl, sym, ap, ap₂, eq-eqb, ◌∙◌, ◌≢◌, Some, slice_get, subst, arith}
-use Rattle.std.specs.List.{list_any}
-use Rattle.std.proofs.{lemmas.Bool.or_parts, lemmas.List.map-append, lemmas.List.Sorted.list_any-IsPermutation}
-use Rattle.sqlite.specs.declared.types.Value.TheVariants.{Null}
-use Rattle.sqlite.specs.Collation.TheVariants.{Binary}
-use Rattle.sqlite.specs.{Order.Row, Order.column, Listing.understood, State.State, State.Executes, Term.Term, Table.Table, Tree.Trees, Program.overlay}
-use Rattle.sqlite.specs.Source.TheVariants.{Values}
-use Rattle.sqlite.specs.Command.TheVariants.{Insert, Update, Delete}
+use Rattle.sqlite.specs.{declared.types.Value.TheVariants.Null, Collation.TheVariants.Binary, Order.{Row, column}, Listing.understood, State.{State, Executes}}
+use Rattle.sqlite.specs.{Term.Term, Table.Table, Tree.Trees, Program.overlay, Source.TheVariants.Values, Command.TheVariants.{Insert, Update, Delete}}
 use Rattle.sqlite.proofs.Callers.{IsPlain, command_of}
 use Rattle.sqlite_value.specs.Keys.{first_key}
 use Rattle.sqlite_schema.specs.{declared.schema.Index.Index, Rules.equal}
 use Rattle.sqlite_catalog.specs.Listing.{automatic}
-use Rattle.sqlite_rules.specs.{Cast.cast_row, Edit.with_rowid, Edit.Edit}
-use Rattle.sqlite_rules.specs.declared.error.Rowids.TheVariants.{Chosen}
+use Rattle.sqlite_rules.specs.{Cast.cast_row, Edit.{with_rowid, Edit}, declared.error.Rowids.TheVariants.Chosen}
 use Rattle.sqlite_tied.proofs.RuleLemmas.{and_true}
 use Rattle.office_rows.specs.Tables.{interchange_table, office_schema, partner_table, visit_table, place_table, listing_table, setting_table, block_table}
-use Rattle.office_rows.specs.{Rows.Interchange, Rows.Rows, Values.number_value, Values.interchange_values, Steps.Steps, Stored.HasRows, Stored.columns_of}
-use Rattle.office_rows.specs.{Effects.is_pair, Opening.with_interchanges, Opening.interchange_row as interchange_of}
-use Rattle.office_rows.specs.InPlace.{AreInPlace, InterchangesAreInPlace}
-use Rattle.office_rows.proofs.WriteLemmas.{cast_null, cast_int, equal_numbers, run_insert, Edits, rows_of, run_update, run_delete}
-use Rattle.office_tables.specs.{Kept.with_kept_reply, Order.KeepsOrder}
-use Rattle.office_tables.proofs.KeyLemmas.{new_key}
-use Rattle.office_rows.proofs.InPlace.{others_keep_places}
+use Rattle.office_rows.specs.{Rows.{Interchange, Rows}, Values.{number_value, interchange_values}, Steps.Steps, Stored.{HasRows, columns_of}, Effects.is_pair}
+use Rattle.office_rows.specs.{Opening.{with_interchanges, interchange_row as interchange_of}, InPlace.{AreInPlace, InterchangesAreInPlace}}
+use Rattle.office_rows.proofs.{WriteLemmas.{cast_null, cast_int, equal_numbers, run_insert, Edits, rows_of, run_update, run_delete}, InPlace.others_keep_places}
+use Rattle.office_tables.{specs.{Kept.with_kept_reply, Order.KeepsOrder}, proofs.KeyLemmas.new_key}
 use Rattle.office_rows.proofs.Writing as texts
 
 -- ==== PairLemmas: An interchange that is inserted is the only one of its partner and number.

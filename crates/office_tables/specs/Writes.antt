@@ -1,9 +1,8 @@
 -- What a call that writes does to the transaction that it is in.
 use Rattle.std.specs.Prelude.{Result, OnOk, IfErr, IsTrue, List, take}
-use Rattle.sqlite.specs.{Effect.Database, Table.Table}
-use Rattle.sqlite.specs.State.{State, HasCleanDisk, KeepsCommit, Survives}
-use Rattle.office_rows.specs.{Rows.Rows, Steps.Steps, Steps.Turns, Stored.HasEmpty, Stored.HasRows, Tables.office_tables}
-use Rattle.office_tables.specs.{declared.table_fault.TableFault.TableFault, Faults.IsOfStore, Opened.AreMissing, Opened.MakesTables, Order.KeepsOrder}
+use Rattle.sqlite.specs.{Effect.Database, Table.Table, State.{State, HasCleanDisk, KeepsCommit, Survives}}
+use Rattle.office_rows.specs.{Rows.Rows, Steps.{Steps, Turns}, Stored.{HasEmpty, HasRows}, Tables.office_tables}
+use Rattle.office_tables.specs.{declared.table_fault.TableFault.TableFault, Faults.IsOfStore, Opened.{AreMissing, MakesTables}, Order.KeepsOrder}
 
 -- where it went well the rows are these, in order if they were before; with any answer, nothing is committed and a
 -- crash leaves what it left before; and it fails only as the store does, or memory

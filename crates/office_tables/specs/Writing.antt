@@ -1,7 +1,7 @@
 -- What writing a delivery commits.
 use Rattle.std.specs.Prelude.{◌≡◌, false, Result, IfErr, IsTrue, OnErr, OnOk}
-use Rattle.sqlite.specs.{State.State, State.HasCleanDisk, State.Survives, Tree.Trees}
-use Rattle.office_rows.specs.{Rows.Rows, Stored.HasRows, Stored.StoresRows, Tables.office_schema}
+use Rattle.sqlite.specs.{State.{State, HasCleanDisk, Survives}, Tree.Trees}
+use Rattle.office_rows.specs.{Rows.Rows, Stored.{HasRows, StoresRows}, Tables.office_schema}
 use Rattle.office_tables.specs.{Faults.IsOfStore, Order.HasRowsInOrder, declared.table_fault.TableFault.TableFault}
 
 -- the change is committed: the rows are these, in order if they were before, and a crash leaves only these

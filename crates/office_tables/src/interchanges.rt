@@ -1,7 +1,5 @@
-ghost use Rattle.std.specs.List.{list_any};
-ghost use Rattle.std.specs.Prelude.{◌≡◌, [], ◌∷◌, false, OnOk, IsTrue};
-ghost use Rattle.office_rows.specs.{Effects.is_pair, Effects.with_waiting, Effects.with_reply, Opening.interchange_row, Opening.with_interchanges, Rows.Rows};
-ghost use Rattle.office_rows.specs.Stored.{HasRows};
+ghost use Rattle.std.specs.{List.list_any, Prelude.{◌≡◌, [], ◌∷◌, false, OnOk, IsTrue}};
+ghost use Rattle.office_rows.specs.{Effects.{is_pair, with_waiting, with_reply}, Opening.{interchange_row, with_interchanges}, Rows.Rows, Stored.HasRows};
 ghost use Rattle.office_tables.specs.{Kept.with_kept_reply, Writes.Writes};
 ghost use Rattle.sqlite.specs.{Held.state, State.HasCleanDisk};
 

@@ -1,5 +1,4 @@
-use Rattle.office_desk.proofs.KeptLemmas.{journal_kept, rebuilt}
-use Rattle.office_desk.proofs.PageLemmas.{journal_handed_out}
+use Rattle.office_desk.proofs.{KeptLemmas.{journal_kept, rebuilt}, PageLemmas.journal_handed_out}
 use Rattle.office_desk.proofs.laws.journals.Goals as goal
 
 pub returns-clause-desks_keep_journals : goal.returns-clause-desks_keep_journals

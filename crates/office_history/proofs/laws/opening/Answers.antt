@@ -1,5 +1,4 @@
-use Rattle.office_history.proofs.{Loads.shown_by_office, Offices.state_given, Alike.reopens}
-use Rattle.office_history.proofs.Offices.{rows_are, older_rows_are}
+use Rattle.office_history.proofs.{Loads.shown_by_office, Offices.{state_given, rows_are, older_rows_are}, Alike.reopens}
 use Rattle.office_history.proofs.laws.opening.Goals as goal
 
 pub returns-clause-loading_gives_state : goal.returns-clause-loading_gives_state

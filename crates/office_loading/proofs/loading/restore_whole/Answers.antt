@@ -1,5 +1,4 @@
-use Rattle.std.proofs.Common.{subst}
-use Rattle.std.specs.Prelude.{IfErr, IfOk}
+use Rattle.std.{specs.Prelude.{IfErr, IfOk}, proofs.Common.subst}
 use Rattle.office_admission.specs.Setups.{setup_content}
 use Rattle.office_loading.specs.{Contents.opened_rows, OwnOffice.IsOwnOffice, Refusals.RefusesTables}
 use Rattle.office_loading.proofs.loading.restore_whole.Goals as goal

@@ -1,5 +1,4 @@
-use Rattle.std.proofs.Common.{◌≡◌, true, false, [], ◌∷◌, refl, sym, ap, ◌∙◌}
-use Rattle.std.specs.List.{list_any}
+use Rattle.std.{specs.List.list_any, proofs.Common.{◌≡◌, true, false, [], ◌∷◌, refl, sym, ap, ◌∙◌}}
 use Rattle.sqlite.specs.Held.{state}
 use Rattle.office_rows.specs.{Tables.setting_table, Layouts.weighed, Opening.tables_version, Values.setting_values}
 use Rattle.office_loading.specs.{Contents.setting_content, Columns.names_version, Fits.FitsSetting, Tables.NamesVersion}

@@ -1,4 +1,4 @@
-use Rattle.office_parts.proofs.{AwayLemmas.none_away, AwayLemmas.others_there, AwayLemmas.came_back, KeepingLemmas.away_done}
+use Rattle.office_parts.proofs.{AwayLemmas.{none_away, others_there, came_back}, KeepingLemmas.away_done}
 use Rattle.office_parts.proofs.away.lines_away.Goals as goal
 
 pub returns-clause-no_line_is_away : goal.returns-clause-no_line_is_away

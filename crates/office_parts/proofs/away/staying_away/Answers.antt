@@ -1,5 +1,4 @@
-use Rattle.office_parts.proofs.AwayLemmas.{next_names, without_row, with_early, with_next, with_account, others_stay}
-use Rattle.office_parts.proofs.Reading.{away_alike}
+use Rattle.office_parts.proofs.{AwayLemmas.{next_names, without_row, with_early, with_next, with_account, others_stay}, Reading.away_alike}
 use Rattle.office_parts.proofs.away.staying_away.Goals as goal
 
 pub returns-clause-next_names_none_away : goal.returns-clause-next_names_none_away

@@ -1,4 +1,4 @@
-use Rattle.office_parts.proofs.{Orders.acts_alike, Splits.own_sound, Splits.changes_spared, Takings.goes_beside}
+use Rattle.office_parts.proofs.{Orders.acts_alike, Splits.{own_sound, changes_spared}, Takings.goes_beside}
 use Rattle.office_parts.proofs.laws.acting_alike.Goals as goal
 
 pub returns-clause-orders_act_alike : goal.returns-clause-orders_act_alike

@@ -1,4 +1,4 @@
-use Rattle.office_parts.proofs.{Orders.numbers_told, Orders.closed_within, Orders.archives_answered, Opening.new_visits}
+use Rattle.office_parts.proofs.{Orders.{numbers_told, closed_within, archives_answered}, Opening.new_visits}
 use Rattle.office_parts.proofs.laws.closed_numbers.Goals as goal
 
 pub returns-clause-numbers_are_told : goal.returns-clause-numbers_are_told

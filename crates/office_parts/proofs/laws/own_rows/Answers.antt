@@ -1,4 +1,4 @@
-use Rattle.office_parts.proofs.{Opening.own_beyond, Opening.own_numbers, Opening.own_visits_go, OwnOpening.own_office}
+use Rattle.office_parts.proofs.{Opening.{own_beyond, own_numbers, own_visits_go}, OwnOpening.own_office}
 use Rattle.office_parts.proofs.laws.own_rows.Goals as goal
 
 pub returns-clause-own_are_beyond : goal.returns-clause-own_are_beyond

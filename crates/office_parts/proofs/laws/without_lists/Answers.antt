@@ -1,4 +1,4 @@
-use Rattle.office_parts.proofs.{BringingLemmas.orders, BringingLemmas.sound, ListTakings.interchanges, ListTakings.runs}
+use Rattle.office_parts.proofs.{BringingLemmas.{orders, sound}, ListTakings.{interchanges, runs}}
 use Rattle.office_parts.proofs.Writings.{terminals, runs_written, next_adds, own_office_without}
 use Rattle.office_parts.proofs.laws.without_lists.Goals as goal
 

@@ -1,5 +1,4 @@
-use Rattle.office_rows.proofs.Placed.{insert_adds_last}
-use Rattle.office_rows.proofs.Ordered.{rows_have_one_order}
+use Rattle.office_rows.proofs.{Placed.insert_adds_last, Ordered.rows_have_one_order}
 use Rattle.office_rows.proofs.laws.rowids.Goals as goal
 
 pub returns-clause-insert_adds_last : goal.returns-clause-insert_adds_last

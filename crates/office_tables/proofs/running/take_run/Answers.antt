@@ -1,5 +1,5 @@
-use Rattle.std.proofs.Common.{◌≡◌, ◌+◌, ◌++◌, [], ◌∷◌, ◌<◌, All, length, None, Ok, Some, ap, subst, sym, ◌∙◌, arith}
-use Rattle.std.proofs.{lemmas.List.length-append, lemmas.List.Elements.All-push}
+use Rattle.std.proofs.{Common.{◌≡◌, ◌+◌, ◌++◌, [], ◌∷◌, ◌<◌, All, length, None, Ok, Some, ap, subst, sym, ◌∙◌, arith}, lemmas.List.length-append}
+use Rattle.std.proofs.lemmas.List.Elements.{All-push}
 use Rattle.sqlite.specs.{Held.state, State.HasCleanDisk}
 use Rattle.office_rows.specs.Stored.{HasRows}
 use Rattle.office_history.specs.Cascade.{text_in, texts_with}

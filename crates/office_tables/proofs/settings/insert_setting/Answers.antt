@@ -1,9 +1,8 @@
 use Rattle.std.proofs.Common.{[], ◌∷◌, Ok}
 use Rattle.sqlite.specs.{Held.state, State.Executes}
-use Rattle.office_rows.specs.{Values.setting_values, Opening.setting_row, Opening.with_settings}
-use Rattle.office_rows.proofs.Writing as texts
-use Rattle.office_rows.proofs.Written.{inserted_setting}
+use Rattle.office_rows.{specs.{Values.setting_values, Opening.{setting_row, with_settings}}, proofs.Written.inserted_setting}
 use Rattle.office_tables.proofs.{PairLemmas.insert_setting_stays, WritesLemmas.writes_of}
+use Rattle.office_rows.proofs.Writing as texts
 use Rattle.office_tables.proofs.settings.insert_setting.Goals as goal
 
 pub returns-clause-writes : goal.returns-clause-writes

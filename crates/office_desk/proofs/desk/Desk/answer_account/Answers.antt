@@ -1,19 +1,16 @@
-use Rattle.std.proofs.Common.{◌≡◌, ◌++◌, [], ◌∷◌, map, List, inl, refl, sym, ap, subst, ◌∙◌, rules, string_bytes}
-use Rattle.std.specs.Prelude.{OnOk}
+use Rattle.std.{specs.Prelude.OnOk, proofs.Common.{◌≡◌, ◌++◌, [], ◌∷◌, map, List, inl, refl, sym, ap, subst, ◌∙◌, rules, string_bytes}}
 use Rattle.sqlite.specs.{Held.state, State.HasCleanDisk}
-use Rattle.office_admission.specs.Accounts.{AccountPair, account_answer, added_as, by_number, content_after, known_as, refused_for}
-use Rattle.office_replies.specs.{AccountAnswers.account_added_text, AccountAnswers.account_known_text, Events.Event, Events.added}
+use Rattle.office_admission.specs.{Accounts.{AccountPair, account_answer, added_as, by_number, content_after, known_as, refused_for}, Parties.partner_from}
+use Rattle.office_admission.specs.Setups.{SetupContent, setup_content, setup_with_account}
+use Rattle.office_replies.specs.{AccountAnswers.{account_added_text, account_known_text}, Events.{Event, added}}
 use Rattle.office_replies.specs.declared.accounts.AccountAnswer.TheVariants.{Added, Known, Refused, NotNow}
 use Rattle.office_replies.specs.declared.accounts.AccountFault.TheVariants.{Partner}
-use Rattle.office_rows.specs.{Effects.with_partner, Rows.Rows, Stored.HasRows, Stored.StoresRows}
-use Rattle.office_admission.specs.{Parties.partner_from, Setups.SetupContent, Setups.setup_content, Setups.setup_with_account}
-use Rattle.office_tables.specs.Order.{HasRowsInOrder}
-use Rattle.office_tables.specs.declared.table_fault.TableFault.TheVariants.{Memory}
+use Rattle.office_rows.{specs.{Effects.with_partner, Rows.Rows, Stored.{HasRows, StoresRows}}, proofs.Creating.stores}
+use Rattle.office_tables.specs.{Order.HasRowsInOrder, declared.table_fault.TableFault.TheVariants.Memory}
 use Rattle.office_history.proofs.Ground.{account_adds_row}
-use Rattle.office_desk.proofs.{PageLemmas.held_rows_leave, HoldLemmas.committed_leaves, HoldLemmas.either_of, HoldLemmas.held_leaves}
-use Rattle.office_desk.proofs.{LookLemmas.noted_fault, LookLemmas.noted_told, Faults.account_in_order, Faults.committed_in_order}
-use Rattle.office_rows.proofs.Creating.{stores}
-use Rattle.office_desk.specs.{Accounts.standing_content, Desks.StandsFor, Order.IsInOrder, Order.StandsInOrder, Order.stored, Telling.Holds}
+use Rattle.office_desk.specs.{Accounts.standing_content, Desks.StandsFor, Order.{IsInOrder, StandsInOrder, stored}, Telling.Holds}
+use Rattle.office_desk.proofs.{PageLemmas.held_rows_leave, HoldLemmas.{committed_leaves, either_of, held_leaves}, LookLemmas.{noted_fault, noted_told}}
+use Rattle.office_desk.proofs.Faults.{account_in_order, committed_in_order}
 use Rattle.office_desk.proofs.AccountLemmas.{account_after, account_held, asked_is, given_left, given_with, not_added, says_now, says_of}
 use Rattle.office_desk.proofs.desk.Desk.answer_account.Goals as goal
 
