@@ -128,10 +128,6 @@ module _ {A : Type 0} (p q : A → Bool) where
           let no : not true ≡ true = sym (ap not has) ∙ not_ in
           cc
 
-  -- and what is found in a half is found in the whole
-  pub half_found : (xs : List A) (i : A) → count_by p xs ≤ 1 → find p (filter q xs) ≡ Some i → find p xs ≡ Some i
-  half_found xs i few e = sym (split_finds xs few) ∙ ap (λ o. option_or o (find p (filter opposite xs))) e
-
 -- ---- having
 
 -- it is in the list

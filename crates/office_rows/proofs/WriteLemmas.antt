@@ -1,5 +1,5 @@
 -- From what a statement means to the rows of its table.
-use Rattle.std.specs.{List.{flat_map, filter_map, list_all, AllByRecursion}, List.Sorted.IsPermutation, Str.bytes_eq, Ordering.{nat_cmp, on}, Prelude.IsSorted}
+use Rattle.std.specs.{List.{flat_map, filter_map, list_all}, List.Sorted.IsPermutation, Str.bytes_eq, Ordering.{nat_cmp, on}, Prelude.IsSorted}
 use Rattle.std.{specs.Cmp.Lexicographic.slice_cmp, proofs.{lemmas.Bool.cases_Bool, lemmas.Bool.Decides.nat_tests, lemmas.Int.ints}}
 use Rattle.std.proofs.Common.{◌≡◌, ◌≢◌, ◌⊎◌, ℕ, ◌==◌, ℤ, pos, negsuc, inl, inr, List, [], ◌∷◌, map, filter, slice_get, Bool, true, false, cond, Some, None, Result, Ok, Err, refl, sym, ap, subst, ◌∙◌, length, ◌/◌, arith, is_eq, is_lt, int_cmp, fold, MatchBool, if◌then◌else◌, ◌++◌, append-nil, drop, not}
 use Rattle.std.proofs.{lemmas.Map.Text.is_eq-slice_cmp, lemmas.List.Sorted.{IsPermutation-map, IsPermutation-trans, IsPermutation-cons, IsPermutation-middle}}
@@ -116,10 +116,6 @@ module _ (params : Row) (tests : List Term) where
       (subst (λ k. IsPermutation k a.ordered) kept a.same, a.sorted, a.shown)
 
 -- ---- writes
-
--- what a write leaves of the tables that it is not about
-abbrev pub KeepsOthers : Table → Trees → Trees → Type 0
-KeepsOthers table old new = AllByRecursion (λ t. t.tree ≢ table.tree → new t.tree ≡ old t.tree) office_schema.tables
 
 pub record Edits (table : Table) (edit : Edit) (old new : Database) : Type 0 where
   pub schema : new.schema ≡ office_schema
