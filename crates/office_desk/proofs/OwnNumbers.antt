@@ -14,10 +14,10 @@ use Rattle.office_admission.specs.declared.refusal.Refusal.TheVariants.{Plain, W
 use Rattle.edi_messages.specs.{Codes.table_texts, declared.code.CodeTable.CodeTable, declared.codes.PartnerKind.PartnerKind}
 use Rattle.terminal_core.specs.Versions.{newest}
 use Rattle.office_history.specs.After.{SaysSame, content_after, deliveries_of, machine_after, opening_of, taking_in, AreKeptOnce, accounts_from, reply_if_any, reply_in}
-use Rattle.office_history.{specs.{Laws.answer_model_of, Cascade.text_in}, proofs.{Kept.{Has, taken_by, found_only, head_in, tail_in}, Runs.is_pair_at}}
+use Rattle.office_history.{specs.{Laws.answer_model_of, Cascade.text_in}, proofs.Kept.{Has, IsBeyond, taken_by, found_only, head_in, tail_in}}
+use Rattle.office_history.proofs.{Runs.is_pair_at, KeptNumbers.{HaveRuns, found_pair, has_in, has_left, has_right, has_taken, replies, within_at}}
 use Rattle.office_history.proofs.Alike.{after_with_codes, delivered_with_codes, now_with_codes, opening_like, reply_like, state_like, taking_with_codes, with_codes}
-use Rattle.office_history.proofs.KeptNumbers.{HaveRuns, found_pair, has_in, has_left, has_right, has_taken, replies, within_at}
-use Rattle.office_parts.{specs.{Kept.kept, Closing.is_beyond}, proofs.{Opening.IsBeyond, Orders.beyond_numbered, OwnOffices.{KeepsOwn, beyond_in, in_beyond}}}
+use Rattle.office_parts.{specs.{Kept.kept, Closing.is_beyond}, proofs.{Orders.beyond_numbered, OwnOffices.{KeepsOwn, beyond_in, in_beyond}}}
 use Rattle.office_desk.specs.{Answers.{code_of, answer_by_model, answer_at, answer_to}, Alike.AnswersAlike}
 use Rattle.office_rows.specs.{Rows.{Partner, Interchange, Rows}, Effects.is_pair, Opened.{NumberKept, number_kept}, Office.AreWaiting}
 use Rattle.office_loading.specs.{Checks.{AreKeptBeyond, taken_beyond}, OwnOffice.{AreInOrder, AreOwnNumbers, IsClosedBelow}}

@@ -177,14 +177,22 @@ abbrev pub Has : ℕ → ℕ → List NumberKept → Type 0
 Has p k [] = ⊥
 Has p k (n ∷ ns) = ((n.partner ≡ p) × (n.number ≡ k)) ⊎ Has p k ns
 
--- what is kept is of one of that many partners, and was taken if it is within the partner's run
-pub record IsWithinRuns (count : ℕ) (runs : ℕ → ℕ) (n : NumberKept) : Type 0 where
+-- what is kept is of one of that many partners, beyond what is closed, and was taken if it is within the partner's run
+pub record IsBeyond (closed : ℕ → ℕ) (count : ℕ) (runs : ℕ → ℕ) (n : NumberKept) : Type 0 where
   pub partner_low : 1 ≤ n.partner
   pub partner_high : n.partner ≤ count
-  pub low : 1 ≤ n.number
+  pub low : closed n.partner < n.number
   pub high : n.number ≤ 999999999
   pub taken : n.number ≤ runs n.partner → n.is_taken ≡ true
   pub waits : runs n.partner < n.number → (runs n.partner + 1 < n.number) × (n.is_taken ≡ false)
+
+-- each number beyond what is closed, within the runs of partners after that one, is there
+abbrev pub IsComplete : (closed runs : ℕ → ℕ) → ℕ → List NumberKept → Type 0
+IsComplete closed runs p ns = (q k : ℕ) → p < q → closed q < k → k ≤ runs q → Has q k ns
+
+-- the same where nothing is closed
+abbrev pub IsWithinRuns : ℕ → (ℕ → ℕ) → NumberKept → Type 0
+IsWithinRuns = IsBeyond (λ p. 0)
 
 -- what follows in order comes after
 pub has_after : (q m : ℕ) (ns : List NumberKept) (p k : ℕ) → Starts q m ns → Rise ns → Has p k ns → (q < p) ⊎ ((p ≡ q) × (m < k))
@@ -201,15 +209,8 @@ has_after q m (n ∷ ns) p k starts rise (inr later) = elim (has_after n.partner
 abbrev pub taken_by : ℕ → ℕ → NumberKept
 taken_by partner number = record { partner = partner; number = number; is_taken = true }
 
-module _ (count : ℕ) (runs : ℕ → ℕ) where
-  abbrev next : ℕ → ℕ
-  next p = runs p + 1
-
-  -- each number within the runs of partners after that one is there
-  abbrev pub IsComplete : ℕ → List NumberKept → Type 0
-  IsComplete p ns = (q k : ℕ) → p < q → 1 ≤ k → k ≤ runs q → Has q k ns
-
-  behind : (p : ℕ) (n : NumberKept) (ns : List NumberKept) → n.partner ≡ p → IsComplete p (n ∷ ns) → IsComplete p ns
+module _ (closed : ℕ → ℕ) (count : ℕ) (runs : ℕ → ℕ) where
+  behind : (p : ℕ) (n : NumberKept) (ns : List NumberKept) → n.partner ≡ p → IsComplete closed runs p (n ∷ ns) → IsComplete closed runs p ns
   behind p n ns own there q k far one within = elim (there q k far one within) [
     | inl here ↦ absurd (omega (arith, far, here.0, own))
     | inr later ↦ later
@@ -223,10 +224,10 @@ module _ (count : ℕ) (runs : ℕ → ℕ) where
     wait : AreWaiting p above waiting
     from : From (p + 1) others
     rise : Rise others
-    all : AllByRecursion (IsWithinRuns count runs) others
-    there : IsComplete p others
+    all : AllByRecursion (IsBeyond closed count runs) others
+    there : IsComplete closed runs p others
 
-  waiting_first : (p above : ℕ) (ns : List NumberKept) → runs p < above → Starts p above ns → Rise ns → AllByRecursion (IsWithinRuns count runs) ns → IsComplete p ns → Parts p above ns
+  waiting_first : (p above : ℕ) (ns : List NumberKept) → runs p < above → Starts p above ns → Rise ns → AllByRecursion (IsBeyond closed count runs) ns → IsComplete closed runs p ns → Parts p above ns
   waiting_first p above [] far starts rise all there = record { waiting = []; others = []; are = refl; wait = tt; from = tt; rise = tt; all = tt; there = there }
   waiting_first p above (n ∷ ns) far (inl beyond) rise all there = record { waiting = []; others = n ∷ ns; are = refl; wait = tt; from = omega arith; rise = rise; all = all; there = there }
   waiting_first p above (n ∷ ns) far (inr own) rise all there =
@@ -246,17 +247,17 @@ module _ (count : ℕ) (runs : ℕ → ℕ) where
       }
 
   -- those that were taken of a partner, from a number on, those that wait, and those of the partners after it
-  record Own (p above many : ℕ) (ns : List NumberKept) : Type 0 where
-    waiting : List NumberKept
-    others : List NumberKept
-    are : ns ≡ (map (taken_by p) (range_with_len (above + 1) many) ++ waiting) ++ others
-    wait : AreWaiting p (next p) waiting
-    from : From (p + 1) others
-    rise : Rise others
-    all : AllByRecursion (IsWithinRuns count runs) others
-    there : IsComplete p others
+  pub record Own (p above many : ℕ) (ns : List NumberKept) : Type 0 where
+    pub waiting : List NumberKept
+    pub others : List NumberKept
+    pub are : ns ≡ (map (taken_by p) (range_with_len (above + 1) many) ++ waiting) ++ others
+    pub wait : AreWaiting p (runs p + 1) waiting
+    pub from : From (p + 1) others
+    pub rise : Rise others
+    pub all : AllByRecursion (IsBeyond closed count runs) others
+    pub there : IsComplete closed runs p others
 
-  past_run : (p above : ℕ) (ns : List NumberKept) → above ≡ runs p → Starts p above ns → AllByRecursion (IsWithinRuns count runs) ns → Starts p (next p) ns
+  past_run : (p above : ℕ) (ns : List NumberKept) → above ≡ runs p → Starts p above ns → AllByRecursion (IsBeyond closed count runs) ns → Starts p (runs p + 1) ns
   past_run p above [] e starts all = tt
   past_run p above (n ∷ ns) e (inl beyond) all = inl beyond
   past_run p above (n ∷ ns) e (inr own) all =
@@ -273,11 +274,11 @@ module _ (count : ℕ) (runs : ℕ → ℕ) where
     | inr own ↦ elim starts [ inl far ↦ absurd (omega (arith, own.0, far)) | inr near ↦ absurd (omega (arith, own.1, near.1)) ]
   ]
 
-  taken_first : (p above many : ℕ) (ns : List NumberKept) → above + many ≡ runs p → Starts p above ns → Rise ns → AllByRecursion (IsWithinRuns count runs) ns
-      → ((k : ℕ) → above < k → k ≤ runs p → Has p k ns) → IsComplete p ns → Own p above many ns
+  pub taken_first : (p above many : ℕ) (ns : List NumberKept) → above + many ≡ runs p → Starts p above ns → Rise ns → AllByRecursion (IsBeyond closed count runs) ns
+      → ((k : ℕ) → above < k → k ≤ runs p → Has p k ns) → IsComplete closed runs p ns → Own p above many ns
   taken_first p above zero ns e starts rise all own_there there =
       let end : above ≡ runs p = omega arith in
-      let rest = waiting_first p (next p) ns (omega arith) (past_run p above ns end starts all) rise all there in
+      let rest = waiting_first p (runs p + 1) ns (omega arith) (past_run p above ns end starts all) rise all there in
       record { waiting = rest.waiting; others = rest.others; are = rest.are; wait = rest.wait; from = rest.from; rise = rest.rise; all = rest.all; there = rest.there }
   taken_first p above (suc many) [] e starts rise all own_there there = absurd (own_there (above + 1) (omega arith) (omega arith))
   taken_first p above (suc many) (n ∷ ns) e starts rise all own_there there =
@@ -301,23 +302,28 @@ module _ (count : ℕ) (runs : ℕ → ℕ) where
         there = rest.there;
       }
 
-  start : (p : ℕ) (ns : List NumberKept) → From p ns → AllByRecursion (IsWithinRuns count runs) ns → Starts p 0 ns
+  pub start : (p : ℕ) (ns : List NumberKept) → From p ns → AllByRecursion (IsBeyond closed count runs) ns → Starts p (closed p) ns
   start p [] from all = tt
   start p (n ∷ ns) from all = elim (cases_order p n.partner) [
-    | inl same ↦ inr (sym same, omega (arith, all.0.low))
+    | inl same ↦ inr (sym same, (let own : closed p ≡ closed n.partner = ap closed same in omega (arith, own, all.0.low)))
     | inr o ↦ elim o [ inl far ↦ inl far | inr before ↦ absurd (omega arith) ]
   ]
 
-  none_left : (id : ℕ) (ns : List NumberKept) → id ≡ count + 1 → From id ns → AllByRecursion (IsWithinRuns count runs) ns → ns ≡ []
+  pub none_left : (id : ℕ) (ns : List NumberKept) → id ≡ count + 1 → From id ns → AllByRecursion (IsBeyond closed count runs) ns → ns ≡ []
   none_left id [] e from all = refl
   none_left id (n ∷ ns) e from all = absurd (omega (arith, all.0.partner_high))
 
-  kept_from : (id low : ℕ) (accounts : List (List ℕ × PartnerKind)) (ns : List NumberKept) → low + 1 ≡ id → id + length accounts ≡ count + 1 → From id ns → Rise ns → AllByRecursion (IsWithinRuns count runs) ns → IsComplete low ns
-      → AreKept (accounts_from id next accounts) ns
-  kept_from id low [] ns e ends from rise all there = none_left id ns (omega arith) from all
+  pub first_account : (ns : List NumberKept) → AllByRecursion (IsBeyond closed count runs) ns → From 1 ns
+  first_account [] all = tt
+  first_account (n ∷ ns) all = all.0.partner_low
+
+module _ (count : ℕ) (runs : ℕ → ℕ) where
+  kept_from : (id low : ℕ) (accounts : List (List ℕ × PartnerKind)) (ns : List NumberKept) → low + 1 ≡ id → id + length accounts ≡ count + 1 → From id ns → Rise ns → AllByRecursion (IsWithinRuns count runs) ns → IsComplete (λ p. 0) runs low ns
+      → AreKept (accounts_from id (λ p. runs p + 1) accounts) ns
+  kept_from id low [] ns e ends from rise all there = none_left (λ p. 0) count runs id ns (omega arith) from all
   kept_from id low (account ∷ accounts) ns e ends from rise all there =
-      let own = taken_first id 0 (runs id) ns (omega arith) (start id ns from all) rise all (λ k above within. there id k (omega arith) (omega arith) within) (λ q k far one within. there q k (omega arith) one within) in
-      let partner : Partner = record { id = id; code = account.0; kind = account.1; next = next id } in
+      let own = taken_first (λ p. 0) count runs id 0 (runs id) ns (omega arith) (start (λ p. 0) count runs id ns from all) rise all (λ k above within. there id k (omega arith) above within) (λ q k far one within. there q k (omega arith) one within) in
+      let partner : Partner = record { id = id; code = account.0; kind = account.1; next = runs id + 1 } in
       let many : runs id + 1 - 1 ≡ runs id = omega arith in
       let taken : taken_numbers partner ≡ map (taken_by id) (range_with_len 1 (runs id)) = ap (λ c. map (taken_by id) (range_with_len 1 c)) many in (
         map (taken_by id) (range_with_len 1 (runs id)) ++ own.waiting,
@@ -327,13 +333,9 @@ module _ (count : ℕ) (runs : ℕ → ℕ) where
         kept_from (id + 1) id accounts own.others refl (omega arith) own.from own.rise own.all own.there,
       )
 
-  first_account : (ns : List NumberKept) → AllByRecursion (IsWithinRuns count runs) ns → From 1 ns
-  first_account [] all = tt
-  first_account (n ∷ ns) all = all.0.partner_low
-
   -- what is kept in order is that of all the accounts
-  pub all_kept : (accounts : List (List ℕ × PartnerKind)) (ns : List NumberKept) → length accounts ≡ count → Rise ns → AllByRecursion (IsWithinRuns count runs) ns → IsComplete 0 ns → AreKept (accounts_from 1 next accounts) ns
-  all_kept accounts ns counted rise all there = kept_from 1 0 accounts ns refl (omega arith) (first_account ns all) rise all there
+  pub all_kept : (accounts : List (List ℕ × PartnerKind)) (ns : List NumberKept) → length accounts ≡ count → Rise ns → AllByRecursion (IsWithinRuns count runs) ns → IsComplete (λ p. 0) runs 0 ns → AreKept (accounts_from 1 (λ p. runs p + 1) accounts) ns
+  all_kept accounts ns counted rise all there = kept_from 1 0 accounts ns refl (omega arith) (first_account (λ p. 0) count runs ns all) rise all there
 
 -- ---- the accounts
 

@@ -184,9 +184,6 @@ has_in [] p k has = absurd has
 has_in (z ∷ zs) p k (inl here) = (z, head_in z zs, here.0, here.1)
 has_in (z ∷ zs) p k (inr later) = let rest = has_in zs p k later in (rest.0, tail_in z rest.0 zs rest.1, rest.2, rest.3)
 
-module _ (count : ℕ) (runs : ℕ → ℕ) (rows : Rows) (zs : List Interchange) (same : IsPermutation rows.interchanges zs) (once : AreKeptOnce rows.interchanges)
-    (all : AllByRecursion (IsWithinRuns count runs) (map number_kept zs)) (has : (p k : ℕ) → 1 ≤ k → k ≤ runs p → Has p k (map number_kept zs)) where
-
 -- ---- in the order of partners and numbers
 
 pub less_first : (m n : ℕ) → m < n → nat_cmp m n ≡ Less
@@ -282,7 +279,7 @@ module _ (count : ℕ) (runs : ℕ → ℕ) (rows : Rows) (keeps : KeepsNumbers 
   body_found None e = cc
   body_found (Some i) e = (i, refl)
 
-  complete : (zs : List Interchange) → IsPermutation rows.interchanges zs → IsComplete count runs 0 (map number_kept zs)
+  complete : (zs : List Interchange) → IsPermutation rows.interchanges zs → IsComplete (λ p. 0) runs 0 (map number_kept zs)
   complete zs same q k far one within =
       let there = body_found (find (is_pair q k) rows.interchanges) (keeps.there q k one within) in
       let pair = found_pair rows q k there.0 there.1 in

@@ -1,15 +1,15 @@
 -- What a store's own rows are checked for when it is opened.
 use Rattle.std.specs.{List.{range_with_len, AllByRecursion}, List.Sorted.IsPermutation, Option.{option_map, option_and_then}}
 use Rattle.std.{specs.Prelude.{Contains, ◌==◌, not, nat_le, find, count_by, filter}, proofs.lemmas.Bool.{cases_order, le-leb, leb-true, ne_eqb}}
-use Rattle.std.proofs.Common.{◌≡◌, ℕ, zero, suc, ◌+◌, ◌-◌, ◌<◌, ◌≤◌, inl, inr, List, [], ◌∷◌, ◌++◌, length, map, true, false, refl, sym, ap, ap₂, subst, ◌∙◌, arith, Bool, cond, Option, None, Some, is_some}
+use Rattle.std.proofs.Common.{◌≡◌, ℕ, ◌+◌, ◌-◌, ◌<◌, ◌≤◌, inl, inr, List, [], ◌∷◌, ◌++◌, length, map, true, false, refl, sym, ap, subst, ◌∙◌, arith, Bool, cond, Option, None, Some, is_some}
 use Rattle.std.proofs.lemmas.List.Sorted.{IsPermutation-sym, Contains-permutation, sum_by-IsPermutation}
 use Rattle.edi_messages.specs.declared.codes.PartnerKind.{PartnerKind}
-use Rattle.office_rows.specs.{Rows.{Partner, Interchange, Rows}, Opened.{NumberKept, number_kept, reply_values}, Office.AreWaiting, Effects.is_pair}
-use Rattle.office_rows.specs.{Tables.interchange_table, Values.interchange_values}
+use Rattle.office_rows.specs.{Rows.{Partner, Interchange, Rows}, Opened.{NumberKept, number_kept, reply_values}, Effects.is_pair, Tables.interchange_table}
+use Rattle.office_rows.specs.Values.{interchange_values}
 use Rattle.office_history.specs.After.{accounts_from, content_after, deliveries_of, opening_of, machine_after, taking_in, reply_if_any, reply_in}
-use Rattle.office_history.{specs.Cascade.text_in, proofs.{Kept.{Starts, Rise, Has, found_only, head_in, tail_in, has_after, From}, Places.sound_in}}
-use Rattle.office_history.proofs.{Afters.{state_sound, unreplied}, Accounted.delivered_within, KeptNumbers.{all_numbered, has_at}}
-use Rattle.office_history.proofs.Runs.{is_pair_at, pair_of, InTurn, is_before, shows_records, by_keys}
+use Rattle.office_history.{specs.Cascade.text_in, proofs.{Places.sound_in, Afters.{state_sound, unreplied}, Accounted.delivered_within}}
+use Rattle.office_history.proofs.Kept.{Rise, Has, found_only, head_in, tail_in, From, IsBeyond, IsComplete, taken_by, taken_first, start, none_left, first_account}
+use Rattle.office_history.proofs.{KeptNumbers.{all_numbered, has_at}, Runs.{is_pair_at, pair_of, InTurn, is_before, shows_records, by_keys}}
 use Rattle.office_loading.specs.Checks.{taken_beyond, AreKeptBeyond, visits_after, numbers_beyond}
 use Rattle.sqlite_trees.proofs.ListLemmas.{IsPermutation-filter}
 use Rattle.partner_core.{specs.{Deliveries.{Delivery, first_text, run}, Machine.Taking}, proofs.OnceEach.within_replied}
@@ -25,19 +25,6 @@ use Rattle.office_parts.proofs.Splits.{own_rise, Has as HasElement, has_containe
 
 -- ==== Beyond: The interchanges that a store keeps beyond what is closed.
 
--- what is kept is of one of that many partners, beyond what is closed, and was taken if it is within the partner's run
-pub record IsBeyond (closed : ℕ → ℕ) (count : ℕ) (runs : ℕ → ℕ) (n : NumberKept) : Type 0 where
-  pub partner_low : 1 ≤ n.partner
-  pub partner_high : n.partner ≤ count
-  pub low : closed n.partner < n.number
-  pub high : n.number ≤ 999999999
-  pub taken : n.number ≤ runs n.partner → n.is_taken ≡ true
-  pub waits : runs n.partner < n.number → (runs n.partner + 1 < n.number) × (n.is_taken ≡ false)
-
--- each number beyond what is closed, within the runs of partners after that one, is there
-abbrev pub IsComplete : (closed runs : ℕ → ℕ) → ℕ → List NumberKept → Type 0
-IsComplete closed runs p ns = (q k : ℕ) → p < q → closed q < k → k ≤ runs q → Has q k ns
-
 module _ (closed : ℕ → ℕ) (count : ℕ) (runs : ℕ → ℕ) (below : (p : ℕ) → 1 ≤ p → p ≤ count → closed p ≤ runs p) where
   abbrev next : ℕ → ℕ
   next p = runs p + 1
@@ -45,117 +32,11 @@ module _ (closed : ℕ → ℕ) (count : ℕ) (runs : ℕ → ℕ) (below : (p :
   abbrev Complete : ℕ → List NumberKept → Type 0
   Complete = IsComplete closed runs
 
-  behind : (p : ℕ) (n : NumberKept) (ns : List NumberKept) → n.partner ≡ p → Complete p (n ∷ ns) → Complete p ns
-  behind p n ns own there q k far one within = elim (there q k far one within) [
-    | inl here ↦ absurd (omega (arith, far, here.0, own))
-    | inr later ↦ later
-  ]
-
-  -- those that wait for a partner, and those of the partners after it
-  record Parts (p above : ℕ) (ns : List NumberKept) : Type 0 where
-    waiting : List NumberKept
-    others : List NumberKept
-    are : ns ≡ waiting ++ others
-    wait : AreWaiting p above waiting
-    from : From (p + 1) others
-    rise : Rise others
-    all : AllByRecursion (IsBeyond closed count runs) others
-    there : Complete p others
-
-  waiting_first : (p above : ℕ) (ns : List NumberKept) → runs p < above → Starts p above ns → Rise ns → AllByRecursion (IsBeyond closed count runs) ns → Complete p ns → Parts p above ns
-  waiting_first p above [] far starts rise all there = record { waiting = []; others = []; are = refl; wait = tt; from = tt; rise = tt; all = tt; there = there }
-  waiting_first p above (n ∷ ns) far (inl beyond) rise all there = record { waiting = []; others = n ∷ ns; are = refl; wait = tt; from = omega arith; rise = rise; all = all; there = there }
-  waiting_first p above (n ∷ ns) far (inr own) rise all there =
-      let own_run : runs n.partner ≡ runs p = ap runs own.0 in
-      let higher : above < n.number = own.1 in
-      let its = all.0.waits (omega arith) in
-      let rest = waiting_first p n.number ns (omega arith) (subst (λ q. Starts q n.number ns) own.0 rise.0) rise.1 all.1 (behind p n ns own.0 there) in
-      record {
-        waiting = n ∷ rest.waiting;
-        others = rest.others;
-        are = ap (λ l. n ∷ l) rest.are;
-        wait = (own.0, its.1, own.1, all.0.high, rest.wait);
-        from = rest.from;
-        rise = rest.rise;
-        all = rest.all;
-        there = rest.there;
-      }
-
-  abbrev taken_by : ℕ → ℕ → NumberKept
-  taken_by p number = record { partner = p; number = number; is_taken = true }
-
-  -- those that were taken of a partner, from a number on, those that wait, and those of the partners after it
-  record Own (p above many : ℕ) (ns : List NumberKept) : Type 0 where
-    waiting : List NumberKept
-    others : List NumberKept
-    are : ns ≡ (map (taken_by p) (range_with_len (above + 1) many) ++ waiting) ++ others
-    wait : AreWaiting p (next p) waiting
-    from : From (p + 1) others
-    rise : Rise others
-    all : AllByRecursion (IsBeyond closed count runs) others
-    there : Complete p others
-
-  past_run : (p above : ℕ) (ns : List NumberKept) → above ≡ runs p → Starts p above ns → AllByRecursion (IsBeyond closed count runs) ns → Starts p (next p) ns
-  past_run p above [] e starts all = tt
-  past_run p above (n ∷ ns) e (inl beyond) all = inl beyond
-  past_run p above (n ∷ ns) e (inr own) all =
-      let own_run : runs n.partner ≡ runs p = ap runs own.0 in
-      let higher : above < n.number = own.1 in
-      let its = all.0.waits (omega arith) in
-      inr (own.0, omega (arith, its.0))
-
-  -- the number is the first
-  is_first : (p above : ℕ) (n : NumberKept) (ns : List NumberKept) → Starts p above (n ∷ ns) → Rise (n ∷ ns) → Has p (above + 1) (n ∷ ns) → (n.partner ≡ p) × (n.number ≡ above + 1)
-  is_first p above n ns starts rise (inl here) = here
-  is_first p above n ns starts rise (inr later) = elim (has_after n.partner n.number ns p (above + 1) rise.0 rise.1 later) [
-    | inl beyond ↦ elim starts [ inl far ↦ absurd (omega (arith, beyond, far)) | inr near ↦ absurd (omega (arith, beyond, near.0)) ]
-    | inr own ↦ elim starts [ inl far ↦ absurd (omega (arith, own.0, far)) | inr near ↦ absurd (omega (arith, own.1, near.1)) ]
-  ]
-
-  taken_first : (p above many : ℕ) (ns : List NumberKept) → above + many ≡ runs p → Starts p above ns → Rise ns → AllByRecursion (IsBeyond closed count runs) ns
-      → ((k : ℕ) → above < k → k ≤ runs p → Has p k ns) → Complete p ns → Own p above many ns
-  taken_first p above zero ns e starts rise all own_there there =
-      let end : above ≡ runs p = omega arith in
-      let rest = waiting_first p (next p) ns (omega arith) (past_run p above ns end starts all) rise all there in
-      record { waiting = rest.waiting; others = rest.others; are = rest.are; wait = rest.wait; from = rest.from; rise = rest.rise; all = rest.all; there = rest.there }
-  taken_first p above (suc many) [] e starts rise all own_there there = absurd (own_there (above + 1) (omega arith) (omega arith))
-  taken_first p above (suc many) (n ∷ ns) e starts rise all own_there there =
-      let here = is_first p above n ns starts rise (own_there (above + 1) (omega arith) (omega arith)) in
-      let own : n.partner ≡ p = here.0 in
-      let number : n.number ≡ above + 1 = here.1 in
-      let own_run : runs n.partner ≡ runs p = ap runs own in
-      let taken : n.is_taken ≡ true = all.0.taken (omega arith) in
-      let is : n ≡ taken_by p (above + 1) = λ i. record { partner = own i; number = number i; is_taken = taken i } in
-      let rest = taken_first p (above + 1) many ns (omega arith) (subst (λ k. Starts p k ns) number (subst (λ q. Starts q n.number ns) own rise.0)) rise.1 all.1
-      (λ k far within. elim (own_there k (omega arith) within) [ inl one ↦ absurd (omega (arith, one.1, number, far)) | inr later ↦ later ])
-      (behind p n ns own there) in
-      record {
-        waiting = rest.waiting;
-        others = rest.others;
-        are = ap₂ (λ m l. m ∷ l) is rest.are;
-        wait = rest.wait;
-        from = rest.from;
-        rise = rest.rise;
-        all = rest.all;
-        there = rest.there;
-      }
-
-  start : (p : ℕ) (ns : List NumberKept) → From p ns → AllByRecursion (IsBeyond closed count runs) ns → Starts p (closed p) ns
-  start p [] from all = tt
-  start p (n ∷ ns) from all = elim (cases_order p n.partner) [
-    | inl same ↦ inr (sym same, (let own : closed p ≡ closed n.partner = ap closed same in omega (arith, own, all.0.low)))
-    | inr o ↦ elim o [ inl far ↦ inl far | inr before ↦ absurd (omega arith) ]
-  ]
-
-  none_left : (id : ℕ) (ns : List NumberKept) → id ≡ count + 1 → From id ns → AllByRecursion (IsBeyond closed count runs) ns → ns ≡ []
-  none_left id [] e from all = refl
-  none_left id (n ∷ ns) e from all = absurd (omega (arith, all.0.partner_high))
-
   kept_from : (id low : ℕ) (accounts : List (List ℕ × PartnerKind)) (ns : List NumberKept) → low + 1 ≡ id → id + length accounts ≡ count + 1 → From id ns → Rise ns → AllByRecursion (IsBeyond closed count runs) ns → Complete low ns
       → AreKeptBeyond closed (accounts_from id next accounts) ns
-  kept_from id low [] ns e ends from rise all there = none_left id ns (omega arith) from all
+  kept_from id low [] ns e ends from rise all there = none_left closed count runs id ns (omega arith) from all
   kept_from id low (account ∷ accounts) ns e ends from rise all there =
-      let own = taken_first id (closed id) (runs id - closed id) ns (let b = below id (omega arith) (omega (arith, ends)) in omega (arith, b)) (start id ns from all) rise all (λ k above within. there id k (omega arith) above within) (λ q k far one within. there q k (omega arith) one within) in
+      let own = taken_first closed count runs id (closed id) (runs id - closed id) ns (let b = below id (omega arith) (omega (arith, ends)) in omega (arith, b)) (start closed count runs id ns from all) rise all (λ k above within. there id k (omega arith) above within) (λ q k far one within. there q k (omega arith) one within) in
       let partner : Partner = record { id = id; code = account.0; kind = account.1; next = next id } in
       let many : runs id + 1 - 1 - closed id ≡ runs id - closed id = omega arith in
       let taken : taken_beyond closed partner ≡ map (taken_by id) (range_with_len (closed id + 1) (runs id - closed id)) = ap (λ c. map (taken_by id) (range_with_len (closed id + 1) c)) many in (
@@ -166,13 +47,9 @@ module _ (closed : ℕ → ℕ) (count : ℕ) (runs : ℕ → ℕ) (below : (p :
         kept_from (id + 1) id accounts own.others refl (omega arith) own.from own.rise own.all own.there,
       )
 
-  first_account : (ns : List NumberKept) → AllByRecursion (IsBeyond closed count runs) ns → From 1 ns
-  first_account [] all = tt
-  first_account (n ∷ ns) all = all.0.partner_low
-
   -- what is kept in order is that of all the accounts
   pub all_kept : (accounts : List (List ℕ × PartnerKind)) (ns : List NumberKept) → length accounts ≡ count → Rise ns → AllByRecursion (IsBeyond closed count runs) ns → Complete 0 ns → AreKeptBeyond closed (accounts_from 1 next accounts) ns
-  all_kept accounts ns counted rise all there = kept_from 1 0 accounts ns refl (omega arith) (first_account ns all) rise all there
+  all_kept accounts ns counted rise all there = kept_from 1 0 accounts ns refl (omega arith) (first_account closed count runs ns all) rise all there
 
 -- ==== Opening: What a store's own rows are checked for when it is opened.
 

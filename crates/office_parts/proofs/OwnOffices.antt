@@ -13,11 +13,11 @@ use Rattle.office_rows.specs.Values.{partner_values, interchange_values, visit_v
 use Rattle.office_rows.specs.Tables.{partner_table, interchange_table, visit_table, place_table, listing_table, block_table, setting_table as settings_table}
 use Rattle.office_loading.specs.{Checks.{numbers_beyond, AreKeptBeyond, AreOwnVisits}, Closed.ClosedContent}
 use Rattle.office_loading.specs.OwnOffice.{ComesAfter, AreInOrder, IsClosedBelow, AreOwnNumbers, IsOwnOffice}
-use Rattle.office_history.{specs.{After.{AreKeptOnce, accounts_from}, Laws.AreRowsByKey}, proofs.Kept.{Starts, Rise, Has, accounts_are, Rises}}
-use Rattle.office_history.proofs.{Loads.{accounts_rise, numbered_rise, letter_key, blocks_rise, any_head, places_same, lines_same}, ByKeys.count_left}
-use Rattle.office_history.proofs.{Runs.{InTurn, is_before, shows_records, by_keys}, KeptNumbers.{all_numbered, has_at}}
+use Rattle.office_history.{specs.{After.{AreKeptOnce, accounts_from}, Laws.AreRowsByKey}, proofs.{ByKeys.count_left, KeptNumbers.{all_numbered, has_at}}}
+use Rattle.office_history.proofs.{Kept.{Starts, Rise, Has, accounts_are, Rises, IsBeyond, IsComplete}, Runs.{InTurn, is_before, shows_records, by_keys}}
+use Rattle.office_history.proofs.Loads.{accounts_rise, numbered_rise, letter_key, blocks_rise, any_head, places_same, lines_same}
 use Rattle.office_history.proofs.Offices.{not_before, not_before_byte, rising_in_turn, text_after}
-use Rattle.office_parts.{specs.Closing.is_beyond, proofs.{Opening.{IsBeyond, IsComplete, all_kept}, Splits.{Has as HasElement, has_contained, contained_has}}}
+use Rattle.office_parts.{specs.Closing.is_beyond, proofs.{Opening.all_kept, Splits.{Has as HasElement, has_contained, contained_has}}}
 use Rattle.office_parts.proofs.Orders.{in_order, order_filtered, rise_of, beyond_numbered}
 
 -- ---- keys in order
