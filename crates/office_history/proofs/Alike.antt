@@ -50,10 +50,10 @@ meant_by t u e Quay Coarri =
 meant_by t u e kind type = refl
 
 module _ (t u : CodeTable) (same : SameTexts t u) (kind : PartnerKind) where
-  abbrev one : Codes
+  abbrev pub one : Codes
   one = record { kind = kind; table = t }
 
-  abbrev two : Codes
+  abbrev pub two : Codes
   two = record { kind = kind; table = u }
 
   order_same : (type : MessageType) (name : List ℕ) → order_meant one type name ≡ order_meant two type name
@@ -69,7 +69,7 @@ module _ (t u : CodeTable) (same : SameTexts t u) (kind : PartnerKind) where
       not (option_map_or (λ segment. is_original segment || (is_replacement segment && option_map_or is_list (kind_same message i) false)) (beginning message) true)
   applies_same message f = refl
 
-  reading_same : (opened : CivilMoment) (message : Message) → reading one opened message ≡ reading two opened message
+  pub reading_same : (opened : CivilMoment) (message : Message) → reading one opened message ≡ reading two opened message
   reading_same opened message i =
       judged_message (find (λ f. applies_same message f i) message_faults)
       (option_map_or (λ purpose. Ok (message_of purpose opened message)) (option_and_then (λ kind. purpose_with kind (call_in message)) (kind_same message i)) (Err fault.Code))

@@ -1,15 +1,13 @@
 -- The orders of a message are all of the list that it names.
-use Rattle.std.specs.{Option.{option_map_or, option_map, option_and_then}, List.{flat_map, find}, Str.bytes_eq, Prelude.{◌&&◌, ◌||◌, not}}
-use Rattle.std.proofs.Common.{◌≡◌, ℕ, List, [], ◌∷◌, ◌++◌, map, Bool, true, false, cond, Option, None, Some, Result, Ok, Err, refl, sym, subst, ◌<◌, is_none, ap, ◌∙◌}
+use Rattle.std.specs.{Option.option_map_or, List.flat_map, Prelude.{◌&&◌, ◌||◌}}
+use Rattle.std.proofs.Common.{◌≡◌, ℕ, List, [], ◌∷◌, ◌++◌, map, Bool, true, false, cond, Option, None, Some, Result, Ok, Err, refl, sym, subst, ◌<◌, ap, ◌∙◌}
 use Rattle.box6346.specs.{declared.box_number.BoxNumber.BoxNumber, declared.slot.Slot.Slot}
 use Rattle.edi_syntax.specs.{Moments.CivilMoment, Messages.Message, Interchange.segments_in, Envelope.{header_of, messages_of}, Header.preparation}
-use Rattle.edi_messages.specs.Faults.{purpose_of, fault_of, replaces_list, beginning, is_original, is_replacement, is_list, document_name, order_kind_of, call_in, applies, message_faults}
+use Rattle.edi_messages.specs.{Faults.{purpose_of, fault_of, replaces_list}, Parts.EquipmentGroup, Purposes.{CallContent, Purpose}, declared.codes.Codes.Codes}
 use Rattle.edi_messages.specs.Message.{LineContent, ordered, refused, line_read, line_of, MessageContent, message_of, judged_message, reading}
 use Rattle.edi_messages.specs.Orders.{EntryContent, OrderContent, gate_in, gate_out, move, list_discharge, list_load, discharge, load, then_read, read_number, read_moment, read_slot, read_entry, order_of, port}
-use Rattle.edi_messages.specs.{Parts.EquipmentGroup, Purposes.{CallContent, Purpose, purpose_with}, declared.codes.Codes.Codes, Types.message_type_of}
 use Rattle.edi_messages.specs.{declared.line.LineFault.LineFault, declared.message.MessageFault.MessageFault, declared.code.CodeTable.CodeTable}
-use Rattle.edi_messages.specs.{declared.codes.PartnerKind.PartnerKind, declared.message.MessageType.MessageType, declared.order.OrderKind.OrderKind}
-use Rattle.edi_messages.specs.{Codes.{table_texts, order_meant}, declared.message.MessageFault.TheVariants.{Function, Code}}
+use Rattle.edi_messages.specs.{declared.codes.PartnerKind.PartnerKind, Codes.table_texts, declared.message.MessageFault.TheVariants.{Function, Code}}
 use Rattle.terminal_core.specs.{declared.change.Version.Version, State.TerminalState, Versions.newest, declared.lines.Side.TheVariants.{Load, Discharge}}
 use Rattle.terminal_core.specs.declared.change.Version.TheVariants.{First, Second, Third}
 use Rattle.office_admission.specs.{Readings.{is_list_replaced, reading_by, unweighed_order, unweighed_line, unweighed_reading}, Accounts.content_after}
@@ -21,10 +19,8 @@ use Rattle.partner_core.specs.{Deliveries.{Delivery, run}, Numbered.with_number,
 use Rattle.office_replies.specs.Events.{Event}
 use Rattle.office_rows.specs.Rows.{Rows}
 use Rattle.office_history.{specs.After.{machine_after, machine_with, opening_of, taking_in}, proofs.Places.alone_in}
-use Rattle.office_history.proofs.Alike.{codes_after, delivered_with_codes, now_with_codes, opening_like, state_like, taking_with_codes, with_codes, meant_by, SameTexts}
+use Rattle.office_history.proofs.Alike.{codes_after, delivered_with_codes, now_with_codes, opening_like, state_like, taking_with_codes, with_codes, reading_same, SameTexts}
 use Rattle.edi_messages.specs.Purposes as purpose
-use Rattle.edi_messages.specs.declared.message.MessageFault.TheVariants as fault
-use Rattle.edi_messages.specs.declared.order.OrderKind.TheVariants as order
 
 -- ==== Reading: The orders of a message are all of the list that it names.
 
@@ -165,34 +161,10 @@ module _ (away : ListName → Bool) where
 -- ---- what a text names
 
 module _ (t u : CodeTable) (same : SameTexts t u) (text : List ℕ) where
-  module _ (kind : PartnerKind) where
-    abbrev one : Codes
-    one = record { kind = kind; table = t }
-
-    abbrev two : Codes
-    two = record { kind = kind; table = u }
-
-    order_same : (type : MessageType) (name : List ℕ) → order_meant one type name ≡ order_meant two type name
-    order_same type name =
-        ap (λ l. option_map (λ (meaning : List ℕ × OrderKind). meaning.1) (find (λ (meaning : List ℕ × OrderKind). bytes_eq name meaning.0) l)) (meant_by t u same kind type)
-
-    kind_same : (message : Message) → order_kind_of one message ≡ order_kind_of two message
-    kind_same message i = option_and_then (λ type. option_and_then (λ segment. order_same type (document_name segment) i) (beginning message)) (message_type_of message.header)
-
-    applies_same : (message : Message) (f : MessageFault) → applies one message f ≡ applies two message f
-    applies_same message fault.Code = ap is_none (kind_same message)
-    applies_same message fault.Function = λ i.
-        not (option_map_or (λ segment. is_original segment || (is_replacement segment && option_map_or is_list (kind_same message i) false)) (beginning message) true)
-    applies_same message f = refl
-
-    reading_same : (opened : CivilMoment) (message : Message) → reading one opened message ≡ reading two opened message
-    reading_same opened message i =
-        judged_message (find (λ f. applies_same message f i) message_faults)
-        (option_map_or (λ purpose. Ok (message_of purpose opened message)) (option_and_then (λ kind. purpose_with kind (call_in message)) (kind_same message i)) (Err fault.Code))
-
-    opened_same : (messages : List Message) (opened : Option CivilMoment) → lists_opened newest one messages opened ≡ lists_opened newest two messages opened
-    opened_same messages None = refl
-    opened_same messages (Some opened) = λ i. flat_map (λ (message : Message). list_read (reading_same opened message i)) messages
+  opened_same : (kind : PartnerKind) (messages : List Message) (opened : Option CivilMoment)
+      → lists_opened newest (record { kind = kind; table = t }) messages opened ≡ lists_opened newest (record { kind = kind; table = u }) messages opened
+  opened_same kind messages None = refl
+  opened_same kind messages (Some opened) = λ i. flat_map (λ (message : Message). list_read (reading_same t u same kind opened message i)) messages
 
   pub named_same : (kind : Option PartnerKind) → lists_named_by newest t text kind ≡ lists_named_by newest u text kind
   named_same None = refl
