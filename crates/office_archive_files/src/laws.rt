@@ -1,37 +1,30 @@
-//! Laws of a store in files and its archives: each function does nothing, and its contract is the law.
+//! The laws of a store in files and its archives: each function does nothing, and its clauses are the laws of one topic.
 
-ghost use Rattle.office_archive_files.specs.ClosedFiles.{ClosingsOfFilesAreNoEvents, OpenStoresAreHeld};
+ghost use Rattle.office_archive_files.specs.{ClosedFiles.{ClosingsOfFilesAreNoEvents, OpenStoresAreHeld}, Naming.ClosingsAreNamed, Stops.StopsAreNoEvents};
 ghost use Rattle.office_archive_files.specs.ClosedStores.{ClosingsAddAnArchive, ClosingsAreNoEvents, ClosingsGoOn, LoadedStoresOpen, OpenedRowsAreOrderly, UnclosedStoresOpen};
-ghost use Rattle.office_archive_files.specs.Naming.{ClosingsAreNamed};
-ghost use Rattle.office_archive_files.specs.Stops.{StopsAreNoEvents};
 
 use office_closing::laws::closed_stores_stand;
 use sqlite::Alter;
 
-/// A closing leaves a register that names the archives that it named, and the new one after them: for each number the one that
-/// keeps it. So what is proved of a store beside its archives holds after each closing.
-pub fn closings_are_named()
-    ensures { ClosingsAreNamed }
+/// What a closing makes of the register's archives.
+pub fn closings()
+    // A closing leaves a register that names the archives that it named, and the new one after them: for each number the one that
+    // keeps it. So what is proved of a store beside its archives holds after each closing.
+    ensures closings_are_named { ClosingsAreNamed }
+    // A closing of a store whose register does not have the archive yet adds it to the archives that the register named.
+    ensures closings_add_an_archive { ClosingsAddAnArchive }
+    // A closing that goes on, since it stopped once the register had the archive, goes on beside the archives of the one that stopped.
+    ensures closings_go_on { ClosingsGoOn }
 {}
 
-/// A closing of a store whose register does not have the archive yet adds it to the archives that the register named.
-pub fn closings_add_an_archive()
-    ensures { ClosingsAddAnArchive }
-{}
-
-/// A closing that goes on, since it stopped once the register had the archive, goes on beside the archives of the one that stopped.
-pub fn closings_go_on()
-    ensures { ClosingsGoOn }
-{}
-
-/// A store of which nothing was put away opens beside no archives.
-pub fn unclosed_stores_open()
-    ensures { UnclosedStoresOpen }
-{}
-
-/// A store as a desk beside its archives leaves it opens if its tables load.
-pub fn loaded_stores_open()
-    ensures { LoadedStoresOpen }
+/// Which stores open, beside which archives.
+pub fn opening()
+    // A store of which nothing was put away opens beside no archives.
+    ensures unclosed_stores_open { UnclosedStoresOpen }
+    // A store as a desk beside its archives leaves it opens if its tables load.
+    ensures loaded_stores_open { LoadedStoresOpen }
+    // Files that hold a store that opens after some events are opened so, beside its archives.
+    ensures open_stores_are_held { OpenStoresAreHeld }
 {}
 
 /// The rows of a store that opens after some events, beside the archives that its register names, are in order, as a closing asks.
@@ -64,8 +57,3 @@ pub fn closings_of_files_are_no_events<S: Alter, R: Alter, A: Alter, M: Alter>()
     stops_are_no_events::<S, R, A, M>();
     opened_rows_are_orderly();
 }
-
-/// Files that hold a store that opens after some events are opened so, beside its archives.
-pub fn open_stores_are_held()
-    ensures { OpenStoresAreHeld }
-{}

@@ -1,35 +1,29 @@
-//! The laws of a closing. Each function has an empty body, and its contract is the law: a call brings it into the caller's
-//! proof.
-//! Laws of lists that are put away: each function has an empty body, and its contract is the law.
-//! The law of these texts. The function has an empty body, and its contract is the law: a call brings it into the
-//! caller's proof.
-ghost use Rattle.office_closing.specs.Laws.{ComparedIsHeld, ClearingLeavesTheRest, ClearedIsCarried};
-ghost use Rattle.office_closing.specs.Journal.{ClosingsKeepJournal};
-ghost use Rattle.office_closing.specs.PuttingAway.{ClosedStoresStand, ListsThatGoAreAway};
-ghost use Rattle.office_closing.specs.DoneListLaws.{AwayStaysWithClosing, PutAwayListsAreAway};
+//! The laws of a closing, of lists that are put away, and of the texts of lists. Each function has an empty body, and its
+//! clauses are the laws of one topic: a call brings them into the caller's proof.
+ghost use Rattle.office_closing.specs.{Laws.{ComparedIsHeld, ClearingLeavesTheRest, ClearedIsCarried}, Journal.ClosingsKeepJournal, Texts.OneTextOneList};
+ghost use Rattle.office_closing.specs.{PuttingAway.{ClosedStoresStand, ListsThatGoAreAway}, DoneListLaws.{AwayStaysWithClosing, PutAwayListsAreAway}};
 ghost use Rattle.office_closing.specs.Stopping.{StoppedClosingsGoOn, StopsAreOnTheWay};
-ghost use Rattle.office_closing.specs.Texts.{OneTextOneList};
 
 use sqlite::Alter;
 
-/// What was compared is held, and the visits that go may go.
-pub fn compared_is_held()
-    ensures { ComparedIsHeld }
+/// What was compared may be deleted.
+pub fn clearing()
+    // What was compared is held, and the visits that go may go.
+    ensures compared_is_held { ComparedIsHeld }
+    // With any of what is closed deleted, the store goes on with the same rows.
+    ensures clearing_leaves_the_rest { ClearingLeavesTheRest }
+    // A store that is cleared of all that was compared has the rows that a closing carries on.
+    ensures cleared_is_carried { ClearedIsCarried }
 {}
 
-/// With any of what is closed deleted, the store goes on with the same rows.
-pub fn clearing_leaves_the_rest()
-    ensures { ClearingLeavesTheRest }
-{}
-
-/// A store that is cleared of all that was compared has the rows that a closing carries on.
-pub fn cleared_is_carried()
-    ensures { ClearedIsCarried }
-{}
-
-/// Whichever of the lists that go are deleted, once the register has the archive, they are away with those that were.
-pub fn lists_that_go_are_away()
-    ensures { ListsThatGoAreAway }
+/// Lists that are put away.
+pub fn lists_away()
+    // Whichever of the lists that go are deleted, once the register has the archive, they are away with those that were.
+    ensures lists_that_go_are_away { ListsThatGoAreAway }
+    // Lists that may go, of which archives keep the lines, are away with those that were, as far as they are deleted.
+    ensures put_away_lists_are_away { PutAwayListsAreAway }
+    // What is away stays away when numbers are closed and visits put away.
+    ensures away_stays_with_closing { AwayStaysWithClosing }
 {}
 
 /// A store that is closed, or of which some of what goes is deleted, is with its archives after the same events as
@@ -48,16 +42,6 @@ pub fn stops_are_on_the_way<S: Alter, R: Alter, A: Alter, M: Alter>()
 /// it goes on.
 pub fn stopped_closings_go_on()
     ensures { StoppedClosingsGoOn }
-{}
-
-/// Lists that may go, of which archives keep the lines, are away with those that were, as far as they are deleted.
-pub fn put_away_lists_are_away()
-    ensures { PutAwayListsAreAway }
-{}
-
-/// What is away stays away when numbers are closed and visits put away.
-pub fn away_stays_with_closing()
-    ensures { AwayStaysWithClosing }
 {}
 
 /// A text is that of one list of lines at most.

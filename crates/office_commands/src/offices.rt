@@ -1,22 +1,15 @@
 ghost use Rattle.std.specs.Prelude.{◌≡◌, ◌≢◌, List, [], IfErr, IfOk, IsTrue, None};
 ghost use Rattle.office_archives.specs.Shelves.{NamesAll};
-ghost use Rattle.office_commands.specs.Beside.{IsLoaded, IsSetUpHeld, OpensWith};
-ghost use Rattle.office_commands.specs.Opening.{Shows, ShowsHeld};
-ghost use Rattle.office_commands.specs.declared.offices.OpenFault.TheVariants as open_fault;
+ghost use Rattle.office_commands.specs.{Beside.{IsLoaded, IsSetUpHeld, OpensWith}, Opening.{Shows, ShowsHeld}};
 ghost use Rattle.office_commands.specs.Refusing.{IsMarked, IsOfRegister, IsRefused, IsUnloaded, IsUnopened};
-ghost use Rattle.office_closing.specs.Register.{RegisterContent, closed_by, register_content};
-ghost use Rattle.office_closing.specs.Sound.{is_sound};
+ghost use Rattle.office_closing.specs.{Register.{RegisterContent, closed_by, register_content}, Sound.is_sound};
 ghost use Rattle.office_loading.specs.Closed.{closed_content};
 ghost use Rattle.office_parts.specs.Archives.{Archive};
 ghost use Rattle.office_admission.specs.Setups.{setup_content};
 ghost use Rattle.office_rows.specs.Tables.{office_schema};
-ghost use Rattle.office_tables.specs.DeliveryReading.{OnlyReads};
-ghost use Rattle.office_tables.specs.declared.table_fault.TableFault.TheVariants.{Memory};
-ghost use Rattle.sqlite.specs.Held.{state};
-ghost use Rattle.sqlite.specs.Files.{file_state, over_files};
-ghost use Rattle.sqlite.specs.Recovery.{Image};
-ghost use Rattle.sqlite.specs.State.{HasCleanDisk};
-ghost use Rattle.sqlite.specs.WalFiles.{image_at};
+ghost use Rattle.office_tables.specs.{DeliveryReading.OnlyReads, declared.table_fault.TableFault.TheVariants.Memory};
+ghost use Rattle.sqlite.specs.{Held.state, Files.{file_state, over_files}, Recovery.Image, State.HasCleanDisk, WalFiles.image_at};
+ghost use Rattle.office_commands.specs.declared.offices.OpenFault.TheVariants as open_fault;
 
 use crate::beside::ArchivesBeside;
 use crate::loaded::{Loaded, load_office};

@@ -1,6 +1,4 @@
-ghost use Rattle.std.specs.Prelude.{◌≡◌};
-ghost use Rattle.std.specs.Io.{ReadsAtMost, WritesAtMost};
-ghost use Rattle.std.specs.Io.KnownBytes.{Keeps, ReadConsumes, WriteAppends};
+ghost use Rattle.std.specs.{Prelude.◌≡◌, Io.{ReadsAtMost, WritesAtMost}, Io.KnownBytes.{Keeps, ReadConsumes, WriteAppends}};
 
 use arrayvec::ArrayVec;
 use office_replies::{Sink, Source};

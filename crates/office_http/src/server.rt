@@ -1,7 +1,5 @@
 ghost use Rattle.std.specs.Prelude.{◌≡◌, ◌⊎◌};
-ghost use Rattle.office_http.specs.Served.{AtMost, Serves, calls_of};
-ghost use Rattle.office_http.specs.Steps.{NotesAtMost};
-ghost use Rattle.office_http.specs.declared.serve.Seen.{Seen};
+ghost use Rattle.office_http.specs.{Served.{AtMost, Serves, calls_of}, Steps.NotesAtMost, declared.serve.Seen.Seen};
 
 use crate::gate::Gate;
 use crate::line::Ready;

@@ -1,24 +1,16 @@
-//! Laws of the definitions. Each function has an empty body, and its contract is the law: a call brings it into
-//! the caller's proof.
+//! Laws of the definitions. Each function has an empty body, and its clauses are the laws of one topic: a call brings them
+//! into the caller's proof.
 
 ghost use Rattle.office_pages.specs.Laws.{NamesBringNoMarkup, ReportsAreShown, ReportsBringNoMarkup, ReportsStayInPlace};
 
-/// What a page has of a report shows the report's own text, character by character.
-pub fn reports_are_shown()
-    ensures { ReportsAreShown }
-{}
-
-/// After it a browser is between tags, as before it.
-pub fn reports_stay_in_place()
-    ensures { ReportsStayInPlace }
-{}
-
-/// For any text of a report a page has of it the tags of its links, and no others.
-pub fn reports_bring_no_markup()
-    ensures { ReportsBringNoMarkup }
-{}
-
-/// For any name of the terminal the start page has the same tags.
-pub fn names_bring_no_markup()
-    ensures { NamesBringNoMarkup }
+/// What a page has of the texts that it shows.
+pub fn pages()
+    // What a page has of a report shows the report's own text, character by character.
+    ensures reports_are_shown { ReportsAreShown }
+    // After it a browser is between tags, as before it.
+    ensures reports_stay_in_place { ReportsStayInPlace }
+    // For any text of a report a page has of it the tags of its links, and no others.
+    ensures reports_bring_no_markup { ReportsBringNoMarkup }
+    // For any name of the terminal the start page has the same tags.
+    ensures names_bring_no_markup { NamesBringNoMarkup }
 {}

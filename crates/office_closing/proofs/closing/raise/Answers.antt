@@ -1,9 +1,6 @@
 use Rattle.std.proofs.Common.{◌≡◌, Ok, true, false, map, sym, subst, ◌∙◌, rules}
 use Rattle.sqlite.specs.Held.{state}
-use Rattle.office_closing.specs.Changes.{closed_with, unchanged}
-use Rattle.office_closing.specs.Lists.{list_content}
-use Rattle.office_closing.specs.Register.{archive_content}
-use Rattle.office_closing.specs.Steps.{StepsIf, is_unraised}
+use Rattle.office_closing.specs.{Changes.{closed_with, unchanged}, Lists.list_content, Register.archive_content, Steps.{StepsIf, is_unraised}}
 use Rattle.office_closing.proofs.PlanLemmas.{not_due}
 use Rattle.office_closing.proofs.closing.raise.Goals as goal
 

@@ -1,10 +1,6 @@
-use Rattle.std.proofs.Common.{◌≡◌, map, refl, sym, ap, subst}
-use Rattle.std.proofs.lemmas.Result.{err_from_is_err_and}
+use Rattle.std.proofs.{Common.{◌≡◌, map, refl, sym, ap, subst}, lemmas.Result.err_from_is_err_and}
 use Rattle.office_parts.specs.Named.{named_list_content}
-use Rattle.office_closing.specs.Lists.{list_content}
-use Rattle.office_closing.specs.Register.{ArchiveContent}
-use Rattle.office_closing.specs.Copies.{AreDoneIn, ComesOn, FileNames, office_content}
-use Rattle.office_closing.specs.Planning.{AreClosingLists}
+use Rattle.office_closing.specs.{Lists.list_content, Register.ArchiveContent, Copies.{AreDoneIn, ComesOn, FileNames, office_content}, Planning.AreClosingLists}
 use Rattle.office_closing.proofs.ClearLemmas.{plan_from, refused_with, registers_for}
 use Rattle.office_closing.proofs.planning.make_plan.Goals as goal
 

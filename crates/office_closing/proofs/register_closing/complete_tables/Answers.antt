@@ -1,8 +1,5 @@
 use Rattle.sqlite.specs.Held.{state}
-use Rattle.office_closing.specs.Changes.{unchanged}
-use Rattle.office_closing.specs.Stored.{HasRegister}
-use Rattle.office_closing.proofs.Committing.{writes_of}
-use Rattle.office_closing.proofs.Created.{completed}
+use Rattle.office_closing.{specs.{Changes.unchanged, Stored.HasRegister}, proofs.{Committing.writes_of, Created.completed}}
 use Rattle.office_closing.proofs.register_closing.complete_tables.Goals as goal
 
 pub returns-clause-writes : goal.returns-clause-writes

@@ -1,7 +1,5 @@
 use Rattle.std.proofs.Common.{◌≡◌, [], true, false, ap, subst, ◌∙◌}
-use Rattle.sqlite.specs.Held.{state}
-use Rattle.sqlite.specs.State.{IsNotRun}
-use Rattle.sqlite.specs.declared.error.Error.TheVariants.{SqlInputError}
+use Rattle.sqlite.specs.{Held.state, State.IsNotRun, declared.error.Error.TheVariants.SqlInputError}
 use Rattle.office_tables.proofs.MadeLemmas.{reads_same}
 use Rattle.office_closing.proofs.WriteTexts.{found_in, missing_in, missing_keeps, not_run_keeps, find_settled}
 use Rattle.office_closing.proofs.register_reading.lists_are_kept.Goals.{in-Ok, in-Err-SqlInputError-NoSuchTable, in-Err+in-Err}

@@ -1,7 +1,5 @@
-use Rattle.std.proofs.Common.{inl, inr}
-use Rattle.std.proofs.lemmas.Result.{err_from_is_err_and}
-use Rattle.sqlite.specs.Files.{over_files}
-use Rattle.sqlite.specs.WalFiles.{image_at}
+use Rattle.std.proofs.{Common.{inl, inr}, lemmas.Result.err_from_is_err_and}
+use Rattle.sqlite.specs.{Files.over_files, WalFiles.image_at}
 use Rattle.office_closing.specs.Register.{register_content}
 use Rattle.office_commands.proofs.RefusingLemmas.{refused_names, unloaded_over}
 use Rattle.office_commands.proofs.offices.look_at_office.Goals as goal

@@ -1,7 +1,5 @@
-use Rattle.std.proofs.Common.{inr, refl}
-use Rattle.std.proofs.lemmas.Result.{err_from_is_err_and}
-use Rattle.sqlite.specs.Files.{over_files}
-use Rattle.sqlite.specs.WalFiles.{image_at}
+use Rattle.std.proofs.{Common.{inr, refl}, lemmas.Result.err_from_is_err_and}
+use Rattle.sqlite.specs.{Files.over_files, WalFiles.image_at}
 use Rattle.office_closing.specs.Register.{register_content}
 use Rattle.office_commands.proofs.RefusingLemmas.{refused_names, refused_opening, unloaded_over}
 use Rattle.office_commands.proofs.texts.texts_over.Goals as goal
