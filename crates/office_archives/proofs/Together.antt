@@ -27,8 +27,6 @@ use Rattle.office_archives.specs.Together.{IsBesideAfter, LeadsTogether, LeavesD
 use Rattle.office_archives.proofs.Standing.{answered_left, beyond_answered, beyond_left, machine_is}
 use Rattle.office_replies.specs.declared.deliver.Response.TheVariants as response
 
--- ==== Together: What a delivery does to a desk and the archives beside it.
-
 module _ {S : Type 0} (g : Ghosts S) where
   -- no archive is asked for a number that is not closed
   pub far_open : (old : Desk S g) (sent : List ℕ) (partner number : ℕ) → admission (parties_of old.setup) (interchange_of sent) ≡ Ok (partner, number) → nat_le number (last_closed old.closed partner) ≡ false →

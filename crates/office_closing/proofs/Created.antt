@@ -16,8 +16,6 @@ use Rattle.edi_messages.specs.Purposes.{CallContent}
 use Rattle.terminal_core.specs.{State.side_code, declared.lines.Side.Side, declared.lines.Side.TheVariants.{Load, Discharge}}
 use Rattle.office_closing.proofs.WriteTexts as texts
 
--- ==== Created: What each statement that makes a table makes of an empty database.
-
 -- a sound database of the register's tables lists them
 pub listed_by : (db : Database) → db.schema ≡ register_schema → IsDatabase db → Lists (db.trees catalog_tree) register_schema
 listed_by db is sound = subst (Lists (db.trees catalog_tree)) is sound.lists

@@ -18,8 +18,6 @@ use Rattle.office_loading.specs.{Closed.ClosedContent, Tables.LoadsOwn}
 use Rattle.office_history.proofs.{Loads.{numbered_rise, line_one, visit_one}, Kept.{Rises, rising_same, same_records, shown_in}}
 use Rattle.office_closing.proofs.ClearLemmas as lemma
 
--- ==== NumberLemmas: Rows that are deleted in turn.
-
 filter_twice : {A : Type 0} (p q : A → Bool) (xs : List A) → filter q (filter p xs) ≡ filter (λ x. p x && q x) xs
 filter_twice p q [] = refl
 filter_twice p q (x ∷ xs) = by (p x) (filter_twice p q xs)

@@ -20,8 +20,6 @@ use Rattle.sqlite_value.specs.{Keys.ascending, declared.keys.Key.Key}
 use Rattle.sqlite_trees.specs.{declared.error.StoreError.StoreError, declared.error.StoreError.TheVariants.{OutOfMemory, Io, Corrupt, Full, Broken, Unstorable}}
 use Rattle.office_loading.{specs.Tables.{FailsTable, ReadsTable}, proofs.VersionLemmas.same_rows}
 
--- ==== WriteTexts: What the texts mean that make the tables, and those that write.
-
 -- ---- tables
 
 abbrev pub create_archive : List ℕ

@@ -27,8 +27,6 @@ use Rattle.office_desk.specs.{Calls.Leads, Crashes.{IsAfter, Leaves, LeavesAll, 
 use Rattle.partner_core.specs.Answers as told
 use Rattle.office_replies.specs.declared.deliver.Response.TheVariants as response
 
--- ==== AccountLemmas: What a desk answers to an account that is to be added, and what it holds after it.
-
 -- ---- the answer
 
 -- a code and a kind of their forms are answered by the accounts

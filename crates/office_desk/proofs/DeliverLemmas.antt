@@ -35,8 +35,6 @@ use Rattle.partner_core.specs.Answers as told
 use Rattle.office_replies.specs.declared.deliver.Response.TheVariants as response
 use Rattle.office_replies.specs.declared.deliver.Worst.TheVariants as worst
 
--- ==== DeliverLemmas: One delivery more to a desk.
-
 pub parties_same : (setup : Setup) → parties_of setup ≡ parties_in (setup_content setup)
 parties_same setup = ap (λ (codes : List (List ℕ)). record { terminal = string_bytes setup.terminal; partners = codes }) (sym (map-map _ _ setup.partners.items))
 

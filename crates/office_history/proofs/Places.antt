@@ -14,8 +14,6 @@ use Rattle.office_rows.specs.Rows.{Rows}
 use Rattle.office_history.specs.After.{with_earlier_event, migration_in, taking_by, taking_in, content_after, deliveries_of, opening_of, AreRowsOf}
 use Rattle.office_history.{specs.Laws.IsFor, proofs.Afters.GoesOn}
 
--- ==== Places: The rules by place: what holds of the rules of each version holds of them, and where they stay as they are.
-
 -- ---- what holds of the rules of each version
 
 -- the step by place is one by the old rules or one by the new

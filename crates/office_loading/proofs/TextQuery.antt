@@ -24,8 +24,6 @@ use Rattle.edi_syntax.specs.Bytes.{line_feed}
 use Rattle.sqlite_trees.specs.declared.store.Shape.TheVariants as shape
 use Rattle.sqlite_trees.specs.declared.store.Store as store
 
--- ==== TextQuery: What the queries of texts mean, and what they find.
-
 -- ---- the texts after a number
 
 abbrev pub select_texts : List ℕ

@@ -6,8 +6,6 @@ use Rattle.office_pages.specs.{Pages.count_view, Words.lines}
 use Rattle.box6346.specs.{ContainerNumber.number_of, NumberText.has_form}
 use Rattle.box6346.specs.declared.box_number.NumberFault.TheVariants as fault
 
--- ==== Splitting: The pieces of a text between bytes of one kind: its lines, and the words of a line.
-
 module _ (c : ℕ) where
   abbrev pub pieces : List ℕ → List (List ℕ)
   pieces text = slice_split (λ b. b == c) text

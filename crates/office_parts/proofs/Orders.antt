@@ -24,8 +24,6 @@ use Rattle.office_history.{specs.{After.{opening_of, taking_in, reply_if_any, re
 use Rattle.office_history.proofs.{Lawful.used_adds, Kept.{Rise, fewer}, Runs.{is_pair_at, InTurn, is_before}, KeptNumbers.{apart, pair_order}}
 use Rattle.office_loading.specs.Checks.{numbers_beyond}
 
--- ==== Orders: An order at the store's own terminal, beside the visits that were put away.
-
 -- ---- counting
 
 entered_same : (state : TerminalState) (way : Way) (source : Source) (entry : EntryContent) (r : Result (YardMap × Slot) Refusal) → entered_counting (last_number state.visits) state way source entry r ≡ after_entry_at state way source entry r

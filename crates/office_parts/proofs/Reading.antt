@@ -22,8 +22,6 @@ use Rattle.office_history.{specs.After.{machine_after, machine_with, opening_of,
 use Rattle.office_history.proofs.Alike.{codes_after, delivered_with_codes, now_with_codes, opening_like, state_like, taking_with_codes, with_codes, reading_same, SameTexts}
 use Rattle.edi_messages.specs.Purposes as purpose
 
--- ==== Reading: The orders of a message are all of the list that it names.
-
 pub here_parts : (away : ListName → Bool) (xs ys : List ListName) → AreHere away (xs ++ ys) → AreHere away xs × AreHere away ys
 here_parts away [] ys here = (tt, here)
 here_parts away (x ∷ xs) ys here = let rest = here_parts away xs ys here.1 in ((here.0, rest.0), rest.1)

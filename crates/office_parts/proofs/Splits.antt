@@ -10,8 +10,6 @@ use Rattle.terminal_core.specs.Changes.{visit_with_departure, TerminalRows, rows
 use Rattle.terminal_core.proofs.Open.{kept_number, last_pushed}
 use Rattle.office_parts.specs.{OwnTerminal.{is_own, own_visits, IsOverOrStays, MayStay, IsOfOwn}, Laws.{ChangesAreOfOwn, OwnTerminalsAreSound}}
 
--- ==== Splits: Lists that are split in two by a test, of which one at most passes another.
-
 -- ---- options
 
 pub some_is : {A : Type 0} (o : Option A) → is_some o ≡ true → (x : A) × (o ≡ Some x)

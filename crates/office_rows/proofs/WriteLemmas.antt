@@ -20,8 +20,6 @@ use Rattle.sqlite_catalog.specs.Listing.{Lists}
 use Rattle.office_rows.specs.{Tables.office_schema, Stored.{Holds, columns_of}}
 use Rattle.office_rows.proofs.Creating.{put_all_fresh, put_all_shaped, without_all_shaped, updated, deleted}
 
--- ==== WriteLemmas: From what a statement means to the rows of its table.
-
 -- ---- values
 
 either : (b : Bool) (x : Value) → cond b x x ≡ x
