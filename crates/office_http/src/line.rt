@@ -237,22 +237,14 @@ pub(crate) struct Asking {
 }
 
 impl Asking {
-    ghost use Rattle.std.specs.Prelude.{◌≡◌};
-    ghost use Rattle.std.specs.Duration.{as_nanos};
-    ghost use Rattle.std.specs.Time.{instant_nanos};
-    ghost use Rattle.office_http.specs.Deadlines.{nanos_left, request_seconds};
-
     /// How long the request may still take.
-    fn left(&self, now: Instant) -> Duration
-        ensures { as_nanos result ≡ nanos_left (request_seconds self.now.asked.items)
-            (instant_nanos self.now.peer.accepted) (instant_nanos now) }
-    {
-        let limit = if self.asked.is_empty() {
-            FIRST_BYTE
+    fn left(&self, now: Instant) -> Duration {
+        let left = Deadline::after(self.peer.accepted, REQUEST).left(now);
+        if self.asked.is_empty() {
+            left.min(Deadline::after(self.peer.accepted, FIRST_BYTE).left(now))
         } else {
-            REQUEST
-        };
-        Deadline::after(self.peer.accepted, limit).left(now)
+            left
+        }
     }
 
     /// The room for more of it, twice what there is, where that is full; never more than can decide it.

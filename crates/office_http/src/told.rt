@@ -28,16 +28,11 @@ pub(crate) struct Telling {
 
 impl Telling {
     ghost use Rattle.std.specs.Prelude.{◌≡◌};
-    ghost use Rattle.std.specs.Duration.{as_nanos};
-    ghost use Rattle.std.specs.Time.{instant_nanos};
-    ghost use Rattle.office_http.specs.Deadlines.{nanos_left, response_seconds};
 
     /// That is left of a response.
     pub(crate) fn new(mut peer: Peer, rest: Vec<u8>, now: Instant) -> Telling
         ensures rest { result.told ≡ rest }
         ensures taken { result.taken ≡ 0 }
-        ensures begun { result.deadline.begun ≡ now }
-        ensures limit { result.deadline.limit.0 ≡ response_seconds }
     {
         peer.moved = now;
         peer.is_awake = true;
@@ -50,10 +45,7 @@ impl Telling {
     }
 
     /// How long the response may still take.
-    pub(crate) fn left(&self, now: Instant) -> Duration
-        ensures { as_nanos result ≡ nanos_left self.now.deadline.limit.0 (instant_nanos self.now.deadline.begun)
-            (instant_nanos now) }
-    {
+    pub(crate) fn left(&self, now: Instant) -> Duration {
         self.deadline.left(now)
     }
 
