@@ -1,5 +1,6 @@
 use Rattle.std.proofs.Common.{◌≡◌, ◌==◌, inl, inr, length, not, rules, sym, ap, subst, ◌∙◌, arith}
 use Rattle.std.proofs.lemmas.List.{length-map}
+use Rattle.std.proofs.lemmas.Result.{err_from_is_err_and}
 use Rattle.sqlite.specs.Effect.{Database}
 use Rattle.sqlite.specs.Held.{state}
 use Rattle.sqlite.specs.State.{HasCleanDisk}
@@ -65,3 +66,11 @@ returns-in_ok-create_register-in-Err-clause-tells g c clean content has sound =
     let same = (c.read_register.ensures.reads.keeps read).committed new.0 in
     let schema = ap (λ (d : Database). d.schema) same ∙ has.1.schema in
     absurd (never_missing has.0 (subst (AreMissing register_tables) schema new.1))
+
+-- It was read, and what failed then left what was committed as it was.
+pub returns-in_err-create_register-in-Err-clause-refused : goal.returns-in_err-create_register-in-Err-clause-refused
+returns-in_err-create_register-in-Err-clause-refused g c clean is_open =
+    let p = err_from_is_err_and c.from_residual.result c.from_residual.ensures.1 in
+    let read : HasCleanDisk (state g.S.Store c.read_register.new.conn) = omega (arith, c.create_register.ensures.crash.clean, clean) in
+    let it = c.in_err-create_register-in-Err.ensures.err clean is_open in
+    rw (p.1, p.2) (it.1.1 ∙ (c.read_register.ensures.reads.keeps read).committed it.0)
