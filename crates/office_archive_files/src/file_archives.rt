@@ -147,8 +147,8 @@ impl<'a> Archives for FileArchives<'a> {
         self.archives.place_of(partner, number)
     }
 
-    fn has_lists(&self) -> bool {
-        self.archives.has_lists()
+    fn has_lists(&self, count: usize) -> bool {
+        self.archives.has_lists(count)
     }
 
     fn lines(

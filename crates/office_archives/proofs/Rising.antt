@@ -39,7 +39,7 @@ use Rattle.std.specs.Cmp.{IsTotalOrder}
 use Rattle.std.specs.Cmp.Lexicographic.{bytes_decides, slice_cmp}
 use Rattle.std.specs.Ordering.{is_lt, nat_cmp, ordering_reverse, ordering_then}
 use Rattle.std.specs.Str.{bytes_eq}
-use Rattle.std.proofs.lemmas.Bool.{and_parts, eqb-true, leb-false, leb-true, ltb-true}
+use Rattle.std.proofs.lemmas.Bool.{and_parts, eqb-true, le-leb, leb-false, leb-true, ltb-true}
 use Rattle.std.proofs.lemmas.Bool.Decides.{nat_tests}
 use Rattle.std.proofs.lemmas.List.{length-append, length-drop}
 use Rattle.std.proofs.lemmas.List.Edits.{length-remove}
@@ -48,7 +48,7 @@ use Rattle.std.proofs.lemmas.Option.{cond_some, same_Some, slice_get_read}
 use Rattle.std.proofs.lemmas.Cmp.{nat_cmp_total, nat_list_cmp_total, on_total, then_total, tied_itself, upto}
 use Rattle.edi_messages.specs.Purposes.{CallContent}
 use Rattle.edi_messages.specs.Texts.{is_name}
-use Rattle.office_closing.specs.Lists.{SettledListContent, comes_before, is_of_list, lines_of_list, list_cmp, put_list, put_lists}
+use Rattle.office_closing.specs.Lists.{SettledListContent, comes_before, is_of_list, lines_of_list, list_cmp, lists_among, put_list, put_lists}
 use Rattle.office_closing.specs.Sound.{are_rising, may_be_list}
 use Rattle.office_closing.proofs.SoundLemmas.{list_total}
 use Rattle.office_closing.specs.Register as register
@@ -412,6 +412,39 @@ module _ (call : CallContent) (side : Side) where
   pub put_told : (archive : ℕ) (more lists : List SettledListContent) → AllByRecursion (λ (x : SettledListContent). x.archive ≡ archive) more → Rises lists → AllByRecursion (λ (x : SettledListContent). x.archive ≤ archive) lists
       → lines_of_list (put_lists more lists) call side ≡ option_or (lines_of_list more call side) (lines_of_list lists call side)
   put_told archive more lists own rise old = told_all archive more lists own rise old ∙ last_told (told None lists) more
+
+-- ---- those of the first so many archives
+
+is_later : (count archive : ℕ) → count < archive → nat_le archive count ≡ false
+is_later count archive late = by (nat_le archive count) refl
+  where
+    by : (early : Bool) → nat_le archive count ≡ early → early ≡ false
+    by true e = absurd (omega (arith, late, leb-true archive count e))
+    by false e = refl
+
+-- one that is put there with a later archive is none of them
+put_later : (count : ℕ) (new : SettledListContent) (lists : List SettledListContent) → count < new.archive → lists_among count (put_list new lists) ≡ lists_among count lists
+put_later count new [] late = ap (λ b. cond b (new ∷ []) []) (is_later count new.archive late)
+put_later count new (x ∷ lists) late = by (comes_before new x) (put_later count new lists late)
+  where
+    by : (first : Bool) → lists_among count (put_list new lists) ≡ lists_among count lists → lists_among count (cond first (new ∷ x ∷ lists) (x ∷ put_list new lists)) ≡ lists_among count (x ∷ lists)
+    by true rest = ap (λ b. cond b (new ∷ lists_among count (x ∷ lists)) (lists_among count (x ∷ lists))) (is_later count new.archive late)
+    by false rest = ap (λ l. cond (nat_le x.archive count) (x ∷ l) l) rest
+
+pub all_later_put : (count archive : ℕ) (more lists : List SettledListContent) → AllByRecursion (λ (x : SettledListContent). x.archive ≡ archive) more → count < archive → lists_among count (put_lists more lists) ≡ lists_among count lists
+all_later_put count archive [] lists own late = refl
+all_later_put count archive (new ∷ more) lists own late = all_later_put count archive more (put_list new lists) own.1 late ∙ put_later count new lists (let same = own.0 in omega (arith, late, same))
+
+-- all are among them if none is of a later archive
+pub all_among : (count : ℕ) (lists : List SettledListContent) → AllByRecursion (λ (x : SettledListContent). x.archive ≤ count) lists → lists_among count lists ≡ lists
+all_among count [] early = refl
+all_among count (x ∷ lists) early = ap (λ b. cond b (x ∷ lists_among count lists) (lists_among count lists)) (le-leb x.archive count early.0) ∙ ap (λ l. x ∷ l) (all_among count lists early.1)
+
+pub puts_up_to : (count archive : ℕ) (more lists : List SettledListContent) → AllByRecursion (λ (x : SettledListContent). x.archive ≡ archive) more → archive ≤ count → AllByRecursion (λ (x : SettledListContent). x.archive ≤ count) lists
+    → AllByRecursion (λ (x : SettledListContent). x.archive ≤ count) (put_lists more lists)
+puts_up_to count archive [] lists own high early = early
+puts_up_to count archive (new ∷ more) lists own high early =
+    puts_up_to count archive more (put_list new lists) own.1 high (put_all (λ (x : SettledListContent). x.archive ≤ count) new lists (let same = own.0 in omega (arith, high, same)) early)
 
 -- ---- a sound register's
 

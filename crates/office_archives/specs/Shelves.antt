@@ -1,5 +1,5 @@
 -- The archives of a store, of which some are open.
-use Rattle.std.specs.Prelude.{◌≡◌, ◌⊎◌, ◌==◌, ℕ, ◌+◌, ◌-◌, ◌≤◌, nat_le, nat_lt, List, [], ◌∷◌, ◌++◌, drop, filter, length, remove, Option, None, Some, slice_get, IsTrue, if◌then◌else◌}
+use Rattle.std.specs.Prelude.{◌≡◌, ◌⊎◌, ◌==◌, ℕ, ◌+◌, ◌-◌, ◌≤◌, nat_le, nat_lt, List, [], ◌∷◌, ◌++◌, drop, filter, length, remove, take, Option, None, Some, slice_get, IsTrue, if◌then◌else◌}
 use Rattle.std.specs.List.{AllByRecursion, position}
 use Rattle.std.specs.Option.{option_and_then, option_map, unwrap_or}
 use Rattle.sqlite.specs.Effect.{Database}
@@ -16,7 +16,7 @@ use Rattle.office_parts.specs.Away.{lines_away}
 use Rattle.office_parts.specs.OwnLists.{ListName, list_name}
 use Rattle.office_closing.specs.Texts.{IsTextOf}
 use Rattle.office_closing.specs.Changes.{closed_with}
-use Rattle.office_closing.specs.Lists.{SettledListContent, lines_of_list}
+use Rattle.office_closing.specs.Lists.{SettledListContent, lines_of_list, lists_among}
 use Rattle.office_closing.specs.Register.{ArchiveContent, RegisterContent, last_closed, register_content}
 use Rattle.office_closing.specs.Register as register
 use Rattle.office_closing.specs.Sound.{is_sound}
@@ -95,13 +95,16 @@ abbrev pub IsOfCall : ListName → Type 0
 IsOfCall name = (call : CallContent) × (side : Side) × (list_name call side ≡ name)
 
 -- A register names these archives: as many, and for each number, from 1, the one that reaches it first. It keeps the lines
--- of each list that was put away.
+-- of each list that was put away, of those of the first so many archives too.
 pub record NamesAll (names : RegisterContent) (list : List Archive) : Type 0 where
   pub counted : length list ≡ length names.archives
   pub named : (partner number : ℕ) → 1 ≤ number → archive_of list partner number
       ≡ option_and_then (archive_at list) (register.archive_of names.segments partner number)
   pub lists : (call : CallContent) (side : Side) →
       IsKeptAs call side (lines_of_list names.lists call side) (lines_away list (list_name call side))
+  pub among : (count : ℕ) (call : CallContent) (side : Side) →
+      IsKeptAs call side (lines_of_list (lists_among count names.lists) call side)
+      (lines_away (take count list) (list_name call side))
   pub of_calls : (name : ListName) → (lines_away list name ≡ None) ⊎ IsOfCall name
 
 -- These are on the shelf, and the register names them; few are open, each of them one of these, if it is known.

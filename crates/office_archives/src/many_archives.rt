@@ -166,8 +166,8 @@ impl<S: Alter + Drop, F: Shelf<S>> Archives for ManyArchives<S, F> {
         self.register.archive_of(partner, number)
     }
 
-    fn has_lists(&self) -> bool {
-        self.register.has_lists()
+    fn has_lists(&self, count: usize) -> bool {
+        self.register.has_lists(count)
     }
 
     fn lines(

@@ -1,10 +1,10 @@
 ghost use Rattle.std.specs.Prelude.{◌≡◌, ◌↔◌, ◌++◌, ◌∷◌, [], true, false, ℕ, IfOk, OnOk, IsTrue, get_or, map};
-ghost use Rattle.std.specs.List.{AllByRecursion};
+ghost use Rattle.std.specs.List.{AllByRecursion, list_any};
 ghost use Rattle.std.specs.Option.{option_map};
 ghost use Rattle.office_loading.specs.Closed.{closed_content};
 ghost use Rattle.edi_messages.specs.Owned.{call_content};
 ghost use Rattle.office_closing.specs.Changes.{closed_with, unmarked};
-ghost use Rattle.office_closing.specs.Lists.{list_content, lines_of_list};
+ghost use Rattle.office_closing.specs.Lists.{is_among, list_content, lines_of_list};
 ghost use Rattle.office_closing.specs.Register.{archive_content, register_content, last_closed, archive_of, newest_visit, closed_by};
 ghost use Rattle.office_closing.specs.Sound.{is_sound, IsOfAccount};
 
@@ -68,11 +68,13 @@ impl Register {
         None
     }
 
-    /// Whether any list was put away.
-    pub fn has_lists(&self) -> bool
-        ensures { (result ≡ false) ↔ ((register_content self.now).lists ≡ []) }
+    /// Whether any list was put away with the first so many archives.
+    pub fn has_lists(&self, count: usize) -> bool
+        ensures { result ≡ list_any (λ list. is_among count (list_content list)) self.now.lists.items }
     {
-        !self.lists.is_empty()
+        self.lists
+            .iter()
+            .any(|list| usize::from(list.archive) <= count)
     }
 
     /// The lines of a list that were put away with the newest of its archives; none if none were.
