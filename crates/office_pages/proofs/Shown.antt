@@ -15,6 +15,7 @@ use Rattle.percent_encoding.proofs.PercentLemmas.{All-percent_encode, IsEscapeBy
 use Rattle.box6346.specs.ContainerNumber.{number_of as box_of}
 use Rattle.office_reports.specs.declared.query.Query.{Query}
 use Rattle.office_pages.specs.Addresses.{container_address, part}
+use Rattle.office_pages.proofs.Plain.{plain_field}
 use Rattle.office_pages.specs.Links.{container_link, leads_by_place, link_at}
 use Rattle.office_pages.specs.Pages.{gap, line_view, link, linked, named_view, word_view, body_bytes}
 use Rattle.office_pages.specs.Words.{word_at, words, lines, without_front}
@@ -60,35 +61,6 @@ module _ (f : ℕ → List ℕ) where
       let more : n + 1 ≡ suc n = omega arith in
       is ∙ ap (λ t. t ++ f n) e ∙ append_assoc before (flat_map f (range_with_len 0 n)) (f n)
       ∙ ap (λ t. before ++ t) (sym (ap (λ k. flat_map f (range_with_len 0 k)) more ∙ from 0 n n (omega arith)))
-
--- ==== Plain: Texts of plain characters only stand as they are.
-
-plain_character : (c : ℕ) → is_plain c ≡ true → character_text c ≡ c ∷ []
-plain_character c bare = elim (cases_Bool (nat_lt c 128)) [
-  | inr high ↦ absurd (false≢true (rw high at bare))
-  | inl low ↦ elim (cases_Bool (c == 38)) [
-    | inl e ↦ absurd (false≢true (rw (low, e) at bare))
-    | inr a ↦ elim (cases_Bool (c == 60)) [
-      | inl e ↦ absurd (false≢true (rw (low, a, e) at bare))
-      | inr l ↦ elim (cases_Bool (c == 62)) [
-        | inl e ↦ absurd (false≢true (rw (low, a, l, e) at bare))
-        | inr g ↦ elim (cases_Bool (c == 34)) [
-          | inl e ↦ absurd (false≢true (rw (low, a, l, g, e) at bare))
-          | inr q ↦ elim (cases_Bool (c == 39)) [
-            | inl e ↦ absurd (false≢true (rw (low, a, l, g, q, e) at bare))
-            | inr p ↦ rw (a, l, g, q, p, low) refl
-          ]
-        ]
-      ]
-    ]
-  ]
-]
-
-pub plain_field : (bytes : List ℕ) → list_all is_plain bytes ≡ true → field_text bytes ≡ bytes
-plain_field [] all = refl
-plain_field (c ∷ bytes) all =
-    let parts = and_parts (is_plain c) (list_all is_plain bytes) all in
-    λ i. plain_character c parts.0 i ++ plain_field bytes parts.1 i
 
 -- ==== Naming: Words that lead by what they name.
 

@@ -6,6 +6,7 @@ use Rattle.office_reports.specs.Markup.{Place, Between, Tag, SingleQuoted, Doubl
 use Rattle.office_reports.specs.declared.query.Query.{Query}
 use Rattle.office_pages.specs.Links.{link_at}
 use Rattle.office_pages.specs.Pages.{body_bytes, start_bytes}
+use Rattle.office_pages.specs.Pieces.{PieceContent, Text, pieces_text}
 use Rattle.office_pages.specs.Words.{lines, words}
 
 -- ---- what is shown
@@ -47,3 +48,9 @@ ReportsBringNoMarkup = (asked : Query) (text : List ℕ) →
 abbrev pub NamesBringNoMarkup : Type 0
 NamesBringNoMarkup = (name other : List ℕ) (text : List ℕ) →
     tags Between (start_bytes name text) ≡ tags Between (start_bytes other text)
+
+-- whatever a text is that stands between tags, a page with it has the same tags
+abbrev pub TextsBringNoMarkup : Type 0
+TextsBringNoMarkup = (front back : List PieceContent) (one other : List ℕ) →
+    place_after_all Between (pieces_text front) ≡ Between →
+    tags Between (pieces_text (front ++ Text one ∷ back)) ≡ tags Between (pieces_text (front ++ Text other ∷ back))

@@ -1,14 +1,13 @@
 //! A report's own text, shown.
-ghost use Rattle.std.specs.List.{join_by, list_all};
+ghost use Rattle.std.specs.List.{join_by};
 ghost use Rattle.std.specs.Prelude.{◌≡◌, ◌++◌, OnOk, codes, string_bytes};
-ghost use Rattle.office_reports.specs.Fields.{field_text};
-ghost use Rattle.office_reports.specs.Markup.{is_plain};
 ghost use Rattle.office_pages.specs.Pages.{body_bytes, gap, line_view, link, named_view, word_view};
 ghost use Rattle.office_pages.specs.Words.{texts_of, words};
 
-use crate::links::{leads_by_place, link_at, push_part, word_at, words_of};
+use crate::fields::{push_field, push_part, push_text};
+use crate::links::{leads_by_place, link_at, word_at, words_of};
 use box6346::BoxNumber;
-use office_reports::{Query, field_text};
+use office_reports::Query;
 use std::alloc::{AllocError, Global};
 
 /// Appends the lines of a report, with a link around each word that names something.
@@ -142,37 +141,4 @@ pub(crate) fn push_number_link(
     page.push_str("'>")?;
     push_field(alloc, page, number)?;
     page.push_str("</a>")
-}
-
-/// Appends a text, written so that no markup comes of it; one of plain characters only is appended as it is.
-#[tactic(auto, using(crate::proofs::Shown::plain_field))]
-pub(crate) fn push_text(alloc: Global, page: &mut String, text: &str) -> Result<(), AllocError>
-    ensures { OnOk result (string_bytes page.new ≡ string_bytes page.old ++ field_text text.now) }
-{
-    if are_plain(text.as_bytes()) {
-        page.push_str(text)
-    } else {
-        push_field(alloc, page, text.as_bytes())
-    }
-}
-
-fn are_plain(bytes: &[u8]) -> bool
-    ensures { result ≡ list_all is_plain bytes.now }
-{
-    bytes.iter().all(|byte| is_plain(*byte))
-}
-
-/// A character of ASCII that needs no other form in a page.
-fn is_plain(byte: u8) -> bool
-    ensures { result ≡ is_plain byte }
-{
-    byte < 128 && byte != b'&' && byte != b'<' && byte != b'>' && byte != b'"' && byte != b'\''
-}
-
-/// Appends bytes, written so that no markup comes of them.
-pub(crate) fn push_field(alloc: Global, page: &mut String, bytes: &[u8]) -> Result<(), AllocError>
-    ensures { OnOk result (string_bytes page.new ≡ string_bytes page.old ++ field_text bytes.now) }
-{
-    let field = field_text(alloc, bytes)?;
-    page.push_str(field.as_str())
 }

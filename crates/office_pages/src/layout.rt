@@ -4,7 +4,7 @@ ghost use Rattle.office_pages.specs.Fixed.{foot, head, top};
 ghost use Rattle.office_pages.specs.Pages.{again, page_head};
 ghost use Rattle.office_pages.specs.Titles.{call_title, interchange_title, list_title, name_title, start_title, title, work_title};
 
-use crate::body::push_field;
+use crate::fields::push_field;
 use edi_messages::Call;
 use office_reports::Query;
 use std::alloc::{AllocError, Global};
@@ -32,7 +32,7 @@ pub(crate) fn push_head(
 }
 
 #[tactic(auto, unfolding(crate::specs::Pages::again))]
-fn again(asks_again: bool) -> &'static str
+pub(crate) fn again(asks_again: bool) -> &'static str
     ensures { result.now ≡ again asks_again }
 {
     if asks_again {

@@ -1,13 +1,13 @@
 //! The words of a report, which of them lead where, and where pages are.
 ghost use Rattle.std.specs.Option.{option_map};
-ghost use Rattle.std.specs.Prelude.{◌≡◌, ◌≤◌, ◌++◌, IfOk, OnOk, string_bytes};
-ghost use Rattle.office_pages.specs.Addresses.{address_of_one, address_of_two, list_address, part, side_path, work_address};
+ghost use Rattle.std.specs.Prelude.{◌≡◌, ◌≤◌, IfOk, string_bytes};
+ghost use Rattle.office_pages.specs.Addresses.{address_of_one, address_of_two, list_address, side_path, work_address};
 ghost use Rattle.office_pages.specs.Links.{block_link, call_link, container_link, is_number, is_way_at, leads_by_place, link_at, number_link, open_line_link, partner_link, passage_link, place_link, side_named, ticket_link, work_link};
 ghost use Rattle.office_pages.specs.Words.{is_at, texts_of, word_at, words};
 
+use crate::fields::push_part;
 use box6346::BoxNumber;
 use office_reports::{Query, number_of};
-use percent_encoding::{NON_ALPHANUMERIC, percent_encode};
 use std::alloc::{AllocError, Global};
 use terminal_core::Side;
 
@@ -205,13 +205,6 @@ fn block_link(alloc: Global, words: &[&str], place: usize) -> Result<Option<Stri
     } else {
         Ok(None)
     }
-}
-
-/// Appends a part of a path: letters and digits as they are, another byte is written as `%` and two digits.
-pub(crate) fn push_part(text: &mut String, bytes: &[u8]) -> Result<(), AllocError>
-    ensures { OnOk result (string_bytes text.new ≡ string_bytes text.old ++ part bytes.now) }
-{
-    percent_encode(bytes, NON_ALPHANUMERIC).append_to(text)
 }
 
 /// A page with a key of one part.

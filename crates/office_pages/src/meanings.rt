@@ -3,7 +3,7 @@ ghost use Rattle.std.specs.List.{flat_map};
 ghost use Rattle.std.specs.Prelude.{◌≡◌, ◌++◌, IfOk, OnOk, map, string_bytes};
 ghost use Rattle.office_pages.specs.Meanings.{framed, mark, meaning_entry, meaning_view, meanings_view, meant, message_faults, reasons, stands_in};
 
-use crate::body::push_text;
+use crate::fields::push_text;
 use std::alloc::{AllocError, Global};
 
 /// The name of a reason or a fault, and what it means.

@@ -5,7 +5,8 @@ ghost use Rattle.office_pages.specs.Drawn.{around, drawn_line, drawn_link, draws
 ghost use Rattle.office_pages.specs.Pages.{asks_again, count_view, counted, has_page, label_of, page_bytes, start_bytes, text_page};
 ghost use Rattle.office_pages.specs.Words.{lines, texts_of};
 
-use crate::body::{push_body, push_text};
+use crate::body::push_body;
+use crate::fields::push_text;
 use crate::layout::{foot, push_head, start_title, title};
 use crate::links::{container_link, word_at, words_of};
 use crate::related::{push_below, push_beside, push_second};

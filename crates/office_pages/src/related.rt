@@ -4,7 +4,8 @@ ghost use Rattle.std.specs.Prelude.{◌≡◌, ◌++◌, ◌==◌, IfOk, OnOk, S
 ghost use Rattle.office_pages.specs.Addresses.{address_of_one};
 ghost use Rattle.office_pages.specs.Pages.{below, beside, contrl_beside, interchange_beside, last_replies, last_view, link_beside, links_beside, list_beside, next_behind, next_of, numbered_reply, partner_beside, reply_beside, second_of, second_view, ticket_beside, titled_report, work_beside};
 
-use crate::body::{push_body, push_field, push_link};
+use crate::body::{push_body, push_link};
+use crate::fields::push_field;
 use crate::layout::title;
 use crate::links::{
     address_of_one, address_of_two, is_at, list_address, word_at, words_of, work_address,
