@@ -1,19 +1,17 @@
 -- The page of a container: where it is or how it left, which lists want it, and its visits.
 use Rattle.std.specs.Prelude.{ℕ, ◌==◌, false, List, [], ◌∷◌, ◌++◌, length, codes, if◌then◌else◌, Option, None, Some}
-use Rattle.std.specs.List.{flat_map}
 use Rattle.box6346.specs.declared.box_number.BoxNumber.{BoxNumber}
 use Rattle.box6346.specs.declared.slot.Slot.{Slot}
-use Rattle.terminal_core.specs.declared.lines.Side.{Side}
 use Rattle.terminal_core.specs.State.{LineContent, LineKey}
 use Rattle.office_reports.specs.Containers.{ContainerContent, StayContent}
 use Rattle.office_reports.specs.Passages.{PassageContent}
 use Rattle.office_reports.specs.Visits.{VisitsContent}
 use Rattle.office_pages.specs.Fixed.{foot}
 use Rattle.office_pages.specs.Frame.{page_top}
-use Rattle.office_pages.specs.Marks.{load_mark, side_name, side_of, side_word, way_word}
-use Rattle.office_pages.specs.Pieces.{Container, Kilos, Letter, LetterPart, Markup, MomentText, Number, Part, Reply, SizeText, SlotText, Text, pieces_text}
-use Rattle.office_pages.specs.Tables.{table_of}
+use Rattle.office_pages.specs.Marks.{load_mark, way_word}
+use Rattle.office_pages.specs.Pieces.{Container, Kilos, Letter, LetterPart, Markup, MomentText, Number, Reply, SizeText, SlotText, Text, pieces_text}
 use Rattle.office_pages.specs.Visits.{visits_section}
+use Rattle.office_pages.specs.Wanted.{wanted_section}
 
 -- ---- where it is
 
@@ -81,29 +79,13 @@ facts_view report =
 
 -- ---- which lists want it
 
--- an open line, with a link to what is left to do of its list
-abbrev pub wanted_line : (vessel voyage : List ℕ) → Side → (port : List ℕ) → List ℕ
-wanted_line vessel voyage side port = pieces_text
-    (Markup (codes "<tr><td><a href='/pages/work/") ∷ Part vessel ∷ Markup (codes "/") ∷ Part voyage ∷ Markup (codes "/")
-    ∷ Markup (side_word side) ∷ Markup (codes "'>") ∷ Markup (side_name side) ∷ Markup (codes "</a></td><td>") ∷ Text vessel
-    ∷ Markup (codes " ") ∷ Text voyage ∷ Markup (codes "</td><td class='m'>") ∷ Text port ∷ Markup (codes "</td></tr>\n") ∷ [])
+-- one that is not in the yard
+abbrev pub expected_view : List (LineKey × LineContent) → List ℕ
+expected_view lists = if length lists == 0 then [] else wanted_section lists
 
-abbrev pub wanted_row : LineKey × LineContent → List ℕ
-wanted_row ((vessel ∷ voyage ∷ side ∷ container ∷ []), line) = wanted_line vessel voyage (side_of side) line.port
-wanted_row (other, line) = []
-
-abbrev pub wanted_table : List (LineKey × LineContent) → List ℕ
-wanted_table lists =
-    table_of (length lists) (codes "<th>List</th><th>Call</th><th>Port</th>") (flat_map wanted_row lists)
-    (codes "No list has an open line for it.")
-
-abbrev pub wanted_section : List (LineKey × LineContent) → List ℕ
-wanted_section lists =
-    pieces_text (Markup (codes "<section>\n<h2>Wanted by</h2>\n") ∷ []) ++ wanted_table lists
-
-abbrev pub wanted_view : Option StayContent → List ℕ
-wanted_view None = []
-wanted_view (Some stay) = wanted_section stay.lists
+abbrev pub wanted_view : Option StayContent → (expected : List (LineKey × LineContent)) → List ℕ
+wanted_view None expected = expected_view expected
+wanted_view (Some stay) expected = wanted_section stay.lists
 
 -- ---- the page
 
@@ -111,10 +93,11 @@ abbrev pub visits_view : Option VisitsContent → List ℕ
 visits_view None = []
 visits_view (Some visits) = visits_section visits
 
-abbrev pub container_body : ContainerContent → Option VisitsContent → List ℕ
-container_body report visits =
-    place_section report ++ facts_view report ++ wanted_view report.stay ++ visits_view visits
+abbrev pub container_body : ContainerContent → (expected : List (LineKey × LineContent)) → Option VisitsContent → List ℕ
+container_body report expected visits =
+    place_section report ++ facts_view report ++ wanted_view report.stay expected ++ visits_view visits
 
-abbrev pub container_page : ContainerContent → Option VisitsContent → List ℕ
-container_page report visits =
-    page_top [] false (Markup (codes "Container ") ∷ Number report.container ∷ []) ++ container_body report visits ++ foot
+-- with the open lines that name it if it is not in the yard
+abbrev pub container_page : ContainerContent → (expected : List (LineKey × LineContent)) → Option VisitsContent → List ℕ
+container_page report expected visits =
+    page_top [] false (Markup (codes "Container ") ∷ Number report.container ∷ []) ++ container_body report expected visits ++ foot

@@ -3,6 +3,7 @@ pub mod Archives
 pub mod Blocks
 pub mod Calls
 pub mod Container
+pub mod Contrl
 pub mod Drawn
 pub mod Fixed
 pub mod Frame
@@ -15,6 +16,8 @@ pub mod Pages
 pub mod Partner
 pub mod Partners
 pub mod Pieces
+pub mod Reply
+pub mod ReplyValues
 pub mod Start
 pub mod Style
 pub mod Tables
@@ -22,6 +25,7 @@ pub mod Tickets
 pub mod Titles
 pub mod Typed
 pub mod Visits
+pub mod Wanted
 pub mod Words
 pub mod Work
 pub mod Yard

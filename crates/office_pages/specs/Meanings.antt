@@ -1,6 +1,7 @@
 -- What the names in a reply mean (our own).
 use Rattle.std.specs.Prelude.{ℕ, Bool, ◌||◌, List, [], ◌∷◌, ◌++◌, codes, nat_eq, if◌then◌else◌}
 use Rattle.std.specs.List.{flat_map, starts_with}
+use Rattle.std.specs.Str.{bytes_eq}
 use Rattle.office_reports.specs.Fields.{field_text}
 use Rattle.office_pages.specs.declared.meanings.Meaning.{Meaning}
 
@@ -52,6 +53,11 @@ reasons =
     ∷ means (codes "NoRoom") (codes "no slot was asked for, and none fits")
     ∷ means (codes "VisitLimit") (codes "as many visits were recorded as the set-up allows")
     ∷ []
+
+-- what a name means
+abbrev pub meaning_of : List Meant → List ℕ → List ℕ
+meaning_of [] name = []
+meaning_of (meant ∷ others) name = if bytes_eq meant.name name then meant.sentence else meaning_of others name
 
 -- ---- which of them a reply has
 

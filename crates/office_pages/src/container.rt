@@ -1,42 +1,43 @@
 //! The page of a container.
-ghost use Rattle.std.specs.List.{flat_map};
 ghost use Rattle.std.specs.Option.{option_map};
 ghost use Rattle.std.specs.Prelude.{◌≡◌, ◌++◌, map, IfOk, OnOk, Some, string_bytes};
 ghost use Rattle.office_reports.specs.Containers.{container_content, stay_content};
 ghost use Rattle.office_reports.specs.Passages.{passage_content};
 ghost use Rattle.office_reports.specs.Visits.{visits_content};
-ghost use Rattle.office_pages.specs.Container.{block_fact, booking_fact, container_body, container_page, facts_view, gross_fact, passage_fact, passage_label, place_by, place_section, place_view, size_fact, stay_facts, visits_view, wanted_line, wanted_row, wanted_section, wanted_table, wanted_view};
+ghost use Rattle.office_pages.specs.Container.{block_fact, booking_fact, container_body, container_page, expected_view, facts_view, gross_fact, passage_fact, passage_label, place_by, place_section, place_view, size_fact, stay_facts, wanted_view};
 ghost use Rattle.terminal_core.specs.Listings.{line_entry};
 
 use crate::frame::push_top;
 use crate::layout::foot;
-use crate::marks::{load_mark, side_name, side_word, way_word};
+use crate::marks::{load_mark, way_word};
 use crate::pieces::Piece::{
-    Container, Kilos, Letter, LetterPart, Markup, MomentText, Number, Part, Reply, SizeText,
-    SlotText, Text,
+    Container, Kilos, Letter, LetterPart, Markup, MomentText, Number, Reply, SizeText, SlotText,
+    Text,
 };
 use crate::pieces::push_pieces;
-use crate::tables::{push_no_rows, push_table_end, push_table_head};
 use crate::visits::push_visits;
+use crate::wanted::push_wanted_section;
 use box6346::{BoxNumber, Slot};
 use edi_syntax::Moment;
 use office_reports::{ContainerReport, Passage, Stay, VisitsReport};
 use std::alloc::{AllocError, Global};
-use terminal_core::{Listing, Side, Way};
+use terminal_core::{Listing, Way};
 
-/// The page of a container: where it is, or how it left last, which lists want it, and its visits.
+/// The page of a container: where it is, or how it left last, which lists want it, and its visits. `expected` are the open
+/// lines that name it, if it is not in the yard.
 pub fn container_page(
     alloc: Global,
     report: &ContainerReport<'_>,
+    expected: &[&Listing],
     visits: &Option<VisitsReport<'_>>,
 ) -> Result<String, AllocError>
-    ensures { IfOk result (λ page. string_bytes page
-        ≡ container_page (container_content report.now) (option_map visits_content visits.now)) }
+    ensures { IfOk result (λ page. string_bytes page ≡ container_page (container_content report.now)
+        (map (λ line. line_entry line.now) expected.now) (option_map visits_content visits.now)) }
 {
     let mut page = String::new(alloc);
     let title = [Markup("Container "), Number(report.container)];
     push_top(alloc, &mut page, "", false, &title)?;
-    push_container(alloc, &mut page, report, visits)?;
+    push_container(alloc, &mut page, report, expected, visits)?;
     page.push_str(foot())?;
     Ok(page)
 }
@@ -45,14 +46,16 @@ fn push_container(
     alloc: Global,
     page: &mut String,
     report: &ContainerReport<'_>,
+    expected: &[&Listing],
     visits: &Option<VisitsReport<'_>>,
 ) -> Result<(), AllocError>
     ensures { OnOk result (string_bytes page.new ≡ string_bytes page.old
-        ++ container_body (container_content report.now) (option_map visits_content visits.now)) }
+        ++ container_body (container_content report.now) (map (λ line. line_entry line.now) expected.now)
+        (option_map visits_content visits.now)) }
 {
     push_place(alloc, page, report)?;
     push_facts(alloc, page, report)?;
-    push_wanted(alloc, page, &report.stay)?;
+    push_wanted(alloc, page, &report.stay, expected)?;
     match visits {
         Some(visits) => push_visits(alloc, page, visits),
         None => Ok(()),
@@ -296,94 +299,28 @@ fn push_block(alloc: Global, page: &mut String, slot: Slot) -> Result<(), AllocE
     )
 }
 
-/// Appends the open lines that name it, if it is in the yard.
-fn push_wanted(alloc: Global, page: &mut String, stay: &Option<Stay<'_>>) -> Result<(), AllocError>
-    ensures { OnOk result (string_bytes page.new
-        ≡ string_bytes page.old ++ wanted_view (option_map stay_content stay.now)) }
+/// Appends the open lines that name it: if it is not in the yard, only if there are any.
+fn push_wanted(
+    alloc: Global,
+    page: &mut String,
+    stay: &Option<Stay<'_>>,
+    expected: &[&Listing],
+) -> Result<(), AllocError>
+    ensures { OnOk result (string_bytes page.new ≡ string_bytes page.old
+        ++ wanted_view (option_map stay_content stay.now) (map (λ line. line_entry line.now) expected.now)) }
 {
     match stay {
         Some(stay) => push_wanted_section(alloc, page, &stay.lists),
-        None => Ok(()),
+        None => push_expected(alloc, page, expected),
     }
 }
 
-fn push_wanted_section(
-    alloc: Global,
-    page: &mut String,
-    lists: &[&Listing],
-) -> Result<(), AllocError>
-    ensures { OnOk result (string_bytes page.new
-        ≡ string_bytes page.old ++ wanted_section (map (λ line. line_entry line.now) lists.now)) }
+fn push_expected(alloc: Global, page: &mut String, expected: &[&Listing]) -> Result<(), AllocError>
+    ensures { OnOk result (string_bytes page.new ≡ string_bytes page.old
+        ++ expected_view (map (λ line. line_entry line.now) expected.now)) }
 {
-    push_pieces(alloc, page, &[Markup("<section>\n<h2>Wanted by</h2>\n")])?;
-    push_lists(alloc, page, lists)
-}
-
-fn push_lists(alloc: Global, page: &mut String, lists: &[&Listing]) -> Result<(), AllocError>
-    ensures { OnOk result (string_bytes page.new
-        ≡ string_bytes page.old ++ wanted_table (map (λ line. line_entry line.now) lists.now)) }
-{
-    if lists.is_empty() {
-        return push_no_rows(alloc, page, "No list has an open line for it.");
+    if expected.is_empty() {
+        return Ok(());
     }
-    push_table_head(alloc, page, "<th>List</th><th>Call</th><th>Port</th>")?;
-    push_list_rows(alloc, page, lists)?;
-    push_table_end(alloc, page)
-}
-
-fn push_list_rows(alloc: Global, page: &mut String, lists: &[&Listing]) -> Result<(), AllocError>
-    ensures { OnOk result (string_bytes page.new
-        ≡ string_bytes page.old ++ flat_map wanted_row (map (λ line. line_entry line.now) lists.now)) }
-{
-    for list in lists {
-        push_list_row(alloc, page, list)?;
-    }
-    Ok(())
-}
-
-fn push_list_row(alloc: Global, page: &mut String, line: &Listing) -> Result<(), AllocError>
-    ensures { OnOk result (string_bytes page.new ≡ string_bytes page.old ++ wanted_row (line_entry line.now)) }
-{
-    push_wanted_line(
-        alloc,
-        page,
-        line.call.vessel.as_str(),
-        line.call.voyage.as_str(),
-        line.side,
-        line.port.as_str(),
-    )
-}
-
-fn push_wanted_line<'a>(
-    alloc: Global,
-    page: &mut String,
-    vessel: &'a str,
-    voyage: &'a str,
-    side: Side,
-    port: &'a str,
-) -> Result<(), AllocError>
-    ensures { OnOk result
-        (string_bytes page.new ≡ string_bytes page.old ++ wanted_line vessel.now voyage.now side port.now) }
-{
-    push_pieces(
-        alloc,
-        page,
-        &[
-            Markup("<tr><td><a href='/pages/work/"),
-            Part(vessel),
-            Markup("/"),
-            Part(voyage),
-            Markup("/"),
-            Markup(side_word(side)),
-            Markup("'>"),
-            Markup(side_name(side)),
-            Markup("</a></td><td>"),
-            Text(vessel),
-            Markup(" "),
-            Text(voyage),
-            Markup("</td><td class='m'>"),
-            Text(port),
-            Markup("</td></tr>\n"),
-        ],
-    )
+    push_wanted_section(alloc, page, expected)
 }

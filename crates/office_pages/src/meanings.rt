@@ -1,7 +1,7 @@
 //! What the names in a reply mean.
 ghost use Rattle.std.specs.List.{flat_map};
 ghost use Rattle.std.specs.Prelude.{◌≡◌, ◌++◌, IfOk, OnOk, map, string_bytes};
-ghost use Rattle.office_pages.specs.Meanings.{framed, mark, meaning_entry, meaning_view, meanings_view, meant, message_faults, reasons, stands_in};
+ghost use Rattle.office_pages.specs.Meanings.{framed, mark, meaning_entry, meaning_of, meaning_view, meanings_view, meant, message_faults, reasons, stands_in};
 
 use crate::fields::push_text;
 use std::alloc::{AllocError, Global};
@@ -80,6 +80,22 @@ const REASONS: [Meaning; 18] = [
     ),
 ];
 
+/// The sentence of a name, empty if it has none.
+pub(crate) fn meaning_of(meanings: &'static [Meaning], name: &str) -> &'static str
+    ensures { result.now ≡ meaning_of (map meant meanings.now) name.now }
+{
+    match meanings {
+        [Meaning(known, sentence), others @ ..] => {
+            if *known == name {
+                sentence
+            } else {
+                meaning_of(others, name)
+            }
+        }
+        [] => "",
+    }
+}
+
 /// Appends what each name means that a reply has.
 pub(crate) fn push_meanings(alloc: Global, page: &mut String, text: &str) -> Result<(), AllocError>
     ensures { OnOk result (string_bytes page.new ≡ string_bytes page.old ++ meanings_view text.now) }
@@ -96,14 +112,14 @@ pub(crate) fn push_meanings(alloc: Global, page: &mut String, text: &str) -> Res
 }
 
 #[tactic(auto, unfolding(crate::specs::Meanings::message_faults))]
-fn message_faults() -> &'static [Meaning]
+pub(crate) fn message_faults() -> &'static [Meaning]
     ensures { map meant result.now ≡ message_faults }
 {
     &MESSAGE_FAULTS
 }
 
 #[tactic(auto, unfolding(crate::specs::Meanings::reasons))]
-fn reasons() -> &'static [Meaning]
+pub(crate) fn reasons() -> &'static [Meaning]
     ensures { map meant result.now ≡ reasons }
 {
     &REASONS

@@ -1,8 +1,8 @@
 use Rattle.std.proofs.Common.{◌++◌, sym, ◌∙◌, string_bytes}
 use Rattle.std.proofs.lemmas.Result.{on_ok_weaker}
-use Rattle.office_pages.specs.Container.{wanted_line}
+use Rattle.office_pages.specs.Wanted.{wanted_line}
 use Rattle.office_pages.proofs.Sides.{side_again}
-use Rattle.office_pages.proofs.container.push_list_row.Goals as goal
+use Rattle.office_pages.proofs.wanted.push_list_row.Goals as goal
 
 pub returns : goal.returns
 returns c =
