@@ -1,17 +1,19 @@
 """The pages of reports (own), each from what its report tells: tables with headings and sums, states as words on colours, and
 links to what things name.
 
-A page is at `/pages` and the path of its report. It needs no script and nothing from elsewhere. The page of a reply, a CONTRL
-and the picture are those of pages.py still.
+A page is at `/pages` and the path of its report. It needs no script and nothing from elsewhere. The picture is that of pages.py.
 """
+import json
 import re
 
 from .deliveries import run
 from .lookups import (
     going_down, open_on, own_lines, own_visits, standing, standing_visit, waiting, cell_count)
+from .meanings import MEANINGS
 from .moments import day_number
 from .names import slot_text
 from .picture import escaped
+from .reports import report
 from .words import moment_text
 from .yard import blocker, cells
 
@@ -117,7 +119,7 @@ ASKED_AGAIN = "<meta http-equiv='refresh' content='60'>\n"
 TABS = [('/', 'Start'), ('/pages/yard', 'Yard'), ('/pages/blocks', 'Blocks'), ('/pages/picture', 'Picture'), ('/pages/calls', 'Calls'), ('/pages/partners', 'Partners')]
 
 # the kinds of reports that have a page of this form
-KINDS = ('yard', 'visits', 'list', 'ticket', 'container', 'work', 'partners', 'partner', 'blocks', 'calls')
+KINDS = ('yard', 'visits', 'list', 'ticket', 'reply', 'contrl', 'container', 'work', 'partners', 'partner', 'blocks', 'calls')
 # those that ask again each minute, and so does the start page
 ASKING = ('start', 'list', 'work', 'calls', 'partners')
 
@@ -232,13 +234,17 @@ def visits(office, number):
     return framed('', 'Visits of ' + number, title + visits_section(visits_of(office, number)))
 
 
-def wanted(terminal, number):
+def open_for(terminal, number):
     """The open lines that name it."""
-    lines = sorted(
+    return sorted(
         (of_call, 'load discharge'.split().index(side), side, line.port or '')
         for (of_call, side, of_number), line in terminal.lines.items() if of_number == number and not line.is_done)
+
+
+def wanted(terminal, number):
+    """The table of these."""
     rows = ["<tr><td><a href='/pages/work/%s'>%s</a></td><td>%s</td><td class='m'>%s</td></tr>\n" % (
-        address(*of_call, side), side.capitalize(), call(*of_call), escaped(port)) for of_call, _order, side, port in lines]
+        address(*of_call, side), side.capitalize(), call(*of_call), escaped(port)) for of_call, _order, side, port in open_for(terminal, number)]
     return '<section>\n<h2>Wanted by</h2>\n' + table(['List', 'Call', 'Port'], rows, 'No list has an open line for it.')
 
 
@@ -272,11 +278,15 @@ def facts(terminal, number, visit):
 
 
 def container(office, number):
-    """The page of a container."""
+    """The page of a container, also of one that never came."""
     terminal, stays = office.fold().terminal, visits_of(office, number)
-    body = '<h1><small>Container</small> %s</h1>\n<section>\n%s<dl>\n%s</dl>\n</section>\n' % (
-        number, place_of(terminal, number), facts(terminal, number, stays[-1][1]))
-    body += wanted(terminal, number) if number in terminal.yard else ''
+    body, is_wanted = '<h1><small>Container</small> %s</h1>\n<section>\n' % number, open_for(terminal, number)
+    if not stays:
+        mark = state('wait', 'not here yet') if is_wanted else state('off', 'never came')
+        body += "<div class='place'>%s</div>\n</section>\n" % mark + wanted(terminal, number)
+        return framed('', 'Container ' + number, body)
+    body += '%s<dl>\n%s</dl>\n</section>\n' % (place_of(terminal, number), facts(terminal, number, stays[-1][1]))
+    body += wanted(terminal, number) if number in terminal.yard or is_wanted else ''
     return framed('', 'Container ' + number, body + visits_section(stays))
 
 
@@ -497,6 +507,78 @@ def ticket(office, partner, number):
     return framed('', 'Ticket of ' + name, body)
 
 
+# ---- a reply
+
+def other_pages(partner, number, *pages):
+    """Links to what else there is of an interchange."""
+    where = '%s/%d' % (address(partner), number)
+    links = ["<a href='/pages/%s/%s'>%s</a>\n" % (route, where, name) for route, name in pages]
+    return "<p class='beside'>\n%s<a href='/pages/partners/%s'>Partner</a>\n</p>\n" % (''.join(links), address(partner))
+
+
+def lined(contrl):
+    """A CONTRL with an LF after each segment. A release character takes its meaning from the one after it."""
+    return re.sub(r"\?.|'", lambda found: found[0] + ('\n' if found[0] == "'" else ''), contrl, flags=re.S)
+
+
+def contrl_section(contrl):
+    """The CONTRL, a segment on each line."""
+    return '<section>\n<h2>CONTRL</h2>\n<pre>\n%s</pre>\n</section>\n' % escaped(lined(contrl))
+
+
+def named(number):
+    """The container that a line names, if its number can be read."""
+    return box(number) if number else "<span class='note'>no number</span>"
+
+
+def outcome(line):
+    """What became of a line."""
+    if line['outcome'] == 'refused':
+        why = "%s <b>%s</b>: %s" % (state('bad', 'refused'), line['reason'], escaped(dict(MEANINGS)[line['reason']]))
+        return why + (': ' + box(line['blocker']) if 'blocker' in line else '')
+    if line['outcome'] == 'done':
+        return state('ok', 'done') + (" now in <span class='m'>%s</span>" % line['slot'] if 'slot' in line else '')
+    return state('ok', line['outcome']) + {'gone': ' it has left', 'listed': ' its line is open'}[line['outcome']]
+
+
+def message(told):
+    """A message, and what became of its lines or why it gave no orders."""
+    if told['result'] == 'rejected':
+        return '<section>\n<h2>Message %s %s</h2>\n<p><b>%s</b>: %s. The message gave no orders.</p>\n</section>\n' % (
+            escaped(told['reference']), state('bad', 'rejected'), told['fault'], escaped(dict(MEANINGS)[told['fault']]))
+    lines = told['lines']
+    refused = sum(line['outcome'] == 'refused' for line in lines)
+    text = '<section>\n<h2>Message %s %s <small>%s lines, %s refused</small></h2>\n' % (
+        escaped(told['reference']), state('ok', 'accepted'), count(len(lines)), count(refused))
+    if told.get('dropped'):
+        text += '<p>%s open lines of the list that it replaced were dropped.</p>\n' % count(told['dropped'])
+    rows = ["<tr><td class='n'>%s</td><td>%s</td><td>%s</td></tr>\n" % (count(line['line']), named(line.get('box')), outcome(line)) for line in lines]
+    return text + table(['Line:n', 'Container', 'What became of it'], rows, 'It has no line.')
+
+
+def reply_of(office, partner, number):
+    """The page of the reply to an interchange that is kept."""
+    answer, name = json.loads(report(office, 'reply', '%s/%d' % (address(partner), number))), '%s %d' % (escaped(partner), number)
+    body = '<h1><small>Reply to</small> %s</h1>\n' % name + other_pages(
+        partner, number, ('tickets', 'What it did'), ('contrls', 'CONTRL'))
+    if 'reply' not in answer:
+        body += "<section>\n<div class='place'>%s<span>for number <b>%d</b>, which is missing</span></div>\n</section>\n" % (
+            state('wait', 'waits'), answer['next'])
+    else:
+        body += "<section>\n<div class='place'>%s</div>\n</section>\n" % state('ok', 'taken')
+        body += ''.join(message(told) for told in answer['reply']['messages']) + contrl_section(answer['reply']['contrl'])
+    return framed('', 'Reply to ' + name, body)
+
+
+def contrl(office, partner, number):
+    """The page of the CONTRL of an interchange that was taken."""
+    name = '%s %d' % (escaped(partner), number)
+    body = '<h1><small>CONTRL to</small> %s</h1>\n' % name + other_pages(
+        partner, number, ('tickets', 'What it did'), ('replies', 'Reply'))
+    body += contrl_section(report(office, 'contrl', '%s/%d' % (address(partner), number))[:-1])
+    return framed('', 'CONTRL to ' + name, body)
+
+
 # ---- the start page
 
 def attention(rows, visit_number, limit):
@@ -534,7 +616,7 @@ def start(office):
 
 PAGES = {
     'yard': yard, 'visits': visits, 'list': vessel_list, 'ticket': ticket, 'container': container, 'work': work, 'partners': partners,
-    'partner': partner, 'blocks': blocks, 'calls': calls}
+    'partner': partner, 'blocks': blocks, 'calls': calls, 'reply': reply_of, 'contrl': contrl}
 
 
 def page(office, kind, values):
