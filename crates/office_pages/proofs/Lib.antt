@@ -1,7 +1,6 @@
+mod Growing
 pub mod Plain
-pub mod Shown
 pub mod Sides
 mod Splitting
 pub mod Sums
 mod Texts
-mod Titled

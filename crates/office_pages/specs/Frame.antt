@@ -1,8 +1,7 @@
--- What is the same around every page: its head with style and title, its header, and its foot.
+-- What is the same around every page: its head with style and title and its header.
 use Rattle.std.specs.Prelude.{ℕ, Bool, List, [], ◌∷◌, ◌++◌, codes, if◌then◌else◌}
 use Rattle.std.specs.Str.{bytes_eq}
-use Rattle.office_pages.specs.Fixed.{foot}
-use Rattle.office_pages.specs.Pages.{again}
+use Rattle.office_pages.specs.Fixed.{again}
 use Rattle.office_pages.specs.Pieces.{PieceContent, Markup, pieces_text}
 use Rattle.office_pages.specs.Style.{colours, outline, parts, sheets}
 

@@ -8,11 +8,10 @@ pub mod Drawn
 pub mod Fixed
 pub mod Frame
 pub mod Laws
-pub mod Links
 pub mod Lists
 pub mod Marks
 pub mod Meanings
-pub mod Pages
+pub mod Notices
 pub mod Partner
 pub mod Partners
 pub mod Pieces
@@ -22,7 +21,6 @@ pub mod Start
 pub mod Style
 pub mod Tables
 pub mod Tickets
-pub mod Titles
 pub mod Typed
 pub mod Visits
 pub mod Wanted

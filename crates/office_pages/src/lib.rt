@@ -1,26 +1,23 @@
-//! Pages of HTML that show the texts of reports.
+//! Pages of HTML, made of what reports tell.
 #![tactic(auto)]
 
 mod archives;
 mod blocks;
-mod body;
 mod calls;
 mod container;
 mod contrl;
+mod drawn;
 mod fields;
 mod frame;
 pub mod laws;
 mod layout;
-mod links;
 mod lists;
 mod marks;
 mod meanings;
 mod notices;
-mod pages;
 mod partner;
 mod partners;
 mod pieces;
-mod related;
 mod reply;
 mod reply_lines;
 mod reply_values;
@@ -39,12 +36,11 @@ pub use blocks::blocks_page;
 pub use calls::calls_page;
 pub use container::container_page;
 pub use contrl::contrl_page;
+pub use drawn::picture_page;
 pub use lists::list_page;
 pub use notices::{Notice, notice_page, typed_number};
-pub use pages::{has_page, page, start_page};
 pub use partner::partner_page;
 pub use partners::partners_page;
-pub use related::second_of;
 pub use reply::reply_page;
 pub use start::{StartReport, office_page};
 pub use tickets::ticket_page;

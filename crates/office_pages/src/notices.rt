@@ -2,13 +2,13 @@
 ghost use Rattle.std.specs.Prelude.{◌≡◌, ◌++◌, IfOk, IsTrue, OnOk, string_bytes};
 ghost use Rattle.box6346.specs.ContainerNumber.{number_of};
 ghost use Rattle.box6346.specs.NumberText.{has_form};
-ghost use Rattle.office_pages.specs.Pages.{notice_bytes, notice_view};
-ghost use Rattle.office_pages.specs.Titles.{notice_title};
+ghost use Rattle.office_pages.specs.Notices.{notice_bytes, notice_title, notice_top, notice_view};
 ghost use Rattle.office_pages.specs.Typed.{corrected, is_left_out, number_in, typed, typed_text, with_check_digit};
 
-use crate::body::push_number_link;
-use crate::layout::{foot, push_head};
-use crate::links::address_of_one;
+use crate::frame::push_top;
+use crate::layout::foot;
+use crate::pieces::Piece::{Container, Markup};
+use crate::pieces::push_pieces;
 use box6346::{BoxNumber, NumberFault, check_digit};
 use percent_encoding::percent_decode;
 use std::alloc::{AllocError, Global};
@@ -29,12 +29,25 @@ pub fn notice_page(alloc: Global, notice: &Notice) -> Result<String, AllocError>
     ensures { IfOk result (λ page. string_bytes page ≡ notice_bytes notice.now) }
 {
     let mut page = String::new(alloc);
-    push_head(alloc, &mut page, false, notice_title(notice).as_bytes())?;
-    page.push_str("<p>")?;
+    push_notice_top(alloc, &mut page, notice_title(notice))?;
     push_notice(alloc, &mut page, notice)?;
-    page.push_str("</p>\n")?;
     page.push_str(foot())?;
     Ok(page)
+}
+
+fn push_notice_top(
+    alloc: Global,
+    page: &mut String,
+    title: &'static str,
+) -> Result<(), AllocError>
+    ensures { OnOk result (string_bytes page.new ≡ string_bytes page.old ++ notice_top title.now) }
+{
+    push_top(alloc, page, "", false, &[Markup(title)])?;
+    push_pieces(
+        alloc,
+        page,
+        &[Markup("<h1>"), Markup(title), Markup("</h1>\n<section>\n<p>")],
+    )
 }
 
 /// Appends what is reported.
@@ -42,16 +55,27 @@ fn push_notice(alloc: Global, page: &mut String, notice: &Notice) -> Result<(), 
     ensures { OnOk result (string_bytes page.new ≡ string_bytes page.old ++ notice_view notice.now) }
 {
     match notice {
-        Notice::NotHere => page.push_str("There is nothing under this address."),
-        Notice::Form => page.push_str(
-            "A container has a number of four letters and seven digits, as ABCU 000001 7.",
+        Notice::NotHere => push_pieces(
+            alloc,
+            page,
+            &[Markup("There is nothing under this address.</p>\n</section>\n")],
         ),
-        Notice::CheckDigit(number) => {
-            let address = address_of_one(alloc, "/pages/containers/", &number.text())?;
-            page.push_str("The last digit is not the check digit. With the right one it is ")?;
-            push_number_link(alloc, page, address.as_str(), &number.text())?;
-            page.push_str(".")
-        }
+        Notice::Form => push_pieces(
+            alloc,
+            page,
+            &[Markup(
+                "A container has a number of four letters and seven digits, as ABCU 000001 7.</p>\n</section>\n",
+            )],
+        ),
+        Notice::CheckDigit(number) => push_pieces(
+            alloc,
+            page,
+            &[
+                Markup("The last digit is not the check digit. With the right one it is "),
+                Container(*number),
+                Markup(".</p>\n</section>\n"),
+            ],
+        ),
     }
 }
 

@@ -2,7 +2,7 @@ use Rattle.std.proofs.Common.{◌++◌, ap, ◌∙◌, codes, decimal, string_by
 use Rattle.std.proofs.lemmas.Result.{on_ok_weaker}
 use Rattle.office_pages.specs.Addresses.{part}
 use Rattle.office_pages.specs.Pieces.{reply_address}
-use Rattle.office_pages.proofs.Shown.{onto}
+use Rattle.office_reports.proofs.Markup.{onto}
 use Rattle.office_pages.proofs.pieces.push_reply_address.Goals as goal
 
 pub returns : goal.returns

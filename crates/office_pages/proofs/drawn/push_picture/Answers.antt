@@ -3,7 +3,7 @@ use Rattle.std.proofs.lemmas.Result.{on_ok_weaker}
 use Rattle.std.proofs.lemmas.Str.Pattern.{split_parts}
 use Rattle.office_pages.specs.Drawn.{drawn_line, picture_view}
 use Rattle.office_pages.proofs.Splitting.{pieces_end, pieces_more}
-use Rattle.office_pages.proofs.pages.push_picture.Goals as goal
+use Rattle.office_pages.proofs.drawn.push_picture.Goals as goal
 
 pub lines-preserved : goal.lines-preserved
 lines-preserved c =
