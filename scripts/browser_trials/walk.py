@@ -14,6 +14,7 @@ from model.keys import PARTS, read_key
 from model.names import check_digit, number_fault
 from model.pages import KINDS, title
 from model.reports import report
+from model.value_pages import ASKING, KINDS as OF_VALUES
 
 from . import looks
 
@@ -83,6 +84,8 @@ class Walk:
         status, text = self.served.owed(path)
         self.expect((came.status, came.text) == (status, text), path, 'is not the model\'s:', came.status, came.text[-300:])
         self.pages.add(path)
+        if asked_at(path)[0] in ASKING and path not in self.again:
+            self.again.append(path)
         self.opened += [] if urlsplit(came.address).fragment and path in self.opened[-1:] else [path]
         shows = looks.held(self.chromium)
         self.expect(shows == looks.Reader(text).held(), path, 'shows something else')
@@ -99,29 +102,28 @@ class Walk:
         return asked_at(path)[0], status
 
     def reported(self, path, status, shows):
-        """Title and text of a report's page are the report's, with a container's visits below it. The picture is drawn, and shows
-        no text of a report."""
+        """A report's page is called as its title says, also by its heading. One that shows a text shows the report's; the picture is
+        drawn, and shows none."""
         kind, key = asked_at(path)
         if status != 200 or kind not in KINDS or kind == 'picture' or not is_page(path):
             return
         values = read_key(kind, key) if PARTS[kind] else [None]
         name = shown_as(title(kind, values[0] if len(values) == 1 else values))
         self.expect(
-            (shows.title, shows.heading) == (looks.collapsed(name), name), path, 'is called', shows.title, shows.heading)
-        kinds = [kind, 'visits'] if kind == 'container' else [kind]
-        told = ''.join(report(self.served.office, each, key) for each in kinds)
-        self.expect(shows.report == shown_as(told), path, 'has another report:', shows.report)
+            (shows.title, looks.collapsed(shows.heading)) == (looks.collapsed(name),) * 2, path, 'is called', shows.title, shows.heading)
+        told = None if kind in OF_VALUES else shown_as(report(self.served.office, kind, key))
+        self.expect(shows.report == told, path, 'has another report:', shows.report)
 
     def leading(self, shows):
         """All links of a page, or some, if it has many: each leads to a page of the model. One may lead to a container that never
-        came, or to the work of a list whose name has a space."""
+        came."""
         places = range(len(shows.links))
         for place in places if len(places) <= LINKS else sorted(self.chance.sample(places, LINKS)):
             address, words = shows.links[place]
             kind, status = kind_at(address), self.served.owed(path_of(address))[0]
             self.links[kind] += 1
             self.lost += status == 404
-            self.expect(status == 200 or status == 404 and kind in ('container', 'work'), address, 'leads nowhere')
+            self.expect(status == 200 or status == 404 and kind == 'container', address, 'leads nowhere')
             self.expect(words.strip(), address, 'has no words')
             if kind == 'container' and number_fault(words) is None:
                 self.expect(address == '/pages/containers/' + words, words, 'leads to', address)

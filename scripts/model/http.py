@@ -11,10 +11,11 @@ from .explained import NOBODY, printed
 from .keys import PARTS, decoded, read_key
 from .moments import are_digits
 from .office import json_text
-from .pages import KINDS as PAGED, page, start, told, typed
+from .pages import KINDS as PAGED, drawn, typed
 from .reports import OF_NUMBERS, Lost, own_report, report
 from .setup import is_utf8
 from .syntax import BREAKS, FAULTS, LONGEST_TEXT, is_printable, number_of, sender_of
+from .value_pages import page, start, told
 
 LONGEST_HEAD = 8192
 MOST_FIELDS = 64
@@ -193,7 +194,7 @@ def paged(office, head):
     address = address_of(head)
     if address == '/':
         check_method(head, 'GET')
-        return 200, start(office.setup.terminal, report(office, 'metrics', ''))
+        return 200, start(office)
     if address == PAGES + '/find':
         check_method(head, 'GET')
         what, number = typed(typed_in(head))
@@ -206,13 +207,12 @@ def paged(office, head):
 
 
 def page_of(office, kind, key):
-    """Status and page of a report: its text, shown, with the visits of a container; or that there is nothing."""
-    text = report(office, kind, key)
-    if text is None:
+    """Status and page of a report, as tables, also of a container that never came; or that there is nothing."""
+    values = read_key(kind, key) if PARTS[kind] else []
+    text = None if values is None else report(office, kind, key)
+    if text is None and (kind != 'container' or values is None):
         return 404, told('not here')
-    values = read_key(kind, key) if PARTS[kind] else [None]
-    visits = report(office, 'visits', key) if kind == 'container' else None
-    return 200, page(kind, values[0] if len(values) == 1 else values, text, visits)
+    return 200, drawn(text) if kind == 'picture' else page(office, kind, values)
 
 
 # ---- archives

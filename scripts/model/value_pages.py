@@ -13,7 +13,7 @@ from .meanings import MEANINGS
 from .moments import day_number
 from .names import slot_text
 from .picture import escaped
-from .reports import report
+from .reports import reported
 from .words import moment_text
 from .yard import blocker, cells
 
@@ -558,7 +558,7 @@ def message(told):
 
 def reply_of(office, partner, number):
     """The page of the reply to an interchange that is kept."""
-    answer, name = json.loads(report(office, 'reply', '%s/%d' % (address(partner), number))), '%s %d' % (escaped(partner), number)
+    answer, name = json.loads(reported(office, 'reply', [partner, number])), '%s %d' % (escaped(partner), number)
     body = '<h1><small>Reply to</small> %s</h1>\n' % name + other_pages(
         partner, number, ('tickets', 'What it did'), ('contrls', 'CONTRL'))
     if 'reply' not in answer:
@@ -575,7 +575,7 @@ def contrl(office, partner, number):
     name = '%s %d' % (escaped(partner), number)
     body = '<h1><small>CONTRL to</small> %s</h1>\n' % name + other_pages(
         partner, number, ('tickets', 'What it did'), ('replies', 'Reply'))
-    body += contrl_section(report(office, 'contrl', '%s/%d' % (address(partner), number))[:-1])
+    body += contrl_section(reported(office, 'contrl', [partner, number])[:-1])
     return framed('', 'CONTRL to ' + name, body)
 
 
@@ -614,11 +614,30 @@ def start(office):
     return framed('/', 'Office of ' + name, body, True)
 
 
+# ---- what is told in place of a report
+
+def told(what, right=None):
+    """`not here`, `form`, or `check digit` with the right number."""
+    name, sentence = {
+        'not here': ('Not here', 'There is nothing under this address'),
+        'form': ('No container number', 'A container has a number of four letters and seven digits, as ABCU 000001 7'),
+        'check digit': ('Another check digit', 'The last digit is not the check digit. With the right one it is '),
+    }[what]
+    return framed('', name, '<h1>%s</h1>\n<section>\n<p>%s%s.</p>\n</section>\n' % (name, sentence, box(right) if right else ''))
+
+
 PAGES = {
     'yard': yard, 'visits': visits, 'list': vessel_list, 'ticket': ticket, 'container': container, 'work': work, 'partners': partners,
     'partner': partner, 'blocks': blocks, 'calls': calls, 'reply': reply_of, 'contrl': contrl}
 
 
+def archives_note(count):
+    """How many archives were not asked, if there are any."""
+    return "<p class='note'>%d archives were not asked: older visits may stand there.</p>\n" % count if count else ''
+
+
 def page(office, kind, values):
-    """The page of a report that tells something, on what its key names."""
-    return PAGES[kind](office, *values)
+    """The page of a report, on what its key names; with how many archives were not asked where its text tells that too."""
+    text, archives = PAGES[kind](office, *values), len(office.register.archives)
+    told_of = kind in ('container', 'visits') or kind == 'calls' and office.away
+    return text[:-len(END)] + archives_note(archives if told_of else 0) + END
