@@ -1,8 +1,8 @@
--- What is the same around every page: its head with style and title and its header.
-use Rattle.std.specs.Prelude.{ℕ, Bool, List, [], ◌∷◌, ◌++◌, codes, if◌then◌else◌}
+-- What is the same around every page: its head with style and title, and its header.
+use Rattle.std.specs.Prelude.{ℕ, ◌==◌, Bool, false, List, [], ◌∷◌, ◌++◌, codes, length, if◌then◌else◌}
 use Rattle.std.specs.Str.{bytes_eq}
 use Rattle.office_pages.specs.Fixed.{again}
-use Rattle.office_pages.specs.Pieces.{PieceContent, Markup, pieces_text}
+use Rattle.office_pages.specs.Pieces.{PieceContent, Markup, Text, pieces_text}
 use Rattle.office_pages.specs.Style.{colours, outline, parts, sheets}
 
 -- what stands before the style
@@ -23,7 +23,17 @@ finding =
     ++ codes "<form action='/pages/find'>\n"
     ++ codes "<label for='container'>Container</label>\n"
     ++ codes "<input id='container' name='container' placeholder='ABCU 000001 7' autocomplete='off' "
-    ++ codes "spellcheck='false' required>\n"
+    ++ codes "spellcheck='false' required"
+
+-- what was typed stays in it
+abbrev pub typed_value : List ℕ → List ℕ
+typed_value typed =
+    if length typed == 0 then []
+    else pieces_text (Markup (codes " value='") ∷ Text typed ∷ Markup (codes "'") ∷ [])
+
+unfoldable pub found_by : List ℕ
+found_by =
+    codes ">\n"
     ++ codes "<button>Find</button>\n"
     ++ codes "</form>\n"
     ++ codes "</div>\n"
@@ -52,4 +62,12 @@ header_pieces here =
 
 -- what stands before a page's own parts
 unfoldable pub page_top : (here : List ℕ) → (asks : Bool) → (title : List PieceContent) → List ℕ
-page_top here asks title = pieces_text (style_pieces asks) ++ pieces_text title ++ pieces_text (header_pieces here)
+page_top here asks title =
+    pieces_text (style_pieces asks) ++ pieces_text title ++ pieces_text (header_pieces here)
+    ++ pieces_text (Markup found_by ∷ [])
+
+-- the same before what a text finds
+unfoldable pub typed_top : (typed : List ℕ) → (title : List PieceContent) → List ℕ
+typed_top typed title =
+    pieces_text (style_pieces false) ++ pieces_text title ++ pieces_text (header_pieces []) ++ typed_value typed
+    ++ pieces_text (Markup found_by ∷ [])

@@ -6,6 +6,7 @@ pub mod Container
 pub mod Contrl
 pub mod Drawn
 pub mod Fixed
+pub mod Found
 pub mod Frame
 pub mod Laws
 pub mod Lists

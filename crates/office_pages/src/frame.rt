@@ -1,10 +1,10 @@
 //! What is the same around every page: its head with style and title, and its header.
 ghost use Rattle.std.specs.Prelude.{◌≡◌, ◌++◌, map, OnOk, string_bytes};
-ghost use Rattle.office_pages.specs.Frame.{finding, header_pieces, mark, opening, page_top, style_pieces};
+ghost use Rattle.office_pages.specs.Frame.{finding, found_by, header_pieces, mark, opening, page_top, style_pieces, typed_top, typed_value};
 ghost use Rattle.office_pages.specs.Pieces.{piece_content, pieces_text};
 
 use crate::layout::again;
-use crate::pieces::Piece::{self, Markup};
+use crate::pieces::Piece::{self, Markup, Text};
 use crate::pieces::push_pieces;
 use crate::style::{colours, outline, parts, sheets};
 use std::alloc::{AllocError, Global};
@@ -23,7 +23,35 @@ pub(crate) fn push_top(
 {
     push_style(alloc, page, asks_again)?;
     push_pieces(alloc, page, title)?;
-    push_header(alloc, page, here)
+    push_header(alloc, page, here)?;
+    push_pieces(alloc, page, &[Markup(found_by())])
+}
+
+/// Appends the same before what a text finds, which stays in the field.
+#[tactic(auto, unfolding(crate::specs::Frame::typed_top))]
+pub(crate) fn push_typed_top(
+    alloc: Global,
+    page: &mut String,
+    typed: &str,
+    title: &[Piece<'_>],
+) -> Result<(), AllocError>
+    ensures { OnOk result (string_bytes page.new
+        ≡ string_bytes page.old ++ typed_top typed.now (map piece_content title.now)) }
+{
+    push_style(alloc, page, false)?;
+    push_pieces(alloc, page, title)?;
+    push_header(alloc, page, "")?;
+    push_typed(alloc, page, typed)?;
+    push_pieces(alloc, page, &[Markup(found_by())])
+}
+
+fn push_typed(alloc: Global, page: &mut String, typed: &str) -> Result<(), AllocError>
+    ensures { OnOk result (string_bytes page.new ≡ string_bytes page.old ++ typed_value typed.now) }
+{
+    if typed.is_empty() {
+        return Ok(());
+    }
+    push_pieces(alloc, page, &[Markup(" value='"), Text(typed), Markup("'")])
 }
 
 /// Appends the style, and whether the page is asked for again each minute.
@@ -95,7 +123,9 @@ const FINDING: &str = "</nav>\n\
     <form action='/pages/find'>\n\
     <label for='container'>Container</label>\n\
     <input id='container' name='container' placeholder='ABCU 000001 7' autocomplete='off' \
-    spellcheck='false' required>\n\
+    spellcheck='false' required";
+
+const FOUND_BY: &str = ">\n\
     <button>Find</button>\n\
     </form>\n\
     </div>\n\
@@ -108,6 +138,14 @@ fn opening() -> &'static str
     ensures { result.now ≡ opening }
 {
     OPENING
+}
+
+/// What stands after the field.
+#[tactic(auto, unfolding(crate::specs::Frame::found_by))]
+fn found_by() -> &'static str
+    ensures { result.now ≡ found_by }
+{
+    FOUND_BY
 }
 
 /// A field for a container's number.
