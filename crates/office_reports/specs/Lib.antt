@@ -7,6 +7,7 @@ pub mod Tickets
 pub mod Visits
 pub mod Yard
 pub mod Escapes
+pub mod AskedViews
 pub mod Keys
 pub mod AccountKeys
 pub mod Looking

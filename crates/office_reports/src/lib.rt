@@ -47,7 +47,7 @@ pub use partners::{
     partner_text, partners_of, partners_report, partners_text,
 };
 pub use passages::{Passage, passage_of};
-pub use query::{NotNow, Query, Report, ReportKind, program_version};
+pub use query::{About, NotNow, Query, Report, ReportKind, View, has_view, program_version};
 pub use tickets::{TicketReport, ticket, ticket_of, ticket_text};
 pub use visits::{VisitsReport, visit_report, visits_of, visits_text};
 pub use work::{Job, WorkReport, in_order, work_of};
