@@ -11,3 +11,4 @@ pub mod Calls
 pub mod Partners
 pub mod Blocks
 pub mod Tickets
+pub mod Told

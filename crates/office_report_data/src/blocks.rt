@@ -1,8 +1,7 @@
 //! The report on the blocks of the yard as JSON and as CSV.
 ghost use Rattle.office_report_data.specs.Blocks.{block_data, block_fields, blocks_data, blocks_header, blocks_table, letter_text};
-ghost use Rattle.office_report_data.specs.Tables.{record_text};
-ghost use Rattle.office_reports.specs.Blocks.{blocks_content, cell_count, used_cells};
-ghost use Rattle.office_reports.specs.Export.{HasGiven, IsBetweenRecords, written_rows};
+ghost use Rattle.office_report_data.specs.Tables.{HasGiven, IsBetweenRecords, record_text, written_rows};
+ghost use Rattle.office_reports.specs.Blocks.{blocks_content, used_cells};
 ghost use Rattle.serde_json.specs.View.{items_of, view};
 ghost use Rattle.serde_json.specs.Written.{compact_text, items_text};
 ghost use Rattle.std.specs.List.{flat_map};
@@ -12,10 +11,9 @@ use crate::rows::{push_back, push_row, rows_front};
 use crate::tables::{push_record, table_text, table_under};
 use csv::Writer;
 use office_replies::text_of;
-use office_reports::{BlockRow, BlockUse, BlocksReport};
+use office_reports::{BlockRow, BlockUse, BlocksReport, cell_count};
 use serde_json::{Value, json};
 use std::alloc::{AllocError, Global};
-use yard_core::Block;
 
 /// The report as JSON: an object of `rows` in the order of the plan, each of `bays`, the `block`'s letter, how many
 /// twenties it holds (`cells`), how many `forties` are in it, the `highest` tier in use, `rows`, `tiers`, how many
@@ -72,14 +70,6 @@ fn block_value(alloc: Global, row: BlockRow) -> Result<Value, AllocError>
         "under": row.used.under,
         "used": used
     })
-}
-
-/// How many twenties a block holds.
-#[tactic(auto, unfolding(office_reports::specs::Blocks::cell_count))]
-fn cell_count(block: Block) -> u32
-    ensures { result ≡ cell_count block }
-{
-    u32::from(block.bays) * u32::from(block.rows) * u32::from(block.tiers)
 }
 
 /// How many cells are used, if 64 bits count them.

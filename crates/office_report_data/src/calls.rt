@@ -1,8 +1,7 @@
 //! The report on the vessels' lists as JSON and as CSV.
 ghost use Rattle.office_report_data.specs.Calls.{call_data, call_fields, calls_data, calls_header, calls_table};
-ghost use Rattle.office_report_data.specs.Tables.{record_text};
+ghost use Rattle.office_report_data.specs.Tables.{HasGiven, IsBetweenRecords, record_text, written_rows};
 ghost use Rattle.office_reports.specs.Calls.{lists_content};
-ghost use Rattle.office_reports.specs.Export.{HasGiven, IsBetweenRecords, written_rows};
 ghost use Rattle.serde_json.specs.View.{items_of, view};
 ghost use Rattle.serde_json.specs.Written.{compact_text, items_text};
 ghost use Rattle.std.specs.List.{flat_map};

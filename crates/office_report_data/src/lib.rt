@@ -9,6 +9,7 @@ mod containers;
 mod lists;
 mod partners;
 mod rows;
+mod shown;
 mod tables;
 mod tickets;
 mod visits;
@@ -22,6 +23,10 @@ pub use calls::{calls_csv, calls_json};
 pub use containers::container_json;
 pub use lists::{list_csv, list_json};
 pub use partners::{partner_json, partners_csv, partners_json};
+pub use shown::{
+    show_blocks, show_calls, show_container, show_list, show_partner, show_partners, show_ticket,
+    show_visits, show_work, show_yard,
+};
 pub use tickets::ticket_json;
 pub use visits::{visits_csv, visits_json};
 pub use work::{work_csv, work_json};

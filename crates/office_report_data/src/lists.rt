@@ -1,7 +1,6 @@
 //! The report on a vessel's list as JSON and as CSV.
 ghost use Rattle.office_report_data.specs.Lists.{list_data, list_table, listed_data, listed_fields};
-ghost use Rattle.office_report_data.specs.Tables.{record_text};
-ghost use Rattle.office_reports.specs.Export.{HasGiven, IsBetweenRecords, written_rows};
+ghost use Rattle.office_report_data.specs.Tables.{HasGiven, IsBetweenRecords, record_text, written_rows};
 ghost use Rattle.office_reports.specs.Lists.{list_content, list_contents, shown_line};
 ghost use Rattle.serde_json.specs.View.{items_of, view};
 ghost use Rattle.serde_json.specs.Written.{compact_text, items_text};

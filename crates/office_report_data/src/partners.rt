@@ -1,8 +1,7 @@
 //! The report on the partners as JSON and as CSV.
 ghost use Rattle.office_report_data.specs.Partners.{partner_data, partner_fields, partners_data, partners_header, partners_table, waiting_data};
-ghost use Rattle.office_report_data.specs.Tables.{record_text};
+ghost use Rattle.office_report_data.specs.Tables.{HasGiven, IsBetweenRecords, record_text, written_rows};
 ghost use Rattle.office_report_data.specs.Words.{field_of, kind_word, or_null};
-ghost use Rattle.office_reports.specs.Export.{HasGiven, IsBetweenRecords, written_rows};
 ghost use Rattle.office_reports.specs.Partners.{partners_content, row_content, waiting_content};
 ghost use Rattle.serde_json.specs.View.{items_of, view};
 ghost use Rattle.serde_json.specs.Written.{compact_text, items_text};

@@ -1,6 +1,5 @@
 //! Comma-separated values that are written record by record.
-ghost use Rattle.office_report_data.specs.Tables.{record_text};
-ghost use Rattle.office_reports.specs.Export.{HasGiven, IsBetweenRecords, written_rows};
+ghost use Rattle.office_report_data.specs.Tables.{HasGiven, IsBetweenRecords, record_text, written_rows};
 ghost use Rattle.std.specs.Prelude.{◌≡◌, ◌++◌, map, string_bytes, IfOk, OnOk};
 
 use csv::{Writer, WriterBuilder};

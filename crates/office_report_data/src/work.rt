@@ -1,7 +1,6 @@
 //! The report on what is left to do of a vessel's list as JSON and as CSV.
-ghost use Rattle.office_report_data.specs.Tables.{record_text};
+ghost use Rattle.office_report_data.specs.Tables.{HasGiven, IsBetweenRecords, record_text, written_rows};
 ghost use Rattle.office_report_data.specs.Work.{job_data, job_fields, lines_member, size_field, size_or_null, slot_field, slot_or_null, work_data, work_front, work_header, work_table};
-ghost use Rattle.office_reports.specs.Export.{HasGiven, IsBetweenRecords, written_rows};
 ghost use Rattle.office_reports.specs.Work.{job_content, work_content};
 ghost use Rattle.serde_json.specs.View.{items_of, view};
 ghost use Rattle.serde_json.specs.Written.{compact_text, items_text};

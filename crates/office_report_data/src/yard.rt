@@ -1,12 +1,12 @@
 //! The report on the yard as JSON and as CSV.
 ghost use Rattle.office_report_data.specs.Rows.{rows_data};
-ghost use Rattle.office_report_data.specs.Yard.{standing_data, yard_data};
-ghost use Rattle.office_reports.specs.Export.{HasGiven, IsBetweenRecords, export_text, standing_record, written_rows};
+ghost use Rattle.office_report_data.specs.Yard.{standing_data, standing_record, yard_data, yard_table};
+ghost use Rattle.office_report_data.specs.Tables.{HasGiven, IsBetweenRecords, written_rows};
 ghost use Rattle.serde_json.specs.View.{items_of, view};
 ghost use Rattle.serde_json.specs.Written.{compact_text, items_text};
 ghost use Rattle.std.specs.List.{flat_map};
 ghost use Rattle.std.specs.Map.{values_of};
-ghost use Rattle.std.specs.Prelude.{◌≡◌, ◌++◌, encode_utf8_all, false, map, string_bytes, IfOk, OnOk};
+ghost use Rattle.std.specs.Prelude.{◌≡◌, ◌++◌, false, map, string_bytes, IfOk, OnOk};
 
 use crate::rows::{push_back, push_row, rows_front};
 use crate::tables::{push_record, table_bytes, table_under};
@@ -76,7 +76,7 @@ fn standing_value(alloc: Global, standing: Standing) -> Result<Value, AllocError
 /// The report as CSV, by the texts of their slots: under the header `slot,box,size,load` a record for each container, with
 /// `full` or `empty`. Each record ends with LF.
 pub fn yard_csv(alloc: Global, yard: &BTreeMap<[u8; 7], Standing>) -> Result<String, AllocError>
-    ensures { IfOk result (λ text. string_bytes text ≡ encode_utf8_all (export_text yard.now.entries)) }
+    ensures { IfOk result (λ text. string_bytes text ≡ yard_table yard.now.entries) }
 {
     let mut table = table_under(alloc, &[b"slot", b"box", b"size", b"load"])?;
     push_records(&mut table, yard)?;

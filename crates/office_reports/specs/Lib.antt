@@ -1,4 +1,3 @@
-pub mod Export
 pub mod Laws
 pub mod Listed
 pub mod Lists

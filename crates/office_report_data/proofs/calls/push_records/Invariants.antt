@@ -1,8 +1,7 @@
 use Rattle.std.proofs.Common.{◌≡◌, ◌++◌, flat_map}
-use Rattle.office_reports.specs.Export.{IsBetweenRecords, written_rows}
+use Rattle.office_report_data.specs.Tables.{IsBetweenRecords, record_text, written_rows}
 use Rattle.office_reports.specs.Calls.{lists_content}
 use Rattle.office_report_data.specs.Calls.{call_fields}
-use Rattle.office_report_data.specs.Tables.{record_text}
 use Rattle.office_report_data.proofs.calls.push_records.Given as goal
 
 abbrev pub invariant-loop-vessel : goal.invariant-loop-vessel
