@@ -13,7 +13,7 @@ use Rattle.percent_encoding.specs.AsciiSet.{contains, should_percent_encode}
 use Rattle.percent_encoding.proofs.AsciiSetLemmas.{ascii_from_kept, outside_from_kept}
 use Rattle.percent_encoding.proofs.PercentLemmas.{All-percent_encode, IsEscapeByte}
 use Rattle.box6346.specs.ContainerNumber.{number_of as box_of}
-use Rattle.office_reports.specs.declared.query.Query.{Query}
+use Rattle.office_reports.specs.declared.query.About.{About}
 use Rattle.office_pages.specs.Addresses.{container_address, part}
 use Rattle.office_pages.specs.Links.{container_link, leads_by_place, link_at}
 use Rattle.office_pages.specs.Pages.{gap, line_view, link, linked, named_view, word_view, body_bytes}
@@ -27,7 +27,7 @@ use Rattle.std.specs.Str.Iter.{HasSubslice}
 use Rattle.std.specs.Str.Pattern.{FindsTextPrefix, StripsPrefix}
 use Rattle.std.proofs.lemmas.Slice.Eq.{starts_is}
 use Rattle.office_pages.specs.Meanings.{stands_in}
-use Rattle.office_reports.specs.declared.query.Query.TheVariants as query
+use Rattle.office_reports.specs.declared.query.About.TheVariants as about
 
 -- ==== Growing: Texts that grow by parts.
 
@@ -127,31 +127,30 @@ named_number word is =
 
 -- ---- lines of which no word leads by its place
 
-by_name : (asked : Query) (ws : List (List ℕ)) (place : ℕ) → leads_by_place asked ≡ false → link_at asked ws place ≡ container_link (word_at ws place)
-by_name query.Yard ws place by = refl
-by_name query.YardTable ws place by = refl
-by_name (query.Visits number) ws place by = absurd (false≢true (sym by))
-by_name (query.List call side) ws place by = refl
-by_name (query.Ticket partner number) ws place by = absurd (false≢true (sym by))
-by_name (query.Reply partner number) ws place by = refl
-by_name (query.Container number) ws place by = absurd (false≢true (sym by))
-by_name (query.Work call side) ws place by = refl
-by_name query.Partners ws place by = absurd (false≢true (sym by))
-by_name query.Blocks ws place by = absurd (false≢true (sym by))
-by_name query.Calls ws place by = absurd (false≢true (sym by))
-by_name (query.Contrl partner number) ws place by = refl
-by_name query.Picture ws place by = refl
-by_name (query.Partner code) ws place by = refl
-by_name (query.Next code) ws place by = refl
-by_name query.Health ws place by = refl
-by_name query.Metrics ws place by = refl
+by_name : (asked : About) (ws : List (List ℕ)) (place : ℕ) → leads_by_place asked ≡ false → link_at asked ws place ≡ container_link (word_at ws place)
+by_name about.Yard ws place by = refl
+by_name (about.Visits number) ws place by = absurd (false≢true (sym by))
+by_name (about.List call side) ws place by = refl
+by_name (about.Ticket partner number) ws place by = absurd (false≢true (sym by))
+by_name (about.Reply partner number) ws place by = refl
+by_name (about.Container number) ws place by = absurd (false≢true (sym by))
+by_name (about.Work call side) ws place by = refl
+by_name about.Partners ws place by = absurd (false≢true (sym by))
+by_name about.Blocks ws place by = absurd (false≢true (sym by))
+by_name about.Calls ws place by = absurd (false≢true (sym by))
+by_name (about.Contrl partner number) ws place by = refl
+by_name about.Picture ws place by = refl
+by_name (about.Partner code) ws place by = refl
+by_name (about.Next code) ws place by = refl
+by_name about.Health ws place by = refl
+by_name about.Metrics ws place by = refl
 
 -- a word, and what stands before it
-placed_as_named : (asked : Query) (ws : List (List ℕ)) (place : ℕ) → leads_by_place asked ≡ false → word_view asked ws place ≡ gap place ++ named_view (word_at ws place)
+placed_as_named : (asked : About) (ws : List (List ℕ)) (place : ℕ) → leads_by_place asked ≡ false → word_view asked ws place ≡ gap place ++ named_view (word_at ws place)
 placed_as_named asked ws place by = ap (λ where_to. gap place ++ linked where_to (word_at ws place)) (by_name asked ws place by)
 
 -- the words after the first
-rest_named : (asked : Query) → leads_by_place asked ≡ false → (ws rest : List (List ℕ)) (k : ℕ) → ((i : ℕ) → get_or ws (suc k + i) [] ≡ get_or rest i []) →
+rest_named : (asked : About) → leads_by_place asked ≡ false → (ws rest : List (List ℕ)) (k : ℕ) → ((i : ℕ) → get_or ws (suc k + i) [] ≡ get_or rest i []) →
     flat_map (word_view asked ws) (range_with_len (suc k) (length rest)) ≡ flat_map (λ w. codes " " ++ named_view w) rest
 rest_named asked by ws [] k same = refl
 rest_named asked by ws (w ∷ rest) k same =
@@ -164,7 +163,7 @@ rest_named asked by ws (w ∷ rest) k same =
     (λ j. (placed_as_named asked ws (suc k) by ∙ (λ h. gapped h ++ named_view (here h))) j ++ flat_map (word_view asked ws) (range_with_len (next j) (length rest)))
     ∙ ap (λ t. (codes " " ++ named_view w) ++ t) (rest_named asked by ws rest (suc k) others)
 
-words_named : (asked : Query) → leads_by_place asked ≡ false → (ws : List (List ℕ)) →
+words_named : (asked : About) → leads_by_place asked ≡ false → (ws : List (List ℕ)) →
     flat_map (word_view asked ws) (range_with_len 0 (length ws)) ≡ join_by named_view (codes " ") ws
 words_named asked by [] = refl
 words_named asked by (w ∷ rest) =
@@ -172,7 +171,7 @@ words_named asked by (w ∷ rest) =
     λ i. (let moved : suc 0 + i ≡ suc i = omega arith in ap (λ n. get_or (w ∷ rest) n []) moved) in
     λ j. placed_as_named asked (w ∷ rest) 0 by j ++ rest_named asked by (w ∷ rest) rest 0 same j
 
-pub named_line : (asked : Query) (line : List ℕ) → leads_by_place asked ≡ false → line_view asked line ≡ join_by named_view (codes " ") (words line)
+pub named_line : (asked : About) (line : List ℕ) → leads_by_place asked ≡ false → line_view asked line ≡ join_by named_view (codes " ") (words line)
 named_line asked line by = words_named asked by (words line)
 
 -- ==== Shown: What a browser makes of the parts of a report.
@@ -323,13 +322,13 @@ gap_part place = elim (cases_Bool (place == 0)) [
 ]
 
 -- a word and the space before it
-word_part : (asked : Query) (ws : List (List ℕ)) (place : ℕ) →
+word_part : (asked : About) (ws : List (List ℕ)) (place : ℕ) →
     Part (word_view asked ws place) (gap place ++ word_at ws place) (link_tags (link_at asked ws place))
 word_part asked ws place =
     followed (gap place) (linked (link_at asked ws place) (word_at ws place)) (gap place) (word_at ws place) [] (link_tags (link_at asked ws place))
     (gap_part place) (linked_part (link_at asked ws place) (word_at ws place))
 
-counted_part : (asked : Query) (ws : List (List ℕ)) (n a : ℕ) →
+counted_part : (asked : About) (ws : List (List ℕ)) (n a : ℕ) →
     Part (flat_map (word_view asked ws) (range_with_len a n)) (flat_map (λ place. gap place ++ word_at ws place) (range_with_len a n))
     (flat_map (λ place. link_tags (link_at asked ws place)) (range_with_len a n))
 counted_part asked ws zero a = no_part
@@ -364,14 +363,14 @@ words_shown (w ∷ rest) =
     λ i. (let moved : suc 0 + i ≡ suc i = omega arith in ap (λ n. get_or (w ∷ rest) n []) moved) in
     ap (λ t. w ++ t) (rest_shown (w ∷ rest) rest 0 same) ∙ rest_joined 32 w rest
 
-line_part : (asked : Query) (line : List ℕ) → Part (line_view asked line) line (line_tags asked line)
+line_part : (asked : About) (line : List ℕ) → Part (line_view asked line) line (line_tags asked line)
 line_part asked line =
     same_part _ _ _ _ _ _ refl (words_shown (words line) ∙ join_with_byte-slice_split 32 line) refl
     (counted_part asked (words line) (length (words line)) 0)
 
 -- ---- lines
 
-rest_part : (asked : Query) (ls : List (List ℕ)) →
+rest_part : (asked : About) (ls : List (List ℕ)) →
     Part (flat_map (λ line. codes "\n" ++ line_view asked line) ls) (flat_map (λ line. 10 ∷ line) ls) (flat_map (line_tags asked) ls)
 rest_part asked [] = no_part
 rest_part asked (line ∷ ls) =
@@ -380,7 +379,7 @@ rest_part asked (line ∷ ls) =
     (followed (codes "\n") (line_view asked line) (codes "\n") line [] (line_tags asked line) break_part (line_part asked line))
     (rest_part asked ls)
 
-lines_part : (asked : Query) (ls : List (List ℕ)) → Part (join_by (line_view asked) (codes "\n") ls) (join_with_byte 10 ls) (flat_map (line_tags asked) ls)
+lines_part : (asked : About) (ls : List (List ℕ)) → Part (join_by (line_view asked) (codes "\n") ls) (join_with_byte 10 ls) (flat_map (line_tags asked) ls)
 lines_part asked [] = no_part
 lines_part asked (line ∷ ls) =
     same_part _ _ _ _ _ _ refl (rest_joined 10 line ls) refl
@@ -388,7 +387,7 @@ lines_part asked (line ∷ ls) =
     line (flat_map (λ other. 10 ∷ other) ls) (line_tags asked line) (flat_map (line_tags asked) ls)
     (line_part asked line) (rest_part asked ls))
 
-pub body_part : (asked : Query) (text : List ℕ) → Part (body_bytes asked text) text (flat_map (line_tags asked) (lines text))
+pub body_part : (asked : About) (text : List ℕ) → Part (body_bytes asked text) text (flat_map (line_tags asked) (lines text))
 body_part asked text = same_part _ _ _ _ _ _ refl (join_with_byte-slice_split 10 text) refl (lines_part asked (lines text))
 
 -- ==== Standing: A part of a text, at its front or further on.

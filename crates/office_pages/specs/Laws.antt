@@ -3,7 +3,7 @@ use Rattle.std.specs.Prelude.{◌≡◌, ℕ, List, [], ◌∷◌, ◌++◌, ◌
 use Rattle.std.specs.List.{flat_map, range_with_len}
 use Rattle.office_reports.specs.Fields.{field_text}
 use Rattle.office_reports.specs.Markup.{Place, Between, Tag, SingleQuoted, DoubleQuoted, place_after, place_after_all, tags, Shows}
-use Rattle.office_reports.specs.declared.query.Query.{Query}
+use Rattle.office_reports.specs.declared.query.About.{About}
 use Rattle.office_pages.specs.Links.{link_at}
 use Rattle.office_pages.specs.Pages.{body_bytes, start_bytes}
 use Rattle.office_pages.specs.Words.{lines, words}
@@ -20,11 +20,11 @@ between_tags DoubleQuoted (c ∷ text) = between_tags (place_after DoubleQuoted 
 
 -- what a page has of a report shows the report's own text, character by character
 abbrev pub ReportsAreShown : Type 0
-ReportsAreShown = (asked : Query) (text : List ℕ) → Shows (between_tags Between (body_bytes asked text)) text
+ReportsAreShown = (asked : About) (text : List ℕ) → Shows (between_tags Between (body_bytes asked text)) text
 
 -- what follows it stands between tags: the report begins no tag that it doesn't end
 abbrev pub ReportsStayInPlace : Type 0
-ReportsStayInPlace = (asked : Query) (text : List ℕ) → place_after_all Between (body_bytes asked text) ≡ Between
+ReportsStayInPlace = (asked : About) (text : List ℕ) → place_after_all Between (body_bytes asked text) ≡ Between
 
 -- ---- what is taken for markup
 
@@ -34,13 +34,13 @@ link_tags None = []
 link_tags (Some address) = codes "<a href='" ++ field_text address ++ codes "'>" ++ codes "</a>"
 
 -- those of the words of a line
-abbrev pub line_tags : Query → List ℕ → List ℕ
+abbrev pub line_tags : About → List ℕ → List ℕ
 line_tags asked line =
     flat_map (λ place. link_tags (link_at asked (words line) place)) (range_with_len 0 (length (words line)))
 
 -- whatever the report says, a page has of it the tags of its links, line by line, and no others
 abbrev pub ReportsBringNoMarkup : Type 0
-ReportsBringNoMarkup = (asked : Query) (text : List ℕ) →
+ReportsBringNoMarkup = (asked : About) (text : List ℕ) →
     tags Between (body_bytes asked text) ≡ flat_map (line_tags asked) (lines text)
 
 -- whatever the terminal's name is, the start page has the same tags, with the same values, in the same order

@@ -5,8 +5,8 @@ use Rattle.box6346.specs.ContainerNumber.{number_of as box_of}
 use Rattle.edi_syntax.specs.Numbers.{number_of}
 use Rattle.terminal_core.specs.declared.lines.Side.{Side}
 use Rattle.terminal_core.specs.declared.lines.Side.TheVariants.{Load, Discharge}
-use Rattle.office_reports.specs.declared.query.Query.{Query}
-use Rattle.office_reports.specs.declared.query.Query.TheVariants as query
+use Rattle.office_reports.specs.declared.query.About.{About}
+use Rattle.office_reports.specs.declared.query.About.TheVariants as about
 use Rattle.office_pages.specs.Addresses.{block_address, container_address, partner_address, reply_address, work_address}
 use Rattle.office_pages.specs.Words.{is_at, word_at}
 
@@ -84,25 +84,25 @@ first_of (Some address) other = Some address
 first_of None other = other
 
 -- where a word leads by its place in a line of that report
-abbrev pub place_link : Query → List (List ℕ) → ℕ → Option (List ℕ)
-place_link (query.Visits number) words place = passage_link words place
-place_link (query.Container number) words place = first_of (passage_link words place) (open_line_link words place)
-place_link (query.Ticket partner number) words place = ticket_link words place
-place_link query.Partners words place = partner_link words place
-place_link query.Blocks words place = block_link words place
-place_link query.Calls words place = call_link words place
+abbrev pub place_link : About → List (List ℕ) → ℕ → Option (List ℕ)
+place_link (about.Visits number) words place = passage_link words place
+place_link (about.Container number) words place = first_of (passage_link words place) (open_line_link words place)
+place_link (about.Ticket partner number) words place = ticket_link words place
+place_link about.Partners words place = partner_link words place
+place_link about.Blocks words place = block_link words place
+place_link about.Calls words place = call_link words place
 place_link other words place = None
 
 -- whether a word of that report may lead anywhere by its place
-abbrev pub leads_by_place : Query → Bool
-leads_by_place (query.Visits number) = true
-leads_by_place (query.Container number) = true
-leads_by_place (query.Ticket partner number) = true
-leads_by_place query.Partners = true
-leads_by_place query.Blocks = true
-leads_by_place query.Calls = true
+abbrev pub leads_by_place : About → Bool
+leads_by_place (about.Visits number) = true
+leads_by_place (about.Container number) = true
+leads_by_place (about.Ticket partner number) = true
+leads_by_place about.Partners = true
+leads_by_place about.Blocks = true
+leads_by_place about.Calls = true
 leads_by_place other = false
 
 -- where the word at a place of a line leads, if it names something
-abbrev pub link_at : Query → List (List ℕ) → ℕ → Option (List ℕ)
+abbrev pub link_at : About → List (List ℕ) → ℕ → Option (List ℕ)
 link_at asked words place = first_of (place_link asked words place) (container_link (word_at words place))

@@ -6,8 +6,8 @@ use Rattle.edi_messages.specs.declared.call.Call.{Call}
 use Rattle.edi_syntax.specs.Numbers.{number_of}
 use Rattle.terminal_core.specs.declared.lines.Side.{Side}
 use Rattle.office_reports.specs.Fields.{field_text}
-use Rattle.office_reports.specs.declared.query.Query.{Query}
-use Rattle.office_reports.specs.declared.query.Query.TheVariants as query
+use Rattle.office_reports.specs.declared.query.About.{About}
+use Rattle.office_reports.specs.declared.query.About.TheVariants as about
 use Rattle.office_pages.specs.Addresses.{address_of_two, container_address, list_address, partner_address, reply_address, visits_address, work_address}
 use Rattle.office_pages.specs.Drawn.{picture_view}
 use Rattle.office_pages.specs.Fixed.{foot, head, top}
@@ -20,18 +20,17 @@ use Rattle.office_pages.specs.declared.notices.Notice.TheVariants as notice
 
 -- ---- which reports
 
--- The table is for programs, and so are health, metrics and a partner's next number.
-abbrev pub has_page : Query → Bool
-has_page query.YardTable = false
-has_page (query.Next code) = false
-has_page query.Health = false
-has_page query.Metrics = false
+-- Health, metrics and a partner's next number are for programs.
+abbrev pub has_page : About → Bool
+has_page (about.Next code) = false
+has_page about.Health = false
+has_page about.Metrics = false
 has_page other = true
 
 -- a list and what is left of it are asked for again each minute
-abbrev pub asks_again : Query → Bool
-asks_again (query.List call side) = true
-asks_again (query.Work call side) = true
+abbrev pub asks_again : About → Bool
+asks_again (about.List call side) = true
+asks_again (about.Work call side) = true
 asks_again other = false
 
 -- ---- the words and lines of a report
@@ -48,13 +47,13 @@ linked (Some address) word = link address word
 abbrev pub gap : ℕ → List ℕ
 gap place = if place == 0 then [] else codes " "
 
-abbrev pub word_view : Query → List (List ℕ) → ℕ → List ℕ
+abbrev pub word_view : About → List (List ℕ) → ℕ → List ℕ
 word_view asked words place = gap place ++ linked (link_at asked words place) (word_at words place)
 
-abbrev pub words_view : Query → List (List ℕ) → List ℕ
+abbrev pub words_view : About → List (List ℕ) → List ℕ
 words_view asked words = flat_map (word_view asked words) (range_with_len 0 (length words))
 
-abbrev pub line_view : Query → List ℕ → List ℕ
+abbrev pub line_view : About → List ℕ → List ℕ
 line_view asked line = words_view asked (words line)
 
 -- a word that leads by what it names only
@@ -62,7 +61,7 @@ abbrev pub named_view : List ℕ → List ℕ
 named_view word = linked (container_link word) word
 
 -- what of the page shows the report
-abbrev pub body_bytes : Query → List ℕ → List ℕ
+abbrev pub body_bytes : About → List ℕ → List ℕ
 body_bytes asked text = join_by (line_view asked) (codes "\n") (lines text)
 
 -- ---- what stands before it
@@ -105,23 +104,23 @@ abbrev pub work_beside : Call → Side → List ℕ
 work_beside call side =
     link_beside (work_address (string_bytes call.vessel) (string_bytes call.voyage) side) (codes "What is left to do")
 
-abbrev pub links_beside : Query → List ℕ
-links_beside (query.Container number) = link_beside (visits_address number) (codes "Visits")
-links_beside (query.Visits number) = link_beside (container_address number) (codes "Where it is")
-links_beside (query.List call side) = work_beside call side
-links_beside (query.Work call side) = list_beside call side
-links_beside (query.Ticket partner number) =
+abbrev pub links_beside : About → List ℕ
+links_beside (about.Container number) = link_beside (visits_address number) (codes "Visits")
+links_beside (about.Visits number) = link_beside (container_address number) (codes "Where it is")
+links_beside (about.List call side) = work_beside call side
+links_beside (about.Work call side) = list_beside call side
+links_beside (about.Ticket partner number) =
     reply_beside (string_bytes partner) number ++ contrl_beside (string_bytes partner) number
     ++ partner_beside (string_bytes partner)
-links_beside (query.Reply partner number) =
+links_beside (about.Reply partner number) =
     ticket_beside (string_bytes partner) number ++ contrl_beside (string_bytes partner) number
     ++ partner_beside (string_bytes partner)
-links_beside (query.Contrl partner number) =
+links_beside (about.Contrl partner number) =
     ticket_beside (string_bytes partner) number ++ reply_beside (string_bytes partner) number
     ++ partner_beside (string_bytes partner)
 links_beside other = []
 
-abbrev pub beside : Query → List ℕ
+abbrev pub beside : About → List ℕ
 beside asked = codes "<p class='beside'>\n" ++ links_beside asked ++ codes "</p>\n"
 
 -- ---- what stands below it
@@ -152,39 +151,39 @@ last_view partner (Some next) =
     framed (codes "<p class='beside'>\nIts last interchanges\n") (last_replies partner next) (codes "</p>\n")
 
 -- what the names in a reply mean, and of a partner its last interchanges
-abbrev pub below : Query → List ℕ → List ℕ
-below (query.Reply partner number) text = meanings_view text
-below (query.Partner code) text = last_view (string_bytes code) (next_of (string_bytes code) text)
+abbrev pub below : About → List ℕ → List ℕ
+below (about.Reply partner number) text = meanings_view text
+below (about.Partner code) text = last_view (string_bytes code) (next_of (string_bytes code) text)
 below other text = []
 
 -- ---- a second report
 
 -- the report that a page shows below its own: the visits of a container
-abbrev pub second_of : Query → Option Query
-second_of (query.Container number) = Some (query.Visits number)
+abbrev pub second_of : About → Option About
+second_of (about.Container number) = Some (about.Visits number)
 second_of other = None
 
 -- a report under its title
-abbrev pub titled_report : Query → List ℕ → List ℕ
+abbrev pub titled_report : About → List ℕ → List ℕ
 titled_report asked text =
     codes "<h2>" ++ field_text (title asked) ++ codes "</h2>\n<pre>\n" ++ body_bytes asked text ++ codes "</pre>\n"
 
 -- so a second one is shown, if it tells something
-abbrev pub second_view : Option Query → Option (List ℕ) → List ℕ
+abbrev pub second_view : Option About → Option (List ℕ) → List ℕ
 second_view (Some asked) (Some text) = titled_report asked text
 second_view asked told = []
 
 -- ---- pages
 
 -- what shows the text of a report, and that of a second one; a browser drops the first LF after <pre>
-abbrev pub text_page : Query → List ℕ → Option (List ℕ) → List ℕ
+abbrev pub text_page : About → List ℕ → Option (List ℕ) → List ℕ
 text_page asked text second =
     page_head (asks_again asked) (title asked) ++ beside asked ++ codes "<pre>\n" ++ body_bytes asked text
     ++ codes "</pre>\n" ++ below asked text ++ second_view (second_of asked) second ++ foot
 
 -- a report's page; the picture is one, and has links there
-abbrev pub page_bytes : Query → List ℕ → Option (List ℕ) → List ℕ
-page_bytes query.Picture text second = picture_view text
+abbrev pub page_bytes : About → List ℕ → Option (List ℕ) → List ℕ
+page_bytes about.Picture text second = picture_view text
 page_bytes other text second = text_page other text second
 
 -- what is counted by a metric

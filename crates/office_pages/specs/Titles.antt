@@ -3,8 +3,8 @@ use Rattle.std.specs.Prelude.{ℕ, List, ◌++◌, codes, decimal, string_bytes}
 use Rattle.edi_messages.specs.declared.call.Call.{Call}
 use Rattle.terminal_core.specs.declared.lines.Side.{Side}
 use Rattle.terminal_core.specs.declared.lines.Side.TheVariants.{Load, Discharge}
-use Rattle.office_reports.specs.declared.query.Query.{Query}
-use Rattle.office_reports.specs.declared.query.Query.TheVariants as query
+use Rattle.office_reports.specs.declared.query.About.{About}
+use Rattle.office_reports.specs.declared.query.About.TheVariants as about
 use Rattle.office_pages.specs.declared.notices.Notice.{Notice}
 use Rattle.office_pages.specs.declared.notices.Notice.TheVariants as notice
 
@@ -28,24 +28,23 @@ interchange_title what partner number = what ++ partner ++ codes " " ++ decimal 
 abbrev pub name_title : List ℕ → List ℕ → List ℕ
 name_title what name = what ++ name
 
-abbrev pub title : Query → List ℕ
-title query.Yard = codes "Yard"
-title query.YardTable = codes "Table of the yard"
-title (query.Visits number) = name_title (codes "Visits of ") number
-title (query.List call side) = call_title (list_title side) call
-title (query.Ticket partner number) = interchange_title (codes "Ticket of ") (string_bytes partner) number
-title (query.Reply partner number) = interchange_title (codes "Reply to ") (string_bytes partner) number
-title (query.Container number) = name_title (codes "Container ") number
-title (query.Work call side) = call_title (work_title side) call
-title query.Partners = codes "Partners"
-title query.Blocks = codes "Blocks"
-title query.Calls = codes "Calls"
-title (query.Contrl partner number) = interchange_title (codes "CONTRL to ") (string_bytes partner) number
-title query.Picture = codes "Picture"
-title (query.Partner code) = name_title (codes "Partner ") (string_bytes code)
-title (query.Next code) = name_title (codes "Next number of ") (string_bytes code)
-title query.Health = codes "Health"
-title query.Metrics = codes "Metrics"
+abbrev pub title : About → List ℕ
+title about.Yard = codes "Yard"
+title (about.Visits number) = name_title (codes "Visits of ") number
+title (about.List call side) = call_title (list_title side) call
+title (about.Ticket partner number) = interchange_title (codes "Ticket of ") (string_bytes partner) number
+title (about.Reply partner number) = interchange_title (codes "Reply to ") (string_bytes partner) number
+title (about.Container number) = name_title (codes "Container ") number
+title (about.Work call side) = call_title (work_title side) call
+title about.Partners = codes "Partners"
+title about.Blocks = codes "Blocks"
+title about.Calls = codes "Calls"
+title (about.Contrl partner number) = interchange_title (codes "CONTRL to ") (string_bytes partner) number
+title about.Picture = codes "Picture"
+title (about.Partner code) = name_title (codes "Partner ") (string_bytes code)
+title (about.Next code) = name_title (codes "Next number of ") (string_bytes code)
+title about.Health = codes "Health"
+title about.Metrics = codes "Metrics"
 
 -- that of the start page, by the terminal's name
 abbrev pub start_title : List ℕ → List ℕ

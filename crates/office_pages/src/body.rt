@@ -8,34 +8,34 @@ ghost use Rattle.office_pages.specs.Words.{texts_of, words};
 
 use crate::links::{leads_by_place, link_at, push_part, word_at, words_of};
 use box6346::BoxNumber;
-use office_reports::{Query, field_text};
+use office_reports::{About, field_text};
 use std::alloc::{AllocError, Global};
 
 /// Appends the lines of a report, with a link around each word that names something.
 pub(crate) fn push_body(
     alloc: Global,
     page: &mut String,
-    query: &Query,
+    about: &About,
     text: &str,
 ) -> Result<(), AllocError>
-    ensures { OnOk result (string_bytes page.new ≡ string_bytes page.old ++ body_bytes query.now text.now) }
+    ensures { OnOk result (string_bytes page.new ≡ string_bytes page.old ++ body_bytes about.now text.now) }
 {
     let mut rest = text;
     'lines: while let Some((line, behind)) = rest.split_once('\n') {
-        push_line(alloc, page, query, line)?;
+        push_line(alloc, page, about, line)?;
         page.push_str("\n")?;
         rest = behind;
     }
-    push_line(alloc, page, query, rest)
+    push_line(alloc, page, about, rest)
 }
 
 /// Appends a line.
 #[tactic(auto, using(crate::proofs::Shown::named_line))]
-fn push_line(alloc: Global, page: &mut String, query: &Query, line: &str) -> Result<(), AllocError>
-    ensures { OnOk result (string_bytes page.new ≡ string_bytes page.old ++ line_view query.now line.now) }
+fn push_line(alloc: Global, page: &mut String, about: &About, line: &str) -> Result<(), AllocError>
+    ensures { OnOk result (string_bytes page.new ≡ string_bytes page.old ++ line_view about.now line.now) }
 {
-    if leads_by_place(query) {
-        push_placed_line(alloc, page, query, line)
+    if leads_by_place(about) {
+        push_placed_line(alloc, page, about, line)
     } else {
         push_named_line(alloc, page, line)
     }
@@ -73,14 +73,14 @@ fn push_named_word(alloc: Global, page: &mut String, word: &str) -> Result<(), A
 fn push_placed_line(
     alloc: Global,
     page: &mut String,
-    query: &Query,
+    about: &About,
     line: &str,
 ) -> Result<(), AllocError>
-    ensures { OnOk result (string_bytes page.new ≡ string_bytes page.old ++ line_view query.now line.now) }
+    ensures { OnOk result (string_bytes page.new ≡ string_bytes page.old ++ line_view about.now line.now) }
 {
     let words = words_of(alloc, line)?;
     for place in 0..words.len() {
-        push_word(alloc, page, query, words.as_slice(), place)?;
+        push_word(alloc, page, about, words.as_slice(), place)?;
     }
     Ok(())
 }
@@ -89,15 +89,15 @@ fn push_placed_line(
 fn push_word(
     alloc: Global,
     page: &mut String,
-    query: &Query,
+    about: &About,
     words: &[&str],
     place: usize,
 ) -> Result<(), AllocError>
     ensures { OnOk result
-        (string_bytes page.new ≡ string_bytes page.old ++ word_view query.now (texts_of words.now) place) }
+        (string_bytes page.new ≡ string_bytes page.old ++ word_view about.now (texts_of words.now) place) }
 {
     page.push_str(gap(place))?;
-    match link_at(alloc, query, words, place)? {
+    match link_at(alloc, about, words, place)? {
         Some(address) => push_link(alloc, page, address.as_str(), word_at(words, place)),
         None => push_text(alloc, page, word_at(words, place)),
     }

@@ -6,7 +6,7 @@ ghost use Rattle.office_pages.specs.Titles.{call_title, interchange_title, list_
 
 use crate::body::push_field;
 use edi_messages::Call;
-use office_reports::Query;
+use office_reports::About;
 use std::alloc::{AllocError, Global};
 use terminal_core::Side;
 
@@ -133,33 +133,32 @@ pub(crate) fn foot() -> &'static str
 }
 
 /// The title of a report's page, as bytes.
-pub(crate) fn title(alloc: Global, query: &Query) -> Result<Vec<u8>, AllocError>
-    ensures { IfOk result (λ bytes. bytes.items ≡ title query.now) }
+pub(crate) fn title(alloc: Global, about: &About) -> Result<Vec<u8>, AllocError>
+    ensures { IfOk result (λ bytes. bytes.items ≡ title about.now) }
 {
-    match query {
-        Query::Yard => Vec::from_slice(alloc, b"Yard"),
-        Query::YardTable => Vec::from_slice(alloc, b"Table of the yard"),
-        Query::Visits(number) => name_title(alloc, "Visits of ", &number.text()),
-        Query::List { call, side } => call_title(alloc, list_title(*side), call),
-        Query::Ticket { partner, number } => {
+    match about {
+        About::Yard => Vec::from_slice(alloc, b"Yard"),
+        About::Visits(number) => name_title(alloc, "Visits of ", &number.text()),
+        About::List { call, side } => call_title(alloc, list_title(*side), call),
+        About::Ticket { partner, number } => {
             interchange_title(alloc, "Ticket of ", partner.as_str(), *number)
         }
-        Query::Reply { partner, number } => {
+        About::Reply { partner, number } => {
             interchange_title(alloc, "Reply to ", partner.as_str(), *number)
         }
-        Query::Container(number) => name_title(alloc, "Container ", &number.text()),
-        Query::Work { call, side } => call_title(alloc, work_title(*side), call),
-        Query::Partners => Vec::from_slice(alloc, b"Partners"),
-        Query::Blocks => Vec::from_slice(alloc, b"Blocks"),
-        Query::Calls => Vec::from_slice(alloc, b"Calls"),
-        Query::Contrl { partner, number } => {
+        About::Container(number) => name_title(alloc, "Container ", &number.text()),
+        About::Work { call, side } => call_title(alloc, work_title(*side), call),
+        About::Partners => Vec::from_slice(alloc, b"Partners"),
+        About::Blocks => Vec::from_slice(alloc, b"Blocks"),
+        About::Calls => Vec::from_slice(alloc, b"Calls"),
+        About::Contrl { partner, number } => {
             interchange_title(alloc, "CONTRL to ", partner.as_str(), *number)
         }
-        Query::Picture => Vec::from_slice(alloc, b"Picture"),
-        Query::Partner(code) => name_title(alloc, "Partner ", code.as_bytes()),
-        Query::Next(code) => name_title(alloc, "Next number of ", code.as_bytes()),
-        Query::Health => Vec::from_slice(alloc, b"Health"),
-        Query::Metrics => Vec::from_slice(alloc, b"Metrics"),
+        About::Picture => Vec::from_slice(alloc, b"Picture"),
+        About::Partner(code) => name_title(alloc, "Partner ", code.as_bytes()),
+        About::Next(code) => name_title(alloc, "Next number of ", code.as_bytes()),
+        About::Health => Vec::from_slice(alloc, b"Health"),
+        About::Metrics => Vec::from_slice(alloc, b"Metrics"),
     }
 }
 

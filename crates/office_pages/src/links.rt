@@ -6,7 +6,7 @@ ghost use Rattle.office_pages.specs.Links.{block_link, call_link, container_link
 ghost use Rattle.office_pages.specs.Words.{is_at, texts_of, word_at, words};
 
 use box6346::BoxNumber;
-use office_reports::{Query, number_of};
+use office_reports::{About, number_of};
 use percent_encoding::{NON_ALPHANUMERIC, percent_encode};
 use std::alloc::{AllocError, Global};
 use terminal_core::Side;
@@ -14,30 +14,30 @@ use terminal_core::Side;
 /// Where the word at a place of a line leads, if it names something.
 pub(crate) fn link_at(
     alloc: Global,
-    query: &Query,
+    about: &About,
     words: &[&str],
     place: usize,
 ) -> Result<Option<String>, AllocError>
     ensures { IfOk result
-        (λ found. option_map string_bytes found ≡ link_at query.now (texts_of words.now) place) }
+        (λ found. option_map string_bytes found ≡ link_at about.now (texts_of words.now) place) }
 {
-    match place_link(alloc, query, words, place)? {
+    match place_link(alloc, about, words, place)? {
         Some(address) => Ok(Some(address)),
         None => container_link(alloc, word_at(words, place)),
     }
 }
 
 /// Whether a word of that report may lead anywhere by its place.
-pub(crate) fn leads_by_place(query: &Query) -> bool
-    ensures { result ≡ leads_by_place query.now }
+pub(crate) fn leads_by_place(about: &About) -> bool
+    ensures { result ≡ leads_by_place about.now }
 {
-    match query {
-        Query::Visits(_)
-        | Query::Container(_)
-        | Query::Ticket { .. }
-        | Query::Partners
-        | Query::Blocks
-        | Query::Calls => true,
+    match about {
+        About::Visits(_)
+        | About::Container(_)
+        | About::Ticket { .. }
+        | About::Partners
+        | About::Blocks
+        | About::Calls => true,
         _ => false,
     }
 }
@@ -45,23 +45,23 @@ pub(crate) fn leads_by_place(query: &Query) -> bool
 /// Where it leads by its place in a line of that report.
 fn place_link(
     alloc: Global,
-    query: &Query,
+    about: &About,
     words: &[&str],
     place: usize,
 ) -> Result<Option<String>, AllocError>
     ensures { IfOk result
-        (λ found. option_map string_bytes found ≡ place_link query.now (texts_of words.now) place) }
+        (λ found. option_map string_bytes found ≡ place_link about.now (texts_of words.now) place) }
 {
-    match query {
-        Query::Visits(_) => passage_link(alloc, words, place),
-        Query::Container(_) => match passage_link(alloc, words, place)? {
+    match about {
+        About::Visits(_) => passage_link(alloc, words, place),
+        About::Container(_) => match passage_link(alloc, words, place)? {
             Some(address) => Ok(Some(address)),
             None => open_line_link(alloc, words, place),
         },
-        Query::Ticket { .. } => ticket_link(alloc, words, place),
-        Query::Partners => partner_link(alloc, words, place),
-        Query::Blocks => block_link(alloc, words, place),
-        Query::Calls => call_link(alloc, words, place),
+        About::Ticket { .. } => ticket_link(alloc, words, place),
+        About::Partners => partner_link(alloc, words, place),
+        About::Blocks => block_link(alloc, words, place),
+        About::Calls => call_link(alloc, words, place),
         _ => Ok(None),
     }
 }

@@ -9,19 +9,17 @@ use crate::body::{push_body, push_text};
 use crate::layout::{foot, push_head, start_title, title};
 use crate::links::{container_link, word_at, words_of};
 use crate::related::{push_below, push_beside, push_second};
-use office_reports::Query;
+use office_reports::About;
 use std::alloc::{AllocError, Global};
 
-/// Whether what is asked for is shown as a page of its own. The table of the yard is for programs, and so are health,
-/// metrics and a partner's next number.
-pub fn has_page(query: &Query) -> bool
-    ensures { result ≡ has_page query.now }
+/// Whether what is asked about is shown as a page of its own: health, metrics and a partner's next number are for programs.
+pub fn has_page(about: &About) -> bool
+    ensures { result ≡ has_page about.now }
 {
-    match query {
-        Query::YardTable => false,
-        Query::Next(_) => false,
-        Query::Health => false,
-        Query::Metrics => false,
+    match about {
+        About::Next(_) => false,
+        About::Health => false,
+        About::Metrics => false,
         _ => true,
     }
 }
@@ -31,47 +29,47 @@ pub fn has_page(query: &Query) -> bool
 /// That of the picture is the picture, with a link from each container to its page.
 pub fn page(
     alloc: Global,
-    query: &Query,
+    about: &About,
     text: &str,
     second: Option<&str>,
 ) -> Result<String, AllocError>
-    ensures { IfOk result (λ page. string_bytes page ≡ page_bytes query.now text.now (option_map (λ t. t.now) second.entry)) }
+    ensures { IfOk result (λ page. string_bytes page ≡ page_bytes about.now text.now (option_map (λ t. t.now) second.entry)) }
 {
-    match query {
-        Query::Picture => linked_picture(alloc, text),
-        _ => text_page(alloc, query, text, second),
+    match about {
+        About::Picture => linked_picture(alloc, text),
+        _ => text_page(alloc, about, text, second),
     }
 }
 
 /// The page that shows a report's text, and that of a second one.
 fn text_page(
     alloc: Global,
-    query: &Query,
+    about: &About,
     text: &str,
     second: Option<&str>,
 ) -> Result<String, AllocError>
-    ensures { IfOk result (λ page. string_bytes page ≡ text_page query.now text.now (option_map (λ t. t.now) second.entry)) }
+    ensures { IfOk result (λ page. string_bytes page ≡ text_page about.now text.now (option_map (λ t. t.now) second.entry)) }
 {
-    let title = title(alloc, query)?;
+    let title = title(alloc, about)?;
     let mut page = String::new(alloc);
-    push_head(alloc, &mut page, asks_again(query), title.as_slice())?;
-    push_beside(alloc, &mut page, query)?;
+    push_head(alloc, &mut page, asks_again(about), title.as_slice())?;
+    push_beside(alloc, &mut page, about)?;
     page.push_str("<pre>\n")?;
-    push_body(alloc, &mut page, query, text)?;
+    push_body(alloc, &mut page, about, text)?;
     page.push_str("</pre>\n")?;
-    push_below(alloc, &mut page, query, text)?;
-    push_second(alloc, &mut page, query, second)?;
+    push_below(alloc, &mut page, about, text)?;
+    push_second(alloc, &mut page, about, second)?;
     page.push_str(foot())?;
     Ok(page)
 }
 
 /// Whether a page is asked for again each minute.
-fn asks_again(query: &Query) -> bool
-    ensures { result ≡ asks_again query.now }
+fn asks_again(about: &About) -> bool
+    ensures { result ≡ asks_again about.now }
 {
-    match query {
-        Query::List { .. } => true,
-        Query::Work { .. } => true,
+    match about {
+        About::List { .. } => true,
+        About::Work { .. } => true,
         _ => false,
     }
 }

@@ -11,31 +11,31 @@ use crate::links::{
 };
 use crate::meanings::{push_framed, push_meanings};
 use edi_messages::Call;
-use office_reports::{Query, number_of};
+use office_reports::{About, number_of};
 use std::alloc::{AllocError, Global};
 use terminal_core::Side;
 
 /// Appends the links to other pages on what was asked for.
-pub(crate) fn push_beside(alloc: Global, page: &mut String, query: &Query) -> Result<(), AllocError>
-    ensures { OnOk result (string_bytes page.new ≡ string_bytes page.old ++ beside query.now) }
+pub(crate) fn push_beside(alloc: Global, page: &mut String, about: &About) -> Result<(), AllocError>
+    ensures { OnOk result (string_bytes page.new ≡ string_bytes page.old ++ beside about.now) }
 {
     page.push_str("<p class='beside'>\n")?;
-    push_links(alloc, page, query)?;
+    push_links(alloc, page, about)?;
     page.push_str("</p>\n")
 }
 
-fn push_links(alloc: Global, page: &mut String, query: &Query) -> Result<(), AllocError>
-    ensures { OnOk result (string_bytes page.new ≡ string_bytes page.old ++ links_beside query.now) }
+fn push_links(alloc: Global, page: &mut String, about: &About) -> Result<(), AllocError>
+    ensures { OnOk result (string_bytes page.new ≡ string_bytes page.old ++ links_beside about.now) }
 {
-    match query {
-        Query::Container(number) => push_one(
+    match about {
+        About::Container(number) => push_one(
             alloc,
             page,
             "/pages/visits/",
             "Visits",
             &number.text(),
         ),
-        Query::Visits(number) => {
+        About::Visits(number) => {
             push_one(
                 alloc,
                 page,
@@ -44,19 +44,19 @@ fn push_links(alloc: Global, page: &mut String, query: &Query) -> Result<(), All
                 &number.text(),
             )
         }
-        Query::List { call, side } => push_work(alloc, page, call, *side),
-        Query::Work { call, side } => push_list(alloc, page, call, *side),
-        Query::Ticket { partner, number } => {
+        About::List { call, side } => push_work(alloc, page, call, *side),
+        About::Work { call, side } => push_list(alloc, page, call, *side),
+        About::Ticket { partner, number } => {
             push_reply(alloc, page, partner.as_bytes(), *number)?;
             push_contrl(alloc, page, partner.as_bytes(), *number)?;
             push_partner(alloc, page, partner.as_bytes())
         }
-        Query::Reply { partner, number } => {
+        About::Reply { partner, number } => {
             push_ticket(alloc, page, partner.as_bytes(), *number)?;
             push_contrl(alloc, page, partner.as_bytes(), *number)?;
             push_partner(alloc, page, partner.as_bytes())
         }
-        Query::Contrl { partner, number } => {
+        About::Contrl { partner, number } => {
             push_ticket(alloc, page, partner.as_bytes(), *number)?;
             push_reply(alloc, page, partner.as_bytes(), *number)?;
             push_partner(alloc, page, partner.as_bytes())
@@ -168,24 +168,24 @@ const MOST_LAST: u64 = 20;
 pub(crate) fn push_below(
     alloc: Global,
     page: &mut String,
-    query: &Query,
+    about: &About,
     text: &str,
 ) -> Result<(), AllocError>
-    ensures { OnOk result (string_bytes page.new ≡ string_bytes page.old ++ below query.now text.now) }
+    ensures { OnOk result (string_bytes page.new ≡ string_bytes page.old ++ below about.now text.now) }
 {
-    match query {
-        Query::Reply { .. } => push_meanings(alloc, page, text),
-        Query::Partner(code) => push_last(alloc, page, code.as_str(), text),
+    match about {
+        About::Reply { .. } => push_meanings(alloc, page, text),
+        About::Partner(code) => push_last(alloc, page, code.as_str(), text),
         _ => Ok(()),
     }
 }
 
 /// The report that a page shows below its own: of a container its visits.
-pub fn second_of(query: &Query) -> Option<Query>
-    ensures { result ≡ second_of query.now }
+pub fn second_of(about: &About) -> Option<About>
+    ensures { result ≡ second_of about.now }
 {
-    match query {
-        Query::Container(number) => Some(Query::Visits(*number)),
+    match about {
+        About::Container(number) => Some(About::Visits(*number)),
         _ => None,
     }
 }
@@ -194,13 +194,13 @@ pub fn second_of(query: &Query) -> Option<Query>
 pub(crate) fn push_second(
     alloc: Global,
     page: &mut String,
-    query: &Query,
+    about: &About,
     text: Option<&str>,
 ) -> Result<(), AllocError>
     ensures { OnOk result (string_bytes page.new
-        ≡ string_bytes page.old ++ second_view (second_of query.now) (option_map (λ t. t.now) text.entry)) }
+        ≡ string_bytes page.old ++ second_view (second_of about.now) (option_map (λ t. t.now) text.entry)) }
 {
-    match (second_of(query), text) {
+    match (second_of(about), text) {
         (Some(second), Some(text)) => push_titled(alloc, page, &second, text),
         _ => Ok(()),
     }
@@ -210,16 +210,16 @@ pub(crate) fn push_second(
 fn push_titled(
     alloc: Global,
     page: &mut String,
-    query: &Query,
+    about: &About,
     text: &str,
 ) -> Result<(), AllocError>
-    ensures { OnOk result (string_bytes page.new ≡ string_bytes page.old ++ titled_report query.now text.now) }
+    ensures { OnOk result (string_bytes page.new ≡ string_bytes page.old ++ titled_report about.now text.now) }
 {
-    let title = title(alloc, query)?;
+    let title = title(alloc, about)?;
     page.push_str("<h2>")?;
     push_field(alloc, page, title.as_slice())?;
     page.push_str("</h2>\n<pre>\n")?;
-    push_body(alloc, page, query, text)?;
+    push_body(alloc, page, about, text)?;
     page.push_str("</pre>\n")
 }
 

@@ -1,5 +1,5 @@
 //! Reports as they are to be shown: as text, as JSON or as CSV. What has no CSV is shown as text.
-ghost use Rattle.office_report_data.specs.Told as told;
+ghost use Rattle.office_report_data.specs.Told as value;
 ghost use Rattle.office_report_data.specs.Told.{shown};
 ghost use Rattle.office_reports.specs.Blocks.{blocks_content};
 ghost use Rattle.office_reports.specs.Calls.{lists_content};
@@ -35,7 +35,7 @@ pub fn show_yard(
     yard: &BTreeMap<[u8; 7], Standing>,
     view: View,
 ) -> Result<String, AllocError>
-    ensures { IfOk result (λ text. string_bytes text ≡ shown view (told.yard yard.now.entries)) }
+    ensures { IfOk result (λ text. string_bytes text ≡ shown view (value.yard yard.now.entries)) }
 {
     match view {
         View::Text => yard_text(alloc, yard),
@@ -52,7 +52,7 @@ pub fn show_container(
     view: View,
 ) -> Result<String, AllocError>
     ensures { IfOk result
-        (λ text. string_bytes text ≡ shown view (told.container (container_content report.now))) }
+        (λ text. string_bytes text ≡ shown view (value.container (container_content report.now))) }
 {
     match view {
         View::Text | View::Csv => container_text(alloc, report),
@@ -68,7 +68,7 @@ pub fn show_visits(
     view: View,
 ) -> Result<String, AllocError>
     ensures { IfOk result
-        (λ text. string_bytes text ≡ shown view (told.visits (visits_content report.now))) }
+        (λ text. string_bytes text ≡ shown view (value.visits (visits_content report.now))) }
 {
     match view {
         View::Text => visits_text(alloc, report),
@@ -80,7 +80,7 @@ pub fn show_visits(
 /// The report on a vessel's list, shown so.
 #[tactic(auto, unfolding(crate::specs::Told::shown))]
 pub fn show_list(alloc: Global, report: &ListReport<'_>, view: View) -> Result<String, AllocError>
-    ensures { IfOk result (λ text. string_bytes text ≡ shown view (told.list (list_content report.now))) }
+    ensures { IfOk result (λ text. string_bytes text ≡ shown view (value.list (list_content report.now))) }
 {
     match view {
         View::Text => list_text(alloc, report),
@@ -92,7 +92,7 @@ pub fn show_list(alloc: Global, report: &ListReport<'_>, view: View) -> Result<S
 /// The report on what is left to do of a vessel's list, shown so.
 #[tactic(auto, unfolding(crate::specs::Told::shown))]
 pub fn show_work(alloc: Global, report: &WorkReport<'_>, view: View) -> Result<String, AllocError>
-    ensures { IfOk result (λ text. string_bytes text ≡ shown view (told.work (work_content report.now))) }
+    ensures { IfOk result (λ text. string_bytes text ≡ shown view (value.work (work_content report.now))) }
 {
     match view {
         View::Text => work_text(alloc, report),
@@ -105,7 +105,7 @@ pub fn show_work(alloc: Global, report: &WorkReport<'_>, view: View) -> Result<S
 #[tactic(auto, unfolding(crate::specs::Told::shown))]
 pub fn show_calls(alloc: Global, report: &CallsReport<'_>, view: View) -> Result<String, AllocError>
     ensures { IfOk result
-        (λ text. string_bytes text ≡ shown view (told.calls (lists_content report.now.lists.entries))) }
+        (λ text. string_bytes text ≡ shown view (value.calls (lists_content report.now.lists.entries))) }
 {
     match view {
         View::Text => calls_text(alloc, report),
@@ -122,7 +122,7 @@ pub fn show_partners(
     view: View,
 ) -> Result<String, AllocError>
     ensures { IfOk result
-        (λ text. string_bytes text ≡ shown view (told.partners (partners_content report.now))) }
+        (λ text. string_bytes text ≡ shown view (value.partners (partners_content report.now))) }
 {
     match view {
         View::Text => partners_text(alloc, report),
@@ -134,7 +134,7 @@ pub fn show_partners(
 /// The report on one partner, shown so.
 #[tactic(auto, unfolding(crate::specs::Told::shown))]
 pub fn show_partner(alloc: Global, row: &PartnerRow<'_>, view: View) -> Result<String, AllocError>
-    ensures { IfOk result (λ text. string_bytes text ≡ shown view (told.partner (row_content row.now))) }
+    ensures { IfOk result (λ text. string_bytes text ≡ shown view (value.partner (row_content row.now))) }
 {
     match view {
         View::Text | View::Csv => partner_text(alloc, row),
@@ -146,7 +146,7 @@ pub fn show_partner(alloc: Global, row: &PartnerRow<'_>, view: View) -> Result<S
 #[tactic(auto, unfolding(crate::specs::Told::shown))]
 pub fn show_blocks(alloc: Global, report: &BlocksReport, view: View) -> Result<String, AllocError>
     ensures { IfOk result
-        (λ text. string_bytes text ≡ shown view (told.blocks (blocks_content report.now))) }
+        (λ text. string_bytes text ≡ shown view (value.blocks (blocks_content report.now))) }
 {
     match view {
         View::Text => blocks_text(alloc, report),
@@ -163,7 +163,7 @@ pub fn show_ticket(
     view: View,
 ) -> Result<String, AllocError>
     ensures { IfOk result
-        (λ text. string_bytes text ≡ shown view (told.ticket (ticket_content report.now))) }
+        (λ text. string_bytes text ≡ shown view (value.ticket (ticket_content report.now))) }
 {
     match view {
         View::Text | View::Csv => ticket_text(alloc, report),

@@ -7,7 +7,7 @@ use Rattle.office_pages.proofs.pages.text_page.Goals as goal
 
 pub returns : goal.returns
 returns c =
-    let asked = c.args.query.now in
+    let asked = c.args.about.now in
     let top = page_head (asks_again asked) (title asked) in
     let links = beside asked in
     let body = body_bytes asked c.args.text.now in
