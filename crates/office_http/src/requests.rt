@@ -22,7 +22,7 @@ use crate::head::{FoundHead, MOST_FIELDS, MOST_HEAD_BYTES, OwnText, content_leng
 use crate::response::Refusal;
 use crate::routes::{Endpoint, explained, key_in, partner_key_in, passed_in, posted_as};
 use crate::site::Site;
-use crate::targets::{Showing, path_of, typed_in, showing_of};
+use crate::targets::{Showing, path_of, showing_of, typed_in};
 use box6346::BoxNumber;
 use httparse::spans::{EMPTY_HEADER_SPAN, HeaderSpan};
 use office_pages::{Notice, typed_number};
