@@ -176,7 +176,9 @@ impl<S: Alter + Drop, A: Archives + Drop> ArchivedDesk<S, A> {
         ensures last_fault { self.new.desk.last_fault ≡ self.old.desk.last_fault }
     {
         match &query.about {
-            About::Visits(_) | About::Container(_) => self.find_container(alloc, query),
+            About::Visits(_) | About::Container(_) | About::Expected(_) => {
+                self.find_container(alloc, query)
+            }
             About::Calls => self.find_calls(alloc, query),
             About::List { call, side } => self.find_list(alloc, query, call, *side),
             About::Work { call, side } => self.find_list(alloc, query, call, *side),
@@ -395,7 +397,9 @@ fn tell_of_archive<S: Alter, A: Archives>(
         return Ok(None);
     }
     match &query.about {
-        About::Visits(_) | About::Container(_) => tell_container(alloc, archives, place, query),
+        About::Visits(_) | About::Container(_) | About::Expected(_) => {
+            tell_container(alloc, archives, place, query)
+        }
         About::Reply { partner, number } => {
             tell_number(alloc, desk, archives, place, query, partner, *number)
         }

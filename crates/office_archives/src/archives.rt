@@ -1,5 +1,5 @@
 ghost use Rattle.std.specs.Option.{option_and_then, option_map, unwrap_or};
-ghost use Rattle.std.specs.Prelude.{◌≡◌, ◌++◌, [], false, true, IfOk, List, length, map, string_bytes, None, Some, OnOk};
+ghost use Rattle.std.specs.Prelude.{◌≡◌, ◌++◌, [], false, true, IfOk, List, length, map, string_bytes, None, Some, OnOk, ℕ};
 ghost use Rattle.edi_messages.specs.Owned.{call_content};
 ghost use Rattle.office_archives.specs.Answering.{AnswersClosed};
 ghost use Rattle.office_archives.specs.Keeping.{IsClosedIn, IsKeptIn, IsReportIn, IsTicketIn};
@@ -8,6 +8,8 @@ ghost use Rattle.office_archives.specs.Telling.{HasListAway, TellsClosed, archiv
 ghost use Rattle.office_desk.specs.Answers.{answer_by_model};
 ghost use Rattle.office_desk.specs.Noting.{IsNow};
 ghost use Rattle.office_desk.specs.Reports.{partner_called};
+ghost use Rattle.office_pages.specs.Archives.{archives_note};
+ghost use Rattle.office_pages.specs.Fixed.{foot};
 ghost use Rattle.office_parts.specs.Away.{lines_away};
 ghost use Rattle.office_parts.specs.OwnLists.{ListName, list_name};
 ghost use Rattle.office_parts.specs.Archives.{Archive, archive_of, reply_by};
@@ -18,10 +20,11 @@ ghost use Rattle.partner_core.specs.Answers.{Clash, Repeat};
 
 use edi_messages::Call;
 use office_desk::Desk;
+use office_pages::with_archives as with_archives_note;
 use office_replies::{Response, clash_body, taken_body};
-use office_report_data::with_archives as with_member;
+use office_report_data::{show_contrl, show_reply, with_archives as with_member};
 use office_reports::texts::push_line;
-use office_reports::{About, Query, View, contrl_in};
+use office_reports::{About, Query, View};
 use office_tables::{Kept, TableFault};
 use sqlite::Alter;
 use std::alloc::{AllocError, Global};
@@ -181,11 +184,11 @@ pub(crate) fn tell_closed<A: Archives>(
         }
         About::Contrl { .. } => {
             let reply = closed_reply(archives, partner, number)?;
-            Ok(contrl_in(alloc, reply.as_str())?)
+            Ok(show_contrl(alloc, code, number, reply.as_str(), query.view)?)
         }
         _ => {
             let reply = closed_reply(archives, partner, number)?;
-            Ok(Some(taken_body(alloc, "repeat", number, code, reply.as_str())?))
+            Ok(Some(show_reply(alloc, code, number, 0, Some(reply.as_str()), query.view)?))
         }
     }
 }
@@ -208,7 +211,7 @@ fn closed_reply<A: Archives>(
 }
 
 /// What the store reports of a container, its visits or its lists, and how many archives it has, if it has any, which were not
-/// looked at: as text in a last line `ARCHIVES k`, as JSON in a member `archives`; CSV doesn't tell it.
+/// looked at: as text in a last line `ARCHIVES k`, as JSON in a member `archives`, as a page in a note; CSV doesn't tell it.
 pub(crate) fn with_archives(
     alloc: Global,
     view: View,
@@ -223,6 +226,22 @@ pub(crate) fn with_archives(
         View::Text => with_line(alloc, told, count),
         View::Json => with_member(alloc, told, count),
         View::Csv => Ok(told),
+        View::Page => with_note(alloc, told, count),
+    }
+}
+
+/// The page, with that note before its end, if there are any.
+fn with_note(
+    alloc: Global,
+    told: Option<String>,
+    count: usize,
+) -> Result<Option<String>, AllocError>
+    ensures { IfOk result (λ found. (body : List ℕ) → option_map string_bytes told ≡ Some (body ++ foot) →
+        option_map string_bytes found ≡ Some (body ++ archives_note count ++ foot)) }
+{
+    match told {
+        Some(page) => Ok(Some(with_archives_note(alloc, page.as_str(), count)?)),
+        None => Ok(None),
     }
 }
 

@@ -13,7 +13,7 @@ use Rattle.office_reports.specs.Keys.{passed_of}
 use Rattle.office_reports.specs.declared.query.ReportKind.{ReportKind}
 use Rattle.office_reports.specs.declared.query.ReportKind.TheVariants.{Yard, Visits, List as VesselList, Ticket, Reply, Container, Work, Partners, Partner, Blocks, Calls, Contrl, Picture, Health, Metrics}
 use Rattle.office_reports.specs.declared.query.View.{View}
-use Rattle.office_reports.specs.declared.query.View.TheVariants.{Text as TextView, Json, Csv}
+use Rattle.office_reports.specs.declared.query.View.TheVariants.{Text as TextView, Json, Csv, Page as PageView}
 use Rattle.office_command_line.specs.declared.command_reading.Request.{Request}
 use Rattle.office_command_line.specs.declared.command_reading.Request.TheVariants as request
 
@@ -96,6 +96,7 @@ wants_key Reply = true
 wants_key Partner = true
 wants_key Health = false
 wants_key Metrics = false
+wants_key Block = true
 
 -- ---- what the words of a subcommand ask for
 
@@ -144,12 +145,14 @@ abbrev pub archives_with : Text → View → Option Text → Option RequestConte
 archives_with store TextView key = archives_alone store key
 archives_with store Json key = None
 archives_with store Csv key = None
+archives_with store PageView key = None
 
 -- the report on the yard as CSV, by a word of its own
 abbrev pub table_with : Text → View → Option Text → Option RequestContent
 table_with store TextView key = report_with store Yard Csv key
 table_with store Csv key = report_with store Yard Csv key
 table_with store Json key = None
+table_with store PageView key = None
 
 -- a report of the kind that a word says
 abbrev pub report_said : Text → Text → View → Option Text → Option RequestContent

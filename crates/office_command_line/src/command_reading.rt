@@ -337,7 +337,7 @@ fn archives_with<'a>(store: &'a str, view: View, key: Option<&'a str>) -> Option
 {
     match view {
         View::Text => archives_alone(store, key),
-        View::Json | View::Csv => None,
+        View::Json | View::Csv | View::Page => None,
     }
 }
 
@@ -358,7 +358,7 @@ fn table_with<'a>(store: &'a str, view: View, key: Option<&'a str>) -> Option<Re
 {
     match view {
         View::Text | View::Csv => report_with(store, ReportKind::Yard, View::Csv, key),
-        View::Json => None,
+        View::Json | View::Page => None,
     }
 }
 
@@ -402,7 +402,8 @@ fn wants_key(kind: ReportKind) -> bool
         | ReportKind::Container
         | ReportKind::Work
         | ReportKind::Contrl
-        | ReportKind::Partner => true,
+        | ReportKind::Partner
+        | ReportKind::Block => true,
     }
 }
 

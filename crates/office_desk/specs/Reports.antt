@@ -11,7 +11,6 @@ use Rattle.edi_messages.specs.Owned.{call_content}
 use Rattle.terminal_core.specs.Rows.{VisitContent}
 use Rattle.terminal_core.specs.State.{TerminalState}
 use Rattle.office_replies.specs.Events.{Event}
-use Rattle.office_replies.specs.Bodies.{answer_text, waiting_text}
 use Rattle.office_rows.specs.Opening.{tables_version}
 use Rattle.office_rows.specs.Rows.{Rows}
 use Rattle.office_admission.specs.Parties.{partner_from}
@@ -28,7 +27,9 @@ use Rattle.office_reports.specs.declared.query.View.{View}
 use Rattle.office_reports.specs.declared.yard.Standing.{Standing}
 use Rattle.office_reports.specs.Blocks.{AreBlocks, BlocksContent}
 use Rattle.office_reports.specs.Calls.{lists_in}
-use Rattle.office_reports.specs.Containers.{container_of}
+use Rattle.office_pages.specs.Start.{StartContent}
+use Rattle.office_reports.specs.Containers.{ContainerContent, container_of}
+use Rattle.office_reports.specs.OpenLines.{open_lines}
 use Rattle.office_reports.specs.Contrls.{contrl_in}
 use Rattle.office_reports.specs.Listed.{AreListed}
 use Rattle.office_reports.specs.Lists.{IsOfLines, list_by}
@@ -61,21 +62,16 @@ partner_called content code = partner_from 1 code (parties_in content).partners
 
 -- ---- replies
 
--- what was taken is reported as a repeat, what waits as waiting for that number
-abbrev pub reply_text : (next : ℕ) → List ℕ → ℕ → (reply : Option (List ℕ)) → List ℕ
-reply_text next code number None = waiting_text next number code
-reply_text next code number (Some reply) = answer_text (codes "repeat") number code reply
-
 -- by the text that is kept and its reply; nothing is reported of what is not kept
-abbrev pub TellsReply : Rows → List ℕ → ℕ → ℕ → (text reply : Option (List ℕ)) → (found : Option (List ℕ)) → Type 0
-TellsReply rows code partner number None reply found = found ≡ None
-TellsReply rows code partner number (Some text) reply found =
-    (next : ℕ) × IsNextOf partner rows next × (found ≡ Some (reply_text next code number reply))
+abbrev pub TellsReply : Rows → List ℕ → ℕ → ℕ → (text reply : Option (List ℕ)) → (told : Option ReportContent) → Type 0
+TellsReply rows code partner number None reply told = told ≡ None
+TellsReply rows code partner number (Some text) reply told =
+    (next : ℕ) × IsNextOf partner rows next × (told ≡ Some (value.reply code number next reply))
 
-abbrev pub TellsReplyOf : Rows → List ℕ → ℕ → Option ℕ → (found : Option (List ℕ)) → Type 0
-TellsReplyOf rows code number None found = found ≡ None
-TellsReplyOf rows code number (Some partner) found =
-    TellsReply rows code partner number (text_in rows partner number) (reply_in rows partner number) found
+abbrev pub TellsReplyOf : Rows → List ℕ → ℕ → Option ℕ → (told : Option ReportContent) → Type 0
+TellsReplyOf rows code number None told = told ≡ None
+TellsReplyOf rows code number (Some partner) told =
+    TellsReply rows code partner number (text_in rows partner number) (reply_in rows partner number) told
 
 -- ---- tickets
 
@@ -92,9 +88,15 @@ ticket_of visits rows code number (Some partner) = ticket_if_taken visits code p
 -- ---- CONTRLs
 
 -- the CONTRL of the reply that is kept, if it was taken
-abbrev pub contrl_for_partner : Rows → ℕ → Option ℕ → Option (List ℕ)
-contrl_for_partner rows number None = None
-contrl_for_partner rows number (Some partner) = option_and_then contrl_in (reply_in rows partner number)
+abbrev pub contrl_by : List ℕ → ℕ → List ℕ → Option ReportContent
+contrl_by code number reply = option_map (value.contrl code number reply) (contrl_in reply)
+
+abbrev pub contrl_told : List ℕ → ℕ → (reply : Option (List ℕ)) → Option ReportContent
+contrl_told code number reply = option_and_then (contrl_by code number) reply
+
+abbrev pub contrl_for_partner : Rows → List ℕ → ℕ → Option ℕ → Option ReportContent
+contrl_for_partner rows code number None = None
+contrl_for_partner rows code number (Some partner) = contrl_told code number (reply_in rows partner number)
 
 -- ---- partners
 
@@ -133,11 +135,23 @@ TellsNext rows (Some id) found = (next : ℕ) × IsNextOf id rows next × (found
 
 -- ---- metrics
 
--- they count the accounts, and what waits of each
-abbrev pub TellsMetrics : SetupContent → TerminalState → Rows → (found : Option (List ℕ)) → Type 0
-TellsMetrics content state rows found =
+-- what the start page tells
+abbrev pub start_by : SetupContent → TerminalState → List PartnerContent → BlocksContent → StartContent
+start_by content state partners blocks = record {
+  visits = length state.visits;
+  limit = content.visit_limit;
+  partners = partners_of partners;
+  lists = lists_in (finite_map.entries state.lines);
+  blocks = blocks;
+}
+
+-- they count the accounts, and what waits of each; on the start page also the lists and how full the blocks are
+abbrev pub TellsMetrics : SetupContent → TerminalState → Rows → (told : Option ReportContent) → Type 0
+TellsMetrics content state rows told =
     (partners : List PartnerContent) × AreLookedUp rows 1 content.partners partners
-    × (found ≡ Some (metrics_text program_version tables_version state content.visit_limit partners))
+    × ((blocks : BlocksContent) × AreBlocks state blocks
+    × (told ≡ Some (value.metrics (metrics_text program_version tables_version state content.visit_limit partners)
+    content.terminal (start_by content state partners blocks))))
 
 -- ---- the yard and its blocks
 
@@ -148,9 +162,27 @@ TellsYard state told =
 abbrev pub TellsBlocks : TerminalState → (told : Option ReportContent) → Type 0
 TellsBlocks state told = (report : BlocksContent) × AreBlocks state report × (told ≡ Some (value.blocks report))
 
-abbrev pub TellsPicture : SetupContent → TerminalState → (found : Option (List ℕ)) → Type 0
-TellsPicture content state found =
-    (page : List ℕ) × (found ≡ Some page) × IsPicture state content.terminal content.blocks page
+abbrev pub TellsBlock : TerminalState → (letter : ℕ) → (told : Option ReportContent) → Type 0
+TellsBlock state letter told =
+    (yard : List (List ℕ × Standing)) × AreListed (StandsAt state) yard × (told ≡ Some (value.block letter yard))
+
+abbrev pub TellsPicture : SetupContent → TerminalState → (told : Option ReportContent) → Type 0
+TellsPicture content state told =
+    (page : List ℕ) × (told ≡ Some (value.picture page)) × IsPicture state content.terminal content.blocks page
+
+-- ---- a container, and what a text finds
+
+-- with the open lines that name it, and its visits
+abbrev pub container_by : SetupContent → TerminalState → ContainerContent → ReportContent
+container_by content state report =
+    value.container report (open_lines state.lines report.container) (visits_of content state report.container)
+
+abbrev pub container_told : SetupContent → TerminalState → BoxNumber → Option ReportContent
+container_told content state container = option_map (container_by content state) (container_of content state container)
+
+-- the code, if a partner has it
+abbrev pub partner_if_called : SetupContent → List ℕ → Option (List ℕ)
+partner_if_called content code = option_map (λ id. code) (partner_called content code)
 
 -- ---- all reports
 
@@ -164,24 +196,29 @@ Tells content state rows (about.List call side) told =
 Tells content state rows (about.Ticket partner number) told =
     told ≡ ticket_of state.visits rows (string_bytes partner) number (partner_called content (string_bytes partner))
 Tells content state rows (about.Reply partner number) told =
-    IsText (TellsReplyOf rows (string_bytes partner) number (partner_called content (string_bytes partner))) told
+    TellsReplyOf rows (string_bytes partner) number (partner_called content (string_bytes partner)) told
 Tells content state rows (about.Work call side) told =
     IsOfLines state (call_content call) side (λ lines. option_map value.work (work_by state (call_content call) side lines))
     told
-Tells content state rows about.Picture told = IsText (TellsPicture content state) told
-Tells content state rows (about.Container container) told =
-    told ≡ option_map value.container (container_of content state container)
+Tells content state rows about.Picture told = TellsPicture content state told
+Tells content state rows (about.Container container) told = told ≡ container_told content state container
 Tells content state rows about.Partners told = TellsPartners rows content.partners told
 Tells content state rows about.Blocks told = TellsBlocks state told
 Tells content state rows about.Calls told = told ≡ Some (value.calls (lists_in (finite_map.entries state.lines)))
 Tells content state rows (about.Contrl partner number) told =
-    told ≡ option_map value.text (contrl_for_partner rows number (partner_called content (string_bytes partner)))
+    told ≡ contrl_for_partner rows (string_bytes partner) number (partner_called content (string_bytes partner))
 Tells content state rows (about.Partner code) told =
     TellsPartner rows content.partners (partner_called content (string_bytes code)) told
 Tells content state rows (about.Next code) told =
     IsText (TellsNext rows (partner_called content (string_bytes code))) told
 Tells content state rows about.Health told = told ≡ Some (value.text ready_text)
-Tells content state rows about.Metrics told = IsText (TellsMetrics content state rows) told
+Tells content state rows about.Metrics told = TellsMetrics content state rows told
+Tells content state rows (about.Expected container) told =
+    told ≡ Some (value.expected container (open_lines state.lines container))
+Tells content state rows (about.Block letter) told = TellsBlock state letter told
+Tells content state rows (about.Find typed) told =
+    told ≡ Some (value.found (string_bytes typed) state.visits (partner_if_called content (string_bytes typed))
+    (lists_in (finite_map.entries state.lines)))
 
 -- what is found at a query: what is told of it, shown so
 abbrev pub TellsOf : SetupContent → TerminalState → Rows → Query → (found : Option (List ℕ)) → Type 0

@@ -4,11 +4,10 @@ ghost use Rattle.office_tables.specs.DeliveryReading.{OnlyReads};
 ghost use Rattle.office_desk.specs.Answers.{answer_by_model};
 ghost use Rattle.office_desk.specs.Causes.{AsksUnreadable};
 ghost use Rattle.office_desk.specs.Noting.{Notes, NotesMemory};
-ghost use Rattle.office_desk.specs.Reports.{Shows, Tells, TellsOf, TellsReply, reply_text, ticket_if_taken, IsOpenFor};
+ghost use Rattle.office_desk.specs.Reports.{Shows, Tells, TellsOf, TellsReply, contrl_told, ticket_if_taken, IsOpenFor};
 ghost use Rattle.office_report_data.specs.Told.{shown};
 ghost use Rattle.office_history.specs.After.{AreKeptOnce, reply_in};
 ghost use Rattle.office_history.specs.Cascade.{text_in};
-ghost use Rattle.office_reports.specs.Contrls.{contrl_in};
 ghost use Rattle.office_replies.specs.Contents.{content_of};
 ghost use Rattle.office_rows.specs.Rows.{Rows};
 ghost use Rattle.office_rows.specs.Stored.{HasRows};
@@ -32,8 +31,8 @@ use crate::in_memory::{
 use crate::taking::Delivery;
 use office_admission::Setup;
 use office_replies::{Response, clash_body, taken_body, waiting_body};
-use office_report_data::show_ticket;
-use office_reports::{About, NotNow, Query, View, contrl_in, ticket_of};
+use office_report_data::{show_contrl, show_reply, show_ticket};
+use office_reports::{About, NotNow, Query, View, ticket_of};
 use office_tables::{Kept, TableFault, kept, next_of};
 use partner_core::{Standing, judge};
 use sqlite::{Alter, Connection};
@@ -185,7 +184,7 @@ fn tell_about<S: Alter>(
         About::Next(code) => tell_next(alloc, conn, setup, code),
         About::Blocks => Ok(Some(tell_blocks(alloc, terminal, view)?)),
         About::Calls => Ok(Some(tell_calls(alloc, terminal, view)?)),
-        About::Picture => Ok(Some(tell_picture(alloc, setup, terminal)?)),
+        About::Picture => Ok(Some(tell_picture(alloc, setup, terminal, view)?)),
         About::Visits(container) => Ok(tell_visits(alloc, setup, terminal, *container, view)?),
         About::Container(container) => {
             Ok(tell_container(alloc, setup, terminal, *container, view)?)
@@ -197,15 +196,18 @@ fn tell_about<S: Alter>(
             None => Ok(None),
         },
         About::Reply { partner, number } => match setup.partner_called(partner) {
-            Some(id) => tell_reply(alloc, conn, partner, id, *number),
+            Some(id) => tell_reply(alloc, conn, partner, id, *number, view),
             None => Ok(None),
         },
         About::Contrl { partner, number } => match setup.partner_called(partner) {
-            Some(id) => tell_contrl(alloc, conn, id, *number),
+            Some(id) => tell_contrl(alloc, conn, partner, id, *number, view),
             None => Ok(None),
         },
         About::Health => tell_health(alloc, conn),
-        About::Metrics => tell_metrics(alloc, conn, setup, terminal),
+        About::Metrics => tell_metrics(alloc, conn, setup, terminal, view),
+        About::Expected(container) => Ok(Some(tell_expected(alloc, terminal, *container)?)),
+        About::Block(letter) => Ok(Some(tell_block(alloc, terminal, *letter)?)),
+        About::Find(typed) => Ok(Some(tell_found(alloc, setup, terminal, typed)?)),
     }
 }
 
@@ -213,18 +215,21 @@ fn tell_about<S: Alter>(
 fn tell_contrl<S: Alter>(
     alloc: Global,
     conn: &mut Connection<S>,
+    code: &str,
     partner: u16,
     number: u32,
+    view: View,
 ) -> Result<Option<String>, TableFault>
     ensures told { HasCleanDisk (state S.Store conn.new) → IfOk result (λ found. (rows : Rows) →
         HasRows rows (state S.Store conn.old).now → AreKeptOnce rows.interchanges →
-        option_map string_bytes found ≡ option_and_then contrl_in (reply_in rows partner number)) }
+        option_map string_bytes found
+        ≡ option_map (shown view) (contrl_told code.now number (reply_in rows partner number))) }
     ensures fault { HasCleanDisk (state S.Store conn.new) → IfErr result (λ fault. (rows : Rows) →
         HasRows rows (state S.Store conn.old).now → IsOfStoreOr (HasUnfitReply partner number rows) fault) }
     ensures reads { Reads (state S.Store conn.old) (state S.Store conn.new) result }
 {
     match reply_of(kept(conn, partner, number)?) {
-        Some(reply) => Ok(contrl_in(alloc, reply.as_str())?),
+        Some(reply) => Ok(show_contrl(alloc, code, number, reply.as_str(), view)?),
         None => Ok(None),
     }
 }
@@ -280,11 +285,12 @@ fn tell_reply<S: Alter>(
     code: &str,
     partner: u16,
     number: u32,
+    view: View,
 ) -> Result<Option<String>, TableFault>
     ensures told { HasCleanDisk (state S.Store conn.new) → IfOk result (λ found. (rows : Rows) →
         HasRows rows (state S.Store conn.old).now → AreKeptOnce rows.interchanges →
-        TellsReply rows code.now partner number (text_in rows partner number) (reply_in rows partner number)
-        (option_map string_bytes found)) }
+        Shows (TellsReply rows code.now partner number (text_in rows partner number) (reply_in rows partner number))
+        view (option_map string_bytes found)) }
     ensures fault { HasCleanDisk (state S.Store conn.new) → IfErr result (λ fault. (rows : Rows) →
         HasRows rows (state S.Store conn.old).now → IsOfStoreOr (HasUnfitReply partner number rows ⊎ LacksNext partner rows) fault) }
     ensures reads { Reads (state S.Store conn.old) (state S.Store conn.new) result }
@@ -292,26 +298,9 @@ fn tell_reply<S: Alter>(
     match kept(conn, partner, number)? {
         Some(kept) => {
             let next = next_of(conn, partner)?;
-            Ok(Some(tell_kept(alloc, kept, next, code, number)?))
+            let reply = kept.reply.as_deref();
+            Ok(Some(show_reply(alloc, code, number, next, reply, view)?))
         }
         None => Ok(None),
-    }
-}
-
-/// The answer to an interchange that is kept: as a repeat, if it was taken.
-fn tell_kept(
-    alloc: Global,
-    kept: Kept,
-    next: u32,
-    code: &str,
-    number: u32,
-) -> Result<String, AllocError>
-    ensures { IfOk result
-        (λ text. string_bytes text ≡ reply_text next code.now number (option_map string_bytes kept.reply)) }
-{
-    let Kept { text: _, reply } = kept;
-    match reply {
-        Some(reply) => taken_body(alloc, "repeat", number, code, &reply),
-        None => waiting_body(alloc, next, number, code),
     }
 }

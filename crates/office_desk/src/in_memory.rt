@@ -1,11 +1,14 @@
 //! What is reported of the set-up and of the terminal that is kept in memory, without a look at the tables.
 ghost use Rattle.edi_messages.specs.Owned.{call_content};
 ghost use Rattle.office_admission.specs.Setups.{setup_content};
-ghost use Rattle.office_desk.specs.Reports.{IsText, Shows, TellsBlocks, TellsPicture, TellsYard};
+ghost use Rattle.office_desk.specs.Reports.{Shows, TellsBlock, TellsBlocks, TellsPicture, TellsYard, container_by, container_told, partner_if_called};
 ghost use Rattle.office_report_data.specs.Told as value;
 ghost use Rattle.office_report_data.specs.Told.{shown};
 ghost use Rattle.office_reports.specs.Calls.{lists_in};
-ghost use Rattle.office_reports.specs.Containers.{container_of};
+ghost use Rattle.office_pages.specs.Found.{found_page};
+ghost use Rattle.office_pages.specs.Wanted.{expected_page};
+ghost use Rattle.office_reports.specs.Containers.{container_content};
+ghost use Rattle.office_reports.specs.OpenLines.{open_lines};
 ghost use Rattle.office_reports.specs.Lists.{IsOfLines, list_by};
 ghost use Rattle.office_reports.specs.Visits.{visits_of};
 ghost use Rattle.office_reports.specs.Work.{work_by};
@@ -15,11 +18,14 @@ ghost use Rattle.std.specs.Prelude.{◌≡◌, IfOk, Some, option_map, string_by
 use box6346::BoxNumber;
 use edi_messages::Call;
 use office_admission::Setup;
+use office_pages::{expected_page, found_page, yard_page};
 use office_report_data::{
-    show_blocks, show_calls, show_container, show_list, show_visits, show_work, show_yard,
+    show_blocks, show_calls, show_container, show_list, show_picture, show_visits, show_work,
+    show_yard,
 };
 use office_reports::{
-    View, blocks_of, calls_of, container_of, list_of, picture, visits_of, work_of, yard_standings,
+    ContainerReport, View, blocks_of, calls_of, container_of, list_of, open_lines_of, picture,
+    visits_of, work_of, yard_standings,
 };
 use std::alloc::{AllocError, Global};
 use terminal_core::{Side, Terminal};
@@ -87,11 +93,87 @@ pub(crate) fn tell_container(
     view: View,
 ) -> Result<Option<String>, AllocError>
     ensures { IfOk result (λ found. option_map string_bytes found ≡ option_map (shown view)
-        (option_map value.container (container_of (setup_content setup.now) terminal.now container))) }
+        (container_told (setup_content setup.now) terminal.now container)) }
 {
     match container_of(alloc, setup, terminal, container)? {
-        Some(report) => Ok(Some(show_container(alloc, &report, view)?)),
+        Some(report) => Ok(Some(container_shown(alloc, setup, terminal, &report, view)?)),
         None => Ok(None),
+    }
+}
+
+/// Only its page shows more than the report.
+fn container_shown(
+    alloc: Global,
+    setup: &Setup,
+    terminal: &Terminal,
+    report: &ContainerReport<'_>,
+    view: View,
+) -> Result<String, AllocError>
+    ensures { IfOk result (λ text. string_bytes text ≡ shown view
+        (container_by (setup_content setup.now) terminal.now (container_content report.now))) }
+{
+    match view {
+        View::Text | View::Json | View::Csv => show_container(alloc, report, &[], &None, view),
+        View::Page => {
+            let expected = open_lines_of(alloc, terminal, report.container)?;
+            let visits = visits_of(alloc, setup, terminal, report.container)?;
+            show_container(alloc, report, &expected, &visits, view)
+        }
+    }
+}
+
+/// The open lines that name a container, which need not have come, as a page.
+pub(crate) fn tell_expected(
+    alloc: Global,
+    terminal: &Terminal,
+    container: BoxNumber,
+) -> Result<String, AllocError>
+    ensures { IfOk result (λ text.
+        string_bytes text ≡ expected_page container (open_lines terminal.now.lines container)) }
+{
+    let lists = open_lines_of(alloc, terminal, container)?;
+    expected_page(alloc, container, &lists)
+}
+
+/// The containers in a block of the yard, as a page.
+pub(crate) fn tell_block(
+    alloc: Global,
+    terminal: &Terminal,
+    letter: u8,
+) -> Result<String, AllocError>
+    ensures { (view : View) → IfOk result (λ text. Shows (TellsBlock terminal.now letter) view (Some (string_bytes text))) }
+{
+    let yard = yard_standings(alloc, terminal)?;
+    yard_page(alloc, &yard, Some(letter))
+}
+
+/// What a text finds, as a page.
+pub(crate) fn tell_found(
+    alloc: Global,
+    setup: &Setup,
+    terminal: &Terminal,
+    typed: &str,
+) -> Result<String, AllocError>
+    ensures { IfOk result (λ text. string_bytes text ≡ found_page typed.now terminal.now.visits
+        (partner_if_called (setup_content setup.now) typed.now) (lists_in (finite_map.entries terminal.now.lines))) }
+{
+    let calls = calls_of(alloc, terminal)?;
+    found_page(
+        alloc,
+        typed,
+        terminal.visits(),
+        partner_if_called(setup, typed),
+        &calls,
+    )
+}
+
+/// The code, if a partner has it.
+fn partner_if_called<'a>(setup: &Setup, code: &'a str) -> Option<&'a str>
+    ensures { option_map (λ text. text.now) result ≡ partner_if_called (setup_content setup.now) code.now }
+{
+    match setup.partners.index_called(code) {
+        Some(_) => Some(code),
+        None => None,
     }
 }
 
@@ -136,9 +218,11 @@ pub(crate) fn tell_picture(
     alloc: Global,
     setup: &Setup,
     terminal: &Terminal,
+    view: View,
 ) -> Result<String, AllocError>
     ensures { IfOk result
-        (λ page. TellsPicture (setup_content setup.now) terminal.now (Some (string_bytes page))) }
+        (λ page. Shows (TellsPicture (setup_content setup.now) terminal.now) view (Some (string_bytes page))) }
 {
-    picture(alloc, setup.terminal.as_str(), &setup.blocks, terminal)
+    let page = picture(alloc, setup.terminal.as_str(), &setup.blocks, terminal)?;
+    show_picture(alloc, page, view)
 }

@@ -1,5 +1,5 @@
 ghost use Rattle.std.specs.Option.{ok_or, option_and_then};
-ghost use Rattle.std.specs.Prelude.{◌≡◌, ◌⊎◌, ◌≤◌, ◌+◌, ◌-◌, ◌++◌, length, take, drop, map, IfOk, IfSome, IsTrue, ◌↔◌, Ok, vec_len};
+ghost use Rattle.std.specs.Prelude.{◌≡◌, ◌⊎◌, ◌≤◌, ◌+◌, ◌-◌, ◌++◌, length, take, drop, map, IfOk, IfSome, IsTrue, ◌↔◌, Ok, vec_len, string_bytes};
 ghost use Rattle.std.specs.Vec.{vec_capacity};
 ghost use Rattle.edi_syntax.specs.Interchange.{most_bytes};
 ghost use Rattle.httparse.specs.Grammar.{RequestHead};
@@ -8,15 +8,15 @@ ghost use Rattle.office_http.specs.Deciding.{body_size, EndsWhenDecided, wanted_
 ghost use Rattle.office_http.specs.Fields.{body_length};
 ghost use Rattle.office_http.specs.Heads.{most_request_reads};
 ghost use Rattle.office_http.specs.Ports.{ReadsUpTo};
-ghost use Rattle.office_http.specs.Requests.{Asks, AsksWith, as_text, asked_in, Gets, IsUnheld, Names, nothing_in, Posts, PostsAccount, PostsBy, PostsExplain, refused_in, sought, texts_asked, view_asked};
+ghost use Rattle.office_http.specs.Requests.{Asks, AsksWith, as_page, asked_in, found_by, Gets, IsUnheld, Names, nothing_in, Posts, PostsAccount, PostsBy, PostsExplain, refused_in, sought, texts_asked, view_asked};
 ghost use Rattle.office_http.specs.Routes.{key_in, partner_key_in};
 ghost use Rattle.office_http.specs.declared.targets.Showing.TheVariants.{Find};
 ghost use Rattle.office_http.specs.declared.requests.Request.TheVariants.{Refused};
 ghost use Rattle.office_http.specs.declared.response.Refusal.TheVariants.{NotNow};
-ghost use Rattle.office_pages.specs.Typed.{typed};
+ghost use Rattle.office_pages.specs.Typed.{typed, typed_words};
 ghost use Rattle.office_pages.specs.declared.notices.Notice.TheVariants.{NotHere};
 ghost use Rattle.office_reports.specs.AccountKeys.{account_in, sender_in};
-ghost use Rattle.office_reports.specs.Keys.{container, query_content, query_of};
+ghost use Rattle.office_reports.specs.Keys.{container, find, query_content, query_of};
 
 use crate::head::{FoundHead, MOST_FIELDS, MOST_HEAD_BYTES, OwnText, content_length, read_head};
 use crate::response::Refusal;
@@ -25,7 +25,7 @@ use crate::site::Site;
 use crate::targets::{Showing, path_of, showing_of, typed_in};
 use box6346::BoxNumber;
 use httparse::spans::{EMPTY_HEADER_SPAN, HeaderSpan};
-use office_pages::{Notice, typed_number};
+use office_pages::{Notice, typed_number, typed_words};
 use office_replies::Port;
 use office_reports::{
     About, AccountKey, Query, ReportKind, View, read_account_key, read_query, read_sender_key,
@@ -282,22 +282,44 @@ fn read_report(alloc: Global, showing: Showing, kind: ReportKind, target: &str) 
 
 /// The report of the container whose number was typed.
 fn read_typed(alloc: Global, kind: ReportKind, value: &str) -> Request
-    ensures { (result ≡ Refused NotNow) ⊎ Gets Find kind (sought (typed value.now)) result }
+    ensures { (result ≡ Refused NotNow) ⊎ Gets Find kind (sought value.now (typed value.now)) result }
 {
     match typed_number(alloc, value.as_bytes()) {
         Ok(Ok(number)) => Request::Report(Showing::Find, kind, container_asked(number)),
+        Ok(Err(Notice::Form)) => read_found(alloc, kind, value),
         Ok(Err(notice)) => Request::Noticed(notice),
         Err(_) => Request::Refused(Refusal::NotNow),
     }
 }
 
-/// The query of where a container is, as text.
+/// The query of where a container is, as a page.
 fn container_asked(number: BoxNumber) -> Query
-    ensures { query_content result ≡ as_text (container number) }
+    ensures { query_content result ≡ as_page (container number) }
 {
     Query {
         about: About::Container(number),
-        view: View::Text,
+        view: View::Page,
+    }
+}
+
+/// What another text finds, if it is one.
+fn read_found(alloc: Global, kind: ReportKind, value: &str) -> Request
+    ensures { (result ≡ Refused NotNow) ⊎ Gets Find kind (found_by (typed_words value.now)) result }
+{
+    match typed_words(alloc, value.as_bytes()) {
+        Ok(Some(words)) => Request::Report(Showing::Find, kind, words_asked(words)),
+        Ok(None) => Request::Noticed(Notice::Form),
+        Err(_) => Request::Refused(Refusal::NotNow),
+    }
+}
+
+/// The query of what a text finds, as a page.
+fn words_asked(words: String) -> Query
+    ensures { query_content result ≡ as_page (find (string_bytes words)) }
+{
+    Query {
+        about: About::Find(words),
+        view: View::Page,
     }
 }
 
@@ -316,14 +338,14 @@ fn read_key(alloc: Global, showing: Showing, kind: ReportKind, path: &str) -> Re
     }
 }
 
-/// As what a report is asked for: pages are made of texts.
+/// As what a report is asked for.
 fn view_asked(showing: Showing) -> View
     ensures { result ≡ view_asked showing }
 {
     match showing {
         Showing::Plain(view) => view,
         Showing::Archive(_, view) => view,
-        Showing::Page | Showing::Find | Showing::Start => View::Text,
+        Showing::Page | Showing::Find | Showing::Start => View::Page,
     }
 }
 

@@ -32,6 +32,18 @@ number_in text (Ok number) = Ok number
 number_in text (Err fault.Form) = Err Form
 number_in text (Err fault.CheckDigit) = corrected (number_of (with_check_digit text))
 
+-- a form writes a space as +
+abbrev pub space_or_same : ℕ → ℕ
+space_or_same c = if c == 43 then 32 else c
+
+-- nothing, and what is no UTF-8, is no text
+abbrev pub words_by : List ℕ → Option (List ℕ)
+words_by bytes = if nat_lt 0 (length bytes) && is_utf8 bytes then Some bytes else None
+
+-- the text that is meant by a value of the form's field
+abbrev pub typed_words : List ℕ → Option (List ℕ)
+typed_words value = words_by (percent_decode (map space_or_same value))
+
 -- the number that is meant by a value of the form's field, or what to tell
 abbrev pub typed : List ℕ → Result BoxNumber Notice
 typed value = number_in (typed_text value) (number_of (typed_text value))

@@ -40,7 +40,7 @@ pub use contrl::contrl_page;
 pub use drawn::picture_page;
 pub use found::found_page;
 pub use lists::list_page;
-pub use notices::{Notice, notice_page, typed_number};
+pub use notices::{Notice, notice_page, typed_number, typed_words};
 pub use partner::partner_page;
 pub use partners::partners_page;
 pub use reply::reply_page;

@@ -1,9 +1,10 @@
 //! What a person types for a container's number, and what a page says in place of a report.
-ghost use Rattle.std.specs.Prelude.{◌≡◌, ◌++◌, IfOk, IsTrue, OnOk, string_bytes};
+ghost use Rattle.std.specs.Option.{option_map};
+ghost use Rattle.std.specs.Prelude.{◌≡◌, ◌++◌, IfOk, IsTrue, OnOk, map, string_bytes};
 ghost use Rattle.box6346.specs.ContainerNumber.{number_of};
 ghost use Rattle.box6346.specs.NumberText.{has_form};
 ghost use Rattle.office_pages.specs.Notices.{notice_bytes, notice_title, notice_top, notice_view};
-ghost use Rattle.office_pages.specs.Typed.{corrected, is_left_out, number_in, typed, typed_text, with_check_digit};
+ghost use Rattle.office_pages.specs.Typed.{corrected, is_left_out, number_in, space_or_same, typed, typed_text, typed_words, with_check_digit};
 
 use crate::frame::push_top;
 use crate::layout::foot;
@@ -12,6 +13,7 @@ use crate::pieces::push_pieces;
 use box6346::{BoxNumber, NumberFault, check_digit};
 use percent_encoding::percent_decode;
 use std::alloc::{AllocError, Global};
+use std::str;
 
 /// What a page says in place of a report.
 #[derive(Clone, Copy, PartialEq, Eq, Debug)]
@@ -35,18 +37,18 @@ pub fn notice_page(alloc: Global, notice: &Notice) -> Result<String, AllocError>
     Ok(page)
 }
 
-fn push_notice_top(
-    alloc: Global,
-    page: &mut String,
-    title: &'static str,
-) -> Result<(), AllocError>
+fn push_notice_top(alloc: Global, page: &mut String, title: &'static str) -> Result<(), AllocError>
     ensures { OnOk result (string_bytes page.new ≡ string_bytes page.old ++ notice_top title.now) }
 {
     push_top(alloc, page, "", false, &[Markup(title)])?;
     push_pieces(
         alloc,
         page,
-        &[Markup("<h1>"), Markup(title), Markup("</h1>\n<section>\n<p>")],
+        &[
+            Markup("<h1>"),
+            Markup(title),
+            Markup("</h1>\n<section>\n<p>"),
+        ],
     )
 }
 
@@ -99,6 +101,33 @@ pub fn typed_number(alloc: Global, value: &[u8]) -> Result<Result<BoxNumber, Not
 {
     let text = typed_text(alloc, value)?;
     Ok(number_in(text.as_slice()))
+}
+
+/// The text that a person typed, from the same value: `+` writes a space, `%` and two hexadecimal digits a byte. None: it is
+/// empty, or no text.
+pub fn typed_words(alloc: Global, value: &[u8]) -> Result<Option<String>, AllocError>
+    ensures { IfOk result (λ found. option_map string_bytes found ≡ typed_words value.now) }
+{
+    let spaced = spaced(alloc, value)?;
+    let mut decoded = Vec::new(alloc);
+    percent_decode(spaced.as_slice()).append_to(&mut decoded)?;
+    match str::from_utf8(decoded.as_slice()) {
+        Ok("") | Err(_) => Ok(None),
+        Ok(words) => Ok(Some(String::from_str(alloc, words)?)),
+    }
+}
+
+fn spaced(alloc: Global, value: &[u8]) -> Result<Vec<u8>, AllocError>
+    ensures { IfOk result (λ text. text.items ≡ map space_or_same value.now) }
+{
+    value.iter().map(|byte| space_or_same(*byte)).collect(alloc)
+}
+
+/// A form writes a space as `+`.
+fn space_or_same(byte: u8) -> u8
+    ensures { result ≡ space_or_same byte }
+{
+    if byte == b'+' { b' ' } else { byte }
 }
 
 /// The characters that count, as capitals.

@@ -24,8 +24,8 @@ pub use containers::container_json;
 pub use lists::{list_csv, list_json};
 pub use partners::{partner_json, partners_csv, partners_json};
 pub use shown::{
-    show_blocks, show_calls, show_container, show_list, show_partner, show_partners, show_ticket,
-    show_visits, show_work, show_yard,
+    show_blocks, show_calls, show_container, show_contrl, show_list, show_partner, show_partners,
+    show_picture, show_reply, show_ticket, show_visits, show_work, show_yard,
 };
 pub use tickets::ticket_json;
 pub use visits::{visits_csv, visits_json};

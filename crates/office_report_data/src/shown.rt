@@ -1,6 +1,7 @@
-//! Reports as they are to be shown: as text, as JSON or as CSV. What has no CSV is shown as text.
+//! Reports as they are to be shown: as text, as JSON, as CSV or as a page. What has no CSV is shown as text.
 ghost use Rattle.office_report_data.specs.Told as value;
-ghost use Rattle.office_report_data.specs.Told.{shown};
+ghost use Rattle.office_report_data.specs.Told.{reply_text, shown};
+ghost use Rattle.office_reports.specs.Contrls.{contrl_in};
 ghost use Rattle.office_reports.specs.Blocks.{blocks_content};
 ghost use Rattle.office_reports.specs.Calls.{lists_content};
 ghost use Rattle.office_reports.specs.Containers.{container_content};
@@ -9,7 +10,9 @@ ghost use Rattle.office_reports.specs.Partners.{partners_content, row_content};
 ghost use Rattle.office_reports.specs.Tickets.{ticket_content};
 ghost use Rattle.office_reports.specs.Visits.{visits_content};
 ghost use Rattle.office_reports.specs.Work.{work_content};
-ghost use Rattle.std.specs.Prelude.{◌≡◌, string_bytes, IfOk};
+ghost use Rattle.std.specs.Option.{option_map};
+ghost use Rattle.std.specs.Prelude.{◌≡◌, map, string_bytes, IfOk};
+ghost use Rattle.terminal_core.specs.Listings.{line_entry};
 
 use crate::blocks::{blocks_csv, blocks_json};
 use crate::calls::{calls_csv, calls_json};
@@ -20,13 +23,20 @@ use crate::tickets::ticket_json;
 use crate::visits::{visits_csv, visits_json};
 use crate::work::{work_csv, work_json};
 use crate::yard::{yard_csv, yard_json};
+use office_pages::{
+    blocks_page, calls_page, container_page, contrl_page, list_page, partner_page, partners_page,
+    picture_page, reply_page, ticket_page, visits_page, work_page, yard_page,
+};
+use office_replies::{taken_body, waiting_body};
 use office_reports::{
     BlocksReport, CallsReport, ContainerReport, ListReport, PartnerRow, PartnersReport, Standing,
     TicketReport, View, VisitsReport, WorkReport, blocks_text, calls_text, container_text,
-    list_text, partner_text, partners_text, ticket_text, visits_text, work_text, yard_text,
+    contrl_in, list_text, partner_text, partners_text, ticket_text, visits_text, work_text,
+    yard_text,
 };
 use std::alloc::{AllocError, Global};
 use std::collections::BTreeMap;
+use terminal_core::Listing;
 
 /// The report on the yard, shown so.
 #[tactic(auto, unfolding(crate::specs::Told::shown))]
@@ -41,22 +51,27 @@ pub fn show_yard(
         View::Text => yard_text(alloc, yard),
         View::Json => yard_json(alloc, yard),
         View::Csv => yard_csv(alloc, yard),
+        View::Page => yard_page(alloc, yard, None),
     }
 }
 
-/// The report on a container, shown so.
+/// The report on a container, shown so. Its page also shows the open lines that name it, if it is not in the yard, and its
+/// visits.
 #[tactic(auto, unfolding(crate::specs::Told::shown))]
 pub fn show_container(
     alloc: Global,
     report: &ContainerReport<'_>,
+    expected: &[&Listing],
+    visits: &Option<VisitsReport<'_>>,
     view: View,
 ) -> Result<String, AllocError>
-    ensures { IfOk result
-        (λ text. string_bytes text ≡ shown view (value.container (container_content report.now))) }
+    ensures { IfOk result (λ text. string_bytes text ≡ shown view (value.container (container_content report.now)
+        (map (λ line. line_entry line.now) expected.now) (option_map visits_content visits.now))) }
 {
     match view {
         View::Text | View::Csv => container_text(alloc, report),
         View::Json => container_json(alloc, report),
+        View::Page => container_page(alloc, report, expected, visits),
     }
 }
 
@@ -74,6 +89,7 @@ pub fn show_visits(
         View::Text => visits_text(alloc, report),
         View::Json => visits_json(alloc, report),
         View::Csv => visits_csv(alloc, report),
+        View::Page => visits_page(alloc, report),
     }
 }
 
@@ -86,6 +102,7 @@ pub fn show_list(alloc: Global, report: &ListReport<'_>, view: View) -> Result<S
         View::Text => list_text(alloc, report),
         View::Json => list_json(alloc, report),
         View::Csv => list_csv(alloc, report),
+        View::Page => list_page(alloc, report),
     }
 }
 
@@ -98,6 +115,7 @@ pub fn show_work(alloc: Global, report: &WorkReport<'_>, view: View) -> Result<S
         View::Text => work_text(alloc, report),
         View::Json => work_json(alloc, report),
         View::Csv => work_csv(alloc, report),
+        View::Page => work_page(alloc, report),
     }
 }
 
@@ -111,6 +129,7 @@ pub fn show_calls(alloc: Global, report: &CallsReport<'_>, view: View) -> Result
         View::Text => calls_text(alloc, report),
         View::Json => calls_json(alloc, report),
         View::Csv => calls_csv(alloc, report),
+        View::Page => calls_page(alloc, report),
     }
 }
 
@@ -128,6 +147,7 @@ pub fn show_partners(
         View::Text => partners_text(alloc, report),
         View::Json => partners_json(alloc, report),
         View::Csv => partners_csv(alloc, report),
+        View::Page => partners_page(alloc, report),
     }
 }
 
@@ -139,6 +159,7 @@ pub fn show_partner(alloc: Global, row: &PartnerRow<'_>, view: View) -> Result<S
     match view {
         View::Text | View::Csv => partner_text(alloc, row),
         View::Json => partner_json(alloc, row),
+        View::Page => partner_page(alloc, row),
     }
 }
 
@@ -152,6 +173,7 @@ pub fn show_blocks(alloc: Global, report: &BlocksReport, view: View) -> Result<S
         View::Text => blocks_text(alloc, report),
         View::Json => blocks_json(alloc, report),
         View::Csv => blocks_csv(alloc, report),
+        View::Page => blocks_page(alloc, report),
     }
 }
 
@@ -168,5 +190,90 @@ pub fn show_ticket(
     match view {
         View::Text | View::Csv => ticket_text(alloc, report),
         View::Json => ticket_json(alloc, report),
+        View::Page => ticket_page(alloc, report),
+    }
+}
+
+/// What an interchange of a partner under a number was answered, shown so: as a repeat with its reply, or, if there is none,
+/// that it waits for the number that is next.
+#[tactic(auto, unfolding(crate::specs::Told::shown))]
+pub fn show_reply(
+    alloc: Global,
+    partner: &str,
+    number: u32,
+    next: u32,
+    reply: Option<&str>,
+    view: View,
+) -> Result<String, AllocError>
+    ensures { IfOk result (λ text. string_bytes text
+        ≡ shown view (value.reply partner.now number next (option_map (λ kept. kept.now) reply.entry))) }
+{
+    match view {
+        View::Text | View::Json | View::Csv => reply_text(alloc, partner, number, next, reply),
+        View::Page => reply_page(alloc, partner, number, next, reply),
+    }
+}
+
+fn reply_text(
+    alloc: Global,
+    partner: &str,
+    number: u32,
+    next: u32,
+    reply: Option<&str>,
+) -> Result<String, AllocError>
+    ensures { IfOk result (λ text. string_bytes text
+        ≡ reply_text next partner.now number (option_map (λ kept. kept.now) reply.entry)) }
+{
+    match reply {
+        Some(reply) => taken_body(alloc, "repeat", number, partner, reply),
+        None => waiting_body(alloc, next, number, partner),
+    }
+}
+
+/// The CONTRL of the reply that is kept of an interchange of a partner under a number, shown so. None if it has none.
+#[tactic(auto, unfolding(crate::specs::Told::shown))]
+pub fn show_contrl(
+    alloc: Global,
+    partner: &str,
+    number: u32,
+    reply: &str,
+    view: View,
+) -> Result<Option<String>, AllocError>
+    ensures { IfOk result (λ found. option_map string_bytes found ≡ option_map (shown view)
+        (option_map (value.contrl partner.now number reply.now) (contrl_in reply.now))) }
+{
+    match contrl_in(alloc, reply)? {
+        Some(text) => Ok(Some(contrl_shown(alloc, partner, number, reply, text, view)?)),
+        None => Ok(None),
+    }
+}
+
+#[tactic(auto, unfolding(crate::specs::Told::shown))]
+fn contrl_shown(
+    alloc: Global,
+    partner: &str,
+    number: u32,
+    reply: &str,
+    text: String,
+    view: View,
+) -> Result<String, AllocError>
+    ensures { IfOk result (λ told. string_bytes told
+        ≡ shown view (value.contrl partner.now number reply.now (string_bytes text))) }
+{
+    match view {
+        View::Text | View::Json | View::Csv => Ok(text),
+        View::Page => contrl_page(alloc, partner, number, reply),
+    }
+}
+
+/// The picture of the yard, shown so.
+#[tactic(auto, unfolding(crate::specs::Told::shown))]
+pub fn show_picture(alloc: Global, picture: String, view: View) -> Result<String, AllocError>
+    ensures { IfOk result
+        (λ text. string_bytes text ≡ shown view (value.picture (string_bytes picture))) }
+{
+    match view {
+        View::Text | View::Json | View::Csv => Ok(picture),
+        View::Page => picture_page(alloc, picture.as_str()),
     }
 }

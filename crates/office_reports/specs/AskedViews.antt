@@ -3,7 +3,7 @@ use Rattle.std.specs.Prelude.{Bool, true, false}
 use Rattle.office_reports.specs.declared.query.ReportKind.{ReportKind}
 use Rattle.office_reports.specs.declared.query.ReportKind.TheVariants as kind
 use Rattle.office_reports.specs.declared.query.View.{View}
-use Rattle.office_reports.specs.declared.query.View.TheVariants.{Text, Json, Csv}
+use Rattle.office_reports.specs.declared.query.View.TheVariants.{Text, Json, Csv, Page}
 
 -- not pictures, CONTRLs and what watches over the office
 abbrev pub has_json : ReportKind → Bool
@@ -11,6 +11,7 @@ has_json kind.Contrl = false
 has_json kind.Picture = false
 has_json kind.Health = false
 has_json kind.Metrics = false
+has_json kind.Block = false
 has_json other = true
 
 -- those that are lists
@@ -24,8 +25,18 @@ has_csv kind.Blocks = true
 has_csv kind.Calls = true
 has_csv other = false
 
--- each as text
+-- not health; the metrics as the start page
+abbrev pub has_page : ReportKind → Bool
+has_page kind.Health = false
+has_page other = true
+
+-- not a block
+abbrev pub has_text : ReportKind → Bool
+has_text kind.Block = false
+has_text other = true
+
 abbrev pub has_view : ReportKind → View → Bool
-has_view asked Text = true
+has_view asked Text = has_text asked
 has_view asked Json = has_json asked
 has_view asked Csv = has_csv asked
+has_view asked Page = has_page asked

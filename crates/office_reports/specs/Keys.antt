@@ -24,10 +24,11 @@ use Rattle.office_reports.specs.declared.query.View.{View}
 -- what is asked about, with its texts as bytes
 pub data AboutContent : Type 0 where
   yard partners blocks calls picture health metrics : AboutContent
-  visits container : BoxNumber → AboutContent
+  visits container expected : BoxNumber → AboutContent
+  block : ℕ → AboutContent
   list work : List ℕ → List ℕ → Side → AboutContent
   ticket reply contrl : List ℕ → ℕ → AboutContent
-  one_partner next_number : List ℕ → AboutContent
+  one_partner next_number find : List ℕ → AboutContent
 
 abbrev pub about_content : About → AboutContent
 about_content about.Yard = yard
@@ -46,6 +47,9 @@ about_content (about.Partner code) = one_partner (string_bytes code)
 about_content (about.Next code) = next_number (string_bytes code)
 about_content about.Health = health
 about_content about.Metrics = metrics
+about_content (about.Find typed) = find (string_bytes typed)
+about_content (about.Expected number) = expected number
+about_content (about.Block letter) = block letter
 
 -- what is asked for: about what, and as what it is shown
 pub record QueryContent : Type 0 where
@@ -155,6 +159,11 @@ interchange_in p = option_and_then (λ partner. option_map (λ number. (partner,
 abbrev pub interchange_of : List ℕ → Option (List ℕ × ℕ)
 interchange_of key = option_and_then interchange_in (two_parts (key_parts key))
 
+-- LETTER
+abbrev pub letter_of : List ℕ → Option ℕ
+letter_of (letter ∷ []) = if is_ascii_uppercase letter then Some letter else None
+letter_of other = None
+
 -- what a key asks about of that kind, if it can be read and something can be found under it
 abbrev pub about_of : ReportKind → List ℕ → Option AboutContent
 about_of kind.Yard key = if_empty key yard
@@ -172,6 +181,7 @@ about_of kind.Picture key = if_empty key picture
 about_of kind.Partner key = option_map one_partner (partner_of key)
 about_of kind.Health key = if_empty key health
 about_of kind.Metrics key = if_empty key metrics
+about_of kind.Block key = option_map block (letter_of key)
 
 -- what a key asks for of that kind, if it is shown so
 abbrev pub query_of : ReportKind → View → List ℕ → Option QueryContent

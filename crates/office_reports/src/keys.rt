@@ -4,7 +4,7 @@ ghost use Rattle.edi_messages.specs.Texts.{is_name};
 ghost use Rattle.edi_syntax.specs.Numbers.{number_of};
 ghost use Rattle.office_reports.specs.AccountKeys.{account_in, account_named, part_bytes, sender_in};
 ghost use Rattle.office_reports.specs.Escapes.{byte_of, decoded_part, with_first_byte};
-ghost use Rattle.office_reports.specs.Keys.{about_content, about_of, query_content, container_of, if_empty, interchange_of, list_named, list_of, partner_of, query_of, box_in, control_number_of, name_in, name_of, number_in, passed_of, side_in, side_of, one_part, key_parts, three_parts, two_parts};
+ghost use Rattle.office_reports.specs.Keys.{about_content, about_of, query_content, container_of, if_empty, interchange_of, list_named, list_of, partner_of, query_of, box_in, control_number_of, name_in, name_of, number_in, passed_of, side_in, side_of, letter_of, one_part, key_parts, three_parts, two_parts};
 
 use crate::query::{About, Query, ReportKind, View, has_view};
 use box6346::BoxNumber;
@@ -46,6 +46,7 @@ fn read_about(alloc: Global, kind: ReportKind, key: &str) -> Result<Option<About
         ReportKind::Picture => Ok(if_empty(key, About::Picture)),
         ReportKind::Health => Ok(if_empty(key, About::Health)),
         ReportKind::Metrics => Ok(if_empty(key, About::Metrics)),
+        ReportKind::Block => Ok(letter_of(key.as_bytes()).map(|letter| About::Block(letter))),
         ReportKind::Visits => Ok(read_container(alloc, key)?.map(|number| About::Visits(number))),
         ReportKind::Container => {
             Ok(read_container(alloc, key)?.map(|number| About::Container(number)))
@@ -72,6 +73,16 @@ fn read_about(alloc: Global, kind: ReportKind, key: &str) -> Result<Option<About
             Some(partner) => Ok(Some(About::Partner(partner))),
             None => Ok(None),
         },
+    }
+}
+
+/// The letter of a block.
+fn letter_of(key: &[u8]) -> Option<u8>
+    ensures { result ≡ letter_of key.now }
+{
+    match key {
+        [letter] if letter.is_ascii_uppercase() => Some(*letter),
+        _ => None,
     }
 }
 

@@ -38,7 +38,7 @@ pub use blocks::{
 };
 pub use calls::{CallsReport, ListCount, ListKey, calls_of, calls_report, calls_text};
 pub use container_lines::{container_report, container_text};
-pub use containers::{ContainerReport, Stay, container_of};
+pub use containers::{ContainerReport, Stay, container_of, open_lines_of};
 pub use drawing::picture;
 pub use fixed::field_text;
 pub use keys::{AccountKey, number_of, passed_of, read_account_key, read_query, read_sender_key};

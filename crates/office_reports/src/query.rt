@@ -1,7 +1,7 @@
 ghost use Rattle.std.specs.Option.{option_map};
 ghost use Rattle.std.specs.Prelude.{ℕ, List, Option, Result, string_bytes, ◌≡◌};
 ghost use Rattle.std.specs.Result.{result_map_both};
-ghost use Rattle.office_reports.specs.AskedViews.{has_csv, has_json, has_view};
+ghost use Rattle.office_reports.specs.AskedViews.{has_csv, has_json, has_page, has_text, has_view};
 ghost use Rattle.office_reports.specs.Looking.{Look, of_archive, report, texts_after};
 ghost use Rattle.office_reports.specs.Program.{program_version};
 ghost use Rattle.office_reports.specs.declared.query.NotNow.{NotNow};
@@ -30,6 +30,8 @@ pub enum View {
     Json,
     /// Comma-separated values, a record for each row.
     Csv,
+    /// A page of HTML; of the metrics the start page.
+    Page,
 }
 
 /// What a report is about: its kind, and the key.
@@ -92,6 +94,12 @@ pub enum About {
     Health,
     /// How much there is of what, as gauges.
     Metrics,
+    /// What a text finds that a person typed: a container by the end of its number or its booking, a partner, a call.
+    Find(String),
+    /// The open lines that name a container, which need not have come.
+    Expected(BoxNumber),
+    /// The containers in a block of the yard.
+    Block(u8),
 }
 
 /// What a report is about.
@@ -127,17 +135,38 @@ pub enum ReportKind {
     Health,
     /// How much there is of what, as gauges.
     Metrics,
+    /// The containers in a block of the yard, as a page only.
+    Block,
 }
 
 /// Whether reports of a kind are shown so: each as text; all but pictures, CONTRLs and what watches over the office as JSON;
-/// those that are lists as CSV.
+/// those that are lists as CSV; all but health as a page.
 pub fn has_view(kind: ReportKind, view: View) -> bool
     ensures { result ≡ has_view kind view }
 {
     match view {
-        View::Text => true,
+        View::Text => has_text(kind),
         View::Json => has_json(kind),
         View::Csv => has_csv(kind),
+        View::Page => has_page(kind),
+    }
+}
+
+fn has_text(kind: ReportKind) -> bool
+    ensures { result ≡ has_text kind }
+{
+    match kind {
+        ReportKind::Block => false,
+        _ => true,
+    }
+}
+
+fn has_page(kind: ReportKind) -> bool
+    ensures { result ≡ has_page kind }
+{
+    match kind {
+        ReportKind::Health => false,
+        _ => true,
     }
 }
 
@@ -145,8 +174,11 @@ fn has_json(kind: ReportKind) -> bool
     ensures { result ≡ has_json kind }
 {
     match kind {
-        ReportKind::Contrl | ReportKind::Picture | ReportKind::Health | ReportKind::Metrics =>
-            false,
+        ReportKind::Contrl
+        | ReportKind::Picture
+        | ReportKind::Health
+        | ReportKind::Metrics
+        | ReportKind::Block => false,
         _ => true,
     }
 }
