@@ -36,12 +36,14 @@ def path_of(address):
 
 
 def asked_at(path):
-    """What a page shows: the kind of report and its key; or `start`, `find`, `picture`, with none."""
+    """What a page shows: the kind of report and its key; or `start`, `find`, `block`, `picture`, with none."""
     address = path.partition('?')[0]
     if address == '/':
         return 'start', ''
     if address == PAGES + '/find':
         return 'find', ''
+    if address.startswith(PAGES + '/yard/'):
+        return 'block', ''
     found = route_at(address[len(PAGES):] if address.startswith(PAGES) else address)
     return (found[1], found[2]) if found else ('nothing', '')
 
@@ -187,8 +189,8 @@ class Walk:
         return self.chromium.moved(send)
 
     def typed(self):
-        """What persons type, and what else may stand in a field: the page is that of the container that is meant, or says what is
-        wrong."""
+        """What persons type, and what else may stand in a field: the page is that of the container that is meant, of what the text
+        finds, or says what is wrong."""
         for place, text in enumerate(typed_texts(self.served.office)):
             came = self.type_in(text, place % 2 == 0)
             if came is None:
@@ -199,9 +201,11 @@ class Walk:
             fault = number_fault(number)
             if fault is None:
                 self.expect((came.status, came.text) == self.served.owed('/pages/containers/' + number), text, 'is not', number)
+            elif fault == 'Form':
+                name = looks.collapsed('Find ' + text)
+                self.expect((came.status, looks.collapsed(shows.heading)) == (200, name), text, 'gives', came.status, shows.heading)
             else:
-                name = 'No container number' if fault == 'Form' else 'Another check digit'
-                self.expect((came.status, shows.heading) == (404, name), text, 'gives', came.status, shows.heading)
+                self.expect((came.status, shows.heading) == (404, 'Another check digit'), text, 'gives', came.status, shows.heading)
             if fault not in (None, 'Form'):
                 right = number[:10] + str(check_digit(number[:10]))
                 self.click(shows.links.index(('/pages/containers/' + right, right)), '/pages/containers/' + right)

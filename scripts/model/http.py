@@ -11,11 +11,11 @@ from .explained import NOBODY, printed
 from .keys import PARTS, decoded, read_key
 from .moments import are_digits
 from .office import json_text
-from .pages import KINDS as PAGED, drawn, typed
+from .pages import KINDS as PAGED, drawn, typed, typed_words
 from .reports import OF_NUMBERS, Lost, own_report, report
 from .setup import is_utf8
 from .syntax import BREAKS, FAULTS, LONGEST_TEXT, is_printable, number_of, sender_of
-from .value_pages import page, start, told
+from .value_pages import found as found_page, page, start, told, visits_of, yard
 
 LONGEST_HEAD = 8192
 MOST_FIELDS = 64
@@ -197,8 +197,11 @@ def paged(office, head):
         return 200, start(office)
     if address == PAGES + '/find':
         check_method(head, 'GET')
-        what, number = typed(typed_in(head))
-        return page_of(office, 'container', number) if what == 'number' else (404, told(what, number))
+        return found_by(office, typed_in(head))
+    block = re.fullmatch(PAGES + r'/yard/([^/]+)', address)
+    if block:
+        check_method(head, 'GET')
+        return (200, yard(office, block.group(1))) if re.fullmatch('[A-Z]', block.group(1)) else (404, told('not here'))
     method, kind, key = route_at(address[len(PAGES):]) or (None, None, None)
     if kind not in PAGED:
         return 404, told('not here')
@@ -206,13 +209,21 @@ def paged(office, head):
     return page_of(office, kind, key)
 
 
+def found_by(office, value):
+    """Status and page of what was typed: a container by its number, or what another text finds."""
+    what, number = typed(value)
+    if what == 'number':
+        return page_of(office, 'container', number)
+    words = typed_words(value) if what == 'form' else None
+    return (404, told(what, number)) if words is None else (200, found_page(office, words))
+
+
 def page_of(office, kind, key):
     """Status and page of a report, as tables, also of a container that never came; or that there is nothing."""
     values = read_key(kind, key) if PARTS[kind] else []
-    text = None if values is None else report(office, kind, key)
-    if text is None and (kind != 'container' or values is None):
+    if values is None or kind != 'container' and report(office, kind, key) is None or kind == 'visits' and not visits_of(office, *values):
         return 404, told('not here')
-    return 200, drawn(text) if kind == 'picture' else page(office, kind, values)
+    return 200, drawn(report(office, kind, key)) if kind == 'picture' else page(office, kind, values)
 
 
 # ---- archives

@@ -47,3 +47,13 @@ def typed(value):
     if fault == 'Form':
         return 'form', None
     return 'check digit', text[:10] + str(check_digit(text[:10]))
+
+
+def typed_words(value):
+    """The text that a person typed, from the same bytes, in which `+` writes a space. None, if it is empty or not UTF-8."""
+    decoded = unquote_to_bytes(value.replace('+', ' '))
+    try:
+        decoded.decode('utf-8')
+    except UnicodeDecodeError:
+        return None
+    return ''.join(map(chr, decoded)) or None

@@ -103,7 +103,7 @@ FINDING = '''\
 </nav>
 <form action='/pages/find'>
 <label for='container'>Container</label>
-<input id='container' name='container' placeholder='ABCU 000001 7' autocomplete='off' spellcheck='false' required>
+<input id='container' name='container' placeholder='ABCU 000001 7' autocomplete='off' spellcheck='false' required%s>
 <button>Find</button>
 </form>
 </div>
@@ -131,11 +131,12 @@ def address(*parts):
     return '/'.join(re.sub('[^A-Za-z0-9]', lambda c: '%%%02X' % ord(c.group()), part) for part in parts)
 
 
-def framed(here, title, body, asks_again=False):
-    """A page: its title, the links to the reports without a key, of which one may be the page itself, and what it shows."""
+def framed(here, title, body, asks_again=False, typed=''):
+    """A page: its title, the links to the reports without a key, of which one may be the page itself, the field, in which what was
+    typed stays, and what it shows."""
     tabs = ["<a href='%s'%s>%s</a>\n" % (where, " aria-current='page'" if where == here else '', name) for where, name in TABS]
     return (HEAD + STYLE + '</style>\n' + (ASKED_AGAIN if asks_again else '') + '<title>' + title
-            + '</title>\n</head>\n<body>\n<header>\n<div>\n<nav>\n' + ''.join(tabs) + FINDING + body + END)
+            + '</title>\n</head>\n<body>\n<header>\n<div>\n<nav>\n' + ''.join(tabs) + FINDING % (" value='%s'" % escaped(typed) if typed else '') + body + END)
 
 
 def count(number):
@@ -612,6 +613,30 @@ def start(office):
     body += '<section>\n<h2>Calls with open work <small>%s of %s lists</small></h2>\n' % (count(len(pending)), count(len(lists)))
     body += table(CALLS, [call_row(*row) for row in pending], 'No list has an open line.') + blocks_section(terminal)
     return framed('/', 'Office of ' + name, body, True)
+
+
+# ---- what a text finds
+
+def found_rows(office, words):
+    """The containers in the yard whose numbers end with it, if it is three digits or more, or whose booking it is."""
+    for visit in office.fold().terminal.visits:
+        is_end = re.fullmatch('[0-9]{3,}', words) and visit.number.endswith(words)
+        if visit.exit is None and (is_end or visit.booking == words):
+            yield "<tr><td>%s</td><td class='m'>%s</td><td>%s</td><td>%s</td></tr>\n" % (
+                box(visit.number), visit.size_type, load(visit), escaped(visit.booking or ''))
+
+
+def found(office, words):
+    """The page of what a text finds: containers, the partner of that code, and the lists of calls of that vessel or voyage."""
+    rows, lists = list(found_rows(office, words)), [row for row in lists_of(office) if words in row[0]]
+    body = '<h1><small>Find</small> %s</h1>\n' % escaped(words)
+    body += section('Containers in the yard', len(rows)) + table(
+        ['Container', 'Size-type', 'Load', 'Booking'], rows, 'None has a number that ends so, or that booking.')
+    if words in office.setup.partners:
+        body += "<section>\n<h2>Partner</h2>\n<p><a href='/pages/partners/%s'>%s</a></p>\n</section>\n" % (address(words), escaped(words))
+    body += section('Lists of calls', len(lists)) + table(
+        CALLS, [call_row(*row) for row in lists], 'None is of a vessel or a voyage of that name.')
+    return framed('', 'Find ' + escaped(words), body, typed=words)
 
 
 # ---- what is told in place of a report

@@ -11,7 +11,7 @@ use Rattle.office_command_line.specs.declared.command_reading.CommandFault.{Comm
 use Rattle.office_command_line.specs.declared.command_reading.CommandFault.TheVariants.{Words, Values, Memory}
 use Rattle.office_reports.specs.Keys.{passed_of}
 use Rattle.office_reports.specs.declared.query.ReportKind.{ReportKind}
-use Rattle.office_reports.specs.declared.query.ReportKind.TheVariants.{Yard, Visits, List as VesselList, Ticket, Reply, Container, Work, Partners, Partner, Blocks, Calls, Contrl, Picture, Health, Metrics}
+use Rattle.office_reports.specs.declared.query.ReportKind.TheVariants.{Yard, Visits, List as VesselList, Ticket, Reply, Container, Work, Partners, Partner, Blocks, Calls, Contrl, Picture, Health, Metrics, Block}
 use Rattle.office_reports.specs.declared.query.View.{View}
 use Rattle.office_reports.specs.declared.query.View.TheVariants.{Text as TextView, Json, Csv, Page as PageView}
 use Rattle.office_command_line.specs.declared.command_reading.Request.{Request}
