@@ -279,7 +279,9 @@ def try_faults(beside):
                 (['report', store, 'visits', '%'], no_store, 3), (['deliver', store, missing], unread, 3),
                 (['deliver', store, partners], no_store, 3), (['report', store, 'list'], usage, 2),
                 (['report', store, 'yard', 'A'], usage, 2), (['report', store, 'yardcsv', ''], usage, 2),
-                (['report', store, 'container'], usage, 2), (['report', store, 'blocks', ''], usage, 2)):
+                (['report', store, 'container'], usage, 2), (['report', store, 'blocks', ''], usage, 2),
+                (['report', store, 'yard', '--json', '--csv'], usage, 2), (['report', store, 'yardcsv', '--json'], usage, 2),
+                (['report', store, 'archives', '--csv'], usage, 2), (['report', store, '--json', 'container'], usage, 2)):
             beside.expect('faults', ' '.join(words), ('', told_of, ended), program.run(*words))
         beside.expect('init ready', 'faults', ('ready\n', '', 0), program.run('init', store, partners, blocks))
         beside.expect('faults', 'init again', ('', 'setup: Csv\n', 1), program.run('init', store, bad, blocks))

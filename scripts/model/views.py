@@ -17,7 +17,7 @@ from .moments import day_number
 from .names import Slot, slot_text
 from .office import json_text
 from .register import EMPTY
-from .reports import reply, yardcsv
+from .reports import as_text, printed, reply, report, yardcsv
 from .setup import DEMO
 from .terminal import ListLine, Passage, Terminal, Visit
 from .words import load_text, moment_text
@@ -139,13 +139,18 @@ def work(office, vessel, voyage, side):
         side=side, vessel=vessel, voyage=voyage)
 
 
-def calls(office):
+def own_calls(office):
     """A row for each list that has a line, by vessel, voyage and side, load before discharge."""
     lines, rows = own_lines(office), []
     for call, _is_second, side in sorted({(call, side == 'discharge', side) for call, side, _number in lines}):
         done = [line.is_done for (of_call, of_side, _number), line in lines.items() if (of_call, of_side) == (call, side)]
         rows.append(dict(done=done.count(True), open=done.count(False), side=side, vessel=call[0], voyage=call[1]))
-    told = dict(rows=rows)
+    return dict(rows=rows)
+
+
+def calls(office):
+    """The same, and how many archives there are, if lists were put away."""
+    told = own_calls(office)
     return with_archives(office, told) if office.register.lists else told
 
 
@@ -208,7 +213,7 @@ def ticket(office, partner_code, number):
 
 OBJECTS = {
     'yard': yard, 'container': container, 'visits': visits, 'list': vessel_list, 'work': work, 'calls': calls,
-    'partners': partners, 'partner': partner, 'blocks': blocks, 'ticket': ticket}
+    'own calls': own_calls, 'partners': partners, 'partner': partner, 'blocks': blocks, 'ticket': ticket}
 
 
 def json_of(office, kind, *values):
@@ -229,6 +234,7 @@ COLUMNS = {
         'visit size_type load'.split() + ['entry_' + name for name in PASSAGE] + 'slot booking gross'.split()
         + ['exit_' + name for name in PASSAGE] + ['days']),
     'calls': 'vessel voyage side open done'.split(),
+    'own calls': 'vessel voyage side open done'.split(),
     'partners': 'code kind next waiting_count waiting_first waiting_last'.split(),
     'blocks': 'block bays rows tiers cells used twenties forties under highest'.split(),
 }
@@ -264,6 +270,33 @@ def csv_of(office, kind, *values):
     for row in map(flat, told[ROWS.get(kind, 'rows')]):
         writer.writerow([field_text(row.get(name)) for name in COLUMNS[kind]])
     return text.getvalue()
+
+
+# ---- as what it is asked
+
+SHOWN = {'text': as_text, 'json': json_of, 'csv': csv_of}
+NO_JSON = ('picture', 'contrl', 'health', 'metrics', 'archives')
+
+
+def has_view(kind, view):
+    """Each report as text, those that are lists as CSV, and most as JSON: not pictures, CONTRLs and what watches over the
+    office."""
+    return view == 'text' or (view == 'json' and kind not in NO_JSON) or (view == 'csv' and kind in ['yard', *COLUMNS])
+
+
+def report_as(office, view, kind, key=''):
+    """The report of a kind under a key as it is asked for. None where it is not shown so."""
+    return report(office, kind, key, SHOWN[view]) if has_view(kind, view) else None
+
+
+def printed_as(office, view, kind, key=''):
+    """What the command `report` prints of it, and its status: JSON has its line's end there."""
+    if view == 'text':
+        return printed(office, kind, key)
+    text = report_as(office, view, kind, key)
+    if text is None:
+        return 'none\n', 1
+    return text + '\n' * (view == 'json'), 0
 
 
 # ---- examples that were worked out by hand

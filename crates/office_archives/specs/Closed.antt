@@ -3,6 +3,7 @@ use Rattle.std.specs.Prelude.{ℕ, List, Option, Some, codes}
 use Rattle.std.specs.Option.{option_map, option_and_then}
 use Rattle.office_replies.specs.Bodies.{answer_text}
 use Rattle.office_reports.specs.Contrls.{contrl_in}
+use Rattle.office_report_data.specs.Told.{ReportContent}
 use Rattle.office_parts.specs.Archives.{Archive, archive_of, reply_by}
 use Rattle.office_desk.specs.Reports.{ticket_of}
 
@@ -16,7 +17,7 @@ abbrev pub closed_contrl : List Archive → (partner number : ℕ) → Option (L
 closed_contrl archives partner number = option_and_then contrl_in (reply_by archives partner number)
 
 -- the ticket that the number's archive tells by its own rows
-abbrev pub closed_ticket : List Archive → (code : List ℕ) → (partner number : ℕ) → Option (List ℕ)
+abbrev pub closed_ticket : List Archive → (code : List ℕ) → (partner number : ℕ) → Option ReportContent
 closed_ticket archives code partner number =
     option_and_then
     (λ (archive : Archive). ticket_of archive.rows.visits archive.rows code number (Some partner))

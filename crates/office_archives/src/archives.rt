@@ -1,10 +1,11 @@
 ghost use Rattle.std.specs.Option.{option_and_then, option_map, unwrap_or};
-ghost use Rattle.std.specs.Prelude.{◌≡◌, ◌++◌, [], false, true, IfOk, List, length, map, string_bytes, None, Some, OnOk, ℕ};
+ghost use Rattle.std.specs.Prelude.{◌≡◌, ◌++◌, [], false, true, IfOk, List, length, map, string_bytes, None, Some, OnOk, Option, ℕ};
 ghost use Rattle.edi_messages.specs.Owned.{call_content};
 ghost use Rattle.office_archives.specs.Answering.{AnswersClosed};
 ghost use Rattle.office_archives.specs.Keeping.{IsClosedIn, IsKeptIn, IsReportIn, IsTicketIn};
 ghost use Rattle.office_archives.specs.Shelves.{archive_at};
-ghost use Rattle.office_archives.specs.Telling.{HasListAway, TellsClosed, archives_line, with_archives};
+ghost use Rattle.office_archives.specs.Telling.{AreAsked, HasListAway, TellsClosed, archives_line, shown_beside, with_archives};
+ghost use Rattle.office_report_data.specs.Told.{ReportContent, shown};
 ghost use Rattle.office_desk.specs.Answers.{answer_by_model};
 ghost use Rattle.office_desk.specs.Noting.{IsNow};
 ghost use Rattle.office_desk.specs.Reports.{partner_called};

@@ -3,7 +3,8 @@ use Rattle.std.specs.Prelude.{ℕ, List, [], ◌∷◌, codes, decimal}
 use Rattle.serde_json.specs.Data.{Data, null, string, number, unsigned, object, member, no_members}
 use Rattle.terminal_core.specs.State.{LineKey}
 use Rattle.office_reports.specs.declared.calls.ListCount.{ListCount}
-use Rattle.office_report_data.specs.Rows.{rows_object}
+use Rattle.office_report_data.specs.Archives.{ToldContent, told_data}
+use Rattle.office_report_data.specs.Rows.{rows_data}
 use Rattle.office_report_data.specs.Tables.{table_text}
 use Rattle.office_report_data.specs.Words.{side_word}
 
@@ -14,8 +15,11 @@ call_data ((vessel ∷ voyage ∷ side ∷ []), count) =
     (member (codes "voyage") (string voyage) no_members)))))
 call_data (other, count) = null
 
+abbrev pub calls_object : List (LineKey × ListCount) → ToldContent
+calls_object lists = record { key = codes "rows"; value = rows_data call_data lists; others = no_members }
+
 abbrev pub calls_data : List (LineKey × ListCount) → Data
-calls_data lists = rows_object call_data lists
+calls_data lists = told_data (calls_object lists)
 
 -- ---- as CSV
 

@@ -6,6 +6,7 @@ use Rattle.terminal_core.specs.State.{LineContent, LineKey}
 use Rattle.office_reports.specs.Containers.{ContainerContent, StayContent}
 use Rattle.office_reports.specs.Names.{slot_name}
 use Rattle.office_reports.specs.Passages.{PassageContent}
+use Rattle.office_report_data.specs.Archives.{ToldContent, told_data}
 use Rattle.office_report_data.specs.Rows.{rows_data}
 use Rattle.office_report_data.specs.Words.{container_or_null, load_word, number_or_null, or_null, side_word, text_or_null, way_word}
 
@@ -28,8 +29,15 @@ stay_data stay =
     (member (codes "lists") (rows_data line_data stay.lists)
     (member (codes "slot") (string (slot_name stay.slot)) (member (codes "under") (container_or_null stay.blocker) no_members)))))
 
+abbrev pub container_object : ContainerContent → ToldContent
+container_object report = record {
+  key = codes "container";
+  value = string report.container;
+  others =
+      member (codes "load") (string (load_word report.is_laden))
+      (member (codes "passage") (or_null passage_data report.passage) (member (codes "size_type") (string report.size_type)
+      (member (codes "stay") (or_null stay_data report.stay) (member (codes "visit") (number (unsigned report.visit)) no_members))));
+}
+
 abbrev pub container_data : ContainerContent → Data
-container_data report =
-    object (member (codes "container") (string report.container) (member (codes "load") (string (load_word report.is_laden))
-    (member (codes "passage") (or_null passage_data report.passage) (member (codes "size_type") (string report.size_type)
-    (member (codes "stay") (or_null stay_data report.stay) (member (codes "visit") (number (unsigned report.visit)) no_members))))))
+container_data report = told_data (container_object report)

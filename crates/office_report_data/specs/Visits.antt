@@ -11,6 +11,7 @@ use Rattle.office_admission.specs.Setups.{SetupContent}
 use Rattle.office_reports.specs.Names.{slot_name}
 use Rattle.office_reports.specs.Passages.{PassageContent, arrival_by, departure_by}
 use Rattle.office_reports.specs.Visits.{VisitsContent}
+use Rattle.office_report_data.specs.Archives.{ToldContent, told_data}
 use Rattle.office_report_data.specs.Containers.{passage_data}
 use Rattle.office_report_data.specs.Rows.{rows_data}
 use Rattle.office_report_data.specs.Tables.{table_text}
@@ -31,10 +32,15 @@ visit_data setup visit =
     (member (codes "size_type") (string visit.size_type) (member (codes "slot") (string (slot_name visit.arrival.slot))
     (member (codes "visit") (number (unsigned visit.number)) no_members)))))))))
 
+abbrev pub visits_object : VisitsContent → ToldContent
+visits_object report = record {
+  key = codes "container";
+  value = string report.container;
+  others = member (codes "rows") (rows_data (visit_data report.setup) report.visits) no_members;
+}
+
 abbrev pub visits_data : VisitsContent → Data
-visits_data report =
-    object (member (codes "container") (string report.container)
-    (member (codes "rows") (rows_data (visit_data report.setup) report.visits) no_members))
+visits_data report = told_data (visits_object report)
 
 -- what stands before the rows
 unfoldable pub visits_front : (container : List ℕ) → List ℕ
