@@ -33,7 +33,8 @@ PAGES = [
     '/pages/partners/HAULA/interchanges', '/pages/partners/HAULZ/gate', '/pages/find', '/pages/find/', '/pages/find/x',
     '/pages/x', '/pagesyard', '/pages/pages/yard', '/pages//yard', '/Pages/yard', '/pages/Yard', '/%70ages/yard',
     '/pages/f%69nd', '/pages/%79ard', '//pages/yard', '/pages/visits', '/pages/visits/', '/pages/containers/A/B',
-    '/page/yard', '/pages/work/9123456/V12', '/pages/contrls/HAULA', '/pages/calls/', '//']
+    '/page/yard', '/pages/work/9123456/V12', '/pages/contrls/HAULA', '/pages/calls/', '//', '/pages/yard/A', '/pages/yard/Z',
+    '/pages/yard/a', '/pages/yard/AB', '/pages/yard/', '/pages/yard/%41', '/yard/A', '/json/yard/A', '/csv/yard/A', '/archives/1/yard/A']
 # what stands in place of a report as JSON or CSV
 VIEWS = [
     '/json', '/csv', '/json/', '/csv/', '/jsonyard', '/csvyard', '/json/Yard', '/JSON/yard', '/json//yard', '/json/yard/',
