@@ -51,7 +51,7 @@ def typed(value):
 
 def typed_words(value):
     """The text that a person typed, from the same bytes, in which `+` writes a space. None, if it is empty or not UTF-8."""
-    decoded = unquote_to_bytes(value.replace('+', ' '))
+    decoded = unquote_to_bytes(value.replace('+', ' ').encode('latin-1'))
     try:
         decoded.decode('utf-8')
     except UnicodeDecodeError:

@@ -54,7 +54,8 @@ ODD_NUMBERS = [
     '', '+', '%20', '-', 'ABCU000001', 'ABCU00000177', 'ABC00000017', '0000017', 'ABCU0000018', 'abcu+000001-8', 'ABCU000001A',
     '%', '%4', '%zz', 'ABCU0000017%', '%25', '%00', '%0A', '%3Cb%3EABCU%3C/b%3E', "'><script>", '"onclick="x', '&amp;',
     'ABCU0000017%26', 'A' * 300, '%C3%A4bcu0000017', '\xc3\xa4', '%80%FF', '%E2%82%AC', 'ABCU0000017;', 'TEXU3070079',
-    'ABCU000001%37', '%41%42%43%55%30%30%30%30%30%31%37', '+-+-', 'ABCU9999990', 'ZZZZ0000000']
+    'ABCU000001%37', '%41%42%43%55%30%30%30%30%30%31%37', '+-+-', 'ABCU9999990', 'ZZZZ0000000', '017', '17', '22', 'BK7', 'bk7', 'HAULA',
+    'LINEA', '9123456', 'V12', '9123456+V12']
 # what stands in place of a number of texts
 ODD_TEXTS = [
     '/texts', '/texts/', '/texts/00', '/texts/01', '/texts/+1', '/texts/-1', '/texts/1x', '/texts/x', '/texts/0x1', '/texts/%30',
