@@ -4,3 +4,4 @@ pub mod Sides
 mod Splitting
 pub mod Sums
 mod Texts
+pub mod Values

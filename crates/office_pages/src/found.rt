@@ -1,7 +1,8 @@
 //! The page of what a text finds.
-ghost use Rattle.std.specs.List.{flat_map};
+ghost use Rattle.std.specs.Char.{is_ascii_digit};
+ghost use Rattle.std.specs.List.{ends_with, flat_map, list_all};
 ghost use Rattle.std.specs.Option.{option_map};
-ghost use Rattle.std.specs.Prelude.{◌≡◌, ◌++◌, ◌∷◌, [], codes, count_by, map, IfOk, OnOk, string_bytes};
+ghost use Rattle.std.specs.Prelude.{◌≡◌, ◌++◌, ◌∷◌, [], codes, count_by, map, nat_eq, IfOk, OnOk, string_bytes};
 ghost use Rattle.office_reports.specs.Calls.{lists_content};
 ghost use Rattle.office_pages.specs.Calls.{call_columns};
 ghost use Rattle.office_pages.specs.Found.{found_columns, found_line, found_list, found_lists, found_page, found_partner, found_row, found_section, found_top, is_booked, is_ending, is_found, is_found_call, is_found_list, partner_line};
@@ -185,9 +186,19 @@ fn is_found(typed: &str, visit: &Visit) -> bool
 fn is_ending(typed: &[u8], number: BoxNumber) -> bool
     ensures { result ≡ is_ending typed.now number }
 {
-    typed.len() >= 3
-        && typed.iter().all(|byte| byte.is_ascii_digit())
-        && number.text().ends_with(typed)
+    typed.len() >= 3 && are_digits(typed) && is_end_of(typed, number)
+}
+
+fn are_digits(typed: &[u8]) -> bool
+    ensures { result ≡ list_all is_ascii_digit typed.now }
+{
+    typed.iter().all(|byte| byte.is_ascii_digit())
+}
+
+fn is_end_of(typed: &[u8], number: BoxNumber) -> bool
+    ensures { result ≡ ends_with nat_eq number typed.now }
+{
+    number.text().ends_with(typed)
 }
 
 fn is_booked(typed: &str, booking: &str) -> bool

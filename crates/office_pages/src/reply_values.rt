@@ -17,6 +17,7 @@ pub(crate) fn items_in<'a>(value: &'a Value, name: &str) -> &'a [Value]
     }
 }
 
+#[tactic(auto, using(crate::proofs::Values::values_again))]
 fn items_of(member: &Value) -> &[Value]
     ensures { map view result.now ≡ items_by (as_array (view member.now)) }
 {
