@@ -193,7 +193,7 @@ fn start_of(
         (start_by (setup_content setup.now) terminal.now (map partner_content partners.now) blocks))) }
 {
     let report = StartReport {
-        visits: terminal.visits().len() as u32,
+        visits: terminal.visits().len(),
         limit: setup.visit_limit,
         partners: partners_of(alloc, partners)?,
         calls: calls_of(alloc, terminal)?,
