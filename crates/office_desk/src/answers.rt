@@ -25,8 +25,8 @@ ghost use Rattle.sqlite.specs.State.{HasCleanDisk};
 use crate::accounts::{tell_next, tell_partner, tell_partners};
 use crate::beside::{tell_health, tell_metrics};
 use crate::in_memory::{
-    tell_blocks, tell_calls, tell_container, tell_list, tell_picture, tell_visits, tell_work,
-    tell_yard,
+    tell_block, tell_blocks, tell_calls, tell_container, tell_expected, tell_found, tell_list,
+    tell_picture, tell_visits, tell_work, tell_yard,
 };
 use crate::taking::Delivery;
 use office_admission::Setup;

@@ -26,7 +26,7 @@ use std::collections::BTreeMap;
 #[derive(Drop)]
 pub struct StartReport<'a> {
     /// How many visits are recorded.
-    pub visits: u32,
+    pub visits: usize,
     /// How many may be.
     pub limit: u32,
     /// What is expected of the partners.
@@ -114,13 +114,13 @@ fn is_quiet(report: &StartReport<'_>) -> bool
 }
 
 /// Whether nine tenths of the visits that may be recorded are recorded.
-fn is_nearly_full(visits: u32, limit: u32) -> bool
+fn is_nearly_full(visits: usize, limit: u32) -> bool
     ensures { result ≡ is_nearly_full visits limit }
 {
-    u64::from(limit) * 9 <= u64::from(visits) * 10
+    u128::from(limit) * 9 <= visits as u128 * 10
 }
 
-fn push_quiet(alloc: Global, page: &mut String, visits: u32, limit: u32) -> Result<(), AllocError>
+fn push_quiet(alloc: Global, page: &mut String, visits: usize, limit: u32) -> Result<(), AllocError>
     ensures { OnOk result (string_bytes page.new ≡ string_bytes page.old ++ quiet_line visits limit) }
 {
     push_pieces(
@@ -128,7 +128,7 @@ fn push_quiet(alloc: Global, page: &mut String, visits: u32, limit: u32) -> Resu
         page,
         &[
             Markup("<p class='fine'>Nothing waits, and there is room for "),
-            Count(u128::from(limit.saturating_sub(visits))),
+            Count(u128::from(limit).saturating_sub(visits as u128)),
             Markup(" more visits.</p>\n</section>\n"),
         ],
     )
@@ -207,7 +207,7 @@ fn push_missing_line(
 fn push_nearly_full(
     alloc: Global,
     page: &mut String,
-    visits: u32,
+    visits: usize,
     limit: u32,
 ) -> Result<(), AllocError>
     ensures { OnOk result (string_bytes page.new ≡ string_bytes page.old ++ nearly_full visits limit) }
@@ -220,7 +220,7 @@ fn push_nearly_full(
         page,
         &[
             Markup("<li><b class='s bad'>nearly full</b><span>"),
-            Count(u128::from(visits)),
+            Count(visits as u128),
             Markup(" of "),
             Count(u128::from(limit)),
             Markup(" visits recorded: close soon, or nothing can enter</span></li>\n"),
@@ -232,7 +232,7 @@ fn push_nearly_full(
 fn push_sums(
     alloc: Global,
     page: &mut String,
-    visits: u32,
+    visits: usize,
     partners: usize,
     waiting: u128,
     used: BlockUse,
@@ -255,7 +255,7 @@ fn push_sums(
             Markup("</b> partners</li>\n<li><b>"),
             Count(waiting),
             Markup("</b> interchanges wait</li>\n<li><b>"),
-            Count(u128::from(visits)),
+            Count(visits as u128),
             Markup("</b> visits recorded</li>\n</ul>\n"),
         ],
     )
