@@ -55,6 +55,10 @@ IsText tells told = (found : Option (List ℕ)) × tells found × (told ≡ opti
 abbrev pub Shows : (tells : Option ReportContent → Type 0) → View → (found : Option (List ℕ)) → Type 0
 Shows tells view found = (told : Option ReportContent) × tells told × (found ≡ option_map (shown view) told)
 
+-- they are shown alike, as text, as JSON and as CSV
+abbrev pub AreShownAlike : (one other : Option ReportContent) → Type 0
+AreShownAlike one other = (view : View) → option_map (shown view) one ≡ option_map (shown view) other
+
 -- the number of the partner of that code
 abbrev pub partner_called : SetupContent → List ℕ → Option ℕ
 partner_called content code = partner_from 1 code (parties_in content).partners
@@ -155,14 +159,15 @@ TellsPicture content state found =
 -- ---- all reports
 
 -- what is told, if there is something, is what the rows tell of what is asked about, which are those of that set-up and of
--- that terminal
+-- that terminal; of a ticket it is shown alike, since a visit that is told there may go on by another interchange
 abbrev pub Tells : SetupContent → TerminalState → Rows → About → (told : Option ReportContent) → Type 0
 Tells content state rows about.Yard told = TellsYard state told
 Tells content state rows (about.Visits container) told = told ≡ option_map value.visits (visits_of content state container)
 Tells content state rows (about.List call side) told =
     IsOfLines state (call_content call) side (λ lines. option_map value.list (list_by (call_content call) side lines)) told
 Tells content state rows (about.Ticket partner number) told =
-    told ≡ ticket_of state.visits rows (string_bytes partner) number (partner_called content (string_bytes partner))
+    AreShownAlike told
+    (ticket_of state.visits rows (string_bytes partner) number (partner_called content (string_bytes partner)))
 Tells content state rows (about.Reply partner number) told =
     IsText (TellsReplyOf rows (string_bytes partner) number (partner_called content (string_bytes partner))) told
 Tells content state rows (about.Work call side) told =

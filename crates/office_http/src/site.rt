@@ -43,7 +43,7 @@ impl Model for Site {
 
     ghost Value = { Option (List ℕ) };
 
-    ghost showing = { λ site. option_map string_bytes site.name };
+    ghost view = { λ site. option_map string_bytes site.name };
 
     ghost invariant = { λ site. (site.router ≡ endpoints) × (site.partners.are_known ≡ false)
         × (string_bytes site.not_here ≡ notice_bytes NotHere) × (string_bytes site.no_number ≡ notice_bytes Form) };

@@ -6,6 +6,7 @@ use Rattle.office_tables.specs.Faults.{IsOfStoreOr}
 use Rattle.office_tables.proofs.WritesLemmas.{of_store_weaker}
 use Rattle.office_desk.specs.Causes.{AsksUnreadable, HasUnfitReplyOf, LacksReply, LacksSome}
 use Rattle.office_admission.specs.Setups.{setup_content}
+use Rattle.office_report_data.specs.Told.{shown}
 use Rattle.office_report_data.specs.Told as value
 use Rattle.office_desk.specs.Reports.{Shows, Tells, TellsMetrics, TellsNext, TellsPicture, TellsReplyOf, contrl_for_partner, partner_called, ticket_of}
 use Rattle.office_desk.proofs.Values.{shows_text, text_shown}
@@ -22,7 +23,7 @@ returns-in-Some-clause-told g c clean =
     if_ok c.tell_ticket.result (λ found told. λ rows has once.
     subst (λ q. Shows (Tells content a.terminal.now rows q) a.view (option_map string_bytes found)) (sym c.in-Ticket.is) (
       ticket_of a.terminal.now.visits rows own c.in-Ticket.number (Some c.in-Some.id),
-      sym (ap (ticket_of a.terminal.now.visits rows own c.in-Ticket.number) there),
+      (λ view. sym (ap (λ p. option_map (shown view) (ticket_of a.terminal.now.visits rows own c.in-Ticket.number p)) there)),
       rw c.deref-in-Some.ensures at (told rows has once),
     ))
     (c.tell_ticket.ensures.told clean)
@@ -34,7 +35,7 @@ returns-in-None-clause-told g c clean rows has once =
     let own = string_bytes c.in-Ticket.partner in
     let there : partner_called content own ≡ None = called a.setup.now c.deref-in-Ticket.result.now own None (sym c.in-None.is ∙ c.partner_called.ensures) c.deref-in-Ticket.ensures in
     subst (λ q. Shows (Tells content a.terminal.now rows q) a.view None) (sym c.in-Ticket.is)
-    (None, sym (ap (ticket_of a.terminal.now.visits rows own c.in-Ticket.number) there), refl)
+    (None, (λ view. sym (ap (λ p. option_map (shown view) (ticket_of a.terminal.now.visits rows own c.in-Ticket.number p)) there)), refl)
 
 pub returns-in-Some-partner_called-clause-told : goal.returns-in-Some-partner_called-clause-told
 returns-in-Some-partner_called-clause-told g c clean =
