@@ -32,15 +32,16 @@ use Rattle.office_reports.specs.declared.query.Query.{Query}
 use Rattle.office_report_data.specs.Told.{ReportContent, shown}
 use Rattle.office_report_data.specs.Told as value
 use Rattle.office_reports.specs.Listed.{AreListed}
-use Rattle.office_reports.specs.Lists.{list_found, HasLine as HasContent}
+use Rattle.office_reports.specs.Lists.{list_by, HasLine as HasContent}
 use Rattle.office_reports.specs.Yard.{StandsAt, slot_in}
 use Rattle.office_reports.specs.declared.yard.Standing.{Standing}
-use Rattle.office_reports.specs.Containers.{blocker_in, container_head, here_line, report_by}
+use Rattle.office_reports.specs.Containers.{blocker_in, by_visit, found_by, stay_by}
+use Rattle.office_reports.specs.Passages.{arrival_by}
 use Rattle.office_reports.specs.OpenLines.{is_open_for, open_line, open_lines_text}
 use Rattle.office_reports.specs.Partners.{PartnerContent}
-use Rattle.office_reports.specs.Work.{work_found}
+use Rattle.office_reports.specs.Work.{work_by}
 use Rattle.office_history.specs.After.{reply_in, AreKeptOnce, content_after, reply_if_any, SaysSame, machine_after}
-use Rattle.office_desk.specs.Reports.{AreLookedUp, IsLookedUp, TellsNext, TellsOf, TellsPartner, TellsReply, TellsReplyOf, contrl_for_partner, partner_called, ticket_of}
+use Rattle.office_desk.specs.Reports.{AreLookedUp, IsLookedUp, TellsAbout, TellsNext, TellsOf, TellsPartner, TellsReply, TellsReplyOf, contrl_for_partner, partner_called, ticket_of}
 use Rattle.office_parts.specs.Keeping.{AreDoneIfAway}
 use Rattle.office_parts.specs.OwnLists.{ListName, list_name, rows_without_lists, without_lists}
 use Rattle.office_parts.specs.Staying.{HasLine}
@@ -257,7 +258,7 @@ module _ (away : ListName → Bool) (now : SetupContent) (state : TerminalState)
   next_filled None found told = told
   next_filled (Some id) found told = told
 
-  neither_told : (asked : About) (what : Option ReportContent) → IsOfNeither asked → Tells now mine own asked what → Tells now state rows asked what
+  neither_told : (asked : About) (what : Option ReportContent) → IsOfNeither asked → TellsAbout now mine own asked what → TellsAbout now state rows asked what
   neither_told about.Yard what is told = (told.0, yard_listed told.0 told.1, told.2)
   neither_told about.Picture what is told =
       (told.0, (told.1.0, told.1.1, record { yard = told.1.2.yard; listed = yard_listed told.1.2.yard told.1.2.listed; is = told.1.2.is }), told.2)
@@ -290,7 +291,7 @@ module _ (away : ListName → Bool) (now : SetupContent) (state : TerminalState)
   ticket_same code n None = refl
   ticket_same code n (Some p) = refl
 
-  number_told : (asked : About) (what : Option ReportContent) (code : List ℕ) (n : ℕ) → IsOfNumber asked code n → Tells now mine own asked what → Tells now state rows asked what
+  number_told : (asked : About) (what : Option ReportContent) (code : List ℕ) (n : ℕ) → IsOfNumber asked code n → TellsAbout now mine own asked what → TellsAbout now state rows asked what
   number_told (about.Reply partner k) what code n is told = (told.0, reply_filled (string_bytes partner) k (partner_called now (string_bytes partner)) told.0 told.1, told.2)
   number_told (about.Contrl partner k) what code n is told = told ∙ ap (option_map value.text) (contrl_same k (partner_called now (string_bytes partner)))
   number_told (about.Ticket partner k) what code n is told = λ view. told view ∙ ap (option_map (shown view)) (ticket_same (string_bytes partner) k (partner_called now (string_bytes partner)))
@@ -301,7 +302,7 @@ module _ (away : ListName → Bool) (now : SetupContent) (state : TerminalState)
 
   -- ---- a container
 
-  pub filled_visits : (container : BoxNumber) (what : Option ReportContent) → Tells now mine own (about.Visits container) what → Tells now state rows (about.Visits container) what
+  pub filled_visits : (container : BoxNumber) (what : Option ReportContent) → TellsAbout now mine own (about.Visits container) what → TellsAbout now state rows (about.Visits container) what
   filled_visits container what told = told
 
   open_same : AreDoneIfAway away state.lines → (container : BoxNumber) → open_lines mine.lines container ≡ open_lines state.lines container
@@ -316,7 +317,7 @@ module _ (away : ListName → Bool) (now : SetupContent) (state : TerminalState)
   found_same container None slot same = refl
 
   -- no line is missing that is open
-  pub filled_container : (container : BoxNumber) (what : Option ReportContent) → AreDoneIfAway away state.lines → Tells now mine own (about.Container container) what → Tells now state rows (about.Container container) what
+  pub filled_container : (container : BoxNumber) (what : Option ReportContent) → AreDoneIfAway away state.lines → TellsAbout now mine own (about.Container container) what → TellsAbout now state rows (about.Container container) what
   filled_container container what done told = told ∙ ap (option_map value.container) (found_same container (open_visit state container) (slot_in state container) (open_same done container))
 
   -- ---- a list
@@ -329,7 +330,7 @@ module _ (away : ListName → Bool) (now : SetupContent) (state : TerminalState)
   work_same call side (entry ∷ list) = refl
 
   -- it is here
-  list_filled : (asked : About) (what : Option ReportContent) (call : CallContent) (side : Side) → IsOfList asked call side → away (list_name call side) ≡ false → Tells now mine own asked what → Tells now state rows asked what
+  list_filled : (asked : About) (what : Option ReportContent) (call : CallContent) (side : Side) → IsOfList asked call side → away (list_name call side) ≡ false → TellsAbout now mine own asked what → TellsAbout now state rows asked what
   list_filled (about.List named on) what call side is here told =
       let its : away (list_name (call_content named) on) ≡ false = (λ i. away (list_name (is.0 i) (is.1 i))) ∙ here in
       record { list = told.list; listed = listed_alike mine state (call_content named) on (line_there (call_content named) on its) told.list told.listed; is = told.is }
@@ -350,18 +351,18 @@ module _ (away : ListName → Bool) (now : SetupContent) (state : TerminalState)
   no_content call side (entry ∷ list) listed is container line has = cc
 
   -- nothing is told of it
-  pub no_list : (call : Call) (side : Side) (found : Option (List ℕ)) → found ≡ None → TellsOf now mine own (query.List call side) found
+  pub no_list : (call : Call) (side : Side) (what : Option ReportContent) → what ≡ None → TellsAbout now mine own (about.List call side) what
       → (container : BoxNumber) → line_of mine (call_content call) side container ≡ None
-  no_list call side found none told container =
+  no_list call side what none told container =
       no_content (call_content call) side told.list told.listed (sym none ∙ told.is) container (line_of mine (call_content call) side container) refl
 
-  some_content : (call : CallContent) (side : Side) (list : List Entry) (text : List ℕ) → AreListed (HasContent mine call side) list → Some text ≡ list_found call side list → HasLine mine call side
-  some_content call side [] text listed is = absurd cc
-  some_content call side (entry ∷ list) text listed is = record { container = entry.0; line = entry.1; has = listed.only entry.0 entry.1 (first_in entry list) }
+  some_content : (call : CallContent) (side : Side) (list : List Entry) (one : ReportContent) → AreListed (HasContent mine call side) list → Some one ≡ option_map value.list (list_by call side list) → HasLine mine call side
+  some_content call side [] one listed is = absurd cc
+  some_content call side (entry ∷ list) one listed is = record { container = entry.0; line = entry.1; has = listed.only entry.0 entry.1 (first_in entry list) }
 
   -- something is told of it
-  pub some_list : (call : Call) (side : Side) (found : Option (List ℕ)) (text : List ℕ) → found ≡ Some text → TellsOf now mine own (query.List call side) found → HasLine mine (call_content call) side
-  some_list call side found text some told = some_content (call_content call) side told.list text told.listed (sym some ∙ told.is)
+  pub some_list : (call : Call) (side : Side) (what : Option ReportContent) (one : ReportContent) → what ≡ Some one → TellsAbout now mine own (about.List call side) what → HasLine mine (call_content call) side
+  some_list call side what one some told = some_content (call_content call) side told.list one told.listed (sym some ∙ told.is)
 
 -- ==== Telling: What archives keep of a number, and what is answered by it.
 

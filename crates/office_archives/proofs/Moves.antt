@@ -32,8 +32,8 @@ use Rattle.office_parts.specs.Parts.{Archived, ArePartsAfter}
 use Rattle.office_parts.proofs.Takings.{visits_same}
 use Rattle.office_parts.proofs.Orders.{closed_within}
 use Rattle.office_parts.proofs.Splits.{contained_has, has_contained, had_filtered, Has, has_mapped, has_pushed}
-use Rattle.office_desk.specs.Reports.{AreLookedUp, IsLookedUp, partner_called, TellsOf, TellsPartner}
-use Rattle.office_archives.specs.Counted.{with_visits, IsOfPartners}
+use Rattle.office_desk.specs.Reports.{AreLookedUp, IsLookedUp, partner_called, TellsAbout, TellsPartner}
+use Rattle.office_archives.specs.Counted.{with_visits, IsOfPartners, TellsOwnMetrics}
 use Rattle.office_archives.specs.Laws.{PartnersAreToldAlike, MetricsAreTold}
 use Rattle.office_history.proofs.Kept.{count_more}
 use Rattle.std.specs.Str.{bytes_eq}
@@ -162,7 +162,7 @@ partners_told content es archived own whole asked what are is told = at asked is
     one None told = told
     one (Some id) told = (told.0, told.1, (told.2.0, looked_up content es archived own whole are id told.0 told.2.0 told.2.1, told.2.2))
 
-    at : (asked : About) → IsOfPartners asked → Tells now (own_terminal archived.stays (machine_after content es).terminal) own asked what → Tells now (machine_after content es).terminal whole asked what
+    at : (asked : About) → IsOfPartners asked → TellsAbout now (own_terminal archived.stays (machine_after content es).terminal) own asked what → TellsAbout now (machine_after content es).terminal whole asked what
     at about.Partners is told = (told.0, all_looked_up content es archived own whole are 1 now.partners told.0 told.1, told.2)
     at (about.Partner code) is told = one (partner_called now (string_bytes code)) told
     at about.Health is told = told

@@ -1,6 +1,6 @@
 -- Lists that are put into a register: of each list the lines are those that were put there last.
 use Rattle.std.proofs.Common.{◌≡◌, ℕ, ◌≤◌, List, true, Option, None, Some, is_some, option_map, string_bytes, String, refl, sym, ap, subst, ◌∙◌, [], ◌∷◌, ◌++◌, Bool, map, false, cond, arith, Ordering, Less, Equal, Greater, is_gt}
-use Rattle.std.specs.Prelude.{IsTrue, filter, ◌&&◌, ◌==◌, fold, nat_le, nat_lt}
+use Rattle.std.specs.Prelude.{IsTrue, count_by, filter, option_map, ◌&&◌, ◌==◌, fold, nat_le, nat_lt}
 use Rattle.std.specs.Option.{option_and_then, option_or}
 use Rattle.std.specs.declared.alloc.Global.{Global}
 use Rattle.sqlite.specs.Held.{Held, state}
@@ -30,8 +30,9 @@ use Rattle.office_reports.specs.Listed.{AreListed}
 use Rattle.office_reports.specs.Yard.{StandsAt, slot_in}
 use Rattle.office_reports.specs.declared.yard.Standing.{Standing}
 use Rattle.office_reports.specs.Containers.{blocker_in}
-use Rattle.office_reports.specs.Work.{is_open_entry, jobs_of, jobs_text, standing_by, work_found, work_head}
-use Rattle.office_desk.specs.Reports.{TellsOf, TellsNext, partner_called}
+use Rattle.office_reports.specs.Work.{is_open_entry, jobs_of, standing_by, work_by}
+use Rattle.office_reports.specs.Lists.{is_done_line}
+use Rattle.office_desk.specs.Reports.{TellsAbout, TellsNext, partner_called}
 use Rattle.office_parts.specs.OwnTerminal.{own_terminal, MayStay}
 use Rattle.office_parts.proofs.Takings.{visits_same}
 use Rattle.office_parts.proofs.Splits.{open_kept}
@@ -124,7 +125,7 @@ told_alike content es archived own whole asked what parts is told =
     at archived.stays state may own whole (content_after content es) asked what parts.parts.partners is told
   where
     at : (stays : ℕ → Bool) (state : TerminalState) (may : MayStay stays state.visits) (own whole : Rows) (now : SetupContent) (asked : About) (what : Option ReportContent) → whole.partners ≡ own.partners → IsOfWhatStands asked →
-        Tells now (own_terminal stays state) own asked what → Tells now state whole asked what
+        TellsAbout now (own_terminal stays state) own asked what → TellsAbout now state whole asked what
     at stays state may own whole now about.Yard what same is told = (told.0, listed_whole stays state may told.0 told.1, told.2)
     at stays state may own whole now about.Picture what same is told = (
       told.0,

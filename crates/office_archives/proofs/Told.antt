@@ -32,7 +32,7 @@ use Rattle.office_parts.specs.OwnTerminal.{own_terminal}
 use Rattle.office_parts.specs.Parts.{Archived, ArePartsAfter}
 use Rattle.office_parts.proofs.LeftOver.{told_alike as beyond_alike}
 use Rattle.office_parts.proofs.Orders.{body_there, closed_within, found_beyond, reply_there}
-use Rattle.office_desk.specs.Reports.{AreLookedUp, IsLookedUp, Shows, Tells, TellsAfter, TellsNext, TellsOf, TellsPartner, TellsReply, TellsReplyOf, contrl_for_partner, partner_called, ticket_if_taken, ticket_of}
+use Rattle.office_desk.specs.Reports.{AreLookedUp, IsLookedUp, Shows, TellsAbout, TellsAfter, TellsNext, TellsOf, TellsPartner, TellsReply, TellsReplyOf, contrl_for_partner, partner_called, ticket_if_taken, ticket_of}
 use Rattle.office_archives.specs.Beyond.{IsBeyond}
 use Rattle.office_desk.proofs.Values.{text_shown}
 use Rattle.office_archives.specs.Counted.{IsOfPartners, TellsOwnMetrics}
@@ -145,17 +145,17 @@ module _ (content : SetupContent) (es : List Event) (archives : List Archive) (a
 
   -- ---- what the store's rows tell as the whole
 
-  by_whole : (asked : About) (what : Option ReportContent) → Tells now state whole asked what → TellsAfter content es asked what
+  by_whole : (asked : About) (what : Option ReportContent) → TellsAbout now state whole asked what → TellsAfter content es asked what
   by_whole asked what tells = record { rows = whole; after = are.after; tells = tells }
 
-  standing : (asked : About) (view : View) (what : Option ReportContent) → IsOfWhatStands asked → Tells now mine own asked what → Shows (TellsAfter content es asked) view (option_map (shown view) what)
+  standing : (asked : About) (view : View) (what : Option ReportContent) → IsOfWhatStands asked → TellsAbout now mine own asked what → Shows (TellsAfter content es asked) view (option_map (shown view) what)
   standing asked view what is told = (what, by_whole asked what (told_alike content es archived own whole asked what are is told), refl)
 
-  counted : (asked : About) (view : View) (what : Option ReportContent) → IsOfPartners asked → Tells now mine own asked what → Shows (TellsAfter content es asked) view (option_map (shown view) what)
+  counted : (asked : About) (view : View) (what : Option ReportContent) → IsOfPartners asked → TellsAbout now mine own asked what → Shows (TellsAfter content es asked) view (option_map (shown view) what)
   counted asked view what is told = (what, by_whole asked what (partners_told content es archived own whole asked what are is told), refl)
 
   -- it is asked neither of a container, of lists, nor of a number
-  others_shown : (asked : About) (view : View) (what : Option ReportContent) → IsOfNeither asked → Tells now mine rows asked what → TogetherTells content es archives archived whole asked view (option_map (shown view) what)
+  others_shown : (asked : About) (view : View) (what : Option ReportContent) → IsOfNeither asked → TellsAbout now mine rows asked what → TogetherTells content es archives archived whole asked view (option_map (shown view) what)
   others_shown about.Yard view what is told = standing about.Yard view what tt told
   others_shown about.Picture view what is told = standing about.Picture view what tt told
   others_shown about.Blocks view what is told = standing about.Blocks view what tt told
@@ -176,7 +176,7 @@ module _ (content : SetupContent) (es : List Event) (archives : List Archive) (a
 
   -- ---- lists
 
-  list_shown : (asked : About) (view : View) (what : Option ReportContent) (call : CallContent) (side : Side) → IsOfList asked call side → Tells now mine rows asked what → TogetherTells content es archives archived whole asked view (option_map (shown view) what)
+  list_shown : (asked : About) (view : View) (what : Option ReportContent) (call : CallContent) (side : Side) → IsOfList asked call side → TellsAbout now mine rows asked what → TogetherTells content es archives archived whole asked view (option_map (shown view) what)
   list_shown (about.List asked on) view what call side is told = standing (about.List asked on) view what tt told
   list_shown (about.Work asked on) view what call side is told = standing (about.Work asked on) view what tt told
   list_shown other view what call side is told = absurd is
@@ -187,7 +187,7 @@ module _ (content : SetupContent) (es : List Event) (archives : List Archive) (a
 
   -- ---- containers
 
-  pub container_told : (asked : About) (view : View) (what : Option ReportContent) → Hold archives archived → IsOfContainer asked → Tells now mine rows asked what
+  pub container_told : (asked : About) (view : View) (what : Option ReportContent) → Hold archives archived → IsOfContainer asked → TellsAbout now mine rows asked what
       → TogetherTells content es archives archived whole asked view (shown_beside (length archives) view what)
   container_told (about.Visits container) view what hold is told = (what, visits_told content es archives archived own whole container what are hold told, refl)
   container_told (about.Container container) view what hold is told =
@@ -220,7 +220,7 @@ module _ (content : SetupContent) (es : List Event) (archives : List Archive) (a
     called_by other same = ap (partner_called now) same ∙ called
 
     -- the number is not closed
-    number_shown : (asked : About) (view : View) (what : Option ReportContent) → IsOfNumber asked code n → closed p < n → Tells now mine rows asked what
+    number_shown : (asked : About) (view : View) (what : Option ReportContent) → IsOfNumber asked code n → closed p < n → TellsAbout now mine rows asked what
         → TogetherTells content es archives archived whole asked view (option_map (shown view) what)
     number_shown (about.Reply partner k) view what is far told = λ low.
         let here = called_by (string_bytes partner) is.0 in
