@@ -40,10 +40,10 @@ pub data ReportContent : Type 0 where
   ticket : TicketContent → ReportContent
   text : List ℕ → ReportContent
 
-abbrev pub in_view : View → (text json csv : List ℕ) → List ℕ
-in_view Text text json csv = text
-in_view Json text json csv = json
-in_view Csv text json csv = csv
+abbrev pub in_view : View → (plain json table : List ℕ) → List ℕ
+in_view Text plain json table = plain
+in_view Json plain json table = json
+in_view Csv plain json table = table
 
 -- its text, the compact text of its JSON, or its table; what has no table is shown as text instead
 unfoldable pub shown : View → ReportContent → List ℕ
