@@ -14,8 +14,8 @@ use Rattle.office_rows.specs.Effects.{is_pair}
 use Rattle.office_admission.specs.Setups.{SetupContent}
 use Rattle.office_tables.specs.Answers.{has_id, IsNextOf}
 use Rattle.office_reports.specs.Contrls.{contrl_in}
-use Rattle.office_reports.specs.Names.{line}
-use Rattle.office_reports.specs.Tickets.{ticket_lines}
+use Rattle.office_report_data.specs.Told.{ReportContent, shown}
+use Rattle.office_report_data.specs.Told as value
 use Rattle.office_history.specs.After.{accounts_from, content_after, machine_after, reply_in, AreAfter}
 use Rattle.office_history.specs.Cascade.{text_in}
 use Rattle.office_history.proofs.Kept.{head_in}
@@ -26,12 +26,13 @@ use Rattle.office_parts.specs.Parts.{Archived, ArePartsAfter}
 use Rattle.office_parts.proofs.Takings.{visits_same}
 use Rattle.office_parts.proofs.Orders.{body_there, found_within, reply_there, there_if_replied}
 use Rattle.office_parts.proofs.Splits.{some_is}
-use Rattle.office_desk.specs.Reports.{reply_text, ticket_if_taken, ticket_of, contrl_for_partner, TellsReply, TellsReplyOf}
+use Rattle.office_desk.specs.Reports.{AreShownAlike, reply_text, ticket_if_taken, ticket_of, contrl_for_partner, TellsReply, TellsReplyOf}
 use Rattle.office_archives.specs.Closed.{closed_reply, closed_contrl, closed_ticket}
 use Rattle.office_archives.specs.Copies.{AreCopies}
 use Rattle.office_archives.specs.Laws.{ArchivesTellReplies, ArchivesTellTickets}
 use Rattle.office_archives.proofs.StayedTold.{archives_tell_visits}
-use Rattle.office_archives.proofs.Sources.{same_lines}
+use Rattle.office_archives.specs.Visits.{visits_by}
+use Rattle.office_archives.proofs.Sources.{tickets_alike}
 
 -- ---- the number that is next
 
@@ -98,8 +99,12 @@ module _ (content : SetupContent) (es : List Event) (archives : List Archive) (a
 
 pub closed_replies : ArchivesTellReplies
 closed_replies content es archives archived own whole code p n are hold called low high = record {
-  reply = subst (λ o. TellsReplyOf whole (string_bytes code) n o (closed_reply archives (string_bytes code) p n)) (sym called) (told_reply content es archives archived own whole p n are hold low high (string_bytes code));
-  contrl = sym (ap (contrl_for_partner whole n) called ∙ told_contrl content es archives archived own whole p n are hold low high);
+  reply = (
+    closed_reply archives (string_bytes code) p n,
+    subst (λ o. TellsReplyOf whole (string_bytes code) n o (closed_reply archives (string_bytes code) p n)) (sym called) (told_reply content es archives archived own whole p n are hold low high (string_bytes code)),
+    refl,
+  );
+  contrl = ap (option_map value.text) (sym (ap (contrl_for_partner whole n) called ∙ told_contrl content es archives archived own whole p n are hold low high));
 }
 
 -- ---- its ticket
@@ -112,30 +117,27 @@ module _ (content : SetupContent) (es : List Event) (archives : List Archive) (a
   abbrev state_visits : List VisitContent
   state_visits = (machine_after content es).terminal.visits
 
-  lines_same : (archive : Archive) → archive_of archives p n ≡ Some archive → ticket_lines mine archive.rows.visits ≡ ticket_lines mine state_visits
-  lines_same archive found =
-      same_lines mine archive.rows.visits
-      ∙ ap (ticket_lines mine) (archives_tell_visits content es archives archive whole p n are.after copies low found)
-      ∙ sym (same_lines mine whole.visits)
-      ∙ ap (ticket_lines mine) (visits_same content es whole are.after)
+  visits_known : (archive : Archive) → archive_of archives p n ≡ Some archive → visits_by mine archive.rows.visits ≡ visits_by mine state_visits
+  visits_known archive found =
+      archives_tell_visits content es archives archive whole p n are.after copies low found ∙ ap (visits_by mine) (visits_same content es whole are.after)
 
   by_archive : (o : Option Archive) → archive_of archives p n ≡ o
-      → option_and_then (λ (archive : Archive). ticket_of archive.rows.visits archive.rows code n (Some p)) o ≡ ticket_of state_visits whole code n (Some p)
-  by_archive None found =
+      → AreShownAlike (option_and_then (λ (archive : Archive). ticket_of archive.rows.visits archive.rows code n (Some p)) o) (ticket_of state_visits whole code n (Some p))
+  by_archive None found view =
       let none : reply_in whole p n ≡ None = sym (reply_whole content es archives archived own whole p n are hold low high) ∙ ap (option_and_then (λ (archive : Archive). reply_in archive.rows p n)) found in
-      sym (ap (ticket_if_taken state_visits code p n) none)
-  by_archive (Some archive) found =
+      sym (ap (λ reply. option_map (shown view) (ticket_if_taken state_visits code p n reply)) none)
+  by_archive (Some archive) found view =
       let same : reply_in archive.rows p n ≡ reply_in whole p n = sym (ap (option_and_then (λ (archive : Archive). reply_in archive.rows p n)) found) ∙ reply_whole content es archives archived own whole p n are hold low high in
-      ap (ticket_if_taken archive.rows.visits code p n) same ∙ by_reply (reply_in whole p n)
+      ap (λ reply. option_map (shown view) (ticket_if_taken archive.rows.visits code p n reply)) same ∙ by_reply (reply_in whole p n)
     where
-      by_reply : (reply : Option (List ℕ)) → ticket_if_taken archive.rows.visits code p n reply ≡ ticket_if_taken state_visits code p n reply
+      by_reply : (reply : Option (List ℕ)) → option_map (shown view) (ticket_if_taken archive.rows.visits code p n reply) ≡ option_map (shown view) (ticket_if_taken state_visits code p n reply)
       by_reply None = refl
-      by_reply (Some reply) = ap (λ lines. Some (line (codes "TICKET" ∷ code ∷ decimal n ∷ []) ++ lines)) (lines_same archive found)
+      by_reply (Some reply) = ap Some (tickets_alike mine code archive.rows.visits state_visits (visits_known archive found) view)
 
-  pub told_ticket : closed_ticket archives code p n ≡ ticket_of state_visits whole code n (Some p)
+  pub told_ticket : AreShownAlike (closed_ticket archives code p n) (ticket_of state_visits whole code n (Some p))
   told_ticket = by_archive (archive_of archives p n) refl
 
 pub closed_tickets : ArchivesTellTickets
-closed_tickets content es archives archived own whole code p n are hold copies called low high =
-    told_ticket content es archives archived own whole (string_bytes code) p n are hold copies low high
-    ∙ sym (ap (ticket_of (machine_after content es).terminal.visits whole (string_bytes code) n) called)
+closed_tickets content es archives archived own whole code p n are hold copies called low high view =
+    told_ticket content es archives archived own whole (string_bytes code) p n are hold copies low high view
+    ∙ sym (ap (λ o. option_map (shown view) (ticket_of (machine_after content es).terminal.visits whole (string_bytes code) n o)) called)

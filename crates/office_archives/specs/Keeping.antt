@@ -15,7 +15,7 @@ use Rattle.office_reports.specs.declared.query.View.{View}
 use Rattle.office_reports.specs.Tickets.{ticket_of}
 use Rattle.office_report_data.specs.Told.{ReportContent, shown}
 use Rattle.office_report_data.specs.Told as value
-use Rattle.office_desk.specs.Reports.{Shows, Tells}
+use Rattle.office_desk.specs.Reports.{Shows, TellsAbout}
 use Rattle.office_tables.specs.declared.interchanges.Kept.{Kept}
 use Rattle.office_parts.specs.Archives.{Archive, archive_of, text_by, reply_by}
 use Rattle.office_archives.specs.Shelves.{archive_at}
@@ -58,7 +58,7 @@ pub record IsValueOf (rows : Rows) (asked : About) (told : Option ReportContent)
   pub content : SetupContent
   pub terminal : TerminalState
   pub loads : LoadsOwn closed db content terminal
-  pub tells : Tells content terminal rows asked told
+  pub tells : TellsAbout content terminal rows asked told
 
 -- what it reports at a query
 abbrev pub IsReportOf : Rows → Query → Option (List ℕ) → Type 0

@@ -22,7 +22,7 @@ use Rattle.office_parts.specs.OwnTerminal.{own_terminal}
 use Rattle.office_parts.specs.Parts.{Archived, nothing_archived, ArePartsAfter}
 use Rattle.office_report_data.specs.Told.{ReportContent}
 use Rattle.office_report_data.specs.Told as value
-use Rattle.office_desk.specs.Reports.{IsText, Tells, partner_called}
+use Rattle.office_desk.specs.Reports.{IsText, TellsAbout, partner_called}
 use Rattle.office_parts.specs.OwnLists.{ListName, rows_without_lists, without_lists}
 use Rattle.office_archives.specs.Asked.{IsOfNumberBetween, KeepsNumber}
 use Rattle.office_archives.specs.Beyond.{IsOfNumberBeyond}
@@ -69,9 +69,9 @@ ArchivesTellVisits =
 -- what archives tell as the reply and the CONTRL of the partner's number is what the rows after the events tell
 pub record RepliesAreTold (content : SetupContent) (es : List Event) (archives : List Archive) (whole : Rows)
     (code : String Global) (partner number : ℕ) : Type 0 where
-  pub reply : Tells (content_after content es) (machine_after content es).terminal whole (about.Reply code number)
+  pub reply : TellsAbout (content_after content es) (machine_after content es).terminal whole (about.Reply code number)
       (option_map value.text (closed_reply archives (string_bytes code) partner number))
-  pub contrl : Tells (content_after content es) (machine_after content es).terminal whole (about.Contrl code number)
+  pub contrl : TellsAbout (content_after content es) (machine_after content es).terminal whole (about.Contrl code number)
       (option_map value.text (closed_contrl archives partner number))
 
 abbrev pub ArchivesTellReplies : Type 0
@@ -89,7 +89,7 @@ ArchivesTellTickets =
     AreCopies content es (λ partner. 0) archives →
     partner_called (content_after content es) (string_bytes code) ≡ Some partner → 1 ≤ number →
     number ≤ archived.last_closed partner
-    → Tells (content_after content es) (machine_after content es).terminal whole (about.Ticket code number)
+    → TellsAbout (content_after content es) (machine_after content es).terminal whole (about.Ticket code number)
     (closed_ticket archives (string_bytes code) partner number)
 
 -- An archive that is a copy may be asked as the store that it was, for each number that it closed: what it reports is what
@@ -99,10 +99,10 @@ ArchivesAreAskedAsStores =
     (content : SetupContent) (es : List Event) (closed_before : ℕ → ℕ) (archive : Archive) (whole : Rows) (asked : About)
     (told : Option ReportContent) → AreAfter content es whole → (copy : IsCopy content es closed_before archive) →
     IsOfNumberBetween (content_after content es) closed_before archive.last_closed asked →
-    Tells (content_after content copy.earlier)
+    TellsAbout (content_after content copy.earlier)
     (without_lists copy.away (own_terminal copy.archived.stays (machine_after content copy.earlier).terminal))
     archive.rows asked told
-    → Tells (content_after content es) (machine_after content es).terminal whole asked told
+    → TellsAbout (content_after content es) (machine_after content es).terminal whole asked told
 
 -- ---- all other numbers
 
@@ -112,8 +112,8 @@ NumbersBeyondAreToldAlike =
     (content : SetupContent) (es : List Event) (archived : Archived) (own whole : Rows) (asked : About)
     (told : Option ReportContent) → ArePartsAfter content es archived own whole → GoByNumbers archived →
     IsOfNumberBeyond (content_after content es) archived.last_closed asked →
-    Tells (content_after content es) (own_terminal archived.stays (machine_after content es).terminal) own asked told
-    → Tells (content_after content es) (machine_after content es).terminal whole asked told
+    TellsAbout (content_after content es) (own_terminal archived.stays (machine_after content es).terminal) own asked told
+    → TellsAbout (content_after content es) (machine_after content es).terminal whole asked told
 
 -- ---- containers
 
@@ -123,7 +123,7 @@ VisitsAreTold =
     (content : SetupContent) (es : List Event) (archives : List Archive) (archived : Archived) (own whole : Rows)
     (container : BoxNumber) (told : Option ReportContent) → ArePartsAfter content es archived own whole →
     Hold archives archived →
-    Tells (content_after content es) (own_terminal archived.stays (machine_after content es).terminal) own
+    TellsAbout (content_after content es) (own_terminal archived.stays (machine_after content es).terminal) own
     (about.Visits container) told
     → TellsWhatStays (content_after content es) archives archived.stays (machine_after content es).terminal container told
 
@@ -134,7 +134,7 @@ ContainersAreTold =
     (content : SetupContent) (es : List Event) (archived : Archived) (own whole : Rows) (container : BoxNumber)
     (told : Option ReportContent) → ArePartsAfter content es archived own whole →
     GoOldestFirst archived.stays whole.visits →
-    Tells (content_after content es) (own_terminal archived.stays (machine_after content es).terminal) own
+    TellsAbout (content_after content es) (own_terminal archived.stays (machine_after content es).terminal) own
     (about.Container container) told
     → told
     ≡ container_if_there (content_after content es) archived.stays (machine_after content es).terminal container
@@ -146,15 +146,15 @@ abbrev pub PartnersAreToldAlike : Type 0
 PartnersAreToldAlike =
     (content : SetupContent) (es : List Event) (archived : Archived) (own whole : Rows) (asked : About)
     (told : Option ReportContent) → ArePartsAfter content es archived own whole → IsOfPartners asked →
-    Tells (content_after content es) (own_terminal archived.stays (machine_after content es).terminal) own asked told
-    → Tells (content_after content es) (machine_after content es).terminal whole asked told
+    TellsAbout (content_after content es) (own_terminal archived.stays (machine_after content es).terminal) own asked told
+    → TellsAbout (content_after content es) (machine_after content es).terminal whole asked told
 
 -- so are the metrics, but for the number of visits
 abbrev pub MetricsAreTold : Type 0
 MetricsAreTold =
     (content : SetupContent) (es : List Event) (archived : Archived) (own whole : Rows) (told : Option ReportContent) →
     ArePartsAfter content es archived own whole →
-    Tells (content_after content es) (own_terminal archived.stays (machine_after content es).terminal) own
+    TellsAbout (content_after content es) (own_terminal archived.stays (machine_after content es).terminal) own
     about.Metrics told
     → IsText (TellsOwnMetrics (content_after content es) archived.stays (machine_after content es).terminal whole) told
 

@@ -7,7 +7,7 @@ use Rattle.office_reports.specs.declared.query.About.{About}
 use Rattle.office_reports.specs.declared.query.About.TheVariants as about
 use Rattle.office_history.specs.After.{content_after, machine_after}
 use Rattle.office_report_data.specs.Told.{ReportContent}
-use Rattle.office_desk.specs.Reports.{Tells}
+use Rattle.office_desk.specs.Reports.{TellsAbout}
 use Rattle.office_parts.specs.OwnTerminal.{own_terminal}
 use Rattle.office_parts.specs.Parts.{Archived, ArePartsAfter}
 
@@ -28,5 +28,5 @@ abbrev pub WhatStandsIsToldAlike : Type 0
 WhatStandsIsToldAlike =
     (content : SetupContent) (es : List Event) (archived : Archived) (own whole : Rows) (asked : About)
     (told : Option ReportContent) → ArePartsAfter content es archived own whole → IsOfWhatStands asked →
-    Tells (content_after content es) (own_terminal archived.stays (machine_after content es).terminal) own asked told
-    → Tells (content_after content es) (machine_after content es).terminal whole asked told
+    TellsAbout (content_after content es) (own_terminal archived.stays (machine_after content es).terminal) own asked told
+    → TellsAbout (content_after content es) (machine_after content es).terminal whole asked told

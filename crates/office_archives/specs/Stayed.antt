@@ -4,7 +4,7 @@ use Rattle.box6346.specs.declared.box_number.BoxNumber.{BoxNumber}
 use Rattle.terminal_core.specs.Rows.{VisitContent}
 use Rattle.terminal_core.specs.State.{TerminalState, is_visit_of, last_number, last_visit, open_visit}
 use Rattle.office_admission.specs.Setups.{SetupContent}
-use Rattle.office_reports.specs.Visits.{visits_by, visits_of as told_visits}
+use Rattle.office_reports.specs.Visits.{visits_by}
 use Rattle.office_reports.specs.Yard.{slot_in}
 use Rattle.office_reports.specs.Containers.{container_of}
 use Rattle.office_report_data.specs.Told.{ReportContent}
@@ -21,12 +21,10 @@ visits_of container visits = filter (is_visit_of container) visits
 abbrev pub report_with : SetupContent → BoxNumber → List VisitContent → Option ReportContent
 report_with now container visits = option_map value.visits (visits_by now container visits)
 
--- Of the container's visits, each of which the whole tells, the store tells those that stay, as they are and in the same
+-- Of the container's visits, all of which the whole tells, the store tells those that stay, as they are and in the same
 -- order; each other is in one of the archives.
 pub record TellsWhatStays (now : SetupContent) (archives : List Archive) (stays : ℕ → Bool) (state : TerminalState)
     (container : BoxNumber) (told : Option ReportContent) : Type 0 where
-  pub whole : option_map value.visits (told_visits now state container)
-      ≡ report_with now container (visits_of container state.visits)
   pub is : told ≡ report_with now container (own_visits stays (visits_of container state.visits))
   pub others : (visit : VisitContent) → Contains (visits_of container state.visits) visit →
       stays visit.number ≡ false → IsInArchive archives visit

@@ -5,6 +5,7 @@ ghost use Rattle.office_archives.specs.ListsAway.{AsksList, FindsIfAway, TellsBy
 ghost use Rattle.office_archives.specs.Telling.{IsOfList};
 ghost use Rattle.office_desk.specs.Calls.{OnlyLooks};
 ghost use Rattle.office_desk.specs.Desks.{IsSound};
+ghost use Rattle.office_desk.specs.Reports.{Shows};
 ghost use Rattle.office_parts.specs.OwnLists.{list_name};
 ghost use Rattle.office_rows.specs.ByKey.{AreListedOnce, lines_by};
 ghost use Rattle.office_rows.specs.Rows.{listing_content};
@@ -85,7 +86,8 @@ pub(crate) fn report_by_lines(
 ) -> Result<Option<String>, TableFault>
     requires { IsOfList query.now.about (call_content call.now) side }
     ensures { IfOk result (λ found.
-        TellsByLines (map listing_content lines.items) query.now (option_map string_bytes found)) }
+        Shows (TellsByLines (map listing_content lines.items) query.now.about) query.now.view
+        (option_map string_bytes found)) }
 {
     let terminal = terminal_of(alloc, lines)?;
     match &query.about {

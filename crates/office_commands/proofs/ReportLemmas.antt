@@ -27,9 +27,9 @@ use Rattle.office_reports.specs.Visits.{visits_of}
 use Rattle.office_reports.specs.Containers.{container_of}
 use Rattle.office_reports.specs.Metrics.{metrics_text}
 use Rattle.office_reports.specs.Picture.{IsPicture}
-use Rattle.office_report_data.specs.Told.{ReportContent}
+use Rattle.office_report_data.specs.Told.{ReportContent, shown}
 use Rattle.office_report_data.specs.Told as value
-use Rattle.office_desk.specs.Reports.{AreLookedUp, FindsAfter, Tells, TellsAfter, TellsNext, TellsPartner, TellsPartners, TellsReplyOf, DeskTells, contrl_for_partner, ticket_of, partner_called}
+use Rattle.office_desk.specs.Reports.{AreLookedUp, FindsAfter, TellsAbout, TellsAfter, TellsNext, TellsPartner, TellsPartners, TellsReplyOf, DeskTells, contrl_for_partner, ticket_of, partner_called}
 use Rattle.office_desk.specs.declared.desk.Desk.{Desk}
 use Rattle.office_desk.proofs.OwnNumbers.{answers_alike}
 use Rattle.office_commands.proofs.Alike.{now_alike}
@@ -48,13 +48,13 @@ module _ (one other : SetupContent) (says : SaysSame one other) where
   called_alike : (code : List ℕ) → partner_called one code ≡ partner_called other code
   called_alike code = ap (λ parties. partner_from 1 code parties.partners) (parties_same one other says)
 
-  of_alike : (state : TerminalState) (rows : Rows) (asked : About) (told : Option ReportContent) → Tells one state rows asked told → Tells other state rows asked told
+  of_alike : (state : TerminalState) (rows : Rows) (asked : About) (told : Option ReportContent) → TellsAbout one state rows asked told → TellsAbout other state rows asked told
   of_alike state rows about.Yard what told = told
   of_alike state rows (about.Visits container) what told =
       told ∙ (λ i. option_map value.visits (visits_of (record { terminal = one.terminal; codes = one.codes; partners = says.partners i; blocks = one.blocks; visit_limit = one.visit_limit }) state container))
   of_alike state rows (about.List call side) what told = told
   of_alike state rows (about.Ticket partner number) what told =
-      told ∙ ap (ticket_of state.visits rows (string_bytes partner) number) (called_alike (string_bytes partner))
+      λ view. told view ∙ ap (λ called. option_map (shown view) (ticket_of state.visits rows (string_bytes partner) number called)) (called_alike (string_bytes partner))
   of_alike state rows (about.Reply partner number) what told =
       (told.0, subst (λ called. TellsReplyOf rows (string_bytes partner) number called told.0) (called_alike (string_bytes partner)) told.1, told.2)
   of_alike state rows (about.Container container) what told =
@@ -93,7 +93,7 @@ module _ (one other : SetupContent) (says : SaysSame one other) where
       record {
         rows = told.rows;
         after = alike.rows told.rows told.after;
-        tells = subst (λ state. Tells (content_after other es) state told.rows asked what) alike.terminal
+        tells = subst (λ state. TellsAbout (content_after other es) state told.rows asked what) alike.terminal
             (of_alike (content_after one es) (content_after other es) (now_alike one other says es) _ told.rows asked what told.tells);
       }
 

@@ -56,6 +56,10 @@ IsText tells told = (found : Option (List ℕ)) × tells found × (told ≡ opti
 abbrev pub Shows : (tells : Option ReportContent → Type 0) → View → (found : Option (List ℕ)) → Type 0
 Shows tells view found = (told : Option ReportContent) × tells told × (found ≡ option_map (shown view) told)
 
+-- they are shown alike, as text, as JSON and as CSV
+abbrev pub AreShownAlike : (one other : Option ReportContent) → Type 0
+AreShownAlike one other = (view : View) → option_map (shown view) one ≡ option_map (shown view) other
+
 -- the number of the partner of that code
 abbrev pub partner_called : SetupContent → List ℕ → Option ℕ
 partner_called content code = partner_from 1 code (parties_in content).partners
@@ -187,42 +191,43 @@ partner_if_called content code = option_map (λ id. code) (partner_called conten
 -- ---- all reports
 
 -- what is told, if there is something, is what the rows tell of what is asked about, which are those of that set-up and of
--- that terminal
-abbrev pub Tells : SetupContent → TerminalState → Rows → About → (told : Option ReportContent) → Type 0
-Tells content state rows about.Yard told = TellsYard state told
-Tells content state rows (about.Visits container) told = told ≡ option_map value.visits (visits_of content state container)
-Tells content state rows (about.List call side) told =
+-- that terminal; of a ticket it is shown alike, since a visit that is told there may go on by another interchange
+abbrev pub TellsAbout : SetupContent → TerminalState → Rows → About → (told : Option ReportContent) → Type 0
+TellsAbout content state rows about.Yard told = TellsYard state told
+TellsAbout content state rows (about.Visits container) told = told ≡ option_map value.visits (visits_of content state container)
+TellsAbout content state rows (about.List call side) told =
     IsOfLines state (call_content call) side (λ lines. option_map value.list (list_by (call_content call) side lines)) told
-Tells content state rows (about.Ticket partner number) told =
-    told ≡ ticket_of state.visits rows (string_bytes partner) number (partner_called content (string_bytes partner))
-Tells content state rows (about.Reply partner number) told =
+TellsAbout content state rows (about.Ticket partner number) told =
+    AreShownAlike told
+    (ticket_of state.visits rows (string_bytes partner) number (partner_called content (string_bytes partner)))
+TellsAbout content state rows (about.Reply partner number) told =
     TellsReplyOf rows (string_bytes partner) number (partner_called content (string_bytes partner)) told
-Tells content state rows (about.Work call side) told =
+TellsAbout content state rows (about.Work call side) told =
     IsOfLines state (call_content call) side (λ lines. option_map value.work (work_by state (call_content call) side lines))
     told
-Tells content state rows about.Picture told = TellsPicture content state told
-Tells content state rows (about.Container container) told = told ≡ container_told content state container
-Tells content state rows about.Partners told = TellsPartners rows content.partners told
-Tells content state rows about.Blocks told = TellsBlocks state told
-Tells content state rows about.Calls told = told ≡ Some (value.calls (lists_in (finite_map.entries state.lines)))
-Tells content state rows (about.Contrl partner number) told =
+TellsAbout content state rows about.Picture told = TellsPicture content state told
+TellsAbout content state rows (about.Container container) told = told ≡ container_told content state container
+TellsAbout content state rows about.Partners told = TellsPartners rows content.partners told
+TellsAbout content state rows about.Blocks told = TellsBlocks state told
+TellsAbout content state rows about.Calls told = told ≡ Some (value.calls (lists_in (finite_map.entries state.lines)))
+TellsAbout content state rows (about.Contrl partner number) told =
     told ≡ contrl_for_partner rows (string_bytes partner) number (partner_called content (string_bytes partner))
-Tells content state rows (about.Partner code) told =
+TellsAbout content state rows (about.Partner code) told =
     TellsPartner rows content.partners (partner_called content (string_bytes code)) told
-Tells content state rows (about.Next code) told =
+TellsAbout content state rows (about.Next code) told =
     IsText (TellsNext rows (partner_called content (string_bytes code))) told
-Tells content state rows about.Health told = told ≡ Some (value.text ready_text)
-Tells content state rows about.Metrics told = TellsMetrics content state rows told
-Tells content state rows (about.Expected container) told =
+TellsAbout content state rows about.Health told = told ≡ Some (value.text ready_text)
+TellsAbout content state rows about.Metrics told = TellsMetrics content state rows told
+TellsAbout content state rows (about.Expected container) told =
     told ≡ Some (value.expected container (open_lines state.lines container))
-Tells content state rows (about.Block letter) told = TellsBlock state letter told
-Tells content state rows (about.Find typed) told =
+TellsAbout content state rows (about.Block letter) told = TellsBlock state letter told
+TellsAbout content state rows (about.Find typed) told =
     told ≡ Some (value.found (string_bytes typed) state.visits (partner_if_called content (string_bytes typed))
     (lists_in (finite_map.entries state.lines)))
 
 -- what is found at a query: what is told of it, shown so
 abbrev pub TellsOf : SetupContent → TerminalState → Rows → Query → (found : Option (List ℕ)) → Type 0
-TellsOf content state rows query found = Shows (Tells content state rows query.about) query.view found
+TellsOf content state rows query found = Shows (TellsAbout content state rows query.about) query.view found
 
 -- the office can be asked only if its store is open
 abbrev pub IsOpenFor : About → State → Type 0
@@ -234,7 +239,7 @@ pub record TellsAfter (content : SetupContent) (es : List Event) (asked : About)
     (told : Option ReportContent) : Type 0 where
   pub rows : Rows
   pub after : AreAfter content es rows
-  pub tells : Tells (content_after content es) (machine_after content es).terminal rows asked told
+  pub tells : TellsAbout (content_after content es) (machine_after content es).terminal rows asked told
 
 -- what is found at a query after those events
 abbrev pub FindsAfter : SetupContent → List Event → Query → (found : Option (List ℕ)) → Type 0

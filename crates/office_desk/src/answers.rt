@@ -4,7 +4,7 @@ ghost use Rattle.office_tables.specs.DeliveryReading.{OnlyReads};
 ghost use Rattle.office_desk.specs.Answers.{answer_by_model};
 ghost use Rattle.office_desk.specs.Causes.{AsksUnreadable};
 ghost use Rattle.office_desk.specs.Noting.{Notes, NotesMemory};
-ghost use Rattle.office_desk.specs.Reports.{Shows, Tells, TellsOf, TellsReply, contrl_told, ticket_if_taken, IsOpenFor};
+ghost use Rattle.office_desk.specs.Reports.{Shows, TellsAbout, TellsOf, TellsReply, contrl_told, ticket_if_taken, IsOpenFor};
 ghost use Rattle.office_report_data.specs.Told.{shown};
 ghost use Rattle.office_history.specs.After.{AreKeptOnce, reply_in};
 ghost use Rattle.office_history.specs.Cascade.{text_in};
@@ -167,7 +167,7 @@ fn tell_about<S: Alter>(
     requires some { 1 ≤ length setup.now.partners.items }
     ensures told { HasCleanDisk (state S.Store conn.new) → IfOk result (λ found. (rows : Rows) →
         HasRows rows (state S.Store conn.old).now → AreKeptOnce rows.interchanges →
-        Shows (Tells (setup_content setup.now) terminal.now rows about.now) view (option_map string_bytes found)) }
+        Shows (TellsAbout (setup_content setup.now) terminal.now rows about.now) view (option_map string_bytes found)) }
     ensures fault { HasCleanDisk (state S.Store conn.new) → IfErr result (λ fault. (rows : Rows) →
         HasRows rows (state S.Store conn.old).now →
         IsOfStoreOr (AsksUnreadable (setup_content setup.now) rows about.now) fault) }

@@ -60,25 +60,25 @@ pub data ReportContent : Type 0 where
   -- the answer of a partner's interchange under a number: the number that is next, and the reply, if it was taken
   reply : (partner : List ℕ) → (number next : ℕ) → Option (List ℕ) → ReportContent
   -- the CONTRL of a partner's interchange under a number, and the reply that it is of
-  contrl : (partner : List ℕ) → (number : ℕ) → (reply text : List ℕ) → ReportContent
+  contrl : (partner : List ℕ) → (number : ℕ) → (kept plain : List ℕ) → ReportContent
   picture : List ℕ → ReportContent
   -- the gauges; and the terminal's name, and what its start page tells
-  metrics : (text terminal : List ℕ) → StartContent → ReportContent
+  metrics : (plain terminal : List ℕ) → StartContent → ReportContent
   -- only as a page: a block of the yard, a container that never came, what a text finds
   block : ℕ → List (List ℕ × Standing) → ReportContent
   expected : BoxNumber → List (LineKey × LineContent) → ReportContent
   found : (typed : List ℕ) → List VisitContent → Option (List ℕ) → List (LineKey × ListCount) → ReportContent
   text : List ℕ → ReportContent
 
-abbrev pub in_view : View → (text json csv page : List ℕ) → List ℕ
-in_view Text text json csv page = text
-in_view Json text json csv page = json
-in_view Csv text json csv page = csv
-in_view Page text json csv page = page
+abbrev pub in_view : View → (plain json table page : List ℕ) → List ℕ
+in_view Text plain json table page = plain
+in_view Json plain json table page = json
+in_view Csv plain json table page = table
+in_view Page plain json table page = page
 
 -- what is a text, but for its page
-abbrev pub text_or_page : View → (text page : List ℕ) → List ℕ
-text_or_page view text page = in_view view text text text page
+abbrev pub text_or_page : View → (plain page : List ℕ) → List ℕ
+text_or_page view plain page = in_view view plain plain plain page
 
 -- a reply: what was taken is reported as a repeat, what waits as waiting for the number that is next
 abbrev pub reply_text : (next : ℕ) → List ℕ → ℕ → (reply : Option (List ℕ)) → List ℕ
@@ -110,9 +110,9 @@ shown view (ticket report) =
     in_view view (told_text report) (compact_text (ticket_data report)) (told_text report) (ticket_page report)
 shown view (reply partner number next kept) =
     text_or_page view (reply_text next partner number kept) (reply_page partner number next kept)
-shown view (contrl partner number kept text) = text_or_page view text (contrl_page partner number kept)
+shown view (contrl partner number kept plain) = text_or_page view plain (contrl_page partner number kept)
 shown view (picture page) = text_or_page view page (picture_view page)
-shown view (metrics text terminal report) = text_or_page view text (office_page terminal report)
+shown view (metrics plain terminal report) = text_or_page view plain (office_page terminal report)
 shown view (block letter rows) = yard_page rows (Some letter)
 shown view (expected container lists) = expected_page container lists
 shown view (found typed stays partner lists) = found_page typed stays partner lists

@@ -6,8 +6,9 @@ use Rattle.office_tables.specs.Faults.{IsOfStoreOr}
 use Rattle.office_tables.proofs.WritesLemmas.{of_store_weaker}
 use Rattle.office_desk.specs.Causes.{AsksUnreadable, HasUnfitReplyOf, LacksReply, LacksSome}
 use Rattle.office_admission.specs.Setups.{setup_content}
+use Rattle.office_report_data.specs.Told.{shown}
 use Rattle.office_report_data.specs.Told as value
-use Rattle.office_desk.specs.Reports.{Shows, Tells, TellsMetrics, TellsNext, TellsPicture, TellsReplyOf, contrl_for_partner, partner_called, ticket_of}
+use Rattle.office_desk.specs.Reports.{Shows, TellsAbout, TellsMetrics, TellsNext, TellsPicture, TellsReplyOf, contrl_for_partner, partner_called, ticket_of}
 use Rattle.office_desk.proofs.Values.{shows_text, text_shown}
 use Rattle.office_desk.proofs.PageLemmas.{some_lacks}
 use Rattle.office_desk.proofs.Faults.{called}
@@ -20,9 +21,9 @@ returns-in-Some-clause-told g c clean =
     let own = string_bytes c.in-Ticket.partner in
     let there : partner_called content own ≡ Some c.in-Some.id = called a.setup.now c.deref-in-Ticket.result.now own (Some c.in-Some.id) (sym c.in-Some.is ∙ c.partner_called.ensures) c.deref-in-Ticket.ensures in
     if_ok c.tell_ticket.result (λ found told. λ rows has once.
-    subst (λ q. Shows (Tells content a.terminal.now rows q) a.view (option_map string_bytes found)) (sym c.in-Ticket.is) (
+    subst (λ q. Shows (TellsAbout content a.terminal.now rows q) a.view (option_map string_bytes found)) (sym c.in-Ticket.is) (
       ticket_of a.terminal.now.visits rows own c.in-Ticket.number (Some c.in-Some.id),
-      sym (ap (ticket_of a.terminal.now.visits rows own c.in-Ticket.number) there),
+      (λ view. sym (ap (λ p. option_map (shown view) (ticket_of a.terminal.now.visits rows own c.in-Ticket.number p)) there)),
       rw c.deref-in-Some.ensures at (told rows has once),
     ))
     (c.tell_ticket.ensures.told clean)
@@ -33,8 +34,8 @@ returns-in-None-clause-told g c clean rows has once =
     let content = setup_content a.setup.now in
     let own = string_bytes c.in-Ticket.partner in
     let there : partner_called content own ≡ None = called a.setup.now c.deref-in-Ticket.result.now own None (sym c.in-None.is ∙ c.partner_called.ensures) c.deref-in-Ticket.ensures in
-    subst (λ q. Shows (Tells content a.terminal.now rows q) a.view None) (sym c.in-Ticket.is)
-    (None, sym (ap (ticket_of a.terminal.now.visits rows own c.in-Ticket.number) there), refl)
+    subst (λ q. Shows (TellsAbout content a.terminal.now rows q) a.view None) (sym c.in-Ticket.is)
+    (None, (λ view. sym (ap (λ p. option_map (shown view) (ticket_of a.terminal.now.visits rows own c.in-Ticket.number p)) there)), refl)
 
 pub returns-in-Some-partner_called-clause-told : goal.returns-in-Some-partner_called-clause-told
 returns-in-Some-partner_called-clause-told g c clean =
@@ -44,7 +45,7 @@ returns-in-Some-partner_called-clause-told g c clean =
     let id = c.in-Some-partner_called.id in
     let there : partner_called content own ≡ Some id = called a.setup.now c.deref-in-Reply.result.now own (Some id) (sym c.in-Some-partner_called.is ∙ c.partner_called-in-Reply.ensures) c.deref-in-Reply.ensures in
     if_ok c.tell_reply.result (λ found told. λ rows has once.
-    subst (λ q. Shows (Tells content a.terminal.now rows q) a.view (option_map string_bytes found)) (sym c.in-Reply.is)
+    subst (λ q. Shows (TellsAbout content a.terminal.now rows q) a.view (option_map string_bytes found)) (sym c.in-Reply.is)
     (shows_text (TellsReplyOf rows own c.in-Reply.number (partner_called content own)) a.view (option_map string_bytes found)
     (subst (λ p. TellsReplyOf rows own c.in-Reply.number p (option_map string_bytes found)) (sym there) (rw c.deref-in-Some-partner_called.ensures at (told rows has once)))))
     (c.tell_reply.ensures.told clean)
@@ -55,7 +56,7 @@ returns-in-None-partner_called-clause-told g c clean rows has once =
     let content = setup_content a.setup.now in
     let own = string_bytes c.in-Reply.partner in
     let there : partner_called content own ≡ None = called a.setup.now c.deref-in-Reply.result.now own None (sym c.in-None-partner_called.is ∙ c.partner_called-in-Reply.ensures) c.deref-in-Reply.ensures in
-    subst (λ q. Shows (Tells content a.terminal.now rows q) a.view None) (sym c.in-Reply.is)
+    subst (λ q. Shows (TellsAbout content a.terminal.now rows q) a.view None) (sym c.in-Reply.is)
     (shows_text (TellsReplyOf rows own c.in-Reply.number (partner_called content own)) a.view None
     (subst (λ p. TellsReplyOf rows own c.in-Reply.number p None) (sym there) refl))
 
@@ -67,7 +68,7 @@ returns-in-Some-partner_called-2-clause-told g c clean =
     let id = c.in-Some-partner_called-2.id in
     let there : partner_called content own ≡ Some id = called a.setup.now c.deref-in-Contrl.result.now own (Some id) (sym c.in-Some-partner_called-2.is ∙ c.partner_called-in-Contrl.ensures) c.deref-in-Contrl.ensures in
     if_ok c.tell_contrl.result (λ found told. λ rows has once.
-    subst (λ q. Shows (Tells content a.terminal.now rows q) a.view (option_map string_bytes found)) (sym c.in-Contrl.is) (
+    subst (λ q. Shows (TellsAbout content a.terminal.now rows q) a.view (option_map string_bytes found)) (sym c.in-Contrl.is) (
       option_map value.text (option_map string_bytes found),
       ap (option_map value.text) (told rows has once ∙ sym (ap (contrl_for_partner rows c.in-Contrl.number) there)),
       text_shown a.view (option_map string_bytes found),
@@ -80,7 +81,7 @@ returns-in-None-partner_called-2-clause-told g c clean rows has once =
     let content = setup_content a.setup.now in
     let own = string_bytes c.in-Contrl.partner in
     let there : partner_called content own ≡ None = called a.setup.now c.deref-in-Contrl.result.now own None (sym c.in-None-partner_called-2.is ∙ c.partner_called-in-Contrl.ensures) c.deref-in-Contrl.ensures in
-    subst (λ q. Shows (Tells content a.terminal.now rows q) a.view None) (sym c.in-Contrl.is)
+    subst (λ q. Shows (TellsAbout content a.terminal.now rows q) a.view None) (sym c.in-Contrl.is)
     (None, sym (ap (λ p. option_map value.text (contrl_for_partner rows c.in-Contrl.number p)) there), refl)
 
 -- ---- texts
@@ -90,7 +91,7 @@ returns-in_ok-tell_picture-in-Picture-clause-told g c clean rows has once =
     let a = c.args in
     let content = setup_content a.setup.now in
     let page = string_bytes c.in_ok-tell_picture-in-Picture.field-0 in
-    subst (λ q. Shows (Tells content a.terminal.now rows q) a.view (Some page)) (sym c.in-Picture.is)
+    subst (λ q. Shows (TellsAbout content a.terminal.now rows q) a.view (Some page)) (sym c.in-Picture.is)
     (shows_text (TellsPicture content a.terminal.now) a.view (Some page) c.in_ok-tell_picture-in-Picture.ensures)
 
 pub returns-in-Next-clause-told : goal.returns-in-Next-clause-told
@@ -99,7 +100,7 @@ returns-in-Next-clause-told g c clean =
     let content = setup_content a.setup.now in
     let own = string_bytes c.in-Next.code in
     if_ok c.tell_next.result (λ found told. λ rows has once.
-    subst (λ q. Shows (Tells content a.terminal.now rows q) a.view (option_map string_bytes found)) (sym c.in-Next.is)
+    subst (λ q. Shows (TellsAbout content a.terminal.now rows q) a.view (option_map string_bytes found)) (sym c.in-Next.is)
     (shows_text (TellsNext rows (partner_called content own)) a.view (option_map string_bytes found) (told rows has)))
     (c.tell_next.ensures.told clean)
 
@@ -108,7 +109,7 @@ returns-in-Health-clause-told g c clean =
     let a = c.args in
     let content = setup_content a.setup.now in
     if_ok c.tell_health.result (λ found told. λ rows has once.
-    subst (λ q. Shows (Tells content a.terminal.now rows q) a.view (option_map string_bytes found)) (sym c.in-Health.is)
+    subst (λ q. Shows (TellsAbout content a.terminal.now rows q) a.view (option_map string_bytes found)) (sym c.in-Health.is)
     (option_map value.text (option_map string_bytes found), ap (option_map value.text) told, text_shown a.view (option_map string_bytes found)))
     c.tell_health.ensures.told
 
@@ -117,7 +118,7 @@ returns-in-Metrics-clause-told g c clean =
     let a = c.args in
     let content = setup_content a.setup.now in
     if_ok c.tell_metrics.result (λ found told. λ rows has once.
-    subst (λ q. Shows (Tells content a.terminal.now rows q) a.view (option_map string_bytes found)) (sym c.in-Metrics.is)
+    subst (λ q. Shows (TellsAbout content a.terminal.now rows q) a.view (option_map string_bytes found)) (sym c.in-Metrics.is)
     (shows_text (TellsMetrics content a.terminal.now rows) a.view (option_map string_bytes found) (told rows has)))
     (c.tell_metrics.ensures.told clean)
 
