@@ -664,5 +664,5 @@ def archives_note(count):
 def page(office, kind, values):
     """The page of a report, on what its key names; with how many archives were not asked where its text tells that too."""
     text, archives = PAGES[kind](office, *values), len(office.register.archives)
-    told_of = kind in ('container', 'visits') or kind == 'calls' and office.away
+    told_of = kind in ('container', 'visits') or kind == 'calls' and office.register.lists
     return text[:-len(END)] + archives_note(archives if told_of else 0) + END
