@@ -13,7 +13,7 @@ from .meanings import MEANINGS
 from .moments import day_number
 from .names import slot_text
 from .picture import escaped
-from .reports import reported
+from .reports import as_text, reported
 from .words import moment_text
 from .yard import blocker, cells
 
@@ -559,7 +559,7 @@ def message(told):
 
 def reply_of(office, partner, number):
     """The page of the reply to an interchange that is kept."""
-    answer, name = json.loads(reported(office, 'reply', [partner, number])), '%s %d' % (escaped(partner), number)
+    answer, name = json.loads(reported(office, 'reply', [partner, number], as_text)), '%s %d' % (escaped(partner), number)
     body = '<h1><small>Reply to</small> %s</h1>\n' % name + other_pages(
         partner, number, ('tickets', 'What it did'), ('contrls', 'CONTRL'))
     if 'reply' not in answer:
@@ -576,7 +576,7 @@ def contrl(office, partner, number):
     name = '%s %d' % (escaped(partner), number)
     body = '<h1><small>CONTRL to</small> %s</h1>\n' % name + other_pages(
         partner, number, ('tickets', 'What it did'), ('replies', 'Reply'))
-    body += contrl_section(reported(office, 'contrl', [partner, number])[:-1])
+    body += contrl_section(reported(office, 'contrl', [partner, number], as_text)[:-1])
     return framed('', 'CONTRL to ' + name, body)
 
 
