@@ -62,24 +62,28 @@ attention_list report =
     pieces_text (Markup (codes "<ul class='todo'>\n") ∷ []) ++ flat_map missing report.partners.rows
     ++ nearly_full report.visits report.limit ++ pieces_text (Markup (codes "</ul>\n</section>\n") ∷ [])
 
-abbrev pub quiet_line : (visits limit : ℕ) → List ℕ
-quiet_line visits limit = pieces_text
-    (Markup (codes "<p class='fine'>Nothing waits, and there is room for ") ∷ Count (limit - visits)
+abbrev pub quiet_line : (room : ℕ) → List ℕ
+quiet_line room = pieces_text
+    (Markup (codes "<p class='fine'>Nothing waits, and there is room for ") ∷ Count room
     ∷ Markup (codes " more visits.</p>\n</section>\n") ∷ [])
 
 abbrev pub attention : StartContent → List ℕ
-attention report = if is_quiet report then quiet_line report.visits report.limit else attention_list report
+attention report = if is_quiet report then quiet_line (report.limit - report.visits) else attention_list report
 
 -- ---- how much there is of what
 
-abbrev pub sums : (visits partners waiting : ℕ) → BlockUse → List ℕ
-sums visits partners waiting used = pieces_text
-    (Markup (codes "<ul class='sum'>\n<li><b>") ∷ Count (used.twenties + used.forties)
+-- so many containers in the yard
+abbrev pub sums_of : (all visits partners waiting : ℕ) → BlockUse → List ℕ
+sums_of all visits partners waiting used = pieces_text
+    (Markup (codes "<ul class='sum'>\n<li><b>") ∷ Count all
     ∷ Markup (codes "</b> containers in the yard</li>\n<li><b>") ∷ Count used.twenties
     ∷ Markup (codes "</b> twenties</li>\n<li><b>") ∷ Count used.forties ∷ Markup (codes "</b> forties</li>\n<li><b>")
     ∷ Count partners ∷ Markup (codes "</b> partners</li>\n<li><b>") ∷ Count waiting
     ∷ Markup (codes "</b> interchanges wait</li>\n<li><b>") ∷ Count visits ∷ Markup (codes "</b> visits recorded</li>\n</ul>\n")
     ∷ [])
+
+abbrev pub sums : (visits partners waiting : ℕ) → BlockUse → List ℕ
+sums visits partners waiting used = sums_of (used.twenties + used.forties) visits partners waiting used
 
 -- ---- calls with open work
 

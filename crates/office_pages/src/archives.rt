@@ -4,7 +4,7 @@ ghost use Rattle.office_pages.specs.Archives.{archives_note};
 ghost use Rattle.office_pages.specs.Fixed.{foot};
 
 use crate::layout::foot;
-use crate::pieces::Piece::{Count, Markup};
+use crate::pieces::Piece::{Many, Markup};
 use crate::pieces::push_pieces;
 use std::alloc::{AllocError, Global};
 
@@ -34,7 +34,7 @@ fn push_note(alloc: Global, page: &mut String, count: usize) -> Result<(), Alloc
         page,
         &[
             Markup("<p class='note'>"),
-            Count(count as u128),
+            Many(count),
             Markup(" archives were not asked: older visits may stand there.</p>\n"),
         ],
     )

@@ -7,7 +7,7 @@ ghost use Rattle.office_pages.specs.Blocks.{block_cell, block_columns, block_row
 use crate::frame::push_top;
 use crate::layout::foot;
 use crate::marks::push_bar;
-use crate::pieces::Piece::{Count, Letter, LetterPart, Markup};
+use crate::pieces::Piece::{Count, Letter, LetterPart, Many, Markup, Tier};
 use crate::pieces::push_pieces;
 use crate::tables::{push_section_head, push_table_head};
 use office_reports::{BlockRow, BlockUse, BlocksReport};
@@ -127,13 +127,13 @@ fn push_use(alloc: Global, page: &mut String, used: BlockUse) -> Result<(), Allo
         page,
         &[
             Markup("</td><td class='n o'>"),
-            Count(used.twenties as u128),
+            Many(used.twenties),
             Markup("</td><td class='n o'>"),
-            Count(used.forties as u128),
+            Many(used.forties),
             Markup("</td><td class='n'>"),
-            Count(used.under as u128),
+            Many(used.under),
             Markup("</td><td class='n o'>"),
-            Count(u128::from(used.highest)),
+            Tier(used.highest),
             Markup("</td></tr>\n"),
         ],
     )

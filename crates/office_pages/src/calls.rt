@@ -9,7 +9,7 @@ ghost use Rattle.office_pages.specs.Tables.{table_of};
 use crate::frame::push_top;
 use crate::layout::foot;
 use crate::marks::{done_kind, push_bar, side_name, side_of, side_word};
-use crate::pieces::Piece::{Count, Markup, Part, Text};
+use crate::pieces::Piece::{Count, Many, Markup, Part, Text};
 use crate::pieces::push_pieces;
 use crate::tables::{push_no_rows, push_table_end, push_table_head};
 use office_reports::{CallsReport, ListCount, ListKey};
@@ -204,7 +204,7 @@ fn push_open(alloc: Global, page: &mut String, pending: usize) -> Result<(), All
         page,
         &[
             Markup("</td><td class='n'>"),
-            Count(pending as u128),
+            Many(pending),
             Markup("</td>"),
         ],
     )

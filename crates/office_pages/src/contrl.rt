@@ -42,7 +42,7 @@ fn push_contrl_top(
         Markup("CONTRL to "),
         Text(partner),
         Markup(" "),
-        Digits(u128::from(number)),
+        Digits(number),
     ];
     push_top(alloc, page, "", false, &title)
 }
@@ -64,15 +64,15 @@ fn push_contrl_head(
             Markup("<h1><small>CONTRL to</small> "),
             Text(partner),
             Markup(" "),
-            Digits(u128::from(number)),
+            Digits(number),
             Markup("</h1>\n<p class='beside'>\n<a href='/pages/tickets/"),
             Part(partner),
             Markup("/"),
-            Digits(u128::from(number)),
+            Digits(number),
             Markup("'>What it did</a>\n<a href='/pages/replies/"),
             Part(partner),
             Markup("/"),
-            Digits(u128::from(number)),
+            Digits(number),
             Markup("'>Reply</a>\n<a href='/pages/partners/"),
             Part(partner),
             Markup("'>Partner</a>\n</p>\n"),

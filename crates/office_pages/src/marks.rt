@@ -3,7 +3,7 @@ ghost use Rattle.std.specs.Prelude.{◌≡◌, ◌++◌, ◌∷◌, [], OnOk, st
 ghost use Rattle.office_pages.specs.Marks.{bar, done_kind, load_mark, side_name, side_of, side_word, way_word};
 ghost use Rattle.office_pages.specs.Pieces.{pieces_text};
 
-use crate::pieces::Piece::{Count, Digits, Markup};
+use crate::pieces::Piece::{Count, Markup, Measure};
 use crate::pieces::push_pieces;
 use std::alloc::{AllocError, Global};
 use terminal_core::{Side, Way};
@@ -77,9 +77,9 @@ pub(crate) fn push_bar(
             Markup("<progress class='"),
             Markup(kind),
             Markup("' value='"),
-            Digits(done),
+            Measure(done),
             Markup("' max='"),
-            Digits(whole),
+            Measure(whole),
             Markup("' aria-label='"),
             Count(done),
             Markup(" of "),

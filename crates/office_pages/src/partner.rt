@@ -7,7 +7,7 @@ ghost use Rattle.office_pages.specs.Partner.{expected_fact, last_replies, last_r
 use crate::frame::push_top;
 use crate::layout::foot;
 use crate::partners::kind_word;
-use crate::pieces::Piece::{Count, Digits, Markup, Reply, Text};
+use crate::pieces::Piece::{Digits, Many, Markup, Reply, Text};
 use crate::pieces::push_pieces;
 use office_reports::{PartnerRow, Waiting};
 use std::alloc::{AllocError, Global};
@@ -70,7 +70,7 @@ fn push_expected(
             page,
             &[
                 Markup("<dt>Next number</dt><dd>"),
-                Digits(u128::from(next)),
+                Digits(next),
                 Markup("</dd>\n</dl>\n</section>\n"),
             ],
         ),
@@ -91,13 +91,13 @@ fn push_missing(
         page,
         &[
             Markup("<dt>Missing</dt><dd><b class='s wait'>"),
-            Digits(u128::from(next)),
+            Digits(next),
             Markup("</b></dd>\n<dt>Wait</dt><dd>"),
-            Count(waiting.count as u128),
+            Many(waiting.count),
             Markup(", "),
-            Digits(u128::from(waiting.first)),
+            Digits(waiting.first),
             Markup(" to "),
-            Digits(u128::from(waiting.last)),
+            Digits(waiting.last),
             Markup("</dd>\n</dl>\n</section>\n"),
         ],
     )

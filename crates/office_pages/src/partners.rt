@@ -7,7 +7,7 @@ ghost use Rattle.office_pages.specs.Tables.{table_of};
 
 use crate::frame::push_top;
 use crate::layout::foot;
-use crate::pieces::Piece::{Count, Digits, Markup, Part, Reply, Text};
+use crate::pieces::Piece::{Count, Digits, Many, Markup, Part, Reply, Text};
 use crate::pieces::push_pieces;
 use crate::tables::{push_no_rows, push_table_end, push_table_head};
 use edi_messages::PartnerKind;
@@ -154,13 +154,13 @@ fn push_missing(
         page,
         &[
             Markup("<b class='s wait'>"),
-            Digits(u128::from(next)),
+            Digits(next),
             Markup("</b></td><td class='n'>"),
-            Count(waiting.count as u128),
+            Many(waiting.count),
             Markup("</td><td>"),
-            Digits(u128::from(waiting.first)),
+            Digits(waiting.first),
             Markup(" to "),
-            Digits(u128::from(waiting.last)),
+            Digits(waiting.last),
             Markup("</td></tr>\n"),
         ],
     )
@@ -257,7 +257,7 @@ fn push_next(alloc: Global, page: &mut String, code: &str, next: u32) -> Result<
         alloc,
         page,
         &[
-            Digits(u128::from(next)),
+            Digits(next),
             Markup("</td><td>"),
             Reply(code, next.saturating_sub(1)),
             Markup("</td></tr>\n"),

@@ -19,10 +19,18 @@ pub(crate) enum Piece<'a> {
     Part(&'a str),
     /// How many of something there are, with commas between thousands.
     Count(u128),
+    /// The same of what is in memory.
+    Many(usize),
+    /// The same of a limit, or of visits by their numbers.
+    Few(u32),
+    /// The same of the highest tier.
+    Tier(u8),
     /// A gross weight in kilograms, nothing for 0.
     Kilos(u32),
     /// A number that is a name.
-    Digits(u128),
+    Digits(u32),
+    /// A number that a browser reads.
+    Measure(u128),
     /// A difference.
     Days(i32),
     /// A container's number.
@@ -70,7 +78,11 @@ fn push_piece(alloc: Global, page: &mut String, piece: &Piece<'_>) -> Result<(),
         Piece::Part(text) => push_part(page, text.as_bytes()),
         Piece::Count(number) => push_count(alloc, page, *number),
         Piece::Kilos(kilos) => push_kilos(alloc, page, *kilos),
-        Piece::Digits(number) => push_digits(alloc, page, *number),
+        Piece::Many(number) => push_count(alloc, page, *number as u128),
+        Piece::Few(number) => push_count(alloc, page, u128::from(*number)),
+        Piece::Tier(tier) => push_count(alloc, page, u128::from(*tier)),
+        Piece::Digits(number) => push_digits(alloc, page, u128::from(*number)),
+        Piece::Measure(number) => push_digits(alloc, page, *number),
         Piece::Days(days) => push_days(alloc, page, *days),
         Piece::Number(number) => push_field(alloc, page, &number.text()),
         Piece::Container(number) => push_container(alloc, page, *number),

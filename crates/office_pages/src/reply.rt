@@ -10,7 +10,7 @@ use crate::contrl::push_contrl;
 use crate::frame::push_top;
 use crate::layout::foot;
 use crate::meanings::{meaning_of, message_faults};
-use crate::pieces::Piece::{Count, Digits, Markup, Part, Text};
+use crate::pieces::Piece::{Count, Digits, Many, Markup, Part, Text};
 use crate::pieces::push_pieces;
 use crate::reply_lines::{push_line_rows, refused_count};
 use crate::reply_values::{is_accepted, items_in, number_in, text_in};
@@ -51,7 +51,7 @@ fn push_reply_top(
         Markup("Reply to "),
         Text(partner),
         Markup(" "),
-        Digits(u128::from(number)),
+        Digits(number),
     ];
     push_top(alloc, page, "", false, &title)
 }
@@ -73,15 +73,15 @@ fn push_reply_head(
             Markup("<h1><small>Reply to</small> "),
             Text(partner),
             Markup(" "),
-            Digits(u128::from(number)),
+            Digits(number),
             Markup("</h1>\n<p class='beside'>\n<a href='/pages/tickets/"),
             Part(partner),
             Markup("/"),
-            Digits(u128::from(number)),
+            Digits(number),
             Markup("'>What it did</a>\n<a href='/pages/contrls/"),
             Part(partner),
             Markup("/"),
-            Digits(u128::from(number)),
+            Digits(number),
             Markup("'>CONTRL</a>\n<a href='/pages/partners/"),
             Part(partner),
             Markup("'>Partner</a>\n</p>\n"),
@@ -113,7 +113,7 @@ fn push_waiting(alloc: Global, page: &mut String, next: u32) -> Result<(), Alloc
         page,
         &[
             Markup("<section>\n<div class='place'><b class='s wait'>waits</b><span>for number <b>"),
-            Digits(u128::from(next)),
+            Digits(next),
             Markup("</b>, which is missing</span></div>\n</section>\n"),
         ],
     )
@@ -185,7 +185,7 @@ fn push_accepted(
     alloc: Global,
     page: &mut String,
     reference: &str,
-    dropped: u64,
+    dropped: u128,
     lines: &[Value],
 ) -> Result<(), AllocError>
     ensures { OnOk result (string_bytes page.new
@@ -213,16 +213,16 @@ fn push_accepted_head(
             Markup("<section>\n<h2>Message "),
             Text(reference),
             Markup(" <b class='s ok'>accepted</b> <small>"),
-            Count(lines as u128),
+            Many(lines),
             Markup(" lines, "),
-            Count(refused as u128),
+            Many(refused),
             Markup(" refused</small></h2>\n"),
         ],
     )
 }
 
 /// Appends how many open lines were dropped, if any were.
-fn push_dropped(alloc: Global, page: &mut String, dropped: u64) -> Result<(), AllocError>
+fn push_dropped(alloc: Global, page: &mut String, dropped: u128) -> Result<(), AllocError>
     ensures { OnOk result (string_bytes page.new ≡ string_bytes page.old ++ dropped_view dropped) }
 {
     if dropped == 0 {
@@ -233,7 +233,7 @@ fn push_dropped(alloc: Global, page: &mut String, dropped: u64) -> Result<(), Al
         page,
         &[
             Markup("<p>"),
-            Count(u128::from(dropped)),
+            Count(dropped),
             Markup(" open lines of the list that it replaced were dropped.</p>\n"),
         ],
     )

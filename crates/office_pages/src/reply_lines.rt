@@ -41,7 +41,7 @@ fn push_line_row(alloc: Global, page: &mut String, line: &Value) -> Result<(), A
         page,
         &[
             Markup("<tr><td class='n'>"),
-            Count(u128::from(number_in(line, "line"))),
+            Count(number_in(line, "line")),
             Markup("</td><td>"),
         ],
     )?;

@@ -38,11 +38,11 @@ pub(crate) fn text_in<'a>(value: &'a Value, name: &str) -> &'a str
 }
 
 /// The number of a member, 0 if it has none.
-pub(crate) fn number_in(value: &Value, name: &str) -> u64
+pub(crate) fn number_in(value: &Value, name: &str) -> u128
     ensures { result ≡ number_in name.now (view value.now) }
 {
     match value.get(name) {
-        Some(member) => member.as_u64().unwrap_or(0),
+        Some(member) => u128::from(member.as_u64().unwrap_or(0)),
         None => 0,
     }
 }

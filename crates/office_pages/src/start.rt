@@ -1,10 +1,10 @@
 //! The start page.
 ghost use Rattle.std.specs.List.{flat_map};
-ghost use Rattle.std.specs.Prelude.{◌≡◌, ◌++◌, ◌∷◌, [], codes, count_by, map, IfOk, OnOk, string_bytes};
+ghost use Rattle.std.specs.Prelude.{◌≡◌, ◌++◌, ◌∷◌, ◌-◌, [], codes, count_by, map, IfOk, OnOk, string_bytes};
 ghost use Rattle.office_reports.specs.Calls.{lists_content};
 ghost use Rattle.office_reports.specs.Partners.{row_content, waiting_content};
 ghost use Rattle.office_pages.specs.Partners.{is_waiting};
-ghost use Rattle.office_pages.specs.Start.{attention, attention_list, has_open, is_nearly_full, is_quiet, missing, missing_line, nearly_full, office_page, open_head, open_row, open_section, quiet_line, start_body, start_content, start_top, sums};
+ghost use Rattle.office_pages.specs.Start.{attention, attention_list, has_open, is_nearly_full, is_quiet, missing, missing_line, nearly_full, office_page, open_head, open_row, open_section, quiet_line, start_body, start_content, start_top, sums, sums_of};
 ghost use Rattle.office_pages.specs.Calls.{call_columns};
 ghost use Rattle.office_pages.specs.Tables.{table_of};
 
@@ -13,7 +13,7 @@ use crate::calls::{call_columns, list_count, push_row};
 use crate::frame::push_top;
 use crate::layout::foot;
 use crate::partners::waiting_count;
-use crate::pieces::Piece::{Count, Digits, Markup, Part, Text};
+use crate::pieces::Piece::{Count, Digits, Few, Many, Markup, Part, Text};
 use crate::pieces::push_pieces;
 use crate::tables::{push_no_rows, push_table_end, push_table_head};
 use office_reports::{
@@ -101,7 +101,7 @@ fn push_attention(
         (string_bytes page.new ≡ string_bytes page.old ++ attention (start_content report.now)) }
 {
     if is_quiet(report) {
-        push_quiet(alloc, page, report.visits, report.limit)
+        push_quiet(alloc, page, room_for(report.visits, report.limit))
     } else {
         push_attention_list(alloc, page, report)
     }
@@ -120,15 +120,22 @@ fn is_nearly_full(visits: usize, limit: u32) -> bool
     u128::from(limit) * 9 <= visits as u128 * 10
 }
 
-fn push_quiet(alloc: Global, page: &mut String, visits: usize, limit: u32) -> Result<(), AllocError>
-    ensures { OnOk result (string_bytes page.new ≡ string_bytes page.old ++ quiet_line visits limit) }
+/// How many more visits may be recorded.
+fn room_for(visits: usize, limit: u32) -> u128
+    ensures { result ≡ limit - visits }
+{
+    u128::from(limit).saturating_sub(visits as u128)
+}
+
+fn push_quiet(alloc: Global, page: &mut String, room: u128) -> Result<(), AllocError>
+    ensures { OnOk result (string_bytes page.new ≡ string_bytes page.old ++ quiet_line room) }
 {
     push_pieces(
         alloc,
         page,
         &[
             Markup("<p class='fine'>Nothing waits, and there is room for "),
-            Count(u128::from(limit).saturating_sub(visits as u128)),
+            Count(room),
             Markup(" more visits.</p>\n</section>\n"),
         ],
     )
@@ -191,13 +198,13 @@ fn push_missing_line(
             Markup("'>"),
             Text(code),
             Markup("</a> waits for number <b>"),
-            Digits(u128::from(next)),
+            Digits(next),
             Markup("</b>: "),
-            Count(waiting.count as u128),
+            Many(waiting.count),
             Markup(" came after it, "),
-            Digits(u128::from(waiting.first)),
+            Digits(waiting.first),
             Markup(" to "),
-            Digits(u128::from(waiting.last)),
+            Digits(waiting.last),
             Markup("</span></li>\n"),
         ],
     )
@@ -220,9 +227,9 @@ fn push_nearly_full(
         page,
         &[
             Markup("<li><b class='s bad'>nearly full</b><span>"),
-            Count(visits as u128),
+            Many(visits),
             Markup(" of "),
-            Count(u128::from(limit)),
+            Few(limit),
             Markup(" visits recorded: close soon, or nothing can enter</span></li>\n"),
         ],
     )
@@ -240,22 +247,38 @@ fn push_sums(
     ensures { OnOk result
         (string_bytes page.new ≡ string_bytes page.old ++ sums visits partners waiting used) }
 {
+    let all = used.twenties as u128 + used.forties as u128;
+    push_sums_of(alloc, page, all, visits, partners, waiting, used)
+}
+
+fn push_sums_of(
+    alloc: Global,
+    page: &mut String,
+    all: u128,
+    visits: usize,
+    partners: usize,
+    waiting: u128,
+    used: BlockUse,
+) -> Result<(), AllocError>
+    ensures { OnOk result
+        (string_bytes page.new ≡ string_bytes page.old ++ sums_of all visits partners waiting used) }
+{
     push_pieces(
         alloc,
         page,
         &[
             Markup("<ul class='sum'>\n<li><b>"),
-            Count(used.twenties as u128 + used.forties as u128),
+            Count(all),
             Markup("</b> containers in the yard</li>\n<li><b>"),
-            Count(used.twenties as u128),
+            Many(used.twenties),
             Markup("</b> twenties</li>\n<li><b>"),
-            Count(used.forties as u128),
+            Many(used.forties),
             Markup("</b> forties</li>\n<li><b>"),
-            Count(partners as u128),
+            Many(partners),
             Markup("</b> partners</li>\n<li><b>"),
             Count(waiting),
             Markup("</b> interchanges wait</li>\n<li><b>"),
-            Count(visits as u128),
+            Many(visits),
             Markup("</b> visits recorded</li>\n</ul>\n"),
         ],
     )

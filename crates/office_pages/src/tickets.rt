@@ -56,13 +56,13 @@ fn push_ticket_top(
             Markup("Ticket of "),
             Text(code),
             Markup(" "),
-            Digits(u128::from(number)),
+            Digits(number),
         ],
     )?;
-    push_title(alloc, page, code, u128::from(number))
+    push_title(alloc, page, code, number)
 }
 
-fn push_title(alloc: Global, page: &mut String, code: &str, number: u128) -> Result<(), AllocError>
+fn push_title(alloc: Global, page: &mut String, code: &str, number: u32) -> Result<(), AllocError>
     ensures { OnOk result (string_bytes page.new ≡ string_bytes page.old ++ ticket_title code.now number) }
 {
     push_pieces(

@@ -11,7 +11,7 @@ use crate::frame::push_top;
 use crate::layout::foot;
 use crate::marks::{load_mark, way_word};
 use crate::pieces::Piece::{
-    Count, Days, Kilos, Markup, MomentText, Number, Reply, SizeText, SlotText, Text,
+    Days, Few, Kilos, Many, Markup, MomentText, Number, Reply, SizeText, SlotText, Text,
 };
 use crate::pieces::push_pieces;
 use box6346::BoxNumber;
@@ -72,7 +72,7 @@ fn push_visits_head(alloc: Global, page: &mut String, count: usize) -> Result<()
         page,
         &[
             Markup("<section>\n<h2>Visits <small>"),
-            Count(count as u128),
+            Many(count),
             Markup(visits_head()),
         ],
     )
@@ -115,13 +115,13 @@ fn push_row(
         ≡ string_bytes page.old ++ visit_row (setup_content setup.now) (visit_content visit.now)) }
 {
     let arrival = visit.arrival;
-    let number = u128::from(visit.number);
+    let number = visit.number;
     push_pieces(
         alloc,
         page,
         &[
             Markup("<tr><td class='n'>"),
-            Count(number),
+            Few(number),
             Markup("</td><td>"),
         ],
     )?;

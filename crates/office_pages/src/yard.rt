@@ -10,7 +10,9 @@ ghost use Rattle.office_pages.specs.Yard.{all_link, block_link, block_links, cho
 use crate::frame::push_top;
 use crate::layout::foot;
 use crate::marks::load_mark;
-use crate::pieces::Piece::{Container, Count, Letter, LetterPart, Markup, SizeText, SlotText};
+use crate::pieces::Piece::{
+    Container, Count, Letter, LetterPart, Many, Markup, SizeText, SlotText,
+};
 use crate::pieces::push_pieces;
 use crate::tables::{push_no_rows, push_table_head};
 use office_reports::Standing;
@@ -174,7 +176,7 @@ fn push_block_link(
             Markup(chosen(is_shown(block, letter))),
             Letter(letter),
             Markup(" "),
-            Count(count as u128),
+            Many(count),
             Markup("</a>\n"),
         ],
     )
@@ -286,11 +288,11 @@ fn push_sums(
         page,
         &[
             Markup("</tbody>\n<tfoot><tr><th colspan='2'>"),
-            Count(whole as u128),
+            Many(whole),
             Markup(" containers</th><td colspan='2'>"),
-            Count(full as u128),
+            Many(full),
             Markup(" full, "),
-            Count(empty as u128),
+            Many(empty),
             Markup(" empty</td></tr></tfoot>\n</table>\n</section>\n"),
         ],
     )
