@@ -26,11 +26,15 @@ far_cell done whole =
     ∷ Markup (codes "</span>") ∷ [])
     ++ pieces_text (bar (done_kind done whole) done whole)
 
+unfoldable pub none_open : List ℕ
+none_open = pieces_text (Markup (codes "</td><td class='n'><b class='s ok'>done</b></td>") ∷ [])
+
+unfoldable pub some_open : ℕ → List ℕ
+some_open open_lines = pieces_text (Markup (codes "</td><td class='n'>") ∷ Count open_lines ∷ Markup (codes "</td>") ∷ [])
+
 -- how many are open
 abbrev pub open_cell : ℕ → List ℕ
-open_cell open_lines =
-    if open_lines == 0 then pieces_text (Markup (codes "</td><td class='n'><b class='s ok'>done</b></td>") ∷ [])
-    else pieces_text (Markup (codes "</td><td class='n'>") ∷ Count open_lines ∷ Markup (codes "</td>") ∷ [])
+open_cell open_lines = if open_lines == 0 then none_open else some_open open_lines
 
 -- a link to the whole list
 abbrev pub list_cell : (vessel voyage : List ℕ) → Side → List ℕ

@@ -52,10 +52,12 @@ passage_fact label (Some passage) = pieces_text
     (Markup (codes "<dt>") ∷ Markup label ∷ Markup (codes "</dt><dd>by ") ∷ Markup (way_word passage.way) ∷ Markup (codes ", ")
     ∷ Reply passage.partner passage.number ∷ Markup (codes ", ") ∷ MomentText passage.moment ∷ Markup (codes "</dd>\n") ∷ [])
 
+unfoldable pub booking_line : List ℕ → List ℕ
+booking_line booking =
+    pieces_text (Markup (codes "<dt>Booking</dt><dd>") ∷ Text booking ∷ Markup (codes "</dd>\n") ∷ [])
+
 abbrev pub booking_fact : List ℕ → List ℕ
-booking_fact booking =
-    if length booking == 0 then []
-    else pieces_text (Markup (codes "<dt>Booking</dt><dd>") ∷ Text booking ∷ Markup (codes "</dd>\n") ∷ [])
+booking_fact booking = if length booking == 0 then [] else booking_line booking
 
 abbrev pub gross_fact : ℕ → List ℕ
 gross_fact kilos =

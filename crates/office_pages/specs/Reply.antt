@@ -22,11 +22,12 @@ container_cell number =
     (Markup (codes "<a class='m' href='/pages/containers/") ∷ Part number ∷ Markup (codes "'>") ∷ Text number
     ∷ Markup (codes "</a>") ∷ [])
 
+unfoldable pub slot_text : List ℕ → List ℕ
+slot_text slot = pieces_text (Markup (codes " now in <span class='m'>") ∷ Text slot ∷ Markup (codes "</span>") ∷ [])
+
 -- where it is now, if it got a slot
 abbrev pub slot_view : List ℕ → List ℕ
-slot_view slot =
-    if length slot == 0 then []
-    else pieces_text (Markup (codes " now in <span class='m'>") ∷ Text slot ∷ Markup (codes "</span>") ∷ [])
+slot_view slot = if length slot == 0 then [] else slot_text slot
 
 -- what stands on it, if that is why
 abbrev pub blocker_view : List ℕ → List ℕ
@@ -77,12 +78,13 @@ line_columns = codes "<th class='n'>Line</th><th>Container</th><th>What became o
 abbrev pub lines_table : List Data → List ℕ
 lines_table lines = table_of (length lines) line_columns (flat_map line_row lines) (codes "It has no line.")
 
+unfoldable pub dropped_line : ℕ → List ℕ
+dropped_line dropped = pieces_text
+    (Markup (codes "<p>") ∷ Count dropped ∷ Markup (codes " open lines of the list that it replaced were dropped.</p>\n") ∷ [])
+
 -- how many open lines of the list that it replaced were dropped
 abbrev pub dropped_view : ℕ → List ℕ
-dropped_view dropped =
-    if dropped == 0 then []
-    else pieces_text
-    (Markup (codes "<p>") ∷ Count dropped ∷ Markup (codes " open lines of the list that it replaced were dropped.</p>\n") ∷ [])
+dropped_view dropped = if dropped == 0 then [] else dropped_line dropped
 
 abbrev pub accepted_head : (reference : List ℕ) → (lines refused : ℕ) → List ℕ
 accepted_head reference lines refused = pieces_text
@@ -126,7 +128,7 @@ reply_head partner number = pieces_text
     ∷ Markup (codes "'>CONTRL</a>\n<a href='/pages/partners/") ∷ Part partner ∷ Markup (codes "'>Partner</a>\n</p>\n") ∷ [])
 
 -- it waits for the number that is missing
-abbrev pub waiting_section : ℕ → List ℕ
+unfoldable pub waiting_section : ℕ → List ℕ
 waiting_section next = pieces_text
     (Markup (codes "<section>\n<div class='place'><b class='s wait'>waits</b><span>for number <b>") ∷ Digits next
     ∷ Markup (codes "</b>, which is missing</span></div>\n</section>\n") ∷ [])

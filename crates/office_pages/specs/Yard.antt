@@ -15,9 +15,12 @@ abbrev pub shown : Option ℕ → List Standing → List Standing
 shown None yard = yard
 shown (Some letter) yard = filter (is_in letter) yard
 
+unfoldable pub block_name : ℕ → List PieceContent
+block_name letter = Markup (codes "Yard, block ") ∷ Letter letter ∷ []
+
 abbrev pub yard_title : Option ℕ → List PieceContent
 yard_title None = Markup (codes "Yard") ∷ []
-yard_title (Some letter) = Markup (codes "Yard, block ") ∷ Letter letter ∷ []
+yard_title (Some letter) = block_name letter
 
 abbrev pub yard_heading : Option ℕ → List ℕ
 yard_heading block =

@@ -1,6 +1,6 @@
 //! How many archives were not asked, on a page.
 ghost use Rattle.std.specs.Prelude.{◌≡◌, ◌++◌, ℕ, List, IfOk, OnOk, string_bytes};
-ghost use Rattle.office_pages.specs.Archives.{archives_note};
+ghost use Rattle.office_pages.specs.Archives.{archives_note, note_line};
 ghost use Rattle.office_pages.specs.Fixed.{foot};
 
 use crate::layout::foot;
@@ -29,6 +29,13 @@ fn push_note(alloc: Global, page: &mut String, count: usize) -> Result<(), Alloc
     if count == 0 {
         return Ok(());
     }
+    push_note_line(alloc, page, count)
+}
+
+#[tactic(auto, unfolding(crate::specs::Archives::note_line))]
+fn push_note_line(alloc: Global, page: &mut String, count: usize) -> Result<(), AllocError>
+    ensures { OnOk result (string_bytes page.new ≡ string_bytes page.old ++ note_line count) }
+{
     push_pieces(
         alloc,
         page,

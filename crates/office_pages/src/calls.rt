@@ -3,7 +3,7 @@ ghost use Rattle.std.specs.List.{flat_map};
 ghost use Rattle.std.specs.Map.{values_of};
 ghost use Rattle.std.specs.Prelude.{◌≡◌, ◌++◌, ◌∷◌, [], codes, length, sum_by, IfOk, OnOk, string_bytes};
 ghost use Rattle.office_reports.specs.Calls.{lists_content};
-ghost use Rattle.office_pages.specs.Calls.{call_cells, call_columns, call_line, call_row, calls_head, calls_page, calls_section, done_sum, far_cell, list_cell, open_cell, open_sum};
+ghost use Rattle.office_pages.specs.Calls.{call_cells, call_columns, call_line, call_row, calls_head, calls_page, calls_section, done_sum, far_cell, list_cell, none_open, open_cell, open_sum, some_open};
 ghost use Rattle.office_pages.specs.Tables.{table_of};
 
 use crate::frame::push_top;
@@ -193,12 +193,27 @@ fn push_open(alloc: Global, page: &mut String, pending: usize) -> Result<(), All
     ensures { OnOk result (string_bytes page.new ≡ string_bytes page.old ++ open_cell pending) }
 {
     if pending == 0 {
-        return push_pieces(
-            alloc,
-            page,
-            &[Markup("</td><td class='n'><b class='s ok'>done</b></td>")],
-        );
+        push_none_open(alloc, page)
+    } else {
+        push_some_open(alloc, page, pending)
     }
+}
+
+#[tactic(auto, unfolding(crate::specs::Calls::none_open))]
+fn push_none_open(alloc: Global, page: &mut String) -> Result<(), AllocError>
+    ensures { OnOk result (string_bytes page.new ≡ string_bytes page.old ++ none_open) }
+{
+    push_pieces(
+        alloc,
+        page,
+        &[Markup("</td><td class='n'><b class='s ok'>done</b></td>")],
+    )
+}
+
+#[tactic(auto, unfolding(crate::specs::Calls::some_open))]
+fn push_some_open(alloc: Global, page: &mut String, pending: usize) -> Result<(), AllocError>
+    ensures { OnOk result (string_bytes page.new ≡ string_bytes page.old ++ some_open pending) }
+{
     push_pieces(
         alloc,
         page,

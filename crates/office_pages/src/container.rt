@@ -4,7 +4,7 @@ ghost use Rattle.std.specs.Prelude.{◌≡◌, ◌++◌, map, IfOk, OnOk, Some, 
 ghost use Rattle.office_reports.specs.Containers.{container_content, stay_content};
 ghost use Rattle.office_reports.specs.Passages.{passage_content};
 ghost use Rattle.office_reports.specs.Visits.{visits_content};
-ghost use Rattle.office_pages.specs.Container.{block_fact, booking_fact, container_body, container_page, expected_view, facts_view, gross_fact, passage_fact, passage_label, place_by, place_section, place_view, size_fact, stay_facts, wanted_view};
+ghost use Rattle.office_pages.specs.Container.{block_fact, booking_fact, booking_line, container_body, container_page, expected_view, facts_view, gross_fact, passage_fact, passage_label, place_by, place_section, place_view, size_fact, stay_facts, wanted_view};
 ghost use Rattle.terminal_core.specs.Listings.{line_entry};
 
 use crate::frame::push_top;
@@ -255,6 +255,13 @@ fn push_booking(alloc: Global, page: &mut String, booking: &str) -> Result<(), A
     if booking.is_empty() {
         return Ok(());
     }
+    push_booking_line(alloc, page, booking)
+}
+
+#[tactic(auto, unfolding(crate::specs::Container::booking_line))]
+fn push_booking_line(alloc: Global, page: &mut String, booking: &str) -> Result<(), AllocError>
+    ensures { OnOk result (string_bytes page.new ≡ string_bytes page.old ++ booking_line booking.now) }
+{
     push_pieces(
         alloc,
         page,

@@ -4,7 +4,7 @@ ghost use Rattle.std.specs.Option.{option_map};
 ghost use Rattle.std.specs.Prelude.{◌≡◌, ◌++◌, map, IfOk, OnOk, string_bytes};
 ghost use Rattle.serde_json.specs.Read.{read};
 ghost use Rattle.serde_json.specs.View.{view};
-ghost use Rattle.office_pages.specs.Reply.{accepted_head, accepted_view, answer_view, dropped_view, fault_view, lines_table, message_view, rejected_view, reply_body, reply_head, reply_page, reply_top, taken_section, taken_view, waiting_section};
+ghost use Rattle.office_pages.specs.Reply.{accepted_head, accepted_view, answer_view, dropped_line, dropped_view, fault_view, lines_table, message_view, rejected_view, reply_body, reply_head, reply_page, reply_top, taken_section, taken_view, waiting_section};
 
 use crate::contrl::push_contrl;
 use crate::frame::push_top;
@@ -105,6 +105,7 @@ fn push_answer(
 }
 
 /// Appends that it waits.
+#[tactic(auto, unfolding(crate::specs::Reply::waiting_section))]
 fn push_waiting(alloc: Global, page: &mut String, next: u32) -> Result<(), AllocError>
     ensures { OnOk result (string_bytes page.new ≡ string_bytes page.old ++ waiting_section next) }
 {
@@ -228,6 +229,13 @@ fn push_dropped(alloc: Global, page: &mut String, dropped: u128) -> Result<(), A
     if dropped == 0 {
         return Ok(());
     }
+    push_dropped_line(alloc, page, dropped)
+}
+
+#[tactic(auto, unfolding(crate::specs::Reply::dropped_line))]
+fn push_dropped_line(alloc: Global, page: &mut String, dropped: u128) -> Result<(), AllocError>
+    ensures { OnOk result (string_bytes page.new ≡ string_bytes page.old ++ dropped_line dropped) }
+{
     push_pieces(
         alloc,
         page,

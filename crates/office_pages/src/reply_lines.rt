@@ -2,7 +2,7 @@
 ghost use Rattle.std.specs.List.{flat_map};
 ghost use Rattle.std.specs.Prelude.{◌≡◌, ◌++◌, count_by, map, OnOk, string_bytes};
 ghost use Rattle.serde_json.specs.View.{view};
-ghost use Rattle.office_pages.specs.Reply.{blocker_view, container_cell, done_view, is_refused, line_row, other_mark, outcome_by, outcome_view, reason_view, refusal_view, slot_view};
+ghost use Rattle.office_pages.specs.Reply.{blocker_view, container_cell, done_view, is_refused, line_row, other_mark, outcome_by, outcome_view, reason_view, refusal_view, slot_text, slot_view};
 
 use crate::meanings::{meaning_of, reasons};
 use crate::pieces::Piece::{Count, Markup, Part, Text};
@@ -167,6 +167,13 @@ fn push_slot(alloc: Global, page: &mut String, slot: &str) -> Result<(), AllocEr
     if slot.is_empty() {
         return Ok(());
     }
+    push_slot_text(alloc, page, slot)
+}
+
+#[tactic(auto, unfolding(crate::specs::Reply::slot_text))]
+fn push_slot_text(alloc: Global, page: &mut String, slot: &str) -> Result<(), AllocError>
+    ensures { OnOk result (string_bytes page.new ≡ string_bytes page.old ++ slot_text slot.now) }
+{
     push_pieces(
         alloc,
         page,

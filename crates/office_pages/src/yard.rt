@@ -5,7 +5,7 @@ ghost use Rattle.std.specs.Prelude.{◌≡◌, ◌++◌, ◌+◌, ◌<◌, codes
 ghost use Rattle.office_reports.specs.Blocks.{is_in};
 ghost use Rattle.office_pages.specs.Frame.{page_top};
 ghost use Rattle.office_pages.specs.Pieces.{pieces_text};
-ghost use Rattle.office_pages.specs.Yard.{all_link, block_link, block_links, chosen, is_empty, is_full, is_shown, shown, standing_row, yard_body, yard_columns, yard_heading, yard_page, yard_section, yard_sums, yard_table, yard_title};
+ghost use Rattle.office_pages.specs.Yard.{all_link, block_link, block_links, block_name, chosen, is_empty, is_full, is_shown, shown, standing_row, yard_body, yard_columns, yard_heading, yard_page, yard_section, yard_sums, yard_table, yard_title};
 
 use crate::frame::push_top;
 use crate::layout::foot;
@@ -85,9 +85,16 @@ fn push_name(alloc: Global, page: &mut String, block: Option<u8>) -> Result<(), 
         (string_bytes page.new ≡ string_bytes page.old ++ pieces_text (yard_title block)) }
 {
     match block {
-        Some(letter) => push_pieces(alloc, page, &[Markup("Yard, block "), Letter(letter)]),
+        Some(letter) => push_block_name(alloc, page, letter),
         None => push_pieces(alloc, page, &[Markup("Yard")]),
     }
+}
+
+#[tactic(auto, unfolding(crate::specs::Yard::block_name))]
+fn push_block_name(alloc: Global, page: &mut String, letter: u8) -> Result<(), AllocError>
+    ensures { OnOk result (string_bytes page.new ≡ string_bytes page.old ++ pieces_text (block_name letter)) }
+{
+    push_pieces(alloc, page, &[Markup("Yard, block "), Letter(letter)])
 }
 
 /// Appends the link to the page of all blocks.
