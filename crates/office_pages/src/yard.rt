@@ -42,6 +42,7 @@ fn listed(alloc: Global, yard: &BTreeMap<[u8; 7], Standing>) -> Result<Vec<Stand
     yard.values().copied().collect(alloc)
 }
 
+#[tactic(auto, unfolding(crate::specs::Yard::block_name))]
 fn push_yard_top(alloc: Global, page: &mut String, block: Option<u8>) -> Result<(), AllocError>
     ensures { OnOk result (string_bytes page.new
         ≡ string_bytes page.old ++ page_top (codes "/pages/yard") false (yard_title block)) }
