@@ -1,7 +1,7 @@
 //! What is reported of the set-up and of the terminal that is kept in memory, without a look at the tables.
 ghost use Rattle.edi_messages.specs.Owned.{call_content};
 ghost use Rattle.office_admission.specs.Setups.{setup_content};
-ghost use Rattle.office_desk.specs.Reports.{IsText, Shows, TellsBlocks, TellsPicture, TellsYard};
+ghost use Rattle.office_desk.specs.Reports.{Shows, TellsBlocks, TellsPicture, TellsYard};
 ghost use Rattle.office_report_data.specs.Told as value;
 ghost use Rattle.office_report_data.specs.Told.{shown};
 ghost use Rattle.office_reports.specs.Calls.{lists_in};
