@@ -18,7 +18,6 @@ use Rattle.office_admission.specs.Parties.{partner_from}
 use Rattle.office_admission.specs.Setups.{SetupContent}
 use Rattle.office_tables.specs.Answers.{IsNextOf}
 use Rattle.office_reports.specs.declared.query.About.{About}
-use Rattle.office_reports.specs.declared.query.View.{View}
 use Rattle.office_report_data.specs.Told.{ReportContent, shown}
 use Rattle.office_report_data.specs.Told as value
 use Rattle.office_reports.specs.Contrls.{contrl_in}
@@ -155,8 +154,8 @@ module _ (content : SetupContent) (earlier later : List Event) (none : HasNoMigr
   asked_then (about.Reply code n) what between told = (
     told.0,
     by_partner (λ o. TellsReplyOf rows (string_bytes code) n o told.0) (λ o. TellsReplyOf whole (string_bytes code) n o told.0) (string_bytes code) n
-    (λ p low above high before reached tell. reply_told content earlier later none archived rows own then whole away is_own are after p n low above high (tells p n before reached) (string_bytes code) told.0 tell)
-    (partner_called now (string_bytes code)) refl between told.1,
+        (λ p low above high before reached tell. reply_told content earlier later none archived rows own then whole away is_own are after p n low above high (tells p n before reached) (string_bytes code) told.0 tell)
+        (partner_called now (string_bytes code)) refl between told.1,
     told.2,
   )
   asked_then (about.Contrl code n) what between told =

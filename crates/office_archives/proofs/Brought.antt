@@ -22,9 +22,7 @@ use Rattle.office_loading.specs.Tables.{LoadsOwn}
 use Rattle.office_tables.specs.Writing.{Commits, WritesWhole}
 use Rattle.office_reports.specs.declared.query.About.{About}
 use Rattle.office_reports.specs.declared.query.Query.{Query}
-use Rattle.office_reports.specs.declared.query.View.{View}
 use Rattle.office_report_data.specs.Told.{ReportContent, shown}
-use Rattle.office_report_data.specs.Told as value
 use Rattle.office_desk.specs.Beside.{IsOrNone}
 use Rattle.office_desk.specs.Calls.{OnlyLooks}
 use Rattle.office_desk.specs.Desks.{IsSound}

@@ -1,6 +1,6 @@
 -- Reports of numbers that are closed, by their archives and by the whole.
 use Rattle.std.proofs.Common.{◌≡◌, ℕ, ◌+◌, ◌<◌, ◌≤◌, inl, inr, List, [], ◌∷◌, length, Bool, true, false, cond, Option, None, Some, is_some, refl, sym, ap, subst, ◌∙◌, arith}
-use Rattle.std.specs.Prelude.{◌==◌, ◌++◌, Contains, filter, find, string_bytes, codes, decimal}
+use Rattle.std.specs.Prelude.{◌==◌, Contains, filter, find, string_bytes, codes}
 use Rattle.std.specs.Option.{option_map, option_and_then}
 use Rattle.std.proofs.lemmas.Bool.{cases_lt, eq-eqb, eqb-true}
 use Rattle.edi_messages.specs.declared.codes.PartnerKind.{PartnerKind}
@@ -14,7 +14,7 @@ use Rattle.office_rows.specs.Effects.{is_pair}
 use Rattle.office_admission.specs.Setups.{SetupContent}
 use Rattle.office_tables.specs.Answers.{has_id, IsNextOf}
 use Rattle.office_reports.specs.Contrls.{contrl_in}
-use Rattle.office_report_data.specs.Told.{ReportContent, shown}
+use Rattle.office_report_data.specs.Told.{shown}
 use Rattle.office_report_data.specs.Told as value
 use Rattle.office_history.specs.After.{accounts_from, content_after, machine_after, reply_in, AreAfter}
 use Rattle.office_history.specs.Cascade.{text_in}

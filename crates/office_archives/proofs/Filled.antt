@@ -14,7 +14,6 @@ use Rattle.office_parts.specs.Parts.{Archived, AreParts, ArePartsAfter}
 use Rattle.office_parts.proofs.LeftOver.{stay_apart, told_alike}
 use Rattle.office_parts.proofs.Splits.{contained_has, has_contained, has_filtered, has_left, has_right}
 use Rattle.office_archives.specs.Standing.{IsOwnWithRest, KnowsClosed}
-use Rattle.std.specs.List.{flat_map}
 use Rattle.std.specs.Str.{bytes_eq}
 use Rattle.box6346.specs.declared.box_number.BoxNumber.{BoxNumber}
 use Rattle.box6346.specs.declared.slot.Slot.{Slot}
@@ -37,7 +36,7 @@ use Rattle.office_reports.specs.Yard.{StandsAt, slot_in}
 use Rattle.office_reports.specs.declared.yard.Standing.{Standing}
 use Rattle.office_reports.specs.Containers.{blocker_in, by_visit, found_by, stay_by}
 use Rattle.office_reports.specs.Passages.{arrival_by}
-use Rattle.office_reports.specs.OpenLines.{is_open_for, open_line, open_lines_text}
+use Rattle.office_reports.specs.OpenLines.{is_open_for, open_lines}
 use Rattle.office_reports.specs.Partners.{PartnerContent}
 use Rattle.office_reports.specs.Work.{work_by}
 use Rattle.office_history.specs.After.{reply_in, AreKeptOnce, content_after, reply_if_any, SaysSame, machine_after}

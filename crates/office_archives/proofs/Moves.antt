@@ -19,8 +19,6 @@ use Rattle.office_admission.specs.Setups.{SetupContent}
 use Rattle.office_tables.specs.Answers.{has_id, IsNextOf}
 use Rattle.office_loading.specs.Waiting.{is_waiting, waiting_numbers}
 use Rattle.office_reports.specs.declared.query.About.{About}
-use Rattle.office_report_data.specs.Told.{ReportContent, shown}
-use Rattle.office_report_data.specs.Told as value
 use Rattle.office_reports.specs.Program.{program_version}
 use Rattle.office_reports.specs.Metrics.{gauge, gauges, gauge_text, is_here, versions_text}
 use Rattle.office_reports.specs.Partners.{PartnerContent}

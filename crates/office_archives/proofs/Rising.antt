@@ -1,5 +1,5 @@
 -- Lists that are put into a register: of each list the lines are those that were put there last.
-use Rattle.std.proofs.Common.{◌≡◌, ℕ, ◌≤◌, List, true, Option, None, Some, is_some, option_map, string_bytes, String, refl, sym, ap, subst, ◌∙◌, [], ◌∷◌, ◌++◌, Bool, map, false, cond, arith, Ordering, Less, Equal, Greater, is_gt}
+use Rattle.std.proofs.Common.{◌≡◌, length, ℕ, ◌≤◌, List, true, Option, None, Some, is_some, option_map, string_bytes, String, refl, sym, ap, subst, ◌∙◌, [], ◌∷◌, Bool, map, false, cond, arith, Ordering, Less, Equal, Greater, is_gt}
 use Rattle.std.specs.Prelude.{IsTrue, count_by, filter, option_map, ◌&&◌, ◌==◌, fold, nat_le, nat_lt}
 use Rattle.std.specs.Option.{option_and_then, option_or}
 use Rattle.std.specs.declared.alloc.Global.{Global}
@@ -24,7 +24,7 @@ use Rattle.terminal_core.specs.declared.lines.Side.{Side}
 use Rattle.terminal_core.specs.State.{LineContent, TerminalState, open_visit, side_code}
 use Rattle.office_admission.specs.Setups.{SetupContent}
 use Rattle.office_reports.specs.declared.query.About.{About}
-use Rattle.office_report_data.specs.Told.{ReportContent, shown}
+use Rattle.office_report_data.specs.Told.{ReportContent}
 use Rattle.office_report_data.specs.Told as value
 use Rattle.office_reports.specs.Listed.{AreListed}
 use Rattle.office_reports.specs.Yard.{StandsAt, slot_in}

@@ -1,5 +1,5 @@
 -- An interchange opens and closes visits in its own name: those of another stay as they are.
-use Rattle.std.proofs.Common.{◌≡◌, ℕ, List, [], ◌∷◌, ◌++◌, map, Bool, true, false, cond, ◌&&◌, ◌||◌, Option, None, Some, is_some, is_none, Result, Ok, Err, refl, sym, ap, ◌∙◌, ◌<◌, inl, inr, arith, subst}
+use Rattle.std.proofs.Common.{◌≡◌, ap₂, decimal, ℕ, List, [], ◌∷◌, ◌++◌, map, Bool, true, false, cond, ◌&&◌, ◌||◌, Option, None, Some, is_some, is_none, Result, Ok, Err, refl, sym, ap, ◌∙◌, ◌<◌, inl, inr, arith, subst}
 use Rattle.std.specs.Prelude.{◌==◌, filter, codes, Contains}
 use Rattle.std.specs.Str.{bytes_eq}
 use Rattle.std.proofs.lemmas.Bool.{and_parts, eqb-true, false_from_ne_true, and_from}

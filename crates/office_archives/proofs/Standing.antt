@@ -68,7 +68,7 @@ use Rattle.terminal_core.specs.declared.change.Source.{Source}
 use Rattle.office_reports.specs.declared.query.About.{About}
 use Rattle.office_reports.specs.declared.query.Query.{Query}
 use Rattle.office_reports.specs.declared.query.View.{View}
-use Rattle.office_report_data.specs.Told.{ReportContent, shown}
+use Rattle.office_report_data.specs.Told.{shown}
 use Rattle.office_report_data.specs.Told as value
 use Rattle.office_reports.specs.Tickets.{ticket_of as told_ticket}
 use Rattle.office_history.proofs.Loads.{one_terminal}

@@ -15,7 +15,7 @@ use Rattle.office_archives.specs.Laws.{ArchivesTellVisits, ClosingsGoByNumbers, 
 use Rattle.office_archives.specs.Visits.{visits_by, IsWithin, HasLeftWithin, IsVisitWithin}
 use Rattle.office_archives.proofs.Sources.{same_stayed, other_visit, tickets_alike}
 use Rattle.office_archives.proofs.Later.{later_leave_visits, migration_on, visits_of_taken}
-use Rattle.std.specs.Prelude.{Contains, filter, not, string_bytes, codes, decimal, find, reverse}
+use Rattle.std.specs.Prelude.{Contains, filter, not, string_bytes, find, reverse}
 use Rattle.std.proofs.lemmas.List.{append-nil, reverse-append}
 use Rattle.partner_core.specs.Deliveries.{run}
 use Rattle.terminal_core.specs.declared.visits.Departure.{Departure}
@@ -27,7 +27,6 @@ use Rattle.office_parts.specs.OwnTerminal.{is_own, own_terminal, own_visits, May
 use Rattle.std.specs.Option.{option_and_then, option_map, option_or}
 use Rattle.office_tables.specs.Answers.{IsNextOf}
 use Rattle.office_reports.specs.declared.query.About.{About}
-use Rattle.office_reports.specs.declared.query.View.{View}
 use Rattle.office_report_data.specs.Told.{ReportContent, shown}
 use Rattle.office_report_data.specs.Told as value
 use Rattle.office_reports.specs.Contrls.{contrl_in}
@@ -36,7 +35,6 @@ use Rattle.office_parts.proofs.Takings.{visits_same}
 use Rattle.office_parts.proofs.Orders.{body_there, found_beyond, reply_there}
 use Rattle.office_desk.specs.Reports.{AreShownAlike, contrl_for_partner, partner_called, ticket_if_taken, ticket_of, TellsAbout, TellsReply, TellsReplyOf}
 use Rattle.office_archives.specs.Beyond.{IsBeyond, IsOfNumberBeyond}
-use Rattle.std.specs.List.{flat_map, list_any}
 use Rattle.std.specs.Cmp.Lexicographic.{bytes_decides}
 use Rattle.std.proofs.lemmas.List.Folds.{find-append}
 use Rattle.box6346.specs.declared.box_number.BoxNumber.{BoxNumber}

@@ -242,8 +242,8 @@ module _ (content : SetupContent) (es : List Event) (archives : List Archive) (a
         ap (ticket_of mine.visits rows (string_bytes partner) k) here ∙ ap (ticket_if_taken mine.visits (string_bytes partner) p k) (reply_own p k above) ∙ sym (ap (ticket_of mine.visits own (string_bytes partner) k) here) in (
           what,
           by_whole (about.Ticket partner k) what
-          (beyond_told content es archived own whole (about.Ticket partner k) what are by_numbers (subst (λ o. IsBeyond closed o k) (sym here) above)
-          (λ shown_as. told shown_as ∙ ap (option_map (shown shown_as)) same)),
+              (beyond_told content es archived own whole (about.Ticket partner k) what are by_numbers (subst (λ o. IsBeyond closed o k) (sym here) above)
+              (λ shown_as. told shown_as ∙ ap (option_map (shown shown_as)) same)),
           refl,
         )
     number_shown other view what is far told = absurd is
@@ -264,7 +264,7 @@ module _ (content : SetupContent) (es : List Event) (archives : List Archive) (a
   nobody_shown code n (about.Ticket partner k) view is called = λ low by_numbers copies. (
     None,
     by_whole (about.Ticket partner k) None
-    (λ shown_as. sym (ap (λ o. option_map (shown shown_as) (ticket_of state.visits whole (string_bytes partner) k o)) (ap (partner_called now) is.0 ∙ called))),
+        (λ shown_as. sym (ap (λ o. option_map (shown shown_as) (ticket_of state.visits whole (string_bytes partner) k o)) (ap (partner_called now) is.0 ∙ called))),
     refl,
   )
   nobody_shown code n other view is called = absurd is

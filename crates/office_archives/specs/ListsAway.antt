@@ -1,5 +1,5 @@
 -- Lists that are away: what is found of one, and what its lines report.
-use Rattle.std.specs.Prelude.{◌≡◌, ℕ, Bool, false, true, List, Option, None, Some, option_map}
+use Rattle.std.specs.Prelude.{◌≡◌, Bool, false, true, List, Option, None, Some, option_map}
 use Rattle.sqlite_trees.specs.declared.store.Store.{Ghosts}
 use Rattle.edi_messages.specs.Owned.{call_content}
 use Rattle.edi_messages.specs.Purposes.{CallContent}

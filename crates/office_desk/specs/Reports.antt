@@ -1,7 +1,6 @@
 -- What the desk tells: the reports of the rows that it holds.
 use Rattle.std.specs.Prelude.{◌≡◌, ℕ, ◌+◌, ◌-◌, List, [], ◌∷◌, Option, None, Some, IsTrue, codes, decimal, option_and_then, option_map, slice_get, string_bytes}
 use Rattle.std.specs.FinMap as finite_map
-use Rattle.std.specs.Map.{values_of}
 use Rattle.std.specs.List.Sorted.{IsPermutation}
 use Rattle.sqlite.specs.Held.{state}
 use Rattle.sqlite.specs.State.{State}

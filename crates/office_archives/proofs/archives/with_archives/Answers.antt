@@ -1,4 +1,4 @@
-use Rattle.std.proofs.Common.{◌≡◌, ℕ, List, Option, None, Some, option_map, string_bytes, ap, sym, ◌∙◌}
+use Rattle.std.proofs.Common.{◌≡◌, ℕ, List, Option, None, Some, option_map, string_bytes, ap, ◌∙◌}
 use Rattle.office_rows.proofs.Creating.{if_ok}
 use Rattle.serde_json.specs.Written.{compact_text}
 use Rattle.office_reports.specs.declared.query.View.{View}

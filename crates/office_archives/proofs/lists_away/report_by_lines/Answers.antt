@@ -1,8 +1,8 @@
-use Rattle.std.proofs.Common.{◌≡◌, ℕ, List, Option, option_map, string_bytes, refl, sym, subst}
+use Rattle.std.proofs.Common.{◌≡◌, List, Option, option_map, refl, sym, subst}
 use Rattle.edi_messages.specs.Owned.{call_content}
 use Rattle.edi_messages.specs.Purposes.{CallContent}
 use Rattle.edi_messages.specs.declared.call.Call.{Call}
-use Rattle.terminal_core.specs.State.{LineContent, TerminalState}
+use Rattle.terminal_core.specs.State.{TerminalState}
 use Rattle.terminal_core.specs.declared.lines.Side.{Side}
 use Rattle.office_reports.specs.Work.{work_by}
 use Rattle.office_reports.specs.declared.query.About.{About}
