@@ -236,6 +236,7 @@ COUNTS = {
     'office_accounts': 'partners',
     'office_containers': 'containers in the yard',
     'office_visits': 'visits recorded',
+    'office_visits_ever': 'visits recorded, put away ones too',
     'office_visits_limit': 'visits that may be recorded',
     'office_interchanges_waiting': 'interchanges that wait',
     'office_partners_waiting': 'partners of whom one waits',

@@ -7,12 +7,11 @@ ghost use Rattle.office_closing.specs.declared.register.Segment.{Segment};
 ghost use Rattle.office_admission.specs.SetupAccounts.{account_contents};
 ghost use Rattle.office_admission.specs.Setups.{setup_content};
 ghost use Rattle.terminal_core.specs.Rows.{visit_content};
-ghost use Rattle.terminal_core.specs.State.{last_number};
 
 use office_admission::{Account, Setup};
 use office_closing::{Archive, Register, Segment, SettledList, is_same_list};
 use office_desk::Beside;
-use terminal_core::Visit;
+use terminal_core::newest_number;
 
 /// The archive at a place, of those that a register names.
 pub(crate) fn archive_at(archives: &[Archive], place: u16) -> Option<&Archive>
@@ -174,16 +173,6 @@ pub(crate) fn reaches(archive: &Beside, segments: &[Segment], visits: u32) -> bo
     ensures { result ≡ true → Reaches segments.now visits archive.now.nexts.items archive.now.terminal }
 {
     newest_number(archive.terminal.visits()) == visits && are_below_next(segments, &archive.nexts)
-}
-
-/// The number of the newest visit, 0 if there is none.
-fn newest_number(visits: &[Visit]) -> u32
-    ensures { result ≡ last_number (map visit_content visits.now) }
-{
-    match visits.last() {
-        Some(visit) => visit.number,
-        None => 0,
-    }
 }
 
 /// Whether the last number of each segment is below the next one of its partner.

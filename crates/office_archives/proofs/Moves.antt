@@ -9,7 +9,7 @@ use Rattle.edi_messages.specs.declared.codes.PartnerKind.{PartnerKind}
 use Rattle.partner_core.specs.Deliveries.{run}
 use Rattle.terminal_core.specs.declared.visits.Departure.{Departure}
 use Rattle.terminal_core.specs.Rows.{VisitContent}
-use Rattle.terminal_core.specs.State.{TerminalState, LineContent, line_of, is_in, is_open_visit, is_visit_of}
+use Rattle.terminal_core.specs.State.{TerminalState, LineContent, last_number, line_of, is_in, is_open_visit, is_visit_of}
 use Rattle.office_admission.specs.Deliveries.{deliveries_of}
 use Rattle.office_replies.specs.Events.{Event}
 use Rattle.office_rows.specs.Effects.{is_pair}
@@ -167,9 +167,11 @@ partners_told content es archived own whole asked found are is told = at asked i
     at other is told = absurd is
 
 gauges_kept : (stays : ℕ → Bool) (state : TerminalState) (limit : ℕ) (partners : List PartnerContent) → count_by is_here (own_visits stays state.visits) ≡ count_by is_here state.visits
+    → last_number (own_visits stays state.visits) ≡ last_number state.visits
     → gauges (own_terminal stays state) limit partners ≡ map (with_visits (length (own_visits stays state.visits))) (gauges state limit partners)
-gauges_kept stays state limit partners here =
-    ap₂ ◌∷◌ refl (ap₂ ◌∷◌ (ap (gauge (codes "office_containers") (codes "Containers in the yard.")) here) refl)
+gauges_kept stays state limit partners here newest =
+    ap₂ ◌∷◌ refl (ap₂ ◌∷◌ (ap (gauge (codes "office_containers") (codes "Containers in the yard.")) here)
+    (ap₂ ◌∷◌ refl (ap₂ ◌∷◌ (ap (gauge (codes "office_visits_ever") (codes "Visits recorded, put away ones too.")) newest) refl)))
 
 pub metrics_told : MetricsAreTold
 metrics_told content es archived own whole found are told =
@@ -182,7 +184,7 @@ metrics_told content es archived own whole found are told =
       tells = (
         told.0,
         all_looked_up content es archived own whole are 1 now.partners told.0 told.1,
-        told.2 ∙ ap (λ l. Some (flat_map gauge_text l ++ versions_text program_version tables_version)) (gauges_kept archived.stays state now.visit_limit told.0 (here_kept archived.stays state.visits may.over)),
+        told.2 ∙ ap (λ l. Some (flat_map gauge_text l ++ versions_text program_version tables_version)) (gauges_kept archived.stays state now.visit_limit told.0 (here_kept archived.stays state.visits may.over) may.newest),
       );
     }
 

@@ -17,13 +17,13 @@ ghost use Rattle.office_admission.specs.Limits.{most_partners};
 use crate::comparing::Numbers;
 use crate::faults::{CloseFault, Refusal};
 use crate::lists::{lists_in_both, lists_to_register};
-use crate::visits::{VisitFault, newest_number, visits_to_go};
+use crate::visits::{VisitFault, visits_to_go};
 use crate::{Archive, Register, Segment, SettledList, done_lists, is_file_name, is_sound};
 use office_admission::{Account, MOST_PARTNERS, Setup};
 use office_loading::Closed;
 use office_parts::NamedList;
 use std::alloc::{AllocError, Global};
-use terminal_core::Terminal;
+use terminal_core::{Terminal, newest_number};
 
 /// What a store or an archive has.
 #[derive(Drop)]

@@ -193,6 +193,7 @@ label_of name =
     if bytes_eq name (codes "office_accounts") then codes "partners"
     else if bytes_eq name (codes "office_containers") then codes "containers in the yard"
     else if bytes_eq name (codes "office_visits") then codes "visits recorded"
+    else if bytes_eq name (codes "office_visits_ever") then codes "visits recorded, put away ones too"
     else if bytes_eq name (codes "office_visits_limit") then codes "visits that may be recorded"
     else if bytes_eq name (codes "office_interchanges_waiting") then codes "interchanges that wait"
     else if bytes_eq name (codes "office_partners_waiting") then codes "partners of whom one waits"

@@ -142,6 +142,8 @@ fn label_of(name: &str) -> &'static str
         "containers in the yard"
     } else if name == "office_visits" {
         "visits recorded"
+    } else if name == "office_visits_ever" {
+        "visits recorded, put away ones too"
     } else if name == "office_visits_limit" {
         "visits that may be recorded"
     } else if name == "office_interchanges_waiting" {

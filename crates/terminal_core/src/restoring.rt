@@ -10,7 +10,7 @@ ghost use Rattle.yard_core.specs.SoundYard.{IsSound};
 ghost use Rattle.yard_core.specs.YardMap.{placement_of};
 
 use crate::change::Place;
-use crate::visits::{Visit, is_open, last_of};
+use crate::visits::{Visit, is_open, newest_number};
 use std::alloc::{AllocError, Global};
 use thiserror::Error;
 use yard_core::{Plan, Yard, YardFault};
@@ -56,7 +56,7 @@ pub(crate) fn restored_yard(
     ensures ok { IfOk result (IsYardOf plan visit_limit (map visit_content visits.now) places.items) }
     ensures unsound { IfErr result (RefusesYard plan visit_limit (map visit_content visits.now) places.items) }
 {
-    if last_of(visits) > visit_limit || !are_numbered(visits) {
+    if newest_number(visits) > visit_limit || !are_numbered(visits) {
         return Err(RestoreFault::Unsound);
     }
     let numbers = numbers_of(alloc, visits)?;
