@@ -6,7 +6,6 @@ ghost use Rattle.office_closing.specs.Register.{archive_content, register_conten
 ghost use Rattle.office_closing.specs.declared.register.Segment.{Segment};
 ghost use Rattle.office_admission.specs.SetupAccounts.{account_contents};
 ghost use Rattle.office_admission.specs.Setups.{setup_content};
-ghost use Rattle.terminal_core.specs.Rows.{visit_content};
 
 use office_admission::{Account, Setup};
 use office_closing::{Archive, Register, Segment, SettledList, is_same_list};
