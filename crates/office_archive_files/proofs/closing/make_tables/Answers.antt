@@ -73,4 +73,4 @@ returns-in_err-create_register-in-Err-clause-refused g c clean is_open =
     let p = err_from_is_err_and c.from_residual.result c.from_residual.ensures.1 in
     let read : HasCleanDisk (state g.S.Store c.read_register.new.conn) = omega (arith, c.create_register.ensures.crash.clean, clean) in
     let it = c.in_err-create_register-in-Err.ensures.err clean is_open in
-    rw p.1 (it.1.1 ∙ (c.read_register.ensures.reads.keeps read).committed it.0)
+    rw p.1 (it.2 ∙ (c.read_register.ensures.reads.keeps read).committed it.0)
