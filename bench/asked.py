@@ -1,15 +1,19 @@
-"""What a request costs: pages beside the reports that they show, and the journal from the front and from the back of a store.
+"""What a request costs: pages beside the reports that they show, the journal from the front and from the back of a store, and a
+report that several clients ask for at a time.
 
 Instructions are those of so many requests more to a server that valgrind counts, so those of its start and opening are left out.
 """
+import os
 import shutil
 
 import streams
 from pages import MOST_TEXTS, begun, what_of
-from rows import MARKS, Row, filled, free_port
-from running import COUNTING, Server, counted_in, processor_seconds
+from rows import MARKS, Row, filled, free_port, medians
+from running import COUNTING, Server, Stream, counted_in, processor_seconds
 
 FEW, MORE = 5, 15           # requests whose instructions are counted
+CLIENTS, GETS = (1, 10, 100), 5_000     # how many are open at a time; requests that are timed
+SMALL = 200                 # containers of a small yard
 TURNS, TIMED = 5, 20        # of which the least counts; requests that are timed together
 SIZE = 1024                 # bytes of a page of a new store
 BOX = streams.box(5000)
@@ -65,3 +69,25 @@ def asked(stores, client):
         yield from shown(stores, client)
         yield from journal(stores, client, MARKS[1], counted, 'thousand instructions')
     yield from journal(stores, client, MARKS[-1], timed, 'ms of a processor', '10 ms')
+
+
+def by_clients(stores, client):
+    """A small yard's report, by so many clients at a time; beside the office of the path BEFORE in the environment, if it names one,
+    else beside the peer. Five runs, in each of which one program follows the other."""
+    store = stores.new('office-clients')
+    office = Stream(stores.office, 'deliver', store, '-')
+    office.feed(streams.filling(SMALL))
+    office.close()
+    return medians(lambda: [by_so_many(stores.office, os.environ.get('BEFORE') or stores.peer, client, store, count) for count in CLIENTS])
+
+
+def by_so_many(office, other, client, store, clients):
+    """The row of so many clients."""
+    spent = []
+    for program in (office, other):
+        if program:
+            server = Server(program, 'serve', store, str(free_port()), str(GETS))
+            spent.append(server.asked(client, '/yard', str(GETS), str(clients))[0] * 1e6)
+            server.close()
+    what = 'GET /yard, %d containers, %d at a time' % (SMALL, clients)
+    return Row(what, 'us', *(spent + [None])[:2], '1.0 times' if os.environ.get('BEFORE') else '', True)
