@@ -1,5 +1,5 @@
 -- The parts of a segment's text stand for its elements and values.
-use Rattle.std.proofs.Common.{◌≡◌, ℕ, zero, suc, ◌+◌, ◌<◌, ◌≤◌, Bool, true, false, cond, nat_eq, List, [], ◌∷◌, length, take, drop, get_or, map, Option, Some, None, refl, sym, ap, ◌∙◌, inl, inr, add-one, arith}
+use Rattle.std.proofs.Common.{◌≡◌, ℕ, zero, suc, ◌+◌, ◌-◌, ◌<◌, ◌≤◌, Bool, true, false, cond, nat_eq, List, [], ◌∷◌, length, take, drop, get_or, map, Option, Some, None, refl, sym, ap, ◌∙◌, inl, inr, add-one, arith}
 use Rattle.std.specs.Option.{option_map, option_map_or}
 use Rattle.std.specs.Prelude.{unwrap_or}
 use Rattle.edi_syntax.specs.Characters.{is_data_byte, is_release}
@@ -148,6 +148,14 @@ elements_by_parts s (b ∷ bytes) released =
     ∙ ap (λ (p : List (List ℕ)). with_token t b (elements_in s (releases t) p)) (element_releases_nothing s t bytes)))
 
 -- ---- a part by the place of its separators
+
+-- the parts of a text that begins with a separator, after the first, are those of the rest
+pub parts_behind_first : (s : Service) (separator b : ℕ) (bytes : List ℕ) (i : ℕ) → b ≡ separator → 0 < i →
+    get_or (parts_of s separator false (b ∷ bytes)) i [] ≡ get_or (parts_of s separator false bytes) (i - 1) []
+unfolding parts_of
+parts_behind_first s separator b bytes zero is some = absurd (omega (arith, some))
+parts_behind_first s separator b bytes (suc j) is some =
+    rw (eq-eqb b separator is) (ap (λ (n : ℕ). get_or (parts_of s separator false bytes) n []) (omega arith))
 
 pub parts_at : (s : Service) (separator : ℕ) (bytes : List ℕ) (released : Bool) → parts_of s separator released bytes ≡ option_map_or (λ n. take n bytes ∷ parts_of s separator false (drop (suc n) bytes)) (separator_of s separator released bytes) (bytes ∷ [])
 unfolding parts_of separator_of

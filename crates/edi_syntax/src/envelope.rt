@@ -67,6 +67,7 @@ impl<'a> Iterator for MessageSegments<'a> {
 
     ghost remaining = { item_count message_segments_left };
 
+    #[inline(always)]
     fn next(&mut self) -> Option<Segment<'a>> {
         let mut rest = self.rest;
         let segment = rest.next()?;

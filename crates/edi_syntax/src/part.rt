@@ -37,6 +37,7 @@ pub(crate) fn split_once<'a>(
 
 /// As `split_once`, of the rest of a whole text, which goes on far after the separator: there `memchr` finds it faster
 /// than the look at each byte of `split_once`, which suits short parts.
+#[inline(always)]
 pub(crate) fn split_once_in_rest<'a>(
     service: Service,
     separator: u8,
@@ -55,6 +56,7 @@ pub(crate) fn split_once_in_rest<'a>(
 
 /// What comes before and after the first separator that is not released. `at` bytes come before the first one,
 /// released or not: all, if there is none.
+#[inline(always)]
 fn split_from<'a>(
     service: Service,
     separator: u8,
@@ -71,6 +73,7 @@ fn split_from<'a>(
 
 /// Where the first separator is that is not released. `at` bytes come before the first one, released or not: all,
 /// if there is none.
+#[inline(always)]
 fn separator_at(service: Service, separator: u8, bytes: &[u8], at: usize) -> Option<usize>
     requires { at ≡ position_or_len (λ b. b == separator) bytes.now }
     ensures found { result ≡ separator_of service separator false bytes.now }
@@ -90,6 +93,7 @@ fn separator_at(service: Service, separator: u8, bytes: &[u8], at: usize) -> Opt
 
 /// How many bytes come before the first separator, released or not, in the rest of a text, which goes on far after
 /// it: all if there is none.
+#[inline(always)]
 fn len_before_in_rest(separator: u8, bytes: &[u8]) -> usize
     ensures { result ≡ position_or_len (λ b. b == separator) bytes.now }
 {

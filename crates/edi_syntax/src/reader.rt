@@ -58,6 +58,7 @@ pub(crate) fn next_segment<'a>(
 }
 
 /// The next segment of a text that is nothing but segments: it ends at the first terminator that is not released.
+#[inline(always)]
 pub(crate) fn next_of_segments<'a>(
     service: Service,
     bytes: &'a [u8],

@@ -48,12 +48,21 @@ impl<'a> Segment<'a> {
         Components::new(self.service, self.element(element))
     }
 
+    /// The text of an element. Elements stand after a separator each, so the first of their parts is empty mostly, and is
+    /// passed over by one comparison.
     fn element(&self, element: usize) -> &'a [u8]
+        requires { 0 < element }
         ensures { result.now ≡ element_text self.now element }
     {
         let body = self.body;
+        let separator = self.service.element;
         let elements = &body[body.len().min(3)..];
-        part(self.service, self.service.element, elements, element)
+        match elements.split_first() {
+            Some((first, rest)) if *first == separator => {
+                part(self.service, separator, rest, element - 1)
+            }
+            _ => part(self.service, separator, elements, element),
+        }
     }
 
     /// The value of an element, both counted from one. One that isn't there is empty.

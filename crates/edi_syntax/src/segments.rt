@@ -65,6 +65,7 @@ impl<'a> Iterator for Segments<'a> {
 
     ghost remaining = { item_count segments_left };
 
+    #[inline(always)]
     fn next(&mut self) -> Option<Segment<'a>> {
         let (segment, rest) = next_of_segments(self.service, self.rest)?;
         self.rest = rest;

@@ -1,5 +1,5 @@
 -- A closing over files is one over connections that show what the files held.
-use Rattle.std.proofs.Common.{◌≡◌, inl, inr, ℕ, List, true, false, Result, sym, ap, subst, ◌∙◌, arith}
+use Rattle.std.proofs.Common.{◌≡◌, inl, inr, ℕ, List, Bool, true, false, Result, sym, ap, subst, ◌∙◌, arith}
 use Rattle.sqlite_schema.specs.Names.{same_name}
 use Rattle.sqlite.specs.Effect.{Database}
 use Rattle.sqlite.specs.Held as connection
@@ -36,7 +36,7 @@ use Rattle.office_archive_files.specs.Stops.{MayBeClosed, StopsAreNoEvents, Stop
 -- ---- one file
 
 -- the tables of a register are in its schema
-never_missing : (layout : Layout) → AreMissing register_tables (schema_in layout) → ⊥
+pub never_missing : (layout : Layout) → AreMissing register_tables (schema_in layout) → ⊥
 unfolding same_name
 never_missing older missing = let none : true ≡ false = missing.0 in absurd cc
 never_missing whole missing = let none : true ≡ false = missing.0 in absurd cc
@@ -50,19 +50,19 @@ module _ {S : Type 0} (g : Ghosts S) (image : Image) (conn : connection.Held S) 
   has_rows rows shows settled holds = subst (HasRows rows) (sym (shows_rows rows shows settled holds)) holds.are
 
   -- the register that they held, or the empty one that was made
-  module _ (register : RegisterContent) (shows : ShowsRegister g image conn) where
+  module _ {may_make names_none : Bool} (register : RegisterContent) (shows : ShowsRegister g image may_make names_none conn) where
     has_committed : HoldsRegister image register → HasRegister register (state g conn).committed
     has_committed (inl (db, held, (layout, has))) =
         let found : (state g shows.found).committed ≡ record { schema = schema_in layout; trees = db } = shows.shows (shows.clean clean) db (schema_in layout) held has.listed in
         elim (shows.made clean) [
           | inl keeps ↦ (layout, subst (HasRegisterIn layout register) (sym (keeps.same ∙ found)) has)
-          | inr makes ↦ absurd (never_missing layout (subst (λ (d : Database). AreMissing register_tables d.schema) found makes.missing))
+          | inr makes ↦ absurd (never_missing layout (subst (λ (d : Database). AreMissing register_tables d.schema) found makes.1.missing))
         ]
     has_committed (inr (none, is)) =
         let empty = shows.empty (shows.clean clean) none in
         elim (shows.made clean) [
           | inl keeps ↦ absurd (keeps.some empty)
-          | inr makes ↦ subst (λ content. HasRegister content (state g conn).committed) (sym is) (makes.makes.register (ap (λ (d : Database). d.schema) makes.same ∙ empty))
+          | inr makes ↦ subst (λ content. HasRegister content (state g conn).committed) (sym is) (makes.1.makes.register (ap (λ (d : Database). d.schema) makes.1.same ∙ empty))
         ]
 
     has_register : HoldsRegister image register → HasRegister register (state g conn).now
@@ -89,27 +89,27 @@ module _ {S R A M : Type 0} (s : Ghosts S) (r : Ghosts R) (a : Ghosts A) (m : Gh
   }
 
   own_settled : IsSettled (state s over.found_own)
-  own_settled = over.own_settled found_clean.store
+  own_settled = over.opened.own_settled found_clean.store
 
   copy_settled : IsSettled (state a over.found_copy)
-  copy_settled = over.copy_settled found_clean.archive
+  copy_settled = over.opened.copy_settled found_clean.archive
 
   may_be_closed : MayBeClosed over.names content es archives held found
   may_be_closed = record {
     given = may.given;
     has = record {
-      own = has_rows s images.store over.found_own found_clean.store held.own over.own_shows own_settled may.own;
-      register = has_register r images.register over.found_register found_clean.register held.register over.register_shows may.register;
-      copy = has_rows a images.archive over.found_copy found_clean.archive held.copy over.copy_shows copy_settled may.copy;
-      copied = has_register m images.archive_register over.found_copied found_clean.archive_register held.copied over.copied_shows may.copied;
+      own = has_rows s images.store over.found_own found_clean.store held.own over.opened.own_shows own_settled may.own;
+      register = has_register r images.register over.found_register found_clean.register held.register over.opened.register_shows may.register;
+      copy = has_rows a images.archive over.found_copy found_clean.archive held.copy over.opened.copy_shows copy_settled may.copy;
+      copied = has_register m images.archive_register over.found_copied found_clean.archive_register held.copied over.opened.copied_shows may.copied;
       own_orderly = orderly content es archives held.register held.own may.own.db may.given may.opens;
       copy_orderly = may.copy_orderly;
       register_sound = may.opens.sound;
       copied_sound = may.copied_sound;
     };
-    opens = subst (λ (d : Database). OpensAfter content es archives held.register held.own d.trees) (sym (shows_rows s images.store over.found_own found_clean.store held.own over.own_shows own_settled may.own)) may.opens;
+    opens = subst (λ (d : Database). OpensAfter content es archives held.register held.own d.trees) (sym (shows_rows s images.store over.found_own found_clean.store held.own over.opened.own_shows own_settled may.own)) may.opens;
     store = own_settled;
-    register = over.register_shows.settled found_clean.register;
+    register = over.opened.register_shows.settled found_clean.register;
     last = may.last;
   }
 

@@ -3,13 +3,13 @@ use Rattle.std.proofs.Common.{◌≡◌, inl, ℕ, List, [], None, Option, Some,
 use Rattle.sqlite_disk.specs.declared.Disk.{Ghosts as DiskGhosts}
 use Rattle.sqlite_trees.specs.declared.store.Store.{Ghosts}
 use Rattle.sqlite.specs.Files.{file_state, over_files}
-use Rattle.sqlite.specs.Held.{Held}
+use Rattle.sqlite.specs.Held.{Held, state}
 use Rattle.sqlite.specs.Recovery.{Image}
 use Rattle.sqlite.specs.State.{HasCleanDisk}
 use Rattle.sqlite.specs.declared.FileStore.{FileStore}
 use Rattle.office_rows.specs.Stored.{HasRows}
 use Rattle.office_rows.specs.Tables.{office_schema}
-use Rattle.office_commands.specs.Opening.{ShowsHeld}
+use Rattle.office_commands.specs.Opening.{Shows, ShowsHeld}
 use Rattle.office_parts.specs.Archives.{Archive}
 use Rattle.office_closing.specs.Changes.{empty_register}
 use Rattle.office_closing.specs.Register.{RegisterContent, register_content}
@@ -25,6 +25,10 @@ opened_at image list place found conn shows clean_before same hold clean now_ope
     let holds = hold archive at in
     let shown = shows (clean_before clean) holds.db office_schema holds.held holds.are.lists in
     record { has = subst (HasRows archive.rows) (sym (same clean ∙ shown)) holds.are; kept_once = holds.kept_once }
+
+-- what was only read shows what the files held
+pub shown_after : {S : Type 0} (g : Ghosts S) (image : Image) (found conn : Held S) → (HasCleanDisk (state g conn) → HasCleanDisk (state g found)) → (HasCleanDisk (state g conn) → (state g conn).committed ≡ (state g found).committed) → Shows g image found → Shows g image conn
+shown_after g image found conn clean_before same shows clean db schema held lists = same clean ∙ shows (clean_before clean) db schema held lists
 
 -- ---- a store of which nothing was put away
 

@@ -1,14 +1,15 @@
-ghost use Rattle.std.specs.Prelude.{◌≡◌, ◌++◌, ◌∷◌, [], codes, map, IfOk, OnErr, OnOk, string_bytes};
+ghost use Rattle.std.specs.Prelude.{◌≡◌, ◌++◌, ◌∷◌, [], codes, map, IfErr, IfOk, OnOk, string_bytes};
 ghost use Rattle.office_archive_files.specs.Listing.{FollowIn, IsListed, archive_line, listing_status, listing_text, word_of};
 ghost use Rattle.office_commands.specs.Ending.{Prints};
-ghost use Rattle.office_closing.specs.Register.{archive_content};
+ghost use Rattle.office_commands.specs.Refusing.{IsRefused};
+ghost use Rattle.office_closing.specs.Register.{archive_content, register_content};
 ghost use Rattle.office_reports.specs.Names.{line};
-ghost use Rattle.office_admission.specs.Setups.{setup_content};
+ghost use Rattle.sqlite.specs.WalFiles.{image_at};
 
 use crate::in_files::InFiles;
-use crate::shelf::{ArchiveStart, FileShelf, Found};
+use crate::shelf::{ArchiveStart, Finds, Found};
 use office_closing::{Archive, Register};
-use office_commands::{DONE, OpenFault, REFUSED, open_shelf, print};
+use office_commands::{DONE, OpenFault, REFUSED, look_at_office, print};
 use office_replies::Port;
 use office_reports::texts::push_line;
 use sqlite::Start;
@@ -24,13 +25,16 @@ pub fn archives_over<S: Start, B: ArchiveStart, W: Write>(
     beside: &InFiles<'_, B>,
     writer: &mut Port<W>,
 ) -> Result<u8, OpenFault>
-    ensures lists { IfOk result (λ status. IsListed (λ text wanted. Prints writer.old.failed writer.new.failed
-        writer.new.flushed (W.contents writer.old.inner) (W.contents writer.new.inner) text wanted status)) }
-    ensures err { OnErr result (writer.new ≡ writer.old) }
+    ensures lists { IfOk result (λ status. IsListed ⟦<sqlite::FileStore<sqlite::FileFrom<S>> as sqlite_trees::store::Store>⟧ ⟦<sqlite::FileStore<sqlite::FileFrom<B>> as sqlite_trees::store::Store>⟧ (image_at S.Start) (image_at B.Start) store.now
+        (λ text wanted. Prints writer.old.failed writer.new.failed writer.new.flushed
+        (W.contents writer.old.inner) (W.contents writer.new.inner) text wanted status)) }
+    ensures refused { IfErr result (λ fault. IsRefused ⟦<sqlite::FileStore<sqlite::FileFrom<S>> as sqlite_trees::store::Store>⟧ (image_at S.Start) ⊥ fault × (writer.new ≡ writer.old)) }
 {
-    let (desk, register, shelf) = open_shelf(rt, store, start, beside)?;
+    let (looked, register, setup) = look_at_office(rt, store, start)?;
+    let path = String::from_str(rt.alloc(), store)?;
+    let shelf = beside.shelf(path, setup);
     let lines = archive_lines(rt.alloc(), &register, &shelf)?;
-    drop(desk.into_connection());
+    drop(looked);
     let count = register.archives.len();
     Ok(print_listing(writer, count, lines.as_str()))
 }
@@ -48,17 +52,17 @@ fn print_listing<W: Write>(writer: &mut Port<W>, count: usize, lines: &str) -> u
 }
 
 /// A line for each archive.
-fn archive_lines<B: ArchiveStart>(
+fn archive_lines<F: Finds>(
     alloc: Global,
     register: &Register,
-    shelf: &FileShelf<'_, B>,
+    shelf: &F,
 ) -> Result<String, AllocError>
-    ensures { IfOk result (λ lines. FollowIn (setup_content shelf.now.setup)
+    ensures { IfOk result (λ lines. FollowIn (F.is_found shelf.now (register_content register.now))
         (map archive_content register.now.archives.items) [] (string_bytes lines)) }
 {
     let mut lines = String::new(alloc);
     for archive in &register.archives {
-        let found = shelf.look_at(archive.place, archive.file.as_str())?;
+        let found = shelf.look_at(register, archive.place, archive.file.as_str())?;
         push_archive(alloc, &mut lines, archive, found)?;
     }
     Ok(lines)

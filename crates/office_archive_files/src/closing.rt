@@ -1,7 +1,9 @@
-ghost use Rattle.std.specs.Prelude.{◌≡◌, ◌⊎◌, false, IfOk, IfSome, OnOk};
-ghost use Rattle.office_archive_files.specs.Closing.{ClosesOver, KeepsRegister, MakesRegister, ShowsRegister};
+ghost use Rattle.std.specs.Prelude.{◌≡◌, ⊤, false, true, IfErr, IfNone, IfOk, IfSome, IsTrue, OnErr};
+ghost use Rattle.office_archive_files.specs.Closing.{AreOpened, ClosesOver, Images, IsOfOpening, MayMakeRegister, ShowsRegister, TellsNone};
 ghost use Rattle.office_commands.specs.Opening.{HoldsNoTables, Shows};
+ghost use Rattle.office_closing.specs.Files.{AreIdle, files};
 ghost use Rattle.office_closing.specs.Transactions.{IsSettled};
+ghost use Rattle.office_tables.specs.Faults.{IsOfStore, IsOfStoreOr};
 ghost use Rattle.office_rows.specs.Tables.{no_schema};
 ghost use Rattle.sqlite.specs.Held.{state};
 ghost use Rattle.sqlite.specs.Recovery.{Image};
@@ -51,14 +53,16 @@ pub trait ClosingFile<S: Alter> {
     fn open_there(self, rt: &HostRuntime, path: &str) -> Result<Connection<S>, TableFault>
         ensures idle { IfOk result (λ conn. conn.in_transaction ≡ false) }
         ensures opens { IfOk result (λ conn. HasCleanDisk (state S.Store conn) → Opens (state S.Store conn)) }
-        ensures shows { IfOk result (λ conn. Shows S.Store image conn) };
+        ensures shows { IfOk result (λ conn. Shows S.Store image conn) }
+        ensures fault { IfErr result IsOfStore };
 
     /// A connection to the file at a path. One that isn't there is made.
     fn open_found(self, rt: &HostRuntime, path: &str) -> Result<Connection<S>, TableFault>
         ensures idle { IfOk result (λ conn. conn.in_transaction ≡ false) }
         ensures shows { IfOk result (λ conn. Shows S.Store image conn) }
         ensures empty { IfOk result (λ conn. HasCleanDisk (state S.Store conn) → HoldsNoTables image →
-            (state S.Store conn).committed.schema ≡ no_schema) };
+            (state S.Store conn).committed.schema ≡ no_schema) }
+        ensures fault { IfErr result IsOfStore };
 }
 
 impl<B: Start> ClosingFile<FileStore<FileFrom<B>>> for B {
@@ -158,18 +162,75 @@ pub fn close_over<
         ended.0.store ended.0.register ended.0.archive ended.0.archive_register ended.1) }
 {
     check_folder(rt, store, archive)?;
+    let files = open_files(rt, store, archive, of)?;
+    Ok(close_files(rt.alloc(), store, archive, files))
+}
+
+/// Opens the four files of a closing, the store first. No clause says what they hold after a fault, since no connection is left:
+/// that this body only opens them is to be read.
+fn open_files<
+    S: Alter + Drop,
+    R: Alter + Drop,
+    A: Alter + Drop,
+    M: Alter + Drop,
+    OfStore: ClosingFile<S> + Drop,
+    OfRegister: ClosingFile<R> + Drop,
+    OfArchive: ClosingFile<A> + Drop,
+    OfArchiveRegister: ClosingFile<M> + Drop,
+>(
+    rt: &HostRuntime,
+    store: &str,
+    archive: &str,
+    of: OfFour<OfStore, OfRegister, OfArchive, OfArchiveRegister>,
+) -> Result<ClosingFiles<S, R, A, M>, CloseFault>
+    ensures { IfOk result (λ files. AreOpened S.Store R.Store A.Store M.Store
+        (record {
+          store = OfStore.image;
+          register = OfRegister.image;
+          archive = OfArchive.image;
+          archive_register = OfArchiveRegister.image;
+        }) files.store files.register files.archive files.archive_register) }
+{
+    let store_file = open_office(rt, store, of.store, File::Store)?;
+    let archive_file = open_office(rt, archive, of.archive, File::Archive)?;
+    let (register, names_none) = open_register(rt, store, of.register, true, File::Register)?;
+    let (archive_register, _) = open_register(
+        rt,
+        archive,
+        of.archive_register,
+        names_none,
+        File::ArchiveRegister,
+    )?;
+    Ok(OfFour {
+        store: store_file,
+        register,
+        archive: archive_file,
+        archive_register,
+    })
+}
+
+/// Closes the store in four files that are open, under the names of the two paths, and gives them back.
+fn close_files<S: Alter + Drop, R: Alter + Drop, A: Alter + Drop, M: Alter + Drop>(
+    alloc: Global,
+    store: &str,
+    archive: &str,
+    opened: ClosingFiles<S, R, A, M>,
+) -> (ClosingFiles<S, R, A, M>, Result<PutAway, CloseFault>)
+    requires { AreIdle (files S.Store R.Store A.Store M.Store opened.store opened.register opened.archive
+        opened.archive_register) }
+    ensures { (images : Images) → AreOpened S.Store R.Store A.Store M.Store images opened.store opened.register
+        opened.archive opened.archive_register →
+        ClosesOver S.Store R.Store A.Store M.Store images store.now archive.now result.0.store result.0.register
+        result.0.archive result.0.archive_register result.1 }
+{
     let OfFour {
-        store: of_store,
-        register: of_register,
-        archive: of_archive,
-        archive_register: of_copied,
-    } = of;
-    let mut own = open_office(rt, store, of_store, File::Store)?;
-    let mut copy = open_office(rt, archive, of_archive, File::Archive)?;
-    let (mut names, names_none) = open_register(rt, store, of_register, true, File::Register)?;
-    let (mut copied, _) = open_register(rt, archive, of_copied, names_none, File::ArchiveRegister)?;
+        store: mut own,
+        register: mut names,
+        archive: mut copy,
+        archive_register: mut copied,
+    } = opened;
     let closed = close(
-        rt.alloc(),
+        alloc,
         &mut own,
         &mut names,
         &mut copy,
@@ -183,7 +244,7 @@ pub fn close_over<
         archive: copy,
         archive_register: copied,
     };
-    Ok((files, closed))
+    (files, closed)
 }
 
 /// Closes as `close_over` does, four files of one kind: a program that names one kind of files says it once.
@@ -232,6 +293,7 @@ fn open_office<S: Alter, F: ClosingFile<S>>(
     ensures idle { IfOk result (λ conn. conn.in_transaction ≡ false) }
     ensures shows { IfOk result (λ conn. Shows S.Store F.image conn) }
     ensures settled { IfOk result (λ conn. HasCleanDisk (state S.Store conn) → IsSettled (state S.Store conn)) }
+    ensures fault { IfErr result (IsOfOpening file true) }
 {
     match of.open_there(rt, path) {
         Ok(conn) => Ok(conn),
@@ -249,7 +311,8 @@ fn open_register<S: Alter + Drop, F: ClosingFile<S> + Drop>(
     file: File,
 ) -> Result<(Connection<S>, bool), CloseFault>
     ensures idle { IfOk result (λ opened. opened.0.in_transaction ≡ false) }
-    ensures shows { IfOk result (λ opened. ShowsRegister S.Store F.image opened.0) }
+    ensures shows { IfOk result (λ opened. ShowsRegister S.Store F.image may_make opened.1 opened.0) }
+    ensures fault { IfErr result (IsOfOpening file may_make) }
 {
     let path = register_path(rt.alloc(), office)?;
     match open_made(rt, path.as_str(), of, may_make) {
@@ -268,32 +331,54 @@ fn open_made<S: Alter + Drop, F: ClosingFile<S> + Drop>(
     may_make: bool,
 ) -> Result<Option<(Connection<S>, bool)>, TableFault>
     ensures idle { IfOk result (λ found. IfSome found (λ opened. opened.0.in_transaction ≡ false)) }
-    ensures shows { IfOk result (λ found. IfSome found (λ opened. ShowsRegister S.Store F.image opened.0)) }
+    ensures shows { IfOk result (λ found. IfSome found (λ opened.
+        ShowsRegister S.Store F.image may_make opened.1 opened.0)) }
+    ensures none { IfOk result (λ found. IfNone found (may_make ≡ false)) }
+    ensures fault { IfErr result (IsOfStoreOr ⊤) }
 {
     if !may_make && !is_there(rt, path)? {
         return Ok(None);
     }
     let mut conn = of.open_found(rt, path)?;
-    let names_none = make_tables(rt.alloc(), &mut conn)?;
-    Ok(Some((conn, names_none)))
+    match make_tables(rt.alloc(), &mut conn, may_make)? {
+        Some(names_none) => Ok(Some((conn, names_none))),
+        None => Ok(None),
+    }
 }
 
-/// Makes the tables of a register if they aren't there, and answers whether it names no archive.
-fn make_tables<S: Alter>(alloc: Global, conn: &mut Connection<S>) -> Result<bool, TableFault>
+/// Makes the tables of a register if they aren't there and may be made, and answers whether it names no archive; none if they
+/// aren't there and may not be made.
+fn make_tables<S: Alter>(
+    alloc: Global,
+    conn: &mut Connection<S>,
+    may_make: bool,
+) -> Result<Option<bool>, TableFault>
     requires { (state S.Store conn.old).in_transaction ≡ false }
     ensures idle { (state S.Store conn.new).in_transaction ≡ false }
     ensures clean { HasCleanDisk (state S.Store conn.new) → HasCleanDisk (state S.Store conn.old) }
-    ensures made { HasCleanDisk (state S.Store conn.new) →
-        OnOk result (KeepsRegister S.Store conn.old conn.new ⊎ MakesRegister S.Store conn.old conn.new) }
-    ensures settled { HasCleanDisk (state S.Store conn.new) → OnOk result (IsSettled (state S.Store conn.new)) }
+    ensures made { HasCleanDisk (state S.Store conn.new) → IfOk result (λ found. IfSome found (λ names_none.
+        MayMakeRegister S.Store may_make conn.old conn.new)) }
+    ensures settled { HasCleanDisk (state S.Store conn.new) → IfOk result (λ found. IfSome found (λ names_none.
+        IsSettled (state S.Store conn.new))) }
+    ensures tells { HasCleanDisk (state S.Store conn.new) → IfOk result (λ found.
+        IfSome found (TellsNone S.Store conn.old)) }
+    ensures none { IfOk result (λ found. IfNone found (may_make ≡ false)) }
+    ensures unmade { HasCleanDisk (state S.Store conn.new) → IsTrue (state S.Store conn.new).is_open →
+        IfOk result (λ found. IfNone found ((state S.Store conn.new).committed ≡ (state S.Store conn.old).committed)) }
+    ensures refused { HasCleanDisk (state S.Store conn.new) → IsTrue (state S.Store conn.new).is_open →
+        OnErr result ((state S.Store conn.new).committed ≡ (state S.Store conn.old).committed) }
+    ensures fault { IfErr result (IsOfStoreOr ⊤) }
 {
     let is_idle = conn.is_autocommit();
     prove!(is_idle);
     match read_register(alloc, conn) {
-        Ok(register) => Ok(register.archives.is_empty()),
+        Ok(register) => Ok(Some(register.archives.is_empty())),
         Err(fault) if has_no_tables(&fault) => {
+            if !may_make {
+                return Ok(None);
+            }
             create_register(conn)?;
-            Ok(true)
+            Ok(Some(true))
         }
         Err(fault) => Err(fault),
     }

@@ -1,4 +1,4 @@
-ghost use Rattle.std.specs.Prelude.{◌≡◌, IfOk, List, false};
+ghost use Rattle.std.specs.Prelude.{◌≡◌, IfOk, List, None, Some};
 ghost use Rattle.office_archive_files.specs.Shelves.{HoldArchiveAt};
 ghost use Rattle.office_archives.specs.Shelves.{IsOpenAt};
 ghost use Rattle.office_parts.specs.Archives.{Archive};
@@ -7,10 +7,11 @@ ghost use Rattle.sqlite.specs.WalFiles.{image_at};
 
 use crate::shelf::{ArchiveStart, FileShelf, NO_ARCHIVE};
 use edi_messages::Call;
-use office_archives::{Archives, ManyArchives, Shelf};
+use office_archives::{Archives, Looked, ManyArchives, Shelf};
+use office_closing::Register;
 use office_reports::Query;
 use office_tables::{Kept, TableFault};
-use sqlite::{Connection, FileFrom, FileStore, Start, Unknown};
+use sqlite::{FileFrom, FileStore, Start, Unknown};
 use std::alloc::Global;
 use terminal_core::{Listing, Side};
 
@@ -22,23 +23,30 @@ pub struct StoreShelf<'a, B: ArchiveStart> {
 
 impl<'a, B: ArchiveStart> StoreShelf<'a, B> {
     /// That shelf.
-    pub fn of(shelf: FileShelf<'a, B>) -> StoreShelf<'a, B> {
+    pub fn of(shelf: FileShelf<'a, B>) -> StoreShelf<'a, B>
+        ensures { result.shelf ≡ Some shelf.entry }
+    {
         StoreShelf { shelf: Some(shelf) }
     }
 
     /// An empty shelf.
-    pub fn empty() -> StoreShelf<'a, B> {
+    pub fn empty() -> StoreShelf<'a, B>
+        ensures { result.shelf ≡ None }
+    {
         StoreShelf { shelf: None }
     }
 
-    /// A connection to the archive at a place: NO_ARCHIVE if it is not there, or not its own; Memory says nothing of it.
-    fn own_archive(&self, place: u16) -> Result<Connection<FileStore<FileFrom<B>>>, TableFault>
-        ensures idle { IfOk result (λ conn. conn.in_transaction ≡ false) }
-        ensures opened { IfOk result (λ conn. place ≡ B.place → (list : List Archive) →
-            HoldArchiveAt (image_at B.Start) B.place list → IsOpenAt over_files list place conn) }
+    /// The archive at a place, to be only read: NO_ARCHIVE if it is not there, or not its own; Memory says nothing of it.
+    fn own_archive(
+        &self,
+        names: &Register,
+        place: u16,
+    ) -> Result<Looked<FileStore<FileFrom<B>>>, TableFault>
+        ensures opened { IfOk result (λ archive. place ≡ B.place → (list : List Archive) →
+            HoldArchiveAt (image_at B.Start) B.place list → IsOpenAt over_files list place archive.conn) }
     {
         match &self.shelf {
-            Some(shelf) => shelf.own_archive(place),
+            Some(shelf) => shelf.own_archive(names, place),
             None => Err(TableFault::Store(NO_ARCHIVE)),
         }
     }
@@ -49,8 +57,12 @@ impl<B: ArchiveStart> Shelf<FileStore<FileFrom<B>>> for StoreShelf<'_, B> {
 
     ghost holds = { λ list shelf. HoldArchiveAt (image_at B.Start) B.place list };
 
-    fn open(&mut self, place: u16) -> Result<Connection<FileStore<FileFrom<B>>>, TableFault> {
-        self.own_archive(place)
+    fn open(
+        &mut self,
+        names: &Register,
+        place: u16,
+    ) -> Result<Looked<FileStore<FileFrom<B>>>, TableFault> {
+        self.own_archive(names, place)
     }
 }
 
@@ -74,8 +86,12 @@ impl Shelf<FileStore<FileFrom<Unknown>>> for UnknownShelf<'_> {
 
     ghost holds = { λ list shelf. HoldArchiveAt (image_at ⟦<Unknown as Start>⟧) 1 list };
 
-    fn open(&mut self, place: u16) -> Result<Connection<FileStore<FileFrom<Unknown>>>, TableFault> {
-        self.shelf.own_archive(place)
+    fn open(
+        &mut self,
+        names: &Register,
+        place: u16,
+    ) -> Result<Looked<FileStore<FileFrom<Unknown>>>, TableFault> {
+        self.shelf.own_archive(names, place)
     }
 }
 

@@ -71,8 +71,12 @@ pub struct InUnknownFiles<'a> {
 }
 
 impl<'a> InUnknownFiles<'a> {
+    ghost use Rattle.std.specs.Prelude.{◌≡◌};
+
     /// In files of which nothing is supposed.
-    pub fn new(rt: &'a HostRuntime) -> InUnknownFiles<'a> {
+    pub fn new(rt: &'a HostRuntime) -> InUnknownFiles<'a>
+        ensures { result.files.start ≡ record {} }
+    {
         InUnknownFiles {
             files: InFiles::new(rt, Unknown),
         }

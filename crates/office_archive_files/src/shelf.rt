@@ -1,25 +1,23 @@
-ghost use Rattle.std.specs.Prelude.{◌≡◌, ℕ, false, IfOk, IsTrue, List};
-ghost use Rattle.office_archive_files.specs.Archives.{IsNamedAt, PassesAt, segments_at};
-ghost use Rattle.office_archive_files.specs.Listing.{IsFoundAt};
+ghost use Rattle.std.specs.Prelude.{◌≡◌, ℕ, IfErr, IfOk, List, string_bytes};
+ghost use Rattle.office_archive_files.specs.Archives.{IsNamedAt, PassesAt, SaysNoArchive, going_on, segments_at};
+ghost use Rattle.office_archive_files.specs.declared.shelf.Found.{Found};
 ghost use Rattle.office_archive_files.specs.Shelves.{HoldArchiveAt};
 ghost use Rattle.office_archives.specs.Shelves.{IsOpenAt};
 ghost use Rattle.office_loading.specs.Closed.{closed_content};
 ghost use Rattle.office_parts.specs.Archives.{Archive};
-ghost use Rattle.office_closing.specs.Register.{register_content};
-ghost use Rattle.office_closing.specs.Sound.{is_sound};
+ghost use Rattle.office_closing.specs.Register.{RegisterContent, register_content};
 ghost use Rattle.office_admission.specs.Setups.{setup_content};
 ghost use Rattle.sqlite.specs.Files.{over_files};
 ghost use Rattle.sqlite.specs.WalFiles.{image_at};
 
 use crate::is_archive::{archive_at, is_register_of, is_same_office, reaches};
 use office_admission::Setup;
-use office_archives::Shelf;
+use office_archives::{Looked, Shelf};
 use office_closing::{Register, Segment};
-use office_commands::{beside_path, found_at, open_there, place_of, read_history};
-use office_desk::load_beside;
+use office_commands::{beside_path, found_at, look_there, place_of, read_history};
 use office_loading::Closed;
 use office_tables::TableFault;
-use sqlite::{Connection, Error, ErrorCode, FileFrom, FileStore, Start, Unknown};
+use sqlite::{Error, ErrorCode, FileFrom, FileStore, Start, Unknown};
 use std::alloc::{AllocError, Global};
 
 /// An archive that is missing, can't be read, or is not the store's own archive of its place. No statement of the office
@@ -37,6 +35,16 @@ pub enum Found {
     Other,
 }
 
+/// What tells which archives of a store are there.
+pub trait Finds {
+    /// Of the store with this register that is found of the archive at a place.
+    ghost is_found: { Self → RegisterContent → ℕ → Found → Type 0 };
+
+    /// What is found of the archive at a place, of which the store's register names the file. It is only read.
+    fn look_at(&self, names: &Register, place: u16, file: &str) -> Result<Found, AllocError>
+        ensures { IfOk result (is_found self.now (register_content names.now) place) };
+}
+
 /// What the files of an archive hold as they are opened, and which archive it is: nothing is said of the others. So what is
 /// proved for any `B: ArchiveStart` is proved for each archive of a store, whatever its files hold.
 pub trait ArchiveStart: Start {
@@ -44,7 +52,8 @@ pub trait ArchiveStart: Start {
     ghost place: { ℕ };
 
     /// The same of the same files, for another opening.
-    fn another(&self) -> Self;
+    fn another(&self) -> Self
+        ensures { result ≡ self.now };
 }
 
 impl ArchiveStart for Unknown {
@@ -92,69 +101,59 @@ impl<'a, B: ArchiveStart> FileShelf<'a, B> {
         }
     }
 
-    /// What is found of the archive at a place, of which the store's register names the file.
-    pub fn look_at(&self, place: u16, file: &str) -> Result<Found, AllocError>
-        ensures { IfOk result (λ found. IsFoundAt (setup_content self.now.setup) place found) }
-    {
-        let path = beside_path(self.rt.alloc(), self.store.as_str(), file)?;
-        if let Ok(None) = found_at(self.rt, path.as_str()) {
-            return Ok(Found::Nothing);
-        }
-        match self.opened(place) {
-            Ok(_conn) => Ok(Found::Archive),
-            Err(TableFault::Memory) => Err(AllocError),
-            Err(_) => Ok(Found::Other),
-        }
-    }
-
-    /// A connection to the archive at a place: NO_ARCHIVE if it is not there, or not its own; Memory says nothing of it.
+    /// The archive at a place, to be only read: NO_ARCHIVE if it is not there, or not its own; Memory says nothing of it.
     pub(crate) fn own_archive(
         &self,
+        names: &Register,
         place: u16,
-    ) -> Result<Connection<FileStore<FileFrom<B>>>, TableFault>
-        ensures idle { IfOk result (λ conn. conn.in_transaction ≡ false) }
-        ensures opened { IfOk result (λ conn. place ≡ B.place → (list : List Archive) →
-            HoldArchiveAt (image_at B.Start) B.place list → IsOpenAt over_files list place conn) }
+    ) -> Result<Looked<FileStore<FileFrom<B>>>, TableFault>
+        ensures opened { IfOk result (λ archive. place ≡ B.place → (list : List Archive) →
+            HoldArchiveAt (image_at B.Start) B.place list → IsOpenAt over_files list place archive.conn) }
+        ensures fault { IfErr result (SaysNoArchive NO_ARCHIVE) }
     {
-        match self.opened(place) {
-            Ok(conn) => Ok(conn),
+        match self.opened(names, place) {
+            Ok(archive) => Ok(archive),
             Err(TableFault::Memory) => Err(TableFault::Memory),
             Err(_) => Err(TableFault::Store(NO_ARCHIVE)),
         }
     }
 
-    /// A connection to the archive at a place. Another fault than Memory says that it is not there, or not its own.
-    fn opened(&self, place: u16) -> Result<Connection<FileStore<FileFrom<B>>>, TableFault>
-        ensures idle { IfOk result (λ conn. conn.in_transaction ≡ false) }
-        ensures opened { IfOk result (λ conn. (list : List Archive) → HoldArchiveAt (image_at B.Start) place list →
-            IsOpenAt over_files list place conn) }
-        ensures passes { IfOk result (λ conn. PassesAt over_files (setup_content self.now.setup) place conn) }
+    /// The archive at a place, to be only read. Another fault than Memory says that it is not there, or not its own.
+    fn opened(
+        &self,
+        names: &Register,
+        place: u16,
+    ) -> Result<Looked<FileStore<FileFrom<B>>>, TableFault>
+        ensures opened { IfOk result (λ archive. (list : List Archive) → HoldArchiveAt (image_at B.Start) place list →
+            IsOpenAt over_files list place archive.conn) }
+        ensures passes { IfOk result (λ archive. PassesAt over_files (image_at B.Start) (string_bytes self.now.store)
+            (setup_content self.now.setup) (register_content names.now) place archive.conn) }
     {
-        let named = self.named(place)?;
-        let mut conn = open_there(self.rt, named.path.as_str(), self.start.another())?;
-        let is_idle = conn.is_autocommit();
-        prove!(is_idle);
-        let (setup, beside) = load_beside(self.rt.alloc(), &mut conn, &named.closed)?;
+        let named = self.named(names, place)?;
+        let mut archive = look_there(self.rt, named.path.as_str(), self.start.another())?;
+        let (setup, beside) = archive.load(self.rt.alloc(), &named.closed)?;
         if is_same_office(&setup, &self.setup) && reaches(&beside, &named.segments, named.visits) {
-            Ok(conn)
+            Ok(archive)
         } else {
             Err(TableFault::Store(NO_ARCHIVE))
         }
     }
 
-    /// The archive at a place as the registers say, if its own is that of this place.
-    fn named(&self, place: u16) -> Result<Named, TableFault>
-        ensures { IfOk result (λ named. IsNamedAt place (closed_content named.closed) named.segments.items named.visits) }
+    /// The archive at a place as the store's register and its own say, if its own is that of this place.
+    fn named(&self, names: &Register, place: u16) -> Result<Named, TableFault>
+        ensures { IfOk result (λ named. IsNamedAt (string_bytes self.now.store) (register_content names.now) place
+            (closed_content named.closed) named.segments.items named.visits) }
     {
         let alloc = self.rt.alloc();
-        let names = self.register(self.store.as_str())?;
         let Some(archive) = archive_at(&names.archives, place) else {
             return Err(TableFault::Store(NO_ARCHIVE));
         };
         let path = beside_path(alloc, self.store.as_str(), archive.file.as_str())?;
-        let own = self.register(path.as_str())?;
+        let Some(own) = read_history(self.rt, path.as_str())? else {
+            return Err(TableFault::Store(NO_ARCHIVE));
+        };
         let own_name = place_of(self.store.as_str()).name;
-        if !is_register_of(&own, &names, place, goes_on(&names, own_name)) {
+        if !is_register_of(&own, names, place, going_on(names, own_name)) {
             return Err(TableFault::Store(NO_ARCHIVE));
         }
         let closed = own.closed(alloc)?;
@@ -167,20 +166,12 @@ impl<'a, B: ArchiveStart> FileShelf<'a, B> {
             visits,
         })
     }
-
-    /// The register of the store or the archive at a path.
-    fn register(&self, path: &str) -> Result<Register, TableFault>
-        ensures { IfOk result (λ register. IsTrue (is_sound (register_content register))) }
-    {
-        match read_history(self.rt, path)? {
-            Some(register) => Ok(register),
-            None => Err(TableFault::Store(NO_ARCHIVE)),
-        }
-    }
 }
 
-/// The file of the store that goes on: this one, or the one for which its register is marked.
-fn goes_on<'a>(register: &'a Register, file: &'a str) -> &'a str {
+/// The name of the file of the store that goes on: of this one, or of the one for which its register is marked.
+fn going_on<'a>(register: &'a Register, file: &'a str) -> &'a str
+    ensures { result.now ≡ going_on (register_content register.now) file.now }
+{
     match &register.closed_for {
         Some(store) => store.as_str(),
         None => file,
@@ -200,6 +191,29 @@ fn segments_of(alloc: Global, segments: &[Segment], place: u16) -> Result<Vec<Se
     Ok(found)
 }
 
+impl<B: ArchiveStart> Finds for FileShelf<'_, B> {
+    ghost use Rattle.std.specs.Prelude.{string_bytes};
+    ghost use Rattle.office_admission.specs.Setups.{setup_content};
+    ghost use Rattle.office_archive_files.specs.Listing.{IsFoundAt};
+    ghost use Rattle.sqlite.specs.WalFiles.{image_at};
+
+    ghost is_found = { λ shelf names place.
+        IsFoundAt ⟦<FileStore<FileFrom<B>> as sqlite_trees::store::Store>⟧ (image_at B.Start) (string_bytes shelf.store)
+        (setup_content shelf.setup) names place };
+
+    fn look_at(&self, names: &Register, place: u16, file: &str) -> Result<Found, AllocError> {
+        let path = beside_path(self.rt.alloc(), self.store.as_str(), file)?;
+        if let Ok(None) = found_at(self.rt, path.as_str()) {
+            return Ok(Found::Nothing);
+        }
+        match self.opened(names, place) {
+            Ok(_) => Ok(Found::Archive),
+            Err(TableFault::Memory) => Err(AllocError),
+            Err(_) => Ok(Found::Other),
+        }
+    }
+}
+
 impl<B: ArchiveStart> Shelf<FileStore<FileFrom<B>>> for FileShelf<'_, B> {
     ghost use Rattle.std.specs.Prelude.{◌≡◌};
     ghost use Rattle.office_archive_files.specs.Shelves.{HoldArchiveAt};
@@ -209,7 +223,11 @@ impl<B: ArchiveStart> Shelf<FileStore<FileFrom<B>>> for FileShelf<'_, B> {
 
     ghost holds = { λ list shelf. HoldArchiveAt (image_at B.Start) B.place list };
 
-    fn open(&mut self, place: u16) -> Result<Connection<FileStore<FileFrom<B>>>, TableFault> {
-        self.own_archive(place)
+    fn open(
+        &mut self,
+        names: &Register,
+        place: u16,
+    ) -> Result<Looked<FileStore<FileFrom<B>>>, TableFault> {
+        self.own_archive(names, place)
     }
 }

@@ -163,6 +163,7 @@ module _ {S A : Type 0} (g : Ghosts S) (are : List Archive → A → Type 0) (ol
     told = λ sound whole. tells_so found (λ told. shows look told (looks.looks.stays sound)) (looks.told sound);
     looks = looks_on g are old new a a settled looks.looks (λ list they. they);
     noted = looks.noted;
+    cause = λ sound here rows terminal holds. looks.cause sound rows terminal holds;
     is_open = looks.is_open;
     alone = λ nothing. looks;
   }

@@ -160,17 +160,6 @@ none_zero content es archives archived whole (query.Contrl partner k) code n fou
 none_zero content es archives archived whole (query.Ticket partner k) code n found is none = λ low by_numbers copies. absurd (omega (arith, low, none, is.1))
 none_zero content es archives archived whole other code n found is none = absurd is
 
--- nobody has the code under which no next number is reported
-no_next : (rows : Rows) (id : Option ℕ) → TellsNext rows id None → id ≡ None
-no_next rows None told = refl
-no_next rows (Some id) told = let never = told.2 in absurd cc
-
-pub nobody_has : {S : Type 0} (g : Ghosts S) (desk : Desk S g) (code : List ℕ) (name : String Global) → string_bytes name ≡ code → DeskTells g desk (query.Next name) None → (rows : Rows) (terminal : TerminalState) → DeskHolds g desk rows terminal
-    → partner_called (setup_content desk.setup) code ≡ None
-nobody_has g desk code name named tells rows terminal holds =
-    let known = setup_content desk.setup in
-    ap (partner_called known) (sym named) ∙ no_next rows (partner_called known (string_bytes name)) (tells.office rows terminal holds)
-
 module _ {S A : Type 0} (g : Ghosts S) (are : List Archive → A → Type 0) (old : Desk S g) (a : A) where
   abbrev Mine : (content : SetupContent) (es : List Event) → StandTogether g are content es old a → TerminalState
   Mine content es stand = own_terminal stand.stands.archived.stays (machine_after content es).terminal

@@ -103,19 +103,18 @@ written_is_journal g h Opens names from read shown old new left written list row
 module _ {S : Type 0} (g : Ghosts S) (Opens : (place : ℕ) → Held S → Type 0) (names : RegisterContent) (place : ℕ) (rest : Rest) (opened read : Held S) where
   -- what was read and written of the archive that was opened at a place
   pub added_by : (before after : ℕ → ℕ) (old new : Option (List ℕ)) → before ≡ closed_before place names → after ≡ closed_before (place + 1) names → Opens place opened
-      → (IsTrue (state g opened).is_open → (state g opened).now ≡ (state g opened).committed) → (result : Result (Option Rest) TableFault) → Reads (state g opened) (state g read) result
-      → (HasCleanDisk (state g read) → IfOk result (λ left. (rows : Rows) → HasRows rows (state g opened).now → StandInOrder rows.interchanges ((state g opened).now.trees 2) → WritesPart before after rest rows.interchanges old new left))
+      → (result : Result (Option Rest) TableFault) → Reads (state g opened) (state g read) result
+      → (HasCleanDisk (state g read) → IfOk result (λ left. (rows : Rows) → HasInOrder rows (state g opened) → WritesPart before after rest rows.interchanges old new left))
       → IfOk result (λ found. IfSome found (λ left. IsAdded g Opens names place rest old new left))
-  added_by before after old new before_is after_is opens settled (Err fault) reads writes = tt
-  added_by before after old new before_is after_is opens settled (Ok None) reads writes = tt
-  added_by before after old new before_is after_is opens settled (Ok (Some left)) reads writes = record {
+  added_by before after old new before_is after_is opens (Err fault) reads writes = tt
+  added_by before after old new before_is after_is opens (Ok None) reads writes = tt
+  added_by before after old new before_is after_is opens (Ok (Some left)) reads writes = record {
     opened = opened;
     read = read;
     opens = opens;
     clean = λ clean. clean_first reads clean;
     writes = λ clean rows are.
-        let same = settled (reads.unchanged clean).0.was_open in
-        let part = writes clean rows (subst (HasRows rows) (sym same) are.has) (subst (λ (db : Database). StandInOrder rows.interchanges (db.trees 2)) (sym same) are.in_order) in
+        let part = writes clean rows are in
         subst (λ then_. PartIsWritten (closed_before place names) then_ rest rows.interchanges old new left) after_is
         (subst (λ first. PartIsWritten first after rest rows.interchanges old new left) before_is part);
   }

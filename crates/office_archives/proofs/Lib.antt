@@ -17,3 +17,5 @@ pub mod Moves
 pub mod Asked
 pub mod Going
 pub mod Older
+pub mod Looking
+pub mod Causing

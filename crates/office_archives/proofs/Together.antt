@@ -321,46 +321,6 @@ module _ {S A : Type 0} (g : Ghosts S) (is_sound : A → Type 0) (are : List Arc
 
 -- ==== Looking: What a look does to a desk and the archives beside it.
 
--- ---- the partner of a code
-
-abbrev codes_of : List (List ℕ × PartnerKind) → List (List ℕ)
-codes_of accounts = map (λ (account : List ℕ × PartnerKind). account.0) accounts
-
--- where no two accounts have one code, the account at an index is the first with its code
-first_at : (id i : ℕ) (accounts : List (List ℕ × PartnerKind)) (a : List ℕ × PartnerKind) → AreDistinct accounts → slice_get accounts i ≡ Some a → partner_from id a.0 (codes_of accounts) ≡ Some (id + i)
-first_at id zero [] a distinct is = cc
-first_at id (suc i) [] a distinct is = cc
-first_at id zero (x ∷ accounts) a distinct is = by (bytes_eq a.0 x.0) refl
-  where
-    by : (same : Bool) → bytes_eq a.0 x.0 ≡ same → cond same (Some id) (partner_from (id + 1) a.0 (codes_of accounts)) ≡ Some (id + 0)
-    by true e = ap Some (omega arith)
-    by false e =
-        let one : x ≡ a = same_Some x a is in
-        let never : true ≡ false = sym ((bytes_decides a.0 x.0).1 (ap (λ (y : List ℕ × PartnerKind). y.0) (sym one))) ∙ e in
-        absurd cc
-first_at id (suc i) (x ∷ accounts) a distinct is =
-    by (bytes_eq a.0 x.0) refl (first_at (id + 1) i accounts a (λ j k b c at_j at_k one. let up : suc j ≡ suc k = distinct (suc j) (suc k) b c at_j at_k one in omega (arith, up)) is)
-  where
-    by : (same : Bool) → bytes_eq a.0 x.0 ≡ same → partner_from (id + 1) a.0 (codes_of accounts) ≡ Some (id + 1 + i) → cond same (Some id) (partner_from (id + 1) a.0 (codes_of accounts)) ≡ Some (id + suc i)
-    by true e later =
-        let twice : zero ≡ suc i = distinct zero (suc i) x a refl is (sym ((bytes_decides a.0 x.0).0 e)) in
-        absurd (omega (arith, twice))
-    by false e later = later ∙ ap Some (omega arith)
-
-code_at : (accounts : List (List ℕ × PartnerKind)) (i : ℕ) → i < length accounts → (a : List ℕ × PartnerKind) × (slice_get accounts i ≡ Some a) × (unwrap_or (slice_get (codes_of accounts) i) [] ≡ a.0)
-code_at [] i low = absurd (omega (arith, low))
-code_at (x ∷ accounts) zero low = (x, refl, refl)
-code_at (x ∷ accounts) (suc i) low = code_at accounts i (omega (arith, low))
-
--- the partner whose account has a code is called by it
-pub called_by_code : (setup : Setup) (p : ℕ) (code : List ℕ) → IsGiven (setup_content setup) → 1 ≤ p → p ≤ length setup.partners.items → code ≡ code_of (parties_of setup) p → partner_called (setup_content setup) code ≡ Some p
-called_by_code setup p code given low high is =
-    let accounts = (setup_content setup).partners in
-    let many : length accounts ≡ length setup.partners.items = length-map setup.partners.items _ in
-    let at = code_at accounts (p - 1) (omega (arith, low, high, many)) in
-    let one : code ≡ at.0.0 = is ∙ ap (λ (P : Parties). code_of P p) (parties_same setup) ∙ ap (λ o. unwrap_or o []) (with_number-below (codes_of accounts) p low) ∙ at.2 in
-    ap (λ own. partner_from 1 own (codes_of accounts)) one ∙ first_at 1 (p - 1) accounts at.0 given.distinct at.1 ∙ ap Some (omega (arith, low))
-
 -- ---- a desk that was looked at
 
 module _ {S : Type 0} (g : Ghosts S) (list : List Archive) (content : SetupContent) (es : List Event) (old : Desk S g) (stands : StandsBeside g list content es old) where

@@ -3,6 +3,8 @@ pub mod Answering
 pub mod Standing
 pub mod Reporting
 pub mod Telling
+pub mod Causes
+pub mod Loading
 pub mod Together
 pub mod Bringing
 pub mod ListsAway

@@ -44,11 +44,11 @@ IsOpenAt g list place conn =
 abbrev pub IsSoundIfAny : {S : Type 0} (g : Ghosts S) (is_known : ℕ → Type 0) → Option (Opened S g) → Type 0
 IsSoundIfAny g is_known None = Unit {0}
 IsSoundIfAny g is_known (Some opened) =
-    HasCleanDisk (state g opened.conn) × IsTrue (state g opened.conn).is_open × is_known opened.place
+    HasCleanDisk (state g opened.archive.conn) × IsTrue (state g opened.archive.conn).is_open × is_known opened.place
 
 abbrev pub IsOpenIfAny : {S : Type 0} (g : Ghosts S) (is_known : ℕ → Type 0) → List Archive → Option (Opened S g) → Type 0
 IsOpenIfAny g is_known list None = Unit {0}
-IsOpenIfAny g is_known list (Some opened) = is_known opened.place → IsOpenAt g list opened.place opened.conn
+IsOpenIfAny g is_known list (Some opened) = is_known opened.place → IsOpenAt g list opened.place opened.archive.conn
 
 -- ---- what the register names
 

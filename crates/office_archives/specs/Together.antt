@@ -4,6 +4,7 @@ use Rattle.sqlite.specs.Held.{state}
 use Rattle.sqlite.specs.State.{State, HasCleanDisk}
 use Rattle.sqlite.specs.Tree.{Trees}
 use Rattle.sqlite_trees.specs.declared.store.Store.{Ghosts}
+use Rattle.terminal_core.specs.State.{TerminalState}
 use Rattle.office_replies.specs.Delivering.{with_answered}
 use Rattle.office_replies.specs.Adding.{with_added}
 use Rattle.office_replies.specs.Events.{Event, added, delivered}
@@ -17,7 +18,7 @@ use Rattle.office_reports.specs.declared.query.Query.{Query}
 use Rattle.office_loading.specs.Closed.{ClosedContent, closed_content}
 use Rattle.office_rows.specs.Rows.{Rows}
 use Rattle.office_rows.specs.Stored.{StoresRows}
-use Rattle.office_admission.specs.Setups.{SetupContent}
+use Rattle.office_admission.specs.Setups.{SetupContent, setup_content}
 use Rattle.office_history.specs.After.{SaysSame, content_after}
 use Rattle.office_parts.specs.Away.{AreAway}
 use Rattle.office_parts.specs.OwnLists.{ListName, rows_without_lists}
@@ -25,11 +26,13 @@ use Rattle.office_desk.specs.Accounts.{AnswersAccount}
 use Rattle.office_desk.specs.Answers.{AnswersNext}
 use Rattle.office_desk.specs.Calls.{Enrols, Leads, Looks}
 use Rattle.office_desk.specs.Desks.{IsSound}
-use Rattle.office_desk.specs.Looking.{DeskHands, IsOpenAt}
-use Rattle.office_desk.specs.Noting.{NotesFault, NotesLook, NotesStore}
+use Rattle.office_desk.specs.Looking.{DeskHands, IsOpenAt, ShowsUnfitReply}
+use Rattle.office_desk.specs.Noting.{NotesCause, NotesFault, NotesLook, NotesStore}
+use Rattle.office_desk.specs.Offices.{DeskHolds}
 use Rattle.office_desk.specs.declared.desk.Desk.{Desk}
 use Rattle.office_parts.specs.Archives.{Archive, Hold}
 use Rattle.office_parts.specs.Parts.{Archived, ArePartsAfter}
+use Rattle.office_archives.specs.Causes.{IsLookedAtHere}
 use Rattle.office_archives.specs.Standing.{IsOwnWithRest, KnowsClosed, StandsBeside}
 use Rattle.office_archives.specs.Telling.{TellsOfArchive, TellsTogether}
 
@@ -169,13 +172,16 @@ ShowsBeside g are desk archives (texts_after from) found =
 ShowsBeside g are desk archives (of_archive place asked) found = TellsOfOne g are desk archives place asked found
 
 -- A report, a page of the kept texts, or an archive's report was asked for. What is reported; desk and archives were only looked
--- at; why it can't be told now; and where it's told that the office can be asked, the store is open. If there are no archives,
--- it was the desk that was looked at.
+-- at; why it can't be told now, and over an office's rows, if these report it, only by the store or the memory, or by what is
+-- asked for; and where it's told that the office can be asked, the store is open. If there are no archives, it was the desk that
+-- was looked at.
 pub record LooksTogether {S A : Type 0} (g : Ghosts S) (is_sound : A → Type 0) (are : List Archive → A → Type 0)
     (old : Desk S g) (before : A) (look : Look) (found : Result (Option (List ℕ)) NotNow) (new : Desk S g) (after : A)
     : Type 0 where
   pub told : IsSound g new → is_sound after → Tells (ShowsBeside g are old before look) found
   pub looks : OnlyLooksTogether g are old before new after
   pub noted : NotesLook found old.last_fault new.last_fault
+  pub cause : IsSound g new → IsLookedAtHere old look → (rows : Rows) (terminal : TerminalState) →
+      DeskHolds g old rows terminal → NotesCause (ShowsUnfitReply (setup_content old.setup) rows look) found new.last_fault
   pub is_open : HasCleanDisk (state g new.conn) → OnOk found (IsOpenAt look (state g new.conn))
   pub alone : are [] before → Looks g old look found new

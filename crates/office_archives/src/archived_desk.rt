@@ -1,18 +1,18 @@
 ghost use Rattle.std.specs.Option.{option_map};
-ghost use Rattle.std.specs.Prelude.{◌≡◌, ◌≤◌, ◌&&◌, ◌↔◌, ℕ, nat_le, [], IfOk, List, None, OnOk, Some, false, string_bytes, true};
+ghost use Rattle.std.specs.Prelude.{◌≡◌, ◌≤◌, ◌&&◌, ◌↔◌, ℕ, nat_le, [], IfErr, IfOk, List, OnOk, Some, false, string_bytes, true};
 ghost use Rattle.std.specs.Result.{result_map_both};
 ghost use Rattle.edi_messages.specs.Owned.{call_content};
 ghost use Rattle.edi_syntax.specs.Interchange.{interchange_of, segments_in};
 ghost use Rattle.edi_syntax.specs.Envelope.{header_of};
 ghost use Rattle.office_admission.specs.Admission.{number_in};
 ghost use Rattle.office_admission.specs.Outcomes.{IsAdmitted};
+ghost use Rattle.office_archives.specs.Causes.{IsDeserved, IsDeservedHere};
 ghost use Rattle.office_archives.specs.Keeping.{IsClosedBefore, IsNotClosedBefore};
 ghost use Rattle.office_archives.specs.Telling.{IsOfContainer, IsOfList, IsOfNumber, IsPlace, TellsAsStore};
 ghost use Rattle.office_archives.specs.Together.{EnrolsTogether, LeadsTogether, LooksTogether, OnlyLooksTogether, StandTogether, TellsBeside, TellsOfOne};
 ghost use Rattle.office_loading.specs.Closed.{last_closed};
 ghost use Rattle.office_desk.specs.Calls.{OnlyLooks};
 ghost use Rattle.office_desk.specs.Desks.{IsSound};
-ghost use Rattle.office_desk.specs.Offices.{DeskHolds};
 ghost use Rattle.office_desk.specs.Reports.{DeskTells, IsOpenFor, partner_called};
 ghost use Rattle.office_history.specs.After.{content_after};
 ghost use Rattle.office_parts.specs.Archives.{Archive};
@@ -20,11 +20,9 @@ ghost use Rattle.office_reports.specs.Looking.{of_archive, report, texts_after};
 ghost use Rattle.office_reports.specs.declared.query.Query.{Query};
 ghost use Rattle.office_reports.specs.declared.query.Query.TheVariants.{Calls};
 ghost use Rattle.office_replies.specs.Events.{Event};
-ghost use Rattle.office_rows.specs.Rows.{Rows};
 ghost use Rattle.office_admission.specs.Setups.{SetupContent, setup_content};
 ghost use Rattle.sqlite.specs.Held.{state};
 ghost use Rattle.sqlite.specs.State.{HasCleanDisk};
-ghost use Rattle.terminal_core.specs.State.{TerminalState};
 
 use crate::archives::{Archives, answer_closed, partner_called, tell_closed, with_archives};
 use crate::bringing::bring_back_named;
@@ -151,12 +149,15 @@ impl<S: Alter + Drop, A: Archives + Drop> ArchivedDesk<S, A> {
             TellsBeside S.Store A.are self.old.desk self.old.archives query.now (option_map string_bytes found)) }
         ensures looks { OnlyLooksTogether S.Store A.are self.old.desk self.old.archives self.new.desk
             self.new.archives }
+        ensures fault { IsSound S.Store self.new.desk → IfErr result (IsDeservedHere S.Store self.old.desk query.now) }
         ensures last_fault { self.new.desk.last_fault ≡ self.old.desk.last_fault }
 
         // If there are no archives, the desk reports it.
         ensures alone { A.are [] self.old.archives → IsSound S.Store self.new.desk →
             IfOk result (λ found. DeskTells S.Store self.old.desk query.now (option_map string_bytes found)) }
         ensures alone_looks { A.are [] self.old.archives → OnlyLooks S.Store self.old.desk self.new.desk }
+        ensures alone_fault { A.are [] self.old.archives → IsSound S.Store self.new.desk →
+            IfErr result (IsDeserved S.Store self.old.desk query.now) }
     {
         if self.archives.count() == 0 {
             return self.desk.find_report(alloc, query);
@@ -172,6 +173,7 @@ impl<S: Alter + Drop, A: Archives + Drop> ArchivedDesk<S, A> {
             self.new.archives }
         ensures is_open { HasCleanDisk (state S.Store self.new.desk.conn) →
             OnOk result (IsOpenFor query.now (state S.Store self.new.desk.conn)) }
+        ensures fault { IsSound S.Store self.new.desk → IfErr result (IsDeservedHere S.Store self.old.desk query.now) }
         ensures last_fault { self.new.desk.last_fault ≡ self.old.desk.last_fault }
     {
         match query {
@@ -195,6 +197,7 @@ impl<S: Alter + Drop, A: Archives + Drop> ArchivedDesk<S, A> {
             self.new.archives }
         ensures is_open { HasCleanDisk (state S.Store self.new.desk.conn) →
             OnOk result (IsOpenFor query.now (state S.Store self.new.desk.conn)) }
+        ensures fault { IsSound S.Store self.new.desk → IfErr result (IsDeservedHere S.Store self.old.desk query.now) }
         ensures last_fault { self.new.desk.last_fault ≡ self.old.desk.last_fault }
     {
         let told = self.desk.find_report(alloc, query)?;
@@ -208,6 +211,7 @@ impl<S: Alter + Drop, A: Archives + Drop> ArchivedDesk<S, A> {
             TellsBeside S.Store A.are self.old.desk self.old.archives query.now (option_map string_bytes found)) }
         ensures looks { OnlyLooksTogether S.Store A.are self.old.desk self.old.archives self.new.desk
             self.new.archives }
+        ensures fault { IsSound S.Store self.new.desk → IfErr result (IsDeservedHere S.Store self.old.desk query.now) }
         ensures last_fault { self.new.desk.last_fault ≡ self.old.desk.last_fault }
     {
         let told = self.desk.find_report(alloc, query)?;
@@ -232,6 +236,7 @@ impl<S: Alter + Drop, A: Archives + Drop> ArchivedDesk<S, A> {
             TellsBeside S.Store A.are self.old.desk self.old.archives query.now (option_map string_bytes found)) }
         ensures looks { OnlyLooksTogether S.Store A.are self.old.desk self.old.archives self.new.desk
             self.new.archives }
+        ensures fault { IsSound S.Store self.new.desk → IfErr result (IsDeservedHere S.Store self.old.desk query.now) }
         ensures last_fault { self.new.desk.last_fault ≡ self.old.desk.last_fault }
     {
         match lines_if_away(alloc, &mut self.desk, &self.archives, call, side)? {
@@ -255,10 +260,11 @@ impl<S: Alter + Drop, A: Archives + Drop> ArchivedDesk<S, A> {
             self.new.archives }
         ensures is_open { HasCleanDisk (state S.Store self.new.desk.conn) →
             OnOk result (IsOpenFor query.now (state S.Store self.new.desk.conn)) }
+        ensures fault { IsSound S.Store self.new.desk → IfErr result (IsDeservedHere S.Store self.old.desk query.now) }
         ensures last_fault { self.new.desk.last_fault ≡ self.old.desk.last_fault }
     {
-        let Some(partner) = partner_called(alloc, &self.desk, code)? else {
-            return self.find_nobody(alloc, code);
+        let Some(partner) = partner_called(&self.desk, code) else {
+            return Ok(None);
         };
         if !self.is_closed(partner, number) {
             return self.desk.find_report(alloc, query);
@@ -271,19 +277,6 @@ impl<S: Alter + Drop, A: Archives + Drop> ArchivedDesk<S, A> {
         ensures { result ≡ (nat_le 1 number && nat_le number (last_closed self.now.desk.closed partner)) }
     {
         1 <= number && self.desk.is_closed(partner, number)
-    }
-
-    /// Nothing, as of a partner without an account. Damaged if there is one with that code.
-    fn find_nobody(&mut self, alloc: Global, code: &str) -> Result<Option<String>, TableFault>
-        ensures told { IsSound S.Store self.new.desk → A.is_sound self.new.archives → IfOk result (λ found.
-            (asked : Query) (number : ℕ) → IsOfNumber asked code.now number →
-            TellsBeside S.Store A.are self.old.desk self.old.archives asked (option_map string_bytes found)) }
-        ensures looks { OnlyLooksTogether S.Store A.are self.old.desk self.old.archives self.new.desk
-            self.new.archives }
-        ensures last_fault { self.new.desk.last_fault ≡ self.old.desk.last_fault }
-    {
-        check_nobody(alloc, &mut self.desk, code)?;
-        Ok(None)
     }
 
     /// What is reported at a query; NotNow, if it met a fault, which the desk keeps.
@@ -329,7 +322,7 @@ impl<S: Alter + Drop, A: Archives + Drop> ArchivedDesk<S, A> {
         if self.archives.count() == 0 {
             return self.desk.archive_report(alloc, place, query);
         }
-        match tell_of_archive(alloc, &mut self.desk, &mut self.archives, place, query) {
+        match tell_of_archive(alloc, &self.desk, &mut self.archives, place, query) {
             Ok(found) => Ok(found),
             Err(fault) => {
                 self.desk.note(fault);
@@ -387,21 +380,17 @@ impl<S: Alter + Drop, A: Archives + Drop> Report for ArchivedDesk<S, A> {
 
 /// What the archive at a place reports for a query, as the store that it was: of a container also how many archives
 /// there were then, of a number that was closed before what that number's archive keeps. None if there is no such
-/// archive, or it reports nothing. No archive changes, and the desk only looks.
-///
-/// Damaged if nobody is found by the code that a number is asked of, and the store knows the code.
-pub(crate) fn tell_of_archive<S: Alter + Drop, A: Archives>(
+/// archive, or it reports nothing. No archive changes.
+fn tell_of_archive<S: Alter, A: Archives>(
     alloc: Global,
-    desk: &mut Desk<S>,
+    desk: &Desk<S>,
     archives: &mut A,
     place: u16,
     query: &Query,
 ) -> Result<Option<String>, TableFault>
-    ensures told { IsSound S.Store desk.new → A.is_sound archives.new → IfOk result (λ found.
-        TellsOfOne S.Store A.are desk.old archives.old place query.now (option_map string_bytes found)) }
+    ensures told { A.is_sound archives.new → IfOk result (λ found.
+        TellsOfOne S.Store A.are desk.now archives.old place query.now (option_map string_bytes found)) }
     ensures same { (list : List Archive) → A.are list archives.old → A.are list archives.new }
-    ensures looks { OnlyLooks S.Store desk.old desk.new }
-    ensures last_fault { desk.new.last_fault ≡ desk.old.last_fault }
 {
     if !has_place(archives, place) {
         return Ok(None);
@@ -446,9 +435,9 @@ fn tell_container<A: Archives>(
 }
 
 /// What is reported of a number: by the archive before that place which closed it, or by the archive at that place.
-fn tell_number<S: Alter + Drop, A: Archives>(
+fn tell_number<S: Alter, A: Archives>(
     alloc: Global,
-    desk: &mut Desk<S>,
+    desk: &Desk<S>,
     archives: &mut A,
     place: u16,
     query: &Query,
@@ -456,16 +445,12 @@ fn tell_number<S: Alter + Drop, A: Archives>(
     number: u32,
 ) -> Result<Option<String>, TableFault>
     requires { IsOfNumber query.now code.now number }
-    ensures told { IsSound S.Store desk.new → A.is_sound archives.new → IfOk result (λ found.
-        (content : SetupContent) (es : List Event)
-        (stand : StandTogether S.Store A.are content es desk.old archives.old) →
+    ensures told { A.is_sound archives.new → IfOk result (λ found. (content : SetupContent) (es : List Event)
+        (stand : StandTogether S.Store A.are content es desk.now archives.old) →
         TellsAsStore (content_after content es) stand.list place query.now (option_map string_bytes found)) }
     ensures same { (list : List Archive) → A.are list archives.old → A.are list archives.new }
-    ensures looks { OnlyLooks S.Store desk.old desk.new }
-    ensures last_fault { desk.new.last_fault ≡ desk.old.last_fault }
 {
-    let Some(partner) = partner_called(alloc, desk, code)? else {
-        check_nobody(alloc, desk, code)?;
+    let Some(partner) = partner_called(desk, code) else {
         return archives.report(alloc, place, query);
     };
     if closed_before(desk, archives, place, partner, number) {
@@ -497,24 +482,5 @@ fn closed_before<S: Alter, A: Archives>(
     match archives.place_of(partner, number) {
         Some(keeper) => keeper < place,
         None => false,
-    }
-}
-
-/// Checks that no account has a code: the desk has no next number for it. A report finds no partner for a key's code by
-/// way of admission; if an account has the code all the same, the answer is Damaged.
-fn check_nobody<S: Alter + Drop>(
-    alloc: Global,
-    desk: &mut Desk<S>,
-    code: &str,
-) -> Result<(), TableFault>
-    ensures nobody { IsSound S.Store desk.new → OnOk result ((rows : Rows) (terminal : TerminalState) →
-        DeskHolds S.Store desk.old rows terminal → partner_called (setup_content desk.old.setup) code.now ≡ None) }
-    ensures looks { OnlyLooks S.Store desk.old desk.new }
-    ensures last_fault { desk.new.last_fault ≡ desk.old.last_fault }
-{
-    let next = Query::Next(String::from_str(alloc, code)?);
-    match desk.find_report(alloc, &next)? {
-        None => Ok(()),
-        Some(_) => Err(TableFault::Damaged),
     }
 }

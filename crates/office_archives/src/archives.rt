@@ -1,5 +1,5 @@
 ghost use Rattle.std.specs.Option.{option_and_then, option_map, unwrap_or};
-ghost use Rattle.std.specs.Prelude.{◌≡◌, ◌≤◌, ◌++◌, [], false, true, IfOk, List, length, map, string_bytes, None, Some, IfSome, OnOk};
+ghost use Rattle.std.specs.Prelude.{◌≡◌, ◌++◌, [], false, true, IfOk, List, length, map, string_bytes, None, Some, OnOk};
 ghost use Rattle.edi_messages.specs.Owned.{call_content};
 ghost use Rattle.office_archives.specs.Answering.{AnswersClosed};
 ghost use Rattle.office_archives.specs.Keeping.{IsClosedIn, IsKeptIn, IsReportIn, IsTicketIn};
@@ -151,40 +151,11 @@ fn answer_clash(alloc: Global, code: &str, number: u32) -> Result<Response, Allo
     Ok(Response::Clash(body))
 }
 
-/// The partner whose account has a code: who is admitted by it as the sender of an interchange.
-pub(crate) fn partner_called<S: Alter + Drop>(
-    alloc: Global,
-    desk: &Desk<S>,
-    code: &str,
-) -> Result<Option<u16>, AllocError>
-    ensures known { IfOk result (λ found. IfSome found (λ partner.
-        partner_called (setup_content desk.now.setup) code.now ≡ Some partner)) }
+/// The partner whose account has a code.
+pub(crate) fn partner_called<S: Alter>(desk: &Desk<S>, code: &str) -> Option<u16>
+    ensures { result ≡ partner_called (setup_content desk.now.setup) code.now }
 {
-    let text = interchange_from(alloc, code, desk.terminal())?;
-    match desk.admit_text(text.as_bytes()) {
-        Ok(admitted) => Ok(if_called(desk, admitted.partner, code)),
-        Err(_) => Ok(None),
-    }
-}
-
-/// The partner, if its account has that code.
-fn if_called<S: Alter>(desk: &Desk<S>, partner: u16, code: &str) -> Option<u16>
-    requires from_one { 1 ≤ partner }
-    requires known { partner ≤ length desk.now.setup.partners.items }
-    ensures { IfSome result (λ found. partner_called (setup_content desk.now.setup) code.now ≡ Some found) }
-{
-    if desk.code_of(partner) == code {
-        Some(partner)
-    } else {
-        None
-    }
-}
-
-/// An interchange from one party to another, with a message that says nothing.
-fn interchange_from(alloc: Global, sender: &str, recipient: &str) -> Result<String, AllocError> {
-    format!(in alloc;
-        "UNB+UNOA:3+{sender}+{recipient}+000101:0000+1'UNH+1+CODECO:D:95B:UN'UNT+2+1'UNZ+1+1'"
-    )
+    desk.setup().partner_called(code)
 }
 
 /// What the archives report of a number that is closed, of the partner with a code: its CONTRL, its ticket, or its

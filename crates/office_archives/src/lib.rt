@@ -12,6 +12,7 @@ mod bringing;
 mod former_store;
 pub mod laws;
 mod lists_away;
+mod looked;
 mod many_archives;
 mod opened;
 mod passing;
@@ -20,6 +21,7 @@ mod writing;
 
 pub use archived_desk::ArchivedDesk;
 pub use archives::{Archives, answer_closed};
+pub use looked::{Looked, LookedStore};
 pub use many_archives::{ManyArchives, Shelf};
 pub use opened::Opened;
 pub use passing::Rest;

@@ -1,15 +1,16 @@
-ghost use Rattle.std.specs.Prelude.{◌≡◌, ℕ, false, IfOk, List, None};
+ghost use Rattle.std.specs.Prelude.{◌≡◌, ℕ, IfOk, List, None};
 ghost use Rattle.office_archives.specs.Shelves.{AreShelved, IsOpenAt, IsSoundIfAny};
 ghost use Rattle.office_parts.specs.Archives.{Archive};
 
 use crate::archives::Archives;
-use crate::former_store::{closed_before, report_by, ticket_by};
+use crate::former_store::closed_before;
+use crate::looked::Looked;
 use crate::opened::Opened;
 use edi_messages::Call;
 use office_closing::{Register, read_list};
 use office_reports::Query;
-use office_tables::{Kept, TableFault, kept};
-use sqlite::{Alter, Connection};
+use office_tables::{Kept, TableFault};
+use sqlite::Alter;
 use std::alloc::Global;
 use terminal_core::{Listing, Side};
 
@@ -21,11 +22,11 @@ pub trait Shelf<S: Alter> {
     /// It holds these.
     ghost holds: { List Archive → Self → Type 0 };
 
-    /// A connection to the archive at that place, the first at 1. Nothing on the shelf changes.
-    fn open(&mut self, place: u16) -> Result<Connection<S>, TableFault>
-        ensures idle { IfOk result (λ conn. conn.in_transaction ≡ false) }
-        ensures opened { IfOk result (λ conn. is_known place → (list : List Archive) → holds list self.old →
-            IsOpenAt S.Store list place conn) }
+    /// The archive at that place, the first at 1, of those that the store's register names, to be only read. Nothing on the
+    /// shelf changes.
+    fn open(&mut self, names: &Register, place: u16) -> Result<Looked<S>, TableFault>
+        ensures opened { IfOk result (λ archive. is_known place → (list : List Archive) → holds list self.old →
+            IsOpenAt S.Store list place archive.conn) }
         ensures same { (list : List Archive) → holds list self.old → holds list self.new };
 }
 
@@ -58,7 +59,7 @@ impl<S: Alter + Drop, F: Shelf<S>> ManyArchives<S, F> {
         ensures place { IfOk result (λ opened. opened.place ≡ place) }
         ensures opened { IfOk result (λ opened. F.is_known place → (list : List Archive) →
             AreShelved S.Store F.is_known F.holds list self.old.shelf self.old.register self.old.opened →
-            IsOpenAt S.Store list place opened.conn) }
+            IsOpenAt S.Store list place opened.archive.conn) }
         ensures none { self.new.opened ≡ None }
         ensures register { self.new.register ≡ self.old.register }
         ensures shelf { (list : List Archive) → F.holds list self.old.shelf → F.holds list self.new.shelf }
@@ -68,8 +69,8 @@ impl<S: Alter + Drop, F: Shelf<S>> ManyArchives<S, F> {
                 return Ok(opened);
             }
         }
-        let conn = self.shelf.open(place)?;
-        Ok(Opened { place, conn })
+        let archive = self.shelf.open(&self.register, place)?;
+        Ok(Opened { place, archive })
     }
 }
 
@@ -84,9 +85,7 @@ impl<S: Alter + Drop, F: Shelf<S>> Archives for ManyArchives<S, F> {
             return Err(TableFault::Damaged);
         };
         let mut opened = self.take_out(place)?;
-        let is_idle = opened.conn.is_autocommit();
-        prove!(is_idle);
-        let found = kept(&mut opened.conn, partner, number)?;
+        let found = opened.archive.kept(partner, number)?;
         self.opened = Some(opened);
         match found {
             Some(kept) => Ok(kept),
@@ -105,11 +104,11 @@ impl<S: Alter + Drop, F: Shelf<S>> Archives for ManyArchives<S, F> {
             return Err(TableFault::Damaged);
         };
         let closed = closed_before(alloc, &self.register, place)?;
-        let mut archive = self.take_out(place)?;
-        let is_idle = archive.conn.is_autocommit();
-        prove!(is_idle);
-        let ticket = ticket_by(alloc, &mut archive.conn, &closed, code, partner, number)?;
-        self.opened = Some(archive);
+        let mut opened = self.take_out(place)?;
+        let ticket = opened
+            .archive
+            .ticket(alloc, &closed, code, partner, number)?;
+        self.opened = Some(opened);
         Ok(ticket)
     }
 
@@ -120,11 +119,9 @@ impl<S: Alter + Drop, F: Shelf<S>> Archives for ManyArchives<S, F> {
         query: &Query,
     ) -> Result<Option<String>, TableFault> {
         let closed = closed_before(alloc, &self.register, place)?;
-        let mut asked = self.take_out(place)?;
-        let is_idle = asked.conn.is_autocommit();
-        prove!(is_idle);
-        let found = report_by(alloc, &mut asked.conn, &closed, query)?;
-        self.opened = Some(asked);
+        let mut opened = self.take_out(place)?;
+        let found = opened.archive.report(alloc, &closed, query)?;
+        self.opened = Some(opened);
         Ok(found)
     }
 

@@ -1,11 +1,9 @@
-ghost use Rattle.std.specs.Prelude.{◌≡◌, false};
+use crate::looked::Looked;
+use sqlite::Alter;
 
-use sqlite::{Alter, Connection};
-
-/// An archive that is open: its place in the order of closing, and the connection to it.
+/// An archive that is open: its place in the order of closing, and what it is read by.
 #[derive(Drop)]
 pub struct Opened<S: Alter> {
     pub(crate) place: u16,
-    pub(crate) conn: Connection<S>,
-    ghost idle: { conn.in_transaction ≡ false },
+    pub(crate) archive: Looked<S>,
 }

@@ -96,8 +96,6 @@ fn write_archive<T: Alter + Drop, F: Shelf<T>, W: Write>(
     };
     let before = closed_before(alloc, register, place)?;
     let after = closed_before(alloc, register, next)?;
-    let mut conn = shelf.open(place)?;
-    let is_idle = conn.is_autocommit();
-    prove!(is_idle);
-    write_part(alloc, &mut conn, &before, &after, rest, writer)
+    let mut archive = shelf.open(register, place)?;
+    archive.write_part(alloc, &before, &after, rest, writer)
 }

@@ -24,7 +24,8 @@ pub fn create_register<S: Alter>(conn: &mut Connection<S>) -> Result<(), TableFa
     ensures new { HasCleanDisk (state S.Store conn.new) → OnOk result (IsTrue (state S.Store conn.old).is_open
         × AreMissing register_tables (state S.Store conn.old).committed.schema) }
     ensures err { HasCleanDisk (state S.Store conn.new) → IsTrue (state S.Store conn.new).is_open
-        → OnErr result (((state S.Store conn.new).now ≡ (state S.Store conn.old).committed)
+        → OnErr result (IsTrue (state S.Store conn.old).is_open
+        × ((state S.Store conn.new).now ≡ (state S.Store conn.old).committed)
         × ((state S.Store conn.new).committed ≡ (state S.Store conn.old).committed)) }
     ensures crash { Survives (state S.Store conn.old) (state S.Store conn.new)
         (IsMade empty_register (state S.Store conn.old)) }

@@ -14,3 +14,4 @@ mod MigratingLemmas
 mod TextLemmas
 mod KeptTextLemmas
 mod WholeLemmas
+mod RefusingLemmas

@@ -1,5 +1,5 @@
 -- A store that is opened on its files, beside its archives.
-use Rattle.std.proofs.Common.{◌≡◌, ◌≢◌, ◌==◌, ℕ, ◌+◌, List, [], ◌∷◌, Bool, true, false, length, refl, sym, ap, subst, ◌∙◌, arith}
+use Rattle.std.proofs.Common.{◌≡◌, ◌≢◌, ◌==◌, ℕ, ◌+◌, List, [], ◌∷◌, Bool, true, false, length, None, Some, refl, sym, ap, subst, ◌∙◌, arith}
 use Rattle.std.specs.Prelude.{◌&&◌, nat_le, IsTrue}
 use Rattle.std.specs.List.{list_all}
 use Rattle.std.proofs.lemmas.Bool.{and_parts, eqb-false, eqb-true, leb-true}
@@ -9,24 +9,37 @@ use Rattle.sqlite.specs.Recovery.{Image}
 use Rattle.sqlite_trees.specs.declared.store.Store.{Ghosts}
 use Rattle.office_replies.specs.Events.{Event}
 use Rattle.edi_syntax.specs.Numbers.{last_number}
+use Rattle.sqlite.specs.Tree.{Trees}
+use Rattle.edi_messages.specs.Codes.{table_texts}
 use Rattle.office_loading.specs.Closed.{closed_content, nothing_closed}
+use Rattle.office_loading.specs.declared.closed.Closed.{Closed}
+use Rattle.office_history.proofs.Alike.{reopens}
+use Rattle.office_tables.proofs.MadeLemmas.{clean_first}
 use Rattle.office_rows.specs.Stored.{HasRows, StoresRows}
 use Rattle.office_rows.specs.Tables.{office_schema}
 use Rattle.office_rows.proofs.Creating.{stores}
 use Rattle.office_admission.specs.Given.{IsGiven}
-use Rattle.office_admission.specs.Setups.{SetupContent}
+use Rattle.office_admission.specs.Setups.{SetupContent, setup_content}
+use Rattle.office_admission.specs.declared.setup.Setup.{Setup}
 use Rattle.office_admission.specs.Limits.{most_partners}
 use Rattle.office_closing.specs.Register.{RegisterContent, closed_by, last_closed, newest_visit}
 use Rattle.office_closing.specs.Sound.{are_in_order, are_sound_archives, are_sound_lists, are_sound_segments, close_more, is_sound, is_sound_mark, is_within}
 use Rattle.office_closing.specs.declared.register.Segment.{Segment}
 use Rattle.office_commands.specs.Opening.{BeginsAt, Shows}
+use Rattle.office_desk.specs.Beside.{IsBeside, IsOrNone}
 use Rattle.office_desk.specs.Desks.{IsSound, OpensAt}
+use Rattle.office_desk.specs.Telling.{Holds}
+use Rattle.office_desk.specs.declared.beside.Beside.{Beside}
+use Rattle.office_desk.proofs.DeliverLemmas.{beside_loaded, office_with, shown_by_own}
+use Rattle.office_desk.proofs.HoldLemmas.{held_leaves, nexts_loaded}
+use Rattle.office_desk.proofs.OwnNumbers.{codes_after}
 use Rattle.office_desk.specs.declared.desk.Desk.{Desk}
 use Rattle.office_parts.specs.Archives.{Archive}
 use Rattle.office_parts.specs.OwnLists.{rows_without_lists}
+use Rattle.office_archives.specs.Shelves.{NamesAll}
 use Rattle.office_archives.specs.Together.{IsBesideAfter}
 use Rattle.office_archives.proofs.Filled.{opened_beside}
-use Rattle.office_commands.specs.Beside.{IsOpenedOver, IsOpenedWhole, OpensFor, OpensOn, OpensWith}
+use Rattle.office_commands.specs.Beside.{IsLoaded, IsOpenedOver, IsOpenedWhole, OpensFor, OpensOn, OpensWith}
 
 pub opens_for : {S : Type 0} (g : Ghosts S) (found : Held S) (desk : Desk S g) → IsOpenedOver g found desk → IsSound g desk → (list : List Archive) (content : SetupContent) (es : List Event) → IsGiven content →
     (state g found).committed.schema ≡ office_schema → IsBesideAfter list (closed_content desk.closed) content es (state g found).committed.trees → OpensFor g list content es desk
@@ -93,7 +106,7 @@ none_within (segment ∷ segments) all =
     let high = leb-true segment.archive 0 both.1 in
     absurd (omega (arith, low, high))
 
-closes_nothing : (names : RegisterContent) → IsTrue (is_sound names) → names.archives ≡ [] → closed_by names ≡ nothing_closed
+pub closes_nothing : (names : RegisterContent) → IsTrue (is_sound names) → names.archives ≡ [] → closed_by names ≡ nothing_closed
 closes_nothing names sound none =
     let many : ℕ = length names.archives in
     let rest : Bool = are_sound_lists many names.lists && is_sound_mark names.closed_for in
@@ -103,16 +116,89 @@ closes_nothing names sound none =
     let empty : names.segments ≡ [] = none_within names.segments (subst (λ (n : ℕ). list_all (is_within n) names.segments ≡ true) (ap length none) within) in
     λ i. record { last_closed = last_closed (empty i); newest_closed = newest_visit (none i) }
 
-pub opens_alone : {S A : Type 0} (g : Ghosts S) (hold : List Archive → Type 0) (are : List Archive → A → Type 0) (image : Image) (found : Held S) (names : RegisterContent) (desk : Desk S g) (archives : A) → Shows g image found → IsOpenedWhole g found desk
-    → are [] archives → IsTrue (is_sound names) → names.archives ≡ [] → OpensWith g hold are image names (desk, archives)
-opens_alone g hold are image found names desk archives shows whole they sound none = record {
-  opens = opens_on g image found desk shows whole.over;
-  sound = sound;
-  closed = whole.closed ∙ sym (closes_nothing names sound none);
-  these = λ list held named. subst (λ (l : List Archive). are l archives) (sym (none_named list (named.counted ∙ ap length none))) they;
-  alone = λ none. record { none = they; closed = whole.closed; events = opens_at g image found desk shows whole };
-}
+-- the list that it names is empty
+pub none_named : (names : RegisterContent) (list : List Archive) → names.archives ≡ [] → NamesAll names list → list ≡ []
+none_named names list none named = by list (named.counted ∙ ap length none)
   where
-    none_named : (list : List Archive) → length list ≡ 0 → list ≡ []
-    none_named [] many = refl
-    none_named (one ∷ list) many = absurd (omega (arith, many))
+    by : (list : List Archive) → length list ≡ 0 → list ≡ []
+    by [] many = refl
+    by (one ∷ list) many = absurd (omega (arith, many))
+
+-- ---- a desk over what was loaded
+
+module _ {S : Type 0} (g : Ghosts S) (found : Held S) (desk : Desk S g) (there : Beside) (loaded : IsLoaded g found desk.conn (closed_content desk.closed) (setup_content desk.setup) there) (is : desk.beside ≡ Some there)
+    (settled : IsSound g desk → (db : Trees) → (state g desk.conn).may_leave db → db ≡ (state g desk.conn).committed.trees) where
+  abbrev own : SetupContent
+  own = setup_content desk.setup
+
+  pub opened_over : IsOpenedOver g found desk
+  opened_over = record {
+    clean = λ sound. clean_first loaded.reads sound.0;
+    settled = settled;
+    office = λ sound schema.
+        let loads = loaded.loads sound.0 schema in
+        let still = loaded.reads.unchanged sound.0 in
+        record {
+          there = there;
+          beside = is;
+          loads = loads;
+          holds = λ rows has. office_with (closed_content desk.closed) own rows there.terminal (state g found).committed (state g desk.conn).committed None desk.beside still.0.committed_is
+              (subst (IsOrNone rows there.terminal) (sym is) (record { terminal_is = refl; nexts = loaded.nexts sound.0 rows has }))
+              (record { has = has; loads = loads; beside = tt });
+          unchanged = still;
+        };
+  }
+
+  -- of a store of which nothing was put away
+  pub opened_whole : closed_content desk.closed ≡ nothing_closed → IsOpenedWhole g found desk
+  opened_whole nothing = record {
+    over = opened_over;
+    closed = nothing;
+    events = λ sound content es rows given has after.
+        let closed = closed_content desk.closed in
+        let loads = loaded.loads sound.0 has.schema in
+        let still = loaded.reads.unchanged sound.0 in
+        let back = reopens content es rows (state g found).committed loads.0 own there.terminal after given has loads.1 (shown_by_own closed loads.0 own there.terminal loads.2) in
+        let opening : SetupContent = record content { codes = desk.setup.codes } in
+        let beside : IsBeside opening es (Some there) = record {
+          terminal = beside_loaded closed opening es rows (state g found).committed own there.terminal back.given back.rows_are has loads;
+          nexts = nexts_loaded opening es rows there.nexts.items back.rows_are (loaded.nexts sound.0 rows has);
+        } in
+        let held : Holds opening es own (state g desk.conn).committed desk.beside = record {
+          given = back.given;
+          now_is = back.now;
+          rows = rows;
+          has = subst (HasRows rows) (sym still.0.committed_is) has;
+          after = back.rows_are;
+          beside = subst (IsBeside opening es) (sym is) beside;
+        } in
+        record {
+          says = back.says;
+          opening = opening;
+          opening_says = record { terminal = refl; codes = back.says.codes ∙ ap table_texts (codes_after es content); partners = refl; blocks = refl; limit = refl };
+          stands = held;
+          leaves = held_leaves opening es own (state g desk.conn) desk.beside sound.1 (settled sound) held;
+        };
+  }
+
+-- the desk is over what was loaded
+pub loaded_as : {S : Type 0} (g : Ghosts S) (found conn : Held S) (closed : Closed) (setup : Setup) (there : Beside) (desk : Desk S g) → desk.conn ≡ conn → desk.closed ≡ closed → desk.setup ≡ setup → IsLoaded g found conn (closed_content closed) (setup_content setup) there
+    → IsLoaded g found desk.conn (closed_content desk.closed) (setup_content desk.setup) there
+loaded_as g found conn closed setup there desk conn_is closed_is setup_is loaded =
+    subst (λ (h : Held _). IsLoaded g found h (closed_content desk.closed) (setup_content desk.setup) there) (sym conn_is)
+    (subst (λ (k : Closed). IsLoaded g found conn (closed_content k) (setup_content desk.setup) there) (sym closed_is)
+    (subst (λ (s : Setup). IsLoaded g found conn (closed_content closed) (setup_content s) there) (sym setup_is) loaded))
+
+-- beside the archives that the register names
+pub joined_with : {S A : Type 0} (g : Ghosts S) (hold : List Archive → Type 0) (are : List Archive → A → Type 0) (image : Image) (found : Held S) (names : RegisterContent) (desk : Desk S g) (there : Beside) (archives : A) → Shows g image found
+    → IsLoaded g found desk.conn (closed_content desk.closed) (setup_content desk.setup) there → desk.beside ≡ Some there → (IsSound g desk → (db : Trees) → (state g desk.conn).may_leave db → db ≡ (state g desk.conn).committed.trees) → IsTrue (is_sound names) → closed_content desk.closed ≡ closed_by names
+    → ((list : List Archive) → hold list → NamesAll names list → are list archives) → (names.archives ≡ [] → are [] archives) → OpensWith g hold are image names (desk, archives)
+joined_with g hold are image found names desk there archives shows loaded is settled sound closed these none = record {
+  opens = opens_on g image found desk shows (opened_over g found desk there loaded is settled);
+  sound = sound;
+  closed = closed;
+  these = these;
+  alone = λ empty.
+      let nothing = closed ∙ closes_nothing names sound empty in
+      record { none = none empty; closed = nothing; events = opens_at g image found desk shows (opened_whole g found desk there loaded is settled nothing) };
+}

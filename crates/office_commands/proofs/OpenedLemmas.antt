@@ -13,6 +13,7 @@ use Rattle.sqlite.specs.Files.{IsOpened, file_state}
 use Rattle.sqlite.specs.Held.{Held}
 use Rattle.sqlite.specs.Recovery.{Image}
 use Rattle.sqlite.specs.Start.{FindsIn}
+use Rattle.sqlite.specs.State.{HasCleanDisk}
 use Rattle.sqlite.specs.Tree.{Trees}
 use Rattle.sqlite.specs.declared.FileStore.{FileStore}
 use Rattle.office_rows.specs.Tables.{no_schema, office_schema, office_tables}
@@ -32,6 +33,10 @@ shows_held image conn opened found db schema held lists =
 lists_none : Lists [] no_schema
 unfolding is_sound_list
 lists_none = record { listed = record { tables = tt; indexes = tt; views = tt; owned = tt; named = tt; loads = refl }; guarded = tt }
+
+-- what is held by another name shows the same
+pub shown_by : {D : Type 0} {g : Ghosts D} (image : Image) (conn held : Held (FileStore D g)) → held ≡ conn → (HasCleanDisk (file_state conn) → ShowsHeld image conn) → HasCleanDisk (file_state held) → ShowsHeld image held
+shown_by {D} {g} image conn held same shows = subst (λ (h : Held (FileStore D g)). HasCleanDisk (file_state h) → ShowsHeld image h) (sym same) shows
 
 -- A database file that is empty has no tables.
 pub shows_none : {D : Type 0} {g : Ghosts D} (image : Image) (conn : Held (FileStore D g)) → IsOpened conn → FindsIn image (file_state conn) → image.db ≡ [] → (file_state conn).committed.schema ≡ no_schema

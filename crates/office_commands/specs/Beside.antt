@@ -1,5 +1,5 @@
 -- A store that is opened on its files, beside its archives.
-use Rattle.std.specs.Prelude.{◌≡◌, List, [], IsTrue}
+use Rattle.std.specs.Prelude.{◌≡◌, List, [], Ok, IsTrue}
 use Rattle.sqlite.specs.Files.{HoldsDatabase}
 use Rattle.sqlite.specs.Held.{Held, state}
 use Rattle.sqlite.specs.Recovery.{Image}
@@ -8,9 +8,13 @@ use Rattle.sqlite.specs.Tree.{Trees}
 use Rattle.sqlite_trees.specs.declared.store.Store.{Ghosts}
 use Rattle.office_replies.specs.Events.{Event}
 use Rattle.office_loading.specs.Closed.{ClosedContent, closed_content, nothing_closed}
+use Rattle.terminal_core.specs.State.{TerminalState}
+use Rattle.office_loading.specs.Tables.{LoadsOwn}
 use Rattle.office_rows.specs.Rows.{Rows}
+use Rattle.office_rows.specs.Shown.{AreNexts}
 use Rattle.office_rows.specs.Stored.{HasRows}
 use Rattle.office_rows.specs.Tables.{office_schema}
+use Rattle.office_tables.specs.Reading.{Reads}
 use Rattle.office_admission.specs.Given.{IsGiven}
 use Rattle.office_admission.specs.Setups.{SetupContent}
 use Rattle.office_closing.specs.Register.{RegisterContent, closed_by}
@@ -18,6 +22,7 @@ use Rattle.office_closing.specs.Sound.{is_sound}
 use Rattle.office_history.specs.After.{AreAfter}
 use Rattle.office_desk.specs.Desks.{IsSound, OpensAt}
 use Rattle.office_desk.specs.Offices.{OpensOffice}
+use Rattle.office_desk.specs.declared.beside.Beside.{Beside}
 use Rattle.office_desk.specs.declared.desk.Desk.{Desk}
 use Rattle.office_parts.specs.Archives.{Archive}
 use Rattle.office_archives.specs.Opening.{OpensBeside}
@@ -39,6 +44,22 @@ abbrev pub IfHeld : {S A : Type 0} {g : Ghosts S} (are : List Archive → A → 
 IfHeld are image opened holds =
     (list : List Archive) (content : SetupContent) (es : List Event) → IsGiven content →
     HoldsBeside image list (closed_content opened.0.closed) content es → are list opened.1 → holds list content es
+
+-- An office was loaded by a connection that was found so and was only read: these are its set-up and its terminal, if the tables are those of an
+-- office beyond what is closed, and its partners' next numbers.
+pub record IsLoaded {S : Type 0} (g : Ghosts S) (found conn : Held S) (closed : ClosedContent) (setup : SetupContent)
+    (there : Beside) : Type 0 where
+  pub reads : Reads {T = Unit {0}} (state g found) (state g conn) (Ok tt)
+  pub loads : HasCleanDisk (state g conn) → (state g found).committed.schema ≡ office_schema →
+      LoadsOwn closed (state g found).committed setup there.terminal
+  pub nexts : HasCleanDisk (state g conn) → (rows : Rows) → HasRows rows (state g found).committed →
+      AreNexts rows there.nexts.items
+
+-- of whatever office's tables the files held, beyond what is closed, that is the set-up
+abbrev pub IsSetUpHeld : Image → ClosedContent → SetupContent → Type 0
+IsSetUpHeld image closed setup =
+    (db : Trees) → HoldsTables image db →
+    (terminal : TerminalState) × LoadsOwn closed (record { schema = office_schema; trees = db }) setup terminal
 
 -- A desk was opened over that connection: if it is sound, the disk was clean, the desk is over the office that the tables show,
 -- and a crash leaves what is committed.

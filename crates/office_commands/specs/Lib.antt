@@ -1,5 +1,6 @@
 pub mod Opening
 pub mod Beside
+pub mod Refusing
 pub mod Ending
 pub mod Demo
 pub mod Command

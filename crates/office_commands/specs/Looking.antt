@@ -1,15 +1,20 @@
 -- What a report leaves: it only looks.
-use Rattle.std.specs.Prelude.{ℕ, List, [], Option}
+use Rattle.std.specs.Prelude.{◌≡◌, ◌⊎◌, ℕ, List, [], Option, Some}
 use Rattle.sqlite.specs.Held.{state}
 use Rattle.sqlite.specs.Recovery.{Image}
 use Rattle.sqlite_trees.specs.declared.store.Store.{Ghosts}
 use Rattle.office_replies.specs.Events.{Event}
+use Rattle.office_reports.specs.Keys.{query_content, query_of}
+use Rattle.office_reports.specs.declared.query.Query.{Query}
 use Rattle.office_reports.specs.declared.query.ReportKind.{ReportKind}
+use Rattle.office_tables.specs.Faults.{IsOfStore}
+use Rattle.office_tables.specs.declared.table_fault.TableFault.{TableFault}
 use Rattle.office_admission.specs.Setups.{SetupContent}
 use Rattle.office_desk.specs.Calls.{OnlyLooks}
 use Rattle.office_desk.specs.Desks.{IsSound}
 use Rattle.office_desk.specs.declared.desk.Desk.{Desk}
 use Rattle.office_parts.specs.Archives.{Archive}
+use Rattle.office_archives.specs.Causes.{IsDeserved, IsDeservedHere}
 use Rattle.office_archives.specs.Together.{OnlyLooksTogether, TellsBeside}
 use Rattle.office_commands.specs.Beside.{IsAlone}
 use Rattle.office_commands.specs.Delivering.{LeavesAlike}
@@ -35,3 +40,12 @@ pub record IsReportedOver {S A : Type 0} (g : Ghosts S) (is_sound : A → Type 0
     (image : Image) (opened office : Desk S g × A) (kind : ReportKind) (key : List ℕ) (found : Option (List ℕ)) : Type 0 where
   pub tells : IsSound g office.0 → is_sound office.1 → TellsKey (TellsBeside g are opened.0 opened.1) kind key found
   pub alone : IsAlone are image opened → IsSound g office.0 → TellsHeld image kind key found
+
+-- A report under a key can't be reported. The store failed, or memory was refused; or that is deserved of the query that the key
+-- asks for, if the store's own rows report it; and of any, if there are no archives.
+abbrev pub FailsUnder : {S A : Type 0} (g : Ghosts S) (are : List Archive → A → Type 0) → Desk S g × A → ReportKind →
+    (key : List ℕ) → TableFault → Type 0
+FailsUnder g are opened kind key fault =
+    IsOfStore fault
+    ⊎ ((query : Query) × (query_of kind key ≡ Some (query_content query)) × IsDeservedHere g opened.0 query fault
+    × (are [] opened.1 → IsDeserved g opened.0 query fault))

@@ -17,3 +17,9 @@ pub record IsBeside (file name path : List ℕ) : Type 0 where
   pub whole : path_of folder own ≡ file
   pub own_name : HasNoSlash own
   pub is : path ≡ path_of folder name
+
+-- the name that a path ends with
+pub record IsNameOf (path name : List ℕ) : Type 0 where
+  pub folder : Option (List ℕ)
+  pub whole : path_of folder name ≡ path
+  pub is_name : HasNoSlash name

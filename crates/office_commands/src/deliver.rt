@@ -1,8 +1,9 @@
-ghost use Rattle.std.specs.Prelude.{◌≡◌, ◌≤◌, ◌+◌, false, IfOk, IfErr, OnErr};
+ghost use Rattle.std.specs.Prelude.{◌≡◌, ◌≤◌, ◌+◌, false, IfOk, IfErr};
 ghost use Rattle.office_commands.specs.Accounts.{AccountEnds, AnswersAsked, IsAskedOver, LeavesWriter};
 ghost use Rattle.office_commands.specs.Beside.{FromOpened, OpensOn};
 ghost use Rattle.office_commands.specs.Delivering.{AreDeliveredOver};
 ghost use Rattle.office_commands.specs.Ending.{Tells, StreamEnds, LeavesPorts, ports, most_turns, outcome_status};
+ghost use Rattle.office_commands.specs.Refusing.{IsMarked, IsRefused};
 ghost use Rattle.office_commands.specs.Telling.{open_text};
 ghost use Rattle.office_replies.specs.Delivering.{LeadsOn};
 ghost use Rattle.office_replies.specs.Streams.{Streams, port_bytes};
@@ -128,9 +129,10 @@ pub fn deliver_over<
         (W.contents writer.old.inner) (W.contents writer.new.inner)))
         (Tells errors.new.failed (E.contents errors.old.inner) (E.contents errors.new.inner)) result.0)) }
 
-    // If it did not open, nothing was read or written.
+    // If it did not open, nothing was read or written; and why.
     ensures refused { IfErr result.1 (λ fault. (result.0 ≡ 3) × (reader.new ≡ reader.old) × (writer.new ≡ writer.old)
         × Tells errors.new.failed (E.contents errors.old.inner) (E.contents errors.new.inner) (open_text fault)) }
+    ensures why { IfErr result.1 (IsRefused ⟦<sqlite::FileStore<sqlite::FileFrom<S>> as sqlite_trees::store::Store>⟧ (image_at S.Start) IsMarked) }
     ensures in_time { reader.old.ended ≡ false → reader.new.read_behind_end ≡ reader.old.read_behind_end }
     ensures reads { reader.new.reads ≤ reader.old.reads + most_turns }
 {
@@ -148,8 +150,7 @@ pub fn deliver_over<
 
 /// Adds an account to the store at a path, with its archives, prints the answer as a line, and answers the exit status and the
 /// office as it was left: 0 if there is such an account, now or before, 1 if it is refused, and 3 if that could not be answered
-/// now, or printing failed. A fault is that of `open_office`, and then nothing was printed. No clause says what the store holds
-/// after a fault, since no office is left: that nothing was asked of it is to be read in this body.
+/// now, or printing failed. A fault is that of `open_office`, and then nothing was printed, and nothing written: there is no desk.
 pub fn account_over<S: Start, A: Archives + Drop, M: ArchivesBeside<A>, W: Write>(
     rt: &HostRuntime,
     store: &str,
@@ -166,7 +167,8 @@ pub fn account_over<S: Start, A: Archives + Drop, M: ArchivesBeside<A>, W: Write
         (AnswersAsked (IsAskedOver over_files A.is_sound A.are (image_at S.Start) opened
         (ended.1.desk, ended.1.archives) code.now kind.now)
         (W.contents writer.old.inner) (W.contents writer.new.inner)) ended.0)) }
-    ensures err { OnErr result (writer.new ≡ writer.old) }
+    ensures refused { IfErr result (λ fault. IsRefused ⟦<sqlite::FileStore<sqlite::FileFrom<S>> as sqlite_trees::store::Store>⟧ (image_at S.Start) IsMarked fault
+        × (writer.new ≡ writer.old)) }
 {
     let mut office = open_office(rt, store, start, beside)?;
     let status = ask_desk(rt.alloc(), &mut office, code, kind, writer);

@@ -7,6 +7,7 @@ mod beside;
 mod deliver;
 pub mod demo;
 mod first_page;
+mod loaded;
 mod migration;
 mod notes;
 mod offices;
@@ -25,8 +26,10 @@ pub use deliver::{
 pub use demo::{DemoFault, run_demo};
 pub use migration::{Migrated, MigrationFault, migrate_over};
 pub use notes::{AccountNote, DeliveryNote, Notes, Sender, WhyNotNow};
-pub use offices::{FileOffice, OpenFault, open_office, open_shelf, open_to_look};
-pub use opening::{NO_STORE, Named, Names, StoreFile, make_store, open_found, open_there};
+pub use offices::{FileOffice, OpenFault, look_at_office, open_office, open_to_look};
+pub use opening::{
+    NO_STORE, Named, Names, StoreFile, look_there, make_store, open_found, open_there,
+};
 pub use register::{
     FilePlace, History, beside_path, found_at, has_no_tables, history_of, is_there, no_archives,
     place_of, read_history, register_path,

@@ -11,6 +11,7 @@ ghost use Rattle.office_tables.specs.Faults.{IsOfStore};
 ghost use Rattle.office_tables.specs.Reading.{Reads};
 ghost use Rattle.office_loading.specs.History.{HoldsAfter, IsOlderAfter, StoresAfter};
 ghost use Rattle.office_loading.specs.Migration.{IsMigration, Migrates};
+ghost use Rattle.office_loading.specs.Older.{FailsToLoadOlder};
 ghost use Rattle.office_commands.specs.Ending.{Prints};
 ghost use Rattle.office_commands.specs.Migrating.{FillsNew, IsJudged, IsLookedAt, IsMigratedOver, MigratesBetween, TellsReady};
 
@@ -66,32 +67,40 @@ pub fn migrate_over<S: Start, T: Start, W: Write>(
         (W.contents writer.old.inner) (W.contents writer.new.inner)) ended.outcome) }
     ensures err { OnErr result (writer.new ≡ writer.old) }
 {
-    let older = match open_older(rt, old.0, old.1) {
+    let mut older = match open_older(rt, old.0, old.1) {
         Ok(conn) => conn,
         Err(fault) => return Err(MigrationFault::Old(fault)),
     };
-    match migrate_into(rt, older, new, writer) {
-        Ok(ended) => Ok(ended),
+    match migrate_into(rt, &mut older, new, writer) {
+        Ok((outcome, newer)) => Ok(Migrated {
+            outcome,
+            old: older,
+            new: newer,
+        }),
         Err(fault) => Err(MigrationFault::New(fault)),
     }
 }
 
-/// Makes the store in the file at a path with what an older one of any kind keeps, and prints that it is ready.
-fn migrate_into<S: Alter + Drop, T: Start, W: Write>(
+/// Makes the store in the file at a path with what an older one of any kind keeps, and prints that it is ready: the new store
+/// and how it came out. If the new one can't be opened, nothing was asked of the older one.
+fn migrate_into<S: Alter, T: Start, W: Write>(
     rt: &HostRuntime,
-    older: Connection<S>,
+    older: &mut Connection<S>,
     new: (&str, T),
     writer: &mut Port<W>,
-) -> Result<Migrated<S, FileStore<FileFrom<T>>>, TableFault>
+) -> Result<(Result<u8, TableFault>, Connection<FileStore<FileFrom<T>>>), TableFault>
     ensures filled { IfOk result (λ ended.
-        FillsNew S.Store (image_at T.Start) older ended.outcome ended.old ended.new) }
+        FillsNew S.Store (image_at T.Start) older.old ended.0 older.new ended.1) }
     ensures printed { IfOk result (λ ended. TellsReady (writer.new ≡ writer.old)
         (Prints writer.old.failed writer.new.failed writer.new.flushed
-        (W.contents writer.old.inner) (W.contents writer.new.inner)) ended.outcome) }
+        (W.contents writer.old.inner) (W.contents writer.new.inner)) ended.0) }
     ensures err { OnErr result (writer.new ≡ writer.old) }
+    ensures untouched { OnErr result (older.new ≡ older.old) }
+    ensures fault { IfErr result IsOfStore }
 {
-    let newer = open_new(rt, new.0, new.1)?;
-    Ok(migrate_between(rt.alloc(), older, newer, writer))
+    let mut newer = open_new(rt, new.0, new.1)?;
+    let outcome = migrate_between(rt.alloc(), older, &mut newer, writer);
+    Ok((outcome, newer))
 }
 
 /// A connection to the store in the file at a path, which holds an office of version 1 or 2.
@@ -102,40 +111,43 @@ fn open_older<S: Start>(
 ) -> Result<Connection<FileStore<FileFrom<S>>>, TableFault>
     ensures judged { IfOk result (IsJudged (image_at S.Start)) }
 {
-    let conn = open_there(rt, path, start)?;
-    look_at(rt.alloc(), conn)
-}
-
-/// A connection to a store of any kind, if it holds an office of version 1 or 2.
-fn look_at<S: Alter + Drop>(alloc: Global, conn: Connection<S>) -> Result<Connection<S>, TableFault>
-    requires idle { conn.in_transaction ≡ false }
-    ensures looked { IfOk result (IsLookedAt S.Store conn) }
-{
-    let mut conn = conn;
-    let is_idle = conn.is_autocommit();
-    prove!(is_idle);
-    load_old(alloc, &mut conn)?;
+    let mut conn = open_there(rt, path, start)?;
+    look_at(rt.alloc(), &mut conn)?;
     Ok(conn)
 }
 
-/// Makes the tables of a store with what an older one keeps, prints that they are ready, and gives both back. Over stores
-/// of any kind, so that what is said of them stays short where a file is known to be one.
-fn migrate_between<S: Alter + Drop, T: Alter + Drop, W: Write>(
+/// Looks whether a store of any kind holds an office of version 1 or 2. It is only read.
+///
+/// Version if no setting names version 1 or 2; Damaged if the rows are those of no office; Store and Memory say nothing of the
+/// rows.
+fn look_at<S: Alter>(alloc: Global, conn: &mut Connection<S>) -> Result<(), TableFault>
+    requires idle { conn.old.in_transaction ≡ false }
+    ensures looked { OnOk result (IsLookedAt S.Store conn.old conn.new) }
+    ensures refused { HasCleanDisk (state S.Store conn.new) → (state S.Store conn.old).now.schema ≡ bare_schema →
+        IfErr result (FailsToLoadOlder (state S.Store conn.old).now) }
+    ensures reads { Reads (state S.Store conn.old) (state S.Store conn.new) result }
+{
+    let is_idle = conn.is_autocommit();
+    prove!(is_idle);
+    load_old(alloc, conn)?;
+    Ok(())
+}
+
+/// Makes the tables of a store with what an older one keeps, and prints that they are ready. Over stores of any kind, so that
+/// what is said of them stays short where a file is known to be one.
+fn migrate_between<S: Alter, T: Alter, W: Write>(
     alloc: Global,
-    older: Connection<S>,
-    newer: Connection<T>,
+    older: &mut Connection<S>,
+    newer: &mut Connection<T>,
     writer: &mut Port<W>,
-) -> Migrated<S, T>
-    requires idle { newer.in_transaction ≡ false }
-    ensures migrates { MigratesBetween S.Store T.Store older newer result.outcome result.old result.new }
+) -> Result<u8, TableFault>
+    requires idle { newer.old.in_transaction ≡ false }
+    ensures migrates { MigratesBetween S.Store T.Store older.old newer.old result older.new newer.new }
     ensures printed { TellsReady (writer.new ≡ writer.old)
         (Prints writer.old.failed writer.new.failed writer.new.flushed
-        (W.contents writer.old.inner) (W.contents writer.new.inner)) result.outcome }
+        (W.contents writer.old.inner) (W.contents writer.new.inner)) result }
 {
-    let mut old = older;
-    let mut new = newer;
-    let outcome = fill(alloc, &mut old, &mut new, writer);
-    Migrated { outcome, old, new }
+    fill(alloc, older, newer, writer)
 }
 
 /// Makes the tables of a store with what an older one keeps, and prints that they are ready.

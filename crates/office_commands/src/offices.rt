@@ -1,23 +1,32 @@
-ghost use Rattle.std.specs.Prelude.{◌≡◌, ◌≢◌, [], IfOk, IsTrue, None, false};
-ghost use Rattle.office_commands.specs.Beside.{IsBesideShelf, IsOpenedOver, IsOpenedWhole, OpensOn, OpensWith};
+ghost use Rattle.std.specs.Prelude.{◌≡◌, ◌≢◌, List, [], IfErr, IfOk, IsTrue, None};
+ghost use Rattle.office_archives.specs.Shelves.{NamesAll};
+ghost use Rattle.office_commands.specs.Beside.{IsLoaded, IsSetUpHeld, OpensWith};
 ghost use Rattle.office_commands.specs.Opening.{Shows, ShowsHeld};
-ghost use Rattle.office_closing.specs.Register.{RegisterContent, register_content};
+ghost use Rattle.office_commands.specs.declared.offices.OpenFault.TheVariants as open_fault;
+ghost use Rattle.office_commands.specs.Refusing.{IsMarked, IsOfRegister, IsRefused, IsUnloaded, IsUnopened};
+ghost use Rattle.office_closing.specs.Register.{RegisterContent, closed_by, register_content};
 ghost use Rattle.office_closing.specs.Sound.{is_sound};
+ghost use Rattle.office_loading.specs.Closed.{closed_content};
+ghost use Rattle.office_parts.specs.Archives.{Archive};
+ghost use Rattle.office_admission.specs.Setups.{setup_content};
+ghost use Rattle.office_rows.specs.Tables.{office_schema};
+ghost use Rattle.office_tables.specs.DeliveryReading.{OnlyReads};
+ghost use Rattle.office_tables.specs.declared.table_fault.TableFault.TheVariants.{Memory};
+ghost use Rattle.sqlite.specs.Held.{state};
 ghost use Rattle.sqlite.specs.Files.{file_state, over_files};
 ghost use Rattle.sqlite.specs.Recovery.{Image};
 ghost use Rattle.sqlite.specs.State.{HasCleanDisk};
 ghost use Rattle.sqlite.specs.WalFiles.{image_at};
 
-use crate::beside::{ArchivesBeside, ShelfBeside};
-use crate::opening::open_there;
+use crate::beside::ArchivesBeside;
+use crate::loaded::{Loaded, load_office};
+use crate::opening::{look_there, open_there};
 use crate::register::{names_none, no_archives, read_history};
 use office_admission::Setup;
-use office_archives::{ArchivedDesk, Archives, Shelf};
+use office_archives::{ArchivedDesk, Archives, Looked, LookedStore};
 use office_closing::Register;
-use office_desk::{Desk, load_beside};
-use office_loading::Closed;
 use office_tables::TableFault;
-use sqlite::{Alter, Connection, FileFrom, FileStore, Start};
+use sqlite::{Alter, FileFrom, FileStore, Start};
 use std::alloc::{AllocError, Global};
 use thiserror::Error;
 
@@ -39,6 +48,8 @@ pub enum OpenFault {
 }
 
 impl From<AllocError> for OpenFault {
+    ghost from_gives = { λ _ fault. fault ≡ open_fault.Store Memory };
+
     fn from(_: AllocError) -> OpenFault {
         OpenFault::Store(TableFault::Memory)
     }
@@ -48,8 +59,8 @@ impl From<AllocError> for OpenFault {
 /// store. The store is opened, and so locked, before its register is read: no other process closes it meanwhile, and where
 /// another one has it nothing else is touched.
 ///
-/// Closed if it is an archive itself. No clause ties the contents to the path: that this body opens the files there, and touches
-/// them by nothing else, is to be read.
+/// Closed if it is an archive itself. No clause ties the contents to the path: that this body opens the files there is to be read.
+/// Nothing is written before it is a desk: until then it is only `Looked` at.
 pub fn open_office<S: Start, A: Archives, M: ArchivesBeside<A>>(
     rt: &HostRuntime,
     store: &str,
@@ -58,16 +69,17 @@ pub fn open_office<S: Start, A: Archives, M: ArchivesBeside<A>>(
 ) -> Result<FileOffice<S, A>, OpenFault>
     // From whatever events the files held what is left of the rows, with whatever archives hold the rest, the store stands
     // beside these after them. What is closed is what the register says that was read, which has no mark.
-    ensures { IfOk result (λ office. (names : RegisterContent)
+    ensures opened { IfOk result (λ office. (names : RegisterContent)
         × OpensWith over_files M.hold A.are (image_at S.Start) names (office.desk, office.archives)
         × (names.closed_for ≡ None)) }
+    ensures refused { IfErr result (IsRefused ⟦<FileStore<FileFrom<S>> as sqlite_trees::store::Store>⟧ (image_at S.Start) IsMarked) }
 {
-    let conn = connect(rt, store, start)?;
-    let register = read_names(rt, store)?;
-    if register.closed_for.is_some() {
-        return Err(OpenFault::Closed);
+    let mut looked = look_at_store(rt, store, start)?;
+    let register = read_unmarked(rt, store)?;
+    match load_office(rt.alloc(), store, &mut looked, register) {
+        Ok(loaded) => Ok(join(looked, loaded, beside)),
+        Err(fault) => Err(OpenFault::Store(fault)),
     }
-    join(rt.alloc(), store, conn, register, beside)
 }
 
 /// The store or the archive at a path, with the archives that its register names, to be looked at.
@@ -79,25 +91,30 @@ pub fn open_to_look<S: Start, A: Archives, M: ArchivesBeside<A>>(
 ) -> Result<FileOffice<S, A>, OpenFault>
     // From whatever events the files held what is left of the rows, with whatever archives hold the rest, the store stands
     // beside these after them. What is closed is what the register says that was read.
-    ensures { IfOk result (λ office. (names : RegisterContent)
+    ensures opened { IfOk result (λ office. (names : RegisterContent)
         × OpensWith over_files M.hold A.are (image_at S.Start) names (office.desk, office.archives)) }
+    ensures refused { IfErr result (IsRefused ⟦<FileStore<FileFrom<S>> as sqlite_trees::store::Store>⟧ (image_at S.Start) ⊥) }
 {
-    let conn = connect(rt, store, start)?;
+    let mut looked = look_at_store(rt, store, start)?;
     let register = read_names(rt, store)?;
-    join(rt.alloc(), store, conn, register, beside)
+    match load_office(rt.alloc(), store, &mut looked, register) {
+        Ok(loaded) => Ok(join(looked, loaded, beside)),
+        Err(fault) => Err(OpenFault::Store(fault)),
+    }
 }
 
-/// A connection to the store at a path.
-pub(crate) fn connect<S: Start>(
+/// The store at a path, as it is opened first: to be only read until it was loaded.
+pub(crate) fn look_at_store<S: Start>(
     rt: &HostRuntime,
     store: &str,
     start: S,
-) -> Result<Connection<FileStore<FileFrom<S>>>, OpenFault>
-    ensures idle { IfOk result (λ conn. conn.in_transaction ≡ false) }
-    ensures found { IfOk result (λ conn. HasCleanDisk (file_state conn) → ShowsHeld (image_at S.Start) conn) }
+) -> Result<LookedStore<FileStore<FileFrom<S>>>, OpenFault>
+    ensures found { IfOk result (λ looked. HasCleanDisk (file_state looked.inner.conn) →
+        ShowsHeld (image_at S.Start) looked.inner.conn) }
+    ensures refused { IfErr result IsUnopened }
 {
     match open_there(rt, store, start) {
-        Ok(conn) => Ok(conn),
+        Ok(conn) => Ok(LookedStore::new(conn)),
         Err(fault) => Err(OpenFault::Store(fault)),
     }
 }
@@ -105,6 +122,7 @@ pub(crate) fn connect<S: Start>(
 /// The register of the store at a path: an empty one, if there is none.
 pub(crate) fn read_names(rt: &HostRuntime, store: &str) -> Result<Register, OpenFault>
     ensures sound { IfOk result (λ register. IsTrue (is_sound (register_content register))) }
+    ensures refused { IfErr result (IsOfRegister ⊥) }
 {
     match read_history(rt, store) {
         Ok(Some(register)) => Ok(register),
@@ -113,130 +131,96 @@ pub(crate) fn read_names(rt: &HostRuntime, store: &str) -> Result<Register, Open
     }
 }
 
-/// The desk over the store or the archive at a path, its register, and the shelf of its archives.
-pub fn open_shelf<S: Start, T: Alter, F: Shelf<T>, M: ShelfBeside<T, F>>(
+/// The register of the store at a path, if it has no mark: one that has is an archive's.
+fn read_unmarked(rt: &HostRuntime, store: &str) -> Result<Register, OpenFault>
+    ensures sound { IfOk result (λ register. IsTrue (is_sound (register_content register))) }
+    ensures unmarked { IfOk result (λ register. (register_content register).closed_for ≡ None) }
+    ensures refused { IfErr result (IsOfRegister IsMarked) }
+{
+    let register = read_names(rt, store)?;
+    if register.closed_for.is_some() {
+        return Err(OpenFault::Closed);
+    }
+    Ok(register)
+}
+
+/// The store or the archive at a path, to be only read; the register of its archives, and its set-up.
+pub fn look_at_office<S: Start>(
     rt: &HostRuntime,
     store: &str,
     start: S,
-    beside: &M,
-) -> Result<(Desk<FileStore<FileFrom<S>>>, Register, F), OpenFault>
-    // From whatever events the files held what is left of the rows, with whatever archives hold the rest, the desk stands
-    // beside these after them. What is closed is what the register says.
-    ensures opens { IfOk result (λ opened. OpensOn over_files (image_at S.Start) opened.0) }
-    ensures beside { IfOk result (λ opened. IsBesideShelf M.hold F.holds (register_content opened.1) opened.0 opened.2) }
+) -> Result<(Looked<FileStore<FileFrom<S>>>, Register, Setup), OpenFault>
+    ensures sound { IfOk result (λ looked. IsTrue (is_sound (register_content looked.1))) }
+    ensures setup { IfOk result (λ looked. HasCleanDisk (file_state looked.0.conn) →
+        IsSetUpHeld (image_at S.Start) (closed_by (register_content looked.1)) (setup_content looked.2)) }
+    ensures refused { IfErr result (IsRefused ⟦<FileStore<FileFrom<S>> as sqlite_trees::store::Store>⟧ (image_at S.Start) ⊥) }
 {
-    let conn = connect(rt, store, start)?;
+    let mut looked = match look_there(rt, store, start) {
+        Ok(looked) => looked,
+        Err(fault) => return Err(OpenFault::Store(fault)),
+    };
     let register = read_names(rt, store)?;
-    let (desk, shelf) = shelve(rt.alloc(), store, conn, &register, beside)?;
-    Ok((desk, register, shelf))
+    match read_setup(rt.alloc(), &mut looked, &register) {
+        Ok(setup) => Ok((looked, register, setup)),
+        Err(fault) => Err(OpenFault::Store(fault)),
+    }
 }
 
-/// The desk over a connection to the store at a path, and the shelf of the archives of a register.
-pub(crate) fn shelve<S: Alter + Drop, T: Alter, F: Shelf<T>, M: ShelfBeside<T, F>>(
+/// The set-up that the tables of a store hold, of which its register says what is closed.
+fn read_setup<S: Alter>(
     alloc: Global,
-    store: &str,
-    conn: Connection<S>,
+    looked: &mut Looked<S>,
     register: &Register,
-    beside: &M,
-) -> Result<(Desk<S>, F), OpenFault>
-    requires idle { conn.in_transaction ≡ false }
-    requires sound { IsTrue (is_sound (register_content register.now)) }
-    ensures opened { IfOk result (λ opened. IsOpenedOver S.Store conn opened.0) }
-    ensures beside { IfOk result (λ opened. IsBesideShelf M.hold F.holds (register_content register.now) opened.0 opened.1) }
+) -> Result<Setup, TableFault>
+    requires { IsTrue (is_sound (register_content register.now)) }
+    ensures setup { (image : Image) → Shows S.Store image looked.old.conn → IfOk result (λ setup.
+        HasCleanDisk (state S.Store looked.new.conn) →
+        IsSetUpHeld image (closed_by (register_content register.now)) (setup_content setup)) }
+    ensures refused { HasCleanDisk (state S.Store looked.new.conn) → IsTrue (state S.Store looked.new.conn).is_open →
+        (state S.Store looked.old.conn).committed.schema ≡ office_schema →
+        IfErr result (IsUnloaded (closed_by (register_content register.now)) (state S.Store looked.old.conn).committed) }
+    ensures reads { OnlyReads (state S.Store looked.old.conn) (state S.Store looked.new.conn) result }
 {
     let closed = register.closed(alloc)?;
-    let (desk, setup) = open_desk(alloc, conn, closed)?;
-    let path = String::from_str(alloc, store)?;
-    Ok((desk, beside.shelf_of(path, setup)))
+    let (setup, _) = looked.load(alloc, &closed)?;
+    Ok(setup)
 }
 
-/// The store over a connection, with the archives of a register.
+/// The store that was loaded, with its archives.
 fn join<S: Alter + Drop, A: Archives, M: ArchivesBeside<A>>(
-    alloc: Global,
-    store: &str,
-    conn: Connection<S>,
-    register: Register,
+    looked: LookedStore<S>,
+    loaded: Loaded,
     beside: &M,
-) -> Result<ArchivedDesk<S, A>, OpenFault>
-    requires idle { conn.in_transaction ≡ false }
-    requires sound { IsTrue (is_sound (register_content register)) }
-    ensures { IfOk result (λ office. (image : Image) → Shows S.Store image conn →
-        OpensWith S.Store M.hold A.are image (register_content register) (office.desk, office.archives)) }
+) -> ArchivedDesk<S, A>
+    ensures { (found : _) (image : Image) → Shows S.Store image found →
+        IsLoaded S.Store found looked.inner.conn (closed_content loaded.closed) (setup_content loaded.setup) loaded.there →
+        OpensWith S.Store M.hold A.are image (register_content loaded.register) (result.desk, result.archives) }
+{
+    let Loaded {
+        path,
+        register,
+        closed,
+        setup,
+        copy,
+        there,
+    } = loaded;
+    let desk = looked.into_desk(setup, closed, there);
+    let archives = archives_of(beside, path, copy, register);
+    ArchivedDesk::new(desk, archives)
+}
+
+/// The archives of the store at a path that a register names, none if it names none.
+fn archives_of<A: Archives, M: ArchivesBeside<A>>(
+    beside: &M,
+    path: String,
+    setup: Setup,
+    register: Register,
+) -> A
+    ensures these { (list : List Archive) → M.hold list → NamesAll (register_content register) list → A.are list result }
+    ensures none { (register_content register).archives ≡ [] → A.are [] result }
 {
     if names_none(&register) {
-        return open_alone(alloc, conn, beside);
+        return beside.none();
     }
-    join_archives(alloc, store, conn, register, beside)
-}
-
-/// The store over a connection, of which nothing was put away.
-fn open_alone<S: Alter + Drop, A: Archives, M: ArchivesBeside<A>>(
-    alloc: Global,
-    conn: Connection<S>,
-    beside: &M,
-) -> Result<ArchivedDesk<S, A>, OpenFault>
-    requires idle { conn.in_transaction ≡ false }
-    ensures { IfOk result (λ office. (names : RegisterContent) → IsTrue (is_sound names) → names.archives ≡ [] →
-        (image : Image) → Shows S.Store image conn →
-        OpensWith S.Store M.hold A.are image names (office.desk, office.archives)) }
-{
-    let desk = open_whole(alloc, conn)?;
-    Ok(ArchivedDesk::new(desk, beside.none()))
-}
-
-/// The desk over a store of which nothing was put away.
-pub(crate) fn open_whole<S: Alter + Drop>(
-    alloc: Global,
-    conn: Connection<S>,
-) -> Result<Desk<S>, OpenFault>
-    requires idle { conn.in_transaction ≡ false }
-    ensures { IfOk result (IsOpenedWhole S.Store conn) }
-{
-    match Desk::open(alloc, conn, Closed::nothing(alloc)) {
-        Ok(desk) => Ok(desk),
-        Err(fault) => Err(OpenFault::Store(fault)),
-    }
-}
-
-/// The store over a connection, with the archives of a register that names some.
-fn join_archives<S: Alter + Drop, A: Archives, M: ArchivesBeside<A>>(
-    alloc: Global,
-    store: &str,
-    conn: Connection<S>,
-    register: Register,
-    beside: &M,
-) -> Result<ArchivedDesk<S, A>, OpenFault>
-    requires idle { conn.in_transaction ≡ false }
-    requires sound { IsTrue (is_sound (register_content register)) }
-    requires some { (register_content register).archives ≢ [] }
-    ensures { IfOk result (λ office. (image : Image) → Shows S.Store image conn →
-        OpensWith S.Store M.hold A.are image (register_content register) (office.desk, office.archives)) }
-{
-    let closed = register.closed(alloc)?;
-    let (desk, setup) = open_desk(alloc, conn, closed)?;
-    let path = String::from_str(alloc, store)?;
-    let archives = beside.archives(path, setup, register);
-    Ok(ArchivedDesk::new(desk, archives))
-}
-
-/// The desk over a store of which that is closed, and an equal set-up.
-fn open_desk<S: Alter + Drop>(
-    alloc: Global,
-    conn: Connection<S>,
-    closed: Closed,
-) -> Result<(Desk<S>, Setup), OpenFault>
-    requires idle { conn.in_transaction ≡ false }
-    ensures opened { IfOk result (λ opened. IsOpenedOver S.Store conn opened.0) }
-    ensures closed { IfOk result (λ opened. opened.0.closed ≡ closed) }
-{
-    let mut conn = conn;
-    let is_idle = conn.is_autocommit();
-    prove!(is_idle);
-    match load_beside(alloc, &mut conn, &closed) {
-        Ok((setup, beside)) => {
-            let copy = setup.copy(alloc)?;
-            Ok((Desk::new(conn, setup, closed, beside), copy))
-        }
-        Err(fault) => Err(OpenFault::Store(fault)),
-    }
+    beside.archives(path, setup, register)
 }

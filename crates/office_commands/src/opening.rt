@@ -1,4 +1,4 @@
-ghost use Rattle.std.specs.Prelude.{◌≡◌, ◌≤◌, ℕ, List, [], length, false, IfOk, not};
+ghost use Rattle.std.specs.Prelude.{◌≡◌, ◌≤◌, ℕ, List, [], length, false, IfErr, IfOk, not};
 ghost use Rattle.office_commands.specs.Opening.{HoldsNoTables, HoldsTables, ShowsHeld, OpensEmpty};
 ghost use Rattle.office_commands.specs.Serving.{EnrolsWhile, LeadsWhile};
 ghost use Rattle.office_desk.specs.Crashes.{Leaves};
@@ -6,6 +6,7 @@ ghost use Rattle.office_rows.specs.Tables.{no_schema};
 ghost use Rattle.office_admission.specs.Given.{IsGiven};
 ghost use Rattle.office_admission.specs.Limits.{most_partners};
 ghost use Rattle.office_admission.specs.Setups.{setup_content};
+ghost use Rattle.office_tables.specs.Faults.{IsOfStore};
 ghost use Rattle.sqlite.specs.Files.{file_state};
 ghost use Rattle.sqlite.specs.State.{HasCleanDisk, Opens};
 ghost use Rattle.sqlite.specs.Tree.{Trees};
@@ -14,6 +15,7 @@ ghost use Rattle.sqlite.specs.WalFiles.{image_at};
 use crate::first_page::begin_file;
 use crate::telling::{Faults, HasTerminal, Tallied};
 use office_admission::{Setup, Tally};
+use office_archives::Looked;
 use office_desk::Desk;
 use office_http::OfTerminal;
 use office_loading::Closed;
@@ -39,11 +41,26 @@ pub fn open_there<S: Start>(
     ensures idle { IfOk result (λ conn. conn.in_transaction ≡ false) }
     ensures opened { IfOk result (λ conn. HasCleanDisk (file_state conn) → Opens (file_state conn)) }
     ensures found { IfOk result (λ conn. HasCleanDisk (file_state conn) → ShowsHeld (image_at S.Start) conn) }
+    ensures fault { IfErr result IsOfStore }
 {
     if !is_there(rt, path) {
         return Err(TableFault::Store(NO_STORE));
     }
     open_found(rt, path, start)
+}
+
+/// The store, the archive or the register in the file at a path, to be only read, as `open_there` opens it.
+pub fn look_there<S: Start>(
+    rt: &HostRuntime,
+    path: &str,
+    start: S,
+) -> Result<Looked<FileStore<FileFrom<S>>>, TableFault>
+    ensures found { IfOk result (λ looked. HasCleanDisk (file_state looked.conn) →
+        ShowsHeld (image_at S.Start) looked.conn) }
+    ensures fault { IfErr result IsOfStore }
+{
+    let conn = open_there(rt, path, start)?;
+    Ok(Looked::new(conn))
 }
 
 /// Makes the tables of a store with the rows of a set-up, wholly or not at all, and answers the connection to them. A
@@ -80,6 +97,7 @@ pub(crate) fn open_new<S: Start>(
     ensures found { IfOk result (λ conn. HasCleanDisk (file_state conn) → ShowsHeld (image_at S.Start) conn) }
     ensures empty { IfOk result (λ conn. HasCleanDisk (file_state conn) → HoldsNoTables (image_at S.Start) →
         (file_state conn).committed.schema ≡ no_schema) }
+    ensures fault { IfErr result IsOfStore }
 {
     begin_file(rt, path);
     open_found(rt, path, start)
@@ -97,6 +115,7 @@ pub fn open_found<S: Start>(
     ensures found { IfOk result (λ conn. HasCleanDisk (file_state conn) → ShowsHeld (image_at S.Start) conn) }
     ensures empty { IfOk result (λ conn. HasCleanDisk (file_state conn) → HoldsNoTables (image_at S.Start) →
         (file_state conn).committed.schema ≡ no_schema) }
+    ensures fault { IfErr result IsOfStore }
 {
     match Connection::open_from(rt, path, false, start) {
         Ok(conn) => Ok(conn),

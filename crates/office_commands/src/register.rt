@@ -1,12 +1,13 @@
-ghost use Rattle.std.specs.Prelude.{◌≡◌, ◌==◌, ◌++◌, codes, length, IfOk, IfSome, IsTrue, option_map, string_bytes};
-ghost use Rattle.office_commands.specs.History.{IsHistory, history_in};
+ghost use Rattle.std.specs.Prelude.{◌≡◌, ◌==◌, ◌++◌, codes, length, ⊤, IfErr, IfOk, IfSome, IsTrue, option_map, string_bytes};
+ghost use Rattle.office_commands.specs.History.{IsHistory, has_no_tables, history_in};
 ghost use Rattle.office_commands.specs.Paths.{HasNoSlash, IsBeside, path_of};
 ghost use Rattle.office_closing.specs.Changes.{empty_register};
 ghost use Rattle.office_closing.specs.Register.{register_content};
 ghost use Rattle.office_closing.specs.Sound.{is_sound};
+ghost use Rattle.office_tables.specs.Faults.{IsOfStore, IsOfStoreOr};
 
-use crate::opening::{NO_STORE, open_found};
-use office_closing::{Register, read_register};
+use crate::opening::{NO_STORE, look_there};
+use office_closing::Register;
 use office_tables::TableFault;
 use sqlite::{Error, Unknown};
 use sqlite_resolve::CompileError;
@@ -65,13 +66,14 @@ pub fn register_path(alloc: Global, store: &str) -> Result<String, AllocError>
 /// this body reads the file there, and touches it by nothing else, is to be read.
 pub fn read_history(rt: &HostRuntime, store: &str) -> Result<Option<Register>, TableFault>
     ensures sound { IfOk result (λ found. IfSome found (λ register. IsTrue (is_sound (register_content register)))) }
+    ensures fault { IfErr result (IsOfStoreOr ⊤) }
 {
     let path = register_path(rt.alloc(), store)?;
     if !is_there(rt, path.as_str())? {
         return Ok(None);
     }
-    let mut conn = open_found(rt, path.as_str(), Unknown)?;
-    match read_register(rt.alloc(), &mut conn) {
+    let mut looked = look_there(rt, path.as_str(), Unknown)?;
+    match looked.register(rt.alloc()) {
         Ok(register) => Ok(Some(register)),
         Err(fault) if has_no_tables(&fault) => Ok(None),
         Err(fault) => Err(fault),
@@ -99,7 +101,9 @@ pub(crate) fn names_none(register: &Register) -> bool
 
 /// Whether a register could not be read because its tables aren't there. So it is after a process was stopped before it had
 /// made them: nothing was put away.
-pub fn has_no_tables(fault: &TableFault) -> bool {
+pub fn has_no_tables(fault: &TableFault) -> bool
+    ensures { result ≡ has_no_tables fault.now }
+{
     match fault {
         TableFault::Store(Error::SqlInputError(CompileError::NoSuchTable)) => true,
         _ => false,
@@ -109,7 +113,9 @@ pub fn has_no_tables(fault: &TableFault) -> bool {
 /// Whether a file that isn't empty is at a path.
 ///
 /// Store if that can't be found out, or what is there is no file.
-pub fn is_there(rt: &HostRuntime, path: &str) -> Result<bool, TableFault> {
+pub fn is_there(rt: &HostRuntime, path: &str) -> Result<bool, TableFault>
+    ensures { IfErr result IsOfStore }
+{
     match found_at(rt, path)? {
         Some(found) if found.is_file() => Ok(found.len() > 0),
         Some(_) => Err(TableFault::Store(NO_STORE)),
@@ -120,7 +126,9 @@ pub fn is_there(rt: &HostRuntime, path: &str) -> Result<bool, TableFault> {
 /// What is at a path, if something is.
 ///
 /// Store if that can't be found out, Memory if it takes more memory than there is.
-pub fn found_at(rt: &HostRuntime, path: &str) -> Result<Option<Metadata>, TableFault> {
+pub fn found_at(rt: &HostRuntime, path: &str) -> Result<Option<Metadata>, TableFault>
+    ensures { IfErr result IsOfStore }
+{
     match fs::metadata(rt, path) {
         Ok(found) => Ok(Some(found)),
         Err(error) if error.kind() == ErrorKind::NotFound => Ok(None),

@@ -1,8 +1,10 @@
-ghost use Rattle.std.specs.Prelude.{◌≡◌, IfOk, OnErr, option_map, string_bytes};
+ghost use Rattle.std.specs.Prelude.{◌≡◌, IfErr, IfOk, OnErr, option_map, string_bytes};
 ghost use Rattle.office_commands.specs.Beside.{FromOpened, OpensOn};
 ghost use Rattle.office_commands.specs.Ending.{Prints};
-ghost use Rattle.office_commands.specs.Looking.{IsReportedOver, LooksOver};
+ghost use Rattle.office_commands.specs.Looking.{FailsUnder, IsReportedOver, LooksOver};
+ghost use Rattle.office_commands.specs.Refusing.{IsRefused};
 ghost use Rattle.office_commands.specs.Reporting.{Reports, in_lines};
+ghost use Rattle.office_desk.specs.Desks.{IsSound};
 ghost use Rattle.sqlite.specs.Files.{over_files};
 ghost use Rattle.sqlite.specs.Recovery.{Image};
 ghost use Rattle.sqlite.specs.WalFiles.{image_at};
@@ -42,7 +44,11 @@ pub fn report_over<S: Start, A: Archives + Drop, M: ArchivesBeside<A>, W: Write>
     ensures looks { IfOk result (λ ended. FromOpened over_files M.hold A.are (image_at S.Start) (λ opened.
         LooksOver over_files A.are (image_at S.Start) opened (ended.0.desk, ended.0.archives))) }
     ensures err { IfOk result (λ ended. OnErr ended.1 (writer.new ≡ writer.old)) }
-    ensures refused { OnErr result (writer.new ≡ writer.old) }
+
+    // Why it can't be reported, of what the store's own rows report; and why the store is not opened.
+    ensures fault { IfOk result (λ ended. IfErr ended.1 (λ fault. FromOpened ⟦<sqlite::FileStore<sqlite::FileFrom<S>> as sqlite_trees::store::Store>⟧ M.hold A.are (image_at S.Start)
+        (λ opened. IsSound over_files ended.0.desk → FailsUnder over_files A.are opened kind key.now fault))) }
+    ensures refused { IfErr result (λ fault. IsRefused ⟦<sqlite::FileStore<sqlite::FileFrom<S>> as sqlite_trees::store::Store>⟧ (image_at S.Start) ⊥ fault × (writer.new ≡ writer.old)) }
 {
     let mut office = open_to_look(rt, store, start, beside)?;
     let status = report_on(rt.alloc(), &mut office, kind, key, writer);
@@ -65,6 +71,8 @@ fn report_on<S: Alter + Drop, A: Archives + Drop, W: Write>(
     ensures looks { (image : Image) →
         LooksOver S.Store A.are image (office.old.desk, office.old.archives) (office.new.desk, office.new.archives) }
     ensures err { OnErr result (writer.new ≡ writer.old) }
+    ensures fault { IsSound S.Store office.new.desk →
+        IfErr result (FailsUnder S.Store A.are (office.old.desk, office.old.archives) kind key.now) }
 {
     match find(alloc, office, kind, key)? {
         Some(text) => {
@@ -87,6 +95,8 @@ fn find<S: Alter + Drop, A: Archives + Drop>(
         (office.new.desk, office.new.archives) kind key.now (option_map string_bytes found)) }
     ensures looks { (image : Image) →
         LooksOver S.Store A.are image (office.old.desk, office.old.archives) (office.new.desk, office.new.archives) }
+    ensures fault { IsSound S.Store office.new.desk →
+        IfErr result (FailsUnder S.Store A.are (office.old.desk, office.old.archives) kind key.now) }
 {
     match read_query(alloc, kind, key)? {
         Some(query) => office.find_report(alloc, &query),

@@ -1,7 +1,8 @@
 ghost use Rattle.std.specs.Io.KnownBytes.{Appends};
-ghost use Rattle.std.specs.Prelude.{◌≡◌, IfOk, IfSome, OnErr, None, string_bytes};
+ghost use Rattle.std.specs.Prelude.{◌≡◌, IfErr, IfOk, IfSome, None, string_bytes};
 ghost use Rattle.office_commands.specs.Ending.{Tells};
 ghost use Rattle.office_commands.specs.Beside.{FromOpened, OpensOn};
+ghost use Rattle.office_commands.specs.Refusing.{IsMarked, IsRefused};
 ghost use Rattle.office_commands.specs.Serving.{AreServedBy, EndsServing, ServesNone, listening_line, served_line};
 ghost use Rattle.office_commands.specs.ServingBeside.{IsServedOver};
 ghost use Rattle.office_http.specs.Served.{AtMost};
@@ -37,9 +38,8 @@ pub struct Service<'a> {
 
 /// Serves the store at a path, with its archives, over HTTP: one request of each connection, until so many were accepted. It
 /// prints a line as soon as it listens, and one in the end, and answers the exit status and the office as it was left: 0, or
-/// 3 if it can't listen, which is reported, or printing failed. A fault is that of `open_office`: then it did not listen, and
-/// reported nothing. No clause says what the store holds after a fault, since no office is left: that nothing was asked of it is
-/// to be read in this body.
+/// 3 if it can't listen, which is reported, or printing failed. A fault is that of `open_office`: then it did not listen,
+/// reported nothing and wrote nothing, since there is no desk.
 pub fn serve_over<S: Start, A: Archives + Drop, M: ArchivesBeside<A>, N: Notes, W: Write, E: Write>(
     rt: &HostRuntime,
     store: &str,
@@ -59,7 +59,8 @@ pub fn serve_over<S: Start, A: Archives + Drop, M: ArchivesBeside<A>, N: Notes, 
         (Tells errors.new.failed (E.contents errors.old.inner) (E.contents errors.new.inner))
         (λ most. IsServedOver over_files A.is_sound A.are (image_at S.Start) most opened
         (ended.1.desk.desk, ended.1.desk.archives)) ended.0)) }
-    ensures err { OnErr result ((writer.new ≡ writer.old) × (errors.new ≡ errors.old)) }
+    ensures refused { IfErr result (λ fault. IsRefused ⟦<sqlite::FileStore<sqlite::FileFrom<S>> as sqlite_trees::store::Store>⟧ (image_at S.Start) IsMarked fault
+        × (writer.new ≡ writer.old) × (errors.new ≡ errors.old)) }
 {
     let office = open_office(rt, store, start, beside)?;
     Ok(serve_desk(rt, store, office, service, notes, writer, errors))

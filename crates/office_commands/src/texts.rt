@@ -1,9 +1,13 @@
-ghost use Rattle.std.specs.Prelude.{◌≡◌, ⊤, false, IfOk, IfErr, IsTrue, OnErr};
+ghost use Rattle.std.specs.Prelude.{◌≡◌, ⊤, false, IfOk, IfErr, IsTrue};
 ghost use Rattle.office_archives.specs.Texts.{OpensOn};
 ghost use Rattle.office_closing.specs.Register.{register_content};
 ghost use Rattle.office_closing.specs.Sound.{is_sound};
+ghost use Rattle.office_admission.specs.Setups.{setup_content};
+ghost use Rattle.office_commands.specs.Beside.{IsLoaded};
 ghost use Rattle.office_commands.specs.Opening.{Shows};
 ghost use Rattle.office_commands.specs.Printing.{ArePrintedOver, EndsTexts, PrintsJournal, PrintsTexts};
+ghost use Rattle.office_commands.specs.Refusing.{IsRefused};
+ghost use Rattle.office_loading.specs.Closed.{closed_content};
 ghost use Rattle.office_rows.specs.Stored.{HasRows};
 ghost use Rattle.office_tables.specs.DeliveryReading.{OnlyReads};
 ghost use Rattle.office_tables.specs.Faults.{IsOfStore, IsOfStoreOr};
@@ -15,10 +19,11 @@ ghost use Rattle.sqlite.specs.State.{HasCleanDisk};
 ghost use Rattle.sqlite.specs.WalFiles.{image_at};
 
 use crate::beside::ShelfBeside;
-use crate::offices::{OpenFault, connect, open_whole, read_names, shelve};
+use crate::loaded::{Loaded, load_office};
+use crate::offices::{OpenFault, look_at_store, read_names};
 use crate::register::names_none;
 use crate::telling::{DONE, FAILED, REFUSED, print};
-use office_archives::{Shelf, write_journal};
+use office_archives::{LookedStore, Shelf, write_journal};
 use office_closing::Register;
 use office_desk::Desk;
 use office_loading::{Written, flush, write_texts};
@@ -41,19 +46,22 @@ pub fn texts_over<S: Start, T: Alter + Drop, F: Shelf<T> + Drop, M: ShelfBeside<
     from: u32,
     writer: &mut Port<W>,
 ) -> Result<(Connection<FileStore<FileFrom<S>>>, Result<u8, TableFault>), OpenFault>
-    ensures refused { OnErr result (writer.new ≡ writer.old) }
+    ensures refused { IfErr result (λ fault. IsRefused ⟦<FileStore<FileFrom<S>> as sqlite_trees::store::Store>⟧ (image_at S.Start) ⊥ fault × (writer.new ≡ writer.old)) }
     ensures printed { IfOk result (λ ended. ArePrintedOver over_files T.Store M.hold F.holds
         (OpensOn T.Store F.is_known F.holds) (image_at S.Start) from (W.contents writer.old.inner)
         (W.contents writer.new.inner) writer.new.failed writer.new.flushed ended.0 ended.1) }
 {
-    let conn = connect(rt, store, start)?;
+    let mut looked = look_at_store(rt, store, start)?;
     let register = read_names(rt, store)?;
-    print_beside(rt.alloc(), store, conn, &register, beside, from, writer)
+    match load_office(rt.alloc(), store, &mut looked, register) {
+        Ok(loaded) => Ok(print_loaded(rt.alloc(), looked, loaded, beside, from, writer)),
+        Err(fault) => Err(OpenFault::Store(fault)),
+    }
 }
 
-/// Prints the texts of the store over a connection, and of the archives of a register, as `texts_over` does. Over stores of any
+/// Prints the texts of a store that was loaded, and of its archives, as `texts_over` does. Over stores of any
 /// kind, so that what is said of it stays short where a file is known to be one.
-fn print_beside<
+fn print_loaded<
     S: Alter + Drop,
     T: Alter + Drop,
     F: Shelf<T> + Drop,
@@ -61,26 +69,31 @@ fn print_beside<
     W: Write,
 >(
     alloc: Global,
-    store: &str,
-    conn: Connection<S>,
-    register: &Register,
+    looked: LookedStore<S>,
+    loaded: Loaded,
     beside: &M,
     from: u32,
     writer: &mut Port<W>,
-) -> Result<(Connection<S>, Result<u8, TableFault>), OpenFault>
-    requires idle { conn.in_transaction ≡ false }
-    requires sound { IsTrue (is_sound (register_content register.now)) }
-    ensures refused { OnErr result (writer.new ≡ writer.old) }
-    ensures printed { IfOk result (λ ended. (image : Image) → Shows S.Store image conn →
+) -> (Connection<S>, Result<u8, TableFault>)
+    ensures { (found : _) (image : Image) → Shows S.Store image found →
+        IsLoaded S.Store found looked.inner.conn (closed_content loaded.closed) (setup_content loaded.setup) loaded.there →
         ArePrintedOver S.Store T.Store M.hold F.holds (OpensOn T.Store F.is_known F.holds) image from
-        (W.contents writer.old.inner) (W.contents writer.new.inner) writer.new.failed writer.new.flushed ended.0 ended.1) }
+        (W.contents writer.old.inner) (W.contents writer.new.inner) writer.new.failed writer.new.flushed result.0 result.1 }
 {
-    if names_none(register) {
-        let desk = open_whole(alloc, conn)?;
-        return Ok(print_kept(alloc, desk, from, writer));
+    let Loaded {
+        path,
+        register,
+        closed,
+        setup,
+        copy,
+        there,
+    } = loaded;
+    let desk = looked.into_desk(setup, closed, there);
+    if names_none(&register) {
+        return print_kept(alloc, desk, from, writer);
     }
-    let (desk, shelf) = shelve(alloc, store, conn, register, beside)?;
-    Ok(print_journal(alloc, desk, register, shelf, from, writer))
+    let shelf = beside.shelf_of(path, copy);
+    print_journal(alloc, desk, &register, shelf, from, writer)
 }
 
 /// Prints the texts of the store that a desk is over, as `texts_over` does, and gives its connection back. Over stores of any

@@ -1,4 +1,4 @@
-use Rattle.std.proofs.Common.{◌≡◌, ◌+◌, refl, ap, ◌∙◌, rules}
+use Rattle.std.proofs.Common.{◌≡◌, ◌+◌, ap, ◌∙◌, rules}
 use Rattle.office_loading.specs.Closed.{ClosedContent}
 use Rattle.office_closing.specs.Register.{register_content}
 use Rattle.office_archives.specs.Texts.{OpensOn, closed_before}
@@ -12,5 +12,5 @@ returns-clause-added g c =
     let now = g.W.Write.contents c.write_part.new.writer.inner in
     let names = register_content c.args.register.now in
     let after_is : _ ≡ closed_before (c.args.place + 1) names = ap (λ (k : ClosedContent). k.last_closed) c.in_ok-after.ensures ∙ ap (λ at. closed_before at names) next_is in
-    added_by g.T.Store (OpensOn g.T.Store g.F.Shelf.is_known g.F.Shelf.holds c.args.shelf.now) names c.args.place c.args.rest c.in_ok-conn.conn c.write_part.new.conn
-    _ _ told now (ap (λ (k : ClosedContent). k.last_closed) c.in_ok-before.ensures) after_is (c.in_ok-conn.ensures.opened) (c.if-prove.ensures.settled refl) c.write_part.result c.write_part.ensures.reads c.write_part.ensures.writes
+    added_by g.T.Store (OpensOn g.T.Store g.F.Shelf.is_known g.F.Shelf.holds c.args.shelf.now) names c.args.place c.args.rest c.in_ok-archive.archive.conn c.write_part.new.self.conn
+    _ _ told now (ap (λ (k : ClosedContent). k.last_closed) c.in_ok-before.ensures) after_is (c.in_ok-archive.ensures.opened) c.write_part.result c.write_part.ensures.reads c.write_part.ensures.writes

@@ -2,7 +2,7 @@ use Rattle.office_commands.proofs.migration.migrate_between.Goals as goal
 
 pub returns-clause-migrates : goal.returns-clause-migrates
 returns-clause-migrates g c =
-    let does = c.fill-outcome.ensures in
+    let does = c.fill.ensures in
     record {
       ok = does.ok;
       goes_on = does.goes_on;

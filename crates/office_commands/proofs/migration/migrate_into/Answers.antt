@@ -8,5 +8,5 @@ returns-clause-filled g c =
       found = c.in_ok-newer.newer;
       shows = opened.found;
       no_tables = opened.empty;
-      migrates = c.migrate_between.ensures.migrates;
+      migrates = c.migrate_between-outcome.ensures.migrates;
     }

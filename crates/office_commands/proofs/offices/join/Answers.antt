@@ -1,19 +1,21 @@
-use Rattle.std.proofs.Common.{sym, ◌∙◌}
-use Rattle.std.proofs.lemmas.Result.{IfOk-weaker}
+use Rattle.std.proofs.Common.{sym, ap, subst, ◌∙◌}
 use Rattle.office_closing.specs.Register.{register_content}
-use Rattle.office_commands.proofs.OpenLemmas.{empty_if, some_if}
+use Rattle.office_desk.specs.declared.desk.Desk.{Desk}
+use Rattle.office_loading.specs.Closed.{closed_content}
+use Rattle.office_commands.specs.Beside.{OpensWith}
+use Rattle.office_commands.proofs.OpenLemmas.{joined_with, loaded_as}
 use Rattle.office_commands.proofs.offices.join.Goals as goal
 
--- Nothing was put away.
-pub returns-then-names_none : goal.returns-then-names_none
-returns-then-names_none g c =
-    let names = register_content c.args.register in
-    let none = empty_if names.archives (sym c.names_none.ensures ∙ c.if-names_none.true) in
-    IfOk-weaker c.open_alone.result _ _ (λ office it. it names c.requires.sound none) c.open_alone.ensures
-
-pub join_archives-requires : goal.join_archives-requires
-join_archives-requires g c = record {
-  idle = c.requires.idle;
-  sound = c.requires.sound;
-  some = some_if (register_content c.args.register).archives (sym c.names_none.ensures ∙ c.if-names_none.false);
-}
+-- The desk is over what was loaded, beside the archives that the register names.
+pub returns : goal.returns
+returns g c found image shows loaded =
+    let was = c.args.loaded in
+    let names = register_content was.register in
+    let made = c.into_desk-desk in
+    let desk = made.result in
+    let its = loaded_as g.S.Store found c.args.looked.inner.conn was.closed was.setup was.there desk made.ensures.conn made.ensures.closed made.ensures.setup loaded in
+    let with_it : OpensWith g.S.Store g.M.ArchivesBeside.hold g.A.Archives.are image names (desk, c.archives_of-archives.result) =
+    joined_with g.S.Store g.M.ArchivesBeside.hold g.A.Archives.are image found names desk was.there c.archives_of-archives.result shows its made.ensures.beside (λ sound db left. g.met.S.Store.settled desk.conn.store db sound.1 left)
+    was.sound (ap closed_content made.ensures.closed ∙ was.closed_is) c.archives_of-archives.ensures.these c.archives_of-archives.ensures.none in
+    subst (λ (d : Desk _ g.S.Store). OpensWith g.S.Store g.M.ArchivesBeside.hold g.A.Archives.are image names (d, c.new.result.archives)) (sym c.new.ensures.desk)
+    (subst (λ a. OpensWith g.S.Store g.M.ArchivesBeside.hold g.A.Archives.are image names (desk, a)) (sym c.new.ensures.archives) with_it)

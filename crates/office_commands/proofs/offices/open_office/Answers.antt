@@ -1,13 +1,34 @@
-use Rattle.std.proofs.Common.{string_bytes, sym, ap, ◌∙◌}
-use Rattle.std.specs.Option.{option_map}
-use Rattle.std.proofs.lemmas.Result.{IfOk-weaker}
+use Rattle.std.proofs.Common.{inr, subst}
+use Rattle.std.proofs.lemmas.Result.{err_from_is_err_and}
+use Rattle.sqlite.specs.Files.{over_files}
 use Rattle.sqlite.specs.WalFiles.{image_at}
-use Rattle.partner_core.proofs.Orders.{none_of}
 use Rattle.office_closing.specs.Register.{register_content}
+use Rattle.office_closing.specs.declared.register.Register.{Register}
+use Rattle.office_commands.specs.Beside.{OpensWith}
+use Rattle.office_commands.specs.Refusing.{IsMarked}
+use Rattle.office_commands.proofs.RefusingLemmas.{refused_names, refused_opening, unloaded_over}
 use Rattle.office_commands.proofs.offices.open_office.Goals as goal
 
--- The connection shows what the files held, and the register was read and has no mark.
-pub returns : goal.returns
-returns g c =
-    let unmarked = none_of c.in_ok-register.register.closed_for (sym c.is_some.ensures ∙ c.if-is_some.false) in
-    IfOk-weaker c.join.result _ _ (λ office it. (register_content c.in_ok-register.register, it (image_at g.S.Start) c.in_ok-conn.ensures.found, ap (option_map string_bytes) unmarked)) c.join.ensures
+-- It shows what the files held, and was loaded by the register that was read.
+pub returns-in-Ok-clause-opened : goal.returns-in-Ok-clause-opened
+returns-in-Ok-clause-opened g c =
+    let office = c.join.result in
+    let opens = c.join.ensures c.in_ok-looked.looked.inner.conn (image_at g.S.Start) c.in_ok-looked.ensures.found c.in-Ok.ensures.loaded in
+    let its = subst (λ (r : Register). OpensWith over_files g.M.ArchivesBeside.hold g.A.Archives.are (image_at g.S.Start) (register_content r) (office.desk, office.archives)) c.in-Ok.ensures.register opens in
+    (register_content c.in_ok-register.register, its, c.in_ok-register.ensures.unmarked)
+
+-- ---- why it is not opened
+
+pub returns-in_err-looked-clause-refused : goal.returns-in_err-looked-clause-refused
+returns-in_err-looked-clause-refused g c =
+    let p = err_from_is_err_and c.from_residual.result c.from_residual.ensures.1 in
+    rw (p.1, p.2) (refused_opening over_files (image_at g.S.Start) IsMarked _ c.in_err-looked.ensures.refused)
+
+pub returns-in_err-register-clause-refused : goal.returns-in_err-register-clause-refused
+returns-in_err-register-clause-refused g c =
+    let p = err_from_is_err_and c.from_residual-in_err-register.result c.from_residual-in_err-register.ensures.1 in
+    rw (p.1, p.2) (refused_names over_files (image_at g.S.Start) IsMarked _ c.in_err-register.ensures.refused)
+
+pub returns-in-Err-clause-refused : goal.returns-in-Err-clause-refused
+returns-in-Err-clause-refused g c =
+    inr (unloaded_over over_files (image_at g.S.Start) c.in_ok-looked.looked.inner.conn c.load_office.new.looked.inner.conn (register_content c.in_ok-register.register) c.load_office.result c.in-Err.fault c.in_ok-looked.ensures.found c.in_ok-register.ensures.sound c.load_office.ensures.reads c.in-Err.ensures.refused)

@@ -1,9 +1,10 @@
 use Rattle.std.proofs.Common.{◌≡◌, inl, inr, None, Some, Result, Ok, Err, IfOk, option_map, refl, sym, ap, ◌∙◌}
-use Rattle.std.proofs.lemmas.Result.{IfOk-weaker}
+use Rattle.std.proofs.lemmas.Result.{IfErr-weaker, IfOk-weaker}
 use Rattle.std.specs.Prelude.{string_bytes}
 use Rattle.office_reports.specs.Keys.{query_content, query_of}
 use Rattle.office_desk.proofs.LookLemmas.{looks_nowhere}
 use Rattle.office_archives.proofs.Together.{looks_on}
+use Rattle.office_commands.proofs.RefusingLemmas.{err_both}
 use Rattle.office_commands.proofs.LookingLemmas.{looked_over, told_held}
 use Rattle.office_commands.proofs.reports.find.Goals as goal
 
@@ -55,3 +56,11 @@ returns-in_err-query-clause-looks g c image =
     looked_over g.S.Store g.A.Archives.are image (office.desk, office.archives) (office.desk, office.archives)
     (looks_on g.S.Store g.A.Archives.are office.desk office.desk office.archives office.archives (λ sound db left. g.met.S.Store.settled office.desk.conn.store db sound.1 left) (looks_nowhere g.S.Store office.desk) (λ list they. they))
     (λ none. looks_nowhere g.S.Store office.desk)
+
+-- ---- why it can't be reported
+
+pub returns-in-Some-clause-fault : goal.returns-in-Some-clause-fault
+returns-in-Some-clause-fault g c sound =
+    let key_is : query_of c.args.kind c.args.key.now ≡ Some (query_content c.in-Some.query) = sym c.in_ok-query.ensures ∙ ap (option_map query_content) c.in-Some.is in
+    IfErr-weaker c.find_report.result _ _ (λ fault both. inr (c.in-Some.query, key_is, both.0, both.1))
+    (err_both c.find_report.result _ _ _ (c.find_report.ensures.fault sound) (λ none. c.find_report.ensures.alone_fault none sound))

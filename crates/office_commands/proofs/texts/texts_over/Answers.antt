@@ -1,8 +1,29 @@
-use Rattle.std.proofs.lemmas.Result.{IfOk-weaker}
+use Rattle.std.proofs.Common.{inr, refl}
+use Rattle.std.proofs.lemmas.Result.{err_from_is_err_and}
+use Rattle.sqlite.specs.Files.{over_files}
 use Rattle.sqlite.specs.WalFiles.{image_at}
+use Rattle.office_closing.specs.Register.{register_content}
+use Rattle.office_commands.proofs.RefusingLemmas.{refused_names, refused_opening, unloaded_over}
 use Rattle.office_commands.proofs.texts.texts_over.Goals as goal
 
--- The connection shows what the files held.
-pub returns-clause-printed : goal.returns-clause-printed
-returns-clause-printed g c =
-    IfOk-weaker c.print_beside.result _ _ (λ ended it. it (image_at g.S.Start) c.in_ok-conn.ensures.found) c.print_beside.ensures.printed
+-- It shows what the files held.
+pub returns-in-Ok-clause-printed : goal.returns-in-Ok-clause-printed
+returns-in-Ok-clause-printed g c = c.print_loaded.ensures c.in_ok-looked.looked.inner.conn (image_at g.S.Start) c.in_ok-looked.ensures.found c.in-Ok.ensures.loaded
+
+-- ---- why it is not opened
+
+pub returns-in_err-looked-clause-refused : goal.returns-in_err-looked-clause-refused
+returns-in_err-looked-clause-refused g c =
+    let p = err_from_is_err_and c.from_residual.result c.from_residual.ensures.1 in
+    rw (p.1, p.2) (refused_opening over_files (image_at g.S.Start) ⊥ _ c.in_err-looked.ensures.refused, refl)
+
+pub returns-in_err-register-clause-refused : goal.returns-in_err-register-clause-refused
+returns-in_err-register-clause-refused g c =
+    let p = err_from_is_err_and c.from_residual-in_err-register.result c.from_residual-in_err-register.ensures.1 in
+    rw (p.1, p.2) (refused_names over_files (image_at g.S.Start) ⊥ _ c.in_err-register.ensures.refused, refl)
+
+pub returns-in-Err-clause-refused : goal.returns-in-Err-clause-refused
+returns-in-Err-clause-refused g c = (
+  inr (unloaded_over over_files (image_at g.S.Start) c.in_ok-looked.looked.inner.conn c.load_office.new.looked.inner.conn (register_content c.in_ok-register.register) c.load_office.result c.in-Err.fault c.in_ok-looked.ensures.found c.in_ok-register.ensures.sound c.load_office.ensures.reads c.in-Err.ensures.refused),
+  refl,
+)

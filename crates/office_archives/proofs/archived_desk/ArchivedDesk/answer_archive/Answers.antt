@@ -1,5 +1,6 @@
-use Rattle.std.proofs.Common.{arith}
+use Rattle.std.proofs.Common.{arith, refl}
 use Rattle.office_reports.specs.Looking.{of_archive}
+use Rattle.office_desk.proofs.LookLemmas.{looks_nowhere}
 use Rattle.office_archives.proofs.Alone.{alone_looks}
 use Rattle.office_archives.proofs.Beside.{none_there}
 use Rattle.office_archives.proofs.Together.{looks_noted, looks_on}
@@ -17,12 +18,12 @@ returns-then-count-eq0 g c =
 pub returns-in-Ok : goal.returns-in-Ok
 returns-in-Ok g c =
     let old = c.args.self.now in
-    let asked = c.tell_of_archive.new in
     record {
       looks = record {
-        told = λ sound whole. c.in-Ok.ensures.told sound whole;
-        looks = looks_on g.S.Store g.A.Archives.are old.desk asked.desk old.archives asked.archives (λ sound db left. g.met.S.Store.settled old.desk.conn.store db sound.1 left) c.tell_of_archive.ensures.looks c.tell_of_archive.ensures.same;
-        noted = c.tell_of_archive.ensures.last_fault;
+        told = λ sound whole. c.in-Ok.ensures.told whole;
+        looks = looks_on g.S.Store g.A.Archives.are old.desk old.desk old.archives c.tell_of_archive.new.archives (λ sound db left. g.met.S.Store.settled old.desk.conn.store db sound.1 left) (looks_nowhere g.S.Store old.desk) c.tell_of_archive.ensures.same;
+        noted = refl;
+        cause = λ sound here. absurd here;
         is_open = λ clean. tt;
         alone = λ none. absurd (omega (arith, c.if-count-eq0.false, c.count.ensures _ none));
       };
@@ -33,12 +34,13 @@ returns-in-Err g c =
     let old = c.args.self.now in
     let asked = c.tell_of_archive.new in
     let noted = c.note.ensures in
-    let looks = looks_on g.S.Store g.A.Archives.are old.desk asked.desk old.archives asked.archives (λ sound db left. g.met.S.Store.settled old.desk.conn.store db sound.1 left) c.tell_of_archive.ensures.looks c.tell_of_archive.ensures.same in
+    let looks = looks_on g.S.Store g.A.Archives.are old.desk old.desk old.archives asked.archives (λ sound db left. g.met.S.Store.settled old.desk.conn.store db sound.1 left) (looks_nowhere g.S.Store old.desk) c.tell_of_archive.ensures.same in
     record {
       looks = record {
         told = λ sound whole. tt;
-        looks = looks_noted g.S.Store g.A.Archives.are old.desk asked.desk c.note.new.self old.archives asked.archives looks noted.conn noted.setup noted.closed noted.beside;
+        looks = looks_noted g.S.Store g.A.Archives.are old.desk old.desk c.note.new.self old.archives asked.archives looks noted.conn noted.setup noted.closed noted.beside;
         noted = (c.in-Err.fault, noted.fault);
+        cause = λ sound here. absurd here;
         is_open = λ clean. tt;
         alone = λ none. absurd (omega (arith, c.if-count-eq0.false, c.count.ensures _ none));
       };

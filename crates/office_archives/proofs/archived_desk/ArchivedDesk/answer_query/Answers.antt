@@ -1,4 +1,6 @@
-use Rattle.std.proofs.Common.{arith}
+use Rattle.std.proofs.Common.{IsTrue, arith, subst}
+use Rattle.sqlite.specs.Held.{Held, state}
+use Rattle.sqlite.specs.State.{HasCleanDisk}
 use Rattle.office_reports.specs.Looking.{report}
 use Rattle.office_archives.proofs.Alone.{alone_looks}
 use Rattle.office_archives.proofs.Beside.{none_there}
@@ -20,6 +22,7 @@ returns-in-Ok g c = record {
     told = λ sound whole. c.in-Ok.ensures.told sound whole;
     looks = c.find_beside.ensures.looks;
     noted = c.find_beside.ensures.last_fault;
+    cause = λ sound here rows terminal holds. tt;
     is_open = c.in-Ok.ensures.is_open;
     alone = λ none. absurd (omega (arith, c.if-count-eq0.false, c.count.ensures _ none));
   };
@@ -35,6 +38,7 @@ returns-in-Err g c =
         told = λ sound whole. tt;
         looks = looks_noted g.S.Store g.A.Archives.are old.desk mid.desk c.note.new.self old.archives mid.archives c.find_beside.ensures.looks noted.conn noted.setup noted.closed noted.beside;
         noted = (c.in-Err.fault, noted.fault);
+        cause = λ sound here rows terminal holds. (c.in-Err.fault, noted.fault, c.in-Err.ensures.fault (subst (λ (k : Held _). HasCleanDisk (state g.S.Store k) × IsTrue (state g.S.Store k).is_open) noted.conn sound) here rows terminal holds);
         is_open = λ clean. tt;
         alone = λ none. absurd (omega (arith, c.if-count-eq0.false, c.count.ensures _ none));
       };

@@ -25,6 +25,7 @@ returns g c =
         told = λ sound whole. tt;
         looks = looks_noted g.S.Store g.A.Archives.are self.desk self.desk c.note.new.self self.archives self.archives looks noted.conn noted.setup noted.closed noted.beside;
         noted = (_, noted.fault);
+        cause = λ sound here. absurd here;
         is_open = λ clean. tt;
         alone = λ none. absurd (omega (arith, c.if-count-eq0.false, c.count.ensures _ none));
       };

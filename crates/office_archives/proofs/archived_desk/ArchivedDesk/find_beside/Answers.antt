@@ -1,4 +1,5 @@
 use Rattle.std.proofs.Common.{option_map, string_bytes}
+use Rattle.std.proofs.lemmas.Result.{IfErr-weaker}
 use Rattle.office_rows.proofs.Creating.{if_ok}
 use Rattle.office_archives.specs.Telling.{IsOfNeither}
 use Rattle.office_archives.proofs.Beside.{is_neither, neither_beside}
@@ -15,5 +16,6 @@ returns-in_default g c =
       told = λ sound whole. if_ok c.find_report.result (λ found here. neither_beside g.S.Store g.A.Archives.are self.desk self.archives query (option_map string_bytes found) is here) (told.told sound);
       looks = looks_on g.S.Store g.A.Archives.are self.desk c.find_report.new.self self.archives self.archives (λ sound db left. g.met.S.Store.settled self.desk.conn.store db sound.1 left) told.looks (λ list are. are);
       is_open = told.is_open;
+      fault = λ sound. IfErr-weaker c.find_report.result _ _ (λ fault deserved here. deserved) (told.fault sound);
       last_fault = told.last_fault;
     }

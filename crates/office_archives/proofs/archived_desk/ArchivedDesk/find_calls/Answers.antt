@@ -5,6 +5,7 @@ use Rattle.office_archives.specs.Telling.{archives_with_lists}
 use Rattle.office_archives.specs.Together.{TellsBeside}
 use Rattle.office_archives.proofs.Beside.{calls_beside}
 use Rattle.office_archives.proofs.Together.{looks_on}
+use Rattle.std.proofs.lemmas.Result.{err_from_is_err_and}
 use Rattle.office_archives.proofs.archived_desk.ArchivedDesk.find_calls.Goals as goal
 use Rattle.office_archives.proofs.archived_desk.ArchivedDesk.find_calls.Goals.{then-has_lists, else-has_lists}
 
@@ -36,3 +37,10 @@ pub returns-in_err-with_archives-clause-looks : goal.returns-in_err-with_archive
 returns-in_err-with_archives-clause-looks g c =
     let self = c.args.self.now in
     looks_on g.S.Store g.A.Archives.are self.desk c.find_report.new.self self.archives self.archives (λ sound db left. g.met.S.Store.settled self.desk.conn.store db sound.1 left) c.find_report.ensures.looks (λ list are. are)
+
+-- ---- why it can't be reported
+
+pub returns-in_err-told-clause-fault : goal.returns-in_err-told-clause-fault
+returns-in_err-told-clause-fault g c =
+    let p = err_from_is_err_and c.from_residual.result c.from_residual.ensures.1 in
+    λ sound. rw (p.1, p.2) (λ here. c.in_err-told.ensures.fault sound)

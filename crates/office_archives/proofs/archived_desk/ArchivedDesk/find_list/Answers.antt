@@ -6,6 +6,8 @@ use Rattle.office_parts.specs.OwnLists.{list_name}
 use Rattle.office_archives.specs.ListsAway.{FindsIfAway}
 use Rattle.office_archives.proofs.Beside.{away_beside, list_beside}
 use Rattle.office_archives.proofs.Together.{looks_more, looks_on}
+use Rattle.office_archives.specs.Causes.{IsDeservedHere}
+use Rattle.office_archives.proofs.Causing.{err_all, list_not_here}
 use Rattle.office_archives.proofs.archived_desk.ArchivedDesk.find_list.Goals as goal
 
 pub returns-in_err-lines-clause-looks : goal.returns-in_err-lines-clause-looks
@@ -44,3 +46,23 @@ returns-in-None-clause-looks g c =
     let self = c.args.self.now in
     let looks = looks_more g.S.Store self.desk c.lines_if_away.new.desk c.find_report.new.self c.in_ok-lines.ensures.stays_open c.lines_if_away.ensures.looks c.find_report.ensures.looks in
     looks_on g.S.Store g.A.Archives.are self.desk c.find_report.new.self self.archives self.archives (λ sound db left. g.met.S.Store.settled self.desk.conn.store db sound.1 left) looks (λ list are. are)
+
+-- ---- it may be away
+
+pub returns-in_err-lines-clause-fault : goal.returns-in_err-lines-clause-fault
+returns-in_err-lines-clause-fault g c = λ sound.
+    let desk = c.args.self.now.desk in
+    let query = c.args.query.now in
+    err_all c.from_residual.result (IsDeservedHere g.S.Store desk query) (λ fault here. absurd (list_not_here desk query (call_content c.args.call.now) c.args.side c.requires here))
+
+pub returns-in-Some-clause-fault : goal.returns-in-Some-clause-fault
+returns-in-Some-clause-fault g c = λ sound.
+    let desk = c.args.self.now.desk in
+    let query = c.args.query.now in
+    err_all c.report_by_lines.result (IsDeservedHere g.S.Store desk query) (λ fault here. absurd (list_not_here desk query (call_content c.args.call.now) c.args.side c.requires here))
+
+pub returns-in-None-clause-fault : goal.returns-in-None-clause-fault
+returns-in-None-clause-fault g c = λ sound.
+    let desk = c.args.self.now.desk in
+    let query = c.args.query.now in
+    err_all c.find_report.result (IsDeservedHere g.S.Store desk query) (λ fault here. absurd (list_not_here desk query (call_content c.args.call.now) c.args.side c.requires here))

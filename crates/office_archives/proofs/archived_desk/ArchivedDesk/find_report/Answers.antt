@@ -1,4 +1,5 @@
 use Rattle.std.proofs.Common.{◌≡◌, List, [], arith, option_map, string_bytes}
+use Rattle.std.proofs.lemmas.Result.{IfErr-weaker}
 use Rattle.office_rows.proofs.Creating.{if_ok}
 use Rattle.office_parts.specs.Archives.{Archive}
 use Rattle.office_archives.proofs.Alone.{alone_tells}
@@ -15,9 +16,11 @@ returns-then-count-eq0 g c =
     record {
       told = λ sound whole. if_ok c.find_report.result (λ found here. alone_tells g.S.Store g.A.Archives.are self.desk self.archives empty c.args.query.now (option_map string_bytes found) (told.looks.stays sound) here) (told.told sound);
       looks = looks_on g.S.Store g.A.Archives.are self.desk c.find_report.new.self self.archives self.archives (λ sound db left. g.met.S.Store.settled self.desk.conn.store db sound.1 left) told.looks (λ list they. they);
+      fault = λ sound. IfErr-weaker c.find_report.result _ _ (λ fault deserved here. deserved) (told.fault sound);
       last_fault = told.last_fault;
       alone = λ none sound. told.told sound;
       alone_looks = λ none. told.looks;
+      alone_fault = λ none sound. told.fault sound;
     }
 
 pub returns : goal.returns
@@ -26,7 +29,9 @@ returns g c =
     record {
       told = told.told;
       looks = told.looks;
+      fault = told.fault;
       last_fault = told.last_fault;
       alone = λ none. absurd (omega (arith, c.if-count-eq0.false, c.count.ensures _ none));
       alone_looks = λ none. absurd (omega (arith, c.if-count-eq0.false, c.count.ensures _ none));
+      alone_fault = λ none. absurd (omega (arith, c.if-count-eq0.false, c.count.ensures _ none));
     }

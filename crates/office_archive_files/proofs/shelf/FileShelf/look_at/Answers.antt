@@ -1,5 +1,0 @@
-use Rattle.office_archive_files.proofs.shelf.FileShelf.look_at.Goals as goal
-
--- It has passed.
-pub returns-in-Ok : goal.returns-in-Ok
-returns-in-Ok g c = c.in-Ok.ensures.passes.read
