@@ -1,6 +1,6 @@
-/* client PORT PATH COUNT [CLIENTS]: so many GETs of a path; client PORT FILE: a POST to /interchanges of each line of a file. One
-   connection a request, one after the other, or that many of them open at a time. Prints the seconds that a request took in the
-   hundred that took least, or of all if several are open; how many were not answered 200; and a hash of all bytes that came. */
+/* client PORT PATH COUNT [CLIENTS]: so many GETs of a path; client PORT @FILE [CLIENTS]: a POST to /interchanges of each line of a
+   file. One connection a request, one after the other, or that many of them open at a time. Prints the seconds that a request took in
+   the hundred that took least, or of all if several are open; how many were not answered 200; and a hash of all bytes that came. */
 #include <arpa/inet.h>
 #include <fcntl.h>
 #include <poll.h>
@@ -85,14 +85,31 @@ static int has_ended(long client) {
     return got == 0;
 }
 
-/* So many requests, that many of them open at a time. The hash is the sum of those of the responses, which come in any order. */
-static void exchange_together(const char *request, size_t length, long count, long clients) {
+/* The requests: GETs of a path, so many, or a POST of each line of a file. */
+static FILE *file;
+static const char *path;
+static long gets;
+static char request[(1 << 20) + 256];
+
+/* Writes the next request; its length, or 0 if there is none. */
+static size_t next_request(void) {
+    static char line[1 << 20];
+    if (!file)
+        return gets-- > 0 ? snprintf(request, sizeof request, "GET %s HTTP/1.1\r\nHost: 127.0.0.1\r\n\r\n", path) : 0;
+    if (!fgets(line, sizeof line, file)) return 0;
+    size_t length = strcspn(line, "\n");
+    return snprintf(request, sizeof request, "POST /interchanges HTTP/1.1\r\nHost: 127.0.0.1\r\nContent-Length: %zu\r\n\r\n%.*s", length,
+        (int)length, line);
+}
+
+/* All requests, that many of them open at a time. The hash is the sum of those of the responses, which come in any order. */
+static void exchange_together(long most) {
     unsigned long sum = 0;
-    long started = 0, ended = 0;
+    long clients = 0, left, ended = 0;
+    size_t length;
     begun = now();
-    for (; started < clients && started < count; started++) begin(started, request, length);
-    clients = started;
-    while (ended < count) {
+    for (; clients < most && (length = next_request()); clients++) begin(clients, request, length);
+    for (left = clients; left > 0;) {
         if (poll(polled, clients, -1) < 0) fail("poll");
         for (long client = 0; client < clients; client++) {
             if (polled[client].fd < 0 || !polled[client].revents || !has_ended(client)) continue;
@@ -101,32 +118,27 @@ static void exchange_together(const char *request, size_t length, long count, lo
             close(polled[client].fd);
             polled[client].fd = -1;
             ended++;
-            if (started < count) begin(client, request, length), started++;
+            if ((length = next_request())) begin(client, request, length);
+            else left--;
         }
     }
-    least = (now() - begun) / count;
+    least = (now() - begun) / ended;
     hash = sum;
 }
 
 int main(int count, char **words) {
-    static char line[1 << 20], request[(1 << 20) + 256];
     if (count < 3) return 2;
     address = (struct sockaddr_in){ .sin_family = AF_INET, .sin_port = htons(atoi(words[1])), .sin_addr = { htonl(INADDR_LOOPBACK) } };
-    FILE *file = count == 3 ? fopen(words[2], "r") : NULL;
-    if (count == 3 && !file) fail("open");
+    path = words[2];
+    int counted = *path == '@' ? 3 : 4;
+    if (count < counted) return 2;
+    if (counted == 4) gets = atol(words[3]);
+    else if (!(file = fopen(path + 1, "r"))) fail("open");
     begun = now();
-    if (file)
-        while (fgets(line, sizeof line, file)) {
-            size_t length = strcspn(line, "\n");
-            exchange(request, snprintf(request, sizeof request,
-                "POST /interchanges HTTP/1.1\r\nHost: 127.0.0.1\r\nContent-Length: %zu\r\n\r\n%.*s", length, (int)length, line));
-        }
-    else if (count == 5)
-        exchange_together(request, snprintf(request, sizeof request, "GET %s HTTP/1.1\r\nHost: 127.0.0.1\r\n\r\n", words[2]), atol(words[3]),
-            atol(words[4]) < MOST_CLIENTS ? atol(words[4]) : MOST_CLIENTS);
+    if (count > counted)
+        exchange_together(atol(words[counted]) < MOST_CLIENTS ? atol(words[counted]) : MOST_CLIENTS);
     else
-        for (long i = atol(words[3]); i > 0; i--)
-            exchange(request, snprintf(request, sizeof request, "GET %s HTTP/1.1\r\nHost: 127.0.0.1\r\n\r\n", words[2]));
+        for (size_t length; (length = next_request());) exchange(request, length);
     printf("%.9f %ld %016lx\n", least, others, hash);
     return 0;
 }
