@@ -5,15 +5,18 @@ from collections import namedtuple
 
 # places 1, 2 and so on as they were closed; `visits` is the number of the newest visit of an archive
 Archive = namedtuple('Archive', 'place file visits')
-# up to `last` the interchanges of an account, by its number, are in the archives 1 to this one
+# up to `last` the interchanges of an account, by its number, are in the archives 1 to this one; of what had been taken, the store
+# had taken them as this one was closed
 Segment = namedtuple('Segment', 'partner archive last')
 # the lines of a list as they were put away with an archive, as a text: of each its container's number and its port; `side` is 1
 # for a load list, 2 for a discharge list
 Settled = namedtuple('Settled', 'vessel voyage side archive lines')
+# what tells an archive from those of other stores: the terminal's code, and the seals of what it closes
+Sealed = namedtuple('Sealed', 'archive terminal seals')
 # `mark` is the file of the store that goes on, in an archive's own register, and else None; the lists are in order
-Register = namedtuple('Register', 'archives segments mark lists')
+Register = namedtuple('Register', 'archives segments mark lists taken sealed')
 
-EMPTY = Register((), (), None, ())
+EMPTY = Register((), (), None, (), (), ())
 MOST_ARCHIVES, MOST_ACCOUNTS, MOST_NUMBER = 9999, 999, 999999999
 
 
@@ -49,9 +52,22 @@ def with_lists(register, lists):
     return register._replace(lists=tuple(sorted(register.lists + tuple(lists))))
 
 
-def without_lists_of(register, place):
-    """Without the lists that were put away with the archive of that place."""
-    return register._replace(lists=tuple(settled for settled in register.lists if settled.archive != place))
+def with_taken(register, taken):
+    """With this more that had been taken."""
+    return register._replace(taken=register.taken + tuple(taken))
+
+
+def with_sealed(register, sealed):
+    """With this more that is sealed."""
+    return register._replace(sealed=register.sealed + (sealed,))
+
+
+def without_what_came_with(register, place):
+    """Without the lists that were put away with the archive of that place, what had been taken then and what was sealed."""
+    return register._replace(
+        lists=tuple(settled for settled in register.lists if settled.archive != place),
+        taken=tuple(segment for segment in register.taken if segment.archive != place),
+        sealed=tuple(sealed for sealed in register.sealed if sealed.archive != place))
 
 
 def is_name(text):
@@ -83,10 +99,13 @@ def is_sound(register):
         and all(0 <= visits <= MOST_NUMBER for visits in newest)
         and all(
             1 <= segment.partner <= MOST_ACCOUNTS and segment.archive in places and 1 <= segment.last <= MOST_NUMBER
-            for segment in register.segments)
+            for segment in register.segments + register.taken)
         and all(do_rise(numbers, strictly=True) for numbers in lasts)
         and all(
             is_name(settled.vessel) and is_name(settled.voyage) and settled.side in (1, 2) and settled.archive in places
             for settled in register.lists)
         and len({settled[:4] for settled in register.lists}) == len(register.lists)
+        and len({segment[:2] for segment in register.taken}) == len(register.taken)
+        and all(sealed.archive in places and is_name(sealed.terminal) for sealed in register.sealed)
+        and len({sealed.archive for sealed in register.sealed}) == len(register.sealed)
         and (register.mark is None or is_file_name(register.mark)))

@@ -36,6 +36,13 @@ pub(crate) fn tell_closed<E: Write>(to: Audience<'_>, errors: &mut Port<E>, stor
     status
 }
 
+/// Reports that a store and its register don't belong together, with the reason.
+fn tell_damaged<E: Write>(to: Audience<'_>, errors: &mut Port<E>, store: &str, why: Words) -> u8 {
+    let status = tell_fault(errors, &TableFault::Damaged);
+    tell_words(to, errors, store, why);
+    status
+}
+
 /// Reports a fault of a store's register of archives.
 pub(crate) fn tell_register<E: Write>(
     to: Audience<'_>,
@@ -75,6 +82,8 @@ pub(crate) fn tell_open_cause<E: Write>(
         OpenFault::Closed => tell_words(to, errors, store, Words::IS_ARCHIVE),
         OpenFault::Store(fault) => tell_store_cause(to, errors, store, fault),
         OpenFault::Register(fault) => tell_register_cause(to, errors, store, fault),
+        OpenFault::Older => tell_words(to, errors, store, Words::OLDER),
+        OpenFault::Other => tell_words(to, errors, store, Words::OTHER_TERMINAL),
     }
 }
 
@@ -89,6 +98,8 @@ pub(crate) fn tell_open<E: Write>(
         OpenFault::Closed => tell_closed(to, errors, store),
         OpenFault::Store(fault) => tell_store(to, errors, store, fault),
         OpenFault::Register(fault) => tell_register(to, errors, store, fault),
+        OpenFault::Older => tell_damaged(to, errors, store, Words::OLDER),
+        OpenFault::Other => tell_damaged(to, errors, store, Words::OTHER_TERMINAL),
     }
 }
 

@@ -1,5 +1,5 @@
 -- Which stores open after some events, as a closing asks.
-use Rattle.std.proofs.Common.{◌≡◌, inl, ◌≤◌, List, [], ◌∷◌, Bool, true, false, cond, filter, not, refl, sym, ap, subst, ◌∙◌, arith}
+use Rattle.std.proofs.Common.{◌≡◌, ◌≤◌, List, [], ◌∷◌, Bool, true, false, cond, filter, not, refl, sym, ap, subst, ◌∙◌, arith}
 use Rattle.std.specs.Prelude.{Contains}
 use Rattle.std.specs.Option.{option_map}
 use Rattle.std.proofs.lemmas.Bool.{leb-true}
@@ -26,6 +26,7 @@ use Rattle.office_parts.proofs.Takings.{rows_are_parts}
 use Rattle.office_closing.specs.Changes.{empty_register}
 use Rattle.office_closing.specs.Register.{closed_by}
 use Rattle.office_archive_files.specs.ClosedStores.{LoadedStoresOpen, OpensAfter, UnclosedStoresOpen}
+use Rattle.office_archive_files.proofs.ShelfLemmas.{none_named}
 
 -- ---- nothing was put away
 
@@ -72,7 +73,7 @@ module _ (content : SetupContent) (es : List Event) (rows : Rows) (db : Trees) (
       let parts = rows_are_parts content es rows after in
       record {
         sound = record { tested = refl; texts = record { files = tt; lines = tt; closed_for = tt } };
-        named = record { counted = refl; named = λ partner number from. refl; lists = λ call side. tt; of_calls = λ name. inl refl };
+        named = none_named;
         beside = record {
           archived = nothing_archived;
           own = rows;

@@ -9,7 +9,7 @@ use Rattle.office_closing.specs.Register.{ArchiveContent, RegisterContent, close
 use Rattle.office_closing.specs.Sound.{is_sound}
 use Rattle.office_admission.specs.Setups.{SetupContent}
 use Rattle.office_commands.specs.Beside.{IsSetUpHeld}
-use Rattle.office_archive_files.specs.Archives.{PassesAt}
+use Rattle.office_archive_files.specs.Archives.{PassesWithSeals}
 use Rattle.office_archive_files.specs.declared.shelf.Found.{Found}
 use Rattle.office_archive_files.specs.declared.shelf.Found.TheVariants as found
 
@@ -27,7 +27,7 @@ archive_line archive found =
 module _ {S : Type 0} (g : Ghosts S) (image : Image) (path : List ℕ) (store : SetupContent) (names : RegisterContent) where
   -- as the archive of that place only what a connection showed as such is found
   abbrev pub IsFoundAt : (place : ℕ) → Found → Type 0
-  IsFoundAt place found.Archive = (conn : Held S) × PassesAt g image path store names place conn
+  IsFoundAt place found.Archive = (conn : Held S) × PassesWithSeals g image path store names place conn
   IsFoundAt place found.Nothing = Unit {0}
   IsFoundAt place found.Other = Unit {0}
 

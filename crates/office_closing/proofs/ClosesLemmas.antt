@@ -8,7 +8,7 @@ use Rattle.office_rows.specs.Stored.{HasRows}
 use Rattle.office_tables.specs.declared.table_fault.TableFault.{TableFault}
 use Rattle.office_closing.specs.Changes.{closed_with, marked_for, unchanged, unmarked}
 use Rattle.office_closing.specs.Lists.{list_content, SettledListContent}
-use Rattle.office_closing.specs.Register.{archive_content, RegisterContent, closed_by, newest_visit}
+use Rattle.office_closing.specs.Register.{archive_content, RegisterContent, closed_by, newest_visit, sealed_content}
 use Rattle.office_closing.specs.Stored.{HasRegister}
 use Rattle.office_closing.specs.declared.faults.CloseFault.{CloseFault}
 use Rattle.office_closing.specs.declared.faults.File.TheVariants as file
@@ -135,7 +135,7 @@ module _ (names : FileNames) (old mid : Files) (plan : Plan) (rests : AreResting
   MarkSteps end result = StepsIf (is_unmarked plan.stage) unmarked (marked_for names.store) mid.archive_register end result
 
   abbrev RaiseSteps : {X : Type 0} → State → Result X CloseFault → Type 0
-  RaiseSteps end result = StepsIf (is_unraised plan.stage) unchanged (closed_with (archive_content plan.archive) plan.segments.items (map list_content plan.lists.items)) mid.register end result
+  RaiseSteps end result = StepsIf (is_unraised plan.stage) unchanged (closed_with (archive_content plan.archive) plan.segments.items (map list_content plan.lists.items) plan.taken.items (map sealed_content plan.sealed.items)) mid.register end result
 
   mid_idle : AreIdle mid
   mid_idle = idle_after old mid (Ok plan) idle read

@@ -9,6 +9,8 @@ use Rattle.office_tables.specs.Faults.{IsOfStoreOr}
 use Rattle.office_tables.specs.declared.interchanges.Kept.{Kept}
 use Rattle.office_tables.specs.declared.table_fault.TableFault.{TableFault}
 use Rattle.office_closing.specs.Deleting.{is_among}
+use Rattle.office_closing.specs.declared.comparing.Compared.{Compared}
+use Rattle.office_closing.specs.declared.comparing.Compared.TheVariants as compared
 use Rattle.office_closing.specs.declared.comparing.Difference.{Difference}
 use Rattle.office_closing.specs.declared.faults.File.{File}
 use Rattle.office_closing.specs.declared.faults.File.TheVariants as file
@@ -44,6 +46,15 @@ IsComparedAs closing own copy None =
 IsComparedAs closing own copy (Some difference) =
     (is_among closing difference.partner difference.number ≡ true)
     × ¬ IsToldAlike difference.partner difference.number own copy
+
+-- the number that differs, if one does, and else the seals
+abbrev pub difference_in : Compared → Option Difference
+difference_in (compared.Alike seals) = None
+difference_in (compared.Differs difference) = Some difference
+
+abbrev pub seals_in : Compared → Option (List ℕ)
+seals_in (compared.Alike seals) = Some seals.items
+seals_in (compared.Differs difference) = None
 
 -- one of these numbers has a reply that is no text
 pub record HasUnfitAmong (closing : List Numbers) (rows : Rows) : Type 0 where

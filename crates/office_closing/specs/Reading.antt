@@ -3,6 +3,8 @@ use Rattle.std.specs.Prelude.{◌≡◌, ℕ, ◌<◌, ◌^◌, List, [], ◌∷
 use Rattle.std.specs.Option.{option_map}
 use Rattle.std.specs.List.{AllByRecursion}
 use Rattle.sqlite.specs.Order.{Row}
+use Rattle.sqlite.specs.declared.types.Value.{Value}
+use Rattle.sqlite.specs.declared.types.Value.TheVariants.{Blob}
 use Rattle.sqlite.specs.Effect.{Database}
 use Rattle.office_rows.specs.Shown.{ShowsTable, columns_at}
 use Rattle.office_tables.specs.declared.table_fault.TableFault.{TableFault}
@@ -10,9 +12,9 @@ use Rattle.office_tables.specs.Faults.{IsOfStoreOr}
 use Rattle.office_closing.specs.declared.register.Register.{Register}
 use Rattle.office_closing.specs.declared.register.Segment.{Segment}
 use Rattle.office_closing.specs.Lists.{SettledListContent}
-use Rattle.office_closing.specs.Register.{ArchiveContent, RegisterContent, register_content}
+use Rattle.office_closing.specs.Register.{ArchiveContent, RegisterContent, SealedContent, register_content}
 use Rattle.office_closing.specs.Sound.{IsSound}
-use Rattle.office_closing.specs.Stored.{ShowsLists, ShowsRegister, archive_values, segment_values, file_values, list_values, if_any}
+use Rattle.office_closing.specs.Stored.{ShowsLists, ShowsRegister, archive_values, segment_values, file_values, list_values, sealed_values, if_any}
 use Rattle.office_closing.specs.Tables.{archive_table, segment_table, closed_for_table, Layout}
 
 -- ---- what no caller has to read: which rows fit the types of a record
@@ -33,6 +35,10 @@ pub record FitsList (list : SettledListContent) : Type 0 where
   pub archive : list.archive < 2 ^ 16
   pub lines : IsUtf8 list.lines
 
+pub record FitsSealed (sealed : SealedContent) : Type 0 where
+  pub archive : sealed.archive < 2 ^ 16
+  pub terminal : IsUtf8 sealed.terminal
+
 abbrev pub SaysArchive : Row → ArchiveContent → Type 0
 SaysArchive row archive = (columns_at (0 ∷ 1 ∷ 2 ∷ []) row ≡ archive_values archive) × FitsArchive archive
 
@@ -44,6 +50,12 @@ SaysFile row file = (columns_at (0 ∷ []) row ≡ file_values file) × IsUtf8 f
 
 abbrev pub SaysList : Row → SettledListContent → Type 0
 SaysList row list = (columns_at (0 ∷ 1 ∷ 2 ∷ 3 ∷ 4 ∷ []) row ≡ list_values list) × FitsList list
+
+abbrev pub SaysBytes : Value → List ℕ → Type 0
+SaysBytes value bytes = value ≡ Blob bytes
+
+abbrev pub SaysSealed : Row → SealedContent → Type 0
+SaysSealed row sealed = (columns_at (0 ∷ 1 ∷ 2 ∷ []) row ≡ sealed_values sealed) × FitsSealed sealed
 
 abbrev pub ShowsArchives : Database → List ArchiveContent → Type 0
 ShowsArchives db archives = ShowsTable archive_table (0 ∷ 1 ∷ 2 ∷ []) (0 ∷ []) db (map archive_values archives)
@@ -69,6 +81,8 @@ pub record FitsRegister (content : RegisterContent) : Type 0 where
   pub segments : AllByRecursion FitsSegment content.segments
   pub closed_for : IfSome content.closed_for IsUtf8
   pub lists : AllByRecursion FitsList content.lists
+  pub taken : AllByRecursion FitsSegment content.taken
+  pub sealed : AllByRecursion FitsSealed content.sealed
 
 -- no register that the tables show fits; or the store failed, or memory
 abbrev pub FailsTables : Layout → Database → TableFault → Type 0

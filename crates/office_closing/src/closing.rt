@@ -14,7 +14,7 @@ ghost use Rattle.office_parts.specs.OwnLists.{list_name, rows_without_lists};
 ghost use Rattle.office_parts.specs.LeftOver.{rows_without};
 ghost use Rattle.office_closing.specs.Changes.{closed_with, marked_for, unchanged, unmarked};
 ghost use Rattle.office_closing.specs.Lists.{list_content};
-ghost use Rattle.office_closing.specs.Register.{archive_content};
+ghost use Rattle.office_closing.specs.Register.{archive_content, sealed_content};
 ghost use Rattle.office_tables.specs.Faults.{IsOfStore};
 ghost use Rattle.sqlite.specs.Held.{state};
 ghost use Rattle.sqlite.specs.State.{HasCleanDisk, Shows, Survives};
@@ -23,7 +23,9 @@ use crate::comparing::Numbers;
 use crate::faults::{CloseFault, File, FileFault};
 use crate::judging::judge;
 use crate::planning::{Plan, PutAway, Stage, is_unmarked, is_unraised, put_away};
-use crate::{Archive, Segment, SettledList, characters, close_with, mark, side_code};
+use crate::{
+    Archive, SealedArchive, Segment, SettledList, characters, close_with, mark, side_code,
+};
 use edi_messages::Call;
 use office_tables::{TableFault, integer};
 use sqlite::{Alter, Connection, Transaction};
@@ -132,31 +134,42 @@ fn mark_now<S: Alter>(conn: &mut Connection<S>, store_file: &str) -> Result<(), 
 fn raise<S: Alter>(conn: &mut Connection<S>, plan: &Plan) -> Result<(), CloseFault>
     requires { (state S.Store conn.old).in_transaction ≡ false }
     ensures steps { StepsIf (is_unraised plan.now.stage) unchanged
-        (closed_with (archive_content plan.now.archive) plan.now.segments.items (map list_content plan.now.lists.items)) (state S.Store conn.old)
+        (closed_with (archive_content plan.now.archive) plan.now.segments.items (map list_content plan.now.lists.items) plan.now.taken.items
+        (map sealed_content plan.now.sealed.items)) (state S.Store conn.old)
         (state S.Store conn.new) result }
     ensures file { IfErr result (IsFileOf File.Register) }
 {
     let is_due = is_unraised(plan.stage);
     if is_due {
-        raise_now(conn, &plan.archive, &plan.segments, &plan.lists)
+        raise_now(
+            conn,
+            &plan.archive,
+            &plan.segments,
+            &plan.lists,
+            &plan.taken,
+            &plan.sealed,
+        )
     } else {
         Ok(())
     }
 }
 
-/// Gives the store's register an archive with its segments and lists.
+/// Gives the store's register an archive with its segments and lists, what had been taken, and what is sealed.
 fn raise_now<S: Alter>(
     conn: &mut Connection<S>,
     archive: &Archive,
     segments: &[Segment],
     lists: &[SettledList],
+    taken: &[Segment],
+    sealed: &[SealedArchive],
 ) -> Result<(), CloseFault>
     requires { (state S.Store conn.old).in_transaction ≡ false }
-    ensures steps { StepsIf true unchanged (closed_with (archive_content archive.now) segments.now (map list_content lists.now))
+    ensures steps { StepsIf true unchanged (closed_with (archive_content archive.now) segments.now (map list_content lists.now) taken.now
+        (map sealed_content sealed.now))
         (state S.Store conn.old) (state S.Store conn.new) result }
     ensures file { IfErr result (IsFileOf File.Register) }
 {
-    match close_with(conn, archive, segments, lists) {
+    match close_with(conn, archive, segments, lists, taken, sealed) {
         Ok(()) => Ok(()),
         Err(fault) => Err(not_written(File::Register, fault)),
     }

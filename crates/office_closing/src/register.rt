@@ -1,13 +1,14 @@
 ghost use Rattle.std.specs.Prelude.{◌≡◌, ◌↔◌, ◌++◌, ◌∷◌, [], true, false, ℕ, IfOk, OnOk, IsTrue, get_or, map};
-ghost use Rattle.std.specs.List.{AllByRecursion};
+ghost use Rattle.std.specs.List.{AllByRecursion, list_any};
 ghost use Rattle.std.specs.Option.{option_map};
 ghost use Rattle.office_loading.specs.Closed.{closed_content};
 ghost use Rattle.edi_messages.specs.Owned.{call_content};
 ghost use Rattle.office_closing.specs.Changes.{closed_with, unmarked};
-ghost use Rattle.office_closing.specs.Lists.{list_content, lines_of_list};
-ghost use Rattle.office_closing.specs.Register.{archive_content, register_content, last_closed, archive_of, newest_visit, closed_by};
+ghost use Rattle.office_closing.specs.Lists.{is_among, list_content, lines_of_list};
+ghost use Rattle.office_closing.specs.Register.{archive_content, register_content, last_closed, archive_of, newest_visit, closed_by, is_newer_than, is_of_terminal, is_passed, sealed_content};
 ghost use Rattle.office_closing.specs.Sound.{is_sound, IsOfAccount};
 
+use crate::sealed_archives::{SealedArchive, append_sealed, are_same_sealed};
 use crate::settled_lists::{SettledList, are_same_lists, is_of_list, put_lists};
 use edi_messages::Call;
 use office_admission::MOST_PARTNERS;
@@ -23,7 +24,8 @@ pub struct Archive {
     pub visits: u32,
 }
 
-/// A segment of a partner's numbers: up to its last one they are in the archives from the first to this one.
+/// A partner's numbers up to the last one, as an archive was closed: those of a `Register`'s segments are in the archives
+/// from the first to this one; those of what had been taken the store had taken by then.
 #[derive(Clone, Copy, Debug, PartialEq, Eq)]
 pub struct Segment {
     pub partner: u16,
@@ -31,13 +33,16 @@ pub struct Segment {
     pub last: u32,
 }
 
-/// Which archives hold a store's history, which numbers each of them closed, and the lists that were put away; in an
-/// archive's own register also the file of the store that goes on.
+/// Which archives hold a store's history, which numbers each of them closed, the lists that were put away, what the store had
+/// taken as each was closed and what was sealed with it, if the register says so; in an archive's own register also the file
+/// of the store that goes on.
 #[derive(Debug, Drop)]
 pub struct Register {
     pub archives: Vec<Archive>,
     pub segments: Vec<Segment>,
     pub lists: Vec<SettledList>,
+    pub taken: Vec<Segment>,
+    pub sealed: Vec<SealedArchive>,
     pub closed_for: Option<String>,
 }
 
@@ -68,11 +73,13 @@ impl Register {
         None
     }
 
-    /// Whether any list was put away.
-    pub fn has_lists(&self) -> bool
-        ensures { (result ≡ false) ↔ ((register_content self.now).lists ≡ []) }
+    /// Whether any list was put away with the first so many archives.
+    pub fn has_lists(&self, count: usize) -> bool
+        ensures { result ≡ list_any (λ list. is_among count (list_content list)) self.now.lists.items }
     {
-        !self.lists.is_empty()
+        self.lists
+            .iter()
+            .any(|list| usize::from(list.archive) <= count)
     }
 
     /// The lines of a list that were put away with the newest of its archives; none if none were.
@@ -99,6 +106,31 @@ impl Register {
         }
     }
 
+    /// Whether a store is of a day before one of the closings: it has these next numbers, of each account by its id from
+    /// 1, and still awaits one that had been taken then.
+    pub fn is_newer_than(&self, nexts: &[u32]) -> bool
+        ensures { result ≡ is_newer_than nexts.now (register_content self.now) }
+    {
+        for segment in &self.taken {
+            if !is_passed(nexts, *segment) {
+                return true;
+            }
+        }
+        false
+    }
+
+    /// Whether it is of a store of the terminal with this code: it has no archive that another terminal's store closed.
+    pub fn is_of_terminal(&self, code: &str) -> bool
+        ensures { result ≡ is_of_terminal code.now (register_content self.now) }
+    {
+        for sealed in &self.sealed {
+            if sealed.terminal.as_bytes() != code.as_bytes() {
+                return false;
+            }
+        }
+        true
+    }
+
     /// What is closed, as an opening of the store asks for it.
     pub fn closed(&self, alloc: Global) -> Result<Closed, AllocError>
         requires { IsTrue (is_sound (register_content self.now)) }
@@ -111,18 +143,20 @@ impl Register {
         })
     }
 
-    /// The register with one more archive, the segments that it closes and the lists that were put away with it, and without
-    /// a mark.
+    /// The register with one more archive, the segments that it closes, the lists that were put away with it, what had been
+    /// taken and what is sealed with it, and without a mark.
     pub fn with_closing(
         self,
         alloc: Global,
         archive: &Archive,
         segments: &[Segment],
         lists: &[SettledList],
+        taken: &[Segment],
+        sealed: &[SealedArchive],
     ) -> Result<Register, AllocError>
         ensures { IfOk result (λ register. register_content register
-            ≡ closed_with (archive_content archive.now) segments.now (map list_content lists.now)
-            (unmarked (register_content self))) }
+            ≡ closed_with (archive_content archive.now) segments.now (map list_content lists.now) taken.now
+            (map sealed_content sealed.now) (unmarked (register_content self))) }
     {
         let mut archives = self.archives;
         append(&mut archives, copy_of(alloc, archive)?)?;
@@ -130,22 +164,38 @@ impl Register {
         append_all(&mut all, segments)?;
         let mut settled = self.lists;
         put_lists(alloc, &mut settled, lists)?;
+        let mut known = self.taken;
+        append_all(&mut known, taken)?;
+        let mut all_sealed = self.sealed;
+        append_sealed(alloc, &mut all_sealed, sealed)?;
         Ok(Register {
             archives,
             segments: all,
             lists: settled,
+            taken: known,
+            sealed: all_sealed,
             closed_for: None,
         })
     }
 
-    /// Whether two registers have the same archives, segments and lists, under any marks.
+    /// Whether two registers say the same, under any marks.
     pub fn tells_same(&self, other: &Register) -> bool
         ensures { (result ≡ true) ↔ (unmarked (register_content self.now) ≡ unmarked (register_content other.now)) }
     {
         are_same_archives(&self.archives, &other.archives)
             && are_same_segments(&self.segments, &other.segments)
             && are_same_lists(&self.lists, &other.lists)
+            && are_same_segments(&self.taken, &other.taken)
+            && are_same_sealed(&self.sealed, &other.sealed)
     }
+}
+
+/// Whether the next number of its account is above the last one of a segment.
+fn is_passed(nexts: &[u32], segment: Segment) -> bool
+    ensures { result ≡ is_passed nexts.now segment }
+{
+    let partner = usize::from(segment.partner);
+    0 < partner && partner <= nexts.len() && segment.last < nexts[partner - 1]
 }
 
 /// The last number of each account that is closed, in the order of the ids, 0 if none is.

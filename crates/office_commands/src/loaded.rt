@@ -1,9 +1,9 @@
-ghost use Rattle.std.specs.Prelude.{◌≡◌, IfErr, IfOk, IsTrue, string_bytes};
+ghost use Rattle.std.specs.Prelude.{◌≡◌, not, IfErr, IfOk, IsTrue, string_bytes};
 ghost use Rattle.sqlite.specs.Held.{state};
 ghost use Rattle.sqlite.specs.State.{HasCleanDisk};
 ghost use Rattle.office_admission.specs.Given.{IsGiven};
 ghost use Rattle.office_admission.specs.Setups.{setup_content};
-ghost use Rattle.office_closing.specs.Register.{closed_by, register_content};
+ghost use Rattle.office_closing.specs.Register.{closed_by, is_newer_than, is_of_terminal, register_content};
 ghost use Rattle.office_closing.specs.Sound.{is_sound};
 ghost use Rattle.office_commands.specs.Beside.{IsLoaded};
 ghost use Rattle.office_commands.specs.Refusing.{IsUnloaded};
@@ -38,6 +38,22 @@ pub(crate) struct Loaded {
     ghost sound: { IsTrue (is_sound (register_content register)) },
     ghost closed_is: { closed_content closed ≡ closed_by (register_content register) },
     ghost given: { IsGiven (setup_content setup) },
+}
+
+impl Loaded {
+    /// Whether the store is of a day before its register.
+    pub(crate) fn is_older(&self) -> bool
+        ensures { result ≡ is_newer_than self.now.there.nexts.items (register_content self.now.register) }
+    {
+        self.register.is_newer_than(&self.there.nexts)
+    }
+
+    /// Whether its register is of another terminal's store.
+    pub(crate) fn is_of_other(&self) -> bool
+        ensures { result ≡ not (is_of_terminal (setup_content self.now.setup).terminal (register_content self.now.register)) }
+    {
+        !self.register.is_of_terminal(self.setup.terminal.as_str())
+    }
 }
 
 /// What the tables of the store at a path hold, of which its register says what is closed. All that may refuse a store once it

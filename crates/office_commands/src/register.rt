@@ -88,6 +88,8 @@ pub fn no_archives(alloc: Global) -> Register
         archives: Vec::new(alloc),
         segments: Vec::new(alloc),
         lists: Vec::new(alloc),
+        taken: Vec::new(alloc),
+        sealed: Vec::new(alloc),
         closed_for: None,
     }
 }

@@ -23,6 +23,9 @@ returns-clause-setup g c = λ image shows clean db held.
     let is : found.committed ≡ record { schema = office_schema; trees = db } = shows (clean_first c.load.ensures.reads clean) db office_schema held.held held.lists in
     loads_so _ _ found.committed _ _ c.in_ok-closed.ensures is (c.in_ok-setup.ensures.loaded clean (ap (λ (d : Database). d.schema) is))
 
+pub returns-clause-nexts : goal.returns-clause-nexts
+returns-clause-nexts g c = c.in_ok-setup.ensures.nexts
+
 pub returns-clause-reads : goal.returns-clause-reads
 returns-clause-reads g c = only_on _ (one_read c.in_ok-setup.ensures.reads)
 
@@ -32,3 +35,7 @@ pub returns-in_err-setup-clause-refused : goal.returns-in_err-setup-clause-refus
 returns-in_err-setup-clause-refused g c =
     let p = err_from_is_err_and c.from_residual-in_err-setup.result c.from_residual-in_err-setup.ensures.1 in
     λ clean now_open schema. rw (p.1, p.2) (unloaded _ _ _ _ c.in_ok-closed.ensures (c.in_err-setup.ensures.refused clean now_open schema))
+
+pub returns-clause-loads : goal.returns-clause-loads
+returns-clause-loads g c clean schema =
+    subst (λ (k : ClosedContent). LoadsOwn k (state g.S.Store c.args.looked.now.conn).committed _ _) c.in_ok-closed.ensures (c.in_ok-setup.ensures.loaded clean schema)
