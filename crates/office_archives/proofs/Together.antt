@@ -62,7 +62,6 @@ use Rattle.office_admission.specs.Given.{IsGiven, AreDistinct}
 use Rattle.office_admission.specs.declared.setup.Setup.{Setup}
 use Rattle.office_desk.specs.Reports.{partner_called}
 use Rattle.office_replies.specs.declared.deliver.Response.TheVariants as response
-use Rattle.office_reports.specs.declared.query.Query.TheVariants as query
 
 -- ==== Together: What a delivery does to a desk and the archives beside it.
 

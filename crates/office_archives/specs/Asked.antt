@@ -2,8 +2,8 @@
 use Rattle.std.specs.Prelude.{◌≡◌, ℕ, ◌<◌, ◌≤◌, Option, None, Some, string_bytes}
 use Rattle.office_rows.specs.Rows.{Rows}
 use Rattle.office_admission.specs.Setups.{SetupContent}
-use Rattle.office_reports.specs.declared.query.Query.{Query}
-use Rattle.office_reports.specs.declared.query.Query.TheVariants as query
+use Rattle.office_reports.specs.declared.query.About.{About}
+use Rattle.office_reports.specs.declared.query.About.TheVariants as about
 use Rattle.office_history.specs.After.{reply_in}
 use Rattle.office_history.specs.Cascade.{text_in}
 use Rattle.office_desk.specs.Reports.{partner_called}
@@ -19,11 +19,11 @@ IsBetween before last None number = ⊥
 IsBetween before last (Some partner) number = (before partner < number) × (number ≤ last partner)
 
 -- it is asked for the reply, the CONTRL or the ticket of such a number
-abbrev pub IsOfNumberBetween : SetupContent → (before last : ℕ → ℕ) → Query → Type 0
-IsOfNumberBetween now before last (query.Reply code number) =
+abbrev pub IsOfNumberBetween : SetupContent → (before last : ℕ → ℕ) → About → Type 0
+IsOfNumberBetween now before last (about.Reply code number) =
     IsBetween before last (partner_called now (string_bytes code)) number
-IsOfNumberBetween now before last (query.Contrl code number) =
+IsOfNumberBetween now before last (about.Contrl code number) =
     IsBetween before last (partner_called now (string_bytes code)) number
-IsOfNumberBetween now before last (query.Ticket code number) =
+IsOfNumberBetween now before last (about.Ticket code number) =
     IsBetween before last (partner_called now (string_bytes code)) number
 IsOfNumberBetween now before last other = ⊥

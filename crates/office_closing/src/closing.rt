@@ -1,6 +1,6 @@
-ghost use Rattle.std.specs.Prelude.{◌≡◌, ◌<◌, ◌≤◌, [], ◌∷◌, false, map, true, OnOk, OnErr, IfOk, IfErr, IsTrue};
+ghost use Rattle.std.specs.Prelude.{◌≡◌, ◌<◌, ◌≤◌, ◌+◌, ◌-◌, [], ◌∷◌, false, map, min, true, OnOk, OnErr, IfOk, IfErr, IsTrue};
 ghost use Rattle.edi_messages.specs.Owned.{call_content};
-ghost use Rattle.office_closing.specs.Clearing.{Clears, IsWithoutSome, IsWithoutSomeLists, IsWithoutSomeVisits};
+ghost use Rattle.office_closing.specs.Clearing.{Clears, most_at_once, IsWithoutSome, IsWithoutSomeLists, IsWithoutSomeVisits};
 ghost use Rattle.office_closing.specs.Closes.{ArePutAway, Closes, IsLeft, cleared, closing_content};
 ghost use Rattle.office_closing.specs.Deleting.{Deletes, all_but, goes, is_one_of, without_interchange, without_visits};
 ghost use Rattle.office_closing.specs.Files.{AreClean, AreIdle, files};
@@ -132,31 +132,38 @@ fn mark_now<S: Alter>(conn: &mut Connection<S>, store_file: &str) -> Result<(), 
 fn raise<S: Alter>(conn: &mut Connection<S>, plan: &Plan) -> Result<(), CloseFault>
     requires { (state S.Store conn.old).in_transaction ≡ false }
     ensures steps { StepsIf (is_unraised plan.now.stage) unchanged
-        (closed_with (archive_content plan.now.archive) plan.now.segments.items (map list_content plan.now.lists.items)) (state S.Store conn.old)
+        (closed_with (archive_content plan.now.archive) plan.now.segments.items (map list_content plan.now.lists.items) plan.now.taken.items) (state S.Store conn.old)
         (state S.Store conn.new) result }
     ensures file { IfErr result (IsFileOf File.Register) }
 {
     let is_due = is_unraised(plan.stage);
     if is_due {
-        raise_now(conn, &plan.archive, &plan.segments, &plan.lists)
+        raise_now(
+            conn,
+            &plan.archive,
+            &plan.segments,
+            &plan.lists,
+            &plan.taken,
+        )
     } else {
         Ok(())
     }
 }
 
-/// Gives the store's register an archive with its segments and lists.
+/// Gives the store's register an archive with its segments and lists, and what had been taken.
 fn raise_now<S: Alter>(
     conn: &mut Connection<S>,
     archive: &Archive,
     segments: &[Segment],
     lists: &[SettledList],
+    taken: &[Segment],
 ) -> Result<(), CloseFault>
     requires { (state S.Store conn.old).in_transaction ≡ false }
-    ensures steps { StepsIf true unchanged (closed_with (archive_content archive.now) segments.now (map list_content lists.now))
+    ensures steps { StepsIf true unchanged (closed_with (archive_content archive.now) segments.now (map list_content lists.now) taken.now)
         (state S.Store conn.old) (state S.Store conn.new) result }
     ensures file { IfErr result (IsFileOf File.Register) }
 {
-    match close_with(conn, archive, segments, lists) {
+    match close_with(conn, archive, segments, lists, taken) {
         Ok(()) => Ok(()),
         Err(fault) => Err(not_written(File::Register, fault)),
     }
@@ -173,7 +180,7 @@ fn clear_all<S: Alter>(conn: &mut Connection<S>, plan: &Plan) -> Result<(), Tabl
     clear_lists(conn, &plan.gone)
 }
 
-/// The most rows that one transaction deletes.
+/// The most interchanges that one transaction deletes.
 const BATCH: u32 = 1000;
 
 /// Deletes the interchanges under these numbers, in short transactions. What was deleted stays so if it fails, and it may be
@@ -216,6 +223,7 @@ fn clear_numbers<S: Alter>(conn: &mut Connection<S>, numbers: Numbers) -> Result
 /// The last number of a batch of those above one and up to another.
 fn batch_end(from: u32, to: u32) -> u32
     requires { from < to }
+    ensures exact { result ≡ from + min (to - from) most_at_once }
     ensures above { from < result }
     ensures within { result ≤ to }
 {

@@ -81,7 +81,7 @@ pub(crate) fn serve_command<'a>(alloc: Global) -> Result<Command<'a>, AllocError
         "Take requests to this host too, as a gateway passes them on; without it only to this machine",
     );
     let serve = Command::new(alloc, "serve")
-        .about("Serve connections over HTTP, one after the other")
+        .about("Serve requests over HTTP, one for each connection")
         .after_help("Example: office serve office.db 8080 1000")
         .arg(store)?
         .arg(port)?
@@ -92,7 +92,7 @@ pub(crate) fn serve_command<'a>(alloc: Global) -> Result<Command<'a>, AllocError
     Ok(serve)
 }
 
-/// `report DB KIND [KEY]`
+/// `report DB KIND [KEY] [--json] [--csv]`
 pub(crate) fn report_command<'a>(alloc: Global) -> Result<Command<'a>, AllocError>
     ensures app { IfOk result (λ command. app_of command ≡ report_app) }
     ensures local { IfOk result (λ command. (out-Command command).has_globals ≡ false) }
@@ -104,12 +104,16 @@ pub(crate) fn report_command<'a>(alloc: Global) -> Result<Command<'a>, AllocErro
         "KEY",
         "BOX, VESSEL/VOYAGE/SIDE, PARTNER/NUMBER or PARTNER",
     );
+    let json = flag(alloc, "json", "Print the report as JSON");
+    let csv = flag(alloc, "csv", "Print the report as CSV, if it is a list");
     let report = Command::new(alloc, "report")
         .about("Print a report; KEY is required from `container` on")
         .after_help("Example: office report office.db visits ABCU0000017")
         .arg(store)?
         .arg(kind)?
-        .arg(key)?;
+        .arg(key)?
+        .arg(json)?
+        .arg(csv)?;
     Ok(report)
 }
 

@@ -61,7 +61,7 @@ impl<S: Alter> Desk<S> {
         }
     }
 
-    /// The fault for which it last answered NotNow, to a delivery or to a report; none if it never has.
+    /// The fault for which it last answered NotNow, to a delivery, an account or a report; none if it never has.
     pub fn last_fault(&self) -> Option<&TableFault>
         ensures { option_map (λ fault. fault.now) result ≡ self.now.last_fault }
     {
@@ -196,10 +196,10 @@ impl<S: Alter + Drop> Desk<S> {
             IfOk result (λ found. DeskTells S.Store self.old query.now (option_map string_bytes found)) }
         ensures fault { IsSound S.Store self.new → IfErr result (λ fault. (rows : Rows) (terminal : TerminalState) →
             DeskHolds S.Store self.old rows terminal →
-            IsOfStoreOr (AsksUnfitReply (setup_content self.old.setup) rows query.now) fault) }
+            IsOfStoreOr (AsksUnfitReply (setup_content self.old.setup) rows query.now.about) fault) }
         ensures looks { OnlyLooks S.Store self.old self.new }
         ensures is_open { HasCleanDisk (state S.Store self.new.conn) →
-            OnOk result (IsOpenFor query.now (state S.Store self.new.conn)) }
+            OnOk result (IsOpenFor query.now.about (state S.Store self.new.conn)) }
         ensures stays_open { HasCleanDisk (state S.Store self.new.conn) → IsTrue (state S.Store self.old.conn).is_open →
             OnOk result (IsTrue (state S.Store self.new.conn).is_open) }
         ensures last_fault { self.new.last_fault ≡ self.old.last_fault }

@@ -4,7 +4,7 @@ ghost use Rattle.std.specs.Str.{str_eq_ignore_ascii_case};
 ghost use Rattle.httparse.specs.Spans.{header_bytes, IsHeaderWithin};
 ghost use Rattle.office_explain.specs.Blocks.{IsExplanation};
 ghost use Rattle.office_explain.specs.declared.partners.Partners.{Partners};
-ghost use Rattle.office_pages.specs.Pages.{notice_bytes};
+ghost use Rattle.office_pages.specs.Notices.{notice_bytes};
 ghost use Rattle.office_pages.specs.declared.notices.Notice.TheVariants.{NotHere, Form};
 ghost use Rattle.office_http.specs.Fields.{values_of};
 ghost use Rattle.office_http.specs.Routes.{endpoint_of};
@@ -38,7 +38,7 @@ impl Model for Site {
     ghost use Rattle.std.specs.Prelude.{◌≡◌, ℕ, List, Option, option_map, string_bytes};
     ghost use Rattle.std.specs.Prelude.{false};
     ghost use Rattle.office_http.specs.Routes.{endpoints};
-    ghost use Rattle.office_pages.specs.Pages.{notice_bytes};
+    ghost use Rattle.office_pages.specs.Notices.{notice_bytes};
     ghost use Rattle.office_pages.specs.declared.notices.Notice.TheVariants.{NotHere, Form};
 
     ghost Value = { Option (List ℕ) };

@@ -7,16 +7,11 @@ use Rattle.terminal_core.specs.declared.lines.Side.{Side}
 use Rattle.terminal_core.specs.State.{TerminalState}
 use Rattle.office_reports.specs.Names.{slot_name}
 use Rattle.office_reports.specs.Yard.{IsYardReport}
-use Rattle.office_reports.specs.Export.{IsYardExport}
 use Rattle.office_reports.specs.Lists.{IsListReport}
 
 -- two reports on one yard are one text
 abbrev pub YardReportsAreOne : Type 0
 YardReportsAreOne = (state : TerminalState) (one other : List ℕ) → IsYardReport state one → IsYardReport state other →
-    one ≡ other
-
-abbrev pub YardExportsAreOne : Type 0
-YardExportsAreOne = (state : TerminalState) (one other : List ℕ) → IsYardExport state one → IsYardExport state other →
     one ≡ other
 
 -- two reports on one list are one answer

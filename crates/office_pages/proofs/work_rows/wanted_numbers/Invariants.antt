@@ -1,0 +1,10 @@
+use Rattle.std.proofs.Common.{◌≡◌, ℕ, List, map, take}
+use Rattle.std.specs.BTreeSet.{contains}
+use Rattle.std.specs.Cmp.Lexicographic.{slice_cmp}
+use Rattle.std.specs.Ordering.{nat_cmp}
+use Rattle.office_reports.specs.Work.{job_content}
+use Rattle.office_pages.specs.Work.{is_wanted}
+use Rattle.office_pages.proofs.work_rows.wanted_numbers.Given as goal
+
+abbrev pub invariant-loop-job : goal.invariant-loop-job
+invariant-loop-job l = (container : List ℕ) → contains (slice_cmp nat_cmp) l.numbers container ≡ is_wanted (map job_content (take l.job-index l.jobs)) container
