@@ -56,6 +56,7 @@ use Rattle.std.proofs.lemmas.Slice.Eq.{bytes_eq-Decides}
 use Rattle.edi_messages.specs.Faults.{beginning, message_function, is_original, is_replacement, is_list, names_list, replaces_list, order_kind_of, purpose_of, applies, fault_of}
 use Rattle.edi_messages.specs.Types.{message_type_of}
 use Rattle.edi_messages.proofs.SurveyLemmas.{purpose_there}
+use Rattle.edi_messages.proofs.WalkLemmas.{heading_faultless}
 use Rattle.office_admission.specs.Grown.{with_party}
 use Rattle.office_admission.proofs.Adding.{admitted_still, admitted_told}
 use Rattle.office_admission.specs.Growth.{with_account, TakenWithAccount}
@@ -334,7 +335,7 @@ read_fault : (codes : Codes) (opened : CivilMoment) (message : Message) (fault :
 read_fault codes opened message (Some fault) e =
     ap (λ f. result_err (judged_message f (option_map_or (λ purpose. Ok (message_of purpose opened message)) (purpose_of codes message) (Err Code)))) e
 read_fault codes opened message None e =
-    let found = purpose_there codes message e in
+    let found = purpose_there codes message (heading_faultless codes message e) in
     let is : reading codes opened message ≡ Ok (message_of found.0 opened message) = rw (e, found.1) refl in
     ap result_err is
 

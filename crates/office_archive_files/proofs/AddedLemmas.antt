@@ -19,7 +19,7 @@ use Rattle.office_parts.specs.Archives.{Archive}
 use Rattle.office_closing.specs.Changes.{unmarked}
 use Rattle.office_closing.specs.Lists.{SettledListContent, comes_before, list_cmp, put_list, put_lists}
 use Rattle.office_closing.specs.Register.{RegisterContent}
-use Rattle.office_closing.specs.Sound.{are_rising, are_sound_archives, are_sound_lists, are_sound_segments, comes_after, is_sound_mark, may_be_list}
+use Rattle.office_closing.specs.Sound.{are_rising, are_sound_archives, are_sound_lists, are_sound_segments, are_sound_taken, comes_after, is_sound_mark, may_be_list}
 use Rattle.office_closing.specs.Closes.{Closing, Held, IsClosing, closed_after, raised_register}
 use Rattle.office_closing.specs.Copies.{FileNames}
 use Rattle.office_closing.specs.Deleting.{is_one_of}
@@ -220,9 +220,10 @@ module _ (archives : List Archive) (held : Held) (names : FileNames) (closing : 
       let raised : RegisterContent = raised_register held closing in
       let most : ℕ = length raised.archives in
       let lists : Bool = are_sound_lists most raised.lists in
-      let all = and_parts (are_sound_archives raised.archives) (are_sound_segments most raised.segments && (lists && is_sound_mark raised.closed_for)) is.sound.tested in
-      let rest = and_parts (are_sound_segments most raised.segments) (lists && is_sound_mark raised.closed_for) all.1 in
-      let sound = (and_parts lists (is_sound_mark raised.closed_for) rest.1).0 in
+      let last : Bool = are_sound_taken most raised.taken && is_sound_mark raised.closed_for in
+      let all = and_parts (are_sound_archives raised.archives) (are_sound_segments most raised.segments && (lists && last)) is.sound.tested in
+      let rest = and_parts (are_sound_segments most raised.segments) (lists && last) all.1 in
+      let sound = (and_parts lists last rest.1).0 in
       let rising = (and_parts (list_all (may_be_list most) raised.lists) (are_rising None raised.lists) sound).1 in
       named_apart closing.archive.place closing.lists is.lists.placed (apart_puts closing.lists held.copied.lists (rising_apart None raised.lists rising)).among
 

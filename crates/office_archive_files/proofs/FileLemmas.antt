@@ -20,7 +20,7 @@ use Rattle.office_tables.specs.Opened.{AreMissing}
 use Rattle.office_parts.specs.Archives.{Archive}
 use Rattle.office_closing.specs.Register.{RegisterContent}
 use Rattle.office_closing.specs.Stored.{HasRegister, HasRegisterIn}
-use Rattle.office_closing.specs.Tables.{Layout, older, whole, register_tables, schema_in}
+use Rattle.office_closing.specs.Tables.{Layout, older, former, whole, register_tables, schema_in}
 use Rattle.office_closing.specs.Transactions.{IsSettled}
 use Rattle.office_closing.specs.Closes.{Held}
 use Rattle.office_closing.specs.Files.{AreClean, Files, files}
@@ -39,6 +39,7 @@ use Rattle.office_archive_files.specs.Stops.{MayBeClosed, StopsAreNoEvents, Stop
 pub never_missing : (layout : Layout) → AreMissing register_tables (schema_in layout) → ⊥
 unfolding same_name
 never_missing older missing = let none : true ≡ false = missing.0 in absurd cc
+never_missing former missing = let none : true ≡ false = missing.0 in absurd cc
 never_missing whole missing = let none : true ≡ false = missing.0 in absurd cc
 
 module _ {S : Type 0} (g : Ghosts S) (image : Image) (conn : connection.Held S) (clean : HasCleanDisk (state g conn)) where

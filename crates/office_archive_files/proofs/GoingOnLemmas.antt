@@ -12,7 +12,7 @@ use Rattle.office_parts.specs.Archives.{Archive}
 use Rattle.office_closing.specs.Changes.{unmarked}
 use Rattle.office_closing.specs.Lists.{SettledListContent, comes_before, put_list, put_lists}
 use Rattle.office_closing.specs.Register.{ArchiveContent, RegisterContent, last_closed}
-use Rattle.office_closing.specs.Sound.{IsSound, are_rising, are_sound_archives, are_sound_lists, are_sound_segments, is_sound_mark, may_be_list}
+use Rattle.office_closing.specs.Sound.{IsSound, are_rising, are_sound_archives, are_sound_lists, are_sound_segments, are_sound_taken, is_sound_mark, may_be_list}
 use Rattle.office_closing.specs.Closes.{Closing, Held, IsClosing, raised_register}
 use Rattle.office_closing.specs.Copies.{FileNames}
 use Rattle.office_closing.specs.Deleting.{is_one_of}
@@ -121,9 +121,10 @@ module _ (archives after : List Archive) (held again : Held) (names : FileNames)
   low =
       let most : ℕ = length held.copied.archives in
       let lists : Bool = are_sound_lists most held.copied.lists in
-      let all = and_parts (are_sound_archives held.copied.archives) (are_sound_segments most held.copied.segments && (lists && is_sound_mark held.copied.closed_for)) sound.tested in
-      let rest = and_parts (are_sound_segments most held.copied.segments) (lists && is_sound_mark held.copied.closed_for) all.1 in
-      (and_parts (list_all (may_be_list most) held.copied.lists) (are_rising None held.copied.lists) (and_parts lists (is_sound_mark held.copied.closed_for) rest.1).0).0
+      let last : Bool = are_sound_taken most held.copied.taken && is_sound_mark held.copied.closed_for in
+      let all = and_parts (are_sound_archives held.copied.archives) (are_sound_segments most held.copied.segments && (lists && last)) sound.tested in
+      let rest = and_parts (are_sound_segments most held.copied.segments) (lists && last) all.1 in
+      (and_parts (list_all (may_be_list most) held.copied.lists) (are_rising None held.copied.lists) (and_parts lists last rest.1).0).0
 
   same_put : put_lists closing.lists held.copied.lists ≡ put_lists next.lists held.copied.lists
   same_put = ap (λ (r : RegisterContent). r.lists) same ∙ ap (λ (r : RegisterContent). put_lists next.lists r.lists) copied

@@ -47,7 +47,7 @@ use Rattle.office_parts.proofs.AwayLemmas.{away_with}
 use Rattle.office_closing.specs.Changes.{closed_with}
 use Rattle.office_closing.specs.Lists.{SettledListContent, lines_of_list, put_lists}
 use Rattle.office_closing.specs.Register.{ArchiveContent, RegisterContent, is_of, last_closed, reaches}
-use Rattle.office_closing.specs.Sound.{are_in_order, are_rising, are_sound_archives, are_sound_segments, close_more, is_sound, is_sound_mark, is_within, may_be_list}
+use Rattle.office_closing.specs.Sound.{are_in_order, are_rising, are_sound_archives, are_sound_segments, are_sound_taken, close_more, is_sound, is_sound_mark, is_within, may_be_list}
 use Rattle.office_closing.specs.declared.register.Segment.{Segment}
 use Rattle.office_archives.specs.Shelves.{HasLists, IsKeptAs, IsOfCall, NamesAll, NamesOneMore, archive_at}
 use Rattle.office_reports.specs.declared.query.Query.TheVariants as query
@@ -307,9 +307,9 @@ of_either one other P (inl never) (inl before) = inl (ap (λ o. option_or o othe
 
 -- ---- an archive more
 
-module _ (names : RegisterContent) (list : List Archive) (archive : ArchiveContent) (segments : List Segment) (lists : List SettledListContent) (one : Archive) (sound : is_sound names ≡ true) (are : NamesAll names list)
+module _ (names : RegisterContent) (list : List Archive) (archive : ArchiveContent) (segments : List Segment) (lists : List SettledListContent) (taken : List Segment) (one : Archive) (sound : is_sound names ≡ true) (are : NamesAll names list)
     (own : AllByRecursion (λ (segment : Segment). segment.archive ≡ length list + 1) segments) (own_lists : AllByRecursion (λ (put : SettledListContent). put.archive ≡ length list + 1) lists)
-    (closed : (partner : ℕ) → one.last_closed partner ≡ last_closed (closed_with archive segments lists names).segments partner) (has : HasLists one lists) where
+    (closed : (partner : ℕ) → one.last_closed partner ≡ last_closed (closed_with archive segments lists taken names).segments partner) (has : HasLists one lists) where
   abbrev more : List Archive
   more = list ++ one ∷ []
 
@@ -325,8 +325,11 @@ module _ (names : RegisterContent) (list : List Archive) (archive : ArchiveConte
   abbrev lists_rise : Bool
   lists_rise = are_rising None names.lists
 
+  abbrev the_last : Bool
+  the_last = are_sound_taken most names.taken && is_sound_mark names.closed_for
+
   abbrev with_lists : Bool
-  with_lists = (lists_within && lists_rise) && is_sound_mark names.closed_for
+  with_lists = (lists_within && lists_rise) && the_last
 
   after_archives : (are_sound_segments most names.segments && with_lists) ≡ true
   after_archives = (and_parts (are_sound_archives names.archives) (are_sound_segments most names.segments && with_lists) sound).1
@@ -335,7 +338,7 @@ module _ (names : RegisterContent) (list : List Archive) (archive : ArchiveConte
   sound_segments = (and_parts segments_within (are_in_order 0 0 names.segments && close_more [] names.segments) (and_parts (are_sound_segments most names.segments) with_lists after_archives).0).0
 
   sound_lists : (lists_within && lists_rise) ≡ true
-  sound_lists = (and_parts (lists_within && lists_rise) (is_sound_mark names.closed_for) (and_parts (are_sound_segments most names.segments) with_lists after_archives).1).0
+  sound_lists = (and_parts (lists_within && lists_rise) the_last (and_parts (are_sound_segments most names.segments) with_lists after_archives).1).0
 
   within : (p n : ℕ) (s : Segment) → find (reaches p n) names.segments ≡ Some s → s.archive - 1 < length list
   within p n s found =
@@ -387,7 +390,7 @@ module _ (names : RegisterContent) (list : List Archive) (archive : ArchiveConte
   of_calls_then : (name : ListName) → (lines_away more name ≡ None) ⊎ IsOfCall name
   of_calls_then name = subst (λ o. (o ≡ None) ⊎ IsOfCall name) (sym (away_with list one name)) (of_either (one.lists name) (lines_away list name) (IsOfCall name) (has.of_calls name) (are.of_calls name))
 
-  all_named : NamesAll (closed_with archive segments lists names) more
+  all_named : NamesAll (closed_with archive segments lists taken names) more
   all_named = record {
     lists = kept_then;
     of_calls = of_calls_then;
@@ -397,4 +400,4 @@ module _ (names : RegisterContent) (list : List Archive) (archive : ArchiveConte
   }
 
 pub names_one_more : NamesOneMore
-names_one_more names list archive segments lists one sound are own own_lists closed has = all_named names list archive segments lists one sound are own own_lists closed has
+names_one_more names list archive segments lists taken one sound are own own_lists closed has = all_named names list archive segments lists taken one sound are own own_lists closed has

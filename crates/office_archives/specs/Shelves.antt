@@ -52,13 +52,14 @@ IsOpenIfAny g is_known list (Some opened) = is_known opened.place → IsOpenAt g
 
 -- ---- what the register names
 
--- the register of a store as the archive at that place was closed, without lists: it names those before
+-- the register of a store as the archive at that place was closed, without lists and what had been taken: it names those before
 abbrev pub register_before : (place : ℕ) → RegisterContent → RegisterContent
 register_before place names =
     record {
       archives = filter (λ (archive : ArchiveContent). nat_lt archive.place place) names.archives;
       segments = filter (λ (segment : Segment). nat_lt segment.archive place) names.segments;
       lists = [];
+      taken = [];
       closed_for = None;
     }
 
@@ -102,10 +103,10 @@ pub record HasLists (one : Archive) (lists : List SettledListContent) : Type 0 w
 abbrev pub NamesOneMore : Type 0
 NamesOneMore =
     (names : RegisterContent) (list : List Archive) (archive : ArchiveContent) (segments : List Segment)
-    (lists : List SettledListContent) (one : Archive) →
+    (lists : List SettledListContent) (taken : List Segment) (one : Archive) →
     IsTrue (is_sound names) → NamesAll names list →
     AllByRecursion (λ (segment : Segment). segment.archive ≡ length list + 1) segments →
     AllByRecursion (λ (put : SettledListContent). put.archive ≡ length list + 1) lists →
-    ((partner : ℕ) → one.last_closed partner ≡ last_closed (closed_with archive segments lists names).segments partner) →
+    ((partner : ℕ) → one.last_closed partner ≡ last_closed (closed_with archive segments lists taken names).segments partner) →
     HasLists one lists →
-    NamesAll (closed_with archive segments lists names) (list ++ one ∷ [])
+    NamesAll (closed_with archive segments lists taken names) (list ++ one ∷ [])

@@ -91,7 +91,7 @@ pub(crate) fn closed_before(
     Ok(earlier.closed(alloc)?)
 }
 
-/// The register of the store as that archive was closed, without lists.
+/// The register of the store as that archive was closed, without lists and what had been taken.
 fn register_before(alloc: Global, register: &Register, place: u16) -> Result<Register, AllocError>
     ensures { IfOk result (λ earlier.
         register_content earlier ≡ register_before place (register_content register.now)) }
@@ -102,6 +102,7 @@ fn register_before(alloc: Global, register: &Register, place: u16) -> Result<Reg
         archives,
         segments,
         lists: Vec::new(alloc),
+        taken: Vec::new(alloc),
         closed_for: None,
     })
 }

@@ -135,7 +135,7 @@ module _ (names : FileNames) (old mid : Files) (plan : Plan) (rests : AreResting
   MarkSteps end result = StepsIf (is_unmarked plan.stage) unmarked (marked_for names.store) mid.archive_register end result
 
   abbrev RaiseSteps : {X : Type 0} → State → Result X CloseFault → Type 0
-  RaiseSteps end result = StepsIf (is_unraised plan.stage) unchanged (closed_with (archive_content plan.archive) plan.segments.items (map list_content plan.lists.items)) mid.register end result
+  RaiseSteps end result = StepsIf (is_unraised plan.stage) unchanged (closed_with (archive_content plan.archive) plan.segments.items (map list_content plan.lists.items) plan.taken.items) mid.register end result
 
   mid_idle : AreIdle mid
   mid_idle = idle_after old mid (Ok plan) idle read

@@ -323,7 +323,7 @@ module _ (names : FileNames) (old mid : Files) (plan : Plan) (rests : AreResting
   -- ---- the store's register
 
   abbrev RaiseSteps : {X : Type 0} → State → Result X CloseFault → Type 0
-  RaiseSteps end result = StepsIf (is_unraised plan.stage) unchanged (closed_with (archive_content plan.archive) plan.segments.items (map list_content plan.lists.items)) mid.register end result
+  RaiseSteps end result = StepsIf (is_unraised plan.stage) unchanged (closed_with (archive_content plan.archive) plan.segments.items (map list_content plan.lists.items) plan.taken.items) mid.register end result
 
   module _ {X : Type 0} (end : State) (result : Result X CloseFault) (steps : RaiseSteps end result) where
     pub raise_survives : (new : Files) → (HasCleanDisk end → AreClean mid) → (HasCleanDisk end → (held : Held) → AreHeld held old → IsMarkedNow held names new.archive_register) → Survives old.register end (StoresRaised names old new)

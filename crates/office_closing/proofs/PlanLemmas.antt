@@ -32,7 +32,7 @@ use Rattle.office_closing.specs.declared.faults.Refusal.{Refusal}
 use Rattle.office_closing.specs.Files.{Files}
 use Rattle.office_closing.specs.Planning.{IsRefused}
 use Rattle.office_closing.specs.Arriving.{HasAll, HasFirst, HasTexts, arrivals}
-use Rattle.office_closing.specs.Refusing.{HasReason, HasUnfit, HasUnread, IsOfComparing, IsOfOpening, IsOfOrdering, IsOfThis, IsOtherwise, IsUnopened, IsWhy}
+use Rattle.office_closing.specs.Refusing.{HasReason, HasUnfit, HasUnread, IsOfComparing, IsOfOpening, IsOfOrdering, IsOfThis, IsOtherwise, IsUnopened, IsWhy, HaveNoNexts}
 use Rattle.office_closing.specs.Steps.{IsOfWriting, StepsIf}
 use Rattle.sqlite.specs.State.{State, HasCleanDisk, Survives}
 use Rattle.sqlite.proofs.StateLemmas.{survives_weaker}
@@ -43,7 +43,6 @@ use Rattle.office_closing.specs.Closes.{Held, IsFaultIn, Tells}
 use Rattle.office_closing.specs.declared.faults.CloseFault.TheVariants as fault
 use Rattle.office_closing.specs.declared.faults.File.{File}
 use Rattle.office_closing.specs.declared.faults.File.TheVariants as file
-use Rattle.office_loading.specs.Tables.{HasHighNext}
 use Rattle.office_tables.specs.Faults.{IsOfStore, IsOfStoreOr}
 use Rattle.office_tables.specs.declared.table_fault.TableFault.{TableFault}
 use Rattle.office_tables.specs.declared.table_fault.TableFault.TheVariants.{Store, Damaged, Version, Memory}
@@ -356,7 +355,7 @@ module _ (held : Held) (names : FileNames) (files : Files) where
   pub of_store_there : (at : File) (why : TableFault) → IsOfStore why → IsFaultIn held files at why
   of_store_there file.Store why is = inr (or_damaged (HasUnread held.own) why is)
   of_store_there file.Register why is = is
-  of_store_there file.Archive why is = inr (or_damaged (HasHighNext held.copy.partners) why is)
+  of_store_there file.Archive why is = inr (or_damaged (HaveNoNexts held.copied held.copy) why is)
   of_store_there file.ArchiveRegister why is = is
 
   this_tells : (at : File) (Is : TableFault → Type 0) → ((of : TableFault) → Is of → IsFaultIn held files at of) → (why : CloseFault) → IsOfThis at Is why → Tells held names files why

@@ -69,6 +69,7 @@ pub record FitsRegister (content : RegisterContent) : Type 0 where
   pub segments : AllByRecursion FitsSegment content.segments
   pub closed_for : IfSome content.closed_for IsUtf8
   pub lists : AllByRecursion FitsList content.lists
+  pub taken : AllByRecursion FitsSegment content.taken
 
 -- no register that the tables show fits; or the store failed, or memory
 abbrev pub FailsTables : Layout → Database → TableFault → Type 0

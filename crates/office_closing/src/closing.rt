@@ -132,31 +132,38 @@ fn mark_now<S: Alter>(conn: &mut Connection<S>, store_file: &str) -> Result<(), 
 fn raise<S: Alter>(conn: &mut Connection<S>, plan: &Plan) -> Result<(), CloseFault>
     requires { (state S.Store conn.old).in_transaction ≡ false }
     ensures steps { StepsIf (is_unraised plan.now.stage) unchanged
-        (closed_with (archive_content plan.now.archive) plan.now.segments.items (map list_content plan.now.lists.items)) (state S.Store conn.old)
+        (closed_with (archive_content plan.now.archive) plan.now.segments.items (map list_content plan.now.lists.items) plan.now.taken.items) (state S.Store conn.old)
         (state S.Store conn.new) result }
     ensures file { IfErr result (IsFileOf File.Register) }
 {
     let is_due = is_unraised(plan.stage);
     if is_due {
-        raise_now(conn, &plan.archive, &plan.segments, &plan.lists)
+        raise_now(
+            conn,
+            &plan.archive,
+            &plan.segments,
+            &plan.lists,
+            &plan.taken,
+        )
     } else {
         Ok(())
     }
 }
 
-/// Gives the store's register an archive with its segments and lists.
+/// Gives the store's register an archive with its segments and lists, and what had been taken.
 fn raise_now<S: Alter>(
     conn: &mut Connection<S>,
     archive: &Archive,
     segments: &[Segment],
     lists: &[SettledList],
+    taken: &[Segment],
 ) -> Result<(), CloseFault>
     requires { (state S.Store conn.old).in_transaction ≡ false }
-    ensures steps { StepsIf true unchanged (closed_with (archive_content archive.now) segments.now (map list_content lists.now))
+    ensures steps { StepsIf true unchanged (closed_with (archive_content archive.now) segments.now (map list_content lists.now) taken.now)
         (state S.Store conn.old) (state S.Store conn.new) result }
     ensures file { IfErr result (IsFileOf File.Register) }
 {
-    match close_with(conn, archive, segments, lists) {
+    match close_with(conn, archive, segments, lists, taken) {
         Ok(()) => Ok(()),
         Err(fault) => Err(not_written(File::Register, fault)),
     }
@@ -173,7 +180,7 @@ fn clear_all<S: Alter>(conn: &mut Connection<S>, plan: &Plan) -> Result<(), Tabl
     clear_lists(conn, &plan.gone)
 }
 
-/// The most rows that one transaction deletes.
+/// The most interchanges that one transaction deletes.
 const BATCH: u32 = 1000;
 
 /// Deletes the interchanges under these numbers, in short transactions. What was deleted stays so if it fails, and it may be

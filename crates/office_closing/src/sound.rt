@@ -28,6 +28,7 @@ pub fn is_sound(alloc: Global, register: &Register) -> Result<bool, AllocError>
         are_archives
             && are_segments
             && are_sound_lists(register.archives.len(), &register.lists)
+            && are_sound_taken(register.archives.len(), &register.taken)
             && is_sound_mark(&register.closed_for),
     )
 }
@@ -172,6 +173,12 @@ fn close_more(alloc: Global, segments: &[Segment]) -> Result<bool, AllocError>
         *last = segment.last;
     }
     Ok(true)
+}
+
+fn are_sound_taken(archives: usize, taken: &[Segment]) -> bool
+    ensures { result ≡ sound.are_sound_taken archives taken.now }
+{
+    are_within(archives, taken) && are_in_order(taken)
 }
 
 fn are_sound_lists(archives: usize, lists: &[SettledList]) -> bool

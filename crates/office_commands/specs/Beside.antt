@@ -1,5 +1,5 @@
 -- A store that is opened on its files, beside its archives.
-use Rattle.std.specs.Prelude.{◌≡◌, List, [], Ok, IsTrue}
+use Rattle.std.specs.Prelude.{◌≡◌, false, List, [], Ok, IfSome, IsTrue}
 use Rattle.sqlite.specs.Files.{HoldsDatabase}
 use Rattle.sqlite.specs.Held.{Held, state}
 use Rattle.sqlite.specs.Recovery.{Image}
@@ -17,7 +17,7 @@ use Rattle.office_rows.specs.Tables.{office_schema}
 use Rattle.office_tables.specs.Reading.{Reads}
 use Rattle.office_admission.specs.Given.{IsGiven}
 use Rattle.office_admission.specs.Setups.{SetupContent}
-use Rattle.office_closing.specs.Register.{RegisterContent, closed_by}
+use Rattle.office_closing.specs.Register.{RegisterContent, closed_by, is_newer_than}
 use Rattle.office_closing.specs.Sound.{is_sound}
 use Rattle.office_history.specs.After.{AreAfter}
 use Rattle.office_desk.specs.Desks.{IsSound, OpensAt}
@@ -97,13 +97,19 @@ pub record IsAlone {S A : Type 0} {g : Ghosts S} (are : List Archive → A → T
   pub events : IsSound g opened.0 → (content : SetupContent) (es : List Event) → BeginsAt image content es →
       OpensAt g content es opened.0
 
+-- the desk's store is of no day before that register, by its partners' next numbers
+abbrev pub IsOfDay : {S : Type 0} {g : Ghosts S} → RegisterContent → Desk S g → Type 0
+IsOfDay names desk = IfSome desk.beside (λ there. is_newer_than there.nexts.items names ≡ false)
+
 -- A store was opened on those files, and its archives are those that a sound register names, which says what is closed of it:
--- whichever these are, if their files hold what they are supposed to. If it names none, nothing was put away.
+-- whichever these are, if their files hold what they are supposed to. It is of no day before that. If it names none, nothing was
+-- put away.
 pub record OpensWith {S A : Type 0} (g : Ghosts S) (hold : List Archive → Type 0) (are : List Archive → A → Type 0)
     (image : Image) (names : RegisterContent) (opened : Desk S g × A) : Type 0 where
   pub opens : OpensOn g image opened.0
   pub sound : IsTrue (is_sound names)
   pub closed : closed_content opened.0.closed ≡ closed_by names
+  pub of_day : IsOfDay names opened.0
   pub these : (list : List Archive) → hold list → NamesAll names list → are list opened.1
   pub alone : names.archives ≡ [] → IsAlone are image opened
 
@@ -116,9 +122,10 @@ pub record FromOpened {S A : Type 0} (g : Ghosts S) (hold : List Archive → Typ
   pub came : Came opened
 
 -- The archives on the shelf beside a store as it was opened are those that are supposed; the register that names them is sound
--- and says what is closed of the store.
+-- and says what is closed of the store, which is of no day before it.
 pub record IsBesideShelf {S F : Type 0} {g : Ghosts S} (hold : List Archive → Type 0) (holds : List Archive → F → Type 0)
     (names : RegisterContent) (opened : Desk S g) (shelf : F) : Type 0 where
   pub sound : IsTrue (is_sound names)
   pub closed : closed_content opened.closed ≡ closed_by names
+  pub of_day : IsOfDay names opened
   pub these : (list : List Archive) → hold list → holds list shelf

@@ -2,9 +2,10 @@
 use Rattle.std.specs.Prelude.{ℕ, List, codes}
 use Rattle.office_commands.specs.Ending.{store_text}
 use Rattle.office_commands.specs.declared.offices.OpenFault.{OpenFault}
-use Rattle.office_commands.specs.declared.offices.OpenFault.TheVariants.{Closed, Store, Register}
+use Rattle.office_commands.specs.declared.offices.OpenFault.TheVariants.{Closed, Store, Register, Older}
 
 abbrev pub open_text : OpenFault → List ℕ
 open_text Closed = codes "store: Closed\n"
 open_text (Store fault) = store_text fault
 open_text (Register fault) = store_text fault
+open_text Older = codes "store: Damaged\n"

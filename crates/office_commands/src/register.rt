@@ -88,6 +88,7 @@ pub fn no_archives(alloc: Global) -> Register
         archives: Vec::new(alloc),
         segments: Vec::new(alloc),
         lists: Vec::new(alloc),
+        taken: Vec::new(alloc),
         closed_for: None,
     }
 }

@@ -1,6 +1,6 @@
 ghost use Rattle.std.specs.Prelude.{◌≡◌, ⊤, false, IfOk, IfErr, IsTrue};
 ghost use Rattle.office_archives.specs.Texts.{OpensOn};
-ghost use Rattle.office_closing.specs.Register.{register_content};
+ghost use Rattle.office_closing.specs.Register.{is_newer_than, register_content};
 ghost use Rattle.office_closing.specs.Sound.{is_sound};
 ghost use Rattle.office_admission.specs.Setups.{setup_content};
 ghost use Rattle.office_commands.specs.Beside.{IsLoaded};
@@ -54,7 +54,12 @@ pub fn texts_over<S: Start, T: Alter + Drop, F: Shelf<T> + Drop, M: ShelfBeside<
     let mut looked = look_at_store(rt, store, start)?;
     let register = read_names(rt, store)?;
     match load_office(rt.alloc(), store, &mut looked, register) {
-        Ok(loaded) => Ok(print_loaded(rt.alloc(), looked, loaded, beside, from, writer)),
+        Ok(loaded) => {
+            if loaded.is_older() {
+                return Err(OpenFault::Older);
+            }
+            Ok(print_loaded(rt.alloc(), looked, loaded, beside, from, writer))
+        }
         Err(fault) => Err(OpenFault::Store(fault)),
     }
 }
@@ -75,6 +80,7 @@ fn print_loaded<
     from: u32,
     writer: &mut Port<W>,
 ) -> (Connection<S>, Result<u8, TableFault>)
+    requires { is_newer_than loaded.there.nexts.items (register_content loaded.register) ≡ false }
     ensures { (found : _) (image : Image) → Shows S.Store image found →
         IsLoaded S.Store found looked.inner.conn (closed_content loaded.closed) (setup_content loaded.setup) loaded.there →
         ArePrintedOver S.Store T.Store M.hold F.holds (OpensOn T.Store F.is_known F.holds) image from

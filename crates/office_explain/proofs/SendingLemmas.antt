@@ -13,6 +13,7 @@ use Rattle.edi_messages.specs.declared.codes.Codes.{Codes}
 use Rattle.edi_messages.specs.declared.message.MessageFault.{MessageFault}
 use Rattle.edi_messages.specs.declared.message.MessageFault.TheVariants.{OtherType, NoBgm, Code, Function, NoTransport, NoEquipment, EquipmentCount, TooMany, Memory}
 use Rattle.edi_messages.proofs.SurveyLemmas.{purpose_there}
+use Rattle.edi_messages.proofs.WalkLemmas.{heading_faultless}
 use Rattle.office_explain.specs.Kinds.{is_of_order, may_send}
 use Rattle.std.proofs.lemmas.List.{take_all, length-drop, length-append, append-nil, drop_all}
 use Rattle.office_explain.specs.Blocks.{AreBlocks, HasOnlyBreaks, IsAllIfCut, IsApart, IsBlock, IsToldFirst}
@@ -78,7 +79,7 @@ rejected codes opened message fault e =
 accepted : (codes : Codes) (opened : CivilMoment) (message : Message) → fault_of codes message ≡ None
     → (content : MessageContent) × (reading codes opened message ≡ Ok content)
 accepted codes opened message e =
-    let found = purpose_there codes message e in
+    let found = purpose_there codes message (heading_faultless codes message e) in
     (message_of found.0 opened message, rw (e, found.1) refl)
 
 abbrev IsFault : Result MessageContent MessageFault → MessageFault → Type 0

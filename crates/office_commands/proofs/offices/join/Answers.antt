@@ -16,6 +16,6 @@ returns g c found image shows loaded =
     let its = loaded_as g.S.Store found c.args.looked.inner.conn was.closed was.setup was.there desk made.ensures.conn made.ensures.closed made.ensures.setup loaded in
     let with_it : OpensWith g.S.Store g.M.ArchivesBeside.hold g.A.Archives.are image names (desk, c.archives_of-archives.result) =
     joined_with g.S.Store g.M.ArchivesBeside.hold g.A.Archives.are image found names desk was.there c.archives_of-archives.result shows its made.ensures.beside (λ sound db left. g.met.S.Store.settled desk.conn.store db sound.1 left)
-    was.sound (ap closed_content made.ensures.closed ∙ was.closed_is) c.archives_of-archives.ensures.these c.archives_of-archives.ensures.none in
+    was.sound (ap closed_content made.ensures.closed ∙ was.closed_is) c.archives_of-archives.ensures.these c.archives_of-archives.ensures.none c.requires in
     subst (λ (d : Desk _ g.S.Store). OpensWith g.S.Store g.M.ArchivesBeside.hold g.A.Archives.are image names (d, c.new.result.archives)) (sym c.new.ensures.desk)
     (subst (λ a. OpensWith g.S.Store g.M.ArchivesBeside.hold g.A.Archives.are image names (desk, a)) (sym c.new.ensures.archives) with_it)

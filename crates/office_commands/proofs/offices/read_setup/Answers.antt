@@ -23,6 +23,9 @@ returns-clause-setup g c = λ image shows clean db held.
     let is : found.committed ≡ record { schema = office_schema; trees = db } = shows (clean_first c.load.ensures.reads clean) db office_schema held.held held.lists in
     loads_so _ _ found.committed _ _ c.in_ok-closed.ensures is (c.in_ok-setup.ensures.loaded clean (ap (λ (d : Database). d.schema) is))
 
+pub returns-clause-nexts : goal.returns-clause-nexts
+returns-clause-nexts g c = c.in_ok-setup.ensures.nexts
+
 pub returns-clause-reads : goal.returns-clause-reads
 returns-clause-reads g c = only_on _ (one_read c.in_ok-setup.ensures.reads)
 
