@@ -350,7 +350,7 @@ fn is_free(rt: &HostRuntime, path: &str, register: Option<&Register>) -> Result<
     Ok(!is_taken_with_log(rt, own.as_str())?)
 }
 
-/// Whether the register beside a path tells the same as the store's.
+/// Whether the register beside a path says the same as the store's.
 fn is_copied(rt: &HostRuntime, path: &str, register: Option<&Register>) -> Result<bool, CopyFault> {
     let Some(register) = register else {
         return Ok(false);

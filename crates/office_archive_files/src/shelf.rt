@@ -33,7 +33,7 @@ pub enum Found {
     Other,
 }
 
-/// What tells which archives of a store are there.
+/// What knows which archives of a store are there.
 pub trait Finds {
     /// Of the store with this register that is found of the archive at a place.
     ghost is_found: { Self → RegisterContent → ℕ → Found → Type 0 };

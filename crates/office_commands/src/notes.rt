@@ -11,10 +11,10 @@ use office_reports::{NotNow, Query, Report};
 use office_tables::TableFault;
 use std::alloc::{AllocError, Global};
 
-/// What notes for a person what is done. It is told of each call of the desk, of each connection, and of a stream's end, and
+/// What notes for a person what is done. It gets each call of the desk, of each connection, and of a stream's end, and
 /// nothing that it does changes an answer.
 pub trait Notes {
-    /// Whether anybody reads it. If not, it is not told how deliveries and accounts were answered.
+    /// Whether anybody reads it. If not, it gets no answers of deliveries and accounts.
     fn is_on(&self) -> bool;
 
     /// The desk is asked now.
@@ -116,7 +116,7 @@ impl Sender {
     }
 }
 
-/// What is asked while it may be noted: what it is made of answers, and it tells what was done.
+/// What is asked while it may be noted: what it is made of answers, and it notes what was done.
 #[derive(Drop)]
 pub(crate) struct Noted<'a, D, N> {
     desk: D,
@@ -138,7 +138,7 @@ impl<'a, D: Report + Faults + Tallied, N: Notes> Noted<'a, D, N> {
         desk
     }
 
-    /// Tells how a text was answered.
+    /// Notes how a text was answered.
     fn note_delivery(&self, alloc: Global, delivered: &[u8], response: &Response) {
         let note = match response {
             Response::Taken(_) => DeliveryNote::Taken(self.desk.last_taken()),
@@ -153,7 +153,7 @@ impl<'a, D: Report + Faults + Tallied, N: Notes> Noted<'a, D, N> {
         self.notes.delivered(sender.as_ref(), &note);
     }
 
-    /// Tells how an account was answered.
+    /// Notes how an account was answered.
     fn note_account(&self, code: &[u8], answer: &AccountAnswer) {
         let note = match answer {
             AccountAnswer::Added { .. } => AccountNote::Added,

@@ -139,7 +139,7 @@ pub fn open_desk(alloc: Global, setup: &Setup) -> Result<Desk<MemStore>, TableFa
     Desk::open(alloc, conn, Closed::nothing(alloc))
 }
 
-/// What tells whether a store's file has a name still.
+/// What knows whether a store's file has a name still.
 pub trait Names: Drop {
     ghost use Rattle.std.specs.Prelude.{Bool};
 

@@ -11,7 +11,7 @@ use std::fmt::Write;
 /// What is printed of a file.
 #[derive(Drop)]
 pub struct Explanation {
-    /// What is told of each of its interchanges, in whole lines.
+    /// What is said of each of its interchanges, in whole lines.
     pub text: String,
     /// No fault was found.
     pub is_faultless: bool,
@@ -32,7 +32,7 @@ pub fn explain_file(
     Ok(Explanation { text, is_faultless })
 }
 
-/// What is told of each interchange of a file, in order.
+/// What is said of each interchange of a file, in order.
 #[tactic(auto, using(crate::proofs::SendingLemmas::are_all, crate::proofs::SendingLemmas::goes_on))]
 fn blocks_of<'a>(
     alloc: Global,
@@ -76,7 +76,7 @@ fn block_lines(alloc: Global, blocks: &[Block<'_>]) -> Result<String, AllocError
     Ok(text)
 }
 
-/// What is told of a file that has no interchange.
+/// What is said of a file that has no interchange.
 fn none_in(file: &[u8]) -> &'static str
     ensures { result.now ≡ none_said file.now }
 {
@@ -119,7 +119,7 @@ fn plural(count: usize) -> &'static str
     if count == 1 { "" } else { "s" }
 }
 
-/// What is told of several.
+/// What is said of several.
 fn advice_for(blocks: &[Block<'_>]) -> &'static str
     ensures { result.now ≡ advice_for blocks.now }
 {

@@ -13,7 +13,7 @@ use std::fmt;
 /// What has a fault, and which. Messages are counted from 1 in their interchange, lines in their message.
 #[derive(Clone, Copy, PartialEq, Eq, Debug)]
 pub enum Subject {
-    /// What can't be told apart as an interchange: the file is cut there. `None`: it ends within an interchange.
+    /// What can't be parted as an interchange: the file is cut there. `None`: it ends within an interchange.
     Cut(Option<CutFault>),
     /// An interchange that is refused.
     Interchange(Fault),
@@ -44,7 +44,7 @@ impl Subject {
 #[derive(Clone, Copy)]
 pub struct Refused {
     pub fault: Fault,
-    /// The error code (0085) of the CONTRL that tells it, if one does.
+    /// The error code (0085) of the CONTRL that reports it, if one does.
     pub contrl: Option<u8>,
 }
 
@@ -53,7 +53,7 @@ pub struct Refused {
 pub struct Finding {
     /// What has which fault.
     pub subject: Subject,
-    /// The error code (0085) that a CONTRL tells for it, if one does.
+    /// The error code (0085) that a CONTRL has for it, if one does.
     pub contrl: Option<u8>,
     /// The number of the segment in the text, from 1.
     pub segment: usize,

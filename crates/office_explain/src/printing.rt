@@ -1,4 +1,4 @@
-//! How what is told of an interchange is written.
+//! How what is said of an interchange is written.
 
 use crate::beginnings::known_beginning;
 use crate::explaining::{Block, Told};
@@ -39,7 +39,7 @@ fn write_beginning<W: fmt::Write>(text: &[u8], f: &mut fmt::Formatter<W>) -> fmt
     }
 }
 
-/// Writes what is told of an interchange that is read.
+/// Writes what is said of an interchange that is read.
 fn write_reading<W: fmt::Write>(
     reading: &Reading,
     text: &[u8],
@@ -66,7 +66,7 @@ fn write_reading<W: fmt::Write>(
     Ok(())
 }
 
-/// Writes what is told of a message that is read, by its number.
+/// Writes what is said of a message that is read, by its number.
 fn write_message<W: fmt::Write>(
     read: &MessageRead,
     number: usize,
@@ -81,7 +81,7 @@ fn write_message<W: fmt::Write>(
     write_lines(read, number, text, before, f)
 }
 
-/// Writes what is told of the lines of a message, by its number.
+/// Writes what is said of the lines of a message, by its number.
 fn write_lines<W: fmt::Write>(
     read: &MessageRead,
     number: usize,
@@ -225,7 +225,7 @@ fn write_bytes<W: fmt::Write>(words: &str, bytes: &[u8], f: &mut fmt::Formatter<
     write!(f, "{words}{shown}")
 }
 
-/// Writes a finding of a text that stands after so many bytes of its file.
+/// Writes a finding of a text that begins at byte `before` of its file.
 fn write_finding<W: fmt::Write>(
     finding: &Finding,
     text: &[u8],

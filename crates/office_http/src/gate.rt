@@ -14,7 +14,7 @@ use std::time::{Duration, Instant};
 /// How many are served at most before the system is asked again.
 const RUN: u32 = 16;
 
-/// What is told of the listener.
+/// What the system reports of the listener.
 const LISTENER: Token = Token(usize::MAX);
 
 /// An address at which connections are accepted, and those that are open: 256 at most, which wait side by side and hold 64 MiB
@@ -79,7 +79,7 @@ impl Gate {
         })
     }
 
-    /// So many are accepted from now on.
+    /// `count` are accepted from now on.
     pub(crate) fn expect(&mut self, count: u32)
         ensures { self.new.left ≡ count }
     {
@@ -150,7 +150,7 @@ impl Gate {
         self.is_asked && self.left > 0 && self.lines.len() >= self.most
     }
 
-    /// Waits till more can be done, and notes what the system tells.
+    /// Waits till more can be done, and notes what the system reports.
     fn listen(&mut self, now: Instant) -> Result<()> {
         self.served = 0;
         self.heard = now;

@@ -53,17 +53,17 @@ pub(crate) struct Peer {
     pub(crate) moved: Instant,
     /// Whether a read or a write may bring something now.
     pub(crate) is_awake: bool,
-    /// What the system is asked to tell of it, and under which key.
+    /// What the system is asked to report of it, and under which key.
     watched: Option<(usize, Interest)>,
 }
 
 impl Peer {
-    /// Whether the system tells of it.
+    /// Whether the system reports on it.
     pub(crate) fn is_watched(&self) -> bool {
         self.watched.is_some()
     }
 
-    /// Has the system tell when there is more to read or to write.
+    /// Has the system report when there is more to read or to write.
     fn watch(&mut self, registry: &Registry, key: usize, interest: Interest) -> Result<()> {
         if self.watched == Some((key, interest)) {
             return Ok(());
@@ -79,7 +79,7 @@ impl Peer {
 }
 
 impl Line {
-    /// A connection that was just accepted, after so many others.
+    /// A connection that was just accepted, by its place among all.
     pub(crate) fn new(alloc: Global, stream: TcpStream, place: u32, now: Instant) -> Line {
         Line::Asking(Asking {
             peer: Peer {
@@ -113,7 +113,7 @@ impl Line {
         }
     }
 
-    /// Has the system tell when there is more to read or to write, unless nothing is awaited of the peer.
+    /// Has the system report when there is more to read or to write, unless nothing is awaited of the peer.
     pub(crate) fn watch(&mut self, registry: &Registry, key: usize) -> Result<()> {
         match self {
             Line::Asking(asking) => asking.peer.watch(registry, key, Interest::READABLE),
@@ -167,7 +167,7 @@ impl Line {
         }
     }
 
-    /// Has so many bytes held for it, if the bound of all allows it, where `held` are held of all.
+    /// Has `size` bytes held for it, if the bound of all allows it, where `held` are held of all.
     pub(crate) fn widen(&mut self, size: usize, held: usize) {
         if let Line::Asking(asking) = self {
             let _ = widen(&mut asking.asked, size, held);

@@ -179,14 +179,14 @@ impl Lines {
         }
     }
 
-    /// Widens what is held beside them to so many bytes, where so many are held besides. False, if the bound of all doesn't allow
+    /// Widens what is held beside them to `size` bytes, where `beside` are held besides. False, if the bound of all doesn't allow
     /// that or memory is refused.
     pub(crate) fn widen(&mut self, bytes: &mut Vec<u8>, size: usize, beside: usize) -> bool {
         let beside = beside.saturating_add(bytes.capacity());
         self.make_room(None, size, beside) && widen(bytes, size, self.held().saturating_add(beside))
     }
 
-    /// Gives up those that have been silent longest, but not that one, till so many bytes more may be held. False: no other holds
+    /// Gives up those that have been silent longest, but not that one, till `size` bytes more may be held. False: no other holds
     /// any.
     fn make_room(&mut self, except: Option<usize>, size: usize, beside: usize) -> bool {
         for _ in 0..=MOST_OPEN {
