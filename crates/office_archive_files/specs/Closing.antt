@@ -1,12 +1,14 @@
 -- What the command that puts history away does to the four files that it opens.
-use Rattle.std.specs.Prelude.{◌≡◌, ◌≢◌, ◌⊎◌, ⊤, ℕ, Bool, true, false, IsTrue, ◌==◌, List, length, Result, IfOk}
+use Rattle.std.specs.Prelude.{◌≡◌, ◌≢◌, ◌⊎◌, ⊤, ℕ, Bool, true, false, IsTrue, ◌==◌, List, length, Result, Ok, Err, IfOk}
 use Rattle.sqlite_trees.specs.declared.store.Store.{Ghosts}
 use Rattle.sqlite.specs.{Held.{Held, state}, Recovery.Image, State.HasCleanDisk}
 use Rattle.office_rows.specs.Tables.{no_schema}
 use Rattle.office_tables.specs.{Opened.AreMissing, Faults.IsOfStoreOr}
+use Rattle.office_tables.specs.declared.table_fault.TableFault.{TableFault}
 use Rattle.office_commands.specs.{Opening.{HoldsNoTables, Shows}, Paths.IsNameOf}
+use Rattle.office_archive_files.specs.declared.closing.CloseCommandFault.{CloseCommandFault, TheVariants.{Folder, Close}}
 use Rattle.office_closing.specs.{Changes.empty_register, Tables.register_tables, Transactions.{IsSettled, Makes}, Closes.{ArePutAway, Closes}, Copies.FileNames}
-use Rattle.office_closing.specs.{Files.{AreClean, AreIdle, files}, declared.faults.CloseFault.CloseFault, declared.faults.File.File, Register.RegisterContent}
+use Rattle.office_closing.specs.{Files.{AreClean, AreIdle, files}, declared.faults.CloseFault.CloseFault, declared.faults.File.{File, TheVariants.Archive}, Register.RegisterContent}
 use Rattle.office_closing.specs.{declared.faults.Refusal.TheVariants.Register, declared.planning.PutAway.PutAway, Sound.IsSound, Stored.HasRegister}
 use Rattle.office_closing.specs.declared.faults.CloseFault.TheVariants as fault
 
@@ -50,6 +52,13 @@ module _ {S : Type 0} (g : Ghosts S) where
     pub made : HasCleanDisk (state g conn) → MayMakeRegister may_make found conn
     pub tells : HasCleanDisk (state g conn) → TellsNone found names_none
     pub settled : HasCleanDisk (state g conn) → IsSettled (state g conn)
+
+-- whether a closing goes on, by whether the archive lies beside its store: in another folder it is refused, and a fault is of the
+-- archive
+abbrev pub checked_folder : Result Bool TableFault → Result (Unit {0}) CloseCommandFault
+checked_folder (Ok true) = Ok tt
+checked_folder (Ok false) = Err Folder
+checked_folder (Err why) = Err (Close (fault.File (record { file = Archive; fault = why })))
 
 -- why one of the files is not opened: memory was refused, the file failed or is damaged; or the archive lacks its register,
 -- which may not be made
