@@ -1,6 +1,6 @@
 ghost use Rattle.std.specs.{Prelude.{◌≡◌, ◌≢◌, false, List, [], IfErr, IfOk, IsTrue, None}, Option.{option_map, unwrap_or}};
 ghost use Rattle.office_archives.specs.Shelves.{NamesAll};
-ghost use Rattle.office_commands.specs.{Beside.{IsLoaded, IsSetUpHeld, OpensWith}, Opening.{Shows, ShowsHeld}};
+ghost use Rattle.office_commands.specs.{Beside.{IsLoaded, IsOfDayHeld, IsSetUpHeld, OpensWith}, Opening.{Shows, ShowsHeld}};
 ghost use Rattle.office_commands.specs.Refusing.{IsMarked, IsOfRegister, IsRefused, IsUnloaded, IsUnopened};
 ghost use Rattle.office_closing.specs.{Changes.empty_register, Register.{RegisterContent, closed_by, is_newer_than, register_content}, Sound.is_sound};
 ghost use Rattle.office_loading.specs.Closed.{closed_content};
@@ -169,6 +169,8 @@ pub fn look_at_office<S: Start>(
     ensures sound { IfOk result (λ looked. IsTrue (is_sound (register_content looked.1))) }
     ensures setup { IfOk result (λ looked. HasCleanDisk (file_state looked.0.conn) →
         IsSetUpHeld (image_at S.Start) (closed_by (register_content looked.1)) (setup_content looked.2)) }
+    ensures of_day { IfOk result (λ looked. HasCleanDisk (file_state looked.0.conn) →
+        IsOfDayHeld (image_at S.Start) (register_content looked.1)) }
     ensures refused { IfErr result (IsRefused ⟦<FileStore<FileFrom<S>> as sqlite_trees::store::Store>⟧ (image_at S.Start) ⊥) }
 {
     let mut looked = match look_there(rt, store, start) {
