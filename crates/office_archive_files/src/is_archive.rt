@@ -78,9 +78,9 @@ fn are_segments_before(segments: &[Segment], others: &[Segment], place: u16) -> 
         ↔ (segments.now ≡ filter (λ (segment : Segment). nat_lt segment.archive place) others.now) }
 {
     let mut count = 0;
-    for other in others {
-        if other.archive < place {
-            if !is_segment_at(segments, count, *other) {
+    for segment in others {
+        if segment.archive < place {
+            if !is_segment_at(segments, count, *segment) {
                 return false;
             }
             count += 1;

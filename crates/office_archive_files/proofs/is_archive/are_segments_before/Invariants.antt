@@ -3,8 +3,8 @@ use Rattle.office_closing.specs.declared.register.Segment.{Segment}
 use Rattle.office_archive_files.proofs.FirstLemmas.{GoOn}
 use Rattle.office_archive_files.proofs.is_archive.are_segments_before.Given as goal
 
-abbrev pub invariant-loop-other : goal.invariant-loop-other
-invariant-loop-other l = record {
+abbrev pub invariant-loop-segment : goal.invariant-loop-segment
+invariant-loop-segment l = record {
   within : l.count ≤ length l.segments;
-  goes_on : GoOn (λ (segment : Segment). nat_lt segment.archive l.place) l.segments l.others l.count l.other-index;
+  goes_on : GoOn (λ (segment : Segment). nat_lt segment.archive l.place) l.segments l.others l.count l.segment-index;
 }
