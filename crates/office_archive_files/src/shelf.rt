@@ -228,13 +228,12 @@ impl<B: ArchiveStart> Finds for FileShelf<'_, B> {
         if let Ok(None) = found_at(self.rt, path.as_str()) {
             return Ok(Found::Nothing);
         }
-        match self.opened(names, place) {
-            Ok(_) => Ok(Found::Archive),
-            Err(fault) => {
-                let found = as_other(&fault)?;
-                Ok(found)
-            }
-        }
+        let fault = match self.opened(names, place) {
+            Ok(_) => return Ok(Found::Archive),
+            Err(fault) => fault,
+        };
+        let found = as_other(&fault)?;
+        Ok(found)
     }
 }
 
