@@ -1,8 +1,12 @@
+ghost use Rattle.std.specs.{Prelude.{◌≡◌, ◌↔◌, ◌++◌, ℕ, List, None, codes, false, map, true, MatchOption}, IoError.error_kind, List.list_any, Option.option_map};
+ghost use Rattle.office.specs.Copying.{fault_of};
+ghost use Rattle.office_closing.specs.{Changes.unmarked, Register.{archive_content, register_content}, Sound.{is_file_name, is_in}};
+
 use crate::copying::copy_file;
 use crate::long_work::Watched;
 use office_archive_files::{FileArchives, InUnknownFiles};
 use office_archives::{ArchivedDesk, Archives};
-use office_closing::{MOST_ARCHIVES, Register, is_file_name};
+use office_closing::{Archive, MOST_ARCHIVES, Register, is_file_name};
 use office_commands::{
     FileOffice, Left, OpenFault, beside_path, leave_office, leave_whole, open_found, open_office,
     place_of, read_history, register_path,
@@ -39,6 +43,8 @@ impl From<AllocError> for CopyFault {
 }
 
 impl From<io::Error> for CopyFault {
+    ghost from_gives = { λ error made. made ≡ fault_of (error_kind error) };
+
     fn from(error: io::Error) -> CopyFault {
         match error.kind() {
             ErrorKind::OutOfMemory => CopyFault::Memory,
@@ -130,11 +136,21 @@ fn noted_archive(rt: &HostRuntime, store: &str) -> Result<Option<String>, CopyFa
         Err(error) if error.kind() == ErrorKind::OutOfMemory => return Err(CopyFault::Memory),
         Err(_) => return Ok(None),
     };
-    match text.as_str().strip_suffix("\n") {
-        Some(name) if is_file_name(name.as_bytes()) => {
-            Ok(Some(beside_path(rt.alloc(), store, name)?))
-        }
-        _ => Ok(None),
+    match noted_name(text.as_str()) {
+        Some(name) => Ok(Some(beside_path(rt.alloc(), store, name)?)),
+        None => Ok(None),
+    }
+}
+
+/// The name in a note: that of a file, and a line feed.
+fn noted_name(note: &str) -> Option<&str>
+    ensures { MatchOption result
+        ((name : List ℕ) → note.now ≡ name ++ codes "\n" → is_file_name name ≡ false)
+        (λ name. (note.now ≡ name.now ++ codes "\n") × (is_file_name name.now ≡ true)) }
+{
+    match note.strip_suffix("\n") {
+        Some(name) if is_file_name(name.as_bytes()) => Some(name),
+        _ => None,
     }
 }
 
@@ -329,12 +345,21 @@ fn free_path(
 pub(crate) fn names(register: Option<&Register>, archive: &str) -> bool {
     let name = place_of(archive).name;
     match register {
-        Some(register) => register
-            .archives
-            .iter()
-            .any(|archive| archive.file.as_str() == name),
+        Some(register) => is_named_in(name.as_bytes(), &register.archives),
         None => false,
     }
+}
+
+/// Whether a file of this name is that of one of these archives.
+fn is_named_in(name: &[u8], archives: &[Archive]) -> bool
+    ensures { result ≡ list_any (is_in name.now) (map archive_content archives.now) }
+{
+    for archive in archives {
+        if archive.file.as_bytes() == name {
+            return true;
+        }
+    }
+    false
 }
 
 /// Whether an archive with its files can be made at a path: none of them is there, or only the copy of the store's register that a
@@ -356,10 +381,18 @@ fn is_copied(rt: &HostRuntime, path: &str, register: Option<&Register>) -> Resul
         return Ok(false);
     };
     match read_history(rt, path) {
-        Ok(Some(copy)) => Ok(copy.closed_for.is_none() && copy.tells_same(register)),
+        Ok(Some(copy)) => Ok(is_copy_of(&copy, register)),
         Err(TableFault::Memory) => Err(CopyFault::Memory),
         _ => Ok(false),
     }
+}
+
+/// Whether a register has no mark and says the same as another.
+fn is_copy_of(copy: &Register, register: &Register) -> bool
+    ensures { (result ≡ true) ↔ (((register_content copy.now).closed_for ≡ None)
+        × (unmarked (register_content copy.now) ≡ unmarked (register_content register.now))) }
+{
+    copy.closed_for.is_none() && copy.tells_same(register)
 }
 
 /// Whether anything is at a path, or at that of its log.
