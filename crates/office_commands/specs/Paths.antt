@@ -34,4 +34,4 @@ pub record IsNameOf (path name : List ℕ) : Type 0 where
 abbrev pub unfound : (no_store : Error) → ErrorKind → Result (Option Metadata) TableFault
 unfound no_store NotFound = Ok None
 unfound no_store OutOfMemory = Err Memory
-unfound no_store other = Err (Store no_store)
+unfound no_store kind = Err (Store no_store)
