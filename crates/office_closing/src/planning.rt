@@ -12,7 +12,7 @@ use crate::comparing::Numbers;
 use crate::faults::{CloseFault, Refusal};
 use crate::lists::{lists_in_both, lists_to_register};
 use crate::taken::taken_to_register;
-use crate::visits::{VisitFault, newest_number, visits_to_go};
+use crate::visits::{newest_number, visits_to_go};
 use crate::{Archive, Register, Segment, SettledList, done_lists, is_file_name, is_sound};
 use office_admission::{Account, MOST_PARTNERS, Setup};
 use office_loading::Closed;
@@ -344,11 +344,8 @@ fn gone_visits(alloc: Global, own: &Opened, copy: &Opened) -> Result<Vec<u32>, C
     ensures err { IfErr result (λ fault. (names : FileNames) →
         IsRefused (office_content own.now) (office_content copy.now) names fault) }
 {
-    match visits_to_go(alloc, own.terminal.visits(), copy.terminal.visits()) {
-        Ok(numbers) => Ok(numbers),
-        Err(VisitFault::Differs(number)) => Err(CloseFault::Archive(Refusal::Visit(number))),
-        Err(VisitFault::Memory) => Err(CloseFault::Memory),
-    }
+    let numbers = visits_to_go(alloc, own.terminal.visits(), copy.terminal.visits())?;
+    Ok(numbers)
 }
 
 /// What is closed of each account.
