@@ -259,7 +259,7 @@ pub fn clear_visits<S: Alter>(conn: &mut Connection<S>, visits: &[u32]) -> Resul
     prove!(is_idle);
     let mut rest = visits;
     while !rest.is_empty() {
-        let (batch, behind) = rest.split_at(rest.len().min(VISIT_BATCH));
+        let (batch, behind) = rest.split_at(visit_batch(rest.len()));
         clear_visit_batch(conn, batch)?;
         rest = behind;
     }
@@ -268,6 +268,13 @@ pub fn clear_visits<S: Alter>(conn: &mut Connection<S>, visits: &[u32]) -> Resul
 
 /// The most visits that one transaction deletes.
 const VISIT_BATCH: usize = 1000;
+
+/// How many of the visits that are left the next transaction deletes.
+fn visit_batch(left: usize) -> usize
+    ensures { result ≡ min left most_at_once }
+{
+    left.min(VISIT_BATCH)
+}
 
 /// Deletes the visits of these numbers in one transaction, wholly or not at all.
 fn clear_visit_batch<S: Alter>(conn: &mut Connection<S>, visits: &[u32]) -> Result<(), TableFault>
