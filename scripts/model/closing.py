@@ -10,7 +10,8 @@ from .deliveries import kept, run
 from .lookups import own_lines
 from .naming import SIDES, lists_named
 from .register import (
-    EMPTY, Archive, Segment, Settled, is_file_name, is_sound, last_closed, with_archive, with_lists, without_lists_of)
+    EMPTY, Archive, Segment, Settled, is_file_name, is_sound, last_closed, with_archive, with_lists, with_taken,
+    without_what_came_with)
 from .rows import interchange_rows, partner_rows, visit_rows
 
 
@@ -28,6 +29,12 @@ def raised(archive, file):
     visits = max((visit[0] for visit in visit_rows(archive)), default=0)
     segments = [Segment(identity, place, last) for identity, last in closed_by(archive)]
     return with_archive(archive.register._replace(mark=None), Archive(place, file, visits), segments)
+
+
+def taken_by(store, place):
+    """All that a store has taken, as the archive of that place is closed."""
+    return [
+        Segment(identity, place, next_number - 1) for identity, _code, _kind, next_number in partner_rows(store) if next_number > 1]
 
 
 # ---- what has to be the same
@@ -116,7 +123,7 @@ def close(store, archive, store_file, archive_file):
         return 'Closed'
     after = raised(archive, archive_file)
     place = len(after.archives)
-    is_done = archive.register.mark == store_file and without_lists_of(store.register, place) == after
+    is_done = archive.register.mark == store_file and without_what_came_with(store.register, place) == after
     is_new = archive.register.mark in (None, store_file) and store.register == archive.register._replace(mark=None)
     if not is_of_store(store, archive) or not (is_done or is_new) or not is_sound(after) or not is_file_name(store_file):
         return 'Archive'
@@ -124,10 +131,10 @@ def close(store, archive, store_file, archive_file):
         return 'Archive'
     if not has_texts(store, archive, is_new and not closed_by(archive)):
         return 'Archive'
-    visits, lists = visits_to_go(store, archive), lists_to_go(store, place)
+    visits, lists = visits_to_go(store, archive), lists_to_go(store, place) if closed_by(archive) else {}
     archive.register = archive.register._replace(mark=store_file)
     if is_new:
-        store.register = with_lists(after, lists.values())
+        store.register = with_taken(with_lists(after, lists.values()), taken_by(store, place))
     store.gone = store.gone | set(visits)
     store.away = store.away | {name for name, settled in lists.items() if settled in store.register.lists}
     return None

@@ -114,6 +114,12 @@ def are_places(tables):
     return is_sound([Block(*block) for block in tables['block']], yard)
 
 
+def is_of_day(tables, register):
+    """Of no day before the register: no number is awaited that had been taken as an archive was closed."""
+    nexts = {identity: next_number for identity, _code, _kind, next_number in tables['partner']}
+    return all(segment.last < nexts.get(segment.partner, 0) for segment in register.taken)
+
+
 def fault_of_rows(tables, versions=(VERSION,), register=EMPTY):
     """Store without a table or its columns; Version where it is another or none, which is before all tables but that of the
     settings; Damaged where the rows are those of no office; else None."""
@@ -125,7 +131,7 @@ def fault_of_rows(tables, versions=(VERSION,), register=EMPTY):
         return 'Store'
     checks = [
         are_readable, is_setup, are_accounts, lambda tables: are_interchanges(tables, register),
-        lambda tables: are_visits(tables, register), are_lines, are_places]
+        lambda tables: are_visits(tables, register), are_lines, are_places, lambda tables: is_of_day(tables, register)]
     return None if all(check(tables) for check in checks) else 'Damaged'
 
 

@@ -6,6 +6,7 @@ said here.
 import copy
 import os
 import re
+import shutil
 import sqlite3
 import tempfile
 from contextlib import closing
@@ -41,7 +42,10 @@ UNSOUND = [
     "INSERT INTO settled VALUES ('9123456', 'V12', 1, 0, '')", "INSERT INTO settled VALUES ('9123456', 'V12', 0, 1, '')",
     "INSERT INTO settled VALUES ('9123456', 'V12', 3, 1, '')", "INSERT INTO settled VALUES ('', 'V12', 1, 1, '')",
     "INSERT INTO settled VALUES ('9123456', 'V' || char(9), 2, 1, '')",
-    "INSERT INTO settled VALUES ('%s', 'V12', 2, 1, '')" % ('V' * 36)]
+    "INSERT INTO settled VALUES ('%s', 'V12', 2, 1, '')" % ('V' * 36), 'UPDATE taken SET archive = 2',
+    'UPDATE taken SET last = 0 WHERE partner = 1', 'UPDATE taken SET last = 1000000000',
+    'UPDATE taken SET partner = 1000 WHERE partner = 1', 'UPDATE taken SET partner = 0 WHERE partner = 1',
+    'INSERT INTO taken VALUES (1, 0, 1)']
 EMPTIED = ''.join('DELETE FROM %s;' % table for table in REGISTER_COLUMNS)
 # what makes lines of lists unreadable
 UNREADABLE = [
@@ -281,25 +285,56 @@ def judged(path):
     found = registered_in(path)[0]
     register = Register(
         tuple(Archive(*row) for row in found['archive']), tuple(Segment(*row) for row in found['segment']),
-        found['closed_for'][0][0] if found['closed_for'] else None, tuple(Settled(*row) for row in found['settled']))
+        found['closed_for'][0][0] if found['closed_for'] else None, tuple(Settled(*row) for row in found['settled']),
+        tuple(Segment(*row) for row in found['taken']))
     is_one = len(found['closed_for']) <= 1 and is_sound(register)
     return fault_of_rows(rows_in(path)[0], register=register) if is_one else 'Damaged'
 
 
 def try_register(room, change):
     """A store beside whose register something was changed, or which is gone."""
-    store, beside, program = room.path('office.db'), room.beside, room.program('office.db')
+    store = room.path('office.db')
     if change:
         edit(store + REGISTER, change)
     else:
         remove(store, ENDS[2:])
+    try_damaged(room, 'a register that is another', change)
+
+
+def try_damaged(room, what, change):
+    """A store that its register makes Damaged, for each command."""
+    store, beside, program = room.path('office.db'), room.beside, room.program('office.db')
     fault, before = judged(store), rows_in(store)
-    beside.expect('a register that is another', change, 'Damaged', fault)
+    beside.expect(what, change, 'Damaged', fault)
     for words in (
             ['report', store, 'yard'], ['deliver', store, program.file('none.edi', '')], ['account', store, 'HAULC', 'gate'],
-            ['serve', store, '8080', '1'], ['close', store, room.path('first.db')]):
-        beside.expect('a register that is another', '%s: %s' % (words[0], change), told(fault), program.run(*words))
-    beside.expect('a register that is another', change, before, rows_in(store))
+            ['serve', store, '8080', '1'], ['texts', store], ['close', store, room.path('first.db')]):
+        beside.expect(what, '%s: %s' % (words[0], change), told(fault), program.run(*words))
+    beside.expect(what, change, before, rows_in(store))
+
+
+def try_put_back(room, day):
+    """Files of two days: a store of before a text, which a closing then found taken, and a register of before a closing. The store
+    put back has all that was closed."""
+    room.make('office.db', day, DELIVERIES)
+    room.copy('office.db', 'first.db')
+    office, vessels = room.offices[room.path('office.db')], Vessels(day.random, day)
+    for text in vessels.new_call(office):
+        copy_files(room.path('office.db'), room.path('earlier.db'))
+        room.deliver('office.db', [text])
+    room.close('office.db', 'first.db')
+    room.beside.counted['lists put away, of which the store put back knows nothing'] += len(office.away)
+    copy_files(room.path('office.db'), room.path('kept.db'))
+    for store, register in (('earlier.db', 'kept.db'), ('kept.db', 'earlier.db')):
+        copy_files(room.path(store), room.path('office.db'))
+        remove(room.path('office.db'), ENDS[2:])
+        for end in ENDS[2:]:
+            if os.path.exists(room.path(register) + end):
+                shutil.copyfile(room.path(register) + end, room.path('office.db') + end)
+        try_damaged(room, 'files of two days', '%s with the register of %s' % (store, register))
+    copy_files(room.path('kept.db'), room.path('office.db'))
+    for kind in ('yard', 'archives', 'calls'):
+        room.beside.report('the files of one day', room.program('office.db'), office, kind)
 
 
 def try_registers(room, day):
@@ -314,13 +349,21 @@ def try_registers(room, day):
 
 
 def try_older(room, day):
-    """Registers of before lists were put away, without a table of them: the next closing makes it."""
+    """Registers of before lists were put away, and of before they said what had been taken, without tables of that: the next
+    closing makes them."""
+    for missing in (['taken'], ['settled', 'taken']):
+        try_without(room, day, missing)
+
+
+def try_without(room, day, missing):
+    """Registers that lack these tables."""
     room.make('office.db', day)
     room.copy('office.db', 'first.db')
     room.close('office.db', 'first.db')
     for name in ('office.db', 'first.db'):
-        edit(room.path(name) + REGISTER, 'DROP TABLE settled')
+        edit(room.path(name) + REGISTER, ''.join('DROP TABLE %s;' % table for table in missing))
     office, vessels = room.offices[room.path('office.db')], Vessels(day.random, day)
+    office.register = office.register._replace(taken=())
     for kind in ('calls', 'archives'):
         room.beside.report('an older register', room.program('office.db'), office, kind)
     for text in vessels.new_call(office):
@@ -359,6 +402,8 @@ def try_unreadable(room, day):
 
 def try_all(beside):
     """Each in a folder of its own."""
-    for trial in (try_files, try_copies, try_orders, try_lacking, try_marks, try_beside, try_registers, try_older, try_unreadable):
+    for trial in (
+            try_files, try_copies, try_orders, try_lacking, try_marks, try_beside, try_registers, try_put_back, try_older,
+            try_unreadable):
         with tempfile.TemporaryDirectory(prefix='beside-') as folder:
             trial(Room(beside, folder), Day(trial.__name__))

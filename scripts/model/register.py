@@ -5,15 +5,16 @@ from collections import namedtuple
 
 # places 1, 2 and so on as they were closed; `visits` is the number of the newest visit of an archive
 Archive = namedtuple('Archive', 'place file visits')
-# up to `last` the interchanges of an account, by its number, are in the archives 1 to this one
+# up to `last` the interchanges of an account, by its number, are in the archives 1 to this one; of what had been taken, the store
+# had taken them as this one was closed
 Segment = namedtuple('Segment', 'partner archive last')
 # the lines of a list as they were put away with an archive, as a text: of each its container's number and its port; `side` is 1
 # for a load list, 2 for a discharge list
 Settled = namedtuple('Settled', 'vessel voyage side archive lines')
 # `mark` is the file of the store that goes on, in an archive's own register, and else None; the lists are in order
-Register = namedtuple('Register', 'archives segments mark lists')
+Register = namedtuple('Register', 'archives segments mark lists taken')
 
-EMPTY = Register((), (), None, ())
+EMPTY = Register((), (), None, (), ())
 MOST_ARCHIVES, MOST_ACCOUNTS, MOST_NUMBER = 9999, 999, 999999999
 
 
@@ -49,9 +50,16 @@ def with_lists(register, lists):
     return register._replace(lists=tuple(sorted(register.lists + tuple(lists))))
 
 
-def without_lists_of(register, place):
-    """Without the lists that were put away with the archive of that place."""
-    return register._replace(lists=tuple(settled for settled in register.lists if settled.archive != place))
+def with_taken(register, taken):
+    """With this more that had been taken."""
+    return register._replace(taken=register.taken + tuple(taken))
+
+
+def without_what_came_with(register, place):
+    """Without the lists that were put away with the archive of that place, and what had been taken then."""
+    return register._replace(
+        lists=tuple(settled for settled in register.lists if settled.archive != place),
+        taken=tuple(segment for segment in register.taken if segment.archive != place))
 
 
 def is_name(text):
@@ -83,10 +91,11 @@ def is_sound(register):
         and all(0 <= visits <= MOST_NUMBER for visits in newest)
         and all(
             1 <= segment.partner <= MOST_ACCOUNTS and segment.archive in places and 1 <= segment.last <= MOST_NUMBER
-            for segment in register.segments)
+            for segment in register.segments + register.taken)
         and all(do_rise(numbers, strictly=True) for numbers in lasts)
         and all(
             is_name(settled.vessel) and is_name(settled.voyage) and settled.side in (1, 2) and settled.archive in places
             for settled in register.lists)
         and len({settled[:4] for settled in register.lists}) == len(register.lists)
+        and len({segment[:2] for segment in register.taken}) == len(register.taken)
         and (register.mark is None or is_file_name(register.mark)))

@@ -29,7 +29,7 @@ COLUMNS = {
 # those of the register beside a store
 REGISTER_COLUMNS = {
     'archive': 'place file visits', 'segment': 'partner archive last', 'closed_for': 'file',
-    'settled': 'vessel voyage side archive lines'}
+    'settled': 'vessel voyage side archive lines', 'taken': 'partner archive last'}
 REGISTER = '-archives'
 # what stands after the path of a store in the names of its files
 ENDS = ('', '-wal', REGISTER, REGISTER + '-wal')
@@ -125,7 +125,8 @@ def rows_of_register(register):
     """What the tables of a register should hold."""
     return {
         'archive': sorted(map(tuple, register.archives)), 'segment': sorted(map(tuple, register.segments)),
-        'closed_for': [(register.mark,)] if register.mark else [], 'settled': sorted(map(tuple, register.lists))}
+        'closed_for': [(register.mark,)] if register.mark else [], 'settled': sorted(map(tuple, register.lists)),
+        'taken': sorted(map(tuple, register.taken))}
 
 
 # ---- what a store holds

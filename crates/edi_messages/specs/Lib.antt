@@ -9,6 +9,8 @@ pub mod Orders
 pub mod Message
 pub mod LineFaults
 pub mod Laws
+pub mod Kept
+pub mod Walks
 pub mod Spans
 pub mod Owned
 pub mod Contrl

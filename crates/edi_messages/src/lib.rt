@@ -6,6 +6,7 @@ mod call;
 pub mod code;
 pub mod codes;
 pub mod contrl;
+mod details;
 mod faults;
 mod group_reading;
 pub mod laws;
@@ -13,6 +14,7 @@ pub mod line;
 pub mod message;
 pub mod order;
 pub mod part;
+mod survey;
 
 pub use call::Call;
 pub use code::{CodeFault, CodeTable};

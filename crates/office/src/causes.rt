@@ -54,6 +54,12 @@ impl Words {
         text: " is no register of archives: put the copy back that was made with the store's last copy",
     };
 
+    /// A store was put back, and its register was not.
+    pub(crate) const OLDER: Words = Words {
+        follow_path: true,
+        text: " is older than its register: put both back from one copy, the newest that has both",
+    };
+
     /// An archive lies in another folder than its store.
     pub(crate) const OTHER_FOLDER: Words = Words {
         follow_path: true,

@@ -36,6 +36,13 @@ pub(crate) fn tell_closed<E: Write>(to: Audience<'_>, errors: &mut Port<E>, stor
     status
 }
 
+/// Reports that a store is of a day before its register.
+fn tell_older<E: Write>(to: Audience<'_>, errors: &mut Port<E>, store: &str) -> u8 {
+    let status = tell_fault(errors, &TableFault::Damaged);
+    tell_words(to, errors, store, Words::OLDER);
+    status
+}
+
 /// Reports a fault of a store's register of archives.
 pub(crate) fn tell_register<E: Write>(
     to: Audience<'_>,
@@ -75,6 +82,7 @@ pub(crate) fn tell_open_cause<E: Write>(
         OpenFault::Closed => tell_words(to, errors, store, Words::IS_ARCHIVE),
         OpenFault::Store(fault) => tell_store_cause(to, errors, store, fault),
         OpenFault::Register(fault) => tell_register_cause(to, errors, store, fault),
+        OpenFault::Older => tell_words(to, errors, store, Words::OLDER),
     }
 }
 
@@ -89,6 +97,7 @@ pub(crate) fn tell_open<E: Write>(
         OpenFault::Closed => tell_closed(to, errors, store),
         OpenFault::Store(fault) => tell_store(to, errors, store, fault),
         OpenFault::Register(fault) => tell_register(to, errors, store, fault),
+        OpenFault::Older => tell_older(to, errors, store),
     }
 }
 

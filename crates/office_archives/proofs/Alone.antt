@@ -1,40 +1,24 @@
 -- A desk of which nothing was put away, and no archives: what it is asked is answered as desk and archives answer together.
+use Rattle.std.{specs.Prelude.{◌&&◌, is_some, nat_le, string_bytes}, proofs.lemmas.Bool.{and_parts, leb-true}}
 use Rattle.std.proofs.Common.{◌≡◌, ℕ, zero, suc, ◌≤◌, List, [], ◌∷◌, Bool, true, false, Option, None, Some, Result, refl, sym, ap, subst, ◌∙◌, length, arith}
-use Rattle.std.specs.Prelude.{◌&&◌, is_some, nat_le, string_bytes}
-use Rattle.std.proofs.lemmas.Bool.{and_parts, leb-true}
-use Rattle.sqlite.specs.Held.{state}
-use Rattle.sqlite.specs.Tree.{Trees}
+use Rattle.sqlite.specs.{Held.state, Tree.Trees}
 use Rattle.sqlite_trees.specs.declared.store.Store.{Ghosts}
 use Rattle.edi_messages.specs.Owned.{call_content}
 use Rattle.terminal_core.specs.State.{TerminalState}
 use Rattle.office_admission.specs.Setups.{SetupContent, setup_content}
-use Rattle.office_desk.proofs.LookLemmas.{looks_nowhere}
-use Rattle.office_desk.specs.Calls.{Leads, Looks}
-use Rattle.office_desk.specs.Desks.{IsSound}
-use Rattle.office_desk.specs.Looking.{DeskShows}
+use Rattle.office_desk.{specs.{Calls.{Leads, Looks}, Desks.IsSound, Looking.DeskShows, declared.desk.Desk.Desk}, proofs.LookLemmas.looks_nowhere}
 use Rattle.office_desk.specs.Reports.{DeskTells, TellsOf, TellsReplyOf, contrl_for_partner, partner_called, ticket_of}
-use Rattle.office_desk.specs.declared.desk.Desk.{Desk}
-use Rattle.office_parts.specs.Archives.{Archive, Hold, archive_of, reply_by}
-use Rattle.office_parts.specs.Away.{AreAway, lines_away}
-use Rattle.office_parts.specs.Naming.{AreHere}
-use Rattle.office_parts.specs.OwnLists.{ListName, list_name, rows_without_lists, without_lists}
-use Rattle.office_parts.specs.OwnTerminal.{own_terminal}
-use Rattle.office_parts.specs.Parts.{AreClosed, Archived}
-use Rattle.office_replies.specs.Events.{Event}
-use Rattle.office_replies.specs.declared.deliver.Response.{Response}
-use Rattle.office_reports.specs.Looking.{Look, of_archive, report, texts_after}
-use Rattle.office_reports.specs.declared.query.NotNow.{NotNow}
-use Rattle.office_reports.specs.declared.query.Query.{Query}
-use Rattle.office_reports.specs.declared.query.Query.TheVariants as query
+use Rattle.office_parts.specs.{Archives.{Archive, Hold, archive_of, reply_by}, Away.{AreAway, lines_away}, Naming.AreHere, OwnTerminal.own_terminal}
+use Rattle.office_parts.specs.{OwnLists.{ListName, list_name, rows_without_lists, without_lists}, Parts.{AreClosed, Archived}}
+use Rattle.office_replies.specs.{Events.Event, declared.deliver.Response.Response}
+use Rattle.office_reports.specs.{Looking.{Look, of_archive, report, texts_after}, declared.query.NotNow.NotNow, declared.query.Query.Query}
 use Rattle.office_loading.specs.Closed.{last_closed}
 use Rattle.office_history.specs.After.{machine_after}
 use Rattle.office_rows.specs.Rows.{Rows}
-use Rattle.office_archives.specs.Standing.{IsBeyond, NamesNoneAway, StandsBeside}
-use Rattle.office_archives.specs.Telling.{IsOfNumber, TellsTogether}
-use Rattle.office_archives.specs.Together.{LeadsTogether, LooksTogether, ShowsBeside, TellsBeside}
+use Rattle.office_archives.{specs.{Standing.{IsBeyond, NamesNoneAway, StandsBeside}, Telling.{IsOfNumber, TellsTogether}}, proofs.Together.looks_on}
+use Rattle.office_archives.{specs.Together.{LeadsTogether, LooksTogether, ShowsBeside, TellsBeside}, proofs.Standing.{beyond_answered, beyond_left}}
 use Rattle.office_archives.proofs.Beside.{calls_beside, container_beside, list_beside, neither_beside, nobody_beside, number_beside, tells_so}
-use Rattle.office_archives.proofs.Standing.{beyond_answered, beyond_left}
-use Rattle.office_archives.proofs.Together.{looks_on}
+use Rattle.office_reports.specs.declared.query.Query.TheVariants as query
 
 -- ---- what no archives hold
 

@@ -1,56 +1,29 @@
 -- What desk and archives tell, from whatever events after which they stand.
+use Rattle.std.specs.{Prelude.{Contains, IsPermutation, filter, ◌&&◌, is_some, nat_le, String, string_bytes}, Ordering.eq_by_cmp, declared.alloc.Global.Global}
 use Rattle.std.proofs.Common.{◌≡◌, ℕ, List, [], ◌∷◌, ◌++◌, Bool, true, false, cond, Option, Some, map, refl, sym, ap, subst, ◌∙◌, ◌<◌, ◌≤◌, length, None, Result, Ok, Err, arith}
-use Rattle.std.specs.Prelude.{Contains, IsPermutation, filter, ◌&&◌, is_some, nat_le, String, string_bytes}
-use Rattle.std.specs.Ordering.{eq_by_cmp}
-use Rattle.std.proofs.lemmas.List.Elements.{Contains-append_right}
-use Rattle.std.proofs.lemmas.List.Sorted.{IsPermutation-sym}
+use Rattle.std.proofs.{lemmas.List.Elements.Contains-append_right, lemmas.List.Sorted.IsPermutation-sym, lemmas.Bool.{leb-false, leb-true, and_parts}}
 use Rattle.box6346.specs.declared.box_number.BoxNumber.{BoxNumber}
-use Rattle.edi_messages.specs.Owned.{call_content}
-use Rattle.edi_messages.specs.Purposes.{CallContent}
-use Rattle.terminal_core.specs.Changes.{TerminalRows}
-use Rattle.terminal_core.specs.Drop.{is_pending}
-use Rattle.terminal_core.specs.State.{LineKey, Lines, TerminalState, line_key, line_of}
-use Rattle.terminal_core.specs.declared.lines.LineState.TheVariants.{Done}
-use Rattle.terminal_core.specs.declared.lines.Side.{Side}
-use Rattle.terminal_core.proofs.Lined.{keys_total, order, same_key, tied_self}
+use Rattle.edi_messages.specs.{Owned.call_content, Purposes.CallContent, declared.call.Call.Call}
+use Rattle.terminal_core.specs.{Changes.TerminalRows, Drop.is_pending, State.{LineKey, Lines, TerminalState, line_key, line_of}, declared.lines.Side.Side}
+use Rattle.terminal_core.{specs.declared.lines.LineState.TheVariants.Done, proofs.Lined.{keys_total, order, same_key, tied_self}}
 use Rattle.office_replies.specs.Events.{Event}
-use Rattle.office_rows.specs.ByKey.{AreListedOnce, line_entry, lines_by}
-use Rattle.office_rows.specs.Rows.{ListingContent, Rows}
+use Rattle.office_rows.specs.{ByKey.{AreListedOnce, line_entry, lines_by}, Rows.{ListingContent, Rows}}
 use Rattle.office_admission.specs.Setups.{SetupContent, setup_content}
-use Rattle.office_reports.specs.declared.query.Query.{Query}
-use Rattle.office_reports.specs.Listed.{AreListed}
-use Rattle.office_reports.specs.Lists.{HasLine}
-use Rattle.office_reports.specs.Work.{is_open_entry, job_of, jobs_text, work_found, work_head}
-use Rattle.office_history.specs.After.{machine_after, content_after}
-use Rattle.office_history.proofs.Loads.{lines_same}
-use Rattle.office_parts.specs.Archives.{Archive, archive_of}
-use Rattle.office_parts.specs.Parts.{Archived, ArePartsAfter}
-use Rattle.office_parts.proofs.Takings.{own_rows}
-use Rattle.office_parts.specs.Away.{AreAway, lines_away}
-use Rattle.office_parts.specs.Bringing.{is_list, is_of, lines_of}
-use Rattle.office_parts.specs.OwnLists.{ListName, list_name, list_of, rows_without_lists, without_lists}
+use Rattle.office_reports.specs.{declared.query.Query.Query, Listed.AreListed, Lists.HasLine, Work.{is_open_entry, job_of, jobs_text, work_found, work_head}}
+use Rattle.office_reports.specs.{Looking.Tells, declared.query.NotNow.NotNow}
+use Rattle.office_history.{specs.After.{machine_after, content_after}, proofs.Loads.lines_same}
+use Rattle.office_parts.specs.{Archives.{Archive, archive_of}, Parts.{Archived, ArePartsAfter}, Away.{AreAway, lines_away}, Bringing.{is_list, is_of, lines_of}}
+use Rattle.office_parts.{specs.{OwnLists.{ListName, list_name, list_of, rows_without_lists, without_lists}, OwnTerminal.own_terminal}, proofs.Takings.own_rows}
 use Rattle.office_parts.proofs.KeepingLemmas.{away_done}
-use Rattle.office_archives.specs.ListsAway.{AreLinesIfAway, TellsByLines, FindsIfAway}
+use Rattle.office_archives.specs.{ListsAway.{AreLinesIfAway, TellsByLines, FindsIfAway}, Keeping.IsClosedIn, Together.{StandTogether, TellsBeside}}
 use Rattle.office_archives.specs.Telling.{IsOfList, TellsTogether, HasListAway, IsOfContainer, IsOfNeither, IsOfNumber, TellsClosed, archives_with_lists, with_archives}
-use Rattle.office_archives.proofs.Brought.{kept_so}
+use Rattle.office_archives.proofs.{Brought.kept_so, Standing.{closed_here, closed_told}}
 use Rattle.office_archives.proofs.Filled.{Entry, first_in, listed_alike, filled_container, filled_list, filled_neither, filled_number, filled_visits}
-use Rattle.std.specs.declared.alloc.Global.{Global}
-use Rattle.std.proofs.lemmas.Bool.{leb-false, leb-true, and_parts}
-use Rattle.sqlite_trees.specs.declared.store.Store.{Ghosts}
-use Rattle.edi_messages.specs.declared.call.Call.{Call}
-use Rattle.office_loading.specs.Closed.{last_closed}
-use Rattle.office_reports.specs.Looking.{Tells}
-use Rattle.office_reports.specs.declared.query.NotNow.{NotNow}
-use Rattle.office_desk.specs.Calls.{OnlyLooks}
-use Rattle.office_desk.specs.Desks.{IsSound}
-use Rattle.office_desk.specs.Offices.{DeskHolds}
-use Rattle.office_desk.specs.Reports.{DeskTells, TellsNext, TellsOf, partner_called}
-use Rattle.office_desk.specs.declared.desk.Desk.{Desk}
-use Rattle.office_parts.specs.OwnTerminal.{own_terminal}
-use Rattle.office_archives.specs.Keeping.{IsClosedIn}
-use Rattle.office_archives.specs.Together.{StandTogether, TellsBeside}
-use Rattle.office_archives.proofs.Standing.{closed_here, closed_told}
 use Rattle.office_archives.proofs.Told.{container_told, list_told, nobody_told, number_told, others_told}
+use Rattle.sqlite_trees.specs.declared.store.Store.{Ghosts}
+use Rattle.office_loading.specs.Closed.{last_closed}
+use Rattle.office_desk.specs.{Calls.OnlyLooks, Desks.IsSound, Offices.DeskHolds, Reports.{DeskTells, TellsNext, TellsOf, partner_called}}
+use Rattle.office_desk.specs.declared.desk.Desk.{Desk}
 use Rattle.std.specs.FinMap as finite_map
 use Rattle.office_reports.specs.declared.query.Query.TheVariants as query
 

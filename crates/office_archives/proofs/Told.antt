@@ -1,55 +1,31 @@
 -- What a store's rows and its archives tell, and what the rows after the events tell.
+use Rattle.std.specs.{Prelude.{◌==◌, nat_lt, not, filter, Contains, string_bytes, ◌&&◌, nat_le, max, if◌then◌else◌, find, slice_get}, List.Sorted.IsPermutation}
+use Rattle.std.{specs.{Option.{option_and_then, option_map, option_or}, List.{AllByRecursion, list_all}}, proofs.lemmas.List.Folds.find-append}
 use Rattle.std.proofs.Common.{◌≡◌, ℕ, ◌+◌, ◌<◌, List, [], ◌∷◌, length, map, Bool, true, false, cond, Option, None, Some, refl, sym, ap, subst, ◌∙◌, arith, zero, suc, ◌-◌, ◌≤◌, ◌++◌, inl, inr, ◌⊎◌}
-use Rattle.std.specs.Prelude.{◌==◌, nat_lt, not, filter, Contains, string_bytes, ◌&&◌, nat_le, max, if◌then◌else◌, find, slice_get}
-use Rattle.std.specs.Option.{option_and_then, option_map, option_or}
-use Rattle.std.specs.List.Sorted.{IsPermutation}
 use Rattle.std.proofs.lemmas.Bool.{and_parts, eqb-true, leb-true, ltb-true, le-leb, leb-false}
-use Rattle.edi_messages.specs.declared.codes.PartnerKind.{PartnerKind}
+use Rattle.edi_messages.specs.{declared.codes.PartnerKind.PartnerKind, Purposes.CallContent}
 use Rattle.partner_core.specs.Deliveries.{run}
 use Rattle.sqlite_rules.proofs.ListLemmas.{contains_had, has_contained, has_filtered}
-use Rattle.edi_messages.specs.Purposes.{CallContent}
-use Rattle.terminal_core.specs.State.{TerminalState}
-use Rattle.terminal_core.specs.declared.lines.Side.{Side}
-use Rattle.office_admission.specs.Deliveries.{deliveries_of}
+use Rattle.terminal_core.specs.{State.TerminalState, declared.lines.Side.Side}
+use Rattle.office_admission.specs.{Deliveries.deliveries_of, Setups.SetupContent, Limits.most_partners}
 use Rattle.office_replies.specs.Events.{Event}
 use Rattle.office_rows.specs.Rows.{Interchange, Rows, ListingContent}
-use Rattle.office_admission.specs.Setups.{SetupContent}
 use Rattle.office_tables.specs.Answers.{has_id, IsNextOf}
 use Rattle.office_loading.specs.Waiting.{is_waiting, waiting_numbers}
-use Rattle.office_reports.specs.declared.query.Query.{Query}
-use Rattle.office_reports.specs.Contrls.{contrl_in}
-use Rattle.office_reports.specs.Partners.{PartnerContent}
-use Rattle.office_history.specs.After.{content_after, machine_after, reply_in}
-use Rattle.office_history.specs.Cascade.{text_in}
-use Rattle.office_history.proofs.Accounted.{next_follows}
-use Rattle.office_parts.specs.Archives.{Archive, Hold, archive_of}
-use Rattle.office_parts.specs.Closing.{is_beyond, is_closed}
-use Rattle.office_parts.specs.OwnTerminal.{own_terminal}
-use Rattle.office_parts.specs.Parts.{Archived, ArePartsAfter}
-use Rattle.office_parts.proofs.LeftOver.{told_alike as beyond_alike}
+use Rattle.office_reports.specs.{declared.query.Query.Query, Contrls.contrl_in, Partners.PartnerContent}
+use Rattle.office_history.{specs.{After.{content_after, machine_after, reply_in}, Cascade.text_in}, proofs.Accounted.next_follows}
+use Rattle.office_parts.specs.{Archives.{Archive, Hold, archive_of}, Closing.{is_beyond, is_closed}, OwnTerminal.own_terminal, Parts.{Archived, ArePartsAfter}}
+use Rattle.office_parts.{specs.{Away.lines_away, OwnLists.{ListName, list_name}}, proofs.{LeftOver.told_alike as beyond_alike, AwayLemmas.away_with}}
 use Rattle.office_parts.proofs.Orders.{body_there, closed_within, found_beyond, reply_there}
 use Rattle.office_desk.specs.Reports.{AreLookedUp, IsLookedUp, TellsAfter, TellsNext, TellsOf, TellsPartner, TellsReply, TellsReplyOf, contrl_for_partner, partner_called, ticket_if_taken, ticket_of}
-use Rattle.office_archives.specs.Beyond.{IsBeyond}
-use Rattle.office_archives.specs.Counted.{IsOfPartners}
-use Rattle.office_archives.proofs.StayedTold.{beyond_told, containers_told, visits_told}
-use Rattle.office_archives.proofs.Moves.{metrics_told, partners_told}
-use Rattle.office_archives.specs.Reporting.{IsOfWhatStands}
-use Rattle.office_archives.specs.Standing.{IsOwnWithRest}
+use Rattle.office_archives.specs.{Beyond.IsBeyond, Counted.IsOfPartners, Reporting.IsOfWhatStands, Standing.IsOwnWithRest}
 use Rattle.office_archives.specs.Telling.{IsOfContainer, IsOfList, IsOfNeither, IsOfNumber, TellsTogether, with_archives}
-use Rattle.office_archives.proofs.Rising.{told_alike, put_told, rises, up_to_most}
-use Rattle.std.specs.List.{AllByRecursion, list_all}
-use Rattle.std.proofs.lemmas.List.Folds.{find-append}
+use Rattle.office_archives.{specs.Shelves.{HasLists, IsKeptAs, IsOfCall, NamesAll, NamesOneMore, archive_at}, proofs.Moves.{metrics_told, partners_told}}
+use Rattle.office_archives.proofs.{StayedTold.{beyond_told, containers_told, visits_told}, Rising.{told_alike, put_told, rises, up_to_most}}
 use Rattle.edi_syntax.specs.Numbers.{last_number}
-use Rattle.office_admission.specs.Limits.{most_partners}
-use Rattle.office_parts.specs.Away.{lines_away}
-use Rattle.office_parts.specs.OwnLists.{ListName, list_name}
-use Rattle.office_parts.proofs.AwayLemmas.{away_with}
-use Rattle.office_closing.specs.Changes.{closed_with}
-use Rattle.office_closing.specs.Lists.{SettledListContent, lines_of_list, put_lists}
+use Rattle.office_closing.specs.{Changes.closed_with, Lists.{SettledListContent, lines_of_list, put_lists}, declared.register.Segment.Segment}
 use Rattle.office_closing.specs.Register.{ArchiveContent, RegisterContent, is_of, last_closed, reaches}
-use Rattle.office_closing.specs.Sound.{are_in_order, are_rising, are_sound_archives, are_sound_segments, close_more, is_sound, is_sound_mark, is_within, may_be_list}
-use Rattle.office_closing.specs.declared.register.Segment.{Segment}
-use Rattle.office_archives.specs.Shelves.{HasLists, IsKeptAs, IsOfCall, NamesAll, NamesOneMore, archive_at}
+use Rattle.office_closing.specs.Sound.{are_in_order, are_rising, are_sound_archives, are_sound_segments, are_sound_taken, close_more, is_sound, is_sound_mark, is_within, may_be_list}
 use Rattle.office_reports.specs.declared.query.Query.TheVariants as query
 use Rattle.office_parts.specs.Archives as parts
 
@@ -307,9 +283,9 @@ of_either one other P (inl never) (inl before) = inl (ap (λ o. option_or o othe
 
 -- ---- an archive more
 
-module _ (names : RegisterContent) (list : List Archive) (archive : ArchiveContent) (segments : List Segment) (lists : List SettledListContent) (one : Archive) (sound : is_sound names ≡ true) (are : NamesAll names list)
+module _ (names : RegisterContent) (list : List Archive) (archive : ArchiveContent) (segments : List Segment) (lists : List SettledListContent) (taken : List Segment) (one : Archive) (sound : is_sound names ≡ true) (are : NamesAll names list)
     (own : AllByRecursion (λ (segment : Segment). segment.archive ≡ length list + 1) segments) (own_lists : AllByRecursion (λ (put : SettledListContent). put.archive ≡ length list + 1) lists)
-    (closed : (partner : ℕ) → one.last_closed partner ≡ last_closed (closed_with archive segments lists names).segments partner) (has : HasLists one lists) where
+    (closed : (partner : ℕ) → one.last_closed partner ≡ last_closed (closed_with archive segments lists taken names).segments partner) (has : HasLists one lists) where
   abbrev more : List Archive
   more = list ++ one ∷ []
 
@@ -325,8 +301,11 @@ module _ (names : RegisterContent) (list : List Archive) (archive : ArchiveConte
   abbrev lists_rise : Bool
   lists_rise = are_rising None names.lists
 
+  abbrev the_last : Bool
+  the_last = are_sound_taken most names.taken && is_sound_mark names.closed_for
+
   abbrev with_lists : Bool
-  with_lists = (lists_within && lists_rise) && is_sound_mark names.closed_for
+  with_lists = (lists_within && lists_rise) && the_last
 
   after_archives : (are_sound_segments most names.segments && with_lists) ≡ true
   after_archives = (and_parts (are_sound_archives names.archives) (are_sound_segments most names.segments && with_lists) sound).1
@@ -335,7 +314,7 @@ module _ (names : RegisterContent) (list : List Archive) (archive : ArchiveConte
   sound_segments = (and_parts segments_within (are_in_order 0 0 names.segments && close_more [] names.segments) (and_parts (are_sound_segments most names.segments) with_lists after_archives).0).0
 
   sound_lists : (lists_within && lists_rise) ≡ true
-  sound_lists = (and_parts (lists_within && lists_rise) (is_sound_mark names.closed_for) (and_parts (are_sound_segments most names.segments) with_lists after_archives).1).0
+  sound_lists = (and_parts (lists_within && lists_rise) the_last (and_parts (are_sound_segments most names.segments) with_lists after_archives).1).0
 
   within : (p n : ℕ) (s : Segment) → find (reaches p n) names.segments ≡ Some s → s.archive - 1 < length list
   within p n s found =
@@ -387,7 +366,7 @@ module _ (names : RegisterContent) (list : List Archive) (archive : ArchiveConte
   of_calls_then : (name : ListName) → (lines_away more name ≡ None) ⊎ IsOfCall name
   of_calls_then name = subst (λ o. (o ≡ None) ⊎ IsOfCall name) (sym (away_with list one name)) (of_either (one.lists name) (lines_away list name) (IsOfCall name) (has.of_calls name) (are.of_calls name))
 
-  all_named : NamesAll (closed_with archive segments lists names) more
+  all_named : NamesAll (closed_with archive segments lists taken names) more
   all_named = record {
     lists = kept_then;
     of_calls = of_calls_then;
@@ -397,4 +376,4 @@ module _ (names : RegisterContent) (list : List Archive) (archive : ArchiveConte
   }
 
 pub names_one_more : NamesOneMore
-names_one_more names list archive segments lists one sound are own own_lists closed has = all_named names list archive segments lists one sound are own own_lists closed has
+names_one_more names list archive segments lists taken one sound are own own_lists closed has = all_named names list archive segments lists taken one sound are own own_lists closed has

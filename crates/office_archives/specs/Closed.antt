@@ -1,6 +1,5 @@
 -- What archives tell of a number that is closed: its reply, its CONTRL and its ticket.
-use Rattle.std.specs.Prelude.{ℕ, List, Option, Some, codes}
-use Rattle.std.specs.Option.{option_map, option_and_then}
+use Rattle.std.specs.{Prelude.{ℕ, List, Option, Some, codes}, Option.{option_map, option_and_then}}
 use Rattle.office_replies.specs.Bodies.{answer_text}
 use Rattle.office_reports.specs.Contrls.{contrl_in}
 use Rattle.office_parts.specs.Archives.{Archive, archive_of, reply_by}

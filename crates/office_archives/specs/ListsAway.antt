@@ -1,23 +1,16 @@
 -- Lists that are away: what is found of one, and what its lines report.
 use Rattle.std.specs.Prelude.{◌≡◌, ℕ, Bool, false, true, List, Option, None, Some}
 use Rattle.sqlite_trees.specs.declared.store.Store.{Ghosts}
-use Rattle.edi_messages.specs.Owned.{call_content}
-use Rattle.edi_messages.specs.Purposes.{CallContent}
-use Rattle.terminal_core.specs.State.{TerminalState}
-use Rattle.terminal_core.specs.declared.lines.Side.{Side}
+use Rattle.edi_messages.specs.{Owned.call_content, Purposes.CallContent}
+use Rattle.terminal_core.specs.{State.TerminalState, declared.lines.Side.Side}
 use Rattle.office_replies.specs.Events.{Event}
-use Rattle.office_rows.specs.ByKey.{AreListedOnce, lines_by}
-use Rattle.office_rows.specs.Rows.{ListingContent}
+use Rattle.office_rows.specs.{ByKey.{AreListedOnce, lines_by}, Rows.ListingContent}
 use Rattle.office_admission.specs.Setups.{SetupContent}
-use Rattle.office_reports.specs.declared.query.Query.{Query}
-use Rattle.office_reports.specs.declared.query.Query.TheVariants as query
-use Rattle.office_reports.specs.Work.{IsWorkReport}
-use Rattle.office_reports.specs.Lists.{IsListReport}
+use Rattle.office_reports.specs.{declared.query.Query.Query, Work.IsWorkReport, Lists.IsListReport}
 use Rattle.office_desk.specs.declared.desk.Desk.{Desk}
-use Rattle.office_parts.specs.Archives.{Archive}
-use Rattle.office_parts.specs.Away.{lines_away}
-use Rattle.office_parts.specs.OwnLists.{ListName}
+use Rattle.office_parts.specs.{Archives.Archive, Away.lines_away, OwnLists.ListName}
 use Rattle.office_archives.specs.Standing.{StandsBeside}
+use Rattle.office_reports.specs.declared.query.Query.TheVariants as query
 
 -- it is asked for the list of that call
 abbrev pub AsksList : Query → CallContent → Side → Type 0

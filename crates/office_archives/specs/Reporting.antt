@@ -4,11 +4,10 @@ use Rattle.office_replies.specs.Events.{Event}
 use Rattle.office_rows.specs.Rows.{Rows}
 use Rattle.office_admission.specs.Setups.{SetupContent}
 use Rattle.office_reports.specs.declared.query.Query.{Query}
-use Rattle.office_reports.specs.declared.query.Query.TheVariants as query
 use Rattle.office_history.specs.After.{content_after, machine_after}
 use Rattle.office_desk.specs.Reports.{TellsOf}
-use Rattle.office_parts.specs.OwnTerminal.{own_terminal}
-use Rattle.office_parts.specs.Parts.{Archived, ArePartsAfter}
+use Rattle.office_parts.specs.{OwnTerminal.own_terminal, Parts.{Archived, ArePartsAfter}}
+use Rattle.office_reports.specs.declared.query.Query.TheVariants as query
 
 -- it is asked what stands in the yard, how full it is, what the lists say and what is left of them, or which number comes
 -- next

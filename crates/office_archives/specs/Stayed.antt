@@ -2,15 +2,10 @@
 use Rattle.std.specs.Prelude.{◌≡◌, ℕ, ◌<◌, Bool, true, false, ◌&&◌, ◌||◌, List, [], ◌∷◌, ◌++◌, Contains, filter, is_some, codes, Option, None, Some, if◌then◌else◌}
 use Rattle.std.specs.List.{flat_map}
 use Rattle.box6346.specs.declared.box_number.BoxNumber.{BoxNumber}
-use Rattle.terminal_core.specs.Rows.{VisitContent}
-use Rattle.terminal_core.specs.State.{TerminalState, is_visit_of, last_number, last_visit, open_visit}
+use Rattle.terminal_core.specs.{Rows.VisitContent, State.{TerminalState, is_visit_of, last_number, last_visit, open_visit}}
 use Rattle.office_admission.specs.Setups.{SetupContent}
-use Rattle.office_reports.specs.Names.{line}
-use Rattle.office_reports.specs.Visits.{visit_line, visit_report}
-use Rattle.office_reports.specs.Yard.{slot_in}
-use Rattle.office_reports.specs.Containers.{container_report}
-use Rattle.office_parts.specs.Archives.{Archive, IsInArchive}
-use Rattle.office_parts.specs.OwnTerminal.{own_visits}
+use Rattle.office_reports.specs.{Names.line, Visits.{visit_line, visit_report}, Yard.slot_in, Containers.container_report}
+use Rattle.office_parts.specs.{Archives.{Archive, IsInArchive}, OwnTerminal.own_visits}
 
 -- ---- all visits of a container
 

@@ -4,25 +4,16 @@ use Rattle.std.specs.Option.{unwrap_or}
 use Rattle.office_replies.specs.Events.{Event}
 use Rattle.office_rows.specs.Rows.{Rows}
 use Rattle.office_admission.specs.Setups.{SetupContent}
-use Rattle.office_reports.specs.declared.query.Query.{Query}
-use Rattle.office_reports.specs.declared.query.Query.TheVariants as query
-use Rattle.office_reports.specs.Names.{line}
+use Rattle.office_reports.specs.{declared.query.Query.Query, Names.line, Calls.calls_text}
 use Rattle.office_history.specs.After.{content_after, machine_after}
 use Rattle.office_desk.specs.Reports.{TellsAfter, partner_called}
-use Rattle.office_parts.specs.Archives.{Archive}
-use Rattle.office_parts.specs.Parts.{Archived}
-use Rattle.office_parts.specs.Away.{lines_away}
-use Rattle.office_parts.specs.OwnLists.{ListName, own_lines}
-use Rattle.edi_messages.specs.Owned.{call_content}
-use Rattle.edi_messages.specs.Purposes.{CallContent}
-use Rattle.terminal_core.specs.declared.lines.Side.{Side}
-use Rattle.office_reports.specs.Calls.{calls_text}
-use Rattle.terminal_core.specs.State.{Lines}
-use Rattle.office_archives.specs.Closed.{closed_contrl, closed_reply}
-use Rattle.office_archives.specs.Copies.{AreCopies, GoByNumbers}
-use Rattle.office_archives.specs.Counted.{TellsOwnMetrics}
+use Rattle.office_parts.specs.{Archives.Archive, Parts.Archived, Away.lines_away, OwnLists.{ListName, own_lines}}
+use Rattle.edi_messages.specs.{Owned.call_content, Purposes.CallContent}
+use Rattle.terminal_core.specs.{declared.lines.Side.Side, State.Lines}
+use Rattle.office_archives.specs.{Closed.{closed_contrl, closed_reply}, Copies.{AreCopies, GoByNumbers}, Counted.TellsOwnMetrics}
 use Rattle.office_archives.specs.Stayed.{GoOldestFirst, TellsWhatStays, container_if_there}
 use Rattle.office_archives.specs.Keeping.{IsClosedBefore, IsNotClosedBefore, IsReportIn, IsTicketIn}
+use Rattle.office_reports.specs.declared.query.Query.TheVariants as query
 
 -- ---- containers
 

@@ -1,69 +1,35 @@
 -- Transactions that delete, one after the other.
-use Rattle.std.proofs.Common.{◌≡◌, ℕ, List, [], ◌∷◌, Bool, true, false, ◌&&◌, ◌||◌, ◌==◌, not, Ok, IsTrue, codes, filter, refl, sym, ap₂, ◌∙◌, arith, Result, Err, IfErr, OnErr, OnOk, subst, ◌⊎◌, inl, inr, ◌++◌, ap, None, map}
-use Rattle.std.proofs.lemmas.Bool.Decides.{nat_tests}
-use Rattle.sqlite.specs.Collation.TheVariants.{Binary}
-use Rattle.sqlite.specs.Command.TheVariants.{Delete}
-use Rattle.sqlite.specs.Listing.{understood}
-use Rattle.sqlite.specs.Ops.{binary, is_true}
-use Rattle.sqlite.specs.Order.{Row, column}
-use Rattle.sqlite.specs.State.{State, HasCleanDisk, Executes, Shows, Survives, IsRolledBack, KeepsCommit}
-use Rattle.sqlite.specs.Term.{Term, col}
-use Rattle.sqlite.proofs.Callers.{IsPlain, command_of, statement_of, runs_as, survives_begin}
-use Rattle.sqlite_rules.specs.Calls.{ids_of}
-use Rattle.sqlite_rules.specs.declared.error.Rowids.TheVariants.{Given}
-use Rattle.sqlite_sql.specs.declared.ops.BinaryOp.TheVariants.{Compare}
-use Rattle.sqlite_sql.specs.declared.ops.CompareOp.TheVariants.{Eq}
+use Rattle.std.{specs.Prelude.{◌↔◌, Contains, slice_get}, proofs.{lemmas.Bool.eqb-true, lemmas.Bool.Decides.nat_tests, lemmas.Option.same_Some}}
+use Rattle.std.proofs.Common.{◌≡◌, ℕ, List, [], ◌∷◌, Bool, true, false, ◌&&◌, ◌||◌, ◌==◌, not, Ok, IsTrue, codes, filter, refl, sym, ap₂, ◌∙◌, arith, Result, Err, IfErr, OnErr, OnOk, subst, ◌⊎◌, inl, inr, ◌++◌, ap, None, map, length}
+use Rattle.sqlite.specs.{Collation.TheVariants.Binary, Command.TheVariants.Delete, Listing.understood, Ops.{binary, is_true}, Order.{Row, column}, Tree.Trees}
+use Rattle.sqlite.specs.{State.{State, HasCleanDisk, Executes, Shows, Survives, IsRolledBack, KeepsCommit}, Term.{Term, col}, Held.{Held, state}}
+use Rattle.sqlite.{specs.declared.types.Value.TheVariants.Text, proofs.Callers.{IsPlain, command_of, statement_of, runs_as, survives_begin}}
+use Rattle.sqlite.proofs.StateLemmas.{survives_then, survives_weaker}
+use Rattle.sqlite_rules.specs.{Calls.ids_of, declared.error.Rowids.TheVariants.Given}
+use Rattle.sqlite_sql.specs.{declared.ops.BinaryOp.TheVariants.Compare, declared.ops.CompareOp.TheVariants.Eq}
 use Rattle.sqlite_tied.specs.Compute.{everything}
 use Rattle.edi_messages.specs.Purposes.{CallContent}
-use Rattle.sqlite.specs.declared.types.Value.TheVariants.{Text}
-use Rattle.terminal_core.specs.Rows.{VisitContent}
-use Rattle.terminal_core.specs.State.{side_code, AreNumbered, TerminalState}
-use Rattle.terminal_core.specs.declared.lines.Side.{Side}
-use Rattle.office_rows.specs.Effects.{is_pair}
-use Rattle.office_rows.specs.Rows.{ListingContent, Rows, listing_content}
-use Rattle.office_rows.specs.Stored.{HasRows}
-use Rattle.office_rows.specs.Tables.{interchange_table, listing_table, visit_table, office_schema}
+use Rattle.terminal_core.specs.{Rows.VisitContent, State.{side_code, AreNumbered, TerminalState}, declared.lines.Side.Side, Listings.lines_of}
+use Rattle.terminal_core.{specs.{Restoring.AreOnce, declared.lines.Listing.Listing}, proofs.Whole.{found_at, same_index}}
+use Rattle.office_rows.{specs.{Effects.is_pair, Rows.{ListingContent, Rows, listing_content}, Stored.HasRows}, proofs.Listed.and_true}
+use Rattle.office_rows.{specs.Tables.{interchange_table, listing_table, visit_table, office_schema}, proofs.Creating.{keep_then, on_ok, quiet_then, stores}}
 use Rattle.office_rows.specs.Values.{number_value, interchange_values, line_values, visit_values}
 use Rattle.office_rows.proofs.WriteLemmas.{holds_deleted, rows_of, deletes, equal_numbers, equal_texts}
 use Rattle.office_rows.proofs.Writing.{only_interchanges, only_lines, only_visits, equals}
-use Rattle.office_parts.specs.Bringing.{is_list}
-use Rattle.office_parts.specs.OwnLists.{is_own_line, list_name, rows_without_lists, ListName}
-use Rattle.office_closing.specs.Deleting.{Deletes, without_interchange, without_visits, Becomes}
-use Rattle.office_closing.proofs.FoundLemmas.{list_tied, listings_by}
-use Rattle.office_rows.proofs.Listed.{and_true}
-use Rattle.sqlite.specs.Held.{Held, state}
-use Rattle.sqlite.specs.Tree.{Trees}
-use Rattle.sqlite.proofs.StateLemmas.{survives_then, survives_weaker}
-use Rattle.sqlite_trees.specs.declared.store.Store.{Ghosts}
-use Rattle.office_rows.proofs.Creating.{keep_then, on_ok, quiet_then, stores}
-use Rattle.office_tables.specs.Faults.{IsOfStore}
-use Rattle.office_tables.specs.declared.table_fault.TableFault.{TableFault}
-use Rattle.office_tables.proofs.WritesLemmas.{survives_here}
-use Rattle.office_tables.specs.Writing.{IsUndone}
-use Rattle.office_closing.specs.Clearing.{IsCleared, IsPartlyCleared, StoresLeft, Clears}
-use Rattle.office_tables.proofs.WriteLemmas.{on_failed}
-use Rattle.std.specs.Prelude.{◌↔◌, Contains, slice_get}
-use Rattle.std.proofs.lemmas.Option.{same_Some}
-use Rattle.terminal_core.proofs.Whole.{found_at, same_index}
+use Rattle.office_parts.specs.{Bringing.is_list, OwnLists.{is_own_line, list_name, rows_without_lists, ListName}}
 use Rattle.office_parts.proofs.Splits.{has_contained, contained_has, has_left, has_right, has_pushed}
-use Rattle.office_closing.specs.declared.visits.VisitFault.{VisitFault}
-use Rattle.office_closing.specs.declared.visits.VisitFault.TheVariants.{Differs}
-use Rattle.office_closing.specs.Visits.{AreAlike, AreToGo, GoesBelow, IsCauseOf, IsOtherwiseOver}
-use Rattle.terminal_core.specs.Listings.{lines_of}
-use Rattle.terminal_core.specs.Restoring.{AreOnce}
-use Rattle.terminal_core.specs.declared.lines.Listing.{Listing}
-use Rattle.office_closing.specs.Going.{AreDone}
+use Rattle.office_closing.specs.{Deleting.{Deletes, without_interchange, without_visits, Becomes}, Clearing.{IsCleared, IsPartlyCleared, StoresLeft, Clears}}
+use Rattle.office_closing.specs.{declared.visits.VisitFault.VisitFault, declared.visits.VisitFault.TheVariants.Differs, Going.AreDone, Changes.unmarked}
+use Rattle.office_closing.specs.{Visits.{AreAlike, AreToGo, GoesBelow, IsCauseOf, IsOtherwiseOver}, Lists.{SettledListContent, list_content}}
+use Rattle.office_closing.specs.{Register.{ArchiveContent, RegisterContent}, declared.faults.CloseFault.CloseFault, declared.planning.ClosingLists.ClosingLists}
+use Rattle.office_closing.specs.{declared.planning.History.History, declared.planning.Plan.Plan, declared.planning.Stage.Stage}
+use Rattle.office_closing.specs.Copies.{AreDoneIn, ComesOn, FileNames, GoWith, HasCome, IsOfStore as AreOfStore, OfficeContent, archive_in, lists_at, segments_in, taken_at}
+use Rattle.office_closing.{specs.declared.register.Segment.Segment, proofs.FoundLemmas.{list_tied, listings_by}}
+use Rattle.office_closing.specs.Planning.{AreClosingLists, AreFor, AreInBoth, IsHistory, IsPlan, IsPlanOf, IsRefused, IsRefusedWith, IsTakenFor}
+use Rattle.sqlite_trees.specs.declared.store.Store.{Ghosts}
+use Rattle.office_tables.{specs.{Faults.IsOfStore, declared.table_fault.TableFault.TableFault, Writing.IsUndone}, proofs.WritesLemmas.survives_here}
+use Rattle.office_tables.proofs.WriteLemmas.{on_failed}
 use Rattle.office_loading.proofs.Keyed.{listed_once}
-use Rattle.office_closing.specs.Changes.{unmarked}
-use Rattle.office_closing.specs.Lists.{SettledListContent, list_content}
-use Rattle.office_closing.specs.Register.{ArchiveContent, RegisterContent}
-use Rattle.office_closing.specs.declared.faults.CloseFault.{CloseFault}
-use Rattle.office_closing.specs.declared.planning.ClosingLists.{ClosingLists}
-use Rattle.office_closing.specs.declared.planning.History.{History}
-use Rattle.office_closing.specs.declared.planning.Plan.{Plan}
-use Rattle.office_closing.specs.declared.planning.Stage.{Stage}
-use Rattle.office_closing.specs.Copies.{AreDoneIn, ComesOn, FileNames, HasCome, IsOfStore as AreOfStore, OfficeContent, archive_in, lists_at}
-use Rattle.office_closing.specs.Planning.{AreClosingLists, AreFor, AreInBoth, IsHistory, IsPlan, IsPlanOf, IsRefused, IsRefusedWith}
 use Rattle.office_closing.specs.declared.faults.CloseFault.TheVariants as fault
 use Rattle.office_closing.specs.declared.faults.Refusal.TheVariants as refusal
 use Rattle.office_closing.specs.declared.planning.Stage.TheVariants as stage
@@ -441,6 +407,17 @@ module _ (own copy : OfficeContent) (names : FileNames) (place : ℕ) (done list
   lists_come with_ stage.Raised has =
       for.other (λ same. one_longer copy.register.archives (archive_in names.archive copy) (ap (λ (c : RegisterContent). c.archives) has.0 ∙ sym (ap (λ (c : RegisterContent). c.archives) same)))
 
+module _ (own copy : OfficeContent) (names : FileNames) (place : ℕ) (taken : List Segment) (unclosed : own.register.closed_for ≡ None) (for : IsTakenFor own copy place taken) where
+  own_unmarked : own.register ≡ unmarked own.register
+  own_unmarked = λ i. record own.register { closed_for = unclosed i }
+
+  -- what had been taken at a stage that the closing has come to
+  pub taken_come : (with_ : List SettledListContent) (come : Stage) → HasCome own copy names with_ come → taken ≡ taken_at own place come
+  taken_come with_ stage.New has = for.same (has.0 ∙ own_unmarked)
+  taken_come with_ stage.Marked has = for.same (has.0 ∙ own_unmarked)
+  taken_come with_ stage.Raised has =
+      for.other (λ same. one_longer copy.register.archives (archive_in names.archive copy) (ap (λ (c : RegisterContent). c.archives) has.0 ∙ sym (ap (λ (c : RegisterContent). c.archives) same)))
+
 -- ---- what a plan has of lists
 
 -- the registers are asked with lists in memory
@@ -451,17 +428,35 @@ registers_for own copy place done lists given these same those for = record {
 }
 
 -- Rust lines of the terminal, and what is found done among them
-pub done_in : (terminal : TerminalState) (named : List ListName) (place at : ℕ) (lines : List Listing) (done : List SettledListContent) → lines_of lines ≡ terminal.lines → AreOnce lines → place ≡ at → AreDone (map listing_content lines) named place done
-    → AreDoneIn terminal named at done
-done_in terminal named place at lines done told once here are = record {
+pub done_in : (terminal : TerminalState) (named : List ListName) (segments : List Segment) (at : ℕ) (lines : List Listing) (done : List SettledListContent) → lines_of lines ≡ terminal.lines → AreOnce lines → GoWith segments (map listing_content lines) named at done
+    → AreDoneIn terminal named segments at done
+done_in terminal named segments at lines done told once are = record {
   lines = map listing_content lines;
   once = listed_once lines once;
   by_key = sym (listings_by lines) ∙ told;
-  are = subst (λ n. AreDone (map listing_content lines) named n done) here are;
+  are = are;
 }
 
+pub none_is_empty : (segments : List Segment) → (length segments == 0) ≡ true → segments ≡ []
+none_is_empty [] e = refl
+none_is_empty (segment ∷ segments) e = absurd (omega (arith, eqb-true (length (segment ∷ segments)) 0 e))
+
+-- with some segment, what is done goes
+pub go_with : (segments : List Segment) (lines : List ListingContent) (named : List ListName) (archive : ℕ) (found : List SettledListContent) → (segments ≡ [] → ⊥) → AreDone lines named archive found → GoWith segments lines named archive found
+go_with [] lines named archive found some are = absurd (some refl)
+go_with (segment ∷ segments) lines named archive found some are = are
+
+-- lists that go are done, and with no segment there are none
+pub gone_are_done : (segments : List Segment) (lines : List ListingContent) (named : List ListName) (archive : ℕ) (found : List SettledListContent) → GoWith segments lines named archive found → (found ≡ []) ⊎ AreDone lines named archive found
+gone_are_done [] lines named archive found go = inl go
+gone_are_done (segment ∷ segments) lines named archive found go = inr go
+
+pub done_with : (segments : List Segment) (lines : List ListingContent) (named : List ListName) (archive : ℕ) (found : List SettledListContent) → (segments ≡ [] → ⊥) → GoWith segments lines named archive found → AreDone lines named archive found
+done_with [] lines named archive found some go = absurd (some refl)
+done_with (segment ∷ segments) lines named archive found some go = go
+
 pub plan_from : (own copy : OfficeContent) (names : FileNames) (named : List ListName) (history : History) (lists : ClosingLists) (come : Stage) (plan : Plan) → AreOfStore own copy → IsHistory own copy names.archive history
-    → AreClosingLists own copy named (archive_in names.archive copy).place lists → ComesOn own copy names (map list_content lists.all.items) come → IsPlanOf history lists come plan → IsPlan own copy names named plan
+    → AreClosingLists own copy named (segments_in names.archive copy) (archive_in names.archive copy).place lists → ComesOn own copy names (map list_content lists.all.items) come → IsPlanOf history lists come plan → IsPlan own copy names named plan
 plan_from own copy names named history lists come plan of_store closes put comes is =
     let place = (archive_in names.archive copy).place in
     let all = map list_content lists.all.items in
@@ -484,9 +479,12 @@ plan_from own copy names named history lists come plan of_store closes put comes
       gone =
           subst (λ l. AreInBoth put.done (map list_content l) (map list_content plan.gone.items)) (sym is.lists)
           (subst (λ l. AreInBoth put.done all (map list_content l)) (sym is.gone) put.gone);
+      taken =
+          is.taken ∙ taken_come own copy names place history.taken.items of_store.unclosed closes.taken all come comes.has_come
+          ∙ ap (taken_at own place) (sym is.stage);
     }
 
-pub refused_with : (own copy : OfficeContent) (names : FileNames) (named : List ListName) (done : List SettledListContent) → AreDoneIn own.terminal named (archive_in names.archive copy).place done → (why : CloseFault) → IsRefusedWith own copy names done why → IsRefused own copy names why
+pub refused_with : (own copy : OfficeContent) (names : FileNames) (named : List ListName) (done : List SettledListContent) → AreDoneIn own.terminal named (segments_in names.archive copy) (archive_in names.archive copy).place done → (why : CloseFault) → IsRefusedWith own copy names done why → IsRefused own copy names why
 refused_with own copy names named done are (fault.Archive refusal.Register) none = record { named = named; done = done; are_done = are; none = none }
 refused_with own copy names named done are (fault.Archive refusal.Closed) is = absurd is
 refused_with own copy names named done are (fault.Archive refusal.Office) is = absurd is

@@ -1,64 +1,65 @@
 -- What calls in a transaction come to, one after the other, and what the whole one commits.
+use Rattle.std.{specs.{Ordering.is_lt, List.Sorted.{IsPermutation, IsSortedBy}}, proofs.{lemmas.List.append-nil, lemmas.List.Sorted.IsPermutation-map}}
 use Rattle.std.proofs.Common.{◌≡◌, ◌++◌, List, [], ◌∷◌, IsTrue, Result, Ok, true, take, refl, sym, ap, subst, ◌∙◌, append_assoc, arith, ℕ, Bool, false, Err, map, filter}
-use Rattle.std.proofs.lemmas.List.{append-nil}
-use Rattle.sqlite.specs.Effect.{Database}
-use Rattle.sqlite.specs.State.{State, HasCleanDisk, Shows, Survives, Shown}
-use Rattle.sqlite.specs.Tree.{Trees}
-use Rattle.office_rows.specs.Steps.{Turns}
-use Rattle.office_rows.specs.Stored.{HasEmpty, columns_of}
-use Rattle.office_rows.specs.Tables.{no_schema}
-use Rattle.office_rows.proofs.Creating.{keep_then, quiet_then, on_ok}
-use Rattle.office_tables.specs.declared.table_fault.TableFault.{TableFault}
-use Rattle.office_tables.proofs.WritesLemmas.{survives_here}
-use Rattle.office_closing.specs.declared.register.Segment.{Segment}
-use Rattle.office_closing.specs.Changes.{empty_register, unchanged, with_segments, with_lists}
-use Rattle.office_closing.specs.Lists.{SettledListContent, put_list, put_lists}
-use Rattle.office_closing.specs.Register.{RegisterContent}
-use Rattle.office_closing.specs.Stored.{HasRegister, HasWhole, StoresRegister}
-use Rattle.office_closing.specs.Tables.{register_tables, archive_table, segment_table, closed_for_table, settled_table, Layout, register_schema, schema_in}
-use Rattle.office_closing.specs.Transactions.{Holding, Steps, Writes, WritesIfOpen, IsMade, HasBecome}
-use Rattle.std.specs.Ordering.{is_lt}
-use Rattle.std.specs.List.Sorted.{IsPermutation, IsSortedBy}
-use Rattle.std.proofs.lemmas.List.Sorted.{IsPermutation-map}
-use Rattle.sqlite.specs.declared.types.Value.TheVariants.{Null}
-use Rattle.sqlite.specs.Collation.TheVariants.{Binary}
-use Rattle.sqlite.specs.Order.{Row}
-use Rattle.sqlite.specs.Schema.{Schema}
-use Rattle.sqlite.specs.Table.{Table}
-use Rattle.sqlite.specs.Term.{Term, eval_all}
-use Rattle.sqlite.specs.Query.{Output, key_cmp}
-use Rattle.sqlite.specs.Program.{overlay}
-use Rattle.sqlite.specs.Command.TheVariants.{Select}
-use Rattle.sqlite.specs.Listing.{understood, reads_listing}
+use Rattle.sqlite.specs.{Effect.Database, State.{State, HasCleanDisk, Shows, Survives, Shown}, Tree.Trees, declared.types.Value.TheVariants.Null, Order.Row}
+use Rattle.sqlite.specs.{Collation.TheVariants.Binary, Schema.Schema, Table.Table, Term.{Term, eval_all}, Query.{Output, key_cmp}, Program.overlay}
+use Rattle.sqlite.{specs.{Command.TheVariants.Select, Listing.{understood, reads_listing}}, proofs.Callers.{IsPlain, command_of, reads_as}}
+use Rattle.office_rows.specs.{Steps.Turns, Stored.{HasEmpty, columns_of}, Tables.no_schema, Shown.{columns_at, ShowsTable}}
+use Rattle.office_rows.proofs.{Creating.{keep_then, quiet_then, on_ok}, Listed.{unmapped, sorted_as}, WriteLemmas.{rows_of, passes, answer_in_order}}
+use Rattle.office_tables.{specs.declared.table_fault.TableFault.TableFault, proofs.WritesLemmas.survives_here}
+use Rattle.office_closing.specs.{declared.register.Segment.Segment, Changes.{empty_register, unchanged, with_segments, with_lists, with_taken}}
+use Rattle.office_closing.specs.{Lists.{SettledListContent, put_list, put_lists}, Register.RegisterContent, Stored.{HasRegister, HasWhole, StoresRegister}}
+use Rattle.office_closing.specs.Tables.{register_tables, archive_table, segment_table, closed_for_table, settled_table, taken_table, Layout, register_schema, schema_in, has_table}
+use Rattle.office_closing.specs.Transactions.{Holding, Steps, Writes, WritesTo, WritesIfOpen, IsMade, HasBecome}
 use Rattle.sqlite_resolve.specs.declared.error.CompileError.{CompileError}
-use Rattle.sqlite.proofs.Callers.{IsPlain, command_of, reads_as}
 use Rattle.sqlite_trees.proofs.ListLemmas.{map-map, filter_all, all_of}
-use Rattle.sqlite_value.specs.Keys.{ascending}
-use Rattle.sqlite_value.specs.declared.keys.Key.{Key}
-use Rattle.office_rows.specs.Shown.{columns_at, ShowsTable}
-use Rattle.office_rows.proofs.Listed.{unmapped, sorted_as}
-use Rattle.office_rows.proofs.WriteLemmas.{rows_of, passes, answer_in_order}
+use Rattle.sqlite_value.specs.{Keys.ascending, declared.keys.Key.Key}
+use Rattle.office_closing.specs.declared.register_reading.Later.TheVariants as later
 use Rattle.office_closing.proofs.WriteTexts as texts
 
 -- ==== Committing: What calls in a transaction come to, one after the other, and what the whole one commits.
 
 -- the trees of a database that has the register store it
 pub stores : (content : RegisterContent) (db : Database) → HasWhole content db → StoresRegister content db.trees
-stores content db has = record { schema = refl; listed = has.listed; archives = has.archives; segments = has.segments; closed_for = has.closed_for; lists = has.lists }
+stores content db has = record { schema = refl; listed = has.listed; archives = has.archives; segments = has.segments; closed_for = has.closed_for; lists = has.lists; taken = has.taken }
 
 -- ---- inside
 
 -- a statement that was made
-pub writes_of : {T : Type 0} (Has : Holding) (from to : RegisterContent → RegisterContent) (old new : State) (value : T) → Survives old new (λ _. ⊥)
-    → (HasCleanDisk new → IsTrue old.in_transaction → Shows old new new.now old.committed true × ((content : RegisterContent) → Has (from content) old.now → HasWhole (to content) new.now))
-    → Writes Has from to old new (Ok value)
-writes_of Has from to old new value survives made = record {
+pub writes_to_of : {T : Type 0} (Has Then : Holding) (from to : RegisterContent → RegisterContent) (old new : State) (value : T) → Survives old new (λ _. ⊥)
+    → (HasCleanDisk new → IsTrue old.in_transaction → Shows old new new.now old.committed true × ((content : RegisterContent) → Has (from content) old.now → Then (to content) new.now))
+    → WritesTo Has Then from to old new (Ok value)
+writes_to_of Has Then from to old new value survives made = record {
   steps = λ clean inside.
       let done = made clean inside in
       record { register = done.1; inside = done.0.mode; committed = done.0.committed_is; is_open = done.0.is_open };
   keeps = λ clean inside. record { was_open = λ _. (made clean inside).0.was_open; committed = λ _. (made clean inside).0.committed_is };
   survives = survives;
   fault = tt;
+}
+
+pub writes_of : {T : Type 0} (Has : Holding) (from to : RegisterContent → RegisterContent) (old new : State) (value : T) → Survives old new (λ _. ⊥)
+    → (HasCleanDisk new → IsTrue old.in_transaction → Shows old new new.now old.committed true × ((content : RegisterContent) → Has (from content) old.now → HasWhole (to content) new.now))
+    → Writes Has from to old new (Ok value)
+writes_of Has = writes_to_of Has HasWhole
+
+-- a table is there, and then another
+pub writes_through : {X Y : Type 0} (Has Then : Holding) (a b c : State) (x : X) (result : Result Y TableFault) → WritesTo Has Then unchanged unchanged a b (Ok x) → Writes Then unchanged unchanged b c result → Writes Has unchanged unchanged a c result
+writes_through Has Then a b c x result p q = record {
+  steps = λ clean inside.
+      let early : HasCleanDisk b = omega (arith, q.survives.clean) in
+      let first = p.steps early inside in
+      on_ok result (λ (second : Steps Then unchanged unchanged b c). record {
+        register = λ content has. second.register content (first.register content has);
+        inside = second.inside;
+        committed = second.committed ∙ first.committed;
+        is_open = second.is_open;
+      }) (q.steps clean first.inside);
+  keeps = λ clean inside.
+      let early : HasCleanDisk b = omega (arith, q.survives.clean) in
+      keep_then a b c (p.keeps early inside) (q.keeps clean (p.steps early inside).inside);
+  survives = quiet_then a b c p.survives q.survives;
+  fault = q.fault;
 }
 
 pub steps_then : (Has : Holding) (from over to : RegisterContent → RegisterContent) (a b c : State) → Steps Has from over a b → Steps HasWhole over to b c → Steps Has from to a c
@@ -153,6 +154,12 @@ no_segments content = ap (λ l. record content { segments = l }) (append-nil con
 pub one_more_segment : (before after : List Segment) (one : Segment) → after ≡ before ++ one ∷ [] → (content : RegisterContent) → with_segments (one ∷ []) (with_segments before content) ≡ with_segments after content
 one_more_segment before after one is content = ap (λ l. record content { segments = l }) (append_assoc content.segments before (one ∷ []) ∙ ap (λ l. content.segments ++ l) (sym is))
 
+pub none_taken : (content : RegisterContent) → with_taken [] content ≡ content
+none_taken content = ap (λ l. record content { taken = l }) (append-nil content.taken)
+
+pub one_more_taken : (before after : List Segment) (one : Segment) → after ≡ before ++ one ∷ [] → (content : RegisterContent) → with_taken (one ∷ []) (with_taken before content) ≡ with_taken after content
+one_more_taken before after one is content = ap (λ l. record content { taken = l }) (append_assoc content.taken before (one ∷ []) ∙ ap (λ l. content.taken ++ l) (sym is))
+
 pub put_more : (before : List SettledListContent) (one : SettledListContent) (lists : List SettledListContent) → put_lists (before ++ one ∷ []) lists ≡ put_list one (put_lists before lists)
 put_more [] one lists = refl
 put_more (l ∷ before) one lists = put_more before one (put_list l lists)
@@ -213,8 +220,11 @@ module _ (old new : State) (layout : Layout) (has : old.now.schema ≡ schema_in
   pub lists_files : Shown texts.select_closed_for [] old new answer → ShowsTable closed_for_table (0 ∷ []) (0 ∷ []) old.now answer
   lists_files = lists old new (schema_in layout) has answer closed_for_table texts.select_closed_for texts.select_closed_for_shown texts.select_closed_for_order texts.select_closed_for_names (0 ∷ []) (0 ∷ []) (texts.select_closed_for_is layout) (texts.select_closed_for_plain layout) (λ trees. refl) (λ r. refl) (λ r. refl) refl
 
-pub lists_settled : (old new : State) → old.now.schema ≡ register_schema → (answer : List Row) → Shown texts.select_settled [] old new answer → ShowsTable settled_table (0 ∷ 1 ∷ 2 ∷ 3 ∷ 4 ∷ []) (0 ∷ 1 ∷ 2 ∷ 3 ∷ []) old.now answer
-lists_settled old new has answer = lists old new register_schema has answer settled_table texts.select_settled texts.select_settled_shown texts.select_settled_order texts.select_settled_names (0 ∷ 1 ∷ 2 ∷ 3 ∷ 4 ∷ []) (0 ∷ 1 ∷ 2 ∷ 3 ∷ []) texts.select_settled_is texts.select_settled_plain (λ trees. refl) (λ r. refl) (λ r. refl) refl
+pub lists_settled : (old new : State) (layout : Layout) → has_table later.Lists layout ≡ true → old.now.schema ≡ schema_in layout → (answer : List Row) → Shown texts.select_settled [] old new answer → ShowsTable settled_table (0 ∷ 1 ∷ 2 ∷ 3 ∷ 4 ∷ []) (0 ∷ 1 ∷ 2 ∷ 3 ∷ []) old.now answer
+lists_settled old new layout there has answer = lists old new (schema_in layout) has answer settled_table texts.select_settled texts.select_settled_shown texts.select_settled_order texts.select_settled_names (0 ∷ 1 ∷ 2 ∷ 3 ∷ 4 ∷ []) (0 ∷ 1 ∷ 2 ∷ 3 ∷ []) (texts.select_settled_is layout there) (texts.select_settled_plain layout there) (λ trees. refl) (λ r. refl) (λ r. refl) refl
+
+pub lists_taken : (old new : State) → old.now.schema ≡ register_schema → (answer : List Row) → Shown texts.select_taken [] old new answer → ShowsTable taken_table (0 ∷ 1 ∷ 2 ∷ []) (1 ∷ 0 ∷ []) old.now answer
+lists_taken old new has answer = lists old new register_schema has answer taken_table texts.select_taken texts.select_segment_shown texts.select_segment_order texts.select_segment_names (0 ∷ 1 ∷ 2 ∷ []) (1 ∷ 0 ∷ []) texts.select_taken_is texts.select_taken_plain (λ trees. refl) (λ r. refl) (λ r. refl) refl
 
 -- Where there are no tables nothing is shown.
 pub lists_nothing : (old new : State) (sql : List ℕ) (e : CompileError) → understood no_schema sql ≡ Err e → old.now.schema ≡ no_schema → (answer : List Row) → Shown sql [] old new answer → ⊥

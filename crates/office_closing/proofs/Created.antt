@@ -1,48 +1,30 @@
 -- What each statement that makes a table makes of an empty database.
+use Rattle.std.{specs.List.list_all, proofs.{lemmas.List.Sorted.IsPermutation-refl, lemmas.Bool.{cases_Bool, and_parts}, lemmas.Bool.Decides.nat_tests}}
 use Rattle.std.proofs.Common.{◌≡◌, ℕ, List, [], ◌∷◌, None, Ok, false, ap, sym, subst, ◌∙◌, zero, suc, ◌+◌, ◌<◌, ◌==◌, ◌&&◌, ◌++◌, inl, inr, true, length, take, drop, set, get_or, max, nat_le, nat_lt, if◌then◌else◌, refl, ap₂, add-one, arith, Option, Some, fold}
-use Rattle.std.proofs.lemmas.List.Sorted.{IsPermutation-refl}
-use Rattle.sqlite.specs.Effect.{Database, IsDatabase}
-use Rattle.sqlite.specs.Does.{Tally, lacks_sequence}
-use Rattle.sqlite.specs.Command.TheVariants.{CreateTable, Nothing}
-use Rattle.sqlite.specs.State.{State, Executes, Writes}
-use Rattle.sqlite.specs.Compile.{table_defined_by}
-use Rattle.sqlite.specs.Listing.{understood}
-use Rattle.sqlite.proofs.Callers.{IsPlain, command_of, statement_of, runs_as}
-use Rattle.sqlite_catalog.specs.Change.{created, next_tree, KeepsRows}
-use Rattle.sqlite_catalog.specs.Listing.{Lists}
-use Rattle.sqlite_trees.specs.Objects.{catalog_tree}
-use Rattle.office_rows.specs.Stored.{Holds, HasEmpty}
-use Rattle.office_rows.specs.Tables.{schema_of}
-use Rattle.office_rows.proofs.WriteLemmas.{went, same_value}
-use Rattle.office_closing.specs.Changes.{empty_register}
-use Rattle.office_closing.specs.Register.{RegisterContent, is_of, last_closed}
-use Rattle.office_closing.specs.Stored.{HasRegister, HasRegisterIn, HasWhole, archive_values, segment_values, file_values, list_values, if_any}
-use Rattle.office_closing.specs.Tables.{archive_table, segment_table, closed_for_table, settled_table, Layout, older, whole, register_tables, older_schema, register_schema}
-use Rattle.office_rows.proofs.Reading.{nothing_held}
-use Rattle.std.specs.List.{list_all}
-use Rattle.std.proofs.lemmas.Bool.{cases_Bool, and_parts}
-use Rattle.std.proofs.lemmas.Bool.Decides.{nat_tests}
-use Rattle.std.proofs.lemmas.List.{take_more, get_or-set_same, get_or-set_other}
-use Rattle.std.proofs.lemmas.List.Recursion.{and_at, max_push}
-use Rattle.std.proofs.Math.Seq.{drop-cons}
-use Rattle.office_admission.specs.Limits.{most_partners}
-use Rattle.office_closing.specs.declared.register.Segment.{Segment}
-use Rattle.office_closing.specs.Sound.{is_within, close_more}
+use Rattle.std.proofs.{lemmas.List.{take_more, get_or-set_same, get_or-set_other}, lemmas.List.Recursion.{and_at, max_push}, Math.Seq.drop-cons}
 use Rattle.std.proofs.lemmas.Slice.Eq.{bytes_eq-Decides}
+use Rattle.sqlite.specs.{Effect.{Database, IsDatabase}, Schema.Schema, Table.Table, Does.{Tally, lacks_sequence}, Command.TheVariants.{CreateTable, Nothing}}
+use Rattle.sqlite.specs.{State.{State, Executes, Writes}, Compile.table_defined_by, Listing.understood}
+use Rattle.sqlite.proofs.Callers.{IsPlain, command_of, statement_of, runs_as}
+use Rattle.sqlite_catalog.specs.{Change.{created, next_tree, KeepsRows}, Listing.Lists}
+use Rattle.sqlite_trees.specs.Objects.{catalog_tree}
+use Rattle.office_rows.{specs.{Stored.{Holds, HasEmpty}, Tables.schema_of}, proofs.{WriteLemmas.{went, same_value}, Reading.nothing_held}}
+use Rattle.office_closing.specs.{Changes.empty_register, Register.{RegisterContent, is_of, last_closed}, declared.register.Segment.Segment}
+use Rattle.office_closing.specs.Stored.{HasRegister, HasRegisterIn, HasListed, HasWhole, archive_values, segment_values, file_values, list_values, if_any}
+use Rattle.office_closing.specs.Tables.{archive_table, segment_table, closed_for_table, settled_table, taken_table, Layout, older, former, whole, register_tables, older_schema, former_schema, register_schema}
+use Rattle.office_closing.specs.{Sound.{is_within, close_more}, Lists.{SettledListContent, is_of_list, lines_of_list}}
+use Rattle.office_admission.specs.Limits.{most_partners}
 use Rattle.edi_messages.specs.Purposes.{CallContent}
-use Rattle.terminal_core.specs.State.{side_code}
-use Rattle.terminal_core.specs.declared.lines.Side.{Side}
-use Rattle.terminal_core.specs.declared.lines.Side.TheVariants.{Load, Discharge}
-use Rattle.office_closing.specs.Lists.{SettledListContent, is_of_list, lines_of_list}
+use Rattle.terminal_core.specs.{State.side_code, declared.lines.Side.Side, declared.lines.Side.TheVariants.{Load, Discharge}}
 use Rattle.office_closing.proofs.WriteTexts as texts
 
 -- ==== Created: What each statement that makes a table makes of an empty database.
 
--- a sound database of the register's tables lists them
-pub listed_by : (db : Database) → db.schema ≡ register_schema → IsDatabase db → Lists (db.trees catalog_tree) register_schema
+-- a sound database lists its tables
+pub listed_by : {schema : Schema} (db : Database) → db.schema ≡ schema → IsDatabase db → Lists (db.trees catalog_tree) schema
 listed_by db is sound = subst (Lists (db.trees catalog_tree)) is sound.lists
 
--- the four tables, each empty, are the register of a store of which nothing was put away
+-- the five tables, each empty, are the register of a store of which nothing was put away
 nothing_registered : (db : Database) → HasEmpty register_tables db → Lists (db.trees catalog_tree) register_schema → HasWhole empty_register db
 nothing_registered db has listed = record {
   schema = has.schema;
@@ -51,14 +33,15 @@ nothing_registered db has listed = record {
   segments = nothing_held (db.trees 2) has.empty.1.0;
   closed_for = nothing_held (db.trees 4) has.empty.1.1.0;
   lists = nothing_held (db.trees 6) has.empty.1.1.1.0;
+  taken = nothing_held (db.trees 8) has.empty.1.1.1.1.0;
 }
 
--- the table of lists is there, empty, and the other three are as they were
-pub record Adds (old new : Database) : Type 0 where
-  pub schema : new.schema ≡ register_schema
-  pub listed : Lists (new.trees catalog_tree) register_schema
-  pub kept : KeepsRows older_schema.tables old.trees new.trees
-  pub empty : new.trees 6 ≡ []
+-- one more table is there, empty, and the others are as they were
+pub record Adds (from to : Schema) (old new : Database) : Type 0 where
+  pub schema : new.schema ≡ to
+  pub listed : Lists (new.trees catalog_tree) to
+  pub kept : KeepsRows from.tables old.trees new.trees
+  pub empty : new.trees (next_tree from) ≡ []
 
 module _ (old new : State) (count : ℕ) where
   pub created_archive : HasEmpty [] old.now → Executes texts.create_archive [] old new (Ok count) → HasEmpty (archive_table ∷ []) new.now
@@ -114,51 +97,78 @@ module _ (old new : State) (count : ℕ) where
         empty = (ap (λ (d : Database). d.trees 0) now ∙ kept.0 ∙ has.empty.0, (ap (λ (d : Database). d.trees 2) now ∙ kept.1.0 ∙ has.empty.1.0, (ap (λ (d : Database). d.trees 4) now ∙ empty, tt)));
       }
 
-  adds : old.now.schema ≡ older_schema → (text : List ℕ) → (command_of (understood older_schema text) ≡ CreateTable) × (statement_of text (understood older_schema text) ≡ text) → IsPlain (understood older_schema text)
-      → table_defined_by text ≡ Ok (record settled_table { tree = 0 }) → Executes text [] old new (Ok count) → Adds old.now new.now
-  adds has text is texts_plain defined h =
-      let w = subst (λ t. Writes old new None CreateTable t [] count) is.1 (runs_as text [] old new older_schema has CreateTable is.0 texts_plain count h) in
+  adds : (from to : Schema) (table : Table) → created from (record table { tree = 0 }) ≡ to → lacks_sequence to ≡ false → old.now.schema ≡ from → (text : List ℕ)
+      → (command_of (understood from text) ≡ CreateTable) × (statement_of text (understood from text) ≡ text) → IsPlain (understood from text)
+      → table_defined_by text ≡ Ok (record table { tree = 0 }) → Executes text [] old new (Ok count) → Adds from to old.now new.now
+  adds from to table makes lacks has text is texts_plain defined h =
+      let w = subst (λ t. Writes old new None CreateTable t [] count) is.1 (runs_as text [] old new from has CreateTable is.0 texts_plain count h) in
       let all = went w.changed in
       let first = went all.1 in
       let made = first.1 in
-      let both : Ok made.table ≡ Ok (record settled_table { tree = 0 }) = sym made.defined ∙ defined in
-      let same : made.table ≡ record settled_table { tree = 0 } = cc in
-      let schema : first.0.schema ≡ register_schema = made.is ∙ ap (λ s. created s made.table) has ∙ ap (created older_schema) same in
-      let plain : lacks_sequence first.0.schema ≡ false = ap lacks_sequence schema in
+      let both : Ok made.table ≡ Ok (record table { tree = 0 }) = sym made.defined ∙ defined in
+      let same : made.table ≡ record table { tree = 0 } = cc in
+      let schema : first.0.schema ≡ to = made.is ∙ ap (λ s. created s made.table) has ∙ ap (created from) same ∙ makes in
+      let plain : lacks_sequence first.0.schema ≡ false = ap lacks_sequence schema ∙ lacks in
       let now : new.now ≡ first.0 = ap (λ (p : Tally × Database). p.1) (same_value all.2) ∙ same_value (rw plain at first.2) in
-      let others : KeepsRows older_schema.tables old.now.trees first.0.trees = subst (λ s. KeepsRows s.tables old.now.trees first.0.trees) has made.others in
-      let none : first.0.trees 6 ≡ [] = subst (λ s. first.0.trees (next_tree s) ≡ []) has made.empty in
-      let becomes : new.now.schema ≡ register_schema = ap (λ (d : Database). d.schema) now ∙ schema in
+      let others : KeepsRows from.tables old.now.trees first.0.trees = subst (λ s. KeepsRows s.tables old.now.trees first.0.trees) has made.others in
+      let none : first.0.trees (next_tree from) ≡ [] = subst (λ s. first.0.trees (next_tree s) ≡ []) has made.empty in
+      let becomes : new.now.schema ≡ to = ap (λ (d : Database). d.schema) now ∙ schema in
       record {
         schema = becomes;
         listed = listed_by new.now becomes w.sound;
-        kept = subst (λ (d : Database). KeepsRows older_schema.tables old.now.trees d.trees) (sym now) others;
-        empty = ap (λ (d : Database). d.trees 6) now ∙ none;
+        kept = subst (λ (d : Database). KeepsRows from.tables old.now.trees d.trees) (sym now) others;
+        empty = ap (λ (d : Database). d.trees (next_tree from)) now ∙ none;
       }
 
-  pub created_settled : HasEmpty (archive_table ∷ segment_table ∷ closed_for_table ∷ []) old.now → Executes texts.create_settled [] old new (Ok count) → HasWhole empty_register new.now
+  pub created_settled : HasEmpty (archive_table ∷ segment_table ∷ closed_for_table ∷ []) old.now → Executes texts.create_settled [] old new (Ok count) → HasEmpty (archive_table ∷ segment_table ∷ closed_for_table ∷ settled_table ∷ []) new.now
   created_settled has h =
-      let it = adds has.schema texts.create_settled texts.create_settled_is texts.create_settled_plain texts.settled_defined h in
-      nothing_registered new.now (record { schema = it.schema; empty = (it.kept.0 ∙ has.empty.0, (it.kept.1.0 ∙ has.empty.1.0, (it.kept.1.1.0 ∙ has.empty.1.1.0, (it.empty, tt)))) }) it.listed
+      let it = adds older_schema former_schema settled_table refl refl has.schema texts.create_settled texts.create_settled_is texts.create_settled_plain texts.settled_defined h in
+      record { schema = it.schema; empty = (it.kept.0 ∙ has.empty.0, (it.kept.1.0 ∙ has.empty.1.0, (it.kept.1.1.0 ∙ has.empty.1.1.0, (it.empty, tt)))) }
 
-  completed_in : (layout : Layout) (content : RegisterContent) → HasRegisterIn layout content old.now → Executes texts.complete_settled [] old new (Ok count) → HasWhole content new.now
-  completed_in older content has h =
-      let it = adds has.schema texts.complete_settled texts.complete_settled_is texts.complete_settled_plain texts.complete_defined h in
-      record {
+  pub created_taken : HasEmpty (archive_table ∷ segment_table ∷ closed_for_table ∷ settled_table ∷ []) old.now → Executes texts.create_taken [] old new (Ok count) → HasWhole empty_register new.now
+  created_taken has h =
+      let it = adds former_schema register_schema taken_table refl refl has.schema texts.create_taken texts.create_taken_is texts.create_taken_plain texts.taken_defined h in
+      nothing_registered new.now (record { schema = it.schema; empty = (it.kept.0 ∙ has.empty.0, (it.kept.1.0 ∙ has.empty.1.0, (it.kept.1.1.0 ∙ has.empty.1.1.0, (it.kept.1.1.1.0 ∙ has.empty.1.1.1.0, (it.empty, tt))))) }) it.listed
+
+  completed_lists_in : (layout : Layout) (content : RegisterContent) → HasRegisterIn layout content old.now → Executes texts.complete_settled [] old new (Ok count) → HasListed content new.now
+  completed_lists_in older content has h =
+      let it = adds older_schema former_schema settled_table refl refl has.schema texts.complete_settled texts.complete_settled_is texts.complete_settled_plain texts.complete_defined h in
+      inl (record {
         schema = it.schema;
         listed = it.listed;
         archives = subst (Holds archive_table archive_values content.archives) (sym it.kept.0) has.archives;
         segments = subst (Holds segment_table segment_values content.segments) (sym it.kept.1.0) has.segments;
         closed_for = subst (Holds closed_for_table file_values (if_any content.closed_for)) (sym it.kept.1.1.0) has.closed_for;
         lists = subst (λ l. Holds settled_table list_values l (new.now.trees 6)) (sym has.lists) (nothing_held (new.now.trees 6) it.empty);
-      }
-  completed_in whole content has h =
+        taken = has.taken;
+      })
+  completed_lists_in former content has h =
+      let ran = runs_as texts.complete_settled [] old new former_schema has.schema Nothing texts.settled_there texts.settled_there_plain count h in
+      inl (subst (HasRegisterIn former content) (sym ran.0.0.now_is) has)
+  completed_lists_in whole content has h =
       let ran = runs_as texts.complete_settled [] old new register_schema has.schema Nothing texts.completed_is texts.completed_plain count h in
-      subst (HasWhole content) (sym ran.0.0.now_is) has
+      inr (subst (HasWhole content) (sym ran.0.0.now_is) has)
 
-  -- whichever tables it had, it has all four
-  pub completed : (content : RegisterContent) → HasRegister content old.now → Executes texts.complete_settled [] old new (Ok count) → HasWhole content new.now
-  completed content has h = completed_in has.0 content has.1 h
+  -- whichever tables it had, it has that of lists
+  pub completed_lists : (content : RegisterContent) → HasRegister content old.now → Executes texts.complete_settled [] old new (Ok count) → HasListed content new.now
+  completed_lists content has h = completed_lists_in has.0 content has.1 h
+
+  -- and it has all five
+  pub completed_taken : (content : RegisterContent) → HasListed content old.now → Executes texts.complete_taken [] old new (Ok count) → HasWhole content new.now
+  completed_taken content (inl has) h =
+      let it = adds former_schema register_schema taken_table refl refl has.schema texts.complete_taken texts.complete_taken_is texts.complete_taken_plain texts.complete_taken_defined h in
+      record {
+        schema = it.schema;
+        listed = it.listed;
+        archives = subst (Holds archive_table archive_values content.archives) (sym it.kept.0) has.archives;
+        segments = subst (Holds segment_table segment_values content.segments) (sym it.kept.1.0) has.segments;
+        closed_for = subst (Holds closed_for_table file_values (if_any content.closed_for)) (sym it.kept.1.1.0) has.closed_for;
+        lists = subst (Holds settled_table list_values content.lists) (sym it.kept.1.1.1.0) has.lists;
+        taken = subst (λ l. Holds taken_table segment_values l (new.now.trees 8)) (sym has.taken) (nothing_held (new.now.trees 8) it.empty);
+      }
+  completed_taken content (inr has) h =
+      let ran = runs_as texts.complete_taken [] old new register_schema has.schema Nothing texts.taken_there texts.taken_there_plain count h in
+      subst (HasWhole content) (sym ran.0.0.now_is) has
 
 -- ==== LoopLemmas: Segments that a loop goes through, with the last closed number of each partner so far.
 

@@ -1,47 +1,23 @@
 -- The lists that are found, line by line.
+use Rattle.std.specs.{Prelude.{Contains, count_by, IsPermutation, ◌↔◌, ◌&&◌, ◌==◌, IfNone, IfSome, option_to_list, slice_get, find}, List.{flat_map, list_any}}
+use Rattle.std.specs.{Option.option_map, Ordering.{nat_cmp, is_eq, ordering_then, eq_by_cmp}, declared.cmp.Ordering.Ordering, Cmp.eq_by_cmp_equiv, Str.bytes_eq}
+use Rattle.std.specs.{declared.cmp.Ordering.TheVariants.{Less, Equal, Greater}, Cmp.Lexicographic.{slice_cmp, nat_list_cmp_total, texts_ties}}
 use Rattle.std.proofs.Common.{◌≡◌, ◌≤◌, inl, inr, List, [], ◌∷◌, Bool, true, cond, refl, sym, subst, arith, ℕ, ◌<◌, ◌++◌, length, get_or, map, false, Option, None, Some, ap, ◌∙◌}
-use Rattle.std.specs.Prelude.{Contains, count_by, IsPermutation, ◌↔◌, ◌&&◌, ◌==◌, IfNone, IfSome, option_to_list, slice_get, find}
-use Rattle.std.specs.List.{flat_map, list_any}
 use Rattle.std.proofs.lemmas.List.Sorted.{Contains-permutation, IsPermutation-cons, IsPermutation-refl, IsPermutation-remove, IsPermutation-sym, IsPermutation-trans, sum_by-IsPermutation}
-use Rattle.std.proofs.lemmas.Map.Made.{Contains-tail}
-use Rattle.sqlite_rules.specs.Lists.{Has}
-use Rattle.sqlite_rules.proofs.ListLemmas.{has_either, has_left, has_right, all_from, all_has, contains_had, has_contained, has_filtered, has_kept, some_from, some_has}
-use Rattle.terminal_core.proofs.Indexed.{some_counted, found_is}
-use Rattle.office_history.proofs.Kept.{count_more, head_in, tail_in, found_only}
-use Rattle.std.specs.Option.{option_map}
-use Rattle.std.specs.Ordering.{nat_cmp, is_eq, ordering_then, eq_by_cmp}
-use Rattle.std.specs.declared.cmp.Ordering.{Ordering}
-use Rattle.std.specs.declared.cmp.Ordering.TheVariants.{Less, Equal, Greater}
-use Rattle.std.specs.Cmp.{eq_by_cmp_equiv}
-use Rattle.std.specs.Cmp.Lexicographic.{slice_cmp, nat_list_cmp_total, texts_ties}
-use Rattle.std.specs.Str.{bytes_eq}
-use Rattle.std.proofs.lemmas.List.{append-nil}
-use Rattle.std.proofs.lemmas.List.Concat.{flat_map-append}
+use Rattle.std.proofs.{lemmas.Map.Made.Contains-tail, lemmas.List.append-nil, lemmas.List.Concat.flat_map-append}
 use Rattle.std.proofs.lemmas.List.Elements.{Contains-push, Contains-push_cases, Contains-append_left, filter-append}
-use Rattle.sqlite_rules.proofs.ProbeLemmas.{has_mapped, mapped_has}
+use Rattle.sqlite_rules.{specs.Lists.Has, proofs.ProbeLemmas.{has_mapped, mapped_has}}
+use Rattle.sqlite_rules.proofs.ListLemmas.{has_either, has_left, has_right, all_from, all_has, contains_had, has_contained, has_filtered, has_kept, some_from, some_has}
+use Rattle.terminal_core.specs.{State.{side_code, LineContent, LineKey}, declared.lines.LineState.TheVariants.Done, declared.lines.Listing.Listing}
+use Rattle.terminal_core.{specs.{declared.lines.Side.Side, declared.lines.Side.TheVariants.{Load, Discharge}, Listings.lines_of}, proofs.Whole.contained}
+use Rattle.terminal_core.proofs.{Indexed.{some_counted, found_is}, Lined.{same_key, tied_self, order, keys_total}}
+use Rattle.office_history.proofs.{Kept.{count_more, head_in, tail_in, found_only}, ByKeys.{sides, finds, key_of, line_tied, said}}
 use Rattle.edi_messages.specs.Purposes.{CallContent}
-use Rattle.terminal_core.specs.State.{side_code, LineContent, LineKey}
-use Rattle.terminal_core.specs.declared.lines.LineState.TheVariants.{Done}
-use Rattle.terminal_core.specs.declared.lines.Listing.{Listing}
-use Rattle.terminal_core.specs.declared.lines.Side.{Side}
-use Rattle.terminal_core.proofs.Lined.{same_key, tied_self, order, keys_total}
-use Rattle.terminal_core.proofs.Whole.{contained}
-use Rattle.office_rows.specs.Rows.{ListingContent, listing_content}
-use Rattle.office_closing.specs.Texts.{line_text, lines_text}
-use Rattle.office_parts.specs.Bringing.{is_of}
-use Rattle.office_parts.specs.Named.{named_list_content}
-use Rattle.office_parts.specs.OwnLists.{ListName, list_name}
-use Rattle.office_parts.specs.declared.naming.NamedList.{NamedList}
-use Rattle.office_closing.specs.Lists.{SettledListContent, list_content}
-use Rattle.office_closing.specs.declared.settled_lists.SettledList.{SettledList}
-use Rattle.office_closing.specs.Found.{AreAllDone, HasLineOf, IsFoundAs, TellsDone, list_on}
-use Rattle.office_closing.specs.Going.{AreDone, AreNamedOnce, IsAmong, lines_on, name_of}
-use Rattle.office_history.proofs.ByKeys.{sides, finds, key_of, line_tied, said}
+use Rattle.office_rows.specs.{Rows.{ListingContent, listing_content}, ByKey.{AreListedOnce, line_entry, lines_by}, Effects.is_line}
+use Rattle.office_closing.specs.{Texts.{line_text, lines_text}, Lists.{SettledListContent, list_content}, declared.settled_lists.SettledList.SettledList}
+use Rattle.office_closing.specs.{Found.{AreAllDone, HasLineOf, IsFoundAs, TellsDone, list_on}, Going.{AreDone, AreNamedOnce, IsAmong, lines_on, name_of}}
+use Rattle.office_parts.specs.{Bringing.is_of, Named.named_list_content, OwnLists.{ListName, list_name}, declared.naming.NamedList.NamedList}
 use Rattle.sqlite_trees.proofs.ListLemmas.{map-map}
-use Rattle.terminal_core.specs.declared.lines.Side.TheVariants.{Load, Discharge}
-use Rattle.terminal_core.specs.Listings.{lines_of}
-use Rattle.office_rows.specs.ByKey.{AreListedOnce, line_entry, lines_by}
-use Rattle.office_rows.specs.Effects.{is_line}
 use Rattle.std.specs.FinMap as finite_map
 
 -- ==== ListLemmas: Members of lists.

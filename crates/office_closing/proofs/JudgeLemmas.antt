@@ -1,46 +1,26 @@
 -- What a plan says of the rows and the registers of store and archive.
-use Rattle.std.proofs.Common.{◌≡◌, inl, inr, ℕ, ◌+◌, ◌==◌, ◌<◌, ◌≤◌, List, [], ◌∷◌, ◌++◌, ◌&&◌, None, Bool, true, false, cond, if◌then◌else◌, filter, map, length, refl, sym, ap, ap₂, subst, ◌∙◌, arith, Result, Ok, Err}
-use Rattle.std.specs.Prelude.{Contains, IsPermutation, IsUtf8}
-use Rattle.std.specs.List.{AllByRecursion}
-use Rattle.std.proofs.lemmas.Bool.{and_parts, eqb-true}
-use Rattle.std.proofs.lemmas.Str.{IsUtf8-string_bytes}
-use Rattle.std.proofs.lemmas.List.Sorted.{Contains-permutation, IsPermutation-sym}
-use Rattle.terminal_core.specs.Rows.{VisitContent}
-use Rattle.terminal_core.specs.State.{last_number}
+use Rattle.std.{specs.{Prelude.{Contains, IsPermutation, IsUtf8}, List.AllByRecursion}, proofs.lemmas.Bool.{and_parts, eqb-true}}
+use Rattle.std.proofs.Common.{◌≡◌, ◌⊎◌, inl, inr, ℕ, ◌+◌, ◌==◌, ◌<◌, ◌≤◌, List, [], ◌∷◌, ◌++◌, ◌&&◌, None, Bool, true, false, cond, if◌then◌else◌, filter, map, length, refl, sym, ap, ap₂, subst, ◌∙◌, arith, Result, Ok, Err}
+use Rattle.std.proofs.{lemmas.Str.IsUtf8-string_bytes, lemmas.List.Sorted.{Contains-permutation, IsPermutation-sym}}
+use Rattle.terminal_core.specs.{Rows.VisitContent, State.last_number}
 use Rattle.office_loading.specs.Tables.{LoadsOwn}
-use Rattle.office_closing.specs.Waiting.{AreWaitedFor}
-use Rattle.office_closing.proofs.WaitingLemmas.{accounts_by_id, all_found, goes_as, one_nexts}
-use Rattle.office_parts.specs.OwnLists.{ListName}
-use Rattle.office_closing.specs.declared.register.Segment.{Segment}
-use Rattle.office_closing.specs.Changes.{closed_with, marked_for, unmarked}
-use Rattle.office_closing.specs.declared.settled_lists.SettledList.{SettledList}
-use Rattle.office_closing.specs.Lists.{SettledListContent, comes_before, list_content, put_list, put_lists}
-use Rattle.office_closing.specs.Register.{ArchiveContent, RegisterContent, closed_by, last_closed}
-use Rattle.office_closing.specs.Sound.{IsSound, are_sound_archives, are_sound_lists, are_sound_segments, is_sound, is_sound_mark}
-use Rattle.office_closing.specs.declared.comparing.Numbers.{Numbers}
-use Rattle.office_closing.specs.declared.planning.Plan.{Plan}
-use Rattle.office_closing.specs.declared.planning.Stage.{Stage}
-use Rattle.office_closing.specs.Deleting.{is_among}
-use Rattle.office_closing.specs.Closes.{AreHeld, Closing, ClosesAll, Held, IsAtStage, IsBelowNext, IsClosing, PutsAway, closed_after, closed_before, closing_content, raised_register}
-use Rattle.office_closing.specs.Comparing.{IsComparedAs}
-use Rattle.office_closing.specs.Copies.{ClosesNone, FileNames, HasCome, IsOpened, OfficeContent, archive_in, closes_some, is_put_away_with, lists_at, numbers_from, numbers_of, raised_by, segment_of, segments_of}
-use Rattle.office_closing.specs.Files.{Files, IsRead, IsReadIfOpen}
-use Rattle.office_closing.specs.Judging.{IsComparedIf, IsJudged, WantsAll}
-use Rattle.office_closing.specs.Steps.{is_unraised}
-use Rattle.office_closing.specs.Laws.{Raises}
-use Rattle.office_closing.specs.Planning.{IsPlan}
-use Rattle.office_closing.specs.Visits.{AreToGo}
-use Rattle.office_history.proofs.Kept.{head_in, tail_in}
+use Rattle.office_closing.specs.{Waiting.AreWaitedFor, declared.register.Segment.Segment, Changes.{closed_with, marked_for, unmarked}, Deleting.is_among}
+use Rattle.office_closing.specs.{declared.settled_lists.SettledList.SettledList, Lists.{SettledListContent, comes_before, list_content, put_list, put_lists}}
+use Rattle.office_closing.specs.{Register.{ArchiveContent, RegisterContent, closed_by, last_closed}, declared.comparing.Numbers.Numbers, Comparing.IsComparedAs}
+use Rattle.office_closing.specs.Sound.{IsSound, are_sound_archives, are_sound_lists, are_sound_segments, are_sound_taken, is_sound, is_sound_mark}
+use Rattle.office_closing.specs.{declared.planning.Plan.Plan, declared.planning.Stage.Stage, Going.AreDone, Files.{Files, IsRead, IsReadIfOpen}, Laws.Raises}
+use Rattle.office_closing.specs.Closes.{AreHeld, Closing, ClosesAll, Held, IsAtStage, IsBelowNext, IsClosing, KeepsTaken, PutsAway, closed_after, closed_before, closing_content, raised_register}
+use Rattle.office_closing.specs.Copies.{ClosesNone, FileNames, HasCome, IsOpened, OfficeContent, archive_in, closes_some, is_put_away_with, lists_at, numbers_from, numbers_of, raised_by, segment_of, segments_of, GoWith, is_with, segments_in, taken_at, taken_of}
+use Rattle.office_closing.specs.{Judging.{IsComparedIf, IsJudged, WantsAll}, Steps.is_unraised, Planning.IsPlan, Visits.AreToGo}
+use Rattle.office_closing.proofs.{WaitingLemmas.{accounts_by_id, all_found, goes_as, one_nexts}, ClearLemmas.{done_with, gone_are_done, one_longer}}
 use Rattle.office_closing.proofs.PlanLemmas.{compared_held, goes_if_not, may_stay, account_found, numbers_are_from, segments_raise, segments_rise}
-use Rattle.office_closing.proofs.ClearLemmas.{one_longer}
 use Rattle.office_closing.proofs.NumberLemmas.{lines_loaded, visits_loaded}
-use Rattle.sqlite.specs.State.{State, HasCleanDisk}
-use Rattle.sqlite.proofs.Callers.{unchanged_then}
+use Rattle.office_parts.specs.OwnLists.{ListName}
+use Rattle.office_history.proofs.Kept.{head_in, tail_in}
+use Rattle.sqlite.{specs.State.{State, HasCleanDisk}, proofs.Callers.unchanged_then}
 use Rattle.office_rows.proofs.Creating.{keep_then, on_ok, quiet_then}
-use Rattle.office_tables.specs.DeliveryReading.{OnlyReads}
+use Rattle.office_tables.specs.{DeliveryReading.OnlyReads, Reading.Reads, declared.table_fault.TableFault.TableFault}
 use Rattle.office_tables.proofs.WriteLemmas.{nothing_read, same_unchanged}
-use Rattle.office_tables.specs.Reading.{Reads}
-use Rattle.office_tables.specs.declared.table_fault.TableFault.{TableFault}
 use Rattle.office_closing.specs.declared.planning.Stage.TheVariants as stage
 
 -- ==== JudgeLemmas: What a plan says of the rows and the registers of store and archive.
@@ -85,6 +65,20 @@ those_with archive (one ∷ lists) = by (one.archive == archive) refl (those_wit
     by true e rest = (eqb-true one.archive archive e, rest)
     by false e rest = rest
 
+-- segments of an archive are its, and so is what had been taken with it
+segments_placed : (archive : ℕ) (all : List Numbers) → AllByRecursion (λ (one : Segment). one.archive ≡ archive) (map (segment_of archive) all)
+segments_placed archive [] = tt
+segments_placed archive (one ∷ all) = (refl, segments_placed archive all)
+
+taken_with : (archive : ℕ) (taken : List Segment) → AllByRecursion (λ (one : Segment). one.archive ≡ archive) (filter (is_with archive) taken)
+taken_with archive [] = tt
+taken_with archive (one ∷ taken) = by (one.archive == archive) refl (taken_with archive taken)
+  where
+    by : (b : Bool) → (one.archive == archive) ≡ b → AllByRecursion (λ (s : Segment). s.archive ≡ archive) (filter (is_with archive) taken)
+        → AllByRecursion (λ (s : Segment). s.archive ≡ archive) (cond b (one ∷ filter (is_with archive) taken) (filter (is_with archive) taken))
+    by true e rest = (eqb-true one.archive archive e, rest)
+    by false e rest = rest
+
 none_mapped : {A B : Type 0} (f : A → B) (xs : List A) → map f xs ≡ [] → xs ≡ []
 none_mapped f [] e = refl
 none_mapped f (x ∷ xs) e = absurd cc
@@ -109,14 +103,14 @@ module _ (held : Held) (old : Files) (has : AreHeld held old) (names : FileNames
   closing = closing_content plan
 
   -- the register with the archive
-  raised_is : raised_register held closing ≡ raised_by names.archive closing.lists copy
+  raised_is : raised_register held closing ≡ raised_by names.archive closing.lists closing.taken copy
   raised_is =
       let back = sym copy_register in
-      λ i. closed_with (is.archive i) (is.segments i) closing.lists (unmarked (back i))
+      λ i. closed_with (is.archive i) (is.segments i) closing.lists closing.taken (unmarked (back i))
 
   raised_sound : IsSound (raised_register held closing)
   raised_sound = record {
-    tested = ap is_sound raised_is ∙ is.is_copy.comes.may.raised;
+    tested = ap is_sound (raised_is ∙ ap (λ t. raised_by names.archive closing.lists t copy) is.taken) ∙ is.is_copy.comes.may.raised;
     texts = record {
       files = all_pushed (λ (a : ArchiveContent). IsUtf8 a.file) held.copied.archives closing.archive has.copied_sound.texts.files (subst IsUtf8 (sym (ap (λ (a : ArchiveContent). a.file) is.archive)) text);
       lines = all_put (λ (list : SettledListContent). IsUtf8 list.lines) closing.lists held.copied.lists (texts_of_lists plan.lists.items) has.copied_sound.texts.lines;
@@ -130,12 +124,14 @@ module _ (held : Held) (old : Files) (has : AreHeld held old) (names : FileNames
       let archives : Bool = are_sound_archives held.copied.archives in
       let segments : Bool = are_sound_segments (length held.copied.archives) held.copied.segments in
       let lists : Bool = are_sound_lists (length held.copied.archives) held.copied.lists in
+      let taken : Bool = are_sound_taken (length held.copied.archives) held.copied.taken in
       let mark : Bool = is_sound_mark held.copied.closed_for in
-      let first = and_parts archives (segments && (lists && mark)) has.copied_sound.tested in
-      let second = and_parts segments (lists && mark) first.1 in
-      let third = and_parts lists mark second.1 in
+      let first = and_parts archives (segments && (lists && (taken && mark))) has.copied_sound.tested in
+      let second = and_parts segments (lists && (taken && mark)) first.1 in
+      let third = and_parts lists (taken && mark) second.1 in
+      let fourth = and_parts taken mark third.1 in
       record {
-        tested = λ i. first.0 i && (second.0 i && (third.0 i && is.is_copy.comes.may.mark i));
+        tested = λ i. first.0 i && (second.0 i && (third.0 i && (fourth.0 i && is.is_copy.comes.may.mark i)));
         texts = record { files = has.copied_sound.texts.files; lines = has.copied_sound.texts.lines; closed_for = store_text };
       }
 
@@ -157,10 +153,10 @@ module _ (held : Held) (old : Files) (has : AreHeld held old) (names : FileNames
   segments_are = is.segments ∙ ap₂ segments_of (sym (ap (λ (a : ArchiveContent). a.place) is.archive)) (sym is.numbers)
 
   -- how far it has come
-  at_by : (s : Stage) → HasCome own copy names closing.lists s → IsAtStage held names closing s
-  at_by stage.New come = (sym own_register ∙ sym come.0 ∙ ap unmarked copy_register, ap (λ (c : RegisterContent). c.closed_for) (sym copy_register) ∙ come.1)
-  at_by stage.Marked come = (sym own_register ∙ sym come.0 ∙ ap unmarked copy_register, ap (λ (c : RegisterContent). c.closed_for) (sym copy_register) ∙ come.1)
-  at_by stage.Raised come = (sym own_register ∙ sym come.0 ∙ sym raised_is, ap (λ (c : RegisterContent). c.closed_for) (sym copy_register) ∙ come.1)
+  at_by : (s : Stage) → closing.taken ≡ taken_at own (archive_in names.archive copy).place s → HasCome own copy names closing.lists s → IsAtStage held names closing s
+  at_by stage.New known come = (sym own_register ∙ sym come.0 ∙ ap unmarked copy_register, ap (λ (c : RegisterContent). c.closed_for) (sym copy_register) ∙ come.1)
+  at_by stage.Marked known come = (sym own_register ∙ sym come.0 ∙ ap unmarked copy_register, ap (λ (c : RegisterContent). c.closed_for) (sym copy_register) ∙ come.1)
+  at_by stage.Raised known come = (sym own_register ∙ sym come.0 ∙ ap (λ t. raised_by names.archive closing.lists t copy) (sym known) ∙ sym raised_is, ap (λ (c : RegisterContent). c.closed_for) (sym copy_register) ∙ come.1)
 
   to_go : AreToGo held.own.visits held.copy.visits closing.visits
   to_go =
@@ -202,10 +198,46 @@ module _ (held : Held) (old : Files) (has : AreHeld held old) (names : FileNames
   same_lists stage.Marked at new = refl
   same_lists stage.Raised at new = absurd (one_longer held.copied.archives closing.archive (ap (λ (c : RegisterContent). c.archives) (sym at.0 ∙ new)))
 
+  of_done : (is.done ≡ []) ⊎ AreDone is.are_done.lines named (archive_in names.archive copy).place is.done
+  of_done = gone_are_done (segments_in names.archive copy) is.are_done.lines named (archive_in names.archive copy).place is.done is.are_done.are
+
+  -- one of them is done
+  done_if : (one : SettledListContent) → Contains is.done one → AreDone is.are_done.lines named (archive_in names.archive copy).place is.done
+  done_if one here = elim of_done [
+    | inl none ↦ (let inside = subst (λ l. Contains l one) none here in absurd (omega (arith, inside.1)))
+    | inr are ↦ are
+  ]
+
+  done_placed : AllByRecursion (λ (one : SettledListContent). one.archive ≡ (archive_in names.archive copy).place) is.done
+  done_placed = all_each _ is.done (λ one here. (done_if one here).archive_is one here)
+
   all_placed : (s : Stage) → AllByRecursion (λ (one : SettledListContent). one.archive ≡ (archive_in names.archive copy).place) (lists_at own (archive_in names.archive copy).place is.done s)
-  all_placed stage.New = all_each _ is.done is.are_done.are.archive_is
-  all_placed stage.Marked = all_each _ is.done is.are_done.are.archive_is
+  all_placed stage.New = done_placed
+  all_placed stage.Marked = done_placed
   all_placed stage.Raised = those_with (archive_in names.archive copy).place own.register.lists
+
+  -- ---- what had been taken
+
+  -- until the register has the archive this is all that the store has taken
+  same_taken : (s : Stage) → IsAtStage held names closing s → held.register ≡ unmarked held.copied → taken_at own (archive_in names.archive copy).place s ≡ taken_of (archive_in names.archive copy).place own.nexts
+  same_taken stage.New at new = refl
+  same_taken stage.Marked at new = refl
+  same_taken stage.Raised at new = absurd (one_longer held.copied.archives closing.archive (ap (λ (c : RegisterContent). c.archives) (sym at.0 ∙ new)))
+
+  taken_placed : (s : Stage) → AllByRecursion (λ (one : Segment). one.archive ≡ (archive_in names.archive copy).place) (taken_at own (archive_in names.archive copy).place s)
+  taken_placed stage.New = segments_placed (archive_in names.archive copy).place (filter closes_some (numbers_from (λ partner. 0) 1 own.nexts))
+  taken_placed stage.Marked = segments_placed (archive_in names.archive copy).place (filter closes_some (numbers_from (λ partner. 0) 1 own.nexts))
+  taken_placed stage.Raised = taken_with (archive_in names.archive copy).place own.register.taken
+
+  keeps_taken : IsAtStage held names closing plan.stage → KeepsTaken held closing
+  keeps_taken at =
+      let here = sym (ap (λ (a : ArchiveContent). a.place) is.archive) in
+      record {
+        placed =
+            subst (λ n. AllByRecursion (λ (one : Segment). one.archive ≡ n) closing.taken) here
+            (subst (AllByRecursion (λ (one : Segment). one.archive ≡ (archive_in names.archive copy).place)) (sym is.taken) (taken_placed plan.stage));
+        all = λ new. (own.nexts, of_own.nexts held.own has.own, is.taken ∙ same_taken plan.stage at new ∙ ap (λ n. taken_of n own.nexts) here);
+      }
 
   module _ (at : IsAtStage held names closing plan.stage) where
     are_done : held.register ≡ unmarked held.copied → closing.lists ≡ is.done
@@ -217,17 +249,19 @@ module _ (held : Held) (old : Files) (has : AreHeld held old) (names : FileNames
       is_setup = record { db = old.store.now; has = has.own; terminal = own.terminal; loads = own_loads };
       placed = subst (λ n. AllByRecursion (λ (one : SettledListContent). one.archive ≡ n) closing.lists) (sym (ap (λ (a : ArchiveContent). a.place) is.archive)) (subst (AllByRecursion (λ (one : SettledListContent). one.archive ≡ (archive_in names.archive copy).place)) (sym is.lists) (all_placed plan.stage));
       has = λ one here. ((is.gone one).0 here).1;
-      goes = λ one here. goes_as is.are_done.lines own.terminal is.are_done.once (sym is.are_done.by_key) own_loads.2.formed own.setup held.own named (archive_in names.archive copy).place is.done own_lines waited is.are_done.are one ((is.gone one).0 here).0;
-      all = λ new list may.
-          let found = all_found own.setup held.own is.are_done.lines named (archive_in names.archive copy).place is.done own_lines waited is.are_done.are list may in
+      goes = λ one here. goes_as is.are_done.lines own.terminal is.are_done.once (sym is.are_done.by_key) own_loads.2.formed own.setup held.own named (archive_in names.archive copy).place is.done own_lines waited (done_if one ((is.gone one).0 here).0) one ((is.gone one).0 here).0;
+      all = λ new some list may.
+          let are = done_with (segments_in names.archive copy) is.are_done.lines named (archive_in names.archive copy).place is.done (λ none. some (is.segments ∙ none)) is.are_done.are in
+          let found = all_found own.setup held.own is.are_done.lines named (archive_in names.archive copy).place is.done own_lines waited are list may in
           record { one = found.one; has = (is.gone found.one).1 (found.has, subst (λ l. Contains l found.one) (sym (are_done new)) found.has); named = found.named };
+      with_numbers = λ new none. are_done new ∙ subst (λ (s : List Segment). GoWith s is.are_done.lines named (archive_in names.archive copy).place is.done) (sym is.segments ∙ none) is.are_done.are;
       only = λ new one here. (is.gone one).1 (subst (λ l. Contains l one) (are_done new) here, here);
     }
 
   -- ---- the whole
 
   -- numbers are closed by this call, or they are closed already
-  module _ (new : held.register ≡ unmarked held.copied) (lists : PutsAway held closing) where
+  module _ (new : held.register ≡ unmarked held.copied) (lists : PutsAway held closing) (taken : KeepsTaken held closing) where
     same_before : closed_before held ≡ last_closed held.copied.segments
     same_before = ap (λ (c : RegisterContent). last_closed c.segments) new
 
@@ -249,9 +283,10 @@ module _ (held : Held) (old : Files) (has : AreHeld held old) (names : FileNames
           (subst (λ (f : ℕ → ℕ). Raises f closing.numbers (closed_after held closing)) (sym (e ∙ same_before)) raises) compared has.own_orderly.numbered to_go).0;
       may = may_stay held.own.visits held.copy.visits closing.visits has.own_orderly.numbered to_go;
       lists = lists;
+      taken = taken;
     }
 
-  module _ (raised : held.register ≡ raised_register held closing) (lists : PutsAway held closing) where
+  module _ (raised : held.register ≡ raised_register held closing) (lists : PutsAway held closing) (taken : KeepsTaken held closing) where
     same_after : closed_before held ≡ closed_after held closing
     same_after = ap (λ (c : RegisterContent). last_closed c.segments) raised
 
@@ -280,17 +315,18 @@ module _ (held : Held) (old : Files) (has : AreHeld held old) (names : FileNames
       };
       may = may_stay held.own.visits held.copy.visits closing.visits has.own_orderly.numbered to_go;
       lists = lists;
+      taken = taken;
     }
 
-  judged_by : (s : Stage) → IsAtStage held names closing s → PutsAway held closing → (is_unraised s ≡ true → IsComparedAs closing.numbers held.own held.copy None) → IsClosing held names closing
-  judged_by stage.New at lists compared = new_closing at.0 lists (compared refl)
-  judged_by stage.Marked at lists compared = new_closing at.0 lists (compared refl)
-  judged_by stage.Raised at lists compared = old_closing at.0 lists
+  judged_by : (s : Stage) → IsAtStage held names closing s → PutsAway held closing → KeepsTaken held closing → (is_unraised s ≡ true → IsComparedAs closing.numbers held.own held.copy None) → IsClosing held names closing
+  judged_by stage.New at lists taken compared = new_closing at.0 lists taken (compared refl)
+  judged_by stage.Marked at lists taken compared = new_closing at.0 lists taken (compared refl)
+  judged_by stage.Raised at lists taken compared = old_closing at.0 lists taken
 
   pub plan_judged : IsComparedIf plan held → IsJudged held names plan
   plan_judged compared =
-      let at = at_by plan.stage is.is_copy.comes.has_come in
-      record { is_closing = judged_by plan.stage at (puts_away at) compared; at = at }
+      let at = at_by plan.stage is.taken is.is_copy.comes.has_come in
+      record { is_closing = judged_by plan.stage at (puts_away at) (keeps_taken at) compared; at = at }
 
   -- ---- the texts
 
@@ -316,7 +352,7 @@ module _ (held : Held) (old : Files) (has : AreHeld held old) (names : FileNames
   -- all texts are wanted just if the closing begins and closes no number
   pub wants_none : WantsAll plan → ClosesNone held.register held.copied held.copy
   wants_none wants = record {
-    begins = begins_by plan.stage (at_by plan.stage is.is_copy.comes.has_come) wants.0;
+    begins = begins_by plan.stage (at_by plan.stage is.taken is.is_copy.comes.has_come) wants.0;
     nexts = copy.nexts;
     are_nexts = of_copy.nexts held.copy has.copy;
     none = none_mapped (segment_of place) (closed_of copy.nexts) (sym segments_of_closed ∙ wants.1);
@@ -324,7 +360,7 @@ module _ (held : Held) (old : Files) (has : AreHeld held old) (names : FileNames
 
   pub none_wants : ClosesNone held.register held.copied held.copy → WantsAll plan
   none_wants none = (
-    unraised_by plan.stage (at_by plan.stage is.is_copy.comes.has_come) none.begins,
+    unraised_by plan.stage (at_by plan.stage is.taken is.is_copy.comes.has_come) none.begins,
     segments_of_closed ∙ ap (map (segment_of place)) (ap closed_of (one_nexts held.copy copy.nexts none.nexts has.copy_orderly.accounts (of_copy.nexts held.copy has.copy) none.are_nexts) ∙ none.none),
   )
 

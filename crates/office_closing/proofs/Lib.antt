@@ -9,6 +9,7 @@ mod JudgeLemmas
 mod ClosesLemmas
 mod StandLemmas
 mod StoppingLemmas
+mod DayLemmas
 pub mod WriteTexts
 pub mod Created
 pub mod Inserted

@@ -1,40 +1,22 @@
 -- The tables show a sound register in one way, and it fits the types of a register.
+use Rattle.std.specs.{Prelude.IsUtf8, List.{AllByRecursion, list_all}, Cmp.IsTotalOrder, Ordering.{int_cmp, is_lt, nat_cmp, ordering_then}}
 use Rattle.std.proofs.Common.{◌≡◌, ℕ, pos, ◌+◌, ◌<◌, ◌≤◌, ◌==◌, ◌&&◌, ◌⊎◌, inl, inr, Bool, true, false, cond, List, [], ◌∷◌, map, length, Option, None, Some, nat_le, nat_lt, refl, sym, ap, ap₂, subst, ◌∙◌, arith, Ordering, Less, Equal, Greater, is_gt, true≢false}
-use Rattle.std.specs.Prelude.{IsUtf8}
-use Rattle.std.specs.List.{AllByRecursion, list_all}
-use Rattle.std.specs.Cmp.{IsTotalOrder}
-use Rattle.std.specs.Ordering.{int_cmp, is_lt, nat_cmp, ordering_then}
-use Rattle.std.proofs.lemmas.Bool.{cases_Bool, and_parts}
-use Rattle.std.proofs.lemmas.Bool.Decides.{nat_tests}
+use Rattle.std.proofs.{lemmas.Bool.{cases_Bool, and_parts}, lemmas.Bool.Decides.nat_tests, lemmas.Int.ints, lemmas.List.Sorted.IsPermutation-sym}
 use Rattle.std.proofs.lemmas.Cmp.{tied_itself, then_total, on_total, nat_cmp_total, nat_list_cmp_total}
-use Rattle.std.proofs.lemmas.Int.{ints}
-use Rattle.std.proofs.lemmas.List.Sorted.{IsPermutation-sym}
-use Rattle.sqlite.specs.Order.{Row}
-use Rattle.sqlite.specs.Table.{Table}
-use Rattle.sqlite.specs.Effect.{Database}
-use Rattle.sqlite_value.specs.Order.{value_cmp}
-use Rattle.sqlite_value.proofs.OrderLemmas.{value_cmp-Int, value_cmp-Text, value_cmp_total}
+use Rattle.sqlite.specs.{Order.Row, Table.Table, Effect.Database}
+use Rattle.sqlite_value.{specs.Order.value_cmp, proofs.OrderLemmas.{value_cmp-Int, value_cmp-Text, value_cmp_total}}
 use Rattle.sqlite_trees.specs.Tree.{IsAscending}
-use Rattle.sqlite_keyed.proofs.ListLemmas.{all_weaker, ascending_weaker}
-use Rattle.sqlite_keyed.proofs.SortLemmas.{sorted_unique}
+use Rattle.sqlite_keyed.proofs.{ListLemmas.{all_weaker, ascending_weaker}, SortLemmas.sorted_unique}
 use Rattle.sqlite_exec.proofs.PartitionLemmas.{sorted_from_ascending}
-use Rattle.office_rows.specs.Values.{number_value}
-use Rattle.office_rows.specs.Stored.{Holds}
-use Rattle.office_rows.specs.Shown.{columns_at, ShowsTable}
-use Rattle.office_loading.proofs.VersionLemmas.{keys_cmp, keys_total, in_order, same_rows}
-use Rattle.terminal_core.specs.State.{side_code}
-use Rattle.terminal_core.specs.declared.lines.Side.{Side}
-use Rattle.terminal_core.specs.declared.lines.Side.TheVariants.{Load, Discharge}
-use Rattle.office_loading.proofs.RowLemmas.{name_text}
-use Rattle.office_closing.specs.Lists.{SettledListContent, list_cmp}
-use Rattle.office_closing.specs.declared.register.Segment.{Segment}
-use Rattle.office_closing.specs.Register.{ArchiveContent, RegisterContent}
+use Rattle.office_rows.specs.{Values.number_value, Stored.Holds, Shown.{columns_at, ShowsTable}}
+use Rattle.office_loading.proofs.{VersionLemmas.{keys_cmp, keys_total, in_order, same_rows}, RowLemmas.name_text}
+use Rattle.terminal_core.specs.{State.side_code, declared.lines.Side.Side, declared.lines.Side.TheVariants.{Load, Discharge}}
+use Rattle.office_closing.specs.{Lists.{SettledListContent, list_cmp}, declared.register.Segment.Segment, Register.{ArchiveContent, RegisterContent}}
 use Rattle.office_closing.specs.Reading.{FitsArchive, FitsSegment, FitsList, FitsRegister, FailsTables, ShowsNoSound}
-use Rattle.office_closing.specs.Sound.{may_be_archive, are_numbered, is_within, comes_later, are_in_order, may_be_list, are_rising, are_sound_archives, are_sound_segments, is_sound_mark, IsSound, is_sound}
-use Rattle.office_closing.specs.Stored.{HasRegisterIn, HoldsLists, ShowsLists, ShowsRegister, list_values, archive_values, segment_values, file_values, if_any}
-use Rattle.office_closing.specs.Tables.{archive_table, segment_table, closed_for_table, settled_table, Layout, older, whole}
-use Rattle.office_tables.specs.declared.table_fault.TableFault.{TableFault}
-use Rattle.office_tables.specs.Faults.{IsOfStore, IsOfStoreOr}
+use Rattle.office_closing.specs.Sound.{may_be_archive, are_numbered, is_within, comes_later, are_in_order, may_be_list, are_rising, are_sound_archives, are_sound_segments, are_sound_taken, is_sound_mark, IsSound, is_sound}
+use Rattle.office_closing.specs.Stored.{HasRegisterIn, HoldsLists, HoldsTaken, ShowsLists, ShowsTaken, ShowsRegister, list_values, archive_values, segment_values, file_values, if_any}
+use Rattle.office_closing.specs.Tables.{archive_table, segment_table, closed_for_table, settled_table, taken_table, Layout, older, former, whole}
+use Rattle.office_tables.specs.{declared.table_fault.TableFault.TableFault, Faults.{IsOfStore, IsOfStoreOr}}
 use Rattle.office_tables.proofs.WritesLemmas.{of_store_weaker, of_store_alone}
 
 -- ==== SoundLemmas: The tables show a sound register in one way, and it fits the types of a register.
@@ -321,8 +303,26 @@ module _ (content : RegisterContent) (sound : IsSound content) where
   of_lists : (may_be && rise) ≡ true
   of_lists =
       let segments = are_sound_segments (length content.archives) content.segments in
-      let rest = (may_be && rise) && is_sound_mark content.closed_for in
-      (and_parts (may_be && rise) (is_sound_mark content.closed_for) (and_parts segments rest (and_parts (are_sound_archives content.archives) (segments && rest) sound.tested).1).1).0
+      let last = are_sound_taken (length content.archives) content.taken && is_sound_mark content.closed_for in
+      let rest = (may_be && rise) && last in
+      (and_parts (may_be && rise) last (and_parts segments rest (and_parts (are_sound_archives content.archives) (segments && rest) sound.tested).1).1).0
+
+  of_taken : are_sound_taken (length content.archives) content.taken ≡ true
+  of_taken =
+      let segments = are_sound_segments (length content.archives) content.segments in
+      let known = are_sound_taken (length content.archives) content.taken in
+      let last = known && is_sound_mark content.closed_for in
+      let rest = (may_be && rise) && last in
+      (and_parts known (is_sound_mark content.closed_for) (and_parts (may_be && rise) last (and_parts segments rest (and_parts (are_sound_archives content.archives) (segments && rest) sound.tested).1).1).1).0
+
+  abbrev known_within : Bool
+  known_within = list_all (is_within (length content.archives)) content.taken
+
+  pub taken_within : known_within ≡ true
+  taken_within = (and_parts known_within (are_in_order 0 0 content.taken) of_taken).0
+
+  taken_ordered : are_in_order 0 0 content.taken ≡ true
+  taken_ordered = (and_parts known_within (are_in_order 0 0 content.taken) of_taken).1
 
   pub settled : list_all (may_be_list (length content.archives)) content.lists ≡ true
   settled = (and_parts may_be rise of_lists).0
@@ -336,15 +336,28 @@ module _ (content : RegisterContent) (sound : IsSound content) where
     segments = segments_fit (length content.archives) content.segments few within;
     closed_for = sound.texts.closed_for;
     lists = lists_fit (length content.archives) content.lists few settled sound.texts.lines;
+    taken = segments_fit (length content.archives) content.taken few taken_within;
   }
 
   lists_shown : (layout : Layout) (db : Database) → HoldsLists layout content.lists db.trees → ShowsLists layout db content.lists
   lists_shown older db held = held
+  lists_shown former db held = held_shown settled_table (0 ∷ 1 ∷ 2 ∷ 3 ∷ 4 ∷ []) (0 ∷ 1 ∷ 2 ∷ 3 ∷ []) (λ r. refl) db list_values content.lists (lists_rise None content.lists rising) (λ a. refl) held
   lists_shown whole db held = held_shown settled_table (0 ∷ 1 ∷ 2 ∷ 3 ∷ 4 ∷ []) (0 ∷ 1 ∷ 2 ∷ 3 ∷ []) (λ r. refl) db list_values content.lists (lists_rise None content.lists rising) (λ a. refl) held
 
   one_showing : (layout : Layout) (db : Database) (other : List SettledListContent) → ShowsLists layout db content.lists → ShowsLists layout db other → other ≡ content.lists
   one_showing older db other it that = that ∙ sym it
+  one_showing former db other it that = one_by_one list_values one_list other content.lists (shown_once settled_table (0 ∷ 1 ∷ 2 ∷ 3 ∷ 4 ∷ []) (0 ∷ 1 ∷ 2 ∷ 3 ∷ []) (λ r. refl) db list_values content.lists (lists_rise None content.lists rising) _ it that)
   one_showing whole db other it that = one_by_one list_values one_list other content.lists (shown_once settled_table (0 ∷ 1 ∷ 2 ∷ 3 ∷ 4 ∷ []) (0 ∷ 1 ∷ 2 ∷ 3 ∷ []) (λ r. refl) db list_values content.lists (lists_rise None content.lists rising) _ it that)
+
+  taken_shown : (layout : Layout) (db : Database) → HoldsTaken layout content.taken db.trees → ShowsTaken layout db content.taken
+  taken_shown older db held = held
+  taken_shown former db held = held
+  taken_shown whole db held = held_shown taken_table (0 ∷ 1 ∷ 2 ∷ []) (1 ∷ 0 ∷ []) (λ r. refl) db segment_values content.taken (segments_rise 0 0 content.taken taken_ordered) (λ a. refl) held
+
+  one_taking : (layout : Layout) (db : Database) (other : List Segment) → ShowsTaken layout db content.taken → ShowsTaken layout db other → other ≡ content.taken
+  one_taking older db other it that = that ∙ sym it
+  one_taking former db other it that = that ∙ sym it
+  one_taking whole db other it that = one_by_one segment_values one_segment other content.taken (shown_once taken_table (0 ∷ 1 ∷ 2 ∷ []) (1 ∷ 0 ∷ []) (λ r. refl) db segment_values content.taken (segments_rise 0 0 content.taken taken_ordered) _ it that)
 
   pub sound_shown : (layout : Layout) (db : Database) → HasRegisterIn layout content db → ShowsRegister layout content db
   sound_shown layout db has = record {
@@ -352,6 +365,7 @@ module _ (content : RegisterContent) (sound : IsSound content) where
     segments = held_shown segment_table (0 ∷ 1 ∷ 2 ∷ []) (1 ∷ 0 ∷ []) (λ r. refl) db segment_values content.segments (segments_rise 0 0 content.segments ordered) (λ a. refl) has.segments;
     closed_for = held_shown closed_for_table (0 ∷ []) (0 ∷ []) (λ r. refl) db file_values (if_any content.closed_for) (files_rise content.closed_for) (λ a. refl) has.closed_for;
     lists = lists_shown layout db has.lists;
+    taken = taken_shown layout db has.taken;
   }
 
   -- no other register is shown
@@ -362,7 +376,8 @@ module _ (content : RegisterContent) (sound : IsSound content) where
       let files = one_by_one file_values one_file (if_any other.closed_for) (if_any content.closed_for) (shown_once closed_for_table (0 ∷ []) (0 ∷ []) (λ r. refl) db file_values (if_any content.closed_for) (files_rise content.closed_for) _ it.closed_for that.closed_for) in
       let mark = one_mark other.closed_for content.closed_for files in
       let lists = one_showing layout db other.lists it.lists that.lists in
-      λ i. record { archives = archives i; segments = segments i; lists = lists i; closed_for = mark i }
+      let taken = one_taking layout db other.taken it.taken that.taken in
+      λ i. record { archives = archives i; segments = segments i; lists = lists i; taken = taken i; closed_for = mark i }
 
 -- ==== RegisterLemmas: What reading the tables says of the register.
 

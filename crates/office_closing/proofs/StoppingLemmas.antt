@@ -1,33 +1,22 @@
 -- What a stop of a closing leaves, and that a closing goes on from there.
+use Rattle.std.specs.{Prelude.{◌&&◌, nat_le}, List.{AllByRecursion, list_all}, Ordering.{is_lt, ordering_reverse}}
 use Rattle.std.proofs.Common.{◌≡◌, ◌⊎◌, inl, inr, ℕ, ◌+◌, ◌≤◌, ◌==◌, List, [], ◌∷◌, ◌++◌, Bool, true, false, cond, not, filter, length, Option, None, Some, Result, Ordering, Less, refl, sym, ap, ap₂, subst, ◌∙◌, arith}
-use Rattle.std.specs.Prelude.{◌&&◌, nat_le}
-use Rattle.std.specs.List.{AllByRecursion, list_all}
-use Rattle.std.specs.Ordering.{is_lt, ordering_reverse}
 use Rattle.std.proofs.lemmas.Bool.{and_parts, eqb-true, eq-eqb, leb-true}
-use Rattle.sqlite.specs.Effect.{Database}
-use Rattle.sqlite.specs.Tree.{Trees}
+use Rattle.sqlite.specs.{Effect.Database, Tree.Trees}
 use Rattle.sqlite_trees.specs.declared.store.Store.{Ghosts}
 use Rattle.edi_messages.specs.Texts.{is_name}
 use Rattle.terminal_core.specs.State.{last_number}
-use Rattle.office_rows.specs.Rows.{Rows}
-use Rattle.office_rows.specs.Stored.{HasRows, StoresRows}
-use Rattle.office_rows.proofs.Creating.{stores}
-use Rattle.office_closing.specs.Changes.{closed_with, marked_for, unmarked}
-use Rattle.office_closing.specs.Closes.{AreHeld, AreOrderly, Closes, Closing, Held, IsAtStage, IsClosing, IsLeft, raised_register}
-use Rattle.office_closing.specs.Copies.{ComesOn, FileNames, HasCome, IsOpened, OfficeContent, archive_in, is_put_away_with, lists_at, numbers_from, numbers_of, raised_by, segments_of}
-use Rattle.office_closing.specs.Files.{AreClean, Files, files}
-use Rattle.office_closing.specs.Lists.{SettledListContent, comes_before, list_cmp, put_list, put_lists}
-use Rattle.office_closing.specs.Register.{RegisterContent, last_closed}
-use Rattle.office_closing.specs.Sound.{are_rising, are_sound_archives, are_sound_lists, are_sound_segments, is_sound, is_file_name, is_sound_mark, may_be_list}
+use Rattle.office_rows.{specs.{Rows.Rows, Stored.{HasRows, StoresRows}}, proofs.Creating.stores}
+use Rattle.office_closing.specs.{Changes.{closed_with, marked_for, unmarked}, Files.{AreClean, Files, files}, Register.{RegisterContent, last_closed}}
+use Rattle.office_closing.specs.{Closes.{AreHeld, AreOrderly, Closes, Closing, Held, IsAtStage, IsClosing, IsLeft, raised_register}, Tables.whole}
+use Rattle.office_closing.specs.Copies.{ComesOn, FileNames, HasCome, IsOpened, OfficeContent, archive_in, is_put_away_with, is_with, lists_at, numbers_from, numbers_of, raised_by, segments_of}
+use Rattle.office_closing.specs.{Lists.{SettledListContent, comes_before, list_cmp, put_list, put_lists}, Stored.{HasRegister, StoresEither}}
+use Rattle.office_closing.specs.Sound.{are_rising, are_sound_archives, are_sound_lists, are_sound_segments, are_sound_taken, is_sound, is_file_name, is_sound_mark, is_within, may_be_list}
 use Rattle.office_closing.specs.Stopping.{AreLeft, AreSettled, GoesOnFrom, IsOnItsWay, Left, MayBeLeft, StoppedClosingsGoOn, StopsAreOnTheWay}
-use Rattle.office_closing.specs.Stored.{HasRegister, StoresEither}
-use Rattle.office_closing.specs.Tables.{whole}
-use Rattle.office_closing.specs.declared.faults.CloseFault.{CloseFault}
-use Rattle.office_closing.specs.declared.planning.Stage.{Stage}
-use Rattle.office_closing.specs.declared.planning.Stage.TheVariants as stage
-use Rattle.office_closing.proofs.NumberLemmas.{visits_loaded}
-use Rattle.office_closing.proofs.SoundLemmas.{IsAfter, all_after, list_total, rising, settled}
+use Rattle.office_closing.specs.{declared.faults.CloseFault.CloseFault, declared.planning.Stage.Stage, declared.register.Segment.Segment}
+use Rattle.office_closing.proofs.{NumberLemmas.visits_loaded, SoundLemmas.{IsAfter, all_after, list_total, rising, settled, taken_within}}
 use Rattle.office_closing.proofs.WaitingLemmas.{one_nexts}
+use Rattle.office_closing.specs.declared.planning.Stage.TheVariants as stage
 
 -- ---- what is left
 
@@ -53,7 +42,7 @@ none_gone closing rows = record {
 stores_either : (content : RegisterContent) (db : Database) → HasRegister content db → StoresEither content db.trees
 stores_either content db has = (
   has.0,
-  record { schema = refl; listed = has.1.listed; archives = has.1.archives; segments = has.1.segments; closed_for = has.1.closed_for; lists = has.1.lists },
+  record { schema = refl; listed = has.1.listed; archives = has.1.archives; segments = has.1.segments; closed_for = has.1.closed_for; lists = has.1.lists; taken = has.1.taken },
 )
 
 module _ (names : FileNames) (held : Held) (old new : Files) (has : AreHeld held old) (rest : AreSettled old) (clean : AreClean new) {T : Type 0} (result : Result T CloseFault) (closes : Closes names old new result)
@@ -247,10 +236,37 @@ mark_named file content is sound =
     let archives : Bool = are_sound_archives content.archives in
     let segments : Bool = are_sound_segments (length content.archives) content.segments in
     let lists : Bool = are_sound_lists (length content.archives) content.lists in
+    let taken : Bool = are_sound_taken (length content.archives) content.taken in
     let mark : Bool = is_sound_mark content.closed_for in
-    let first = and_parts archives (segments && (lists && mark)) sound in
-    let second = and_parts segments (lists && mark) first.1 in
-    sym (ap is_sound_mark is) ∙ (and_parts lists mark second.1).1
+    let first = and_parts archives (segments && (lists && (taken && mark))) sound in
+    let second = and_parts segments (lists && (taken && mark)) first.1 in
+    let third = and_parts lists (taken && mark) second.1 in
+    sym (ap is_sound_mark is) ∙ (and_parts taken mark third.1).1
+
+-- ---- what had been taken with an archive
+
+-- of what is with others none is found, and of its own all
+found_again : (p : Segment → Bool) (before last : List Segment) → AllByRecursion (λ s. p s ≡ false) before → AllByRecursion (λ s. p s ≡ true) last → filter p (before ++ last) ≡ last
+found_again p [] [] others its = refl
+found_again p [] (s ∷ last) others its = ap (λ b. cond b (s ∷ filter p last) (filter p last)) its.0 ∙ ap (λ l. s ∷ l) (found_again p [] last tt its.1)
+found_again p (s ∷ before) last others its = ap (λ b. cond b (s ∷ filter p (before ++ last)) (filter p (before ++ last))) others.0 ∙ found_again p before last others.1 its
+
+taken_with : (place : ℕ) (taken : List Segment) → AllByRecursion (λ (one : Segment). one.archive ≡ place) taken → AllByRecursion (λ s. is_with place s ≡ true) taken
+taken_with place [] all = tt
+taken_with place (s ∷ taken) all = (eq-eqb s.archive place all.0, taken_with place taken all.1)
+
+taken_before : (most place : ℕ) (taken : List Segment) → place ≡ most + 1 → list_all (is_within most) taken ≡ true → AllByRecursion (λ s. is_with place s ≡ false) taken
+taken_before most place [] next within = tt
+taken_before most place (s ∷ taken) next within =
+    let all = and_parts (is_within most s) (list_all (is_within most) taken) within in
+    (by (s.archive == place) refl all.0, taken_before most place taken next all.1)
+  where
+    by : (b : Bool) → (s.archive == place) ≡ b → is_within most s ≡ true → b ≡ false
+    by false e its = refl
+    by true e its =
+        let high : s.archive ≤ most = leb-true s.archive most (and_parts _ _ (and_parts _ _ (and_parts _ _ its).0).1).1 in
+        let at : s.archive ≡ place = eqb-true s.archive place e in
+        absurd (omega (arith, high, at, next))
 
 module _ (held left : Held) (names : FileNames) (way : IsOnItsWay held names left) (orderly : AreOrderly held.copy) (store register archive archive_register : Database)
     (has_register : HasRegister left.register register) (has_copy : HasRows left.copy archive) (has_copied : HasRegister left.copied archive_register) (own copy : OfficeContent) (of_own : IsOpened store register own)
@@ -297,18 +313,19 @@ module _ (held left : Held) (names : FileNames) (way : IsOnItsWay held names lef
   segments_are = ap₂ segments_of (sym same_place) numbers_are ∙ sym way.is_closing.segments
 
   -- the register with lists that make those which it has
-  raised_is : (lists : List SettledListContent) → put_lists lists held.copied.lists ≡ put_lists closing.lists held.copied.lists → raised_by names.archive lists copy ≡ raised_register held closing
-  raised_is lists same =
+  raised_is : (lists : List SettledListContent) (taken : List Segment) → put_lists lists held.copied.lists ≡ put_lists closing.lists held.copied.lists → taken ≡ closing.taken → raised_by names.archive lists taken copy ≡ raised_register held closing
+  raised_is lists taken same known =
       let lists_are : put_lists lists copy.register.lists ≡ put_lists closing.lists held.copied.lists = ap (λ (c : RegisterContent). put_lists lists c.lists) same_copied ∙ same in
       λ i. record {
         archives = (same_copied i).archives ++ archive_is i ∷ [];
         segments = (same_copied i).segments ++ segments_are i;
         lists = lists_are i;
+        taken = (same_copied i).taken ++ known i;
         closed_for = None;
       }
 
   left_raised : raised_register left closing ≡ raised_register held closing
-  left_raised = ap (closed_with closing.archive closing.segments closing.lists) way.copied
+  left_raised = ap (closed_with closing.archive closing.segments closing.lists closing.taken) way.copied
 
   module _ (at : IsAtStage left names closing stage.Raised) where
     own_is : own.register ≡ raised_register held closing
@@ -325,9 +342,16 @@ module _ (held left : Held) (names : FileNames) (way : IsOnItsWay held names lef
         held_within : list_all (may_be_list (length held.copied.archives)) held.copied.lists ≡ true
         held_within = settled (marked_for names.store held.copied) way.is_closing.sound_mark
 
+    taken_again : filter (is_with place) own.register.taken ≡ closing.taken
+    taken_again =
+        ap (λ (c : RegisterContent). filter (is_with place) c.taken) own_is
+        ∙ found_again (is_with place) held.copied.taken closing.taken
+        (taken_before (length held.copied.archives) place held.copied.taken (sym same_place ∙ way.is_closing.place) (taken_within (marked_for names.store held.copied) way.is_closing.sound_mark))
+        (taken_with place closing.taken (subst (λ n. AllByRecursion (λ (one : Segment). one.archive ≡ n) closing.taken) same_place way.is_closing.taken.placed))
+
     comes_on : ComesOn own copy names (filter (is_put_away_with place) own.register.lists) stage.Raised
     comes_on =
-        let same = raised_is (filter (is_put_away_with place) own.register.lists) lists_again ∙ sym own_is in
+        let same = raised_is (filter (is_put_away_with place) own.register.lists) (filter (is_with place) own.register.taken) lists_again taken_again ∙ sym own_is in
         record {
           has_come = (same, ap (λ (c : RegisterContent). c.closed_for) copy_register ∙ at.1);
           may = record {

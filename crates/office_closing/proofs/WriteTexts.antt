@@ -1,51 +1,26 @@
 -- What the texts mean that make the tables, and those that write.
+use Rattle.std.{specs.{Prelude.{IfSome, IsUtf8, String, string_bytes, Vec}, Option.option_map, List.AllByRecursion}, proofs.lemmas.Bool.cases_Bool}
 use Rattle.std.proofs.Common.{◌≡◌, ℕ, List, [], ◌∷◌, codes, Ok, refl, true, false, Err, ◌<◌, ◌≤◌, map, length, Option, None, Some, Result, IfOk, IfErr, inl, inr, sym, ap, subst, ◌∙◌, arith}
-use Rattle.sqlite.specs.declared.types.Value.TheVariants.{Null}
-use Rattle.sqlite.specs.Term.{Term, lit, col}
-use Rattle.sqlite.specs.Source.TheVariants.{Values}
-use Rattle.sqlite.specs.Command.TheVariants.{CreateTable, Insert, Nothing, Select}
-use Rattle.sqlite.specs.Compile.{table_defined_by}
-use Rattle.sqlite_tied.specs.Compute.{everything}
-use Rattle.sqlite.specs.Listing.{understood, reads_listing, listing_schema}
+use Rattle.std.proofs.{lemmas.List.length-map, lemmas.List.Sorted.length_permutation}
+use Rattle.sqlite.specs.{declared.types.Value.TheVariants.Null, Term.{Term, lit, col}, Source.TheVariants.Values, Compile.table_defined_by, Effect.Database}
+use Rattle.sqlite.specs.{Command.TheVariants.{CreateTable, Insert, Nothing, Select}, Listing.{understood, reads_listing, listing_schema}, Order.Row}
+use Rattle.sqlite.specs.{Collation.TheVariants.Binary, Outline.Outline, Schema.Schema, Steps.Outlines, declared.error.Error.Error}
+use Rattle.sqlite.specs.{State.{State, IsNotRun, IsNoStatement, IsUnchanged, KeepsCommit, store_error}, declared.error.Error.TheVariants.SqlInputError}
 use Rattle.sqlite.proofs.Callers.{IsPlain, command_of, statement_of}
-use Rattle.office_rows.specs.Tables.{no_schema, schema_of}
-use Rattle.office_tables.proofs.MadeLemmas.{MakesAnew}
-use Rattle.office_closing.specs.Tables.{archive_table, segment_table, closed_for_table, settled_table, older_schema, register_schema, Layout, older, whole, schema_in, has_lists}
-use Rattle.sqlite.specs.Collation.TheVariants.{Binary}
-use Rattle.sqlite_resolve.specs.Compile.{first}
-use Rattle.sqlite_resolve.specs.declared.error.CompileError.TheVariants.{NoSuchTable}
-use Rattle.sqlite_value.specs.Keys.{ascending}
-use Rattle.sqlite_value.specs.declared.keys.Key.{Key}
-use Rattle.office_rows.proofs.WriteLemmas.{rows_of}
-use Rattle.office_tables.specs.Reading.{OnlyShows}
+use Rattle.sqlite_tied.specs.Compute.{everything}
+use Rattle.office_rows.{specs.Tables.{no_schema, schema_of}, proofs.{WriteLemmas.rows_of, Creating.stops_keep}}
+use Rattle.office_tables.{specs.{Reading.OnlyShows, declared.table_fault.TableFault.TableFault, Faults.IsOfStoreOr}, proofs.MadeLemmas.MakesAnew}
 use Rattle.office_tables.proofs.WritesLemmas.{is_read, only_shows, of_store_weaker}
-use Rattle.std.specs.Prelude.{IfSome, IsUtf8, String, string_bytes, Vec}
-use Rattle.std.specs.Option.{option_map}
-use Rattle.std.specs.List.{AllByRecursion}
-use Rattle.std.proofs.lemmas.List.{length-map}
-use Rattle.std.proofs.lemmas.List.Sorted.{length_permutation}
-use Rattle.sqlite.specs.Effect.{Database}
-use Rattle.sqlite.specs.Order.{Row}
-use Rattle.sqlite.specs.Outline.{Outline}
-use Rattle.sqlite.specs.Schema.{Schema}
-use Rattle.sqlite.specs.State.{State, IsNotRun, IsNoStatement, IsUnchanged, KeepsCommit, store_error}
-use Rattle.sqlite.specs.Steps.{Outlines}
-use Rattle.sqlite.specs.declared.error.Error.{Error}
-use Rattle.sqlite.specs.declared.error.Error.TheVariants.{SqlInputError}
-use Rattle.sqlite_resolve.specs.declared.compiled.Compiled.{Compiled}
-use Rattle.sqlite_resolve.specs.declared.error.CompileError.{CompileError}
-use Rattle.sqlite_trees.specs.declared.error.StoreError.{StoreError}
-use Rattle.sqlite_trees.specs.declared.error.StoreError.TheVariants.{OutOfMemory, Io, Corrupt, Full, Broken, Unstorable}
-use Rattle.office_tables.specs.declared.table_fault.TableFault.{TableFault}
-use Rattle.office_tables.specs.Faults.{IsOfStoreOr}
-use Rattle.office_rows.proofs.Creating.{stops_keep}
-use Rattle.office_loading.specs.Tables.{FailsTable, ReadsTable}
-use Rattle.office_loading.proofs.VersionLemmas.{same_rows}
-use Rattle.office_closing.specs.declared.register.Segment.{Segment}
-use Rattle.office_closing.specs.Lists.{SettledListContent}
-use Rattle.office_closing.specs.Register.{ArchiveContent}
+use Rattle.office_closing.specs.Tables.{archive_table, segment_table, closed_for_table, settled_table, taken_table, older_schema, former_schema, register_schema, Layout, older, former, whole, schema_in, has_table, asking}
+use Rattle.office_closing.specs.{declared.register_reading.Later.Later, declared.register.Segment.Segment, Lists.SettledListContent, Register.ArchiveContent}
 use Rattle.office_closing.specs.Reading.{FitsArchive, FitsSegment, FitsList, ShowsArchives, ShowsSegments, ShowsFiles, FailsMark, ReadsMark, FailsTables}
-use Rattle.office_closing.specs.Stored.{ShowsLists, file_values, if_any}
+use Rattle.office_closing.specs.Stored.{ShowsLists, ShowsTaken, file_values, if_any}
+use Rattle.sqlite_resolve.specs.{Compile.first, declared.error.CompileError.TheVariants.NoSuchTable, declared.compiled.Compiled.Compiled}
+use Rattle.sqlite_resolve.specs.declared.error.CompileError.{CompileError}
+use Rattle.sqlite_value.specs.{Keys.ascending, declared.keys.Key.Key}
+use Rattle.sqlite_trees.specs.{declared.error.StoreError.StoreError, declared.error.StoreError.TheVariants.{OutOfMemory, Io, Corrupt, Full, Broken, Unstorable}}
+use Rattle.office_loading.{specs.Tables.{FailsTable, ReadsTable}, proofs.VersionLemmas.same_rows}
+use Rattle.office_closing.specs.declared.register_reading.Later.TheVariants as later
 
 -- ==== WriteTexts: What the texts mean that make the tables, and those that write.
 
@@ -144,6 +119,14 @@ pub complete_defined : table_defined_by complete_settled ≡ Ok (record settled_
 unfolding understood everything
 complete_defined = refl
 
+pub settled_there : command_of (understood former_schema complete_settled) ≡ Nothing
+unfolding understood everything
+settled_there = refl
+
+pub settled_there_plain : IsPlain (understood former_schema complete_settled)
+unfolding understood everything
+settled_there_plain = (refl, refl)
+
 pub completed_is : command_of (understood register_schema complete_settled) ≡ Nothing
 unfolding understood everything
 completed_is = refl
@@ -151,6 +134,48 @@ completed_is = refl
 pub completed_plain : IsPlain (understood register_schema complete_settled)
 unfolding understood everything
 completed_plain = (refl, refl)
+
+abbrev pub create_taken : List ℕ
+create_taken = codes "CREATE TABLE taken (partner INTEGER NOT NULL, archive INTEGER NOT NULL, last INTEGER NOT NULL, PRIMARY KEY(partner, archive)) STRICT"
+
+pub create_taken_is : (command_of (understood former_schema create_taken) ≡ CreateTable) × (statement_of create_taken (understood former_schema create_taken) ≡ create_taken)
+unfolding understood everything
+create_taken_is = (refl, refl)
+
+pub create_taken_plain : IsPlain (understood former_schema create_taken)
+unfolding understood everything
+create_taken_plain = (refl, refl)
+
+pub taken_defined : table_defined_by create_taken ≡ Ok (record taken_table { tree = 0 })
+unfolding understood everything
+taken_defined = refl
+
+pub taken_anew : MakesAnew create_taken
+unfolding everything
+taken_anew = (refl, refl)
+
+abbrev pub complete_taken : List ℕ
+complete_taken = codes "CREATE TABLE IF NOT EXISTS taken (partner INTEGER NOT NULL, archive INTEGER NOT NULL, last INTEGER NOT NULL, PRIMARY KEY(partner, archive)) STRICT"
+
+pub complete_taken_is : (command_of (understood former_schema complete_taken) ≡ CreateTable) × (statement_of complete_taken (understood former_schema complete_taken) ≡ complete_taken)
+unfolding understood everything
+complete_taken_is = (refl, refl)
+
+pub complete_taken_plain : IsPlain (understood former_schema complete_taken)
+unfolding understood everything
+complete_taken_plain = (refl, refl)
+
+pub complete_taken_defined : table_defined_by complete_taken ≡ Ok (record taken_table { tree = 0 })
+unfolding understood everything
+complete_taken_defined = refl
+
+pub taken_there : command_of (understood register_schema complete_taken) ≡ Nothing
+unfolding understood everything
+taken_there = refl
+
+pub taken_there_plain : IsPlain (understood register_schema complete_taken)
+unfolding understood everything
+taken_there_plain = (refl, refl)
 
 -- ---- rows
 
@@ -210,6 +235,20 @@ pub insert_settled_plain : IsPlain (understood register_schema insert_settled)
 unfolding understood everything
 insert_settled_plain = (refl, refl)
 
+abbrev pub insert_taken : List ℕ
+insert_taken = codes "INSERT INTO taken (partner, archive, last) VALUES (?1, ?2, ?3)"
+
+abbrev pub insert_taken_terms : List Term
+insert_taken_terms = lit Null ∷ col 0 0 ∷ col 0 1 ∷ col 0 2 ∷ []
+
+pub insert_taken_is : command_of (understood register_schema insert_taken) ≡ Insert 4 (Values insert_taken_terms 4)
+unfolding understood everything
+insert_taken_is = refl
+
+pub insert_taken_plain : IsPlain (understood register_schema insert_taken)
+unfolding understood everything
+insert_taken_plain = (refl, refl)
+
 -- ==== ReadTexts: What the texts mean that read.
 
 abbrev pub select_archive : List ℕ
@@ -227,11 +266,13 @@ select_archive_names = codes "place" ∷ codes "file" ∷ codes "visits" ∷ []
 pub select_archive_is : (layout : Layout) → (command_of (understood (schema_in layout) select_archive) ≡ Select (record { lets = []; body = record (rows_of 0 [] select_archive_shown) { order = select_archive_order } }) select_archive_names) × (reads_listing (schema_in layout) select_archive ≡ false)
 unfolding understood everything
 select_archive_is older = (refl, refl)
+select_archive_is former = (refl, refl)
 select_archive_is whole = (refl, refl)
 
 pub select_archive_plain : (layout : Layout) → IsPlain (understood (schema_in layout) select_archive)
 unfolding understood everything
 select_archive_plain older = (refl, refl)
+select_archive_plain former = (refl, refl)
 select_archive_plain whole = (refl, refl)
 
 pub select_archive_missing : understood no_schema select_archive ≡ Err NoSuchTable
@@ -260,11 +301,13 @@ select_segment_names = codes "partner" ∷ codes "archive" ∷ codes "last" ∷ 
 pub select_segment_is : (layout : Layout) → (command_of (understood (schema_in layout) select_segment) ≡ Select (record { lets = []; body = record (rows_of 2 [] select_segment_shown) { order = select_segment_order } }) select_segment_names) × (reads_listing (schema_in layout) select_segment ≡ false)
 unfolding understood everything
 select_segment_is older = (refl, refl)
+select_segment_is former = (refl, refl)
 select_segment_is whole = (refl, refl)
 
 pub select_segment_plain : (layout : Layout) → IsPlain (understood (schema_in layout) select_segment)
 unfolding understood everything
 select_segment_plain older = (refl, refl)
+select_segment_plain former = (refl, refl)
 select_segment_plain whole = (refl, refl)
 
 segment_read : is_read (first select_segment) ≡ true
@@ -289,11 +332,13 @@ select_closed_for_names = codes "file" ∷ []
 pub select_closed_for_is : (layout : Layout) → (command_of (understood (schema_in layout) select_closed_for) ≡ Select (record { lets = []; body = record (rows_of 4 [] select_closed_for_shown) { order = select_closed_for_order } }) select_closed_for_names) × (reads_listing (schema_in layout) select_closed_for ≡ false)
 unfolding understood everything
 select_closed_for_is older = (refl, refl)
+select_closed_for_is former = (refl, refl)
 select_closed_for_is whole = (refl, refl)
 
 pub select_closed_for_plain : (layout : Layout) → IsPlain (understood (schema_in layout) select_closed_for)
 unfolding understood everything
 select_closed_for_plain older = (refl, refl)
+select_closed_for_plain former = (refl, refl)
 select_closed_for_plain whole = (refl, refl)
 
 closed_for_read : is_read (first select_closed_for) ≡ true
@@ -315,13 +360,17 @@ select_settled_order = (col 1 1, ascending Binary) ∷ (col 1 2, ascending Binar
 abbrev pub select_settled_names : List (List ℕ)
 select_settled_names = codes "vessel" ∷ codes "voyage" ∷ codes "side" ∷ codes "archive" ∷ codes "lines" ∷ []
 
-pub select_settled_is : (command_of (understood register_schema select_settled) ≡ Select (record { lets = []; body = record (rows_of 6 [] select_settled_shown) { order = select_settled_order } }) select_settled_names) × (reads_listing register_schema select_settled ≡ false)
+pub select_settled_is : (layout : Layout) → has_table later.Lists layout ≡ true → (command_of (understood (schema_in layout) select_settled) ≡ Select (record { lets = []; body = record (rows_of 6 [] select_settled_shown) { order = select_settled_order } }) select_settled_names) × (reads_listing (schema_in layout) select_settled ≡ false)
 unfolding understood everything
-select_settled_is = (refl, refl)
+select_settled_is older there = absurd cc
+select_settled_is former there = (refl, refl)
+select_settled_is whole there = (refl, refl)
 
-pub select_settled_plain : IsPlain (understood register_schema select_settled)
+pub select_settled_plain : (layout : Layout) → has_table later.Lists layout ≡ true → IsPlain (understood (schema_in layout) select_settled)
 unfolding understood everything
-select_settled_plain = (refl, refl)
+select_settled_plain older there = absurd cc
+select_settled_plain former there = (refl, refl)
+select_settled_plain whole there = (refl, refl)
 
 settled_read : is_read (first select_settled) ≡ true
 unfolding everything
@@ -330,18 +379,43 @@ settled_read = refl
 pub settled_shows : OnlyShows select_settled
 settled_shows = only_shows select_settled settled_read
 
--- ---- whether there is a table of lists
+abbrev pub select_taken : List ℕ
+select_taken = codes "SELECT partner, archive, last FROM taken ORDER BY archive, partner"
 
-abbrev pub find_settled : List ℕ
-find_settled = codes "SELECT vessel FROM settled"
-
-pub settled_found : IsPlain (understood register_schema find_settled)
+pub select_taken_is : (command_of (understood register_schema select_taken) ≡ Select (record { lets = []; body = record (rows_of 8 [] select_segment_shown) { order = select_segment_order } }) select_segment_names) × (reads_listing register_schema select_taken ≡ false)
 unfolding understood everything
-settled_found = (refl, refl)
+select_taken_is = (refl, refl)
 
-pub settled_missing : understood older_schema find_settled ≡ Err NoSuchTable
+pub select_taken_plain : IsPlain (understood register_schema select_taken)
+unfolding understood everything
+select_taken_plain = (refl, refl)
+
+taken_read : is_read (first select_taken) ≡ true
+unfolding everything
+taken_read = refl
+
+pub taken_shows : OnlyShows select_taken
+taken_shows = only_shows select_taken taken_read
+
+-- ---- whether there is a table that came later
+
+pub table_found : (table : Later) (layout : Layout) → has_table table layout ≡ true → IsPlain (understood (schema_in layout) (asking table))
+unfolding understood everything
+table_found later.Lists older there = absurd cc
+table_found later.Lists former there = (refl, refl)
+table_found later.Lists whole there = (refl, refl)
+table_found later.Taken older there = absurd cc
+table_found later.Taken former there = absurd cc
+table_found later.Taken whole there = (refl, refl)
+
+pub table_missing : (table : Later) (layout : Layout) → has_table table layout ≡ false → understood (schema_in layout) (asking table) ≡ Err NoSuchTable
 unfolding understood listing_schema everything
-settled_missing = refl
+table_missing later.Lists older none = refl
+table_missing later.Lists former none = absurd cc
+table_missing later.Lists whole none = absurd cc
+table_missing later.Taken older none = refl
+table_missing later.Taken former none = refl
+table_missing later.Taken whole none = absurd cc
 
 -- ==== ReadLemmas: From the rows that the tables show to a register, and why none is read.
 
@@ -392,27 +466,47 @@ module _ (layout : Layout) (db : Database) where
   pub lists_fail : (fault : TableFault) → FailsTable FitsList (ShowsLists layout db) fault → FailsTables layout db fault
   lists_fail = of_store_weaker ((all : List SettledListContent) → ShowsLists layout db all → ¬ AllByRecursion FitsList all) _ (λ none content shown fits. none content.lists shown.lists fits.lists)
 
--- ---- the lists
+  pub taken_fails : (fault : TableFault) → FailsTable FitsSegment (ShowsTaken layout db) fault → FailsTables layout db fault
+  taken_fails = of_store_weaker ((all : List Segment) → ShowsTaken layout db all → ¬ AllByRecursion FitsSegment all) _ (λ none content shown fits. none content.taken shown.taken fits.taken)
 
--- as the table shows them, if there is one
-pub lists_read : {X Z : Type 0} (content : X → SettledListContent) (layout : Layout) (db : Database) (result : Result (Vec X Z) TableFault) → has_lists layout ≡ true → ReadsTable content FitsList (ShowsLists whole db) result → ReadsTable content FitsList (ShowsLists layout db) result
-lists_read content older db result has read = absurd cc
-lists_read content whole db result has read = read
+-- ---- the tables that came later
 
-pub lists_missing : {X Z : Type 0} (content : X → SettledListContent) (layout : Layout) (db : Database) (none : Vec X Z) → none.items ≡ [] → has_lists layout ≡ false → ReadsTable content FitsList (ShowsLists layout db) (Ok none)
-lists_missing content older db none empty has = (ap (map content) empty, subst (AllByRecursion FitsList) (sym (ap (map content) empty)) tt)
-lists_missing content whole db none empty has = absurd cc
+-- the lists as the table shows them, if there is one
+pub lists_read : {X Z : Type 0} (content : X → SettledListContent) (layout : Layout) (db : Database) (result : Result (Vec X Z) TableFault) → has_table later.Lists layout ≡ true → ReadsTable content FitsList (ShowsLists whole db) result → ReadsTable content FitsList (ShowsLists layout db) result
+lists_read content older db result there read = absurd cc
+lists_read content former db (Ok lists) there read = read
+lists_read content former db (Err fault) there read = read
+lists_read content whole db result there read = read
 
-pub whole_by : (layout : Layout) → has_lists layout ≡ true → schema_in layout ≡ register_schema
-whole_by older has = absurd cc
-whole_by whole has = refl
+pub lists_missing : {X Z : Type 0} (content : X → SettledListContent) (layout : Layout) (db : Database) (none : Vec X Z) → none.items ≡ [] → has_table later.Lists layout ≡ false → ReadsTable content FitsList (ShowsLists layout db) (Ok none)
+lists_missing content older db none empty there = (ap (map content) empty, subst (AllByRecursion FitsList) (sym (ap (map content) empty)) tt)
+lists_missing content former db none empty there = absurd cc
+lists_missing content whole db none empty there = absurd cc
 
--- ---- whether there is a table of them
+-- what had been taken as the table shows it, if there is one
+pub taken_read_in : {X Z : Type 0} (content : X → Segment) (layout : Layout) (db : Database) (result : Result (Vec X Z) TableFault) → has_table later.Taken layout ≡ true → ReadsTable content FitsSegment (ShowsTaken whole db) result → ReadsTable content FitsSegment (ShowsTaken layout db) result
+taken_read_in content older db result there read = absurd cc
+taken_read_in content former db result there read = absurd cc
+taken_read_in content whole db result there read = read
+
+pub taken_missing : {X Z : Type 0} (content : X → Segment) (layout : Layout) (db : Database) (none : Vec X Z) → none.items ≡ [] → has_table later.Taken layout ≡ false → ReadsTable content FitsSegment (ShowsTaken layout db) (Ok none)
+taken_missing content older db none empty there = (ap (map content) empty, subst (AllByRecursion FitsSegment) (sym (ap (map content) empty)) tt)
+taken_missing content former db none empty there = (ap (map content) empty, subst (AllByRecursion FitsSegment) (sym (ap (map content) empty)) tt)
+taken_missing content whole db none empty there = absurd cc
+
+pub whole_by : (layout : Layout) → has_table later.Taken layout ≡ true → schema_in layout ≡ register_schema
+whole_by older there = absurd cc
+whole_by former there = absurd cc
+whole_by whole there = refl
+
+-- ---- whether there is one of them
 
 -- the query of it is understood where there is one, and else it names no table
-pub found_in : (layout : Layout) (schema : Schema) → schema ≡ schema_in layout → (outline : Outline) → Outlines (understood schema find_settled) outline → true ≡ has_lists layout
-found_in older schema is outline h = absurd (subst (λ r. Outlines r outline) (ap (λ s. understood s find_settled) is ∙ settled_missing) h)
-found_in whole schema is outline h = refl
+pub found_in : (table : Later) (layout : Layout) (schema : Schema) → schema ≡ schema_in layout → (outline : Outline) → Outlines (understood schema (asking table)) outline → true ≡ has_table table layout
+found_in table layout schema is outline h = elim (cases_Bool (has_table table layout)) [
+  | inl there ↦ sym there
+  | inr none ↦ absurd (subst (λ r. Outlines r outline) (ap (λ s. understood s (asking table)) is ∙ table_missing table layout none) h)
+]
 
 no_store_error : (cause : StoreError) → SqlInputError NoSuchTable ≡ store_error cause → ⊥
 no_store_error OutOfMemory e = absurd cc
@@ -426,21 +520,23 @@ no_such_table : (result : Result Compiled CompileError) → IsPlain result → (
 no_such_table (Ok c) plain e same = absurd cc
 no_such_table (Err f) plain e same = plain
 
-pub missing_in : (layout : Layout) (old new : State) → old.now.schema ≡ schema_in layout → (params : Row) → IsNotRun old new find_settled params (SqlInputError NoSuchTable) → false ≡ has_lists layout
+pub missing_in : (table : Later) (layout : Layout) (old new : State) → old.now.schema ≡ schema_in layout → (params : Row) → IsNotRun old new (asking table) params (SqlInputError NoSuchTable) → false ≡ has_table table layout
 unfolding IsNotRun
-missing_in older old new is params h = refl
-missing_in whole old new is params (inl stopped) = absurd (not_stated stopped.0)
+missing_in table layout old new is params (inr failed) = absurd (no_store_error failed.0 failed.1)
+missing_in table layout old new is params (inl stopped) = elim (cases_Bool (has_table table layout)) [
+  | inl there ↦ absurd (not_stated there stopped.0)
+  | inr none ↦ sym none
+]
   where
-    not_stated : IsNoStatement old find_settled params (SqlInputError NoSuchTable) → ⊥
-    not_stated (inl h) = no_such_table (understood register_schema find_settled) settled_found h.0 (ap (λ s. understood s find_settled) (sym is) ∙ h.1)
-    not_stated (inr h) = elim h.2 [
+    not_stated : has_table table layout ≡ true → IsNoStatement old (asking table) params (SqlInputError NoSuchTable) → ⊥
+    not_stated there (inl h) = no_such_table (understood (schema_in layout) (asking table)) (table_found table layout there) h.0 (ap (λ s. understood s (asking table)) (sym is) ∙ h.1)
+    not_stated there (inr h) = elim h.2 [
       | inl p ↦ absurd (let e = p.1 in cc)
       | inr q ↦ elim q [
         | inl p ↦ absurd (let e = p.1 in cc)
         | inr p ↦ absurd (let e = p.1 in cc)
       ]
     ]
-missing_in whole old new is params (inr failed) = absurd (no_store_error failed.0 failed.1)
 
 -- where no such table was found nothing has changed
 pub missing_keeps : (sql : List ℕ) (params : Row) (old new : State) → IsNotRun old new sql params (SqlInputError NoSuchTable) → IsUnchanged old new

@@ -1,51 +1,25 @@
 -- What a closing of a store does: what it closes, what is left, and what it leaves at a fault and by a crash.
-use Rattle.std.specs.Prelude.{◌≡◌, ◌⊎◌, ℕ, ◌+◌, ◌<◌, ◌≤◌, true, Bool, List, Contains, length, map, None, Some, Result, Ok, Err, IfErr, IsTrue, OnErr, OnOk}
+use Rattle.std.specs.Prelude.{◌≡◌, ◌≢◌, ◌⊎◌, [], ℕ, ◌+◌, ◌<◌, ◌≤◌, true, Bool, List, Contains, length, map, None, Some, Result, Ok, Err, IfErr, IsTrue, OnErr, OnOk}
 use Rattle.std.specs.List.{AllByRecursion, range_with_len}
-use Rattle.sqlite.specs.Effect.{Database}
-use Rattle.sqlite.specs.State.{KeepsCommit, State, Survives}
-use Rattle.sqlite.specs.Tree.{Trees}
-use Rattle.terminal_core.specs.Forms.{IsFormedVisit}
-use Rattle.terminal_core.specs.Rows.{VisitContent}
-use Rattle.terminal_core.specs.State.{AreNumbered, TerminalState, last_number}
-use Rattle.office_rows.specs.Rows.{Interchange, Partner, Rows}
-use Rattle.office_rows.specs.Shown.{AreNexts}
-use Rattle.office_rows.specs.Stored.{HasRows, StoresRows}
+use Rattle.sqlite.specs.{Effect.Database, State.{KeepsCommit, State, Survives}, Tree.Trees}
+use Rattle.terminal_core.specs.{Forms.IsFormedVisit, Rows.VisitContent, State.{AreNumbered, TerminalState, last_number}}
+use Rattle.office_rows.specs.{Rows.{Interchange, Partner, Rows}, Shown.AreNexts, Stored.{HasRows, StoresRows}}
 use Rattle.office_admission.specs.Setups.{SetupContent}
 use Rattle.office_history.specs.After.{AreKeptOnce}
 use Rattle.office_loading.specs.Tables.{LoadsOwn}
-use Rattle.office_closing.specs.Going.{GoesAs, IsAmong, MayGo}
-use Rattle.office_parts.specs.OwnLists.{ListName, rows_without_lists}
-use Rattle.office_parts.specs.Archives.{HoldsWhatGoes}
-use Rattle.office_parts.specs.LeftOver.{rows_without}
-use Rattle.office_parts.specs.OwnTerminal.{MayStay}
-use Rattle.office_parts.specs.Parts.{Archived}
-use Rattle.office_tables.specs.Faults.{IsOfStore, IsOfStoreOr}
-use Rattle.office_tables.specs.declared.table_fault.TableFault.{TableFault}
-use Rattle.office_closing.specs.declared.register.Segment.{Segment}
-use Rattle.office_closing.specs.Changes.{closed_with, marked_for, unmarked}
-use Rattle.office_closing.specs.Lists.{SettledListContent, list_content}
-use Rattle.office_closing.specs.Register.{ArchiveContent, RegisterContent, archive_content, closed_by, last_closed}
-use Rattle.office_closing.specs.Sound.{IsSound}
-use Rattle.office_closing.specs.Stored.{HasRegister, StoresRegister}
-use Rattle.office_closing.specs.Transactions.{IsSettled}
-use Rattle.office_closing.specs.declared.faults.CloseFault.{CloseFault}
-use Rattle.office_closing.specs.declared.faults.CloseFault.TheVariants as fault
-use Rattle.office_closing.specs.declared.faults.File.{File}
-use Rattle.office_closing.specs.declared.faults.File.TheVariants as file
-use Rattle.office_closing.specs.declared.comparing.Numbers.{Numbers}
-use Rattle.office_closing.specs.declared.planning.Plan.{Plan}
-use Rattle.office_closing.specs.declared.planning.PutAway.{PutAway}
-use Rattle.office_closing.specs.declared.planning.Stage.{Stage}
-use Rattle.office_closing.specs.declared.planning.Stage.TheVariants as stage
-use Rattle.office_closing.specs.Arriving.{HasTexts, StandInOrder}
-use Rattle.office_closing.specs.Comparing.{IsOfEither}
-use Rattle.office_closing.specs.Copies.{ClosesNone, FileNames, numbers_from, segments_of}
+use Rattle.office_closing.specs.{Going.{GoesAs, IsAmong, MayGo}, declared.register.Segment.Segment, Changes.{closed_with, marked_for, unmarked}, Sound.IsSound}
+use Rattle.office_closing.specs.{Lists.{SettledListContent, list_content}, Register.{ArchiveContent, RegisterContent, archive_content, closed_by, last_closed}}
+use Rattle.office_closing.specs.{Stored.{HasRegister, StoresRegister}, Transactions.IsSettled, declared.faults.CloseFault.CloseFault, declared.faults.File.File}
+use Rattle.office_closing.specs.{declared.comparing.Numbers.Numbers, declared.planning.Plan.Plan, declared.planning.PutAway.PutAway, Comparing.IsOfEither}
+use Rattle.office_closing.specs.{declared.planning.Stage.Stage, Arriving.{HasTexts, StandInOrder}, Files.{Files, AreClean, AreIdle, AreRead, IsRead}}
+use Rattle.office_closing.specs.{Copies.{ClosesNone, FileNames, numbers_from, segments_of, taken_of}, Laws.Raises, Steps.IsOfWriting, Visits.AreToGo}
 use Rattle.office_closing.specs.Deleting.{all_but, goes, is_one_of, with_visits_that, without_visits}
-use Rattle.office_closing.specs.Files.{Files, AreClean, AreIdle, AreRead, IsRead}
-use Rattle.office_closing.specs.Laws.{Raises}
 use Rattle.office_closing.specs.Refusing.{HasUnfit, HasUnread, IsFileOf, IsUnopened, IsWhy}
-use Rattle.office_closing.specs.Steps.{IsOfWriting}
-use Rattle.office_closing.specs.Visits.{AreToGo}
+use Rattle.office_parts.specs.{OwnLists.{ListName, rows_without_lists}, Archives.HoldsWhatGoes, LeftOver.rows_without, OwnTerminal.MayStay, Parts.Archived}
+use Rattle.office_tables.specs.{Faults.{IsOfStore, IsOfStoreOr}, declared.table_fault.TableFault.TableFault}
+use Rattle.office_closing.specs.declared.faults.CloseFault.TheVariants as fault
+use Rattle.office_closing.specs.declared.faults.File.TheVariants as file
+use Rattle.office_closing.specs.declared.planning.Stage.TheVariants as stage
 
 -- ---- what the files hold before
 
@@ -81,8 +55,8 @@ pub record AreInTheirOrder (held : Held) (files : Files) : Type 0 where
 
 -- ---- what is closed
 
--- the numbers that are closed, the visits that go, the archive, its segments, the lists that the register gets with it, and
--- those of them that go
+-- the numbers that are closed, the visits that go, the archive, its segments, the lists that the register gets with it,
+-- those of them that go, and what had been taken
 pub record Closing : Type 0 where
   pub numbers : List Numbers
   pub visits : List ℕ
@@ -90,6 +64,7 @@ pub record Closing : Type 0 where
   pub segments : List Segment
   pub lists : List SettledListContent
   pub gone : List SettledListContent
+  pub taken : List Segment
 
 abbrev pub closing_content : Plan → Closing
 closing_content plan = record {
@@ -99,11 +74,13 @@ closing_content plan = record {
   segments = plan.segments.items;
   lists = map list_content plan.lists.items;
   gone = map list_content plan.gone.items;
+  taken = plan.taken.items;
 }
 
--- the store's register with the archive and the lists
+-- the store's register with the archive, the lists and what had been taken
 abbrev pub raised_register : Held → Closing → RegisterContent
-raised_register held closing = closed_with closing.archive closing.segments closing.lists (unmarked held.copied)
+raised_register held closing =
+    closed_with closing.archive closing.segments closing.lists closing.taken (unmarked held.copied)
 
 -- the last numbers that were closed before, as the store's register says, and those that are closed then
 abbrev pub closed_before : Held → ℕ → ℕ
@@ -135,17 +112,26 @@ pub record AreOfSetup (rows : Rows) (register : RegisterContent) (setup : SetupC
   pub loads : LoadsOwn (closed_by register) db setup terminal
 
 -- Lists that go may go, and the register has the text of their lines, as put away with this archive. If it is to get the
--- archive now, all lists go that may, and it gets no others.
+-- archive now, all lists go that may, and it gets no others; but none, if no number is closed: by these the register is told
+-- apart from what it was.
 pub record PutsAway (held : Held) (closing : Closing) : Type 0 where
   pub setup : SetupContent
   pub is_setup : AreOfSetup held.own held.register setup
   pub placed : AllByRecursion (λ (one : SettledListContent). one.archive ≡ closing.archive.place) closing.lists
   pub has : (one : SettledListContent) → Contains closing.gone one → Contains closing.lists one
   pub goes : (one : SettledListContent) → Contains closing.gone one → GoesAs setup held.own one
-  pub all : held.register ≡ unmarked held.copied → (list : ListName) → MayGo setup held.own list
-      → IsAmong closing.gone list
+  pub all : held.register ≡ unmarked held.copied → closing.segments ≢ [] → (list : ListName) →
+      MayGo setup held.own list → IsAmong closing.gone list
+  pub with_numbers : held.register ≡ unmarked held.copied → closing.segments ≡ [] → closing.lists ≡ []
   pub only : held.register ≡ unmarked held.copied → (one : SettledListContent) → Contains closing.lists one
       → Contains closing.gone one
+
+-- What had been taken is kept with this archive. If the register is to get the archive now, it is all that the store has taken:
+-- of each account the numbers below its next one.
+pub record KeepsTaken (held : Held) (closing : Closing) : Type 0 where
+  pub placed : AllByRecursion (λ (one : Segment). one.archive ≡ closing.archive.place) closing.taken
+  pub all : held.register ≡ unmarked held.copied
+      → (nexts : List ℕ) × AreNexts held.own nexts × (closing.taken ≡ taken_of closing.archive.place nexts)
 
 -- The archive holds all that goes, and all of that may go: the numbers by which the last closed ones rise, of the archive's
 -- register and so of the store's, are below the next of their accounts; the visits are over, and the newest is none of
@@ -169,6 +155,7 @@ pub record IsClosing (held : Held) (names : FileNames) (closing : Closing) : Typ
       HoldsWhatGoes archived held.own held.copy (closed_after held closing) (all_but closing.visits)
   pub may : MayStay (all_but closing.visits) held.own.visits
   pub lists : PutsAway held closing
+  pub taken : KeepsTaken held closing
 
 -- how far a closing has come, by what the registers hold
 abbrev pub IsAtStage : Held → FileNames → Closing → Stage → Type 0

@@ -1,31 +1,17 @@
 -- Which archives are copies of a store, of an earlier day or of the same, and what they close.
-use Rattle.std.specs.Prelude.{◌≡◌, ◌≢◌, ℕ, ◌+◌, ◌-◌, ◌≤◌, ◌==◌, ◌++◌, Bool, nat_lt, List, [], ◌∷◌, length, map, filter, None, Some, IsTrue}
+use Rattle.std.specs.Prelude.{◌≡◌, ◌≢◌, ℕ, ◌+◌, ◌-◌, ◌≤◌, ◌==◌, ◌++◌, Bool, false, nat_lt, List, [], ◌∷◌, length, map, filter, None, Some, IsTrue}
 use Rattle.sqlite.specs.Effect.{Database}
 use Rattle.terminal_core.specs.State.{TerminalState, last_number}
-use Rattle.office_admission.specs.Limits.{most_partners}
-use Rattle.office_admission.specs.Setups.{SetupContent, setup_content}
-use Rattle.office_rows.specs.ByKey.{AreListedOnce, lines_by}
-use Rattle.office_rows.specs.Rows.{ListingContent, Rows}
-use Rattle.office_rows.specs.Shown.{AreNexts}
-use Rattle.office_rows.specs.Stored.{HasRows}
-use Rattle.office_rows.specs.Tables.{office_schema}
+use Rattle.office_admission.specs.{Limits.most_partners, Setups.{SetupContent, setup_content}}
+use Rattle.office_rows.specs.{ByKey.{AreListedOnce, lines_by}, Rows.{ListingContent, Rows}, Shown.AreNexts, Stored.HasRows, Tables.office_schema}
 use Rattle.office_loading.specs.Tables.{LoadsOwn}
-use Rattle.office_closing.specs.Going.{AreDone}
+use Rattle.office_closing.specs.{Going.AreDone, declared.register.Segment.Segment, Changes.{closed_with, unmarked}, Lists.SettledListContent, Visits.IsCauseOf}
+use Rattle.office_closing.specs.{Register.{ArchiveContent, RegisterContent, register_content, last_closed, closed_by, is_newer_than}, Stored.HasRegister}
+use Rattle.office_closing.specs.{Sound.{is_sound, is_file_name, IsSound}, declared.faults.Refusal.Refusal, declared.comparing.Numbers.Numbers}
+use Rattle.office_closing.specs.{declared.planning.Opened.Opened, declared.planning.Stage.Stage, declared.visits.VisitFault.TheVariants.Differs}
 use Rattle.office_parts.specs.OwnLists.{ListName}
-use Rattle.office_closing.specs.declared.register.Segment.{Segment}
-use Rattle.office_closing.specs.Changes.{closed_with, unmarked}
-use Rattle.office_closing.specs.Lists.{SettledListContent}
-use Rattle.office_closing.specs.Register.{ArchiveContent, RegisterContent, register_content, last_closed, closed_by}
-use Rattle.office_closing.specs.Sound.{is_sound, is_file_name, IsSound}
-use Rattle.office_closing.specs.Stored.{HasRegister}
-use Rattle.office_closing.specs.declared.faults.Refusal.{Refusal}
 use Rattle.office_closing.specs.declared.faults.Refusal.TheVariants as refusal
-use Rattle.office_closing.specs.declared.comparing.Numbers.{Numbers}
-use Rattle.office_closing.specs.declared.planning.Opened.{Opened}
-use Rattle.office_closing.specs.declared.planning.Stage.{Stage}
 use Rattle.office_closing.specs.declared.planning.Stage.TheVariants as stage
-use Rattle.office_closing.specs.declared.visits.VisitFault.TheVariants.{Differs}
-use Rattle.office_closing.specs.Visits.{IsCauseOf}
 
 -- ---- what is opened
 
@@ -44,13 +30,14 @@ office_content opened = record {
   register = register_content opened.register;
 }
 
--- the one database has this office beyond what is closed, and the other this register
+-- the one database has this office beyond what is closed, and the other this register, which is of no later day
 pub record IsOpened (db register : Database) (content : OfficeContent) : Type 0 where
   pub sound : IsTrue (is_sound content.register)
   pub registered : (held : RegisterContent) → HasRegister held register → IsSound held → content.register ≡ held
   pub loaded : db.schema ≡ office_schema →
       LoadsOwn (closed_by content.register) db content.setup content.terminal
   pub nexts : (rows : Rows) → HasRows rows db → AreNexts rows content.nexts
+  pub of_day : is_newer_than content.nexts content.register ≡ false
 
 -- ---- what an archive closes
 
@@ -81,11 +68,29 @@ archive_in file copy = record {
   visits = last_number copy.terminal.visits;
 }
 
--- the store's register with this archive, and the lists that are put away with it
-abbrev pub raised_by : List ℕ → List SettledListContent → OfficeContent → RegisterContent
-raised_by file lists copy =
-    closed_with (archive_in file copy) (segments_of (archive_in file copy).place (numbers_of copy)) lists
-    (unmarked copy.register)
+-- and its segments
+abbrev pub segments_in : List ℕ → OfficeContent → List Segment
+segments_in file copy = segments_of (archive_in file copy).place (numbers_of copy)
+
+-- the store's register with this archive, the lists that are put away with it, and what the store had taken
+abbrev pub raised_by : List ℕ → List SettledListContent → List Segment → OfficeContent → RegisterContent
+raised_by file lists taken copy =
+    closed_with (archive_in file copy) (segments_in file copy) lists taken (unmarked copy.register)
+
+-- ---- what was taken
+
+-- all that an office with these next numbers has taken, as an archive is closed
+abbrev pub taken_of : (archive : ℕ) → (nexts : List ℕ) → List Segment
+taken_of archive nexts = segments_of archive (numbers_from (λ partner. 0) 1 nexts)
+
+abbrev pub is_with : ℕ → Segment → Bool
+is_with archive segment = segment.archive == archive
+
+-- what the store's register gets as taken with an archive: all that the store has taken, or what it has with it already
+abbrev pub taken_at : OfficeContent → (archive : ℕ) → Stage → List Segment
+taken_at own archive stage.New = taken_of archive own.nexts
+taken_at own archive stage.Marked = taken_of archive own.nexts
+taken_at own archive stage.Raised = filter (is_with archive) own.register.taken
 
 -- by the registers and the archive's rows a closing begins with the archive, and closes no number
 pub record ClosesNone (register copied : RegisterContent) (copy : Rows) : Type 0 where
@@ -96,13 +101,20 @@ pub record ClosesNone (register copied : RegisterContent) (copy : Rows) : Type 0
 
 -- ---- lists
 
--- the lists of this terminal that are done and not among those named, each as put away with that archive
-pub record AreDoneIn (terminal : TerminalState) (named : List ListName) (archive : ℕ) (found : List SettledListContent)
-    : Type 0 where
+-- Lists go only with numbers, since by these a register is told apart from the one before it: with an archive that has no
+-- segment there are none, and else those that are done and not among those named.
+abbrev pub GoWith : List Segment → List ListingContent → (named : List ListName) → (archive : ℕ) →
+    (found : List SettledListContent) → Type 0
+GoWith [] lines named archive found = found ≡ []
+GoWith (segment ∷ segments) lines named archive found = AreDone lines named archive found
+
+-- the lists of this terminal that go with an archive of these segments, each as put away with it
+pub record AreDoneIn (terminal : TerminalState) (named : List ListName) (segments : List Segment) (archive : ℕ)
+    (found : List SettledListContent) : Type 0 where
   pub lines : List ListingContent
   pub once : AreListedOnce lines
   pub by_key : lines_by lines ≡ terminal.lines
-  pub are : AreDone lines named archive found
+  pub are : GoWith segments lines named archive found
 
 abbrev pub is_put_away_with : ℕ → SettledListContent → Bool
 is_put_away_with archive list = list.archive == archive
@@ -149,11 +161,13 @@ HasCome own copy names lists stage.New =
 HasCome own copy names lists stage.Marked =
     (unmarked copy.register ≡ own.register) × (copy.register.closed_for ≡ Some names.store)
 HasCome own copy names lists stage.Raised =
-    (raised_by names.archive lists copy ≡ own.register) × (copy.register.closed_for ≡ Some names.store)
+    (raised_by names.archive lists (taken_at own (archive_in names.archive copy).place stage.Raised) copy ≡ own.register)
+    × (copy.register.closed_for ≡ Some names.store)
 
--- the store's register may have the archive and these lists, and the archive's be marked
-pub record MayBeRaised (copy : OfficeContent) (names : FileNames) (lists : List SettledListContent) : Type 0 where
-  pub raised : IsTrue (is_sound (raised_by names.archive lists copy))
+-- the store's register may have the archive and these, and the archive's be marked
+pub record MayBeRaised (copy : OfficeContent) (names : FileNames) (lists : List SettledListContent)
+    (taken : List Segment) : Type 0 where
+  pub raised : IsTrue (is_sound (raised_by names.archive lists taken copy))
   pub mark : IsTrue (is_file_name names.store)
 
 -- the archive is of the store's terminal and of no later day, and the store no archive itself
@@ -166,7 +180,7 @@ pub record IsOfStore (own copy : OfficeContent) : Type 0 where
 pub record ComesOn (own copy : OfficeContent) (names : FileNames) (lists : List SettledListContent) (come : Stage)
     : Type 0 where
   pub has_come : HasCome own copy names lists come
-  pub may : MayBeRaised copy names lists
+  pub may : MayBeRaised copy names lists (taken_at own (archive_in names.archive copy).place come)
 
 -- the archive is a copy of the store, and the closing has come so far
 pub record IsCopy (own copy : OfficeContent) (names : FileNames) (lists : List SettledListContent) (come : Stage)
@@ -178,7 +192,8 @@ pub record IsCopy (own copy : OfficeContent) (names : FileNames) (lists : List S
 pub record ComesToNone (own copy : OfficeContent) (names : FileNames) : Type 0 where
   pub named : List ListName
   pub done : List SettledListContent
-  pub are_done : AreDoneIn own.terminal named (archive_in names.archive copy).place done
+  pub are_done :
+      AreDoneIn own.terminal named (segments_in names.archive copy) (archive_in names.archive copy).place done
   pub none : (come : Stage) →
       ¬ ComesOn own copy names (lists_at own (archive_in names.archive copy).place done come) come
 

@@ -1,19 +1,14 @@
 -- The laws of a closing: what its calls say of rows, in the words of a store and its archives.
-use Rattle.std.specs.Prelude.{◌≡◌, ℕ, ◌<◌, ◌≤◌, true, List, None}
+use Rattle.std.specs.Prelude.{◌≡◌, ℕ, ◌<◌, ◌≤◌, false, true, List, None}
 use Rattle.terminal_core.specs.State.{AreNumbered}
 use Rattle.office_replies.specs.Events.{Event}
 use Rattle.office_rows.specs.Rows.{Rows}
 use Rattle.office_admission.specs.Setups.{SetupContent}
-use Rattle.office_parts.specs.Archives.{HoldsWhatGoes}
-use Rattle.office_parts.specs.Closing.{carried}
-use Rattle.office_parts.specs.LeftOver.{rows_beyond, rows_without}
-use Rattle.office_parts.specs.OwnTerminal.{MayStay}
+use Rattle.office_parts.specs.{Archives.HoldsWhatGoes, Closing.carried, LeftOver.{rows_beyond, rows_without}, OwnTerminal.MayStay}
 use Rattle.office_parts.specs.Parts.{Archived, ArePartsAfter}
-use Rattle.office_closing.specs.declared.comparing.Numbers.{Numbers}
-use Rattle.office_closing.specs.Clearing.{IsWithoutSome}
-use Rattle.office_closing.specs.Comparing.{IsComparedAs}
-use Rattle.office_closing.specs.Deleting.{all_but, without_visits, is_among, goes}
-use Rattle.office_closing.specs.Visits.{AreToGo}
+use Rattle.office_closing.specs.{declared.comparing.Numbers.Numbers, Changes.with_taken, Clearing.IsWithoutSome, Comparing.IsComparedAs, Visits.AreToGo}
+use Rattle.office_closing.specs.{Copies.{AreAtMost, taken_of}, Deleting.{all_but, without_visits, is_among, goes}}
+use Rattle.office_closing.specs.Register.{RegisterContent, is_newer_than, next_of}
 
 -- these are the numbers by which the last ones that are closed rise
 pub record Raises (before : ℕ → ℕ) (closing : List Numbers) (after : ℕ → ℕ) : Type 0 where
@@ -43,3 +38,15 @@ ClearedIsCarried =
     (last_closed : ℕ → ℕ) (visits : List ℕ) → ArePartsAfter content es archived own whole →
     Raises archived.last_closed closing last_closed
     → without_visits visits (rows_without (goes closing) own) ≡ carried last_closed (all_but visits) own
+
+-- By what had been taken at a closing, with those next numbers, a register tells the day of a store with others: one that goes on
+-- from there is of no day before, and one is that still awaits a number that had been taken.
+pub record TellsTheDay (archive : ℕ) (nexts others : List ℕ) (register : RegisterContent) : Type 0 where
+  pub goes_on : is_newer_than others register ≡ false → AreAtMost nexts others
+      → is_newer_than others (with_taken (taken_of archive nexts) register) ≡ false
+  pub awaits : (partner number : ℕ) → 0 < number → number < next_of nexts partner → next_of others partner ≤ number
+      → is_newer_than others (with_taken (taken_of archive nexts) register) ≡ true
+
+abbrev pub TakenTellsTheDay : Type 0
+TakenTellsTheDay =
+    (archive : ℕ) (nexts others : List ℕ) (register : RegisterContent) → TellsTheDay archive nexts others register

@@ -1,27 +1,25 @@
 -- What a closing is to do, as the opened offices and their registers tell.
 use Rattle.std.specs.Prelude.{◌≡◌, ◌≢◌, ◌↔◌, ℕ, Bool, true, Option, None, Some, List, Contains, filter, map}
 use Rattle.office_parts.specs.OwnLists.{ListName}
-use Rattle.office_closing.specs.Changes.{unmarked}
-use Rattle.office_closing.specs.Lists.{SettledListContent, list_content}
-use Rattle.office_closing.specs.Register.{archive_content}
-use Rattle.office_closing.specs.declared.faults.CloseFault.{CloseFault}
+use Rattle.office_closing.specs.{Changes.unmarked, Lists.{SettledListContent, list_content}, Register.archive_content, declared.register.Segment.Segment}
+use Rattle.office_closing.specs.{declared.faults.CloseFault.CloseFault, declared.planning.ClosingLists.ClosingLists, declared.planning.History.History}
+use Rattle.office_closing.specs.{declared.planning.Mark.Mark, declared.planning.Plan.Plan, declared.planning.Stage.Stage, Visits.AreToGo}
+use Rattle.office_closing.specs.Copies.{AreDoneIn, ComesOn, FileNames, IsCopy, IsReason, OfficeContent, archive_in, is_put_away_with, is_with, lists_at, numbers_of, segments_in, segments_of, taken_at, taken_of}
 use Rattle.office_closing.specs.declared.faults.CloseFault.TheVariants as fault
 use Rattle.office_closing.specs.declared.faults.Refusal.TheVariants as refusal
-use Rattle.office_closing.specs.declared.planning.ClosingLists.{ClosingLists}
-use Rattle.office_closing.specs.declared.planning.History.{History}
-use Rattle.office_closing.specs.declared.planning.Mark.{Mark}
 use Rattle.office_closing.specs.declared.planning.Mark.TheVariants as mark
-use Rattle.office_closing.specs.declared.planning.Plan.{Plan}
-use Rattle.office_closing.specs.declared.planning.Stage.{Stage}
 use Rattle.office_closing.specs.declared.planning.Stage.TheVariants as stage
-use Rattle.office_closing.specs.Copies.{AreDoneIn, ComesOn, FileNames, IsCopy, IsReason, OfficeContent, archive_in, is_put_away_with, lists_at, numbers_of, segments_of}
-use Rattle.office_closing.specs.Visits.{AreToGo}
 
 -- these are the lists that are done, if the registers name the same archives, and else those that the store's has with this one
 pub record AreFor (own copy : OfficeContent) (archive : ℕ) (done lists : List SettledListContent) : Type 0 where
   pub same : unmarked copy.register ≡ unmarked own.register → lists ≡ done
   pub other : unmarked copy.register ≢ unmarked own.register
       → lists ≡ filter (is_put_away_with archive) own.register.lists
+
+-- this is all that the store has taken, if the registers name the same archives, and else what the store's has with this one
+pub record IsTakenFor (own copy : OfficeContent) (archive : ℕ) (taken : List Segment) : Type 0 where
+  pub same : unmarked copy.register ≡ unmarked own.register → taken ≡ taken_of archive own.nexts
+  pub other : unmarked copy.register ≢ unmarked own.register → taken ≡ filter (is_with archive) own.register.taken
 
 -- these are what both have
 abbrev pub AreInBoth : (ones others both : List SettledListContent) → Type 0
@@ -37,25 +35,28 @@ pub record IsPlan (own copy : OfficeContent) (names : FileNames) (named : List L
   pub segments : plan.segments.items ≡ segments_of (archive_in names.archive copy).place (numbers_of copy)
   pub visits : AreToGo own.terminal.visits copy.terminal.visits plan.visits.items
   pub done : List SettledListContent
-  pub are_done : AreDoneIn own.terminal named (archive_in names.archive copy).place done
+  pub are_done :
+      AreDoneIn own.terminal named (segments_in names.archive copy) (archive_in names.archive copy).place done
   pub lists : map list_content plan.lists.items
       ≡ lists_at own (archive_in names.archive copy).place done plan.stage
   pub gone : AreInBoth done (map list_content plan.lists.items) (map list_content plan.gone.items)
+  pub taken : plan.taken.items ≡ taken_at own (archive_in names.archive copy).place plan.stage
 
 -- ---- its parts
 
--- what the archive closes, and which visits go
+-- what the archive closes, which visits go, and what had been taken
 pub record IsHistory (own copy : OfficeContent) (file : List ℕ) (history : History) : Type 0 where
   pub numbers : history.numbers.items ≡ numbers_of copy
   pub archive : archive_content history.archive ≡ archive_in file copy
   pub segments : history.segments.items ≡ segments_of (archive_in file copy).place (numbers_of copy)
   pub visits : AreToGo own.terminal.visits copy.terminal.visits history.visits.items
+  pub taken : IsTakenFor own copy (archive_in file copy).place history.taken.items
 
 -- the lists that the register has with the archive, and those of them that are done
-pub record AreClosingLists (own copy : OfficeContent) (named : List ListName) (archive : ℕ) (lists : ClosingLists)
-    : Type 0 where
+pub record AreClosingLists (own copy : OfficeContent) (named : List ListName) (segments : List Segment) (archive : ℕ)
+    (lists : ClosingLists) : Type 0 where
   pub done : List SettledListContent
-  pub are_done : AreDoneIn own.terminal named archive done
+  pub are_done : AreDoneIn own.terminal named segments archive done
   pub all : AreFor own copy archive done (map list_content lists.all.items)
   pub gone : AreInBoth done (map list_content lists.all.items) (map list_content lists.gone.items)
 
@@ -65,6 +66,7 @@ pub record IsPlanOf (history : History) (closed : ClosingLists) (come : Stage) (
   pub visits : plan.visits.items ≡ history.visits.items
   pub archive : archive_content plan.archive ≡ archive_content history.archive
   pub segments : plan.segments.items ≡ history.segments.items
+  pub taken : plan.taken.items ≡ history.taken.items
   pub lists : plan.lists.items ≡ closed.all.items
   pub gone : plan.gone.items ≡ closed.gone.items
   pub stage : plan.stage ≡ come

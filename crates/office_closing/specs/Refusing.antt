@@ -1,23 +1,16 @@
 -- Why an archive is refused, and a file can't be read.
-use Rattle.std.specs.Prelude.{◌≡◌, ◌⊎◌, ◌<◌, ℕ, length}
+use Rattle.std.specs.Prelude.{◌≡◌, ◌⊎◌, ◌<◌, ℕ, List, length, true}
 use Rattle.sqlite.specs.Effect.{Database}
 use Rattle.office_admission.specs.Limits.{most_partners}
-use Rattle.office_rows.specs.Rows.{Rows}
+use Rattle.office_rows.specs.{Rows.Rows, Shown.AreNexts}
 use Rattle.office_loading.specs.Tables.{FailsToLoadOwn, HasHighNext}
-use Rattle.office_tables.specs.Answers.{HasUnfitReply}
-use Rattle.office_tables.specs.Faults.{IsOfStore, IsOfStoreOr}
-use Rattle.office_tables.specs.declared.table_fault.TableFault.{TableFault}
-use Rattle.office_closing.specs.declared.faults.File.{File}
-use Rattle.office_closing.specs.declared.faults.CloseFault.{CloseFault}
-use Rattle.office_closing.specs.declared.faults.CloseFault.TheVariants as fault
-use Rattle.office_closing.specs.declared.faults.Refusal.{Refusal}
-use Rattle.office_closing.specs.declared.faults.Refusal.TheVariants as refusal
-use Rattle.office_closing.specs.Arriving.{HasTexts, StandInOrder}
-use Rattle.office_closing.specs.Comparing.{IsOfEither, IsToldAlike}
+use Rattle.office_tables.specs.{Answers.HasUnfitReply, Faults.{IsOfStore, IsOfStoreOr}, declared.table_fault.TableFault.TableFault}
+use Rattle.office_closing.specs.{declared.faults.File.File, declared.faults.CloseFault.CloseFault, declared.faults.Refusal.Refusal, Files.Files}
+use Rattle.office_closing.specs.{Arriving.{HasTexts, StandInOrder}, Comparing.{IsOfEither, IsToldAlike}, Waiting.HasWaiting}
 use Rattle.office_closing.specs.Copies.{ClosesNone, FileNames, IsOpened, IsReason, OfficeContent}
-use Rattle.office_closing.specs.Files.{Files}
-use Rattle.office_closing.specs.Register.{RegisterContent, closed_by, last_closed}
-use Rattle.office_closing.specs.Waiting.{HasWaiting}
+use Rattle.office_closing.specs.Register.{RegisterContent, closed_by, is_newer_than, last_closed}
+use Rattle.office_closing.specs.declared.faults.CloseFault.TheVariants as fault
+use Rattle.office_closing.specs.declared.faults.Refusal.TheVariants as refusal
 
 -- ---- a file that can't be read
 
@@ -35,11 +28,19 @@ IsOfThis file Is (fault.File of) = (of.file ≡ file) × Is of.fault
 IsOfThis file Is (fault.Comparing of) = ⊥
 IsOfThis file Is fault.Memory = Unit {0}
 
+-- the rows are of a day before their register: a number had been taken then that they still await
+abbrev pub AreOlder : RegisterContent → Rows → Type 0
+AreOlder register rows = (nexts : List ℕ) × AreNexts rows nexts × (is_newer_than nexts register ≡ true)
+
+-- why the next numbers are not those of an office beside its register: one has more than 32 bits, or the rows are older
+abbrev pub HaveNoNexts : RegisterContent → Rows → Type 0
+HaveNoNexts register rows = HasHighNext rows.partners ⊎ AreOlder register rows
+
 -- Why an office does not open: its rows make none beyond what its register closes, or are of another version; or the next
--- number of an account has more than 32 bits.
+-- numbers of its accounts are not those beside this register.
 abbrev pub IsUnopened : RegisterContent → Rows → Database → TableFault → Type 0
 IsUnopened register rows db fault =
-    FailsToLoadOwn (closed_by register) db fault ⊎ IsOfStoreOr (HasHighNext rows.partners) fault
+    FailsToLoadOwn (closed_by register) db fault ⊎ IsOfStoreOr (HaveNoNexts register rows) fault
 
 -- the same, of the file with its rows; or the file of its sound register could not be read
 abbrev pub IsOfOpening : (rows_in register_in : File) → RegisterContent → Rows → Database → CloseFault → Type 0

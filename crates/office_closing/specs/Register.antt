@@ -1,10 +1,8 @@
 -- What a register of archives says: which archives hold a store's history, and which numbers each of them closed.
-use Rattle.std.specs.Prelude.{ℕ, ◌==◌, ◌&&◌, nat_le, max, Bool, List, [], ◌∷◌, map, find, fold, if◌then◌else◌, Option, string_bytes}
-use Rattle.std.specs.Option.{option_map}
+use Rattle.std.specs.Prelude.{ℕ, ◌==◌, ◌&&◌, nat_le, max, Bool, List, [], ◌∷◌, map, find, fold, get_or, if◌then◌else◌, nat_lt, not, Option, string_bytes}
+use Rattle.std.specs.{List.list_any, Option.option_map}
 use Rattle.office_loading.specs.Closed.{ClosedContent}
-use Rattle.office_closing.specs.declared.register.Archive.{Archive}
-use Rattle.office_closing.specs.declared.register.Register.{Register}
-use Rattle.office_closing.specs.declared.register.Segment.{Segment}
+use Rattle.office_closing.specs.{declared.register.Archive.Archive, declared.register.Register.Register, declared.register.Segment.Segment}
 use Rattle.office_closing.specs.Lists.{SettledListContent, list_content}
 
 -- an archive: its place in the order of closing, the name of its file, the number of its newest visit
@@ -13,12 +11,14 @@ pub record ArchiveContent : Type 0 where
   pub file : List ℕ
   pub visits : ℕ
 
--- a segment of a partner's numbers: up to its last one they are in the archives from the first to this one
 pub record RegisterContent : Type 0 where
   pub archives : List ArchiveContent
+  -- a partner's numbers up to the last one of a segment are in the archives from the first to its own
   pub segments : List Segment
   -- the lists that were put away
   pub lists : List SettledListContent
+  -- as an archive was closed, a partner's numbers had been taken up to the last one of its segment here
+  pub taken : List Segment
   -- in an archive's own register: the file of the store that goes on
   pub closed_for : Option (List ℕ)
 
@@ -32,6 +32,7 @@ register_content register =
       archives = map archive_content register.archives.items;
       segments = register.segments.items;
       lists = map list_content register.lists.items;
+      taken = register.taken.items;
       closed_for = option_map string_bytes register.closed_for;
     }
 
@@ -57,6 +58,19 @@ archive_of segments partner number =
 -- the number of the newest visit as the last archive was closed, 0 if there is none
 abbrev pub newest_visit : List ArchiveContent → ℕ
 newest_visit archives = fold (λ _ archive. archive.visits) 0 archives
+
+-- the next number of an account, of those in the order of the ids from 1
+abbrev pub next_of : List ℕ → ℕ → ℕ
+next_of nexts partner = get_or (0 ∷ nexts) partner 0
+
+-- the next number of its account is above the last one of the segment
+abbrev pub is_passed : List ℕ → Segment → Bool
+is_passed nexts segment = nat_lt segment.last (next_of nexts segment.partner)
+
+-- Of an account a number had been taken as an archive was closed that a store with these next numbers, in the order of the
+-- accounts, still awaits: the store is of a day before that.
+abbrev pub is_newer_than : List ℕ → RegisterContent → Bool
+is_newer_than nexts content = list_any (λ segment. not (is_passed nexts segment)) content.taken
 
 -- what is closed of the store, as its opening asks for it
 abbrev pub closed_by : RegisterContent → ClosedContent

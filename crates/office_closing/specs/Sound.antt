@@ -1,12 +1,10 @@
 -- Which registers are sound.
 use Rattle.std.specs.Prelude.{ℕ, ◌≤◌, ◌+◌, ◌==◌, ◌&&◌, ◌||◌, not, nat_le, nat_lt, Bool, true, List, [], ◌∷◌, ◌++◌, length, IsTrue, IfSome, IsUtf8, Option, None, Some}
-use Rattle.std.specs.List.{list_all, list_any, AllByRecursion}
-use Rattle.std.specs.Str.{bytes_eq}
+use Rattle.std.specs.{List.{list_all, list_any, AllByRecursion}, Str.bytes_eq}
 use Rattle.edi_messages.specs.Texts.{is_name}
 use Rattle.edi_syntax.specs.Numbers.{last_number}
 use Rattle.office_admission.specs.Limits.{most_partners, most_visits}
-use Rattle.office_closing.specs.declared.register.Segment.{Segment}
-use Rattle.office_closing.specs.Lists.{SettledListContent, comes_before}
+use Rattle.office_closing.specs.{declared.register.Segment.Segment, Lists.{SettledListContent, comes_before}}
 use Rattle.office_closing.specs.Register.{ArchiveContent, RegisterContent, last_closed}
 
 -- the most archives that a store may have
@@ -100,6 +98,9 @@ abbrev pub are_sound_segments : ℕ → List Segment → Bool
 are_sound_segments archives segments =
     list_all (is_within archives) segments && (are_in_order 0 0 segments && close_more [] segments)
 
+abbrev pub are_sound_taken : ℕ → List Segment → Bool
+are_sound_taken archives taken = list_all (is_within archives) taken && are_in_order 0 0 taken
+
 abbrev pub are_sound_lists : ℕ → List SettledListContent → Bool
 are_sound_lists archives lists = list_all (may_be_list archives) lists && are_rising None lists
 
@@ -111,7 +112,8 @@ abbrev pub is_sound : RegisterContent → Bool
 is_sound content =
     are_sound_archives content.archives
     && (are_sound_segments (length content.archives) content.segments
-    && (are_sound_lists (length content.archives) content.lists && is_sound_mark content.closed_for))
+    && (are_sound_lists (length content.archives) content.lists
+    && (are_sound_taken (length content.archives) content.taken && is_sound_mark content.closed_for)))
 
 -- the names of its files are texts, and the lines of its lists
 pub record HasTexts (content : RegisterContent) : Type 0 where

@@ -1,10 +1,10 @@
 -- The tables of a register as SQL declares them.
-use Rattle.std.specs.Prelude.{Bool, true, false, [], ◌∷◌, Some, None, codes, List}
+use Rattle.std.specs.Prelude.{ℕ, Bool, true, false, [], ◌∷◌, Some, None, codes, List}
 use Rattle.sqlite_value.specs.Keys.{plain}
-use Rattle.sqlite.specs.Table.{Table}
-use Rattle.sqlite.specs.Schema.{Schema}
-use Rattle.sqlite.specs.Kind.TheVariants.{Integer, Text}
+use Rattle.sqlite.specs.{Table.Table, Schema.Schema, Kind.TheVariants.{Integer, Text}}
 use Rattle.office_rows.specs.Tables.{required_column, key_column, schema_of}
+use Rattle.office_closing.specs.declared.register_reading.Later.{Later}
+use Rattle.office_closing.specs.declared.register_reading.Later.TheVariants as later
 
 -- a row for each archive
 abbrev pub archive_table : Table
@@ -75,26 +75,58 @@ settled_table = record {
   is_counted = false;
 }
 
+-- a row for each archive and each partner of which anything had been taken as it was closed
+abbrev pub taken_table : Table
+taken_table = record {
+  name = codes "taken";
+  tree = 8;
+  columns = required_column (codes "partner") Integer ∷ required_column (codes "archive") Integer ∷ required_column (codes "last") Integer ∷ [];
+  key = None;
+  primary = 1 ∷ 2 ∷ [];
+  uniques = (1 ∷ 2 ∷ []) ∷ [];
+  orders = plain ∷ [];
+  checks = [];
+  references = [];
+  computed = [];
+  stamps = record { places = []; terms = []; formats = [] };
+  is_counted = false;
+}
+
 -- the tables in the order in which they are made
 abbrev pub register_tables : List Table
-register_tables = archive_table ∷ segment_table ∷ closed_for_table ∷ settled_table ∷ []
+register_tables = archive_table ∷ segment_table ∷ closed_for_table ∷ settled_table ∷ taken_table ∷ []
 
 -- the schema that they make, with their automatic indexes
 abbrev pub register_schema : Schema
 register_schema = schema_of register_tables
 
--- whether there is a table of lists: an older register has none
+-- which tables there are: a register of before has the first three, or no table of what had been taken
 pub data Layout : Type 0 where
   older : Layout
+  former : Layout
   whole : Layout
 
 abbrev pub older_schema : Schema
 older_schema = schema_of (archive_table ∷ segment_table ∷ closed_for_table ∷ [])
 
+abbrev pub former_schema : Schema
+former_schema = schema_of (archive_table ∷ segment_table ∷ closed_for_table ∷ settled_table ∷ [])
+
 abbrev pub schema_in : Layout → Schema
 schema_in older = older_schema
+schema_in former = former_schema
 schema_in whole = register_schema
 
-abbrev pub has_lists : Layout → Bool
-has_lists older = false
-has_lists whole = true
+-- the query that asks for a table that came later
+abbrev pub asking : Later → List ℕ
+asking later.Lists = codes "SELECT vessel FROM settled"
+asking later.Taken = codes "SELECT last FROM taken"
+
+-- whether there is such a table
+abbrev pub has_table : Later → Layout → Bool
+has_table later.Lists older = false
+has_table later.Lists former = true
+has_table later.Lists whole = true
+has_table later.Taken older = false
+has_table later.Taken former = false
+has_table later.Taken whole = true

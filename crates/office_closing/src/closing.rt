@@ -1,23 +1,14 @@
 ghost use Rattle.std.specs.Prelude.{◌≡◌, ◌<◌, ◌≤◌, [], ◌∷◌, false, map, true, OnOk, OnErr, IfOk, IfErr, IsTrue};
 ghost use Rattle.edi_messages.specs.Owned.{call_content};
-ghost use Rattle.office_closing.specs.Clearing.{Clears, IsWithoutSome, IsWithoutSomeLists, IsWithoutSomeVisits};
-ghost use Rattle.office_closing.specs.Closes.{ArePutAway, Closes, IsLeft, cleared, closing_content};
-ghost use Rattle.office_closing.specs.Deleting.{Deletes, all_but, goes, is_one_of, without_interchange, without_visits};
-ghost use Rattle.office_closing.specs.Files.{AreClean, AreIdle, files};
-ghost use Rattle.office_closing.specs.Judging.{AreResting};
-ghost use Rattle.office_closing.specs.Refusing.{IsFileOf};
-ghost use Rattle.office_closing.specs.Steps.{StepsIf, is_unmarked, is_unraised};
-ghost use Rattle.office_closing.specs.declared.faults.CloseFault.TheVariants as close_fault;
-ghost use Rattle.office_tables.specs.Writing.{IsUndone};
-ghost use Rattle.office_parts.specs.Bringing.{is_list};
-ghost use Rattle.office_parts.specs.OwnLists.{list_name, rows_without_lists};
-ghost use Rattle.office_parts.specs.LeftOver.{rows_without};
-ghost use Rattle.office_closing.specs.Changes.{closed_with, marked_for, unchanged, unmarked};
-ghost use Rattle.office_closing.specs.Lists.{list_content};
+ghost use Rattle.office_closing.specs.{Clearing.{Clears, IsWithoutSome, IsWithoutSomeLists, IsWithoutSomeVisits}, Files.{AreClean, AreIdle, files}};
+ghost use Rattle.office_closing.specs.{Closes.{ArePutAway, Closes, IsLeft, cleared, closing_content}, Judging.AreResting, Refusing.IsFileOf};
+ghost use Rattle.office_closing.specs.{Deleting.{Deletes, all_but, goes, is_one_of, without_interchange, without_visits}, Lists.list_content};
+ghost use Rattle.office_closing.specs.{Steps.{StepsIf, is_unmarked, is_unraised}, Changes.{closed_with, marked_for, unchanged, unmarked}};
 ghost use Rattle.office_closing.specs.Register.{archive_content};
-ghost use Rattle.office_tables.specs.Faults.{IsOfStore};
-ghost use Rattle.sqlite.specs.Held.{state};
-ghost use Rattle.sqlite.specs.State.{HasCleanDisk, Shows, Survives};
+ghost use Rattle.office_tables.specs.{Writing.IsUndone, Faults.IsOfStore};
+ghost use Rattle.office_parts.specs.{Bringing.is_list, OwnLists.{list_name, rows_without_lists}, LeftOver.rows_without};
+ghost use Rattle.sqlite.specs.{Held.state, State.{HasCleanDisk, Shows, Survives}};
+ghost use Rattle.office_closing.specs.declared.faults.CloseFault.TheVariants as close_fault;
 
 use crate::comparing::Numbers;
 use crate::faults::{CloseFault, File, FileFault};
@@ -132,31 +123,38 @@ fn mark_now<S: Alter>(conn: &mut Connection<S>, store_file: &str) -> Result<(), 
 fn raise<S: Alter>(conn: &mut Connection<S>, plan: &Plan) -> Result<(), CloseFault>
     requires { (state S.Store conn.old).in_transaction ≡ false }
     ensures steps { StepsIf (is_unraised plan.now.stage) unchanged
-        (closed_with (archive_content plan.now.archive) plan.now.segments.items (map list_content plan.now.lists.items)) (state S.Store conn.old)
+        (closed_with (archive_content plan.now.archive) plan.now.segments.items (map list_content plan.now.lists.items) plan.now.taken.items) (state S.Store conn.old)
         (state S.Store conn.new) result }
     ensures file { IfErr result (IsFileOf File.Register) }
 {
     let is_due = is_unraised(plan.stage);
     if is_due {
-        raise_now(conn, &plan.archive, &plan.segments, &plan.lists)
+        raise_now(
+            conn,
+            &plan.archive,
+            &plan.segments,
+            &plan.lists,
+            &plan.taken,
+        )
     } else {
         Ok(())
     }
 }
 
-/// Gives the store's register an archive with its segments and lists.
+/// Gives the store's register an archive with its segments and lists, and what had been taken.
 fn raise_now<S: Alter>(
     conn: &mut Connection<S>,
     archive: &Archive,
     segments: &[Segment],
     lists: &[SettledList],
+    taken: &[Segment],
 ) -> Result<(), CloseFault>
     requires { (state S.Store conn.old).in_transaction ≡ false }
-    ensures steps { StepsIf true unchanged (closed_with (archive_content archive.now) segments.now (map list_content lists.now))
+    ensures steps { StepsIf true unchanged (closed_with (archive_content archive.now) segments.now (map list_content lists.now) taken.now)
         (state S.Store conn.old) (state S.Store conn.new) result }
     ensures file { IfErr result (IsFileOf File.Register) }
 {
-    match close_with(conn, archive, segments, lists) {
+    match close_with(conn, archive, segments, lists, taken) {
         Ok(()) => Ok(()),
         Err(fault) => Err(not_written(File::Register, fault)),
     }
@@ -173,7 +171,7 @@ fn clear_all<S: Alter>(conn: &mut Connection<S>, plan: &Plan) -> Result<(), Tabl
     clear_lists(conn, &plan.gone)
 }
 
-/// The most rows that one transaction deletes.
+/// The most interchanges that one transaction deletes.
 const BATCH: u32 = 1000;
 
 /// Deletes the interchanges under these numbers, in short transactions. What was deleted stays so if it fails, and it may be

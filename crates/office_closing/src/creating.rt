@@ -1,14 +1,9 @@
 ghost use Rattle.std.specs.Prelude.{◌≡◌, [], ◌∷◌, take, false, OnOk, OnErr, IfErr, IsTrue};
-ghost use Rattle.office_closing.specs.Changes.{empty_register};
-ghost use Rattle.office_closing.specs.Stored.{HasWhole};
-ghost use Rattle.office_closing.specs.Tables.{register_tables, archive_table, segment_table, closed_for_table, settled_table};
-ghost use Rattle.office_closing.specs.Transactions.{Makes, IsMade};
+ghost use Rattle.office_closing.specs.{Changes.empty_register, Stored.HasWhole, Transactions.{Makes, IsMade}};
+ghost use Rattle.office_closing.specs.Tables.{register_tables, archive_table, segment_table, closed_for_table, settled_table, taken_table};
 ghost use Rattle.office_rows.specs.Stored.{HasEmpty};
-ghost use Rattle.office_tables.specs.Faults.{IsOfStore};
-ghost use Rattle.office_tables.specs.Opened.{AreMissing};
-ghost use Rattle.office_tables.specs.Writes.{Creates};
-ghost use Rattle.sqlite.specs.Held.{state};
-ghost use Rattle.sqlite.specs.State.{HasCleanDisk, Survives};
+ghost use Rattle.office_tables.specs.{Faults.IsOfStore, Opened.AreMissing, Writes.Creates};
+ghost use Rattle.sqlite.specs.{Held.state, State.{HasCleanDisk, Survives}};
 
 use office_tables::TableFault;
 use sqlite::{Alter, Connection, Transaction};
@@ -47,7 +42,8 @@ fn create_tables<S: Alter>(tx: &mut Transaction<'_, S>) -> Result<(), TableFault
     create_archive(tx)?;
     create_segment(tx)?;
     create_closed_for(tx)?;
-    create_settled(tx)
+    create_settled(tx)?;
+    create_taken(tx)
 }
 
 fn create_archive<S: Alter>(tx: &mut Transaction<'_, S>) -> Result<(), TableFault>
@@ -86,14 +82,26 @@ fn create_closed_for<S: Alter>(tx: &mut Transaction<'_, S>) -> Result<(), TableF
     Ok(())
 }
 
-/// The last table, with which the tables are those of a register.
 fn create_settled<S: Alter>(tx: &mut Transaction<'_, S>) -> Result<(), TableFault>
     ensures same_reference { tx.new.conn.ghost_name ≡ tx.old.conn.ghost_name }
-    ensures creates { Creates (settled_table ∷ []) (HasEmpty (take 3 register_tables)) (HasWhole empty_register)
+    ensures creates { Creates (settled_table ∷ []) (HasEmpty (take 3 register_tables)) (HasEmpty (take 4 register_tables))
         (state S.Store tx.old.conn.now) (state S.Store tx.new.conn.now) result }
 {
     tx.execute(
         "CREATE TABLE settled (vessel TEXT NOT NULL, voyage TEXT NOT NULL, side INTEGER NOT NULL, archive INTEGER NOT NULL, lines TEXT NOT NULL, PRIMARY KEY(vessel, voyage, side, archive)) STRICT",
+        &[],
+    )?;
+    Ok(())
+}
+
+/// The last table, with which the tables are those of a register.
+fn create_taken<S: Alter>(tx: &mut Transaction<'_, S>) -> Result<(), TableFault>
+    ensures same_reference { tx.new.conn.ghost_name ≡ tx.old.conn.ghost_name }
+    ensures creates { Creates (taken_table ∷ []) (HasEmpty (take 4 register_tables)) (HasWhole empty_register)
+        (state S.Store tx.old.conn.now) (state S.Store tx.new.conn.now) result }
+{
+    tx.execute(
+        "CREATE TABLE taken (partner INTEGER NOT NULL, archive INTEGER NOT NULL, last INTEGER NOT NULL, PRIMARY KEY(partner, archive)) STRICT",
         &[],
     )?;
     Ok(())

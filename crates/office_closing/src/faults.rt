@@ -42,7 +42,7 @@ pub enum Refusal {
     Register,
     /// The archive keeps something else under this number.
     Interchange(Difference),
-    /// The texts that the archive has, closed or waiting, are not the first of the store's in the order in which they arrived.
+    /// The texts that the archive has, closed or waiting, are not the first of the store's in the order in which they arrived, or not all of them, where all are wanted.
     Order,
     /// The visit of this number is over in the archive, and the store has another one.
     Visit(u32),

@@ -1,29 +1,17 @@
-ghost use Rattle.std.specs.Prelude.{◌≡◌, ◌↔◌, ◌≤◌, ℕ, IfErr, IfOk, None, OnOk, IsTrue, length, map, true};
-ghost use Rattle.office_loading.specs.Closed.{closed_content};
-ghost use Rattle.office_closing.specs.Arriving.{HasTexts, IsTold, StandInOrder};
-ghost use Rattle.office_closing.specs.Closes.{AreHeld, AreInTheirOrder, HasItsTexts, Held, Tells};
-ghost use Rattle.office_closing.specs.Comparing.{IsComparedAs};
-ghost use Rattle.office_closing.specs.Copies.{IsOpened, office_content};
-ghost use Rattle.office_closing.specs.Files.{AreClean, AreRead, IsRead, IsReadIfOpen, files};
-ghost use Rattle.office_closing.specs.Judging.{IsComparedIf, IsJudged, WantsAll};
-ghost use Rattle.office_closing.specs.Refusing.{HasUnread, IsOfComparing, IsOfOpening, IsOfOrdering, IsOfThis};
-ghost use Rattle.office_closing.specs.Waiting.{AreWaitedFor, HaveNexts};
+ghost use Rattle.std.specs.Prelude.{◌≡◌, ◌↔◌, ◌≤◌, ℕ, IfErr, IfOk, None, OnOk, IsTrue, length, map, false, true};
+ghost use Rattle.office_loading.specs.{Closed.closed_content, Tables.{FailsToLoadOwn, LoadsOwn}};
+ghost use Rattle.office_closing.specs.{Arriving.{HasTexts, IsTold, StandInOrder}, Closes.{AreHeld, AreInTheirOrder, HasItsTexts, Held, Tells}};
+ghost use Rattle.office_closing.specs.{Comparing.IsComparedAs, Copies.{IsOpened, office_content}, Files.{AreClean, AreRead, IsRead, IsReadIfOpen, files}};
+ghost use Rattle.office_closing.specs.{Judging.{IsComparedIf, IsJudged, WantsAll}, Waiting.{AreWaitedFor, HaveNexts}, Sound.{IsSound, is_sound}};
+ghost use Rattle.office_closing.specs.{Refusing.{HasUnread, HaveNoNexts, IsOfComparing, IsOfOpening, IsOfOrdering, IsOfThis}, Stored.HasRegister};
+ghost use Rattle.office_closing.specs.Register.{RegisterContent, is_newer_than, last_closed, register_content};
 ghost use Rattle.office_history.specs.After.{AreKeptOnce};
 ghost use Rattle.office_parts.specs.Named.{named_list_content};
-ghost use Rattle.office_loading.specs.Tables.{FailsToLoadOwn, HasHighNext, LoadsOwn};
-ghost use Rattle.office_closing.specs.Register.{RegisterContent, last_closed, register_content};
-ghost use Rattle.office_closing.specs.Sound.{IsSound, is_sound};
-ghost use Rattle.office_closing.specs.Stored.{HasRegister};
-ghost use Rattle.office_rows.specs.Rows.{Rows};
-ghost use Rattle.office_rows.specs.Shown.{AreNexts};
-ghost use Rattle.office_rows.specs.Stored.{HasRows};
-ghost use Rattle.office_rows.specs.Tables.{office_schema};
-ghost use Rattle.office_admission.specs.Limits.{most_partners};
-ghost use Rattle.office_admission.specs.Setups.{setup_content};
-ghost use Rattle.office_closing.specs.declared.faults.CloseFault.TheVariants as close_fault;
+ghost use Rattle.office_rows.specs.{Rows.Rows, Shown.AreNexts, Stored.HasRows, Tables.office_schema};
+ghost use Rattle.office_admission.specs.{Limits.most_partners, Setups.setup_content};
 ghost use Rattle.office_tables.specs.Faults.{IsOfStore, IsOfStoreOr};
-ghost use Rattle.sqlite.specs.Held.{state};
-ghost use Rattle.sqlite.specs.State.{HasCleanDisk};
+ghost use Rattle.sqlite.specs.{Held.state, State.HasCleanDisk};
+ghost use Rattle.office_closing.specs.declared.faults.CloseFault.TheVariants as close_fault;
 
 use crate::arriving::{Likeness, likeness_of_texts};
 use crate::comparing::{Numbers, compare};
@@ -103,7 +91,7 @@ pub(crate) fn open_office<S: Alter, R: Alter>(
     let told = register_of(alloc, register, register_is)?;
     let closed = told.closed(alloc)?;
     let (setup, terminal) = office_of(alloc, conn, &closed, conn_is)?;
-    let nexts = nexts_of(alloc, conn, conn_is)?;
+    let nexts = nexts_of(alloc, conn, &told, conn_is)?;
     Ok(Opened {
         register: told,
         setup,
@@ -151,19 +139,26 @@ fn office_of<S: Alter>(
     }
 }
 
-/// The next numbers of the accounts in a file.
+/// The next numbers of the accounts in a file, which is of no day before its register.
 fn nexts_of<S: Alter>(
     alloc: Global,
     conn: &mut Connection<S>,
+    told: &Register,
     file: File,
 ) -> Result<Vec<u32>, CloseFault>
     ensures answer { HasCleanDisk (state S.Store conn.new) → IfOk result (λ found. (rows : Rows) →
         HasRows rows (state S.Store conn.old).now → AreNexts rows found.items) }
+    ensures of_day { IfOk result (λ found. is_newer_than found.items (register_content told.now) ≡ false) }
     ensures fault { HasCleanDisk (state S.Store conn.new) → IfErr result (λ fault. (rows : Rows) →
-        HasRows rows (state S.Store conn.old).now → IsOfThis file (IsOfStoreOr (HasHighNext rows.partners)) fault) }
+        HasRows rows (state S.Store conn.old).now →
+        IsOfThis file (IsOfStoreOr (HaveNoNexts (register_content told.now) rows)) fault) }
     ensures read { IsRead (state S.Store conn.old) (state S.Store conn.new) result }
 {
     match nexts(alloc, conn) {
+        Ok(found) if told.is_newer_than(&found) => {
+            let fault = TableFault::Damaged;
+            Err(CloseFault::File(FileFault { file, fault }))
+        }
         Ok(found) => Ok(found),
         Err(fault) => Err(CloseFault::File(FileFault { file, fault })),
     }
@@ -179,6 +174,7 @@ fn waited_for<S: Alter>(
     ensures named { HasCleanDisk (state S.Store conn.new) → IfOk result (λ lists. (rows : Rows) →
         HasRows rows (state S.Store conn.old).now → HaveNexts rows own.now.nexts.items →
         AreWaitedFor (setup_content own.now.setup) rows (map named_list_content lists.items)) }
+    ensures few { IfOk result (λ _. length own.now.nexts.items ≤ most_partners) }
     ensures fault { HasCleanDisk (state S.Store conn.new) → IfErr result (λ fault. (rows : Rows) →
         HasRows rows (state S.Store conn.old).now → HaveNexts rows own.now.nexts.items →
         IsOfThis File.Store (IsOfStoreOr (HasUnread rows)) fault) }

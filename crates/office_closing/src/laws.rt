@@ -3,12 +3,9 @@
 //! Laws of lists that are put away: each function has an empty body, and its contract is the law.
 //! The law of these texts. The function has an empty body, and its contract is the law: a call brings it into the
 //! caller's proof.
-ghost use Rattle.office_closing.specs.Laws.{ComparedIsHeld, ClearingLeavesTheRest, ClearedIsCarried};
-ghost use Rattle.office_closing.specs.Journal.{ClosingsKeepJournal};
-ghost use Rattle.office_closing.specs.PuttingAway.{ClosedStoresStand, ListsThatGoAreAway};
-ghost use Rattle.office_closing.specs.DoneListLaws.{AwayStaysWithClosing, PutAwayListsAreAway};
-ghost use Rattle.office_closing.specs.Stopping.{StoppedClosingsGoOn, StopsAreOnTheWay};
-ghost use Rattle.office_closing.specs.Texts.{OneTextOneList};
+ghost use Rattle.office_closing.specs.{Laws.{ComparedIsHeld, ClearingLeavesTheRest, ClearedIsCarried, TakenTellsTheDay}, Journal.ClosingsKeepJournal};
+ghost use Rattle.office_closing.specs.{PuttingAway.{ClosedStoresStand, ListsThatGoAreAway}, DoneListLaws.{AwayStaysWithClosing, PutAwayListsAreAway}};
+ghost use Rattle.office_closing.specs.{Stopping.{StoppedClosingsGoOn, StopsAreOnTheWay}, Texts.OneTextOneList};
 
 use sqlite::Alter;
 
@@ -36,6 +33,12 @@ pub fn lists_that_go_are_away()
 /// before.
 pub fn closed_stores_stand()
     ensures { ClosedStoresStand }
+{}
+
+/// A store that goes on from a closing is of no day before its register; one that was put back from a day before is, if it still
+/// awaits a number that had been taken then.
+pub fn taken_tells_the_day()
+    ensures { TakenTellsTheDay }
 {}
 
 /// At whatever moment a closing stops, and however it ends, the four files have what they had, or the closing is on its way: the

@@ -26,6 +26,7 @@ mod register_reading;
 mod register_rows;
 mod settled_lists;
 mod sound;
+mod taken;
 mod visits;
 mod waiting;
 

@@ -1,22 +1,17 @@
-ghost use Rattle.std.specs.Option.{option_map};
-ghost use Rattle.std.specs.Prelude.{◌≡◌, ◌↔◌, ◌≤◌, ◌++◌, ◌∷◌, [], true, IfOk, IfErr, IsTrue, MatchOption, OnOk, length, map, string_bytes};
+ghost use Rattle.std.specs.{Option.option_map, Prelude.{◌≡◌, ◌↔◌, ◌≤◌, ◌++◌, ◌∷◌, [], true, IfOk, IfErr, IsTrue, MatchOption, OnOk, length, map, string_bytes}};
 ghost use Rattle.office_loading.specs.Closed.{last_closed};
-ghost use Rattle.office_closing.specs.Copies.{AreAtMost, AreFirst, ComesOn, FileNames, IsNoLater, IsOfStore, IsReason, IsSameOffice, archive_in, numbers_from, numbers_of, office_content, segments_of};
-ghost use Rattle.office_closing.specs.Closes.{IsOfClosing, closing_content};
-ghost use Rattle.office_closing.specs.Planning.{AreClosingLists, AreFor, IsHistory, IsMarkedAs, IsPlan, IsPlanOf, IsRefused, IsRefusedWith, IsToldBy};
-ghost use Rattle.office_closing.specs.Steps.{is_unmarked, is_unraised};
-ghost use Rattle.office_closing.specs.Visits.{AreToGo};
-ghost use Rattle.office_closing.specs.declared.planning.Stage.{Stage};
+ghost use Rattle.office_closing.specs.Copies.{AreAtMost, AreDoneIn, AreFirst, ComesOn, FileNames, IsNoLater, IsOfStore, IsReason, IsSameOffice, archive_in, numbers_from, numbers_of, office_content, segments_of};
+ghost use Rattle.office_closing.specs.{Closes.{IsOfClosing, closing_content}, Steps.{is_unmarked, is_unraised}, Visits.AreToGo, declared.planning.Stage.Stage};
+ghost use Rattle.office_closing.specs.Planning.{AreClosingLists, AreFor, IsHistory, IsMarkedAs, IsPlan, IsPlanOf, IsRefused, IsRefusedWith, IsTakenFor, IsToldBy};
+ghost use Rattle.office_closing.specs.{Lists.list_content, Register.{archive_content, register_content}};
 ghost use Rattle.office_parts.specs.Named.{named_list_content};
-ghost use Rattle.office_closing.specs.Lists.{list_content};
-ghost use Rattle.office_closing.specs.Register.{archive_content, register_content};
+ghost use Rattle.office_admission.specs.{SetupAccounts.account_contents, Limits.most_partners};
 ghost use Rattle.office_closing.specs.Sound as sound;
-ghost use Rattle.office_admission.specs.SetupAccounts.{account_contents};
-ghost use Rattle.office_admission.specs.Limits.{most_partners};
 
 use crate::comparing::Numbers;
 use crate::faults::{CloseFault, Refusal};
 use crate::lists::{lists_in_both, lists_to_register};
+use crate::taken::taken_to_register;
 use crate::visits::{VisitFault, newest_number, visits_to_go};
 use crate::{Archive, Register, Segment, SettledList, done_lists, is_file_name, is_sound};
 use office_admission::{Account, MOST_PARTNERS, Setup};
@@ -97,6 +92,8 @@ pub(crate) struct Plan {
     pub lists: Vec<SettledList>,
     /// Those of them that go.
     pub gone: Vec<SettledList>,
+    /// What the store's register has with it as taken.
+    pub taken: Vec<Segment>,
     /// How far it has come.
     pub stage: Stage,
 }
@@ -132,7 +129,8 @@ pub(crate) fn make_plan(
     store_file: &str,
     archive_file: &str,
 ) -> Result<Plan, CloseFault>
-    requires { IsTrue (sound.is_sound (register_content copy.register)) }
+    requires sound { IsTrue (sound.is_sound (register_content copy.register)) }
+    requires few { length own.now.nexts.items ≤ most_partners }
     ensures ok { IfOk result (IsPlan (office_content own.now) (office_content copy)
         (record { store = store_file.now; archive = archive_file.now }) (map named_list_content named.now)) }
     ensures err { IfErr result (IsRefused (office_content own.now) (office_content copy)
@@ -140,7 +138,14 @@ pub(crate) fn make_plan(
 {
     check_office(own, &copy)?;
     let history = history_to_close(alloc, own, &copy, archive_file)?;
-    let lists = lists_to_close(alloc, own, &copy, named, history.archive.place)?;
+    let lists = lists_to_close(
+        alloc,
+        own,
+        &copy,
+        named,
+        &history.segments,
+        history.archive.place,
+    )?;
     let stage = stage_of(
         alloc,
         own,
@@ -148,6 +153,7 @@ pub(crate) fn make_plan(
         &history.archive,
         &history.segments,
         &lists.all,
+        &history.taken,
         store_file,
     )?;
     Ok(plan_of(history, lists, stage))
@@ -164,6 +170,8 @@ struct History {
     archive: Archive,
     /// Its segments.
     segments: Vec<Segment>,
+    /// What the store's register has with it as taken.
+    taken: Vec<Segment>,
 }
 
 /// The lists of a closing.
@@ -186,6 +194,7 @@ fn plan_of(history: History, lists: ClosingLists, stage: Stage) -> Plan
         segments: history.segments,
         lists: lists.all,
         gone: lists.gone,
+        taken: history.taken,
         stage,
     }
 }
@@ -199,6 +208,7 @@ fn history_to_close(
 ) -> Result<History, CloseFault>
     requires sound { IsTrue (sound.is_sound (register_content copy.now.register)) }
     requires few { length copy.now.nexts.items ≤ most_partners }
+    requires few_own { length own.now.nexts.items ≤ most_partners }
     ensures ok { IfOk result (IsHistory (office_content own.now) (office_content copy.now) archive_file.now) }
     ensures err { IfErr result (λ fault. (names : FileNames) →
         IsRefused (office_content own.now) (office_content copy.now) names fault) }
@@ -208,11 +218,13 @@ fn history_to_close(
     let numbers = numbers_to_close(alloc, &closed, &copy.nexts)?;
     let archive = archive_in(alloc, copy, archive_file)?;
     let segments = segments_of(alloc, archive.place, &numbers)?;
+    let taken = taken_to_register(alloc, own, copy, archive.place)?;
     Ok(History {
         visits,
         numbers,
         archive,
         segments,
+        taken,
     })
 }
 
@@ -222,15 +234,34 @@ fn lists_to_close(
     own: &Opened,
     copy: &Opened,
     named: &[NamedList],
+    segments: &[Segment],
     archive: u16,
 ) -> Result<ClosingLists, AllocError>
     ensures { IfOk result (AreClosingLists (office_content own.now) (office_content copy.now)
-        (map named_list_content named.now) archive) }
+        (map named_list_content named.now) segments.now archive) }
 {
-    let done = done_lists(alloc, own.terminal.lines(), named, archive)?;
+    let done = lists_that_go(alloc, own, named, segments, archive)?;
     let all = lists_to_register(alloc, own, copy, &done, archive)?;
     let gone = lists_in_both(alloc, &done, &all)?;
     Ok(ClosingLists { all, gone })
+}
+
+/// The lists that go with an archive of these segments: those that are done, but none if it closes no numbers.
+fn lists_that_go(
+    alloc: Global,
+    own: &Opened,
+    named: &[NamedList],
+    segments: &[Segment],
+    archive: u16,
+) -> Result<Vec<SettledList>, AllocError>
+    ensures { IfOk result (λ done. AreDoneIn own.now.terminal (map named_list_content named.now) segments.now archive
+        (map list_content done.items)) }
+{
+    let lines = own.terminal.lines();
+    if segments.is_empty() {
+        return Ok(Vec::new(alloc));
+    }
+    done_lists(alloc, lines, named, archive)
 }
 
 /// That the archive is of the store's terminal and of no later day, and the store no archive itself.
@@ -321,7 +352,7 @@ fn gone_visits(alloc: Global, own: &Opened, copy: &Opened) -> Result<Vec<u32>, C
 }
 
 /// What is closed of each account.
-fn numbers_to_close(
+pub(crate) fn numbers_to_close(
     alloc: Global,
     closed: &Closed,
     nexts: &[u32],
@@ -363,7 +394,11 @@ fn archive_in(alloc: Global, copy: &Opened, file: &str) -> Result<Archive, Alloc
 }
 
 /// The segments of an archive that closes these numbers.
-fn segments_of(alloc: Global, place: u16, numbers: &[Numbers]) -> Result<Vec<Segment>, AllocError>
+pub(crate) fn segments_of(
+    alloc: Global,
+    place: u16,
+    numbers: &[Numbers],
+) -> Result<Vec<Segment>, AllocError>
     ensures { IfOk result (λ segments. segments.items ≡ segments_of place numbers.now) }
 {
     let mut segments = Vec::new(alloc);
@@ -388,11 +423,13 @@ fn stage_of(
     archive: &Archive,
     segments: &[Segment],
     lists: &[SettledList],
+    taken: &[Segment],
     store_file: &str,
 ) -> Result<Stage, CloseFault>
     requires unclosed { option_map string_bytes own.now.register.closed_for ≡ None }
     requires archive { archive_content archive.now ≡ archive_in (archive_content archive.now).file (office_content copy) }
     requires segments { segments.now ≡ segments_of (archive_content archive.now).place (numbers_of (office_content copy)) }
+    requires taken { IsTakenFor (office_content own.now) (office_content copy) (archive_content archive.now).place taken.now }
     ensures ok { IfOk result (λ stage. (names : FileNames) → names.store ≡ store_file.now →
         names.archive ≡ (archive_content archive.now).file →
         ComesOn (office_content own.now) (office_content copy) names (map list_content lists.now) stage) }
@@ -403,7 +440,9 @@ fn stage_of(
 {
     let is_same = copy.register.tells_same(&own.register);
     let mark = mark_of(&copy.register.closed_for, store_file);
-    let raised = copy.register.with_closing(alloc, archive, segments, lists)?;
+    let raised = copy
+        .register
+        .with_closing(alloc, archive, segments, lists, taken)?;
     let may = is_sound(alloc, &raised)? && is_file_name(store_file.as_bytes());
     let has_archive = raised.tells_same(&own.register);
     match come_so_far(is_same, has_archive, mark) {

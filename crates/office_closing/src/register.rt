@@ -1,12 +1,8 @@
-ghost use Rattle.std.specs.Prelude.{◌≡◌, ◌↔◌, ◌++◌, ◌∷◌, [], true, false, ℕ, IfOk, OnOk, IsTrue, get_or, map};
-ghost use Rattle.std.specs.List.{AllByRecursion};
-ghost use Rattle.std.specs.Option.{option_map};
+ghost use Rattle.std.specs.{Prelude.{◌≡◌, ◌↔◌, ◌++◌, ◌∷◌, [], true, false, ℕ, IfOk, OnOk, IsTrue, get_or, map}, List.AllByRecursion, Option.option_map};
 ghost use Rattle.office_loading.specs.Closed.{closed_content};
 ghost use Rattle.edi_messages.specs.Owned.{call_content};
-ghost use Rattle.office_closing.specs.Changes.{closed_with, unmarked};
-ghost use Rattle.office_closing.specs.Lists.{list_content, lines_of_list};
-ghost use Rattle.office_closing.specs.Register.{archive_content, register_content, last_closed, archive_of, newest_visit, closed_by};
-ghost use Rattle.office_closing.specs.Sound.{is_sound, IsOfAccount};
+ghost use Rattle.office_closing.specs.{Changes.{closed_with, unmarked}, Lists.{list_content, lines_of_list}, Sound.{is_sound, IsOfAccount}};
+ghost use Rattle.office_closing.specs.Register.{archive_content, register_content, last_closed, archive_of, newest_visit, closed_by, is_newer_than, is_passed};
 
 use crate::settled_lists::{SettledList, are_same_lists, is_of_list, put_lists};
 use edi_messages::Call;
@@ -23,7 +19,8 @@ pub struct Archive {
     pub visits: u32,
 }
 
-/// A segment of a partner's numbers: up to its last one they are in the archives from the first to this one.
+/// A partner's numbers up to the last one, as an archive was closed: those of a `Register`'s segments are in the archives
+/// from the first to this one; those of what had been taken the store had taken by then.
 #[derive(Clone, Copy, Debug, PartialEq, Eq)]
 pub struct Segment {
     pub partner: u16,
@@ -31,13 +28,15 @@ pub struct Segment {
     pub last: u32,
 }
 
-/// Which archives hold a store's history, which numbers each of them closed, and the lists that were put away; in an
-/// archive's own register also the file of the store that goes on.
+/// Which archives hold a store's history, which numbers each of them closed, the lists that were put away, and what the
+/// store had taken as each was closed, if the register says so; in an archive's own register also the file of the store
+/// that goes on.
 #[derive(Debug, Drop)]
 pub struct Register {
     pub archives: Vec<Archive>,
     pub segments: Vec<Segment>,
     pub lists: Vec<SettledList>,
+    pub taken: Vec<Segment>,
     pub closed_for: Option<String>,
 }
 
@@ -99,6 +98,19 @@ impl Register {
         }
     }
 
+    /// Whether a store is of a day before one of the closings: it has these next numbers, of each account by its id from
+    /// 1, and still awaits one that had been taken then.
+    pub fn is_newer_than(&self, nexts: &[u32]) -> bool
+        ensures { result ≡ is_newer_than nexts.now (register_content self.now) }
+    {
+        for segment in &self.taken {
+            if !is_passed(nexts, *segment) {
+                return true;
+            }
+        }
+        false
+    }
+
     /// What is closed, as an opening of the store asks for it.
     pub fn closed(&self, alloc: Global) -> Result<Closed, AllocError>
         requires { IsTrue (is_sound (register_content self.now)) }
@@ -111,17 +123,18 @@ impl Register {
         })
     }
 
-    /// The register with one more archive, the segments that it closes and the lists that were put away with it, and without
-    /// a mark.
+    /// The register with one more archive, the segments that it closes, the lists that were put away with it and what had
+    /// been taken, and without a mark.
     pub fn with_closing(
         self,
         alloc: Global,
         archive: &Archive,
         segments: &[Segment],
         lists: &[SettledList],
+        taken: &[Segment],
     ) -> Result<Register, AllocError>
         ensures { IfOk result (λ register. register_content register
-            ≡ closed_with (archive_content archive.now) segments.now (map list_content lists.now)
+            ≡ closed_with (archive_content archive.now) segments.now (map list_content lists.now) taken.now
             (unmarked (register_content self))) }
     {
         let mut archives = self.archives;
@@ -130,22 +143,34 @@ impl Register {
         append_all(&mut all, segments)?;
         let mut settled = self.lists;
         put_lists(alloc, &mut settled, lists)?;
+        let mut known = self.taken;
+        append_all(&mut known, taken)?;
         Ok(Register {
             archives,
             segments: all,
             lists: settled,
+            taken: known,
             closed_for: None,
         })
     }
 
-    /// Whether two registers have the same archives, segments and lists, under any marks.
+    /// Whether two registers say the same, under any marks.
     pub fn tells_same(&self, other: &Register) -> bool
         ensures { (result ≡ true) ↔ (unmarked (register_content self.now) ≡ unmarked (register_content other.now)) }
     {
         are_same_archives(&self.archives, &other.archives)
             && are_same_segments(&self.segments, &other.segments)
             && are_same_lists(&self.lists, &other.lists)
+            && are_same_segments(&self.taken, &other.taken)
     }
+}
+
+/// Whether the next number of its account is above the last one of a segment.
+fn is_passed(nexts: &[u32], segment: Segment) -> bool
+    ensures { result ≡ is_passed nexts.now segment }
+{
+    let partner = usize::from(segment.partner);
+    0 < partner && partner <= nexts.len() && segment.last < nexts[partner - 1]
 }
 
 /// The last number of each account that is closed, in the order of the ids, 0 if none is.

@@ -1,14 +1,10 @@
 ghost use Rattle.std.specs.Prelude.{◌≡◌, [], ◌∷◌, map, false, OnOk, OnErr, IfErr, IsTrue};
-ghost use Rattle.office_closing.specs.Changes.{unchanged, with_archive, with_segments, with_lists, closed_with, unmarked, marked_for};
-ghost use Rattle.office_closing.specs.Lists.{list_content};
-ghost use Rattle.office_closing.specs.Register.{archive_content};
-ghost use Rattle.office_closing.specs.Stored.{HasRegister, HasWhole};
-ghost use Rattle.office_closing.specs.Transactions.{Writes, WritesIfOpen, Becomes, HasBecome};
+ghost use Rattle.office_closing.specs.Changes.{unchanged, with_archive, with_segments, with_lists, with_taken, closed_with, unmarked, marked_for};
+ghost use Rattle.office_closing.specs.{Lists.list_content, Register.archive_content, Stored.{HasRegister, HasListed, HasWhole}};
+ghost use Rattle.office_closing.specs.Transactions.{Writes, WritesTo, WritesIfOpen, Becomes, HasBecome};
 ghost use Rattle.office_tables.specs.Faults.{IsOfStore};
-ghost use Rattle.sqlite.specs.Held.{state};
-ghost use Rattle.sqlite.specs.State.{HasCleanDisk, Survives};
-ghost use Rattle.sqlite_value.specs.Value.{owned};
-ghost use Rattle.sqlite_value.specs.declared.value.Value.TheVariants.{Text};
+ghost use Rattle.sqlite.specs.{Held.state, State.{HasCleanDisk, Survives}};
+ghost use Rattle.sqlite_value.specs.{Value.owned, declared.value.Value.TheVariants.Text};
 
 use crate::register::{Archive, Segment};
 use crate::settled_lists::{SettledList, side_code};
@@ -16,34 +12,35 @@ use office_tables::{TableFault, integer};
 use sqlite::types::ValueRef;
 use sqlite::{Alter, Connection, Transaction};
 
-/// Adds an archive with the segments that it closes and the lists that were put away with it, all or none of them; the
-/// caller gives the next place, and of each partner a last number above the one before.
+/// Adds an archive with the segments that it closes, the lists that were put away with it and what had been taken, all or
+/// none of them; the caller gives the next place, and of each partner a last number above the one before.
 ///
-/// It fails where the place, the file, a segment's partner and archive, or a list with its archive are there.
+/// It fails where the place, the file, a partner and archive, or a list with its archive are there.
 pub fn close_with<S: Alter>(
     conn: &mut Connection<S>,
     archive: &Archive,
     segments: &[Segment],
     lists: &[SettledList],
+    taken: &[Segment],
 ) -> Result<(), TableFault>
     requires { (state S.Store conn.old).in_transaction ≡ false }
     ensures idle { (state S.Store conn.new).in_transaction ≡ false }
     ensures ok { HasCleanDisk (state S.Store conn.new) →
         OnOk result (Becomes unchanged
-        (closed_with (archive_content archive.now) segments.now (map list_content lists.now))
+        (closed_with (archive_content archive.now) segments.now (map list_content lists.now) taken.now)
         (state S.Store conn.old) (state S.Store conn.new)) }
     ensures err { HasCleanDisk (state S.Store conn.new) → IsTrue (state S.Store conn.new).is_open
         → OnErr result (((state S.Store conn.new).now ≡ (state S.Store conn.old).committed)
         × ((state S.Store conn.new).committed ≡ (state S.Store conn.old).committed)) }
     ensures crash { Survives (state S.Store conn.old) (state S.Store conn.new)
-        (HasBecome unchanged (closed_with (archive_content archive.now) segments.now (map list_content lists.now))
+        (HasBecome unchanged (closed_with (archive_content archive.now) segments.now (map list_content lists.now) taken.now)
         (state S.Store conn.old)) }
     ensures fault { IfErr result IsOfStore }
 {
     let is_idle = conn.is_autocommit();
     prove!(is_idle);
     let mut tx = conn.transaction();
-    write_closing(&mut tx, archive, segments, lists)?;
+    write_closing(&mut tx, archive, segments, lists, taken)?;
     tx.commit()?;
     Ok(())
 }
@@ -69,22 +66,24 @@ pub fn mark<S: Alter>(conn: &mut Connection<S>, file: &str) -> Result<(), TableF
     Ok(())
 }
 
-/// The archive, its segments and its lists, in the transaction.
+/// The archive, its segments and lists and what had been taken, in the transaction.
 fn write_closing<S: Alter>(
     tx: &mut Transaction<'_, S>,
     archive: &Archive,
     segments: &[Segment],
     lists: &[SettledList],
+    taken: &[Segment],
 ) -> Result<(), TableFault>
     ensures same_reference { tx.new.conn.ghost_name ≡ tx.old.conn.ghost_name }
     ensures writes { Writes HasRegister unchanged
-        (closed_with (archive_content archive.now) segments.now (map list_content lists.now))
+        (closed_with (archive_content archive.now) segments.now (map list_content lists.now) taken.now)
         (state S.Store tx.old.conn.now) (state S.Store tx.new.conn.now) result }
 {
     complete_tables(tx)?;
     insert_archive(tx, archive)?;
     insert_segments(tx, segments)?;
-    insert_lists(tx, lists)
+    insert_lists(tx, lists)?;
+    insert_all_taken(tx, taken)
 }
 
 /// The mark, in the transaction.
@@ -97,14 +96,37 @@ fn write_mark<S: Alter>(tx: &mut Transaction<'_, S>, file: &str) -> Result<(), T
     insert_mark(tx, file)
 }
 
-/// The table of lists, which an older register has not.
+/// The tables which an older register has not.
 fn complete_tables<S: Alter>(tx: &mut Transaction<'_, S>) -> Result<(), TableFault>
     ensures same_reference { tx.new.conn.ghost_name ≡ tx.old.conn.ghost_name }
     ensures writes { Writes HasRegister unchanged unchanged (state S.Store tx.old.conn.now)
         (state S.Store tx.new.conn.now) result }
 {
+    complete_lists(tx)?;
+    complete_taken(tx)
+}
+
+/// The table of lists.
+fn complete_lists<S: Alter>(tx: &mut Transaction<'_, S>) -> Result<(), TableFault>
+    ensures same_reference { tx.new.conn.ghost_name ≡ tx.old.conn.ghost_name }
+    ensures writes { WritesTo HasRegister HasListed unchanged unchanged (state S.Store tx.old.conn.now)
+        (state S.Store tx.new.conn.now) result }
+{
     tx.execute(
         "CREATE TABLE IF NOT EXISTS settled (vessel TEXT NOT NULL, voyage TEXT NOT NULL, side INTEGER NOT NULL, archive INTEGER NOT NULL, lines TEXT NOT NULL, PRIMARY KEY(vessel, voyage, side, archive)) STRICT",
+        &[],
+    )?;
+    Ok(())
+}
+
+/// The table of what had been taken, where there is one of lists.
+fn complete_taken<S: Alter>(tx: &mut Transaction<'_, S>) -> Result<(), TableFault>
+    ensures same_reference { tx.new.conn.ghost_name ≡ tx.old.conn.ghost_name }
+    ensures writes { Writes HasListed unchanged unchanged (state S.Store tx.old.conn.now)
+        (state S.Store tx.new.conn.now) result }
+{
+    tx.execute(
+        "CREATE TABLE IF NOT EXISTS taken (partner INTEGER NOT NULL, archive INTEGER NOT NULL, last INTEGER NOT NULL, PRIMARY KEY(partner, archive)) STRICT",
         &[],
     )?;
     Ok(())
@@ -186,6 +208,37 @@ fn insert_list<S: Alter>(tx: &mut Transaction<'_, S>, list: &SettledList) -> Res
             integer(side_code(list.side)),
             integer(u32::from(list.archive)),
             characters(list.lines.as_str()),
+        ],
+    )?;
+    Ok(())
+}
+
+/// What had been taken of each account.
+fn insert_all_taken<S: Alter>(
+    tx: &mut Transaction<'_, S>,
+    taken: &[Segment],
+) -> Result<(), TableFault>
+    ensures same_reference { tx.new.conn.ghost_name ≡ tx.old.conn.ghost_name }
+    ensures writes { WritesIfOpen HasWhole unchanged (with_taken taken.now) (state S.Store tx.old.conn.now)
+        (state S.Store tx.new.conn.now) result }
+{
+    for one in taken {
+        insert_taken(tx, *one)?;
+    }
+    Ok(())
+}
+
+fn insert_taken<S: Alter>(tx: &mut Transaction<'_, S>, taken: Segment) -> Result<(), TableFault>
+    ensures same_reference { tx.new.conn.ghost_name ≡ tx.old.conn.ghost_name }
+    ensures writes { Writes HasWhole unchanged (with_taken (taken ∷ [])) (state S.Store tx.old.conn.now)
+        (state S.Store tx.new.conn.now) result }
+{
+    tx.execute(
+        "INSERT INTO taken (partner, archive, last) VALUES (?1, ?2, ?3)",
+        &[
+            integer(u32::from(taken.partner)),
+            integer(u32::from(taken.archive)),
+            integer(taken.last),
         ],
     )?;
     Ok(())

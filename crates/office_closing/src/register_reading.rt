@@ -1,19 +1,12 @@
-ghost use Rattle.std.specs.Prelude.{◌≡◌, ◌<◌, [], ◌∷◌, ⊤, IfOk, IfErr, IsTrue, IsUtf8, map, length, string_bytes};
-ghost use Rattle.std.specs.Option.{option_map};
-ghost use Rattle.office_loading.specs.Decoded.{itself};
-ghost use Rattle.office_loading.specs.Tables.{ReadsTable};
-ghost use Rattle.office_closing.specs.Lists.{list_content};
+ghost use Rattle.std.specs.{Prelude.{◌≡◌, ◌<◌, [], ◌∷◌, ⊤, IfOk, IfErr, IsTrue, IsUtf8, map, length, string_bytes, true}, Option.option_map};
+ghost use Rattle.office_loading.specs.{Decoded.itself, Tables.ReadsTable};
+ghost use Rattle.office_closing.specs.{Lists.list_content, Register.{archive_content, register_content}, Sound.{is_sound, IsSound}};
 ghost use Rattle.office_closing.specs.Reading.{FitsArchive, FitsSegment, FitsList, ShowsArchives, ShowsSegments, ShowsFiles, ReadsMark, ReadsTables, ReadsRegister};
-ghost use Rattle.office_closing.specs.Register.{archive_content, register_content};
-ghost use Rattle.office_closing.specs.Sound.{is_sound, IsSound};
-ghost use Rattle.office_closing.specs.Stored.{HasRegister, ShowsLists, if_any};
-ghost use Rattle.office_closing.specs.Tables.{archive_table, segment_table, closed_for_table, settled_table, Layout, whole, has_lists, register_schema, schema_in};
-ghost use Rattle.office_rows.specs.Shown.{ShowsTable};
-ghost use Rattle.office_rows.specs.Tables.{no_schema};
-ghost use Rattle.office_tables.specs.Faults.{IsOfStore, IsOfStoreOr};
-ghost use Rattle.office_tables.specs.Reading.{OnlyShows, Reads};
-ghost use Rattle.sqlite.specs.Held.{state};
-ghost use Rattle.sqlite.specs.State.{HasCleanDisk, Shown};
+ghost use Rattle.office_closing.specs.Stored.{HasRegister, ShowsLists, ShowsTaken, if_any};
+ghost use Rattle.office_closing.specs.Tables.{archive_table, segment_table, closed_for_table, settled_table, taken_table, Layout, whole, has_table, asking, register_schema, schema_in};
+ghost use Rattle.office_rows.specs.{Shown.ShowsTable, Tables.no_schema};
+ghost use Rattle.office_tables.specs.{Faults.{IsOfStore, IsOfStoreOr}, Reading.{OnlyShows, Reads}};
+ghost use Rattle.sqlite.specs.{Held.state, State.{HasCleanDisk, Shown}};
 
 use crate::register::{Archive, Register, Segment};
 use crate::register_rows::read_all;
@@ -65,10 +58,12 @@ fn read_tables<S: Alter>(alloc: Global, conn: &mut Connection<S>) -> Result<Regi
     let segments = read_segments(alloc, conn)?;
     let closed_for = read_closed_for(alloc, conn)?;
     let lists = read_lists(alloc, conn)?;
+    let taken = read_taken(alloc, conn)?;
     Ok(Register {
         archives,
         segments,
         lists,
+        taken,
         closed_for,
     })
 }
@@ -113,7 +108,7 @@ fn read_lists<S: Alter>(
     ensures version { IfErr result (IsOfStoreOr ⊤) }
     ensures reads { Reads (state S.Store conn.old) (state S.Store conn.new) result }
 {
-    let there = lists_are_kept(conn)?;
+    let there = is_there(conn, Later::Lists)?;
     if there {
         read_settled(alloc, conn)
     } else {
@@ -121,14 +116,49 @@ fn read_lists<S: Alter>(
     }
 }
 
-/// Whether there is a table of lists: an older register has none.
-fn lists_are_kept<S: Alter>(conn: &mut Connection<S>) -> Result<bool, TableFault>
+/// What had been taken as archives were closed; nothing where there is no table of it.
+fn read_taken<S: Alter>(alloc: Global, conn: &mut Connection<S>) -> Result<Vec<Segment>, TableFault>
+    ensures read { HasCleanDisk (state S.Store conn.new) → (layout : Layout) →
+        (state S.Store conn.old).now.schema ≡ schema_in layout →
+        ReadsTable itself FitsSegment (ShowsTaken layout (state S.Store conn.old).now) result }
+    ensures version { IfErr result (IsOfStoreOr ⊤) }
+    ensures reads { Reads (state S.Store conn.old) (state S.Store conn.new) result }
+{
+    let there = is_there(conn, Later::Taken)?;
+    if there {
+        read_all_taken(alloc, conn)
+    } else {
+        Ok(Vec::new(alloc))
+    }
+}
+
+/// A table that an older register lacks.
+#[derive(Clone, Copy)]
+enum Later {
+    /// That of lists.
+    Lists,
+    /// That of what had been taken.
+    Taken,
+}
+
+/// What asks for a table.
+fn asking(table: Later) -> &'static str
+    ensures { result.now ≡ asking table }
+{
+    match table {
+        Later::Lists => "SELECT vessel FROM settled",
+        Later::Taken => "SELECT last FROM taken",
+    }
+}
+
+/// Whether there is a table that came later.
+fn is_there<S: Alter>(conn: &mut Connection<S>, table: Later) -> Result<bool, TableFault>
     ensures layout { HasCleanDisk (state S.Store conn.new) → (layout : Layout) →
-        (state S.Store conn.old).now.schema ≡ schema_in layout → IfOk result (λ are. are ≡ has_lists layout) }
+        (state S.Store conn.old).now.schema ≡ schema_in layout → IfOk result (λ is. is ≡ has_table table layout) }
     ensures fault { IfErr result IsOfStore }
     ensures reads { Reads (state S.Store conn.old) (state S.Store conn.new) result }
 {
-    match conn.prepare("SELECT vessel FROM settled") {
+    match conn.prepare(asking(table)) {
         Ok(_) => Ok(true),
         Err(Error::SqlInputError(CompileError::NoSuchTable)) => Ok(false),
         Err(error) => Err(error.into()),
@@ -140,12 +170,27 @@ fn read_settled<S: Alter>(
     alloc: Global,
     conn: &mut Connection<S>,
 ) -> Result<Vec<SettledList>, TableFault>
-    ensures read { HasCleanDisk (state S.Store conn.new) → (state S.Store conn.old).now.schema ≡ register_schema →
+    ensures read { HasCleanDisk (state S.Store conn.new) → (layout : Layout) → has_table Later.Lists layout ≡ true →
+        (state S.Store conn.old).now.schema ≡ schema_in layout →
         ReadsTable list_content FitsList (ShowsLists whole (state S.Store conn.old).now) result }
     ensures version { IfErr result (IsOfStoreOr ⊤) }
     ensures reads { Reads (state S.Store conn.old) (state S.Store conn.new) result }
 {
     let rows = select_lists(conn)?;
+    read_all(alloc, &rows)
+}
+
+/// What the table of what had been taken shows.
+fn read_all_taken<S: Alter>(
+    alloc: Global,
+    conn: &mut Connection<S>,
+) -> Result<Vec<Segment>, TableFault>
+    ensures read { HasCleanDisk (state S.Store conn.new) → (state S.Store conn.old).now.schema ≡ register_schema →
+        ReadsTable itself FitsSegment (ShowsTaken whole (state S.Store conn.old).now) result }
+    ensures version { IfErr result (IsOfStoreOr ⊤) }
+    ensures reads { Reads (state S.Store conn.old) (state S.Store conn.new) result }
+{
+    let rows = select_taken(conn)?;
     read_all(alloc, &rows)
 }
 
@@ -220,7 +265,8 @@ fn select_segments<S: Alter>(conn: &mut Connection<S>) -> Result<Vec<Row>, Table
 
 /// The rows of all lists, by vessel, voyage, side and archive.
 fn select_lists<S: Alter>(conn: &mut Connection<S>) -> Result<Vec<Row>, TableFault>
-    ensures shown { HasCleanDisk (state S.Store conn.new) → (state S.Store conn.old).now.schema ≡ register_schema →
+    ensures shown { HasCleanDisk (state S.Store conn.new) → (layout : Layout) → has_table Later.Lists layout ≡ true →
+        (state S.Store conn.old).now.schema ≡ schema_in layout →
         IfOk result (λ answer. ShowsTable settled_table (0 ∷ 1 ∷ 2 ∷ 3 ∷ 4 ∷ []) (0 ∷ 1 ∷ 2 ∷ 3 ∷ [])
         (state S.Store conn.old).now answer.items) }
     ensures fault { IfErr result IsOfStore }
@@ -229,6 +275,19 @@ fn select_lists<S: Alter>(conn: &mut Connection<S>) -> Result<Vec<Row>, TableFau
     select(
         conn,
         "SELECT vessel, voyage, side, archive, lines FROM settled ORDER BY vessel, voyage, side, archive",
+    )
+}
+
+/// The rows of all that had been taken, by archive and partner.
+fn select_taken<S: Alter>(conn: &mut Connection<S>) -> Result<Vec<Row>, TableFault>
+    ensures shown { HasCleanDisk (state S.Store conn.new) → (state S.Store conn.old).now.schema ≡ register_schema →
+        IfOk result (λ answer. ShowsTable taken_table (0 ∷ 1 ∷ 2 ∷ []) (1 ∷ 0 ∷ []) (state S.Store conn.old).now answer.items) }
+    ensures fault { IfErr result IsOfStore }
+    ensures reads { Reads (state S.Store conn.old) (state S.Store conn.new) result }
+{
+    select(
+        conn,
+        "SELECT partner, archive, last FROM taken ORDER BY archive, partner",
     )
 }
 

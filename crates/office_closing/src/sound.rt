@@ -1,12 +1,8 @@
-ghost use Rattle.std.specs.Prelude.{◌≡◌, ◌&&◌, nat_le, [], IfOk, None, IsTrue, length, map, string_bytes};
-ghost use Rattle.std.specs.List.{list_all, list_any};
-ghost use Rattle.std.specs.Option.{option_map};
+ghost use Rattle.std.specs.{Prelude.{◌≡◌, ◌&&◌, nat_le, [], IfOk, None, IsTrue, length, map, string_bytes}, List.{list_all, list_any}, Option.option_map};
 ghost use Rattle.edi_messages.specs.Texts.{is_name};
 ghost use Rattle.edi_syntax.specs.Characters.{is_printable};
 ghost use Rattle.office_admission.specs.Limits.{most_partners};
-ghost use Rattle.office_closing.specs.Lists.{list_content};
-ghost use Rattle.office_closing.specs.declared.register.Segment.{Segment};
-ghost use Rattle.office_closing.specs.Register.{register_content, archive_content};
+ghost use Rattle.office_closing.specs.{Lists.list_content, declared.register.Segment.Segment, Register.{register_content, archive_content}};
 ghost use Rattle.office_closing.specs.Sound as sound;
 
 use crate::register::{Archive, Register, Segment};
@@ -28,6 +24,7 @@ pub fn is_sound(alloc: Global, register: &Register) -> Result<bool, AllocError>
         are_archives
             && are_segments
             && are_sound_lists(register.archives.len(), &register.lists)
+            && are_sound_taken(register.archives.len(), &register.taken)
             && is_sound_mark(&register.closed_for),
     )
 }
@@ -172,6 +169,12 @@ fn close_more(alloc: Global, segments: &[Segment]) -> Result<bool, AllocError>
         *last = segment.last;
     }
     Ok(true)
+}
+
+fn are_sound_taken(archives: usize, taken: &[Segment]) -> bool
+    ensures { result ≡ sound.are_sound_taken archives taken.now }
+{
+    are_within(archives, taken) && are_in_order(taken)
 }
 
 fn are_sound_lists(archives: usize, lists: &[SettledList]) -> bool

@@ -1,22 +1,14 @@
 -- Why a store is not opened.
-use Rattle.std.proofs.Common.{◌≡◌, inl, inr, subst, Result, Ok, Err, IsTrue}
-use Rattle.std.specs.Prelude.{IfErr}
-use Rattle.sqlite.specs.Effect.{Database}
-use Rattle.sqlite.specs.Held.{Held, state}
-use Rattle.sqlite.specs.Recovery.{Image}
-use Rattle.sqlite.specs.State.{HasCleanDisk}
+use Rattle.std.{specs.Prelude.IfErr, proofs.Common.{◌≡◌, ℕ, List, true, inl, inr, subst, Result, Ok, Err, IsTrue}}
+use Rattle.sqlite.specs.{Effect.Database, Held.{Held, state}, Recovery.Image, State.HasCleanDisk}
 use Rattle.sqlite_trees.specs.declared.store.Store.{Ghosts}
-use Rattle.office_rows.specs.Tables.{office_schema}
-use Rattle.office_tables.specs.DeliveryReading.{OnlyReads}
-use Rattle.office_tables.specs.declared.table_fault.TableFault.{TableFault}
-use Rattle.office_closing.specs.Register.{RegisterContent, closed_by}
-use Rattle.office_closing.specs.Sound.{is_sound}
+use Rattle.office_rows.specs.{Rows.Rows, Shown.AreNexts, Stored.HasRows, Tables.office_schema}
+use Rattle.office_tables.{specs.{DeliveryReading.OnlyReads, declared.table_fault.TableFault.TableFault}, proofs.WriteLemmas.only_on}
+use Rattle.office_closing.specs.{Register.{RegisterContent, closed_by, is_newer_than}, Sound.is_sound}
 use Rattle.office_desk.specs.Offices.{FailsToOpen}
 use Rattle.office_loading.specs.Closed.{ClosedContent}
-use Rattle.office_commands.specs.Opening.{Shows}
-use Rattle.office_commands.specs.Refusing.{IsOfRegister, IsRefused, IsUnloaded, IsUnloadedOver, IsUnopened}
-use Rattle.office_commands.specs.declared.offices.OpenFault.{OpenFault}
-use Rattle.office_commands.specs.declared.offices.OpenFault.TheVariants.{Closed, Store, Register}
+use Rattle.office_commands.specs.{Opening.Shows, Refusing.{IsOfRegister, IsOlderOver, IsRefused, IsUnloaded, IsUnloadedOver, IsUnopened}}
+use Rattle.office_commands.specs.{declared.offices.OpenFault.OpenFault, declared.offices.OpenFault.TheVariants.{Closed, Store, Register, Older}}
 
 module _ {S : Type 0} (g : Ghosts S) (image : Image) (Marked : Type 0) where
   -- its file could not be opened
@@ -24,12 +16,14 @@ module _ {S : Type 0} (g : Ghosts S) (image : Image) (Marked : Type 0) where
   refused_opening Closed is = absurd is
   refused_opening (Store fault) is = inl is
   refused_opening (Register fault) is = absurd is
+  refused_opening Older is = absurd is
 
   -- its register could not be read, or has a mark
   pub refused_names : (fault : OpenFault) → IsOfRegister Marked fault → IsRefused g image Marked fault
   refused_names Closed is = is
   refused_names (Store fault) is = absurd is
   refused_names (Register fault) is = is
+  refused_names Older is = absurd is
 
 -- its tables could not be loaded
 module _ {S T : Type 0} (g : Ghosts S) (image : Image) (found last : Held S) (names : RegisterContent) (result : Result T TableFault) (fault : TableFault) where
@@ -51,6 +45,19 @@ module _ {S T : Type 0} (g : Ghosts S) (image : Image) (found last : Held S) (na
 -- the fault is the one that its tables deserve
 pub unloaded : (db : Database) (own closed : ClosedContent) (fault : TableFault) → own ≡ closed → FailsToOpen own db fault → IsUnloaded closed db fault
 unloaded db own closed fault same fails = inr (subst (λ (k : ClosedContent). FailsToOpen k db fault) same fails)
+
+-- its rows are of a day before its register, by their next numbers
+pub older_over : {S X : Type 0} (g : Ghosts S) (image : Image) (found last : Held S) (names : RegisterContent) (nexts : List ℕ) {read : X} → Shows g image found → IsTrue (is_sound names) → OnlyReads (state g found) (state g last) (Ok read)
+    → (HasCleanDisk (state g last) → (rows : Rows) → HasRows rows (state g found).committed → AreNexts rows nexts) → is_newer_than nexts names ≡ true → IsOlderOver g image
+older_over g image found last names nexts shows sound reads are newer = record {
+  found = found;
+  last = last;
+  names = names;
+  shows = shows;
+  sound = sound;
+  reads = only_on (Ok tt) reads;
+  older = λ clean rows has. (nexts, are clean rows has, newer);
+}
 
 -- ---- what follows of faults
 

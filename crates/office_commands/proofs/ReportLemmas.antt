@@ -1,36 +1,19 @@
 -- What a desk tells, by a set-up that only says the same, and by the tables that the files held.
-use Rattle.std.proofs.Common.{◌≡◌, inl, inr, ℕ, List, Option, Some, option_map, Result, Ok, Err, IfOk, ap, sym, subst, ◌∙◌}
-use Rattle.std.specs.Prelude.{string_bytes}
-use Rattle.sqlite.specs.Effect.{Database}
-use Rattle.sqlite.specs.Held.{state}
-use Rattle.sqlite.specs.Tree.{Trees}
+use Rattle.std.{specs.Prelude.string_bytes, proofs.Common.{◌≡◌, inl, inr, ℕ, List, Option, Some, option_map, Result, Ok, Err, IfOk, ap, sym, subst, ◌∙◌}}
+use Rattle.sqlite.specs.{Effect.Database, Held.state, Tree.Trees}
 use Rattle.sqlite_trees.specs.declared.store.Store.{Ghosts}
 use Rattle.terminal_core.specs.State.{TerminalState}
 use Rattle.office_replies.specs.Events.{Event}
-use Rattle.office_admission.specs.Parties.{partner_from}
-use Rattle.office_admission.specs.Setups.{SetupContent, setup_content}
-use Rattle.office_rows.specs.Opening.{tables_version}
-use Rattle.office_rows.specs.Rows.{Rows}
-use Rattle.office_rows.specs.Stored.{HasRows}
-use Rattle.office_loading.specs.Closed.{closed_content, nothing_closed}
-use Rattle.office_loading.proofs.Offices.{whole_office}
-use Rattle.office_loading.specs.Tables.{Loads, LoadsOwn}
-use Rattle.office_history.specs.After.{SaysSame, content_after}
-use Rattle.office_history.proofs.Alike.{parties_same}
-use Rattle.office_reports.specs.Program.{program_version}
-use Rattle.office_reports.specs.declared.query.Query.{Query}
-use Rattle.office_reports.specs.declared.query.Query.TheVariants as query
-use Rattle.office_reports.specs.declared.query.ReportKind.{ReportKind}
-use Rattle.office_reports.specs.Visits.{visit_report}
-use Rattle.office_reports.specs.Containers.{container_report}
-use Rattle.office_reports.specs.Metrics.{metrics_text}
-use Rattle.office_reports.specs.Picture.{IsPicture}
+use Rattle.office_admission.specs.{Parties.partner_from, Setups.{SetupContent, setup_content}}
+use Rattle.office_rows.specs.{Opening.tables_version, Rows.Rows, Stored.HasRows}
+use Rattle.office_loading.{specs.{Closed.{closed_content, nothing_closed}, Tables.{Loads, LoadsOwn}}, proofs.Offices.whole_office}
+use Rattle.office_history.{specs.After.{SaysSame, content_after}, proofs.Alike.parties_same}
+use Rattle.office_reports.specs.{Program.program_version, declared.query.Query.Query, declared.query.ReportKind.ReportKind, Visits.visit_report}
+use Rattle.office_reports.specs.{Containers.container_report, Metrics.metrics_text, Picture.IsPicture}
 use Rattle.office_desk.specs.Reports.{AreLookedUp, TellsOf, TellsAfter, TellsNext, TellsPartner, TellsPartners, TellsReplyOf, DeskTells, contrl_for_partner, ticket_of, partner_called}
-use Rattle.office_desk.specs.declared.desk.Desk.{Desk}
-use Rattle.office_desk.proofs.OwnNumbers.{answers_alike}
-use Rattle.office_commands.proofs.Alike.{now_alike}
-use Rattle.office_commands.specs.Opening.{OpensOver}
-use Rattle.office_commands.specs.Reporting.{TellsKey, TellsOver, in_lines, report_text, report_status}
+use Rattle.office_desk.{specs.declared.desk.Desk.Desk, proofs.OwnNumbers.answers_alike}
+use Rattle.office_commands.{specs.{Opening.OpensOver, Reporting.{TellsKey, TellsOver, in_lines, report_text, report_status}}, proofs.Alike.now_alike}
+use Rattle.office_reports.specs.declared.query.Query.TheVariants as query
 
 -- what is reported at each query is reported at that of a key
 pub key_also : (tells tells' : Query → Option (List ℕ) → Type 0) (kind : ReportKind) (key : List ℕ) (found : Option (List ℕ))

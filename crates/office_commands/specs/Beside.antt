@@ -1,33 +1,18 @@
 -- A store that is opened on its files, beside its archives.
-use Rattle.std.specs.Prelude.{◌≡◌, List, [], Ok, IsTrue}
-use Rattle.sqlite.specs.Files.{HoldsDatabase}
-use Rattle.sqlite.specs.Held.{Held, state}
-use Rattle.sqlite.specs.Recovery.{Image}
-use Rattle.sqlite.specs.State.{HasCleanDisk}
-use Rattle.sqlite.specs.Tree.{Trees}
+use Rattle.std.specs.Prelude.{◌≡◌, false, List, [], Ok, IfSome, IsTrue}
+use Rattle.sqlite.specs.{Files.HoldsDatabase, Held.{Held, state}, Recovery.Image, State.HasCleanDisk, Tree.Trees}
 use Rattle.sqlite_trees.specs.declared.store.Store.{Ghosts}
 use Rattle.office_replies.specs.Events.{Event}
-use Rattle.office_loading.specs.Closed.{ClosedContent, closed_content, nothing_closed}
+use Rattle.office_loading.specs.{Closed.{ClosedContent, closed_content, nothing_closed}, Tables.LoadsOwn}
 use Rattle.terminal_core.specs.State.{TerminalState}
-use Rattle.office_loading.specs.Tables.{LoadsOwn}
-use Rattle.office_rows.specs.Rows.{Rows}
-use Rattle.office_rows.specs.Shown.{AreNexts}
-use Rattle.office_rows.specs.Stored.{HasRows}
-use Rattle.office_rows.specs.Tables.{office_schema}
+use Rattle.office_rows.specs.{Rows.Rows, Shown.AreNexts, Stored.HasRows, Tables.office_schema}
 use Rattle.office_tables.specs.Reading.{Reads}
-use Rattle.office_admission.specs.Given.{IsGiven}
-use Rattle.office_admission.specs.Setups.{SetupContent}
-use Rattle.office_closing.specs.Register.{RegisterContent, closed_by}
-use Rattle.office_closing.specs.Sound.{is_sound}
+use Rattle.office_admission.specs.{Given.IsGiven, Setups.SetupContent}
+use Rattle.office_closing.specs.{Register.{RegisterContent, closed_by, is_newer_than}, Sound.is_sound}
 use Rattle.office_history.specs.After.{AreAfter}
-use Rattle.office_desk.specs.Desks.{IsSound, OpensAt}
-use Rattle.office_desk.specs.Offices.{OpensOffice}
-use Rattle.office_desk.specs.declared.beside.Beside.{Beside}
-use Rattle.office_desk.specs.declared.desk.Desk.{Desk}
+use Rattle.office_desk.specs.{Desks.{IsSound, OpensAt}, Offices.OpensOffice, declared.beside.Beside.Beside, declared.desk.Desk.Desk}
 use Rattle.office_parts.specs.Archives.{Archive}
-use Rattle.office_archives.specs.Opening.{OpensBeside}
-use Rattle.office_archives.specs.Shelves.{NamesAll}
-use Rattle.office_archives.specs.Together.{IsBesideAfter, LeavesBeside}
+use Rattle.office_archives.specs.{Opening.OpensBeside, Shelves.NamesAll, Together.{IsBesideAfter, LeavesBeside}}
 use Rattle.office_commands.specs.Opening.{BeginsAt, HoldsTables, OpensOver}
 
 -- the files hold the rows that a store has: with what these archives hold they are parts of the rows after those events
@@ -97,13 +82,19 @@ pub record IsAlone {S A : Type 0} {g : Ghosts S} (are : List Archive → A → T
   pub events : IsSound g opened.0 → (content : SetupContent) (es : List Event) → BeginsAt image content es →
       OpensAt g content es opened.0
 
+-- the desk's store is of no day before that register, by its partners' next numbers
+abbrev pub IsOfDay : {S : Type 0} {g : Ghosts S} → RegisterContent → Desk S g → Type 0
+IsOfDay names desk = IfSome desk.beside (λ there. is_newer_than there.nexts.items names ≡ false)
+
 -- A store was opened on those files, and its archives are those that a sound register names, which says what is closed of it:
--- whichever these are, if their files hold what they are supposed to. If it names none, nothing was put away.
+-- whichever these are, if their files hold what they are supposed to. It is of no day before that. If it names none, nothing was
+-- put away.
 pub record OpensWith {S A : Type 0} (g : Ghosts S) (hold : List Archive → Type 0) (are : List Archive → A → Type 0)
     (image : Image) (names : RegisterContent) (opened : Desk S g × A) : Type 0 where
   pub opens : OpensOn g image opened.0
   pub sound : IsTrue (is_sound names)
   pub closed : closed_content opened.0.closed ≡ closed_by names
+  pub of_day : IsOfDay names opened.0
   pub these : (list : List Archive) → hold list → NamesAll names list → are list opened.1
   pub alone : names.archives ≡ [] → IsAlone are image opened
 
@@ -116,9 +107,10 @@ pub record FromOpened {S A : Type 0} (g : Ghosts S) (hold : List Archive → Typ
   pub came : Came opened
 
 -- The archives on the shelf beside a store as it was opened are those that are supposed; the register that names them is sound
--- and says what is closed of the store.
+-- and says what is closed of the store, which is of no day before it.
 pub record IsBesideShelf {S F : Type 0} {g : Ghosts S} (hold : List Archive → Type 0) (holds : List Archive → F → Type 0)
     (names : RegisterContent) (opened : Desk S g) (shelf : F) : Type 0 where
   pub sound : IsTrue (is_sound names)
   pub closed : closed_content opened.closed ≡ closed_by names
+  pub of_day : IsOfDay names opened
   pub these : (list : List Archive) → hold list → holds list shelf

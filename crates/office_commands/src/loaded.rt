@@ -1,12 +1,8 @@
 ghost use Rattle.std.specs.Prelude.{◌≡◌, IfErr, IfOk, IsTrue, string_bytes};
-ghost use Rattle.sqlite.specs.Held.{state};
-ghost use Rattle.sqlite.specs.State.{HasCleanDisk};
-ghost use Rattle.office_admission.specs.Given.{IsGiven};
-ghost use Rattle.office_admission.specs.Setups.{setup_content};
-ghost use Rattle.office_closing.specs.Register.{closed_by, register_content};
-ghost use Rattle.office_closing.specs.Sound.{is_sound};
-ghost use Rattle.office_commands.specs.Beside.{IsLoaded};
-ghost use Rattle.office_commands.specs.Refusing.{IsUnloaded};
+ghost use Rattle.sqlite.specs.{Held.state, State.HasCleanDisk};
+ghost use Rattle.office_admission.specs.{Given.IsGiven, Setups.setup_content};
+ghost use Rattle.office_closing.specs.{Register.{closed_by, is_newer_than, register_content}, Sound.is_sound};
+ghost use Rattle.office_commands.specs.{Beside.IsLoaded, Refusing.IsUnloaded};
 ghost use Rattle.office_loading.specs.Closed.{closed_content};
 ghost use Rattle.office_rows.specs.Tables.{office_schema};
 ghost use Rattle.office_tables.specs.DeliveryReading.{OnlyReads};
@@ -40,8 +36,17 @@ pub(crate) struct Loaded {
     ghost given: { IsGiven (setup_content setup) },
 }
 
-/// What the tables of the store at a path hold, of which its register says what is closed. All that may refuse a store once it
-/// is open is done here, and only reads.
+impl Loaded {
+    /// Whether the store is of a day before its register.
+    pub(crate) fn is_older(&self) -> bool
+        ensures { result ≡ is_newer_than self.now.there.nexts.items (register_content self.now.register) }
+    {
+        self.register.is_newer_than(&self.there.nexts)
+    }
+}
+
+/// What the tables of the store at a path hold, of which its register says what is closed. What may still refuse a store once
+/// its register was read is done here, and only reads.
 ///
 /// Version if no setting names this version; Damaged if the rows are those of no office; Store and Memory say nothing of the
 /// rows.

@@ -1,22 +1,15 @@
-ghost use Rattle.std.specs.Prelude.{◌≡◌, ◌≢◌, List, [], IfErr, IfOk, IsTrue, None};
+ghost use Rattle.std.specs.Prelude.{◌≡◌, ◌≢◌, false, List, [], IfErr, IfOk, IsTrue, None};
 ghost use Rattle.office_archives.specs.Shelves.{NamesAll};
-ghost use Rattle.office_commands.specs.Beside.{IsLoaded, IsSetUpHeld, OpensWith};
-ghost use Rattle.office_commands.specs.Opening.{Shows, ShowsHeld};
-ghost use Rattle.office_commands.specs.declared.offices.OpenFault.TheVariants as open_fault;
+ghost use Rattle.office_commands.specs.{Beside.{IsLoaded, IsSetUpHeld, OpensWith}, Opening.{Shows, ShowsHeld}};
 ghost use Rattle.office_commands.specs.Refusing.{IsMarked, IsOfRegister, IsRefused, IsUnloaded, IsUnopened};
-ghost use Rattle.office_closing.specs.Register.{RegisterContent, closed_by, register_content};
-ghost use Rattle.office_closing.specs.Sound.{is_sound};
+ghost use Rattle.office_closing.specs.{Register.{RegisterContent, closed_by, is_newer_than, register_content}, Sound.is_sound};
 ghost use Rattle.office_loading.specs.Closed.{closed_content};
 ghost use Rattle.office_parts.specs.Archives.{Archive};
 ghost use Rattle.office_admission.specs.Setups.{setup_content};
-ghost use Rattle.office_rows.specs.Tables.{office_schema};
-ghost use Rattle.office_tables.specs.DeliveryReading.{OnlyReads};
-ghost use Rattle.office_tables.specs.declared.table_fault.TableFault.TheVariants.{Memory};
-ghost use Rattle.sqlite.specs.Held.{state};
-ghost use Rattle.sqlite.specs.Files.{file_state, over_files};
-ghost use Rattle.sqlite.specs.Recovery.{Image};
-ghost use Rattle.sqlite.specs.State.{HasCleanDisk};
-ghost use Rattle.sqlite.specs.WalFiles.{image_at};
+ghost use Rattle.office_rows.specs.{Rows.Rows, Shown.AreNexts, Stored.HasRows, Tables.office_schema};
+ghost use Rattle.office_tables.specs.{DeliveryReading.OnlyReads, declared.table_fault.TableFault.TheVariants.Memory};
+ghost use Rattle.sqlite.specs.{Held.state, Files.{file_state, over_files}, Recovery.Image, State.HasCleanDisk, WalFiles.image_at};
+ghost use Rattle.office_commands.specs.declared.offices.OpenFault.TheVariants as open_fault;
 
 use crate::beside::ArchivesBeside;
 use crate::loaded::{Loaded, load_office};
@@ -25,6 +18,7 @@ use crate::register::{names_none, no_archives, read_history};
 use office_admission::Setup;
 use office_archives::{ArchivedDesk, Archives, Looked, LookedStore};
 use office_closing::Register;
+use office_desk::Beside;
 use office_tables::TableFault;
 use sqlite::{Alter, FileFrom, FileStore, Start};
 use std::alloc::{AllocError, Global};
@@ -45,6 +39,9 @@ pub enum OpenFault {
     /// The register of its archives can't be read.
     #[error("the register of the archives can't be read")]
     Register(TableFault),
+    /// It is of a day before its register: it awaits an interchange that had been taken as an archive was closed.
+    #[error("the store is older than the register of its archives")]
+    Older,
 }
 
 impl From<AllocError> for OpenFault {
@@ -77,7 +74,12 @@ pub fn open_office<S: Start, A: Archives, M: ArchivesBeside<A>>(
     let mut looked = look_at_store(rt, store, start)?;
     let register = read_unmarked(rt, store)?;
     match load_office(rt.alloc(), store, &mut looked, register) {
-        Ok(loaded) => Ok(join(looked, loaded, beside)),
+        Ok(loaded) => {
+            if loaded.is_older() {
+                return Err(OpenFault::Older);
+            }
+            Ok(join(looked, loaded, beside))
+        }
         Err(fault) => Err(OpenFault::Store(fault)),
     }
 }
@@ -98,7 +100,12 @@ pub fn open_to_look<S: Start, A: Archives, M: ArchivesBeside<A>>(
     let mut looked = look_at_store(rt, store, start)?;
     let register = read_names(rt, store)?;
     match load_office(rt.alloc(), store, &mut looked, register) {
-        Ok(loaded) => Ok(join(looked, loaded, beside)),
+        Ok(loaded) => {
+            if loaded.is_older() {
+                return Err(OpenFault::Older);
+            }
+            Ok(join(looked, loaded, beside))
+        }
         Err(fault) => Err(OpenFault::Store(fault)),
     }
 }
@@ -160,30 +167,37 @@ pub fn look_at_office<S: Start>(
         Err(fault) => return Err(OpenFault::Store(fault)),
     };
     let register = read_names(rt, store)?;
-    match read_setup(rt.alloc(), &mut looked, &register) {
-        Ok(setup) => Ok((looked, register, setup)),
-        Err(fault) => Err(OpenFault::Store(fault)),
+    let (setup, there) = match read_setup(rt.alloc(), &mut looked, &register) {
+        Ok(read) => read,
+        Err(fault) => return Err(OpenFault::Store(fault)),
+    };
+    if register.is_newer_than(&there.nexts) {
+        return Err(OpenFault::Older);
     }
+    Ok((looked, register, setup))
 }
 
-/// The set-up that the tables of a store hold, of which its register says what is closed.
+/// The set-up that the tables of a store hold, of which its register says what is closed, and what is kept in memory beside
+/// its rows.
 fn read_setup<S: Alter>(
     alloc: Global,
     looked: &mut Looked<S>,
     register: &Register,
-) -> Result<Setup, TableFault>
+) -> Result<(Setup, Beside), TableFault>
     requires { IsTrue (is_sound (register_content register.now)) }
-    ensures setup { (image : Image) → Shows S.Store image looked.old.conn → IfOk result (λ setup.
+    ensures setup { (image : Image) → Shows S.Store image looked.old.conn → IfOk result (λ read.
         HasCleanDisk (state S.Store looked.new.conn) →
-        IsSetUpHeld image (closed_by (register_content register.now)) (setup_content setup)) }
+        IsSetUpHeld image (closed_by (register_content register.now)) (setup_content read.0)) }
+    ensures nexts { HasCleanDisk (state S.Store looked.new.conn) → IfOk result (λ read. (rows : Rows) →
+        HasRows rows (state S.Store looked.old.conn).committed → AreNexts rows read.1.nexts.items) }
     ensures refused { HasCleanDisk (state S.Store looked.new.conn) → IsTrue (state S.Store looked.new.conn).is_open →
         (state S.Store looked.old.conn).committed.schema ≡ office_schema →
         IfErr result (IsUnloaded (closed_by (register_content register.now)) (state S.Store looked.old.conn).committed) }
     ensures reads { OnlyReads (state S.Store looked.old.conn) (state S.Store looked.new.conn) result }
 {
     let closed = register.closed(alloc)?;
-    let (setup, _) = looked.load(alloc, &closed)?;
-    Ok(setup)
+    let (setup, there) = looked.load(alloc, &closed)?;
+    Ok((setup, there))
 }
 
 /// The store that was loaded, with its archives.
@@ -192,6 +206,7 @@ fn join<S: Alter + Drop, A: Archives, M: ArchivesBeside<A>>(
     loaded: Loaded,
     beside: &M,
 ) -> ArchivedDesk<S, A>
+    requires { is_newer_than loaded.there.nexts.items (register_content loaded.register) ≡ false }
     ensures { (found : _) (image : Image) → Shows S.Store image found →
         IsLoaded S.Store found looked.inner.conn (closed_content loaded.closed) (setup_content loaded.setup) loaded.there →
         OpensWith S.Store M.hold A.are image (register_content loaded.register) (result.desk, result.archives) }

@@ -1,22 +1,12 @@
 ghost use Rattle.std.specs.Prelude.{◌≡◌, ⊤, false, IfOk, IfErr, IsTrue};
 ghost use Rattle.office_archives.specs.Texts.{OpensOn};
-ghost use Rattle.office_closing.specs.Register.{register_content};
-ghost use Rattle.office_closing.specs.Sound.{is_sound};
+ghost use Rattle.office_closing.specs.{Register.{is_newer_than, register_content}, Sound.is_sound};
 ghost use Rattle.office_admission.specs.Setups.{setup_content};
-ghost use Rattle.office_commands.specs.Beside.{IsLoaded};
-ghost use Rattle.office_commands.specs.Opening.{Shows};
-ghost use Rattle.office_commands.specs.Printing.{ArePrintedOver, EndsTexts, PrintsJournal, PrintsTexts};
-ghost use Rattle.office_commands.specs.Refusing.{IsRefused};
+ghost use Rattle.office_commands.specs.{Beside.IsLoaded, Opening.Shows, Printing.{ArePrintedOver, EndsTexts, PrintsJournal, PrintsTexts}, Refusing.IsRefused};
 ghost use Rattle.office_loading.specs.Closed.{closed_content};
 ghost use Rattle.office_rows.specs.Stored.{HasRows};
-ghost use Rattle.office_tables.specs.DeliveryReading.{OnlyReads};
-ghost use Rattle.office_tables.specs.Faults.{IsOfStore, IsOfStoreOr};
-ghost use Rattle.office_tables.specs.Reading.{Reads};
-ghost use Rattle.sqlite.specs.Files.{over_files};
-ghost use Rattle.sqlite.specs.Held.{state};
-ghost use Rattle.sqlite.specs.Recovery.{Image};
-ghost use Rattle.sqlite.specs.State.{HasCleanDisk};
-ghost use Rattle.sqlite.specs.WalFiles.{image_at};
+ghost use Rattle.office_tables.specs.{DeliveryReading.OnlyReads, Faults.{IsOfStore, IsOfStoreOr}, Reading.Reads};
+ghost use Rattle.sqlite.specs.{Files.over_files, Held.state, Recovery.Image, State.HasCleanDisk, WalFiles.image_at};
 
 use crate::beside::ShelfBeside;
 use crate::loaded::{Loaded, load_office};
@@ -54,7 +44,12 @@ pub fn texts_over<S: Start, T: Alter + Drop, F: Shelf<T> + Drop, M: ShelfBeside<
     let mut looked = look_at_store(rt, store, start)?;
     let register = read_names(rt, store)?;
     match load_office(rt.alloc(), store, &mut looked, register) {
-        Ok(loaded) => Ok(print_loaded(rt.alloc(), looked, loaded, beside, from, writer)),
+        Ok(loaded) => {
+            if loaded.is_older() {
+                return Err(OpenFault::Older);
+            }
+            Ok(print_loaded(rt.alloc(), looked, loaded, beside, from, writer))
+        }
         Err(fault) => Err(OpenFault::Store(fault)),
     }
 }
@@ -75,6 +70,7 @@ fn print_loaded<
     from: u32,
     writer: &mut Port<W>,
 ) -> (Connection<S>, Result<u8, TableFault>)
+    requires { is_newer_than loaded.there.nexts.items (register_content loaded.register) ≡ false }
     ensures { (found : _) (image : Image) → Shows S.Store image found →
         IsLoaded S.Store found looked.inner.conn (closed_content loaded.closed) (setup_content loaded.setup) loaded.there →
         ArePrintedOver S.Store T.Store M.hold F.holds (OpensOn T.Store F.is_known F.holds) image from

@@ -1,42 +1,22 @@
 -- What the desk tells: the reports of the rows that it holds.
 use Rattle.std.specs.Prelude.{◌≡◌, ℕ, ◌+◌, ◌-◌, List, [], ◌∷◌, Option, None, Some, IsTrue, codes, decimal, option_and_then, slice_get, string_bytes}
 use Rattle.std.specs.List.Sorted.{IsPermutation}
-use Rattle.sqlite.specs.Held.{state}
-use Rattle.sqlite.specs.State.{State}
+use Rattle.sqlite.specs.{Held.state, State.State}
 use Rattle.sqlite_trees.specs.declared.store.Store.{Ghosts}
-use Rattle.edi_messages.specs.declared.codes.PartnerKind.{PartnerKind}
-use Rattle.edi_messages.specs.Owned.{call_content}
-use Rattle.terminal_core.specs.Rows.{VisitContent}
-use Rattle.terminal_core.specs.State.{TerminalState}
-use Rattle.office_replies.specs.Events.{Event}
-use Rattle.office_replies.specs.Bodies.{answer_text, waiting_text}
-use Rattle.office_rows.specs.Opening.{tables_version}
-use Rattle.office_rows.specs.Rows.{Rows}
-use Rattle.office_admission.specs.Parties.{partner_from}
-use Rattle.office_admission.specs.Setups.{SetupContent, setup_content}
+use Rattle.edi_messages.specs.{declared.codes.PartnerKind.PartnerKind, Owned.call_content}
+use Rattle.terminal_core.specs.{Rows.VisitContent, State.TerminalState}
+use Rattle.office_replies.specs.{Events.Event, Bodies.{answer_text, waiting_text}}
+use Rattle.office_rows.specs.{Opening.tables_version, Rows.Rows}
+use Rattle.office_admission.specs.{Parties.partner_from, Setups.{SetupContent, setup_content}}
 use Rattle.office_tables.specs.Answers.{IsNextOf}
 use Rattle.office_loading.specs.Waiting.{waiting_numbers}
-use Rattle.office_history.specs.After.{AreAfter, content_after, machine_after, parties_in, reply_in}
-use Rattle.office_history.specs.Cascade.{text_in}
-use Rattle.office_reports.specs.Program.{program_version}
-use Rattle.office_reports.specs.declared.query.Query.{Query}
-use Rattle.office_reports.specs.declared.query.Query.TheVariants as query
-use Rattle.office_reports.specs.Blocks.{IsBlocksReport}
-use Rattle.office_reports.specs.Calls.{calls_text}
-use Rattle.office_reports.specs.Containers.{container_report}
-use Rattle.office_reports.specs.Contrls.{contrl_in}
-use Rattle.office_reports.specs.Metrics.{metrics_text, ready_text}
-use Rattle.office_reports.specs.Partners.{PartnerContent, partner_line, partners_text}
-use Rattle.office_reports.specs.Work.{IsWorkReport}
-use Rattle.office_reports.specs.Picture.{IsPicture}
-use Rattle.office_reports.specs.Export.{IsYardExport}
-use Rattle.office_reports.specs.Lists.{IsListReport}
-use Rattle.office_reports.specs.Tickets.{ticket_text}
-use Rattle.office_reports.specs.Visits.{visit_report}
+use Rattle.office_history.specs.{After.{AreAfter, content_after, machine_after, parties_in, reply_in}, Cascade.text_in}
+use Rattle.office_reports.specs.{Program.program_version, declared.query.Query.Query, Blocks.IsBlocksReport, Calls.calls_text, Containers.container_report}
+use Rattle.office_reports.specs.{Contrls.contrl_in, Metrics.{metrics_text, ready_text}, Partners.{PartnerContent, partner_line, partners_text}}
+use Rattle.office_reports.specs.{Work.IsWorkReport, Picture.IsPicture, Export.IsYardExport, Lists.IsListReport, Tickets.ticket_text, Visits.visit_report}
 use Rattle.office_reports.specs.Yard.{IsYardReport}
-use Rattle.office_desk.specs.Offices.{DeskHolds}
-use Rattle.office_desk.specs.Telling.{Holds}
-use Rattle.office_desk.specs.declared.desk.Desk.{Desk}
+use Rattle.office_desk.specs.{Offices.DeskHolds, Telling.Holds, declared.desk.Desk.Desk}
+use Rattle.office_reports.specs.declared.query.Query.TheVariants as query
 
 -- the number of the partner of that code
 abbrev pub partner_called : SetupContent → List ℕ → Option ℕ

@@ -1,14 +1,10 @@
 -- Fronts of the set-up files.
 use Rattle.std.proofs.Common.{◌≡◌, ◌≢◌, ℕ, ◌≤◌, ◌<◌, ◌-◌, ◌+◌, ◌++◌, List, [], ◌∷◌, length, take, map, refl, sym, ap, subst, ◌∙◌, arith, inl, inr, append-nil, Option, None, Some, IfSome, MatchOption, true, All, zero, suc, rules}
-use Rattle.std.proofs.lemmas.List.{take-map, take-append-le, length-append, length-map}
-use Rattle.std.proofs.lemmas.List.Elements.{All-tail}
+use Rattle.std.proofs.{lemmas.List.{take-map, take-append-le, length-append, length-map}, lemmas.List.Elements.All-tail}
 use Rattle.csv.specs.Records.{AllText}
-use Rattle.office_explain.specs.Entries.{Record, Text}
-use Rattle.office_explain.specs.Said.{AreCodes}
-use Rattle.office_explain.specs.Wrong.{Shows, Brings, AreTexts, BeginsNoText, IsFirstNoText, IsRight, IsWrong}
-use Rattle.office_explain.specs.declared.setup_reading.SetupFault.{SetupFault}
+use Rattle.office_explain.specs.{Entries.{Record, Text}, Said.AreCodes, Wrong.{Shows, Brings, AreTexts, BeginsNoText, IsFirstNoText, IsRight, IsWrong}}
+use Rattle.office_explain.specs.{declared.setup_reading.SetupFault.SetupFault, declared.setup_reading.SetupFile.SetupFile}
 use Rattle.office_explain.specs.declared.setup_reading.SetupFault.TheVariants.{Csv, Terminal, Partner, Code, Limit, Block as BlockFault, Memory}
-use Rattle.office_explain.specs.declared.setup_reading.SetupFile.{SetupFile}
 use Rattle.office_explain.specs.declared.setup_reading.SetupFile.TheVariants.{Partners, Blocks}
 
 usual_codes : AreCodes []

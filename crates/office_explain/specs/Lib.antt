@@ -9,3 +9,4 @@ pub mod Entries
 pub mod Said
 pub mod Wrong
 pub mod PartnerFaults
+pub mod Tallies

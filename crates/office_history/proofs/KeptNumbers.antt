@@ -1,48 +1,24 @@
 -- What an office keeps for its partners: each number below a partner's next was taken, and those beyond it wait.
+use Rattle.std.specs.{Prelude.{◌==◌, not, find, count_by, Contains, slice_index_or}, List.{range_with_len, AllByRecursion}, List.Sorted.IsPermutation}
+use Rattle.std.{specs.{Option.{option_map, option_and_then}, Ordering.{nat_cmp, ordering_then}}, proofs.{lemmas.List.append-nil, lemmas.Bool.Decides.nat_tests}}
 use Rattle.std.proofs.Common.{◌≡◌, ℕ, List, [], ◌∷◌, ◌++◌, None, refl, sym, ap, subst, ◌∙◌, ◌⊎◌, zero, suc, ◌+◌, ◌-◌, ◌<◌, ◌≤◌, inl, inr, length, map, Bool, true, false, cond, Option, Some, is_some, ap₂, arith, Less, Equal, is_lt}
-use Rattle.std.proofs.lemmas.List.{append-nil}
-use Rattle.partner_core.specs.ByPlace.{taken_by_place, AreNumbered, FoldsByPlace}
-use Rattle.partner_core.specs.Deliveries.{Delivery}
-use Rattle.partner_core.specs.Machine.{Taking}
-use Rattle.partner_core.specs.Order.{state, reply_of}
-use Rattle.partner_core.proofs.ByPlace.{rules_by_place}
-use Rattle.partner_core.proofs.Orders.{option_or-none, none_of}
-use Rattle.terminal_core.specs.Changes.{rows_of}
-use Rattle.terminal_core.specs.Versions.{newest}
-use Rattle.terminal_core.specs.declared.change.Version.{Version}
-use Rattle.terminal_core.specs.declared.change.Version.TheVariants.{First, Second, Third}
-use Rattle.office_replies.specs.Events.{Event, migrated}
-use Rattle.office_admission.specs.Setups.{SetupContent}
-use Rattle.office_admission.specs.Accounts.{content_after}
-use Rattle.office_admission.specs.Admission.{number_said}
-use Rattle.office_admission.specs.Deliveries.{deliveries_of}
-use Rattle.office_admission.proofs.Adding.{content_on, migration_adds}
-use Rattle.office_admission.specs.Taking.{MachineState, interchange_taken_by}
-use Rattle.office_rows.specs.Rows.{Rows, Partner, Interchange}
-use Rattle.office_rows.specs.Migrated.{migrated_settings, migrated_rows}
-use Rattle.office_rows.specs.Opening.{settings_in}
-use Rattle.office_history.specs.After.{opening_of, migration_in, taking_in, AreRowsOf, AreAfterBy, AreAfter, AreKeptOnce, accounts_from, reply_if_any, reply_in}
-use Rattle.office_history.specs.Laws.{MigrationGoesOn}
-use Rattle.office_history.proofs.Places.{numbered, taking_unmigrated, taking_migrated, moved}
-use Rattle.std.specs.Prelude.{◌==◌, not, find, count_by, Contains, slice_index_or}
-use Rattle.std.specs.List.{range_with_len, AllByRecursion}
-use Rattle.std.specs.List.Sorted.{IsPermutation}
-use Rattle.std.specs.Option.{option_map, option_and_then}
-use Rattle.std.specs.Ordering.{nat_cmp, ordering_then}
 use Rattle.std.proofs.lemmas.Bool.{cases_order, eq-eqb, ne_eqb, cond-true, cond-false}
-use Rattle.std.proofs.lemmas.Bool.Decides.{nat_tests}
 use Rattle.std.proofs.lemmas.List.Sorted.{IsPermutation-sym, Contains-permutation, sum_by-IsPermutation}
-use Rattle.sqlite_value.specs.Order.{value_cmp}
-use Rattle.edi_messages.specs.declared.codes.PartnerKind.{PartnerKind}
-use Rattle.terminal_core.proofs.Indexed.{found_is, one_place}
-use Rattle.terminal_core.proofs.Whole.{contained}
-use Rattle.office_rows.specs.Values.{number_value, interchange_values}
-use Rattle.office_rows.specs.Effects.{is_pair}
-use Rattle.office_rows.specs.Opened.{NumberKept, number_kept}
-use Rattle.office_rows.specs.Office.{AreAccounts, AreWaiting, AreKept}
-use Rattle.office_history.specs.Cascade.{text_in}
+use Rattle.partner_core.specs.{ByPlace.{taken_by_place, AreNumbered, FoldsByPlace}, Deliveries.Delivery, Machine.Taking, Order.{state, reply_of}}
+use Rattle.partner_core.proofs.{ByPlace.rules_by_place, Orders.{option_or-none, none_of}}
+use Rattle.terminal_core.specs.{Changes.rows_of, Versions.newest, declared.change.Version.Version, declared.change.Version.TheVariants.{First, Second, Third}}
+use Rattle.terminal_core.proofs.{Indexed.{found_is, one_place}, Whole.contained}
+use Rattle.office_replies.specs.Events.{Event, migrated}
+use Rattle.office_admission.specs.{Setups.SetupContent, Accounts.content_after, Admission.number_said, Deliveries.deliveries_of}
+use Rattle.office_admission.{specs.Taking.{MachineState, interchange_taken_by}, proofs.Adding.{content_on, migration_adds}}
+use Rattle.office_rows.specs.{Rows.{Rows, Partner, Interchange}, Migrated.{migrated_settings, migrated_rows}, Opening.settings_in, Effects.is_pair}
+use Rattle.office_rows.specs.{Values.{number_value, interchange_values}, Opened.{NumberKept, number_kept}, Office.{AreAccounts, AreWaiting, AreKept}}
+use Rattle.office_history.specs.After.{opening_of, migration_in, taking_in, AreRowsOf, AreAfterBy, AreAfter, AreKeptOnce, accounts_from, reply_if_any, reply_in}
+use Rattle.office_history.{specs.{Laws.MigrationGoesOn, Cascade.text_in}, proofs.Places.{numbered, taking_unmigrated, taking_migrated, moved}}
 use Rattle.office_history.proofs.Kept.{taken_by, Rise, Has, IsWithinRuns, IsComplete, all_kept, fewer, found_only, head_in, tail_in}
 use Rattle.office_history.proofs.Runs.{is_pair_at, pair_of, InTurn, is_before, number_order}
+use Rattle.sqlite_value.specs.Order.{value_cmp}
+use Rattle.edi_messages.specs.declared.codes.PartnerKind.{PartnerKind}
 
 -- ==== Migrating: The rows after a migration.
 

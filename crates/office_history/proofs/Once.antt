@@ -1,25 +1,14 @@
 -- The interchanges of an office: no number of a partner has two.
+use Rattle.std.{specs.{Prelude.count_by, List.range_with_len}, proofs.lemmas.List.Sorted.{IsPermutation-trans, sum_by-IsPermutation}}
 use Rattle.std.proofs.Common.{◌≡◌, ℕ, zero, suc, ◌+◌, ◌*◌, ◌-◌, ◌<◌, ◌≤◌, List, [], ◌∷◌, ◌++◌, map, true, cond, refl, sym, ap, ap₂, subst, ◌∙◌, arith}
-use Rattle.std.specs.Prelude.{count_by}
-use Rattle.std.specs.List.{range_with_len}
-use Rattle.std.proofs.lemmas.List.Sorted.{IsPermutation-trans, sum_by-IsPermutation}
-use Rattle.sqlite.specs.Order.{column}
-use Rattle.sqlite.specs.Effect.{Database}
+use Rattle.sqlite.specs.{Order.column, Effect.Database}
 use Rattle.edi_messages.specs.declared.codes.PartnerKind.{PartnerKind}
 use Rattle.terminal_core.specs.State.{TerminalState}
 use Rattle.office_admission.specs.Setups.{SetupContent}
-use Rattle.office_rows.specs.Rows.{Partner, Interchange, Rows}
-use Rattle.office_rows.specs.Values.{interchange_values}
-use Rattle.office_rows.specs.Stored.{HasRows}
-use Rattle.office_rows.specs.Effects.{is_pair}
-use Rattle.office_rows.specs.Opened.{NumberKept, OpenedRows, Shows, number_kept, reply_values}
-use Rattle.office_rows.specs.Office.{AreAccounts, AreWaiting, AreKept, IsOffice}
-use Rattle.office_rows.specs.Shown.{columns_at}
+use Rattle.office_rows.specs.{Rows.{Partner, Interchange, Rows}, Values.interchange_values, Stored.HasRows, Effects.is_pair, Shown.columns_at}
+use Rattle.office_rows.specs.{Opened.{NumberKept, OpenedRows, Shows, number_kept, reply_values}, Office.{AreAccounts, AreWaiting, AreKept, IsOffice}}
 use Rattle.office_rows.proofs.Listed.{unmapped}
-use Rattle.office_history.specs.After.{AreKeptOnce}
-use Rattle.office_history.proofs.Kept.{taken_by, Rises, one_at}
-use Rattle.office_history.proofs.Loads.{number_one, text_one}
-use Rattle.office_history.proofs.Runs.{pair_of}
+use Rattle.office_history.{specs.After.AreKeptOnce, proofs.{Kept.{taken_by, Rises, one_at}, Loads.{number_one, text_one}, Runs.pair_of}}
 
 -- ---- rising lists
 

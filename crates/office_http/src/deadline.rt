@@ -1,6 +1,5 @@
-ghost use Rattle.std.specs.Prelude.{◌≡◌, ◌-◌, ◌*◌};
-ghost use Rattle.std.specs.Duration.{as_nanos};
-ghost use Rattle.std.specs.Time.{instant_nanos};
+ghost use Rattle.std.specs.{Prelude.◌≡◌, Duration.as_nanos, Time.instant_nanos};
+ghost use Rattle.office_http.specs.Deadlines.{nanos_left};
 
 use std::time::{Duration, Instant};
 
@@ -26,7 +25,7 @@ impl Deadline {
 
     /// How long it is from now till then, zero if it is over.
     pub(crate) fn left(&self, now: Instant) -> Duration
-        ensures { as_nanos result ≡ self.now.limit.0 * 1_000_000_000 - (instant_nanos now - instant_nanos self.now.begun) }
+        ensures { as_nanos result ≡ nanos_left self.now.limit.0 (instant_nanos self.now.begun) (instant_nanos now) }
     {
         Duration::from_secs(self.limit.0).saturating_sub(now.duration_since(self.begun))
     }

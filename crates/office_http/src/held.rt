@@ -1,5 +1,4 @@
-ghost use Rattle.std.specs.Prelude.{◌≡◌, ◌≤◌, ◌+◌, max, true, false};
-ghost use Rattle.std.specs.Vec.{vec_capacity};
+ghost use Rattle.std.specs.{Prelude.{◌≡◌, ◌≤◌, ◌+◌, max, true, false}, Vec.vec_capacity};
 ghost use Rattle.office_http.specs.Held.{most_held};
 
 /// How many bytes are held for all connections, at most: of requests that aren't done and of responses that aren't taken.
@@ -10,6 +9,7 @@ pub(crate) const MOST_HELD: usize = 67_108_864;
 pub(crate) fn widen(bytes: &mut Vec<u8>, size: usize, held: usize) -> bool
     ensures items { bytes.new.items ≡ bytes.old.items }
     ensures bound { result ≡ true → held + size ≤ most_held }
+    ensures room { result ≡ true → size ≤ vec_capacity bytes.new }
     ensures wide { vec_capacity bytes.new ≤ max (vec_capacity bytes.old) size }
     ensures refused { result ≡ false → vec_capacity bytes.new ≡ vec_capacity bytes.old }
 {

@@ -28,7 +28,8 @@ impl<'a> Inlet<'a> {
     ghost use Rattle.std.specs.Prelude.{◌≡◌};
 
     pub(crate) fn new(left: &'a [u8], tail: Tail) -> Inlet<'a>
-        ensures { result.left.now ≡ left.now }
+        ensures left { result.left.now ≡ left.now }
+        ensures tail { result.tail ≡ tail }
     {
         Inlet { left, tail }
     }

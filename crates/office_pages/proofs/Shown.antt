@@ -1,31 +1,18 @@
 -- What a browser makes of the parts of a report.
+use Rattle.std.specs.{Prelude.{Result, Ok, Err, OnOk, is_ok, if◌then◌else◌, ◌↔◌}, List.{range_with_len, list_all, join_by, join_with_byte, starts_with}}
+use Rattle.std.specs.{Borrow.Bor, Option.{MatchOption, option_map}, Str.Iter.HasSubslice, Str.Pattern.{FindsTextPrefix, StripsPrefix}}
 use Rattle.std.proofs.Common.{◌≡◌, ℕ, zero, suc, ◌+◌, List, ◌++◌, flat_map, sym, ap, ◌∙◌, append_assoc, arith, ◌==◌, nat_lt, true, [], ◌∷◌, refl, inl, inr, ◌||◌, false, All, length, get_or, codes, ◌&&◌, subst, Option, None, Some, nat_eq, Bool, ◌⊎◌, drop}
-use Rattle.std.specs.Prelude.{Result, Ok, Err, OnOk, is_ok, if◌then◌else◌, ◌↔◌}
-use Rattle.std.specs.List.{range_with_len, list_all, join_by, join_with_byte, starts_with}
-use Rattle.std.proofs.lemmas.List.{append-nil}
-use Rattle.std.proofs.lemmas.Bool.{and_parts, cases_Bool, false≢true, agree_below, agree_below_at, and_from, ne_eqb}
-use Rattle.office_reports.specs.Fields.{character_text, field_text}
-use Rattle.office_reports.specs.Markup.{is_plain, Place, Between, Tag, SingleQuoted, DoubleQuoted, place_after, place_after_all, tags, Shows, nothing, plain, reference}
-use Rattle.std.proofs.lemmas.Bool.Decides.{nat_tests, Decides-eqb}
-use Rattle.std.proofs.lemmas.List.Elements.{All-head, All-tail}
-use Rattle.percent_encoding.specs.declared.ascii_set.TheConstants.{NON_ALPHANUMERIC}
-use Rattle.percent_encoding.specs.AsciiSet.{contains, should_percent_encode}
-use Rattle.percent_encoding.proofs.AsciiSetLemmas.{ascii_from_kept, outside_from_kept}
-use Rattle.percent_encoding.proofs.PercentLemmas.{All-percent_encode, IsEscapeByte}
-use Rattle.box6346.specs.ContainerNumber.{number_of as box_of}
-use Rattle.office_reports.specs.declared.query.Query.{Query}
-use Rattle.office_pages.specs.Addresses.{container_address, part}
-use Rattle.office_pages.specs.Links.{container_link, leads_by_place, link_at}
-use Rattle.office_pages.specs.Pages.{gap, line_view, link, linked, named_view, word_view, body_bytes}
-use Rattle.office_pages.specs.Words.{word_at, words, lines, without_front}
-use Rattle.std.proofs.lemmas.List.Splits.{join_with_byte-slice_split}
-use Rattle.office_reports.proofs.Markup.{is_quiet, quiet_stays, quiet_has_none, field_is_quiet, field_is_shown}
-use Rattle.office_pages.specs.Laws.{between_tags, line_tags, link_tags}
-use Rattle.std.specs.Borrow.{Bor}
-use Rattle.std.specs.Option.{MatchOption, option_map}
-use Rattle.std.specs.Str.Iter.{HasSubslice}
-use Rattle.std.specs.Str.Pattern.{FindsTextPrefix, StripsPrefix}
+use Rattle.std.proofs.{lemmas.List.append-nil, lemmas.Bool.{and_parts, cases_Bool, false≢true, agree_below, agree_below_at, and_from, ne_eqb}}
+use Rattle.std.proofs.{lemmas.Bool.Decides.{nat_tests, Decides-eqb}, lemmas.List.Elements.{All-head, All-tail}, lemmas.List.Splits.join_with_byte-slice_split}
 use Rattle.std.proofs.lemmas.Slice.Eq.{starts_is}
+use Rattle.office_reports.specs.{Fields.{character_text, field_text}, declared.query.Query.Query}
+use Rattle.office_reports.specs.Markup.{is_plain, Place, Between, Tag, SingleQuoted, DoubleQuoted, place_after, place_after_all, tags, Shows, nothing, plain, reference}
+use Rattle.office_reports.proofs.Markup.{is_quiet, quiet_stays, quiet_has_none, field_is_quiet, field_is_shown}
+use Rattle.percent_encoding.specs.{declared.ascii_set.TheConstants.NON_ALPHANUMERIC, AsciiSet.{contains, should_percent_encode}}
+use Rattle.percent_encoding.proofs.{AsciiSetLemmas.{ascii_from_kept, outside_from_kept}, PercentLemmas.{All-percent_encode, IsEscapeByte}}
+use Rattle.box6346.specs.ContainerNumber.{number_of as box_of}
+use Rattle.office_pages.specs.{Addresses.{container_address, part}, Links.{container_link, leads_by_place, link_at}, Laws.{between_tags, line_tags, link_tags}}
+use Rattle.office_pages.specs.{Pages.{gap, line_view, link, linked, named_view, word_view, body_bytes}, Words.{word_at, words, lines, without_front}}
 use Rattle.office_pages.specs.Meanings.{stands_in}
 use Rattle.office_reports.specs.declared.query.Query.TheVariants as query
 

@@ -1,12 +1,7 @@
 -- Pages with other titles have the same tags.
 use Rattle.std.proofs.Common.{◌≡◌, ℕ, false, List, ◌++◌, codes, flat_map, refl, sym, ap, ◌∙◌}
-use Rattle.office_reports.specs.Fields.{field_text}
-use Rattle.office_reports.specs.Markup.{Between, place_after_all, tags}
-use Rattle.office_pages.specs.Fixed.{foot, head, top}
-use Rattle.office_pages.specs.Laws.{NamesBringNoMarkup}
-use Rattle.office_pages.specs.Pages.{again, count_view, page_head}
-use Rattle.office_pages.specs.Titles.{start_title}
-use Rattle.office_pages.specs.Words.{lines}
+use Rattle.office_reports.specs.{Fields.field_text, Markup.{Between, place_after_all, tags}}
+use Rattle.office_pages.specs.{Fixed.{foot, head, top}, Laws.NamesBringNoMarkup, Pages.{again, count_view, page_head}, Titles.start_title, Words.lines}
 use Rattle.office_pages.proofs.Shown.{behind_append, field_part, tags_append}
 
 -- two texts that end between tags, as they begin, and have the same tags

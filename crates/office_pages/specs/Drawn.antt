@@ -1,10 +1,8 @@
 -- The picture of the yard, with a link from each container to its page (our own).
-use Rattle.std.specs.Prelude.{ℕ, ◌==◌, Bool, List, ◌++◌, codes, nat_eq, Option, None, Some, if◌then◌else◌}
-use Rattle.std.specs.List.{join_by, slice_split, starts_with}
+use Rattle.std.specs.{Prelude.{ℕ, ◌==◌, Bool, List, ◌++◌, codes, nat_eq, Option, None, Some, if◌then◌else◌}, List.{join_by, slice_split, starts_with}}
 use Rattle.std.specs.Str.{bytes_eq}
 use Rattle.office_reports.specs.Fields.{field_text}
-use Rattle.office_pages.specs.Links.{container_link}
-use Rattle.office_pages.specs.Words.{lines, word_at, words}
+use Rattle.office_pages.specs.{Links.container_link, Words.{lines, word_at, words}}
 
 -- a container has a line of the picture: <g transform='translate(X -Y)'><title>BOX SIZE FULL SLOT</title>..
 abbrev pub draws_container : List ℕ → Bool

@@ -1,12 +1,8 @@
 -- What the definitions of the pages mean together.
-use Rattle.std.specs.Prelude.{◌≡◌, ℕ, List, [], ◌∷◌, ◌++◌, ◌==◌, length, codes, Option, None, Some, if◌then◌else◌}
-use Rattle.std.specs.List.{flat_map, range_with_len}
-use Rattle.office_reports.specs.Fields.{field_text}
-use Rattle.office_reports.specs.Markup.{Place, Between, Tag, SingleQuoted, DoubleQuoted, place_after, place_after_all, tags, Shows}
+use Rattle.std.specs.{Prelude.{◌≡◌, ℕ, List, [], ◌∷◌, ◌++◌, ◌==◌, length, codes, Option, None, Some, if◌then◌else◌}, List.{flat_map, range_with_len}}
+use Rattle.office_reports.specs.{Fields.field_text, Markup.{Place, Between, Tag, SingleQuoted, DoubleQuoted, place_after, place_after_all, tags, Shows}}
 use Rattle.office_reports.specs.declared.query.Query.{Query}
-use Rattle.office_pages.specs.Links.{link_at}
-use Rattle.office_pages.specs.Pages.{body_bytes, start_bytes}
-use Rattle.office_pages.specs.Words.{lines, words}
+use Rattle.office_pages.specs.{Links.link_at, Pages.{body_bytes, start_bytes}, Words.{lines, words}}
 
 -- ---- what is shown
 

@@ -3,12 +3,10 @@ use Rattle.std.specs.Prelude.{ℕ, ◌-◌, ◌==◌, ◌&&◌, ◌||◌, nat_le
 use Rattle.std.specs.Str.{bytes_eq}
 use Rattle.box6346.specs.ContainerNumber.{number_of as box_of}
 use Rattle.edi_syntax.specs.Numbers.{number_of}
-use Rattle.terminal_core.specs.declared.lines.Side.{Side}
-use Rattle.terminal_core.specs.declared.lines.Side.TheVariants.{Load, Discharge}
+use Rattle.terminal_core.specs.{declared.lines.Side.Side, declared.lines.Side.TheVariants.{Load, Discharge}}
 use Rattle.office_reports.specs.declared.query.Query.{Query}
+use Rattle.office_pages.specs.{Addresses.{block_address, container_address, partner_address, reply_address, work_address}, Words.{is_at, word_at}}
 use Rattle.office_reports.specs.declared.query.Query.TheVariants as query
-use Rattle.office_pages.specs.Addresses.{block_address, container_address, partner_address, reply_address, work_address}
-use Rattle.office_pages.specs.Words.{is_at, word_at}
 
 -- ---- a container
 

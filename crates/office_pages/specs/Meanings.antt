@@ -1,6 +1,5 @@
 -- What the names in a reply mean (our own).
-use Rattle.std.specs.Prelude.{ℕ, Bool, ◌||◌, List, [], ◌∷◌, ◌++◌, codes, nat_eq, if◌then◌else◌}
-use Rattle.std.specs.List.{flat_map, starts_with}
+use Rattle.std.specs.{Prelude.{ℕ, Bool, ◌||◌, List, [], ◌∷◌, ◌++◌, codes, nat_eq, if◌then◌else◌}, List.{flat_map, starts_with}}
 use Rattle.office_reports.specs.Fields.{field_text}
 use Rattle.office_pages.specs.declared.meanings.Meaning.{Meaning}
 

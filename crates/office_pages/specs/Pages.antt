@@ -1,21 +1,14 @@
 -- The page of a report (our own): its lines as they are, with a link around each word that names something.
 use Rattle.std.specs.Prelude.{ℕ, ◌-◌, min, ◌==◌, Bool, true, false, List, [], ◌∷◌, ◌++◌, length, codes, decimal, string_bytes, Option, None, Some, if◌then◌else◌}
-use Rattle.std.specs.List.{before_first, flat_map, join_by, range_with_len}
-use Rattle.std.specs.Str.{bytes_eq}
+use Rattle.std.specs.{List.{before_first, flat_map, join_by, range_with_len}, Str.bytes_eq}
 use Rattle.edi_messages.specs.declared.call.Call.{Call}
 use Rattle.edi_syntax.specs.Numbers.{number_of}
 use Rattle.terminal_core.specs.declared.lines.Side.{Side}
-use Rattle.office_reports.specs.Fields.{field_text}
-use Rattle.office_reports.specs.declared.query.Query.{Query}
-use Rattle.office_reports.specs.declared.query.Query.TheVariants as query
+use Rattle.office_reports.specs.{Fields.field_text, declared.query.Query.Query}
 use Rattle.office_pages.specs.Addresses.{address_of_two, container_address, list_address, partner_address, reply_address, visits_address, work_address}
-use Rattle.office_pages.specs.Drawn.{picture_view}
-use Rattle.office_pages.specs.Fixed.{foot, head, top}
-use Rattle.office_pages.specs.Links.{container_link, link_at}
-use Rattle.office_pages.specs.Meanings.{framed, meanings_view}
-use Rattle.office_pages.specs.Titles.{notice_title, start_title, title}
-use Rattle.office_pages.specs.Words.{is_at, lines, without_front, word_at, words}
-use Rattle.office_pages.specs.declared.notices.Notice.{Notice}
+use Rattle.office_pages.specs.{Drawn.picture_view, Fixed.{foot, head, top}, Links.{container_link, link_at}, Meanings.{framed, meanings_view}}
+use Rattle.office_pages.specs.{Titles.{notice_title, start_title, title}, Words.{is_at, lines, without_front, word_at, words}, declared.notices.Notice.Notice}
+use Rattle.office_reports.specs.declared.query.Query.TheVariants as query
 use Rattle.office_pages.specs.declared.notices.Notice.TheVariants as notice
 
 -- ---- which reports

@@ -1,11 +1,10 @@
 -- What pages are called.
 use Rattle.std.specs.Prelude.{ℕ, List, ◌++◌, codes, decimal, string_bytes}
 use Rattle.edi_messages.specs.declared.call.Call.{Call}
-use Rattle.terminal_core.specs.declared.lines.Side.{Side}
-use Rattle.terminal_core.specs.declared.lines.Side.TheVariants.{Load, Discharge}
+use Rattle.terminal_core.specs.{declared.lines.Side.Side, declared.lines.Side.TheVariants.{Load, Discharge}}
 use Rattle.office_reports.specs.declared.query.Query.{Query}
-use Rattle.office_reports.specs.declared.query.Query.TheVariants as query
 use Rattle.office_pages.specs.declared.notices.Notice.{Notice}
+use Rattle.office_reports.specs.declared.query.Query.TheVariants as query
 use Rattle.office_pages.specs.declared.notices.Notice.TheVariants as notice
 
 abbrev pub list_title : Side → List ℕ

@@ -1,8 +1,6 @@
 -- The lines and words of a report.
-use Rattle.std.specs.Prelude.{ℕ, ◌==◌, Bool, List, [], drop, length, map, nat_eq, slice_index_or, Option, None, Some, if◌then◌else◌}
-use Rattle.std.specs.Borrow.{Bor}
+use Rattle.std.specs.{Prelude.{ℕ, ◌==◌, Bool, List, [], drop, length, map, nat_eq, slice_index_or, Option, None, Some, if◌then◌else◌}, Borrow.Bor, Str.bytes_eq}
 use Rattle.std.specs.List.{slice_split, starts_with}
-use Rattle.std.specs.Str.{bytes_eq}
 
 -- they stand between LFs
 abbrev pub lines : List ℕ → List (List ℕ)

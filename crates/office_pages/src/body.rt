@@ -1,10 +1,7 @@
 //! A report's own text, shown.
-ghost use Rattle.std.specs.List.{join_by, list_all};
-ghost use Rattle.std.specs.Prelude.{◌≡◌, ◌++◌, OnOk, codes, string_bytes};
-ghost use Rattle.office_reports.specs.Fields.{field_text};
-ghost use Rattle.office_reports.specs.Markup.{is_plain};
-ghost use Rattle.office_pages.specs.Pages.{body_bytes, gap, line_view, link, named_view, word_view};
-ghost use Rattle.office_pages.specs.Words.{texts_of, words};
+ghost use Rattle.std.specs.{List.{join_by, list_all}, Prelude.{◌≡◌, ◌++◌, OnOk, codes, string_bytes}};
+ghost use Rattle.office_reports.specs.{Fields.field_text, Markup.is_plain};
+ghost use Rattle.office_pages.specs.{Pages.{body_bytes, gap, line_view, link, named_view, word_view}, Words.{texts_of, words}};
 
 use crate::links::{leads_by_place, link_at, push_part, word_at, words_of};
 use box6346::BoxNumber;

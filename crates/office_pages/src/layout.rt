@@ -1,7 +1,6 @@
 //! What is the same around every page: its head with its style and title, and its foot; and what pages are called.
 ghost use Rattle.std.specs.Prelude.{◌≡◌, ◌++◌, IfOk, OnOk, string_bytes};
-ghost use Rattle.office_pages.specs.Fixed.{foot, head, top};
-ghost use Rattle.office_pages.specs.Pages.{again, page_head};
+ghost use Rattle.office_pages.specs.{Fixed.{foot, head, top}, Pages.{again, page_head}};
 ghost use Rattle.office_pages.specs.Titles.{call_title, interchange_title, list_title, name_title, start_title, title, work_title};
 
 use crate::body::push_field;

@@ -1,6 +1,5 @@
 //! The words of a report, which of them lead where, and where pages are.
-ghost use Rattle.std.specs.Option.{option_map};
-ghost use Rattle.std.specs.Prelude.{◌≡◌, ◌≤◌, ◌++◌, IfOk, OnOk, string_bytes};
+ghost use Rattle.std.specs.{Option.option_map, Prelude.{◌≡◌, ◌≤◌, ◌++◌, IfOk, OnOk, string_bytes}};
 ghost use Rattle.office_pages.specs.Addresses.{address_of_one, address_of_two, list_address, part, side_path, work_address};
 ghost use Rattle.office_pages.specs.Links.{block_link, call_link, container_link, is_number, is_way_at, leads_by_place, link_at, number_link, open_line_link, partner_link, passage_link, place_link, side_named, ticket_link, work_link};
 ghost use Rattle.office_pages.specs.Words.{is_at, texts_of, word_at, words};

@@ -1,6 +1,5 @@
 //! What the names in a reply mean.
-ghost use Rattle.std.specs.List.{flat_map};
-ghost use Rattle.std.specs.Prelude.{◌≡◌, ◌++◌, IfOk, OnOk, map, string_bytes};
+ghost use Rattle.std.specs.{List.flat_map, Prelude.{◌≡◌, ◌++◌, IfOk, OnOk, map, string_bytes}};
 ghost use Rattle.office_pages.specs.Meanings.{framed, mark, meaning_entry, meaning_view, meanings_view, meant, message_faults, reasons, stands_in};
 
 use crate::body::push_text;

@@ -1,9 +1,7 @@
 //! What a person types for a container's number, and what a page says in place of a report.
 ghost use Rattle.std.specs.Prelude.{◌≡◌, ◌++◌, IfOk, IsTrue, OnOk, string_bytes};
-ghost use Rattle.box6346.specs.ContainerNumber.{number_of};
-ghost use Rattle.box6346.specs.NumberText.{has_form};
-ghost use Rattle.office_pages.specs.Pages.{notice_bytes, notice_view};
-ghost use Rattle.office_pages.specs.Titles.{notice_title};
+ghost use Rattle.box6346.specs.{ContainerNumber.number_of, NumberText.has_form};
+ghost use Rattle.office_pages.specs.{Pages.{notice_bytes, notice_view}, Titles.notice_title};
 ghost use Rattle.office_pages.specs.Typed.{corrected, is_left_out, number_in, typed, typed_text, with_check_digit};
 
 use crate::body::push_number_link;

@@ -1,9 +1,7 @@
 //! The pages: of a report, of the picture, and the start page.
-ghost use Rattle.std.specs.List.{flat_map};
-ghost use Rattle.std.specs.Prelude.{◌≡◌, ◌++◌, IfOk, OnOk, Some, option_map, string_bytes};
-ghost use Rattle.office_pages.specs.Drawn.{around, drawn_line, drawn_link, draws_container, picture_view, tag_ends};
+ghost use Rattle.std.specs.{List.flat_map, Prelude.{◌≡◌, ◌++◌, IfOk, OnOk, Some, option_map, string_bytes}};
+ghost use Rattle.office_pages.specs.{Drawn.{around, drawn_line, drawn_link, draws_container, picture_view, tag_ends}, Words.{lines, texts_of}};
 ghost use Rattle.office_pages.specs.Pages.{asks_again, count_view, counted, has_page, label_of, page_bytes, start_bytes, text_page};
-ghost use Rattle.office_pages.specs.Words.{lines, texts_of};
 
 use crate::body::{push_body, push_text};
 use crate::layout::{foot, push_head, start_title, title};

@@ -1,6 +1,5 @@
 //! What a page shows besides its report: links to other pages on the same thing, and what is below.
-ghost use Rattle.std.specs.List.{before_first};
-ghost use Rattle.std.specs.Prelude.{◌≡◌, ◌++◌, ◌==◌, IfOk, OnOk, Some, option_map, string_bytes};
+ghost use Rattle.std.specs.{List.before_first, Prelude.{◌≡◌, ◌++◌, ◌==◌, IfOk, OnOk, Some, option_map, string_bytes}};
 ghost use Rattle.office_pages.specs.Addresses.{address_of_one};
 ghost use Rattle.office_pages.specs.Pages.{below, beside, contrl_beside, interchange_beside, last_replies, last_view, link_beside, links_beside, list_beside, next_behind, next_of, numbered_reply, partner_beside, reply_beside, second_of, second_view, ticket_beside, titled_report, work_beside};
 

@@ -1,15 +1,11 @@
 -- The export of the yard (our own), as CSV (RFC 4180) with LF at the end of each record.
-use Rattle.std.specs.Prelude.{◌≡◌, ℕ, Bool, List, [], ◌∷◌, ◌++◌, if◌then◌else◌, codes, encode_utf8_all, Vec, false}
-use Rattle.std.specs.List.{flat_map}
-use Rattle.std.specs.Map.{values_of}
+use Rattle.std.specs.{Prelude.{◌≡◌, ℕ, Bool, List, [], ◌∷◌, ◌++◌, if◌then◌else◌, codes, encode_utf8_all, Vec, false}, List.flat_map, Map.values_of}
 use Rattle.std.specs.declared.alloc.Global.{Global}
 use Rattle.csv.specs.Writing.{default_writer, row_text, writer_setup, writer_under, writer_pending, fields_written, has_written}
 use Rattle.csv.specs.declared.writer.Writer.{Writer}
 use Rattle.box6346.specs.SlotName.{slot_text}
 use Rattle.terminal_core.specs.State.{TerminalState}
-use Rattle.office_reports.specs.declared.yard.Standing.{Standing}
-use Rattle.office_reports.specs.Listed.{AreListed}
-use Rattle.office_reports.specs.Yard.{StandsAt}
+use Rattle.office_reports.specs.{declared.yard.Standing.Standing, Listed.AreListed, Yard.StandsAt}
 
 abbrev pub load_field : Bool → List ℕ
 load_field is_laden = if is_laden then codes "full" else codes "empty"

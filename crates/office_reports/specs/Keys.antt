@@ -1,21 +1,12 @@
 -- The keys by which reports are asked for.
 use Rattle.std.specs.Prelude.{ℕ, ◌==◌, nat_le, List, [], ◌∷◌, length, codes, slice_index, Option, None, Some, option_map, string_bytes, Result, Ok, Err, if◌then◌else◌}
-use Rattle.std.specs.Option.{option_and_then}
-use Rattle.std.specs.List.{slice_split}
-use Rattle.std.specs.Str.{bytes_eq}
-use Rattle.box6346.specs.ContainerNumber.{number_of as box_of}
-use Rattle.box6346.specs.declared.box_number.BoxNumber.{BoxNumber}
-use Rattle.box6346.specs.declared.box_number.NumberFault.{NumberFault}
-use Rattle.edi_messages.specs.Texts.{is_name}
-use Rattle.edi_messages.specs.declared.call.Call.{Call}
-use Rattle.edi_syntax.specs.Bytes.{digit_zero}
-use Rattle.edi_syntax.specs.Numbers.{number_of, as_control_number, last_number}
-use Rattle.terminal_core.specs.declared.lines.Side.{Side}
-use Rattle.terminal_core.specs.declared.lines.Side.TheVariants.{Load, Discharge}
-use Rattle.office_reports.specs.Escapes.{decoded_part}
-use Rattle.office_reports.specs.declared.query.Query.{Query}
+use Rattle.std.specs.{Option.option_and_then, List.slice_split, Str.bytes_eq}
+use Rattle.box6346.specs.{ContainerNumber.number_of as box_of, declared.box_number.BoxNumber.BoxNumber, declared.box_number.NumberFault.NumberFault}
+use Rattle.edi_messages.specs.{Texts.is_name, declared.call.Call.Call}
+use Rattle.edi_syntax.specs.{Bytes.digit_zero, Numbers.{number_of, as_control_number, last_number}}
+use Rattle.terminal_core.specs.{declared.lines.Side.Side, declared.lines.Side.TheVariants.{Load, Discharge}}
+use Rattle.office_reports.specs.{Escapes.decoded_part, declared.query.Query.Query, declared.query.ReportKind.ReportKind}
 use Rattle.office_reports.specs.declared.query.Query.TheVariants as query
-use Rattle.office_reports.specs.declared.query.ReportKind.{ReportKind}
 use Rattle.office_reports.specs.declared.query.ReportKind.TheVariants as kind
 
 -- what is asked for, with its texts as bytes

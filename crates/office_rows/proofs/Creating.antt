@@ -1,42 +1,22 @@
 -- What the texts mean that make the tables.
+use Rattle.std.{specs.{Ordering.{is_eq, match_ordering}, List.list_any, List.Sorted.IsPermutation}, proofs.{lemmas.Cmp.tied_itself, lemmas.List.take_more}}
 use Rattle.std.proofs.Common.{◌≡◌, ℤ, inl, inr, List, [], ◌∷◌, ◌++◌, map, filter, Bool, true, false, not, ◌||◌, cond, Ordering, Less, Equal, Greater, refl, sym, ap, ◌∙◌, true≢false, ◌⊎◌, IsTrue, Result, Ok, Err, OnOk, IfOk, subst, ℕ, slice_get, Some, None, Contains, arith, codes, zero, suc, ◌+◌, take, length, append_assoc, add-zero}
-use Rattle.std.specs.Ordering.{is_eq, match_ordering}
-use Rattle.std.specs.List.{list_any}
-use Rattle.std.specs.List.Sorted.{IsPermutation}
-use Rattle.std.proofs.lemmas.Bool.{and_parts, or_parts, not-true, cases_Bool}
-use Rattle.std.proofs.lemmas.Cmp.{tied_itself}
+use Rattle.std.proofs.{lemmas.Bool.{and_parts, or_parts, not-true, cases_Bool}, lemmas.Option.{slice_get_within, get_or_from_slice_get}}
 use Rattle.std.proofs.lemmas.List.Sorted.{IsPermutation-refl, IsPermutation-sym, IsPermutation-trans, IsPermutation-cons, IsPermutation-middle, IsPermutation-append, IsPermutation-append_right, list_any-IsPermutation, Contains-permutation, length_permutation}
-use Rattle.sqlite_value.specs.declared.value.Value.TheVariants.{Int}
-use Rattle.sqlite_value.specs.Order.{Row, value_cmp}
-use Rattle.sqlite_value.proofs.OrderLemmas.{value_cmp_total}
-use Rattle.sqlite_trees.specs.Tree.{rowid, has_rowid, put_row, without_rowid}
-use Rattle.sqlite_trees.specs.View.{IsShaped}
+use Rattle.sqlite_value.{specs.{declared.value.Value.TheVariants.Int, Order.{Row, value_cmp}}, proofs.OrderLemmas.value_cmp_total}
+use Rattle.sqlite_trees.{specs.{Tree.{rowid, has_rowid, put_row, without_rowid}, View.IsShaped}, proofs.TreeLemmas.{IsTable-put_row, all-put_row}}
 use Rattle.sqlite_trees.proofs.ListLemmas.{filter_all, filter_same, all_of, ascending-filter, all-filter}
-use Rattle.sqlite_trees.proofs.TreeLemmas.{IsTable-put_row, all-put_row}
-use Rattle.sqlite_rules.specs.Lists.{Has}
-use Rattle.sqlite_rules.specs.Edit.{id_in, put_all, without_all, is_taken, are_fresh, have_rowids}
-use Rattle.sqlite_rules.proofs.ListLemmas.{all_has, all_from, some_has, some_from, has_filtered, has_kept, has_contained, contains_had}
-use Rattle.sqlite_rules.proofs.TableLemmas.{int_is}
-use Rattle.sqlite_rules.proofs.PlaceLemmas.{tied_same}
+use Rattle.sqlite_rules.{specs.{Lists.Has, Edit.{id_in, put_all, without_all, is_taken, are_fresh, have_rowids}}, proofs.TableLemmas.int_is}
+use Rattle.sqlite_rules.proofs.{ListLemmas.{all_has, all_from, some_has, some_from, has_filtered, has_kept, has_contained, contains_had}, PlaceLemmas.tied_same}
 use Rattle.sqlite.specs.State.{State, Shows, IsUnchanged, IsRolledBack, KeepsCommit, Survives, Shown, ShowsRows, FailsToQuery, FailsToShow, IsNotRun, CommitsShowing}
-use Rattle.office_rows.specs.Stored.{HasRows, StoresRows}
-use Rattle.sqlite.proofs.StateLemmas.{survives_then}
-use Rattle.office_rows.specs.Rows.{Rows, Partner, Setting}
-use Rattle.sqlite.specs.Effect.{Database}
-use Rattle.office_rows.specs.Steps.{Steps, Turns}
-use Rattle.sqlite.specs.declared.error.Error.{Error}
-use Rattle.sqlite.specs.Clock.{timed}
-use Rattle.sqlite.specs.Listing.{understood}
-use Rattle.sqlite.proofs.Callers.{IsPlain, command_of, statement_of}
-use Rattle.sqlite.specs.Command.TheVariants.{CreateTable}
-use Rattle.sqlite.specs.Compile.{table_defined_by}
-use Rattle.sqlite_tied.specs.Compute.{everything}
+use Rattle.sqlite.specs.{Effect.Database, declared.error.Error.Error, Clock.timed, Listing.understood, Command.TheVariants.CreateTable}
+use Rattle.sqlite.{specs.Compile.table_defined_by, proofs.{StateLemmas.survives_then, Callers.{IsPlain, command_of, statement_of}}}
+use Rattle.office_rows.specs.{Stored.{HasRows, StoresRows}, Rows.{Rows, Partner, Setting}, Steps.{Steps, Turns}}
 use Rattle.office_rows.specs.Tables.{partner_table, interchange_table, visit_table, place_table, listing_table, setting_table, block_table, no_schema, schema_of}
-use Rattle.std.proofs.lemmas.List.{take_more}
-use Rattle.std.proofs.lemmas.Option.{slice_get_within, get_or_from_slice_get}
+use Rattle.office_rows.specs.Opening.{partners_from, setting_row, settings_named, with_partners, with_settings, with_blocks}
+use Rattle.sqlite_tied.specs.Compute.{everything}
 use Rattle.edi_messages.specs.declared.codes.PartnerKind.{PartnerKind}
 use Rattle.yard_core.specs.declared.plan.Block.{Block}
-use Rattle.office_rows.specs.Opening.{partners_from, setting_row, settings_named, with_partners, with_settings, with_blocks}
 use Rattle.sqlite_trees.specs.declared.store.Shape.TheVariants as shape
 
 -- ==== EditLemmas: What one edit does to the rows of a table, in any order.

@@ -1,33 +1,17 @@
 -- Where the lines of the vessels' lists are said to stand.
+use Rattle.std.specs.{Prelude.{OnErr, ◌&&◌, ◌==◌, slice_get, slice_set, string_bytes, find, reverse}, Str.bytes_eq, Map.lookup, Cmp.eq_by_cmp_equiv}
+use Rattle.std.{specs.{Ordering.eq_by_cmp, Slice.IsItemAt}, proofs.lemmas.Bool.{and_parts, eqb-true, eq-eqb}}
 use Rattle.std.proofs.Common.{◌≡◌, ℕ, ◌+◌, ◌<◌, zero, suc, List, [], ◌∷◌, ◌++◌, length, map, take, get_or, ◌⊎◌, Bool, true, false, cond, Option, None, Some, Result, Ok, Err, refl, sym, ap, ◌∙◌, arith, subst, inl, inr, option_map, Bor}
-use Rattle.std.specs.Prelude.{OnErr, ◌&&◌, ◌==◌, slice_get, slice_set, string_bytes, find, reverse}
-use Rattle.std.specs.Str.{bytes_eq}
-use Rattle.std.specs.Map.{lookup}
-use Rattle.std.proofs.lemmas.Bool.{and_parts, eqb-true, eq-eqb}
 use Rattle.std.proofs.lemmas.Option.{same_Some, none-some, slice_get-get_or, slice_get-map, slice_get_past}
-use Rattle.std.specs.Cmp.{eq_by_cmp_equiv}
-use Rattle.std.specs.Ordering.{eq_by_cmp}
-use Rattle.box6346.specs.declared.box_number.BoxNumber.{BoxNumber}
-use Rattle.edi_messages.specs.Purposes.{CallContent}
-use Rattle.edi_messages.specs.Owned.{call_content}
-use Rattle.edi_messages.specs.declared.call.Call.{Call}
-use Rattle.terminal_core.specs.declared.lines.Listing.{Listing}
-use Rattle.terminal_core.specs.declared.lines.Side.{Side}
-use Rattle.terminal_core.specs.declared.lines.Side.TheVariants.{Load, Discharge}
-use Rattle.terminal_core.specs.State.{LineContent, LineKey, line_key, side_code, is_open_visit, is_visit_of}
-use Rattle.terminal_core.specs.Listings.{key_of, line_content, line_entry, lines_of, is_line, NoneBefore, IsFirstAt}
-use Rattle.terminal_core.specs.LineIndexes.{CallIndexes, AllIndexes, is_call, is_key, indexes_of, index_by, index_in, is_same_line, SameIndexes, NotesIndex, AreNoted}
-use Rattle.terminal_core.proofs.Open.{same_bytes, same_self}
-use Rattle.terminal_core.proofs.Lined.{order, keys_total, same_key, line_tied, line_none, read_at}
 use Rattle.std.proofs.lemmas.List.{take_more, length-take-le, map-append, reverse-append, length-map}
-use Rattle.terminal_core.specs.Restoring.{AreOnce}
-use Rattle.terminal_core.proofs.Indexed.{at_most_one, pushed_at, mapped_at, next_rows}
-use Rattle.std.specs.Slice.{IsItemAt}
-use Rattle.terminal_core.specs.declared.visits.Departure.{Departure}
-use Rattle.terminal_core.specs.declared.visits.Visit.{Visit}
-use Rattle.terminal_core.specs.Rows.{VisitContent, visit_content}
-use Rattle.terminal_core.specs.Step.{closed_visit}
-use Rattle.terminal_core.specs.Index.{AreLastIndexed, AreFound}
+use Rattle.box6346.specs.declared.box_number.BoxNumber.{BoxNumber}
+use Rattle.edi_messages.specs.{Purposes.CallContent, Owned.call_content, declared.call.Call.Call}
+use Rattle.terminal_core.specs.{declared.lines.Listing.Listing, declared.lines.Side.Side, declared.lines.Side.TheVariants.{Load, Discharge}, Restoring.AreOnce}
+use Rattle.terminal_core.specs.{State.{LineContent, LineKey, line_key, side_code, is_open_visit, is_visit_of}, declared.visits.Departure.Departure}
+use Rattle.terminal_core.specs.{Listings.{key_of, line_content, line_entry, lines_of, is_line, NoneBefore, IsFirstAt}, declared.visits.Visit.Visit}
+use Rattle.terminal_core.specs.LineIndexes.{CallIndexes, AllIndexes, is_call, is_key, indexes_of, index_by, index_in, is_same_line, SameIndexes, NotesIndex, AreNoted}
+use Rattle.terminal_core.{specs.{Rows.{VisitContent, visit_content}, Step.closed_visit, Index.{AreLastIndexed, AreFound}}, proofs.Open.{same_bytes, same_self}}
+use Rattle.terminal_core.proofs.{Lined.{order, keys_total, same_key, line_tied, line_none, read_at}, Indexed.{at_most_one, pushed_at, mapped_at, next_rows}}
 use Rattle.terminal_core.proofs.Whole.{content_at}
 use Rattle.std.specs.FinMap as finite_map
 

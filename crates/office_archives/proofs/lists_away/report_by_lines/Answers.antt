@@ -1,15 +1,9 @@
 use Rattle.std.proofs.Common.{◌≡◌, ℕ, List, Option, option_map, string_bytes, refl, sym, subst}
-use Rattle.edi_messages.specs.Owned.{call_content}
-use Rattle.edi_messages.specs.Purposes.{CallContent}
-use Rattle.edi_messages.specs.declared.call.Call.{Call}
-use Rattle.terminal_core.specs.State.{TerminalState}
-use Rattle.terminal_core.specs.declared.lines.Side.{Side}
-use Rattle.office_reports.specs.Work.{IsWorkReport}
-use Rattle.office_reports.specs.declared.query.Query.{Query}
+use Rattle.edi_messages.specs.{Owned.call_content, Purposes.CallContent, declared.call.Call.Call}
+use Rattle.terminal_core.specs.{State.TerminalState, declared.lines.Side.Side}
+use Rattle.office_reports.specs.{Work.IsWorkReport, declared.query.Query.Query, Lists.IsListReport}
+use Rattle.office_archives.specs.{ListsAway.TellsList, Telling.IsOfList}
 use Rattle.office_reports.specs.declared.query.Query.TheVariants as query
-use Rattle.office_reports.specs.Lists.{IsListReport}
-use Rattle.office_archives.specs.ListsAway.{TellsList}
-use Rattle.office_archives.specs.Telling.{IsOfList}
 use Rattle.office_archives.proofs.lists_away.report_by_lines.Goals as goal
 
 work_told : (state : TerminalState) (asked : Query) (call : CallContent) (side : Side) (found : Option (List ℕ)) → IsOfList asked call side → (work : Call) (on : Side) → asked ≡ query.Work work on → IsWorkReport state call side found → TellsList state asked found

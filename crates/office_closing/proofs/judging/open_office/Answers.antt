@@ -1,17 +1,11 @@
-use Rattle.std.proofs.Common.{◌≡◌, inl, inr, sym, ap, subst, ◌∙◌, arith}
-use Rattle.std.proofs.lemmas.Result.{err_from_is_err_and}
-use Rattle.sqlite.specs.Held.{state}
-use Rattle.sqlite.specs.State.{HasCleanDisk}
-use Rattle.office_loading.specs.Tables.{LoadsOwn}
+use Rattle.std.proofs.{Common.{◌≡◌, inl, inr, sym, ap, subst, ◌∙◌, arith}, lemmas.Result.err_from_is_err_and}
+use Rattle.sqlite.specs.{Held.state, State.HasCleanDisk}
+use Rattle.office_loading.specs.{Tables.{LoadsOwn, FailsToLoadOwn}, Closed.{ClosedContent, closed_content}}
 use Rattle.office_rows.specs.Stored.{HasRows}
 use Rattle.office_admission.specs.Setups.{setup_content}
-use Rattle.office_loading.specs.Closed.{ClosedContent, closed_content}
-use Rattle.office_loading.specs.Tables.{FailsToLoadOwn, HasHighNext}
 use Rattle.office_tables.specs.Faults.{IsOfStoreOr}
-use Rattle.office_closing.specs.Refusing.{IsUnopened}
-use Rattle.office_closing.specs.Register.{closed_by}
+use Rattle.office_closing.{specs.{Refusing.{HaveNoNexts, IsUnopened}, Register.{RegisterContent, closed_by, register_content}}, proofs.PlanLemmas.this_more}
 use Rattle.office_closing.proofs.JudgeLemmas.{failed, passed, then_failed}
-use Rattle.office_closing.proofs.PlanLemmas.{this_more}
 use Rattle.office_closing.proofs.judging.open_office.Goals as goal
 
 pub returns-in_err-nexts-clause-rows_read : goal.returns-in_err-nexts-clause-rows_read
@@ -37,6 +31,7 @@ returns-clause-opened g c clean register_clean =
           subst (λ k. LoadsOwn k (state g.S.Store c.args.conn.now).now (setup_content c.in_ok-setup.setup) c.in_ok-setup.terminal) c.in_ok-closed.ensures
           (c.in_ok-setup.ensures.loaded office_clean schema);
       nexts = λ rows has. c.in_ok-nexts.ensures.answer clean rows (subst (HasRows rows) (sym (c.in_ok-setup.ensures.read.unchanged office_clean).0.now_is) has);
+      of_day = c.in_ok-nexts.ensures.of_day;
     }
 
 -- ---- why it is not opened
@@ -66,5 +61,6 @@ returns-in_err-nexts-clause-fault g c clean register_clean =
     let db = (state g.S.Store c.args.conn.now).now in
     let office_clean : HasCleanDisk (state g.S.Store c.office_of.new.conn) = omega (arith, c.in_err-nexts.ensures.read.survives.clean, clean) in
     rw (p.1, p.2) (λ rows held has has_register sound.
-    inr (this_more c.args.conn_is (IsOfStoreOr (HasHighNext rows.partners)) (IsUnopened held rows db) (λ of so. inr so) _
+    let told = c.in_ok-told.ensures.registered register_clean held has_register sound in
+    inr (this_more c.args.conn_is (IsOfStoreOr (HaveNoNexts (register_content c.in_ok-told.told) rows)) (IsUnopened held rows db) (λ of so. inr (subst (λ (r : RegisterContent). IsOfStoreOr (HaveNoNexts r rows) of) told so)) _
     (c.in_err-nexts.ensures.fault clean rows (subst (HasRows rows) (sym (c.in_ok-setup.ensures.read.unchanged office_clean).0.now_is) has))))

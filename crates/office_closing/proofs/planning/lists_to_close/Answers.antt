@@ -1,9 +1,6 @@
 use Rattle.std.proofs.Common.{map, refl, ap, subst}
 use Rattle.office_parts.specs.Named.{named_list_content}
-use Rattle.office_closing.specs.Lists.{list_content}
-use Rattle.office_closing.specs.Copies.{office_content}
-use Rattle.office_closing.specs.Planning.{AreInBoth}
-use Rattle.office_closing.proofs.ClearLemmas.{done_in, registers_for}
+use Rattle.office_closing.{specs.{Lists.list_content, Copies.office_content, Planning.AreInBoth}, proofs.ClearLemmas.registers_for}
 use Rattle.office_closing.proofs.planning.lists_to_close.Goals as goal
 
 pub returns : goal.returns
@@ -16,7 +13,7 @@ returns c =
     let both = subst (λ l. AreInBoth (map list_content l) (map list_content c.deref-3.result.now) (map list_content c.in_ok-gone.gone.items)) c.deref-2.ensures.value c.in_ok-gone.ensures in
     record {
       done = done;
-      are_done = done_in own.terminal (map named_list_content c.args.named.now) at at c.lines.result.now done c.lines.ensures.told c.lines.ensures.once refl c.in_ok-done.ensures;
+      are_done = c.in_ok-done.ensures;
       all = registers_for own copy at done all _ all (ap (map list_content) c.deref.ensures.value) refl c.in_ok-all.ensures;
       gone = subst (λ l. AreInBoth done (map list_content l) (map list_content c.in_ok-gone.gone.items)) c.deref-3.ensures.value both;
     }

@@ -1,10 +1,7 @@
-use Rattle.std.proofs.Common.{◌≡◌, ◌+◌, ◌<◌, List, get_or, length, string_bytes, sym, subst, ◌∙◌, arith}
-use Rattle.std.proofs.lemmas.Result.{err_from_is_err_and}
-use Rattle.office_admission.specs.declared.setup.Account.{Account}
-use Rattle.office_admission.specs.Setups.{account_contents}
+use Rattle.std.proofs.{Common.{◌≡◌, ◌+◌, ◌<◌, List, get_or, length, string_bytes, sym, subst, ◌∙◌, arith}, lemmas.Result.err_from_is_err_and}
+use Rattle.office_admission.specs.{declared.setup.Account.Account, Setups.account_contents}
 use Rattle.office_tables.proofs.WritesLemmas.{of_store_weaker}
-use Rattle.office_desk.specs.Causes.{LacksNumbers, LacksSome}
-use Rattle.office_desk.proofs.PageLemmas.{some_lacks, told_of_none, told_one}
+use Rattle.office_desk.{specs.Causes.{LacksNumbers, LacksSome}, proofs.PageLemmas.{some_lacks, told_of_none, told_one}}
 use Rattle.office_desk.proofs.accounts.tell_partner.Goals as goal
 
 pub returns-in_ok-partner_report-in-Some-clause-told : goal.returns-in_ok-partner_report-in-Some-clause-told

@@ -1,7 +1,7 @@
 use Rattle.std.proofs.Common.{◌≡◌, ◌++◌, length, string_bytes}
+use Rattle.office_pages.specs.Pages.{body_bytes}
 use denote.Text.{Utf8}
 use denote.Shadow.{shadow}
-use Rattle.office_pages.specs.Pages.{body_bytes}
 use Rattle.office_pages.proofs.body.push_body.Given as goal
 
 abbrev pub invariant-lines : goal.invariant-lines

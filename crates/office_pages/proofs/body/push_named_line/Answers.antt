@@ -1,10 +1,6 @@
-use Rattle.std.proofs.Common.{◌≡◌, ◌++◌, None, codes, lit<, rules, string_bytes}
-use Rattle.std.specs.List.{join_by}
-use Rattle.std.proofs.lemmas.Result.{on_ok_weaker}
+use Rattle.std.{specs.List.join_by, proofs.{Common.{◌≡◌, ◌++◌, None, codes, lit<, rules, string_bytes}, lemmas.Result.on_ok_weaker}}
 use Rattle.std.proofs.lemmas.Str.Pattern.{split_parts}
-use Rattle.office_pages.specs.Pages.{named_view}
-use Rattle.office_pages.specs.Words.{words}
-use Rattle.office_pages.proofs.Splitting.{pieces_end, pieces_more}
+use Rattle.office_pages.{specs.{Pages.named_view, Words.words}, proofs.Splitting.{pieces_end, pieces_more}}
 use Rattle.office_pages.proofs.body.push_named_line.Goals as goal
 
 pub words-preserved : goal.words-preserved

@@ -1,9 +1,7 @@
-use Rattle.std.proofs.Common.{◌≡◌, ◌++◌, codes, length, string_bytes}
-use Rattle.std.specs.List.{join_by}
+use Rattle.std.{specs.List.join_by, proofs.Common.{◌≡◌, ◌++◌, codes, length, string_bytes}}
+use Rattle.office_pages.specs.{Pages.named_view, Words.words}
 use denote.Text.{Utf8}
 use denote.Shadow.{shadow}
-use Rattle.office_pages.specs.Pages.{named_view}
-use Rattle.office_pages.specs.Words.{words}
 use Rattle.office_pages.proofs.body.push_named_line.Given as goal
 
 abbrev pub invariant-words : goal.invariant-words

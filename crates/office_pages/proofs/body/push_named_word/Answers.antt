@@ -1,10 +1,7 @@
-use Rattle.std.proofs.Common.{◌≡◌, ◌++◌, true, ap, sym, ◌∙◌, codes, string_bytes}
-use Rattle.std.specs.Prelude.{is_ok}
-use Rattle.std.proofs.lemmas.Result.{on_ok_weaker}
+use Rattle.std.{specs.Prelude.is_ok, proofs.{Common.{◌≡◌, ◌++◌, true, ap, sym, ◌∙◌, codes, string_bytes}, lemmas.Result.on_ok_weaker}}
 use Rattle.box6346.specs.ContainerNumber.{number_of as box_of}
 use Rattle.office_reports.specs.Fields.{field_text}
-use Rattle.office_pages.specs.Addresses.{part}
-use Rattle.office_pages.proofs.Shown.{if_pushed, onto, named_number}
+use Rattle.office_pages.{specs.Addresses.part, proofs.Shown.{if_pushed, onto, named_number}}
 use Rattle.office_pages.proofs.body.push_named_word.Goals as goal
 
 pub returns : goal.returns

@@ -1,7 +1,5 @@
 use Rattle.std.proofs.Common.{◌++◌, ap, ◌∙◌, string_bytes}
-use Rattle.office_pages.specs.Pages.{word_view}
-use Rattle.office_pages.specs.Words.{texts_of}
-use Rattle.office_pages.proofs.Shown.{next}
+use Rattle.office_pages.{specs.{Pages.word_view, Words.texts_of}, proofs.Shown.next}
 use Rattle.office_pages.proofs.body.push_placed_line.Goals as goal
 
 pub loop-place-preserved : goal.loop-place-preserved

@@ -1,7 +1,5 @@
-use Rattle.std.proofs.Common.{◌≡◌, ◌++◌, flat_map, string_bytes}
-use Rattle.std.specs.List.{range_with_len}
-use Rattle.office_pages.specs.Pages.{word_view}
-use Rattle.office_pages.specs.Words.{texts_of}
+use Rattle.std.{specs.List.range_with_len, proofs.Common.{◌≡◌, ◌++◌, flat_map, string_bytes}}
+use Rattle.office_pages.specs.{Pages.word_view, Words.texts_of}
 use Rattle.office_pages.proofs.body.push_placed_line.Given as goal
 
 abbrev pub invariant-loop-place : goal.invariant-loop-place

@@ -1,9 +1,6 @@
-use Rattle.std.proofs.Common.{◌++◌, ap, ◌∙◌, codes, string_bytes}
-use Rattle.std.proofs.lemmas.Result.{on_ok_weaker}
+use Rattle.std.proofs.{Common.{◌++◌, ap, ◌∙◌, codes, string_bytes}, lemmas.Result.on_ok_weaker}
 use Rattle.office_reports.specs.Fields.{field_text}
-use Rattle.office_pages.specs.Fixed.{head, top}
-use Rattle.office_pages.specs.Pages.{again, page_head}
-use Rattle.office_pages.proofs.Shown.{if_pushed, onto}
+use Rattle.office_pages.{specs.{Fixed.{head, top}, Pages.{again, page_head}}, proofs.Shown.{if_pushed, onto}}
 use Rattle.office_pages.proofs.layout.push_head.Goals as goal
 
 pub returns : goal.returns

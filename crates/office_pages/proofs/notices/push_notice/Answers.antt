@@ -1,8 +1,5 @@
-use Rattle.std.proofs.Common.{◌++◌, sym, ap, ◌∙◌, codes, string_bytes}
-use Rattle.std.proofs.lemmas.Result.{on_ok_weaker}
-use Rattle.office_pages.specs.Addresses.{address_of_one, container_address}
-use Rattle.office_pages.specs.Pages.{link, notice_view}
-use Rattle.office_pages.proofs.Shown.{if_pushed, three}
+use Rattle.std.proofs.{Common.{◌++◌, sym, ap, ◌∙◌, codes, string_bytes}, lemmas.Result.on_ok_weaker}
+use Rattle.office_pages.{specs.{Addresses.{address_of_one, container_address}, Pages.{link, notice_view}}, proofs.Shown.{if_pushed, three}}
 use Rattle.office_pages.proofs.notices.push_notice.Goals as goal
 
 pub returns-in_ok-push_number_link-in-CheckDigit : goal.returns-in_ok-push_number_link-in-CheckDigit

@@ -1,8 +1,7 @@
-use Rattle.std.proofs.Common.{◌≡◌, ◌≢◌, ℕ, List, Option, option_map, refl, ◌∙◌}
-use Rattle.std.proofs.lemmas.Result.{IfOk-weaker}
+use Rattle.std.proofs.{Common.{◌≡◌, ◌≢◌, ℕ, List, Option, option_map, refl, ◌∙◌}, lemmas.Result.IfOk-weaker}
 use Rattle.office_reports.specs.declared.query.Query.{Query}
-use Rattle.office_reports.specs.declared.query.Query.TheVariants as query
 use Rattle.office_pages.specs.Pages.{page_bytes, text_page}
+use Rattle.office_reports.specs.declared.query.Query.TheVariants as query
 use Rattle.office_pages.proofs.pages.page.Goals as goal
 
 -- the page of a report that is no picture shows its text

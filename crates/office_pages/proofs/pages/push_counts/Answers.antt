@@ -1,9 +1,5 @@
-use Rattle.std.proofs.Common.{◌≡◌, ◌++◌, None, flat_map, lit<, rules, string_bytes}
-use Rattle.std.proofs.lemmas.Result.{on_ok_weaker}
-use Rattle.std.proofs.lemmas.Str.Pattern.{split_parts}
-use Rattle.office_pages.specs.Pages.{count_view}
-use Rattle.office_pages.specs.Words.{lines}
-use Rattle.office_pages.proofs.Splitting.{counts_end, counts_more}
+use Rattle.std.proofs.{Common.{◌≡◌, ◌++◌, None, flat_map, lit<, rules, string_bytes}, lemmas.Result.on_ok_weaker, lemmas.Str.Pattern.split_parts}
+use Rattle.office_pages.{specs.{Pages.count_view, Words.lines}, proofs.Splitting.{counts_end, counts_more}}
 use Rattle.office_pages.proofs.pages.push_counts.Goals as goal
 
 pub lines-preserved : goal.lines-preserved

@@ -1,8 +1,7 @@
 use Rattle.std.proofs.Common.{◌≡◌, ◌++◌, flat_map, length, string_bytes}
+use Rattle.office_pages.specs.{Pages.count_view, Words.lines}
 use denote.Text.{Utf8}
 use denote.Shadow.{shadow}
-use Rattle.office_pages.specs.Pages.{count_view}
-use Rattle.office_pages.specs.Words.{lines}
 use Rattle.office_pages.proofs.pages.push_counts.Given as goal
 
 abbrev pub invariant-lines : goal.invariant-lines

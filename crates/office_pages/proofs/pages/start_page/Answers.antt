@@ -1,9 +1,5 @@
 use Rattle.std.proofs.Common.{◌++◌, false, ap, ◌∙◌, codes, flat_map, string_bytes}
-use Rattle.office_pages.specs.Fixed.{foot}
-use Rattle.office_pages.specs.Pages.{count_view, page_head}
-use Rattle.office_pages.specs.Titles.{start_title}
-use Rattle.office_pages.specs.Words.{lines}
-use Rattle.office_pages.proofs.Shown.{behind}
+use Rattle.office_pages.{specs.{Fixed.foot, Pages.{count_view, page_head}, Titles.start_title, Words.lines}, proofs.Shown.behind}
 use Rattle.office_pages.proofs.pages.start_page.Goals as goal
 
 pub returns : goal.returns

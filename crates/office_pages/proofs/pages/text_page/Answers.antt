@@ -1,7 +1,5 @@
 use Rattle.std.proofs.Common.{◌++◌, ap, ◌∙◌, codes, option_map, string_bytes}
-use Rattle.office_pages.specs.Fixed.{foot}
-use Rattle.office_pages.specs.Pages.{asks_again, below, beside, body_bytes, page_head, second_of, second_view}
-use Rattle.office_pages.specs.Titles.{title}
+use Rattle.office_pages.specs.{Fixed.foot, Pages.{asks_again, below, beside, body_bytes, page_head, second_of, second_view}, Titles.title}
 use Rattle.office_pages.proofs.Shown.{behind}
 use Rattle.office_pages.proofs.pages.text_page.Goals as goal
 

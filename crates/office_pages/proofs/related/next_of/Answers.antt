@@ -1,8 +1,5 @@
-use Rattle.std.proofs.Common.{◌≡◌, None, Some, ap, ◌∙◌}
-use Rattle.std.proofs.lemmas.Result.{IfOk-weaker}
-use Rattle.office_pages.specs.Pages.{next_behind, next_of}
-use Rattle.office_pages.specs.Words.{without_front}
-use Rattle.office_pages.proofs.Shown.{stripped}
+use Rattle.std.proofs.{Common.{◌≡◌, None, Some, ap, ◌∙◌}, lemmas.Result.IfOk-weaker}
+use Rattle.office_pages.{specs.{Pages.{next_behind, next_of}, Words.without_front}, proofs.Shown.stripped}
 use Rattle.office_pages.proofs.related.next_of.Goals as goal
 
 pub returns-in-Some : goal.returns-in-Some

@@ -1,7 +1,5 @@
-use Rattle.std.proofs.Common.{◌++◌, codes, string_bytes}
-use Rattle.std.proofs.lemmas.Result.{on_ok_weaker}
-use Rattle.office_pages.specs.Pages.{links_beside}
-use Rattle.office_pages.proofs.Shown.{if_pushed, three}
+use Rattle.std.proofs.{Common.{◌++◌, codes, string_bytes}, lemmas.Result.on_ok_weaker}
+use Rattle.office_pages.{specs.Pages.links_beside, proofs.Shown.{if_pushed, three}}
 use Rattle.office_pages.proofs.related.push_beside.Goals as goal
 
 pub returns : goal.returns

@@ -1,6 +1,5 @@
 use Rattle.std.proofs.Common.{◌-◌, ◌++◌, ap, ◌∙◌, string_bytes}
-use Rattle.office_pages.specs.Pages.{numbered_reply}
-use Rattle.office_pages.proofs.Shown.{next}
+use Rattle.office_pages.{specs.Pages.numbered_reply, proofs.Shown.next}
 use Rattle.office_pages.proofs.related.push_last_replies.Goals as goal
 
 pub loop-back-preserved : goal.loop-back-preserved

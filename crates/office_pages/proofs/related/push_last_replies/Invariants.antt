@@ -1,5 +1,4 @@
-use Rattle.std.proofs.Common.{◌≡◌, ◌-◌, ◌++◌, flat_map, string_bytes}
-use Rattle.std.specs.List.{range_with_len}
+use Rattle.std.{specs.List.range_with_len, proofs.Common.{◌≡◌, ◌-◌, ◌++◌, flat_map, string_bytes}}
 use Rattle.office_pages.specs.Pages.{numbered_reply}
 use Rattle.office_pages.proofs.related.push_last_replies.Given as goal
 

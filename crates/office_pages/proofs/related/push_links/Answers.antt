@@ -1,7 +1,5 @@
-use Rattle.std.proofs.Common.{◌++◌, sym, ap, ◌∙◌, codes, string_bytes}
-use Rattle.std.proofs.lemmas.Result.{on_ok_weaker}
-use Rattle.office_pages.specs.Addresses.{address_of_one}
-use Rattle.office_pages.specs.Pages.{contrl_beside, link_beside, links_beside, partner_beside, reply_beside, ticket_beside}
+use Rattle.std.proofs.{Common.{◌++◌, sym, ap, ◌∙◌, codes, string_bytes}, lemmas.Result.on_ok_weaker}
+use Rattle.office_pages.specs.{Addresses.address_of_one, Pages.{contrl_beside, link_beside, links_beside, partner_beside, reply_beside, ticket_beside}}
 use Rattle.office_pages.proofs.Shown.{three}
 use Rattle.office_pages.proofs.related.push_links.Goals as goal
 

@@ -1,7 +1,5 @@
-use Rattle.std.proofs.Common.{◌++◌, ap, ◌∙◌, codes, string_bytes}
-use Rattle.std.proofs.lemmas.Result.{on_ok_weaker}
-use Rattle.office_pages.specs.Addresses.{work_address}
-use Rattle.office_pages.specs.Pages.{link_beside}
+use Rattle.std.proofs.{Common.{◌++◌, ap, ◌∙◌, codes, string_bytes}, lemmas.Result.on_ok_weaker}
+use Rattle.office_pages.specs.{Addresses.work_address, Pages.link_beside}
 use Rattle.office_pages.proofs.related.push_work.Goals as goal
 
 pub returns : goal.returns

@@ -1,8 +1,5 @@
 use Rattle.std.proofs.Common.{sym, ap, ◌∙◌, encode_utf8_all}
-use Rattle.office_reports.specs.Yard.{StandsAt, yard_text}
-use Rattle.office_reports.specs.Export.{export_text}
-use Rattle.office_reports.specs.Lists.{HasLine, list_found}
-use Rattle.office_reports.proofs.Standings.{one_list}
+use Rattle.office_reports.{specs.{Yard.{StandsAt, yard_text}, Export.export_text, Lists.{HasLine, list_found}}, proofs.Standings.one_list}
 use Rattle.office_reports.proofs.laws.reports_are_one.Goals as goal
 
 pub returns-clause-yard : goal.returns-clause-yard

@@ -1,5 +1,4 @@
-use Rattle.std.proofs.Common.{◌≡◌, ◌++◌, flat_map}
-use Rattle.std.specs.Map.{values_of}
+use Rattle.std.{specs.Map.values_of, proofs.Common.{◌≡◌, ◌++◌, flat_map}}
 use Rattle.office_reports.specs.Export.{IsBetweenRecords, written_rows, standing_record}
 use Rattle.office_reports.proofs.yard.write_standings.Given as goal
 
