@@ -1,6 +1,6 @@
 -- What is taken, where it is known what partner it is of and that it is an interchange.
 use Rattle.std.specs.{Result.{MatchResult, result_err}, Prelude.{◌&&◌, ◌||◌, slice_get}, List.find, Option.{option_and_then, option_map_or}, Str.bytes_eq}
-use Rattle.std.proofs.Common.{◌≡◌, ℕ, suc, ◌==◌, true, false, cond, List, [], ◌∷◌, length, Some, Result, Ok, Err, OnOk, IfOk, eq-eqb, refl, sym, ap, subst, ◌∙◌, ◌≤◌, ◌++◌, Bool, Option, None, map, All, arith, not, codes, is_none, zero, ◌<◌}
+use Rattle.std.proofs.Common.{◌≡◌, ℕ, suc, ◌==◌, true, false, cond, List, [], ◌∷◌, length, Some, Result, Ok, Err, OnOk, IfOk, eq-eqb, refl, sym, ap, subst, ◌∙◌, ◌≤◌, ◌++◌, Bool, Option, None, All, arith, not, codes, is_none, zero, ◌<◌}
 use Rattle.std.proofs.{lemmas.List.{append-nil, length-map}, lemmas.Option.none-some, lemmas.List.Elements.{All-map, All-weaker}, lemmas.Bool.and_parts}
 use Rattle.std.proofs.lemmas.Slice.Eq.{bytes_eq-Decides}
 use Rattle.edi_syntax.specs.{Moments.CivilMoment, Text.Content, Interchange.segments_in, Envelope.{header_of, messages_of}, Header.preparation}
@@ -25,8 +25,6 @@ use Rattle.office_admission.specs.Taking.{MachineState, machine_of, rejection_by
 use Rattle.office_admission.specs.Readings.{reading_by, unweighed_entry, unweighed_order, unweighed_line, unweighed_reading, is_list_replaced, applies_first, FirstVersionRejectsByItsFaults}
 use Rattle.office_admission.proofs.{Contents.{same_parties, same_kinds}, Adding.{admitted_still, admitted_told}}
 use Rattle.edi_messages.specs.declared.message.MessageFault.TheVariants as message
-
--- ==== Takings: What is taken, where it is known what partner it is of and that it is an interchange.
 
 -- ---- a machine and its set-up
 

@@ -175,9 +175,6 @@ or_parts : (a b : Bool) → (a || b) ≡ true → (a ≡ true) ⊎ (b ≡ true)
 or_parts true b e = inl refl
 or_parts false b e = inr e
 
-none_is : (n : ℕ) → n ≤ 0 → n ≡ 0
-none_is n h = omega (arith, h)
-
 -- the numbers from that one on
 abbrev pub AreFrom : (before : ℕ → ℕ) → List Numbers → Type 0
 AreFrom before numbers = AllByRecursion (λ (n : Numbers). n.from ≡ before n.partner) numbers

@@ -22,8 +22,6 @@ use Rattle.sqlite_trees.specs.{declared.error.StoreError.StoreError, declared.er
 use Rattle.office_loading.{specs.Tables.{FailsTable, ReadsTable}, proofs.VersionLemmas.same_rows}
 use Rattle.office_closing.specs.declared.register_reading.Later.TheVariants as later
 
--- ==== WriteTexts: What the texts mean that make the tables, and those that write.
-
 -- ---- tables
 
 abbrev pub create_archive : List ℕ

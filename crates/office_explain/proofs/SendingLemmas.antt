@@ -11,8 +11,6 @@ use Rattle.office_explain.specs.{Kinds.{is_of_order, may_send}, Blocks.{AreBlock
 use Rattle.office_explain.specs.{declared.explaining.Block.Block, declared.explaining.Told.Told, declared.explaining.Told.TheVariants.{Cut, Refused, Read}}
 use Rattle.office_explain.specs.{declared.partners.Partners.Partners, InOrder.InOrder}
 
--- ==== SendingLemmas: A message names no order of a sender's codes exactly if the fault that it is rejected for is of its type, its BGM or its code.
-
 abbrev is_order_fault : Option MessageFault → Bool
 is_order_fault fault = option_map_or is_of_order fault false
 
