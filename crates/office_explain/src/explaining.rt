@@ -23,7 +23,7 @@ pub enum Told {
     Read(Reading),
 }
 
-/// What is reported of an interchange of a file, as `Display` writes it in whole lines.
+/// What is reported of an interchange of a file. `Display` writes what follows its heading, in whole lines.
 #[derive(Drop)]
 pub struct Block<'a> {
     /// Its number in the file, from 1.

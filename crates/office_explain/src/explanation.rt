@@ -1,12 +1,13 @@
 //! What is printed of a whole file.
 ghost use Rattle.std.specs.Prelude.{◌≡◌, ◌++◌, IfOk, OnOk, string_bytes};
-ghost use Rattle.office_explain.specs.{Blocks.{AreBlocks, IsExplanation, Says, are_faultless, none_said}, Told.is_faultless};
-ghost use Rattle.office_explain.specs.Tallies.{EndsSo, advice_for, count_of, is_cut, is_faulty, is_refused, plural, tally_line, tally_said};
+ghost use Rattle.office_explain.specs.{Blocks.{AreBlocks, IsExplanation, Says, are_faultless, none_said}};
+ghost use Rattle.office_explain.specs.{Headings.ListsBlocks, Told.is_faultless};
+ghost use Rattle.office_explain.specs.Tallies.{advice_for, count_of, is_cut, is_faulty, is_refused, plural, tally_line, tally_said};
 
 use crate::explaining::{Block, explain_from};
+use crate::headings::push_block;
 use crate::partners::Partners;
 use std::alloc::{AllocError, Global};
-use std::fmt::Write;
 
 /// What is printed of a file.
 #[derive(Drop)]
@@ -66,11 +67,11 @@ fn text_of(alloc: Global, file: &[u8], blocks: &[Block<'_>]) -> Result<String, A
 
 /// The lines of the blocks, one after the other, and how many interchanges of the file fare how.
 fn block_lines(alloc: Global, blocks: &[Block<'_>]) -> Result<String, AllocError>
-    ensures { IfOk result (λ text. EndsSo (tally_said blocks.now) (string_bytes text)) }
+    ensures { IfOk result (λ text. ListsBlocks blocks.now (tally_said blocks.now) (string_bytes text)) }
 {
     let mut text = String::new(alloc);
-    for block in blocks {
-        write!(text, "{block}")?;
+    'all: for block in blocks {
+        push_block(alloc, &mut text, block)?;
     }
     push_tally(alloc, &mut text, blocks)?;
     Ok(text)
