@@ -1,9 +1,6 @@
 -- A text of digits has a digit at each position.
-use Rattle.std.proofs.Common.{◌≡◌, ℕ, ◌<◌, Bool, true, false, List, length, get_or, inl, inr}
-use Rattle.std.specs.Char.{is_ascii_digit}
-use Rattle.std.specs.List.{list_all}
-use Rattle.std.proofs.lemmas.List.Folds.{list_all_at}
-use Rattle.std.proofs.lemmas.Bool.{cases_Bool}
+use Rattle.std.{specs.{Char.is_ascii_digit, List.list_all}, proofs.Common.{◌≡◌, ℕ, ◌<◌, Bool, true, false, List, length, get_or, inl, inr}}
+use Rattle.std.proofs.{lemmas.List.Folds.list_all_at, lemmas.Bool.cases_Bool}
 
 contradicts : (b c : Bool) → b ≡ true → b ≡ false → c ≡ true
 contradicts b c holds fails = cc

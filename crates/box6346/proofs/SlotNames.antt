@@ -1,10 +1,7 @@
 -- A slot's name is read as the slot again.
-use Rattle.std.proofs.Common.{◌≡◌, ℕ, ◌+◌, ◌-◌, ◌*◌, ◌/◌, ◌%◌, ◌<◌, true, drop, refl, arith}
-use Rattle.std.specs.Char.{is_ascii_digit}
-use Rattle.std.specs.List.{list_all}
+use Rattle.std.{specs.{Char.is_ascii_digit, List.list_all}, proofs.Common.{◌≡◌, ℕ, ◌+◌, ◌-◌, ◌*◌, ◌/◌, ◌%◌, ◌<◌, true, drop, refl, arith}}
 use Rattle.std.proofs.lemmas.Bool.{and_from, le-leb}
-use Rattle.box6346.specs.declared.slot.Slot.{Slot}
-use Rattle.box6346.specs.SlotName.{IsNamed, NamesAreReadAgain, slot_of, slot_text, slot_at}
+use Rattle.box6346.specs.{declared.slot.Slot.Slot, SlotName.{IsNamed, NamesAreReadAgain, slot_of, slot_text, slot_at}}
 
 -- the three digits of a number below a thousand
 three_digits : (n : ℕ) → n < 1000 → 100 * (48 + n / 100 % 10 - 48) + 10 * (48 + n / 10 % 10 - 48) + (48 + n % 10 - 48) ≡ n

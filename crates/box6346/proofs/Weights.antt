@@ -1,9 +1,6 @@
 -- The weighted sum of a container number, one character at a time.
-use Rattle.std.proofs.Common.{◌≡◌, ℕ, ◌+◌, ◌*◌, ◌^◌, ◌%◌, ◌<◌, ◌≤◌, List, length, drop, get_or, arith, sym, ◌∙◌, ap}
-use Rattle.std.proofs.Math.Nat.{mod-eq_of_lt}
-use Rattle.std.proofs.Math.Pow.{pow_mono}
-use Rattle.std.proofs.lemmas.Nat.{mul-le}
-use Rattle.std.proofs.lemmas.List.{at_drop_more}
+use Rattle.std.proofs.{Common.{◌≡◌, ℕ, ◌+◌, ◌*◌, ◌^◌, ◌%◌, ◌<◌, ◌≤◌, List, length, drop, get_or, arith, sym, ◌∙◌, ap}, Math.Nat.mod-eq_of_lt, Math.Pow.pow_mono}
+use Rattle.std.proofs.{lemmas.Nat.mul-le, lemmas.List.at_drop_more}
 use Rattle.box6346.specs.NumberText.{weighted_sum, value_of}
 
 -- a character's share of the sum is small

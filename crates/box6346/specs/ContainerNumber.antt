@@ -1,9 +1,7 @@
 -- Container numbers (ISO 6346) as they are read.
 use Rattle.std.specs.Prelude.{ℕ, if◌then◌else◌, List, Result, Ok, Err}
-use Rattle.box6346.specs.NumberText.{has_form, is_checked}
-use Rattle.box6346.specs.declared.box_number.NumberFault.{NumberFault}
+use Rattle.box6346.specs.{NumberText.{has_form, is_checked}, declared.box_number.NumberFault.NumberFault, declared.box_number.BoxNumber.BoxNumber}
 use Rattle.box6346.specs.declared.box_number.NumberFault.TheVariants.{Form, CheckDigit}
-use Rattle.box6346.specs.declared.box_number.BoxNumber.{BoxNumber}
 
 -- the number with this text, or the first fault
 unfoldable pub number_of : List ℕ → Result BoxNumber NumberFault

@@ -1,8 +1,7 @@
 -- Container numbers (ISO 6346, container identification; annex A, the check digit).
 use Rattle.std.specs.Prelude.{ℕ, ◌+◌, ◌-◌, ◌*◌, ◌^◌, ◌%◌, Bool, ◌&&◌, ◌||◌, ◌==◌, if◌then◌else◌, List, [], ◌∷◌, length, take, drop, slice_index}
+use Rattle.std.specs.{Char.{is_ascii_uppercase, is_ascii_digit}, List.list_all}
 use Rattle.box6346.specs.Characters.{digit_zero, capital_a, capital_j, capital_u, capital_z}
-use Rattle.std.specs.Char.{is_ascii_uppercase, is_ascii_digit}
-use Rattle.std.specs.List.{list_all}
 
 -- the letters from A to Z count from 10 upwards, 11 and its multiples left out
 abbrev pub letter_values : List ℕ

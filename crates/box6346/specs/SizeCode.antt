@@ -1,11 +1,8 @@
 -- Size-type codes (ISO 6346) as they are read.
 use Rattle.std.specs.Prelude.{ℕ, ◌==◌, if◌then◌else◌, List, slice_index, Result, Ok, Err}
-use Rattle.box6346.specs.SizeText.{has_form, has_length}
-use Rattle.box6346.specs.declared.size_type.Length.{Length}
-use Rattle.box6346.specs.declared.size_type.Length.TheVariants.{Twenty, Forty}
-use Rattle.box6346.specs.declared.size_type.SizeFault.{SizeFault}
+use Rattle.box6346.specs.{SizeText.{has_form, has_length}, declared.size_type.Length.Length, declared.size_type.Length.TheVariants.{Twenty, Forty}}
+use Rattle.box6346.specs.{declared.size_type.SizeFault.SizeFault, declared.size_type.SizeType.SizeType}
 use Rattle.box6346.specs.declared.size_type.SizeFault.TheVariants as fault
-use Rattle.box6346.specs.declared.size_type.SizeType.{SizeType}
 
 -- the code with this text, or the first fault
 unfoldable pub size_of : List ℕ → Result SizeType SizeFault

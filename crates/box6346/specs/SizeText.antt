@@ -1,8 +1,6 @@
 -- Size-type codes (ISO 6346, size and type codes).
-use Rattle.std.specs.Prelude.{ℕ, Bool, ◌&&◌, ◌||◌, ◌==◌, List, length, slice_index}
+use Rattle.std.specs.{Prelude.{ℕ, Bool, ◌&&◌, ◌||◌, ◌==◌, List, length, slice_index}, Char.{is_ascii_uppercase, is_ascii_digit}, List.list_all}
 use Rattle.box6346.specs.Characters.{digit_two, digit_four, capital_l}
-use Rattle.std.specs.Char.{is_ascii_uppercase, is_ascii_digit}
-use Rattle.std.specs.List.{list_all}
 
 -- a character of a code: a capital or a digit
 abbrev pub is_code_character : ℕ → Bool

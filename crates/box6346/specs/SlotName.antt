@@ -1,9 +1,7 @@
 -- The names of the yard's slots: block letter, bay of three digits, row of two, tier of one.
 use Rattle.std.specs.Prelude.{◌≡◌, ◌==◌, ◌<◌, IsTrue, ℕ, ◌+◌, ◌-◌, ◌*◌, ◌/◌, ◌%◌, Bool, ◌&&◌, if◌then◌else◌, List, [], ◌∷◌, length, slice_index, Option, Some, None}
-use Rattle.box6346.specs.Characters.{digit_zero}
-use Rattle.std.specs.Char.{is_ascii_uppercase, is_ascii_digit}
-use Rattle.std.specs.List.{list_all}
-use Rattle.box6346.specs.declared.slot.Slot.{Slot}
+use Rattle.std.specs.{Char.{is_ascii_uppercase, is_ascii_digit}, List.list_all}
+use Rattle.box6346.specs.{Characters.digit_zero, declared.slot.Slot.Slot}
 
 -- a bay's three digits, a row's two and a tier's one
 abbrev pub are_six_digits : List ℕ → Bool

@@ -1,12 +1,6 @@
-ghost use Rattle.std.proofs.Common.{rules};
-ghost use Rattle.std.specs.Char.{is_ascii_uppercase, is_ascii_digit};
-ghost use Rattle.std.specs.Cmp.{partial_order_from_own_ties};
-ghost use Rattle.std.specs.Cmp.Lexicographic.{slice_cmp};
-ghost use Rattle.std.specs.Cmp.Rules.{comparing};
-ghost use Rattle.std.specs.List.{list_all};
-ghost use Rattle.std.specs.Ordering.{nat_cmp, as_partial_cmp};
+ghost use Rattle.std.specs.{Char.{is_ascii_uppercase, is_ascii_digit}, Cmp.partial_order_from_own_ties, Cmp.Lexicographic.slice_cmp, Cmp.Rules.comparing};
+ghost use Rattle.std.{specs.{List.list_all, Ordering.{nat_cmp, as_partial_cmp}, Str.bytes_eq}, proofs.Common.rules};
 ghost use Rattle.std.specs.Prelude.{◌≡◌, ◌+◌, ◌<◌, ◌^◌, Option, Some, None, IfSome, IsTrue, if◌then◌else◌, ◌-◌, length, slice_index};
-ghost use Rattle.std.specs.Str.{bytes_eq};
 ghost use Rattle.box6346.specs.NumberText.{value_of, weighted_sum, check_digit_of, has_form, is_category, is_checked, names_container};
 ghost use Rattle.box6346.specs.SizeText.{is_code_character};
 

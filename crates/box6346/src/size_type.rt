@@ -1,7 +1,4 @@
-ghost use Rattle.std.proofs.Common.{rules};
-ghost use Rattle.std.specs.Cmp.Rules.{comparing};
-ghost use Rattle.std.specs.Prelude.{◌≡◌, ◌<◌, length};
-ghost use Rattle.std.specs.Str.{bytes_eq};
+ghost use Rattle.std.{specs.{Cmp.Rules.comparing, Prelude.{◌≡◌, ◌<◌, length}, Str.bytes_eq}, proofs.Common.rules};
 ghost use Rattle.box6346.specs.SizeText.{has_form, has_length};
 
 use crate::box_number::are_code_characters;

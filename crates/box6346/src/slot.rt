@@ -1,6 +1,4 @@
-ghost use Rattle.std.proofs.Common.{rules};
-ghost use Rattle.std.specs.Cmp.Rules.{comparing};
-ghost use Rattle.std.specs.Prelude.{◌≡◌, ◌==◌, ◌&&◌};
+ghost use Rattle.std.{specs.{Cmp.Rules.comparing, Prelude.{◌≡◌, ◌==◌, ◌&&◌}}, proofs.Common.rules};
 ghost use Rattle.box6346.specs.SlotName.{are_six_digits, NamesAreReadAgain};
 
 use crate::box_number::{are_digits, digit};

@@ -1,23 +1,12 @@
 -- A CONTRL's text is read as its segments, without fault.
+use Rattle.std.{specs.{Prelude.zip, List.{list_any, AllByRecursion}, Option.is_none}, proofs.{lemmas.Bool.and_parts, lemmas.List.length-append}}
 use Rattle.std.proofs.Common.{◌≡◌, ℕ, ◌+◌, ◌<◌, ◌≤◌, ◌^◌, ◌==◌, Bool, true, false, not, ◌&&◌, ◌||◌, List, [], ◌∷◌, ◌++◌, length, map, codes, None, refl, ap, ◌∙◌, arith}
-use Rattle.std.specs.Prelude.{zip}
-use Rattle.std.specs.List.{list_any, AllByRecursion}
-use Rattle.std.specs.Option.{is_none}
-use Rattle.std.proofs.lemmas.Bool.{and_parts}
-use Rattle.std.proofs.lemmas.List.{length-append}
 use Rattle.std.proofs.lemmas.List.Folds.{list_any-append}
-use Rattle.edi_syntax.specs.Text.{Content, has_tag}
-use Rattle.edi_syntax.specs.Interchange.{most_bytes}
-use Rattle.edi_syntax.specs.Spelling.{segments_text}
-use Rattle.edi_syntax.specs.Written.{IsWritableSegment}
-use Rattle.edi_syntax.specs.Header.{sender, recipient, control_number, preparation, names_partners, is_printable_element}
-use Rattle.edi_syntax.specs.Messages.{Message}
-use Rattle.edi_syntax.specs.Envelope.{header_of, trailer_of, messages_of, has_envelope, is_of_functional_group}
-use Rattle.edi_syntax.specs.Faults.{header_fault_of}
-use Rattle.edi_syntax.proofs.BlockLemmas.{header_found, body_found}
+use Rattle.edi_syntax.specs.{Text.{Content, has_tag}, Interchange.most_bytes, Spelling.segments_text, Written.IsWritableSegment, Messages.Message}
+use Rattle.edi_syntax.specs.{Header.{sender, recipient, control_number, preparation, names_partners, is_printable_element}, Faults.header_fault_of}
+use Rattle.edi_syntax.{specs.Envelope.{header_of, trailer_of, messages_of, has_envelope, is_of_functional_group}, proofs.BlockLemmas.{header_found, body_found}}
 use Rattle.edi_messages.specs.Contrl.{unb, unh, uci, ucm, unt, unz, answer_segments, contrl_text, rejection_text, IsReadAs, ContrlsAreWithoutFault}
-use Rattle.edi_messages.specs.declared.message.Verdict.{Verdict}
-use Rattle.edi_messages.specs.declared.message.Verdict.TheVariants.{Accepted, Rejected}
+use Rattle.edi_messages.specs.{declared.message.Verdict.Verdict, declared.message.Verdict.TheVariants.{Accepted, Rejected}}
 use Rattle.edi_messages.proofs.SameSegments.{AreInner, ucms_inner, last, faultless, four_bytes_each, read_without_fault}
 use Rattle.edi_messages.proofs.WritableContrl.{printable_component, writable_header, uci_written, ucms_written, answer_writable}
 

@@ -1,12 +1,8 @@
 -- What is kept of the segments that speak of an equipment is what the first of what is sought states.
+use Rattle.std.specs.{List.find, Option.{option_map, option_map_or, option_or}, Str.bytes_eq}
 use Rattle.std.proofs.Common.{◌≡◌, ◌&&◌, ◌||◌, ℕ, zero, suc, Bool, true, false, cond, IsTrue, List, [], ◌∷◌, get_or, codes, Option, Some, None, refl, sym, ap, ◌∙◌}
-use Rattle.std.specs.List.{find}
-use Rattle.std.specs.Option.{option_map, option_map_or, option_or}
-use Rattle.std.specs.Str.{bytes_eq}
-use Rattle.edi_syntax.specs.Moments.{CivilMoment}
-use Rattle.edi_syntax.specs.Text.{Content, has_tag, component_of, element_of}
-use Rattle.edi_messages.specs.Orders.{digits_wanted, moment_of_length, moment_stated}
-use Rattle.edi_messages.specs.Parts.{is_qualified, states_moment}
+use Rattle.edi_syntax.specs.{Moments.CivilMoment, Text.{Content, has_tag, component_of, element_of}}
+use Rattle.edi_messages.specs.{Orders.{digits_wanted, moment_of_length, moment_stated}, Parts.{is_qualified, states_moment}}
 
 -- ---- what is kept of the first of what is sought
 

@@ -1,49 +1,25 @@
 -- What a message orders has its form.
+use Rattle.std.specs.{Prelude.{if◌then◌else◌, ◌||◌, ◌==◌, filter, is_some}, Option.{ok_or, option_map_or, option_and_then}, Result.result_map_both, List.find}
+use Rattle.std.{specs.{Str.bytes_eq, Cmp.Lexicographic.same_text}, proofs.{lemmas.Bool.and_parts, lemmas.List.Elements.All-map}}
 use Rattle.std.proofs.Common.{◌≡◌, ℕ, Bool, true, false, cond, ◌&&◌, List, [], length, codes, Option, None, Some, Result, Ok, Err, IsTrue, All, refl, ap, subst, ◌∙◌, not, sym}
-use Rattle.std.specs.Prelude.{if◌then◌else◌, ◌||◌, ◌==◌, filter, is_some}
-use Rattle.std.specs.Option.{ok_or, option_map_or, option_and_then}
-use Rattle.std.specs.Result.{result_map_both}
-use Rattle.std.specs.List.{find}
-use Rattle.std.proofs.lemmas.Bool.{and_parts}
-use Rattle.std.proofs.lemmas.List.Elements.{All-map}
-use Rattle.box6346.specs.ContainerNumber.{number_of}
-use Rattle.box6346.specs.NumberText.{has_form, is_checked, is_number}
-use Rattle.box6346.specs.SizeCode.{size_of}
-use Rattle.box6346.specs.SizeText.{is_size}
-use Rattle.box6346.specs.SlotName.{slot_of}
-use Rattle.box6346.specs.declared.box_number.BoxNumber.{BoxNumber}
-use Rattle.box6346.specs.declared.size_type.SizeFault.{SizeFault}
-use Rattle.box6346.specs.declared.size_type.SizeType.{SizeType}
+use Rattle.box6346.specs.{ContainerNumber.number_of, NumberText.{has_form, is_checked, is_number}, SizeCode.size_of, SizeText.is_size, SlotName.slot_of}
+use Rattle.box6346.specs.{declared.box_number.BoxNumber.BoxNumber, declared.size_type.SizeFault.SizeFault, declared.size_type.SizeType.SizeType}
 use Rattle.box6346.specs.declared.slot.Slot.{Slot}
-use Rattle.edi_syntax.specs.Moments.{CivilMoment, is_moment, are_moment_digits, moment_written, moment_of}
-use Rattle.edi_syntax.specs.Text.{Content, component_of}
-use Rattle.edi_syntax.specs.Messages.{Message}
+use Rattle.edi_syntax.specs.{Moments.{CivilMoment, is_moment, are_moment_digits, moment_written, moment_of}, Text.{Content, component_of}, Messages.Message}
 use Rattle.edi_messages.specs.Faults.{voyage_of, vessel_of, names_call, call_named, call_if_named, call_in, transport, order_kind_of, purpose_of, fault_of, message_function, beginning, is_original, is_replacement, is_list, names_list, replaces_list, applies}
-use Rattle.edi_messages.specs.Forms.{is_name_if_any, IsFormedCall, IsFormedEntry, IsFormedOrder, OrdersWell, OrdersAreFormed}
-use Rattle.edi_messages.specs.Message.{line_read, line_of, is_container_group, lines_of, MessageContent, message_of, judged_message}
-use Rattle.edi_messages.specs.Orders.{OrderContent, EntryContent, number_text, size_text, is_laden, location, names_slot, name_kept, booking, port, digits_wanted, moment_of_length, moment_stated, then_read, line_fault_of, read_number, read_size, read_moment, read_slot, read_slot_if_named, read_entry, order_of}
-use Rattle.edi_messages.specs.Parts.{EquipmentGroup, groups_of, is_qualified, states_moment}
-use Rattle.edi_messages.specs.Purposes.{CallContent, Purpose, purpose_with, kind_of, call_of}
-use Rattle.edi_messages.specs.Texts.{is_name}
-use Rattle.edi_messages.proofs.SameSegments.{weight_short}
-use Rattle.edi_messages.specs.declared.line.LineFault.{LineFault}
-use Rattle.edi_messages.specs.declared.line.LineFault.TheVariants.{Moment, Size, SlotText}
-use Rattle.edi_messages.specs.declared.message.MessageFault.{MessageFault}
-use Rattle.edi_messages.specs.declared.message.MessageFault.TheVariants.{Code, OtherType, NoBgm, Function}
-use Rattle.edi_messages.specs.declared.order.OrderKind.{OrderKind}
+use Rattle.edi_messages.specs.{Forms.{is_name_if_any, IsFormedCall, IsFormedEntry, IsFormedOrder, OrdersWell, OrdersAreFormed}, Texts.is_name}
+use Rattle.edi_messages.specs.{Message.{line_read, line_of, is_container_group, lines_of, MessageContent, message_of, judged_message}, Laws.ReplacingIsOfAList}
+use Rattle.edi_messages.specs.Orders.{OrderContent, number_text, size_text, location, names_slot, name_kept, booking, port, digits_wanted, moment_stated, then_read, line_fault_of, read_number, read_size, read_moment, read_entry, order_of}
+use Rattle.edi_messages.specs.{Parts.{EquipmentGroup, groups_of, is_qualified, states_moment}, Purposes.{CallContent, Purpose, purpose_with, kind_of, call_of}}
+use Rattle.edi_messages.specs.{declared.line.LineFault.LineFault, declared.line.LineFault.TheVariants.{Moment, Size, SlotText}, declared.codes.Codes.Codes}
+use Rattle.edi_messages.specs.{declared.message.MessageFault.MessageFault, declared.message.MessageFault.TheVariants.{Code, OtherType, NoBgm, Function}}
+use Rattle.edi_messages.{specs.declared.order.OrderKind.OrderKind, proofs.{SameSegments.weight_short, SurveyLemmas.past_first}}
 use Rattle.edi_messages.specs.declared.order.OrderKind.TheVariants.{GateIn, GateOut, Move, ListDischarge, ListLoad, Discharge, Load}
-use Rattle.std.specs.Str.{bytes_eq}
-use Rattle.std.specs.Cmp.Lexicographic.{same_text}
-use Rattle.edi_messages.specs.Laws.{ReplacingIsOfAList}
-use Rattle.edi_messages.specs.declared.codes.Codes.{Codes}
-use Rattle.edi_messages.proofs.SurveyLemmas.{past_first}
 use Rattle.box6346.specs.SizeText as size
 use Rattle.box6346.specs.declared.box_number.NumberFault as number_fault
 use Rattle.box6346.specs.declared.size_type.SizeFault as size_fault
 use Rattle.edi_messages.specs.Orders as order
 use Rattle.edi_messages.specs.Purposes as purpose
-
--- ==== OrderForms: What a message orders has its form.
 
 -- what is read, if it is, is such
 abbrev Gives : {T : Type 0} → (T → Type 0) → Result T LineFault → Type 0

@@ -1,38 +1,20 @@
 -- Segments that are the same have the same faults.
+use Rattle.std.specs.{Prelude.{zip, decimal, unwrap_or}, List.{list_all, list_any, find, AllByRecursion}, Str.bytes_eq, Str.Parse.{AllDigits, digits_value}}
+use Rattle.std.{specs.Option.{is_none, option_or, option_map_or}, proofs.{lemmas.Bool.{le-leb, and_parts, leb-true}, lemmas.List.length-append}}
 use Rattle.std.proofs.Common.{◌≡◌, ℕ, ◌+◌, ◌<◌, ◌%◌, ◌^◌, true, false, List, [], ◌∷◌, ◌++◌, length, map, None, refl, ap, eq-eqb, arith, zero, suc, ◌-◌, Bool, cond, not, get_or, sym, ◌∙◌, ◌*◌, ◌≤◌, Option, ◌&&◌, nat_le, Some}
-use Rattle.std.specs.Prelude.{zip, decimal, unwrap_or}
-use Rattle.std.specs.List.{list_all, list_any, find, AllByRecursion}
-use Rattle.std.specs.Str.{bytes_eq}
-use Rattle.std.proofs.lemmas.Bool.{le-leb, and_parts, leb-true}
-use Rattle.std.proofs.lemmas.Fmt.{decimal_by_steps, decimal_nonempty, decimal_is_IsNumeral, length-decimal-le}
-use Rattle.edi_syntax.specs.Characters.{is_digit, is_printable}
-use Rattle.edi_syntax.specs.Text.{Content, no_segment, IsSameSegment, component_of}
-use Rattle.edi_syntax.specs.Header.{control_reference, preparation, is_printable_element, is_known_syntax}
-use Rattle.edi_syntax.specs.Numbers.{is_count, number_of}
+use Rattle.std.proofs.{lemmas.Fmt.{decimal_by_steps, decimal_nonempty, decimal_is_IsNumeral, length-decimal-le}, lemmas.List.Folds.find-append}
+use Rattle.std.proofs.{lemmas.Option.cond_some, lemmas.Str.digit_value_digit, lemmas.Int.Digits.digits_value-lt, Math.Nat.pow-le-pow_right}
+use Rattle.edi_syntax.specs.{Characters.{is_digit, is_printable}, Text.{Content, no_segment, IsSameSegment, component_of}, Numbers.{is_count, number_of}}
+use Rattle.edi_syntax.specs.{Header.{control_reference, preparation, is_printable_element, is_known_syntax}, Written.{AreSameSegments, IsWritableSegment}}
 use Rattle.edi_syntax.specs.Messages.{Message, begins_message, ends_message, is_inner, before_trailer, trailer_in, messages_in, are_messages, message_from, is_counted, is_referenced}
-use Rattle.edi_syntax.specs.Envelope.{last_of, header_of, behind_header, is_of_functional_group}
+use Rattle.edi_syntax.specs.{Envelope.{last_of, header_of, behind_header, is_of_functional_group}, declared.interchange.SyntaxFault.SyntaxFault}
 use Rattle.edi_syntax.specs.Faults.{body_fault_of, applies_to, applies, header_faults, body_faults, fault_of, header_fault_of}
-use Rattle.edi_syntax.proofs.BlockLemmas.{digits_one, past_bytes}
-use Rattle.edi_messages.specs.Contrl.{unh, uci, ucm, unt, unz, answer_segments, ContrlsAreCounted, IsReadAs}
-use Rattle.edi_messages.proofs.SurveyLemmas.{length_ucms}
-use Rattle.edi_messages.specs.declared.message.Verdict.{Verdict}
-use Rattle.edi_messages.specs.declared.message.Verdict.TheVariants.{Accepted, Rejected}
-use Rattle.std.specs.Option.{is_none, option_or, option_map_or}
-use Rattle.edi_syntax.specs.Written.{AreSameSegments, IsWritableSegment}
-use Rattle.edi_syntax.specs.declared.interchange.SyntaxFault.{SyntaxFault}
 use Rattle.edi_syntax.specs.declared.interchange.SyntaxFault.TheVariants.{TooLong, Service, Segment, NoEnvelope, Group, Version, Number, Moment, Test, MessageFrame, SegmentCount, MessageReference, Empty, ControlCount, ControlReference}
-use Rattle.std.proofs.lemmas.List.{length-append}
-use Rattle.std.proofs.lemmas.List.Folds.{find-append}
-use Rattle.edi_syntax.specs.Interchange.{most_bytes, segments_in, read_fault}
-use Rattle.edi_syntax.specs.Spelling.{elements_text, segment_text, segments_text}
-use Rattle.edi_syntax.proofs.AdviceLemmas.{interchange_complete, reads_back}
-use Rattle.std.specs.Str.Parse.{AllDigits, digits_value}
-use Rattle.std.proofs.lemmas.Option.{cond_some}
-use Rattle.std.proofs.lemmas.Str.{digit_value_digit}
-use Rattle.std.proofs.lemmas.Int.Digits.{digits_value-lt}
-use Rattle.std.proofs.Math.Nat.{pow-le-pow_right}
-use Rattle.edi_messages.specs.Orders.{weight}
-use Rattle.edi_messages.specs.Parts.{EquipmentGroup, states_weight}
+use Rattle.edi_syntax.specs.{Interchange.{most_bytes, segments_in, read_fault}, Spelling.{elements_text, segment_text, segments_text}}
+use Rattle.edi_syntax.proofs.{BlockLemmas.{digits_one, past_bytes}, AdviceLemmas.{interchange_complete, reads_back}}
+use Rattle.edi_messages.specs.{Contrl.{unh, uci, ucm, unt, unz, answer_segments, ContrlsAreCounted, IsReadAs}, declared.message.Verdict.Verdict, Orders.weight}
+use Rattle.edi_messages.specs.{declared.message.Verdict.TheVariants.{Accepted, Rejected}, Parts.{EquipmentGroup, states_weight}}
+use Rattle.edi_messages.proofs.SurveyLemmas.{length_ucms}
 
 -- ==== ContrlCounts: The segments of a CONTRL are one message that is counted and referenced.
 

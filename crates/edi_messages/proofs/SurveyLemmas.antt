@@ -1,57 +1,28 @@
 -- One segment more of those that are looked at.
+use Rattle.std.specs.{List.{list_all, find, list_any}, Borrow.Bor, Option.{option_map, option_map_or, option_and_then, is_none, option_or, ok_or}, Str.bytes_eq}
+use Rattle.std.specs.{Prelude.{if◌then◌else◌, Result, Ok, Err, zip, decimal}, Char.{is_ascii_uppercase, is_ascii_digit}, Int.from_bool}
+use Rattle.std.{specs.Result.{result_err, result_map_both}, proofs.lemmas.Bool.{and_parts, cases_Bool, eqb-true, true≢false, and_from, le-leb}}
 use Rattle.std.proofs.Common.{◌≡◌, ℕ, ◌&&◌, true, List, length, nat_le, zero, suc, ◌<◌, [], ◌∷◌, get_or, arith, Bool, false, cond, None, Some, refl, ◌==◌, Option, eq-eqb, inl, inr, not, sym, ap, ◌+◌, ◌≤◌, ◌||◌, count_by, codes, ◌∙◌, ◌%◌, ◌^◌, ◌++◌, map}
-use Rattle.std.specs.List.{list_all, find, list_any}
-use Rattle.std.proofs.lemmas.Bool.{and_parts, cases_Bool, eqb-true, true≢false, and_from, le-leb}
-use Rattle.edi_syntax.specs.Characters.{is_printable, is_data_byte}
-use Rattle.edi_messages.specs.Texts.{is_name}
-use Rattle.std.specs.Borrow.{Bor}
-use Rattle.edi_messages.specs.CodeText.{is_code, texts_of}
-use Rattle.std.specs.Option.{option_map, option_map_or, option_and_then, is_none, option_or, ok_or}
-use Rattle.std.specs.Str.{bytes_eq}
-use Rattle.edi_messages.specs.declared.order.OrderKind.{OrderKind}
-use Rattle.std.specs.Prelude.{if◌then◌else◌, Result, Ok, Err, zip, decimal}
-use Rattle.std.specs.Char.{is_ascii_uppercase, is_ascii_digit}
-use Rattle.edi_syntax.specs.Segment.{value_of_length}
-use Rattle.box6346.specs.declared.slot.Slot.{Slot}
-use Rattle.box6346.specs.SlotName.{slot_of, slot_at}
-use Rattle.edi_syntax.specs.Text.{Content}
-use Rattle.edi_syntax.specs.Messages.{Message, before_trailer, ends_message}
-use Rattle.edi_messages.specs.Codes.{code_text, order_meant, meanings}
+use Rattle.std.proofs.{lemmas.List.Folds.{sum_by-zero, list_all-append}, lemmas.Fmt.decimal_by_steps}
+use Rattle.edi_syntax.specs.{Characters.{is_printable, is_data_byte}, Segment.value_of_length, Text.Content, Messages.{Message, before_trailer, ends_message}}
+use Rattle.edi_syntax.specs.{Moments.CivilMoment, Spelling.{Writing, nothing_written, with_segment, segments_text}, Written.with_segments}
+use Rattle.edi_syntax.proofs.AdviceLemmas.{writes_segments}
+use Rattle.edi_messages.specs.{Texts.is_name, CodeText.{is_code, texts_of}, declared.order.OrderKind.OrderKind, Codes.{code_text, order_meant, meanings}}
 use Rattle.edi_messages.specs.Purposes.{CallContent, Purpose, purpose_with, gate_in, gate_out, yard_move, discharge_list, load_list, discharge_report, load_report, kind_of}
 use Rattle.edi_messages.specs.Faults.{document_name, beginning, transport, names_call, call_named, call_if_named, speaks_of_call, purpose_of, applies}
-use Rattle.edi_messages.specs.Types.{message_type_of}
-use Rattle.edi_messages.specs.Walks.{counted_on, heading_fault_of}
-use Rattle.edi_messages.specs.declared.code.CodeTable.{CodeTable}
-use Rattle.edi_messages.specs.declared.codes.Codes.{Codes}
-use Rattle.edi_messages.specs.declared.codes.PartnerKind.{PartnerKind}
-use Rattle.edi_messages.specs.declared.codes.PartnerKind.TheVariants.{Gate, Line, Quay, Yard}
-use Rattle.edi_messages.specs.declared.message.MessageType.{MessageType}
-use Rattle.edi_messages.specs.declared.message.MessageType.TheVariants.{Codeco, Coprar, Coarri}
+use Rattle.edi_messages.specs.{Types.message_type_of, Walks.{counted_on, heading_fault_of}, declared.code.CodeTable.CodeTable, declared.codes.Codes.Codes}
+use Rattle.edi_messages.specs.{declared.codes.PartnerKind.PartnerKind, declared.codes.PartnerKind.TheVariants.{Gate, Line, Quay, Yard}}
+use Rattle.edi_messages.specs.{declared.message.MessageType.MessageType, declared.message.MessageType.TheVariants.{Codeco, Coprar, Coarri}}
 use Rattle.edi_messages.specs.declared.order.OrderKind.TheVariants.{GateIn, GateOut, Move, ListDischarge, ListLoad, Discharge, Load}
-use Rattle.edi_messages.specs.declared.message.MessageFault.{MessageFault}
-use Rattle.edi_messages.specs.declared.message.MessageFault.TheVariants.{OtherType, NoBgm, Code, Function, NoTransport}
-use Rattle.std.specs.Int.{from_bool}
-use Rattle.std.proofs.lemmas.List.Folds.{sum_by-zero, list_all-append}
-use Rattle.edi_messages.specs.Parts.{before_end, ends_group, EquipmentGroup, states_moment}
-use Rattle.std.specs.Result.{result_err, result_map_both}
-use Rattle.box6346.specs.ContainerNumber.{number_of}
-use Rattle.box6346.specs.SizeCode.{size_of}
-use Rattle.box6346.specs.NumberText.{has_form, is_checked}
-use Rattle.box6346.specs.declared.size_type.SizeFault.{SizeFault}
-use Rattle.box6346.specs.declared.box_number.BoxNumber.{BoxNumber}
-use Rattle.box6346.specs.declared.size_type.SizeType.{SizeType}
-use Rattle.edi_syntax.specs.Moments.{CivilMoment}
+use Rattle.edi_messages.specs.{declared.message.MessageFault.MessageFault, Parts.{before_end, ends_group, EquipmentGroup, states_moment}}
+use Rattle.edi_messages.specs.{declared.message.MessageFault.TheVariants.{OtherType, NoBgm, Code, Function, NoTransport}, declared.line.LineFault.LineFault}
 use Rattle.edi_messages.specs.Orders.{OrderContent, number_text, size_text, location, names_slot, moment_stated, then_read, line_fault_of, read_number, read_size, read_moment, read_entry, order_of}
-use Rattle.edi_messages.specs.LineFaults.{is_size, has_bad_moment, line_fault_in}
-use Rattle.edi_messages.specs.declared.line.LineFault.{LineFault}
+use Rattle.edi_messages.specs.{LineFaults.{is_size, has_bad_moment, line_fault_in}, declared.message.Verdict.Verdict}
 use Rattle.edi_messages.specs.declared.line.LineFault.TheVariants.{Form, CheckDigit, Size, Moment, SlotText}
-use Rattle.std.proofs.lemmas.Fmt.{decimal_by_steps}
-use Rattle.edi_syntax.specs.Spelling.{Writing, nothing_written, with_segment, segments_text}
-use Rattle.edi_syntax.specs.Written.{with_segments}
-use Rattle.edi_syntax.proofs.AdviceLemmas.{writes_segments}
 use Rattle.edi_messages.specs.Contrl.{unb, unh, uci, ucm, unt, unz, answer_segments, contrl_text, rejection_text}
-use Rattle.edi_messages.specs.declared.message.Verdict.{Verdict}
 use Rattle.edi_messages.specs.declared.message.Verdict.TheVariants.{Accepted, Rejected}
+use Rattle.box6346.specs.{declared.slot.Slot.Slot, SlotName.{slot_of, slot_at}, ContainerNumber.number_of, SizeCode.size_of, NumberText.{has_form, is_checked}}
+use Rattle.box6346.specs.{declared.size_type.SizeFault.SizeFault, declared.box_number.BoxNumber.BoxNumber, declared.size_type.SizeType.SizeType}
 use Rattle.box6346.specs.SizeText as size
 use Rattle.box6346.specs.declared.box_number.NumberFault as number_fault
 use Rattle.box6346.specs.declared.size_type.SizeFault as size_fault

@@ -1,25 +1,14 @@
 -- One walk over the segments of a message: what is found in those that are passed, and what in those that are left.
+use Rattle.std.specs.{Prelude.{filter, Result, Ok, Err, IfSome, IsSomeAnd}, List.find, Option.{option_or, option_map_or}, Str.bytes_eq}
 use Rattle.std.proofs.Common.{Vec, Global, ◌≡◌, ℕ, ◌&&◌, ◌||◌, ◌+◌, ◌≤◌, Bool, true, false, cond, List, [], ◌∷◌, ◌++◌, length, map, codes, None, Some, Option, refl, sym, ap, ◌∙◌, append_assoc, arith}
-use Rattle.std.specs.Prelude.{filter, Result, Ok, Err, IfSome, IsSomeAnd}
-use Rattle.std.specs.List.{find}
-use Rattle.std.specs.Option.{option_or, option_map_or}
-use Rattle.std.specs.Str.{bytes_eq}
-use Rattle.std.proofs.lemmas.Bool.{and_parts, true≢false}
-use Rattle.std.proofs.lemmas.List.{append-nil}
-use Rattle.edi_syntax.specs.Moments.{CivilMoment}
-use Rattle.edi_syntax.specs.Text.{Content, has_tag, component_of}
-use Rattle.edi_syntax.specs.Messages.{Message}
-use Rattle.edi_messages.specs.Faults.{is_container, applies, fault_of, purpose_of}
+use Rattle.std.proofs.{lemmas.Bool.{and_parts, true≢false}, lemmas.List.append-nil}
+use Rattle.edi_syntax.specs.{Moments.CivilMoment, Text.{Content, has_tag, component_of}, Messages.Message}
+use Rattle.edi_messages.specs.{Faults.{is_container, applies, fault_of, purpose_of}, Owned.line_content, declared.line.Line.Line, declared.codes.Codes.Codes}
 use Rattle.edi_messages.specs.Message.{LineContent, MessageContent, is_container_group, line_of, lines_of, message_of, judged_message, reading}
-use Rattle.edi_messages.specs.Owned.{line_content}
-use Rattle.edi_messages.specs.declared.line.Line.{Line}
-use Rattle.edi_messages.specs.Parts.{EquipmentGroup, is_equipment, is_qualified, heading, before_end, ends_group, groups_of}
-use Rattle.edi_messages.specs.Purposes.{Purpose, kind_of, call_of}
-use Rattle.edi_messages.specs.Walks.{counted_on, from_end, heading_fault_of, equipment_fault_of}
-use Rattle.edi_messages.specs.declared.codes.Codes.{Codes}
+use Rattle.edi_messages.{specs.Parts.{EquipmentGroup, is_equipment, is_qualified, heading, before_end, ends_group, groups_of}, proofs.SurveyLemmas.count_step}
+use Rattle.edi_messages.specs.{Purposes.{Purpose, kind_of, call_of}, Walks.{counted_on, from_end, heading_fault_of, equipment_fault_of}}
 use Rattle.edi_messages.specs.declared.message.MessageFault.{MessageFault}
 use Rattle.edi_messages.specs.declared.message.MessageFault.TheVariants.{OtherType, NoBgm, Code, Function, NoTransport}
-use Rattle.edi_messages.proofs.SurveyLemmas.{count_step}
 
 -- ---- what a segment is that is passed
 

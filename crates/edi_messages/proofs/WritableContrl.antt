@@ -1,24 +1,14 @@
 -- What a CONTRL says may be written, if the header that it answers has no fault and its messages are referenced.
+use Rattle.std.specs.{Prelude.{zip, decimal}, List.{list_all, AllByRecursion}, Option.{is_none, option_and_then}, Str.bytes_eq, Str.Parse.digits_value}
+use Rattle.std.{specs.Fmt.{digit_glyph, digits_onto, digits}, proofs.{lemmas.Slice.Eq.bytes_eq-Decides, lemmas.List.Folds.list_all-append}}
 use Rattle.std.proofs.Common.{◌≡◌, ℕ, zero, suc, ◌+◌, ◌≤◌, ◌/◌, ◌%◌, ◌-◌, ◌==◌, nat_le, nat_lt, Bool, true, false, cond, not, ◌&&◌, ◌||◌, List, [], ◌∷◌, ◌++◌, length, get_or, map, codes, Some, None, refl, sym, ◌∙◌, inl, inr, arith}
-use Rattle.std.specs.Prelude.{zip, decimal}
-use Rattle.std.specs.List.{list_all, AllByRecursion}
-use Rattle.std.specs.Option.{is_none, option_and_then}
-use Rattle.std.specs.Str.{bytes_eq}
-use Rattle.std.specs.Str.Parse.{digits_value}
-use Rattle.std.specs.Fmt.{digit_glyph, digits_onto, digits}
 use Rattle.std.proofs.lemmas.Bool.{and_parts, and_from, cases_Bool, eqb-true, leb-true, le-leb, lt-ltb, true≢false, false≢true}
-use Rattle.std.proofs.lemmas.Slice.Eq.{bytes_eq-Decides}
-use Rattle.std.proofs.lemmas.List.Folds.{list_all-append}
-use Rattle.edi_syntax.specs.Moments.{CivilMoment, is_moment, moment_written, are_moment_digits}
-use Rattle.edi_syntax.specs.Characters.{is_tag_byte, is_data_byte, is_digit, is_printable}
-use Rattle.edi_syntax.specs.Text.{Content, component_of}
-use Rattle.edi_syntax.specs.Written.{IsWritableSegment}
+use Rattle.edi_syntax.specs.{Moments.{CivilMoment, is_moment, moment_written, are_moment_digits}, Text.{Content, component_of}, Written.IsWritableSegment}
+use Rattle.edi_syntax.specs.{Characters.{is_tag_byte, is_data_byte, is_digit, is_printable}, Numbers.as_control_number}
 use Rattle.edi_syntax.specs.Header.{control_reference, control_number, preparation, preparation_date, preparation_time, is_printable_element}
-use Rattle.edi_syntax.specs.Numbers.{as_control_number}
 use Rattle.edi_syntax.specs.Messages.{Message, is_referenced, is_reference, message_reference, message_identity, is_printable_identity, is_printable_component}
 use Rattle.edi_messages.specs.Contrl.{sender_of, recipient_of, identity_of, unb, unh, uci, ucm, unt, unz, verdict_elements, answer_segments}
-use Rattle.edi_messages.specs.declared.message.Verdict.{Verdict}
-use Rattle.edi_messages.specs.declared.message.Verdict.TheVariants.{Accepted, Rejected}
+use Rattle.edi_messages.specs.{declared.message.Verdict.Verdict, declared.message.Verdict.TheVariants.{Accepted, Rejected}}
 
 -- ---- bytes
 

@@ -1,11 +1,8 @@
 -- The texts of a table of codes.
-use Rattle.std.specs.Prelude.{ℕ, Bool, false, ◌&&◌, ◌||◌, List, [], ◌∷◌, map, length, nat_le, Option, None, Some, if◌then◌else◌}
-use Rattle.std.specs.Borrow.{Bor}
-use Rattle.std.specs.List.{list_all}
+use Rattle.std.specs.{Prelude.{ℕ, Bool, false, ◌&&◌, ◌||◌, List, [], ◌∷◌, map, length, nat_le, Option, None, Some, if◌then◌else◌}, Borrow.Bor, List.list_all}
 use Rattle.std.specs.Str.{bytes_eq}
 use Rattle.edi_syntax.specs.Characters.{is_tag_byte}
-use Rattle.edi_messages.specs.declared.code.CodeFault.{CodeFault}
-use Rattle.edi_messages.specs.declared.code.CodeFault.TheVariants.{Form, Twice}
+use Rattle.edi_messages.specs.{declared.code.CodeFault.CodeFault, declared.code.CodeFault.TheVariants.{Form, Twice}}
 
 -- 1 to 3 capitals or digits
 abbrev pub is_code : List ℕ → Bool

@@ -1,16 +1,8 @@
 -- What a document name (1001) orders, by the type of the message and the kind of partner that sends it.
-use Rattle.std.specs.Prelude.{ℕ, List, [], ◌∷◌, take, Option}
-use Rattle.std.specs.Option.{option_map}
-use Rattle.std.specs.List.{find}
-use Rattle.std.specs.Str.{bytes_eq}
-use Rattle.edi_messages.specs.declared.code.Code.{Code}
-use Rattle.edi_messages.specs.declared.code.CodeTable.{CodeTable}
-use Rattle.edi_messages.specs.declared.codes.Codes.{Codes}
-use Rattle.edi_messages.specs.declared.codes.PartnerKind.{PartnerKind}
-use Rattle.edi_messages.specs.declared.codes.PartnerKind.TheVariants.{Gate, Line, Quay, Yard}
-use Rattle.edi_messages.specs.declared.message.MessageType.{MessageType}
-use Rattle.edi_messages.specs.declared.message.MessageType.TheVariants.{Codeco, Coprar, Coarri}
-use Rattle.edi_messages.specs.declared.order.OrderKind.{OrderKind}
+use Rattle.std.specs.{Prelude.{ℕ, List, [], ◌∷◌, take, Option}, Option.option_map, List.find, Str.bytes_eq}
+use Rattle.edi_messages.specs.{declared.code.Code.Code, declared.code.CodeTable.CodeTable, declared.codes.Codes.Codes, declared.codes.PartnerKind.PartnerKind}
+use Rattle.edi_messages.specs.{declared.codes.PartnerKind.TheVariants.{Gate, Line, Quay, Yard}, declared.message.MessageType.MessageType}
+use Rattle.edi_messages.specs.{declared.message.MessageType.TheVariants.{Codeco, Coprar, Coarri}, declared.order.OrderKind.OrderKind}
 use Rattle.edi_messages.specs.declared.order.OrderKind.TheVariants.{GateIn, GateOut, Move, ListDischarge, ListLoad, Discharge, Load}
 
 -- a code's characters

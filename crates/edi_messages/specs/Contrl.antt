@@ -2,16 +2,10 @@
 -- answers: an interchange of its own, UNB, one message from UNH to UNT, UNZ (ISO 9735). Values are written anew under
 -- the default service characters, without empty components and elements at an end.
 use Rattle.std.specs.Prelude.{◌≡◌, ℕ, ◌+◌, ◌<◌, ◌≤◌, None, List, [], ◌∷◌, ◌++◌, length, map, zip, codes, decimal}
-use Rattle.edi_syntax.specs.Text.{Content}
-use Rattle.edi_syntax.specs.Interchange.{most_bytes, segments_in}
-use Rattle.edi_syntax.specs.Spelling.{segments_text}
-use Rattle.edi_syntax.specs.Written.{AreSameSegments}
-use Rattle.edi_syntax.specs.Header.{sender, recipient, preparation_date, preparation_time, control_reference}
-use Rattle.edi_syntax.specs.Messages.{Message, message_reference, message_identity}
-use Rattle.edi_syntax.specs.Envelope.{header_of, messages_of}
-use Rattle.edi_syntax.specs.Faults.{fault_of, header_fault_of, body_fault_of}
-use Rattle.edi_messages.specs.declared.message.Verdict.{Verdict}
-use Rattle.edi_messages.specs.declared.message.Verdict.TheVariants.{Accepted, Rejected}
+use Rattle.edi_syntax.specs.{Text.Content, Interchange.{most_bytes, segments_in}, Spelling.segments_text, Written.AreSameSegments}
+use Rattle.edi_syntax.specs.{Header.{sender, recipient, preparation_date, preparation_time, control_reference}, Envelope.{header_of, messages_of}}
+use Rattle.edi_syntax.specs.{Messages.{Message, message_reference, message_identity}, Faults.{fault_of, header_fault_of, body_fault_of}}
+use Rattle.edi_messages.specs.{declared.message.Verdict.Verdict, declared.message.Verdict.TheVariants.{Accepted, Rejected}}
 
 -- ---- its segments, by their elements
 

@@ -1,22 +1,11 @@
 -- Why a message is rejected, in the terms of directory D.95B.
 use Rattle.std.specs.Prelude.{ℕ, Bool, true, false, not, ◌&&◌, ◌||◌, nat_lt, List, [], ◌∷◌, codes, Option, None, Some, is_none, count_by, if◌then◌else◌}
-use Rattle.std.specs.Option.{option_map_or, option_and_then}
-use Rattle.std.specs.List.{list_any, find}
-use Rattle.std.specs.Str.{bytes_eq}
-use Rattle.edi_syntax.specs.Text.{Content, component_of, has_tag}
-use Rattle.edi_syntax.specs.Numbers.{is_count}
-use Rattle.edi_syntax.specs.Messages.{Message}
-use Rattle.edi_messages.specs.Texts.{is_name}
-use Rattle.edi_messages.specs.Parts.{is_equipment, heading, is_qualified}
-use Rattle.edi_messages.specs.Types.{message_type_of}
-use Rattle.edi_messages.specs.Codes.{order_meant}
-use Rattle.edi_messages.specs.Purposes.{CallContent, Purpose, purpose_with}
-use Rattle.edi_messages.specs.declared.codes.Codes.{Codes}
-use Rattle.edi_messages.specs.declared.order.OrderKind.{OrderKind}
-use Rattle.edi_messages.specs.declared.order.OrderKind.TheVariants.{ListDischarge, ListLoad}
-use Rattle.edi_messages.specs.declared.message.MessageType.{MessageType}
+use Rattle.std.specs.{Option.{option_map_or, option_and_then}, List.{list_any, find}, Str.bytes_eq}
+use Rattle.edi_syntax.specs.{Text.{Content, component_of, has_tag}, Numbers.is_count, Messages.Message}
+use Rattle.edi_messages.specs.{Texts.is_name, Parts.{is_equipment, heading, is_qualified}, Types.message_type_of, Codes.order_meant, declared.codes.Codes.Codes}
+use Rattle.edi_messages.specs.{Purposes.{CallContent, Purpose, purpose_with}, declared.order.OrderKind.OrderKind, declared.message.MessageType.MessageType}
+use Rattle.edi_messages.specs.{declared.order.OrderKind.TheVariants.{ListDischarge, ListLoad}, declared.message.MessageFault.MessageFault}
 use Rattle.edi_messages.specs.declared.message.MessageType.TheVariants.{Codeco, Coprar, Coarri}
-use Rattle.edi_messages.specs.declared.message.MessageFault.{MessageFault}
 use Rattle.edi_messages.specs.declared.message.MessageFault.TheVariants.{OtherType, NoBgm, Code, Function, NoTransport, NoEquipment, EquipmentCount, TooMany, Memory}
 
 -- ---- what the message says of itself

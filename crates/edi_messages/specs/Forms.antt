@@ -1,14 +1,9 @@
 -- The forms of what messages order.
 use Rattle.std.specs.Prelude.{◌≡◌, ℕ, ◌≤◌, Bool, ◌||◌, ◌==◌, List, [], length, Ok, IsTrue, All}
-use Rattle.box6346.specs.NumberText.{is_number}
-use Rattle.box6346.specs.SizeText.{is_size}
-use Rattle.box6346.specs.declared.box_number.BoxNumber.{BoxNumber}
-use Rattle.edi_syntax.specs.Moments.{CivilMoment, is_moment}
-use Rattle.edi_syntax.specs.Messages.{Message}
-use Rattle.edi_messages.specs.Message.{LineContent, ordered, refused, MessageContent, reading}
+use Rattle.box6346.specs.{NumberText.is_number, SizeText.is_size, declared.box_number.BoxNumber.BoxNumber}
+use Rattle.edi_syntax.specs.{Moments.{CivilMoment, is_moment}, Messages.Message}
+use Rattle.edi_messages.specs.{Message.{LineContent, ordered, refused, MessageContent, reading}, Purposes.CallContent, Texts.is_name}
 use Rattle.edi_messages.specs.Orders.{EntryContent, OrderContent, gate_in, gate_out, move, list_discharge, list_load, discharge, load}
-use Rattle.edi_messages.specs.Purposes.{CallContent}
-use Rattle.edi_messages.specs.Texts.{is_name}
 use Rattle.edi_messages.specs.declared.codes.Codes.{Codes}
 
 -- empty, or a name: 1 to 35 bytes from space to tilde

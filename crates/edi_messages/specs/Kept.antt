@@ -1,9 +1,7 @@
 -- What is kept of the segments that speak of an equipment, as they are met.
 use Rattle.std.specs.Prelude.{Option, if◌then◌else◌}
-use Rattle.edi_syntax.specs.Segment.{value}
-use Rattle.edi_syntax.specs.Moments.{CivilMoment}
-use Rattle.edi_messages.specs.Orders.{moment_of_length}
-use Rattle.edi_messages.specs.declared.details.StatedMoment.{StatedMoment}
+use Rattle.edi_syntax.specs.{Segment.value, Moments.CivilMoment}
+use Rattle.edi_messages.specs.{Orders.moment_of_length, declared.details.StatedMoment.StatedMoment}
 
 -- the moment of a text of that format
 abbrev pub moment_kept : StatedMoment → Option CivilMoment

@@ -1,15 +1,8 @@
 -- Laws of what a message says.
-use Rattle.std.specs.Prelude.{◌≡◌, true, None, Ok, is_some}
-use Rattle.std.specs.Result.{result_err}
-use Rattle.edi_syntax.specs.Moments.{CivilMoment}
-use Rattle.edi_syntax.specs.Messages.{Message}
-use Rattle.edi_messages.specs.Parts.{EquipmentGroup}
-use Rattle.edi_messages.specs.Purposes.{Purpose, kind_of}
-use Rattle.edi_messages.specs.Faults.{is_list, fault_of}
-use Rattle.edi_messages.specs.LineFaults.{line_fault_in}
-use Rattle.edi_messages.specs.Orders.{order_of}
-use Rattle.edi_messages.specs.Message.{MessageContent, message_of, reading}
-use Rattle.edi_messages.specs.declared.codes.Codes.{Codes}
+use Rattle.std.specs.{Prelude.{◌≡◌, true, None, Ok, is_some}, Result.result_err}
+use Rattle.edi_syntax.specs.{Moments.CivilMoment, Messages.Message}
+use Rattle.edi_messages.specs.{Parts.EquipmentGroup, Purposes.{Purpose, kind_of}, Faults.{is_list, fault_of}, LineFaults.line_fault_in, Orders.order_of}
+use Rattle.edi_messages.specs.{Message.{MessageContent, message_of, reading}, declared.codes.Codes.Codes}
 
 -- A message to which no fault applies is read for a purpose.
 abbrev pub FaultlessAreRead : Type 0

@@ -1,16 +1,11 @@
 -- Why a line gives no order: each fault by its own definition, and the first that applies.
-use Rattle.std.specs.Prelude.{ℕ, Bool, true, false, not, ◌&&◌, List, [], ◌∷◌, codes, Option}
-use Rattle.std.specs.Option.{is_none, option_map_or}
-use Rattle.std.specs.List.{find}
-use Rattle.box6346.specs.NumberText.{has_form, is_checked}
-use Rattle.box6346.specs.SizeText as size
-use Rattle.box6346.specs.SlotName.{slot_of}
-use Rattle.edi_messages.specs.Parts.{EquipmentGroup, states_moment}
-use Rattle.edi_messages.specs.Orders.{number_text, size_text, location, names_slot, moment_stated}
-use Rattle.edi_messages.specs.declared.order.OrderKind.{OrderKind}
+use Rattle.std.specs.{Prelude.{ℕ, Bool, true, false, not, ◌&&◌, List, [], ◌∷◌, codes, Option}, Option.{is_none, option_map_or}, List.find}
+use Rattle.box6346.specs.{NumberText.{has_form, is_checked}, SlotName.slot_of}
+use Rattle.edi_messages.specs.{Parts.{EquipmentGroup, states_moment}, Orders.{number_text, size_text, location, names_slot, moment_stated}}
+use Rattle.edi_messages.specs.{declared.order.OrderKind.OrderKind, declared.line.LineFault.LineFault}
 use Rattle.edi_messages.specs.declared.order.OrderKind.TheVariants.{GateIn, GateOut, Move, ListDischarge, ListLoad, Discharge, Load}
-use Rattle.edi_messages.specs.declared.line.LineFault.{LineFault}
 use Rattle.edi_messages.specs.declared.line.LineFault.TheVariants.{Form, CheckDigit, Size, Moment, SlotText}
+use Rattle.box6346.specs.SizeText as size
 
 -- ---- what each kind of order reads, beside the number
 

@@ -1,20 +1,10 @@
 -- A message as its orders, or the fault by which it is rejected.
-use Rattle.std.specs.Prelude.{Bool, List, map, filter, Option, None, Some, Result, Ok, Err}
-use Rattle.std.specs.Option.{option_map_or}
-use Rattle.std.specs.Result.{result_ok}
+use Rattle.std.specs.{Prelude.{Bool, List, map, filter, Option, None, Some, Result, Ok, Err}, Option.option_map_or, Result.result_ok}
 use Rattle.box6346.specs.declared.box_number.BoxNumber.{BoxNumber}
-use Rattle.edi_syntax.specs.Moments.{CivilMoment}
-use Rattle.edi_syntax.specs.Text.{Content}
-use Rattle.edi_syntax.specs.Messages.{Message}
-use Rattle.edi_messages.specs.Parts.{EquipmentGroup, groups_of}
-use Rattle.edi_messages.specs.Faults.{is_container, purpose_of, fault_of, replaces_list}
-use Rattle.edi_messages.specs.Purposes.{CallContent, Purpose, kind_of, call_of}
-use Rattle.edi_messages.specs.Orders.{OrderContent, read_number, order_of}
-use Rattle.edi_messages.specs.declared.line.LineFault.{LineFault}
-use Rattle.edi_messages.specs.declared.codes.Codes.{Codes}
-use Rattle.edi_messages.specs.declared.order.OrderKind.{OrderKind}
-use Rattle.edi_messages.specs.declared.message.MessageFault.{MessageFault}
-use Rattle.edi_messages.specs.declared.message.MessageFault.TheVariants.{Code}
+use Rattle.edi_syntax.specs.{Moments.CivilMoment, Text.Content, Messages.Message}
+use Rattle.edi_messages.specs.{Parts.{EquipmentGroup, groups_of}, Faults.{is_container, purpose_of, fault_of, replaces_list}, declared.line.LineFault.LineFault}
+use Rattle.edi_messages.specs.{Purposes.{CallContent, Purpose, kind_of, call_of}, Orders.{OrderContent, read_number, order_of}, declared.codes.Codes.Codes}
+use Rattle.edi_messages.specs.{declared.order.OrderKind.OrderKind, declared.message.MessageFault.MessageFault, declared.message.MessageFault.TheVariants.Code}
 
 -- an order, or the fault of the line with its container, if the number could be read
 pub data LineContent : Type 0 where

@@ -1,25 +1,14 @@
 -- What a message orders for each of its containers, in the terms of directory D.95B.
-use Rattle.std.specs.Prelude.{ℕ, Bool, not, ◌==◌, List, [], length, codes, Option, None, Some, unwrap_or, Result, Ok, Err, if◌then◌else◌}
-use Rattle.std.specs.Option.{option_map_or, ok_or}
-use Rattle.std.specs.Result.{result_map_both}
-use Rattle.std.specs.List.{find}
-use Rattle.std.specs.Str.{bytes_eq}
-use Rattle.box6346.specs.ContainerNumber.{number_of}
-use Rattle.box6346.specs.SizeCode.{size_of}
-use Rattle.box6346.specs.SlotName.{slot_of}
-use Rattle.box6346.specs.declared.box_number.BoxNumber.{BoxNumber}
-use Rattle.box6346.specs.declared.size_type.SizeType.{SizeType}
-use Rattle.box6346.specs.declared.slot.Slot.{Slot}
-use Rattle.box6346.specs.declared.box_number.NumberFault.{NumberFault}
-use Rattle.box6346.specs.declared.box_number.NumberFault as number_fault
-use Rattle.edi_syntax.specs.Moments.{CivilMoment, moment_of}
-use Rattle.edi_syntax.specs.Numbers as numbers
-use Rattle.edi_syntax.specs.Text.{Content, component_of}
-use Rattle.edi_messages.specs.Parts.{EquipmentGroup, is_qualified, states_moment, states_weight}
-use Rattle.edi_messages.specs.Texts.{is_name}
-use Rattle.edi_messages.specs.Purposes.{CallContent, Purpose}
-use Rattle.edi_messages.specs.Purposes as purpose
+use Rattle.std.specs.{Prelude.{ℕ, Bool, not, ◌==◌, List, [], length, codes, Option, None, Some, unwrap_or, Result, Ok, Err, if◌then◌else◌}, List.find}
+use Rattle.std.specs.{Option.{option_map_or, ok_or}, Result.result_map_both, Str.bytes_eq}
+use Rattle.box6346.specs.{ContainerNumber.number_of, SizeCode.size_of, SlotName.slot_of, declared.box_number.BoxNumber.BoxNumber, declared.slot.Slot.Slot}
+use Rattle.box6346.specs.{declared.size_type.SizeType.SizeType, declared.box_number.NumberFault.NumberFault}
+use Rattle.edi_syntax.specs.{Moments.{CivilMoment, moment_of}, Text.{Content, component_of}}
+use Rattle.edi_messages.specs.{Parts.{EquipmentGroup, is_qualified, states_moment, states_weight}, Texts.is_name, Purposes.{CallContent, Purpose}}
 use Rattle.edi_messages.specs.declared.line.LineFault.{LineFault}
+use Rattle.box6346.specs.declared.box_number.NumberFault as number_fault
+use Rattle.edi_syntax.specs.Numbers as numbers
+use Rattle.edi_messages.specs.Purposes as purpose
 use Rattle.edi_messages.specs.declared.line.LineFault as line_fault
 
 -- a container that comes into the yard

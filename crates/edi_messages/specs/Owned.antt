@@ -1,15 +1,10 @@
 -- What the values that own their texts stand for.
-use Rattle.std.specs.Prelude.{map, string_bytes}
-use Rattle.std.specs.Option.{option_map}
-use Rattle.edi_messages.specs.Purposes.{CallContent}
-use Rattle.edi_messages.specs.Orders.{EntryContent, OrderContent, gate_in, gate_out, move, list_discharge, list_load, discharge, load}
-use Rattle.edi_messages.specs.Message.{LineContent, ordered, refused, MessageContent}
-use Rattle.edi_messages.specs.declared.call.Call.{Call}
-use Rattle.edi_messages.specs.declared.order.Entry.{Entry}
-use Rattle.edi_messages.specs.declared.order.Order.{Order}
-use Rattle.edi_messages.specs.declared.order.Order.TheVariants.{GateIn, GateOut, Move, ListDischarge, ListLoad, Discharge, Load}
-use Rattle.edi_messages.specs.declared.line.Line as line
+use Rattle.std.specs.{Prelude.{map, string_bytes}, Option.option_map}
+use Rattle.edi_messages.specs.{Purposes.CallContent, Orders.{EntryContent, OrderContent, gate_in, gate_out, move, list_discharge, list_load, discharge, load}}
+use Rattle.edi_messages.specs.{Message.{LineContent, ordered, refused, MessageContent}, declared.call.Call.Call, declared.order.Entry.Entry}
+use Rattle.edi_messages.specs.{declared.order.Order.Order, declared.order.Order.TheVariants.{GateIn, GateOut, Move, ListDischarge, ListLoad, Discharge, Load}}
 use Rattle.edi_messages.specs.declared.message.Message.{Message}
+use Rattle.edi_messages.specs.declared.line.Line as line
 
 abbrev pub call_content : Call → CallContent
 call_content call = record { vessel = string_bytes call.vessel; voyage = string_bytes call.voyage }

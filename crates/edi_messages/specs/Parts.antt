@@ -1,8 +1,6 @@
 -- The parts of a message: what stands before the equipment, and the group of each equipment.
-use Rattle.std.specs.Prelude.{ℕ, Bool, ◌&&◌, ◌||◌, List, [], ◌∷◌, codes, if◌then◌else◌}
-use Rattle.std.specs.Str.{bytes_eq}
-use Rattle.edi_syntax.specs.Text.{Content, has_tag, component_of}
-use Rattle.edi_syntax.specs.Frames.{message_segments_left}
+use Rattle.std.specs.{Prelude.{ℕ, Bool, ◌&&◌, ◌||◌, List, [], ◌∷◌, codes, if◌then◌else◌}, Str.bytes_eq}
+use Rattle.edi_syntax.specs.{Text.{Content, has_tag, component_of}, Frames.message_segments_left}
 use Rattle.edi_messages.specs.declared.part.Part.{Part}
 
 -- EQD

@@ -1,6 +1,5 @@
 -- What a message is for: what it orders for each of its containers, with the vessel's call that it is about.
-use Rattle.std.specs.Prelude.{ℕ, List, Option, None, Some}
-use Rattle.std.specs.Option.{option_map}
+use Rattle.std.specs.{Prelude.{ℕ, List, Option, None, Some}, Option.option_map}
 use Rattle.edi_messages.specs.declared.order.OrderKind.{OrderKind}
 use Rattle.edi_messages.specs.declared.order.OrderKind.TheVariants.{GateIn, GateOut, Move, ListDischarge, ListLoad, Discharge, Load}
 

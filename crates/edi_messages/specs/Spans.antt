@@ -1,15 +1,10 @@
 -- What the spans of the code stand for: what the code relies on, and no caller has to read.
 use Rattle.std.specs.Prelude.{ℕ, List}
 use Rattle.edi_syntax.specs.Segment.{content}
-use Rattle.edi_messages.specs.Parts.{EquipmentGroup, part_left}
-use Rattle.edi_messages.specs.Faults.{call_named}
-use Rattle.edi_messages.specs.Purposes.{CallContent, Purpose}
-use Rattle.edi_messages.specs.Purposes as purpose
-use Rattle.edi_messages.specs.Orders.{EntryContent}
-use Rattle.edi_messages.specs.declared.line.Group.{Group}
-use Rattle.edi_messages.specs.declared.call.CallSpan.{CallSpan}
-use Rattle.edi_messages.specs.declared.order.EntryFacts.{EntryFacts}
+use Rattle.edi_messages.specs.{Parts.{EquipmentGroup, part_left}, Faults.call_named, Purposes.{CallContent, Purpose}, Orders.EntryContent}
+use Rattle.edi_messages.specs.{declared.line.Group.Group, declared.call.CallSpan.CallSpan, declared.order.EntryFacts.EntryFacts}
 use Rattle.edi_messages.specs.declared.call.PurposeSpan.{PurposeSpan}
+use Rattle.edi_messages.specs.Purposes as purpose
 use Rattle.edi_messages.specs.declared.call.PurposeSpan as span
 
 abbrev pub group_content : Group → EquipmentGroup

@@ -1,6 +1,5 @@
 -- Names: of vessels, voyages, bookings and ports.
-use Rattle.std.specs.Prelude.{ℕ, Bool, ◌&&◌, nat_le, List, length}
-use Rattle.std.specs.List.{list_all}
+use Rattle.std.specs.{Prelude.{ℕ, Bool, ◌&&◌, nat_le, List, length}, List.list_all}
 use Rattle.edi_syntax.specs.Characters.{is_printable}
 
 -- 1 to 35 bytes from space to tilde

@@ -1,9 +1,7 @@
 -- Message types (UNH, S009): 0065 type, 0052 version, 0054 release, 0051 agency. The association code 0057 is free.
-use Rattle.std.specs.Prelude.{ℕ, ◌&&◌, List, codes, Option, None, Some, if◌then◌else◌}
-use Rattle.std.specs.Str.{bytes_eq}
+use Rattle.std.specs.{Prelude.{ℕ, ◌&&◌, List, codes, Option, None, Some, if◌then◌else◌}, Str.bytes_eq}
 use Rattle.edi_syntax.specs.Text.{Content, component_of}
-use Rattle.edi_messages.specs.declared.message.MessageType.{MessageType}
-use Rattle.edi_messages.specs.declared.message.MessageType.TheVariants.{Codeco, Coprar, Coarri}
+use Rattle.edi_messages.specs.{declared.message.MessageType.MessageType, declared.message.MessageType.TheVariants.{Codeco, Coprar, Coarri}}
 
 -- the message type that 0065 names
 abbrev pub type_named : List ℕ → Option MessageType

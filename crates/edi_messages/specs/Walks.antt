@@ -1,11 +1,7 @@
 -- What a walk over the segments of a message has found, and what it will find in those that are left.
-use Rattle.std.specs.Prelude.{ℕ, ◌+◌, Bool, List, [], ◌∷◌, Option, Some, None, if◌then◌else◌}
-use Rattle.std.specs.List.{fold, find}
-use Rattle.edi_syntax.specs.Text.{Content}
-use Rattle.edi_syntax.specs.Messages.{Message}
-use Rattle.edi_messages.specs.Parts.{ends_group}
-use Rattle.edi_messages.specs.Faults.{applies, lacks_equipment, miscounts_equipment, has_too_many}
-use Rattle.edi_messages.specs.declared.codes.Codes.{Codes}
+use Rattle.std.specs.{Prelude.{ℕ, ◌+◌, Bool, List, [], ◌∷◌, Option, Some, None, if◌then◌else◌}, List.{fold, find}}
+use Rattle.edi_syntax.specs.{Text.Content, Messages.Message}
+use Rattle.edi_messages.specs.{Parts.ends_group, Faults.{applies, lacks_equipment, miscounts_equipment, has_too_many}, declared.codes.Codes.Codes}
 use Rattle.edi_messages.specs.declared.message.MessageFault.{MessageFault}
 use Rattle.edi_messages.specs.declared.message.MessageFault.TheVariants.{OtherType, NoBgm, Code, Function, NoTransport, NoEquipment, EquipmentCount, TooMany}
 

@@ -1,6 +1,4 @@
-ghost use Rattle.std.specs.List.{list_all};
-ghost use Rattle.std.specs.Prelude.{◌≡◌, ◌≤◌, IsTrue, ◌<◌, ◌||◌, List, Bool, ℕ, map, IfOk, IfErr, Some, None, slice_get};
-ghost use Rattle.std.specs.Str.{bytes_eq};
+ghost use Rattle.std.specs.{List.list_all, Prelude.{◌≡◌, ◌≤◌, IsTrue, ◌<◌, ◌||◌, List, Bool, ℕ, map, IfOk, IfErr, Some, None, slice_get}, Str.bytes_eq};
 ghost use Rattle.edi_messages.specs.CodeText.{is_code, texts_of, is_twice, are_two_same, table_fault};
 ghost use Rattle.edi_syntax.specs.Characters.{is_tag_byte};
 

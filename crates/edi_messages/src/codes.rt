@@ -1,5 +1,4 @@
-ghost use Rattle.std.specs.Prelude.{◌≡◌, Some, None, if◌then◌else◌};
-ghost use Rattle.std.specs.Str.{bytes_eq};
+ghost use Rattle.std.specs.{Prelude.{◌≡◌, Some, None, if◌then◌else◌}, Str.bytes_eq};
 ghost use Rattle.edi_messages.specs.Codes.{code_text, order_meant};
 ghost use Rattle.edi_syntax.specs.Segment.{value};
 

@@ -1,14 +1,8 @@
 ghost use Rattle.std.specs.Prelude.{◌≡◌, ◌∷◌, [], length, map, zip, decimal, false, true, OnOk, IfOk};
 ghost use Rattle.edi_messages.specs.Contrl.{sender_of, recipient_of, identity_of, unb, unh, verdict_elements, uci, ucm, unt, unz, contrl_text, rejection_text};
 ghost use Rattle.edi_messages.specs.ErrorCodes.{message_error, interchange_error};
-ghost use Rattle.edi_syntax.specs.Segment.{value};
-ghost use Rattle.edi_syntax.specs.Spelling.{with_element, with_elements, with_segment};
-ghost use Rattle.edi_syntax.specs.Written.{with_segments};
-ghost use Rattle.edi_syntax.specs.Envelope.{header_of, messages_of};
-ghost use Rattle.edi_syntax.specs.Envelopes.{envelope_segments};
-ghost use Rattle.edi_syntax.specs.Frames.{message, messages_left};
-ghost use Rattle.edi_syntax.specs.Header.{control_reference};
-ghost use Rattle.edi_syntax.specs.Heads.{head_segments};
+ghost use Rattle.edi_syntax.specs.{Segment.value, Spelling.{with_element, with_elements, with_segment}, Written.with_segments, Envelopes.envelope_segments};
+ghost use Rattle.edi_syntax.specs.{Envelope.{header_of, messages_of}, Frames.{message, messages_left}, Header.control_reference, Heads.head_segments};
 
 use crate::message::{MessageFault, Verdict};
 use edi_syntax::{Component, Envelope, Frame, Frames, Head, SegmentWriter, SyntaxFault};

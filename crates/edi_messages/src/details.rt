@@ -1,10 +1,6 @@
-ghost use Rattle.std.specs.Option.{option_map, option_or};
-ghost use Rattle.std.specs.Prelude.{IsTrue, ◌≡◌, codes, Some, None, if◌then◌else◌};
-ghost use Rattle.edi_messages.specs.Kept.{moment_kept};
-ghost use Rattle.edi_messages.specs.Orders.{moment_stated};
-ghost use Rattle.edi_messages.specs.Parts.{is_qualified, states_moment};
-ghost use Rattle.edi_syntax.specs.Segment.{content, value};
-ghost use Rattle.edi_syntax.specs.Text.{component_of, has_tag};
+ghost use Rattle.std.specs.{Option.{option_map, option_or}, Prelude.{IsTrue, ◌≡◌, codes, Some, None, if◌then◌else◌}};
+ghost use Rattle.edi_messages.specs.{Kept.moment_kept, Orders.moment_stated, Parts.{is_qualified, states_moment}};
+ghost use Rattle.edi_syntax.specs.{Segment.{content, value}, Text.{component_of, has_tag}};
 
 use crate::part::is_value;
 use edi_syntax::{Component, Segment};

@@ -1,8 +1,6 @@
 ghost use Rattle.std.specs.Prelude.{◌≡◌, [], is_none};
-ghost use Rattle.edi_syntax.specs.Segment.{content, value};
-ghost use Rattle.edi_syntax.specs.Frames.{message, message_segments_left};
-ghost use Rattle.edi_messages.specs.Walks.{heading_fault_of, equipment_fault_of};
-ghost use Rattle.edi_messages.specs.Texts.{is_name};
+ghost use Rattle.edi_syntax.specs.{Segment.{content, value}, Frames.{message, message_segments_left}};
+ghost use Rattle.edi_messages.specs.{Walks.{heading_fault_of, equipment_fault_of}, Texts.is_name};
 ghost use Rattle.edi_messages.specs.Faults.{beginning, is_original, is_replacement, is_list, names_list, has_function, replaces_list, names_call, is_container, order_kind_of, is_of_other_type, has_other_function, lacks_transport, lacks_equipment, miscounts_equipment, has_too_many};
 
 use crate::codes::Codes;

@@ -1,13 +1,8 @@
-ghost use Rattle.std.specs.Prelude.{◌≡◌, Option, Some, None, Ok, Err};
-ghost use Rattle.std.specs.Option.{option_map_or};
-ghost use Rattle.std.specs.Result.{result_map_both};
-ghost use Rattle.box6346.specs.ContainerNumber.{number_of};
-ghost use Rattle.box6346.specs.SizeCode.{size_of};
-ghost use Rattle.box6346.specs.SlotName.{slot_of};
+ghost use Rattle.std.specs.{Prelude.{◌≡◌, Option, Some, None, Ok, Err}, Option.option_map_or, Result.result_map_both};
+ghost use Rattle.box6346.specs.{ContainerNumber.number_of, SizeCode.size_of, SlotName.slot_of};
 ghost use Rattle.edi_syntax.specs.Segment.{value};
-ghost use Rattle.edi_messages.specs.Kept.{moment_kept};
+ghost use Rattle.edi_messages.specs.{Kept.moment_kept, Spans.{group_content, entry_with}};
 ghost use Rattle.edi_messages.specs.Orders.{is_laden, booking, weight, moment_of_length, read_number, read_size, read_moment, read_slot, read_slot_if_named, read_entry};
-ghost use Rattle.edi_messages.specs.Spans.{group_content, entry_with};
 
 use crate::details::StatedMoment;
 use crate::line::{Group, LineFault};

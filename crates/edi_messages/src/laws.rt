@@ -1,5 +1,4 @@
-ghost use Rattle.edi_messages.specs.Contrl.{ContrlsAreCounted, ContrlsAreWithoutFault};
-ghost use Rattle.edi_messages.specs.Forms.{OrdersAreFormed};
+ghost use Rattle.edi_messages.specs.{Contrl.{ContrlsAreCounted, ContrlsAreWithoutFault}, Forms.OrdersAreFormed};
 ghost use Rattle.edi_messages.specs.Laws.{FaultlessAreRead, LinesAnswerTheirFirstFault, ReplacingIsOfAList};
 
 /// A message to which no fault applies is read for a purpose: as a list of lines of one kind of order.

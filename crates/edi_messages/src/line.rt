@@ -1,12 +1,6 @@
-ghost use Rattle.std.proofs.Props.{props};
-ghost use Rattle.std.specs.List.{find};
-ghost use Rattle.std.specs.Option.{option_map};
-ghost use Rattle.std.specs.Prelude.{◌≡◌, codes};
-ghost use Rattle.edi_messages.specs.Kept.{moment_kept};
-ghost use Rattle.edi_messages.specs.Orders.{moment_stated};
-ghost use Rattle.edi_messages.specs.Parts.{part_left, is_qualified, states_moment, states_weight};
-ghost use Rattle.edi_syntax.specs.Segment.{content, value};
-ghost use Rattle.edi_syntax.specs.Text.{component_of};
+ghost use Rattle.std.{specs.{List.find, Option.option_map, Prelude.{◌≡◌, codes}}, proofs.Props.props};
+ghost use Rattle.edi_messages.specs.{Kept.moment_kept, Orders.moment_stated, Parts.{part_left, is_qualified, states_moment, states_weight}};
+ghost use Rattle.edi_syntax.specs.{Segment.{content, value}, Text.component_of};
 
 use crate::details::{StatedMoment, keep_booking, keep_moment};
 use crate::order::Order;

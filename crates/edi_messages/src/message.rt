@@ -1,13 +1,7 @@
-ghost use Rattle.std.specs.Option.{option_map};
-ghost use Rattle.std.specs.Prelude.{◌≡◌, ◌++◌, ◌∷◌, [], IfSome, IsSomeAnd, IfNone, Some, map, IfOk, IfErr, MatchResult, Ok};
-ghost use Rattle.edi_messages.specs.ErrorCodes.{message_error};
-ghost use Rattle.edi_messages.specs.Message.{line_of, lines_of, reading};
-ghost use Rattle.edi_messages.specs.Owned.{call_content, line_content, message_content};
-ghost use Rattle.edi_messages.specs.Purposes.{kind_of, call_of};
-ghost use Rattle.edi_messages.specs.Spans.{group_content, call_spanned, purpose_spanned};
-ghost use Rattle.edi_messages.specs.Types.{type_named, message_type_of};
-ghost use Rattle.edi_syntax.specs.Segment.{content, value};
-ghost use Rattle.edi_syntax.specs.Frames.{message, message_segments_left};
+ghost use Rattle.std.specs.{Option.option_map, Prelude.{◌≡◌, ◌++◌, ◌∷◌, [], IfSome, IsSomeAnd, IfNone, Some, map, IfOk, IfErr, MatchResult, Ok}};
+ghost use Rattle.edi_messages.specs.{ErrorCodes.message_error, Message.{line_of, lines_of, reading}, Owned.{call_content, line_content, message_content}};
+ghost use Rattle.edi_messages.specs.{Purposes.{kind_of, call_of}, Spans.{group_content, call_spanned, purpose_spanned}, Types.{type_named, message_type_of}};
+ghost use Rattle.edi_syntax.specs.{Segment.{content, value}, Frames.{message, message_segments_left}};
 
 use crate::call::{Call, CallSpan, PurposeSpan};
 use crate::codes::Codes;

@@ -1,8 +1,6 @@
-ghost use Rattle.std.specs.Prelude.{◌≡◌, IfOk, Option, Some, None};
-ghost use Rattle.std.specs.Result.{result_map_both};
+ghost use Rattle.std.specs.{Prelude.{◌≡◌, IfOk, Option, Some, None}, Result.result_map_both};
 ghost use Rattle.edi_messages.specs.Orders.{read_entry, read_gate_in, read_gate_out, read_yard_move, read_discharge_line, read_load_line, read_discharge, read_load, order_of};
-ghost use Rattle.edi_messages.specs.Owned.{call_content, entry_content, order_content};
-ghost use Rattle.edi_messages.specs.Spans.{group_content, purpose_spanned, call_spanned};
+ghost use Rattle.edi_messages.specs.{Owned.{call_content, entry_content, order_content}, Spans.{group_content, purpose_spanned, call_spanned}};
 
 use crate::call::{Call, CallSpan, PurposeSpan};
 use crate::group_reading::{read_entry_facts, read_moment, read_number, read_slot};

@@ -1,17 +1,9 @@
-ghost use Rattle.std.specs.List.{list_all};
-ghost use Rattle.std.specs.Option.{option_map, option_or};
+ghost use Rattle.std.specs.{List.list_all, Option.{option_map, option_or}, Str.bytes_eq};
 ghost use Rattle.std.specs.Prelude.{IsTrue, ◌≡◌, ◌∷◌, [], codes, false, MatchOption, IfNone, IfSome, Option, Some, None, if◌then◌else◌, IfOk, string_bytes};
-ghost use Rattle.std.specs.Str.{bytes_eq};
-ghost use Rattle.edi_messages.specs.Faults.{names_call, call_in, purpose_of};
-ghost use Rattle.edi_messages.specs.Orders.{booking, port, name_kept};
-ghost use Rattle.edi_messages.specs.Owned.{call_content};
+ghost use Rattle.edi_messages.specs.{Faults.{names_call, call_in, purpose_of}, Orders.{booking, port, name_kept}, Owned.call_content, Walks.from_end};
 ghost use Rattle.edi_messages.specs.Parts.{is_equipment, ends_group, before_end, heading, part_left, is_qualified, states_weight};
-ghost use Rattle.edi_messages.specs.Purposes.{kind_of, call_of};
-ghost use Rattle.edi_messages.specs.Spans.{call_spanned, purpose_spanned, group_content};
-ghost use Rattle.edi_messages.specs.Walks.{from_end};
-ghost use Rattle.edi_syntax.specs.Characters.{is_printable};
-ghost use Rattle.edi_syntax.specs.Segment.{content, value};
-ghost use Rattle.edi_syntax.specs.Frames.{message, message_segments_left};
+ghost use Rattle.edi_messages.specs.{Purposes.{kind_of, call_of}, Spans.{call_spanned, purpose_spanned, group_content}};
+ghost use Rattle.edi_syntax.specs.{Characters.is_printable, Segment.{content, value}, Frames.{message, message_segments_left}};
 
 use crate::call::{Call, CallSpan, PurposeSpan};
 use crate::codes::Codes;

@@ -1,12 +1,7 @@
+ghost use Rattle.std.specs.{List.find, Option.{option_map, option_or}, Prelude.{◌≡◌, ◌+◌, ◌≤◌, ◌∷◌, [], codes, count_by, length, MatchOption, IfSome}};
 ghost use Rattle.std.proofs.Props.{props};
-ghost use Rattle.std.specs.List.{find};
-ghost use Rattle.std.specs.Option.{option_map, option_or};
-ghost use Rattle.std.specs.Prelude.{◌≡◌, ◌+◌, ◌≤◌, ◌∷◌, [], codes, count_by, length, MatchOption, IfSome};
-ghost use Rattle.edi_messages.specs.Parts.{groups_of, is_equipment, is_qualified};
-ghost use Rattle.edi_messages.specs.Types.{message_type_of};
-ghost use Rattle.edi_messages.specs.Walks.{counted_on};
-ghost use Rattle.edi_syntax.specs.Segment.{content};
-ghost use Rattle.edi_syntax.specs.Frames.{message, message_segments_left};
+ghost use Rattle.edi_messages.specs.{Parts.{groups_of, is_equipment, is_qualified}, Types.message_type_of, Walks.counted_on};
+ghost use Rattle.edi_syntax.specs.{Segment.content, Frames.{message, message_segments_left}};
 ghost use Rattle.edi_messages.specs.Faults as faults;
 
 use crate::faults::is_container;

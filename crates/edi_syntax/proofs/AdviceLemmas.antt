@@ -1,29 +1,18 @@
 -- The service characters that an advice names, and the text of an interchange that has one.
+use Rattle.std.{specs.{List.{list_all, AllByRecursion, list_any}, Str.bytes_eq}, proofs.{Math.Bool.Bool-set, lemmas.Slice.Eq.bytes_eq-Decides}}
 use Rattle.std.proofs.Common.{◌≡◌, ℕ, ◌≤◌, Bool, true, false, cond, not, ◌&&◌, nat_eq, nat_le, List, [], ◌∷◌, ◌++◌, length, take, drop, Option, Some, None, refl, sym, ap, subst, ◌∙◌, IsTrue, inl, inr, arith, codes, zero, suc, ◌-◌, get_or, map, append_assoc, ◌<◌, ◌||◌}
-use Rattle.std.proofs.Math.Bool.{Bool-set}
-use mathlib.Core.HLevel.{Σ_prop_path}
 use Rattle.std.proofs.lemmas.Bool.{and_parts, and_from, eqb-true, false≢true, true≢false, cases_Bool, le-leb, leb-true, or_left, or_parts, eq-eqb}
 use Rattle.std.proofs.lemmas.List.{take-append-drop, drop_at, take_at, take_all, take-append-le, length-append, append-nil, nil_from_length}
-use Rattle.std.proofs.lemmas.Slice.Eq.{bytes_eq-Decides}
-use Rattle.edi_syntax.specs.Characters.{are_service_characters, begins_with_advice, is_data_byte, is_release}
+use Rattle.edi_syntax.specs.{Characters.{are_service_characters, begins_with_advice, is_data_byte, is_release}, Reading.{breaks_len, are_segments, segments_of}}
 use Rattle.edi_syntax.specs.Advice.{ServiceCharacters, characters, advised_characters, may_be_used, default_service, service_with, has_advice, service_at, has_bad_advice, behind_advice, without_breaks}
-use Rattle.edi_syntax.specs.Text.{Content, SegmentsText, IsSameSegment, SpellsByte, Spells, ElementText, ElementsText, SegmentText}
-use Rattle.edi_syntax.specs.Reading.{breaks_len, are_segments, segments_of}
-use Rattle.edi_syntax.specs.Interchange.{release_byte, AdviceText, InterchangeText, segments_in, is_segment_text}
-use Rattle.edi_syntax.specs.declared.characters.Service.{Service}
-use Rattle.edi_syntax.proofs.SegmentsLemmas.{segments_sound, segments_complete, breaks_at, breaks_only, no_break_before}
-use Rattle.std.specs.List.{list_all, AllByRecursion, list_any}
-use Rattle.std.specs.Str.{bytes_eq}
-use Rattle.edi_syntax.specs.Tokens.{is_service, token_of, releases}
+use Rattle.edi_syntax.specs.{Text.{Content, SegmentsText, IsSameSegment, SpellsByte, Spells, ElementText, ElementsText, SegmentText}, Parts.value_of}
+use Rattle.edi_syntax.specs.{Interchange.{release_byte, AdviceText, InterchangeText, segments_in, is_segment_text}, declared.characters.Service.Service}
+use Rattle.edi_syntax.specs.{Tokens.{is_service, token_of, releases}, Written.{IsWritableSegment, AreSameSegments, WritesSegments, ReadsBack}}
 use Rattle.edi_syntax.specs.Spelling.{spelled_byte, spelling, is_empty_value, is_empty_element, composite, elements_text, segment_text, segments_text, Writing, with_tag, with_element, with_elements, with_segment}
-use Rattle.edi_syntax.specs.Written.{IsWritableSegment, AreSameSegments, WritesSegments, ReadsBack}
-use Rattle.edi_syntax.specs.Parts.{value_of}
-use Rattle.edi_syntax.specs.declared.token.Token.{Token}
-use Rattle.edi_syntax.specs.declared.token.Token.TheVariants.{Data, Release, Component, Element, Terminator, Invalid}
+use Rattle.edi_syntax.specs.{declared.token.Token.Token, declared.token.Token.TheVariants.{Data, Release, Component, Element, Terminator, Invalid}}
+use Rattle.edi_syntax.proofs.{SegmentsLemmas.{segments_sound, segments_complete, breaks_at, breaks_only, no_break_before}, PartLemmas.length-value}
 use Rattle.edi_syntax.proofs.SegmentLemmas.{MeansUnreleased, token_means}
-use Rattle.edi_syntax.proofs.PartLemmas.{length-value}
-
--- ==== AdviceLemmas: The service characters that an advice names, and the text of an interchange that has one.
+use mathlib.Core.HLevel.{Σ_prop_path}
 
 service_from : (c : ServiceCharacters) × IsTrue (may_be_used c) → Service
 service_from (c, usable) = record { component = c.component; element = c.element; release = c.release; terminator = c.terminator; distinct = usable }

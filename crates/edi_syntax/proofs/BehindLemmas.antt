@@ -1,24 +1,15 @@
 -- Bytes that come after nine of an interchange: no advice can begin any more.
 use Rattle.std.proofs.Common.{◌≡◌, ℕ, zero, suc, ◌+◌, ◌-◌, ◌<◌, ◌≤◌, Bool, true, false, cond, ◌&&◌, nat_lt, min, List, [], ◌∷◌, ◌++◌, length, take, Some, None, refl, sym, ap, subst, ◌∙◌, inl, inr, append_assoc, arith, drop}
-use Rattle.std.proofs.lemmas.Bool.{cases_Bool, true≢false, ltb-true, ltb-false, lt-leb, lt-ltb, le-ltb, false≢true}
+use Rattle.std.proofs.{lemmas.Bool.{cases_Bool, true≢false, ltb-true, ltb-false, lt-leb, lt-ltb, le-ltb, false≢true}, Math.Seq.take-append-add}
 use Rattle.std.proofs.lemmas.List.{append-nil, take-append-le, take-take, length-append, length-take, length-take-le, take_all, take_at, take-append-drop, append_cancel_left}
-use Rattle.std.proofs.Math.Seq.{take-append-add}
-use Rattle.edi_syntax.specs.Characters.{is_break, begins_with_advice}
-use Rattle.edi_syntax.specs.Reading.{breaks_len}
-use Rattle.edi_syntax.specs.Advice.{service_at, without_breaks}
-use Rattle.edi_syntax.specs.declared.characters.Service.{Service}
-use Rattle.edi_syntax.specs.Positions.{position_after, is_refused, stops, ReadsTo}
+use Rattle.edi_syntax.specs.{Characters.{is_break, begins_with_advice}, Reading.breaks_len, Advice.{service_at, without_breaks}}
+use Rattle.edi_syntax.specs.{declared.characters.Service.Service, Positions.{position_after, is_refused, stops, ReadsTo}, declared.position.Position.Position}
 use Rattle.edi_syntax.specs.Cuts.{is_in_advice, breaks_advice, position_of, is_closed, fault_of, is_whole, IsOpen, IsOpenBefore, IsPending, Cutting, pending_bytes, interchange, IsInterchange}
-use Rattle.edi_syntax.specs.Steps.{Holds, IsReadOn, IsRefusedBehind}
-use Rattle.edi_syntax.specs.declared.position.Position.{Position}
-use Rattle.edi_syntax.specs.declared.position.Position.TheVariants.{Between, First, Second, Tagged, Inside, Refused}
-use Rattle.edi_syntax.specs.declared.position.Reading.{Reading}
-use Rattle.edi_syntax.specs.declared.cutter.CutFault.TheVariants.{TooLong, Service as ServiceFault, Segment}
-use Rattle.edi_syntax.proofs.CutLemmas.{no_fault, grows, nothing_open, first_is_one}
+use Rattle.edi_syntax.specs.{Steps.{Holds, IsReadOn, IsRefusedBehind}, declared.position.Position.TheVariants.{Between, First, Second, Tagged, Inside, Refused}}
+use Rattle.edi_syntax.specs.{declared.position.Reading.Reading, declared.cutter.CutFault.TheVariants.{TooLong, Service as ServiceFault, Segment}}
 use Rattle.edi_syntax.specs.Streams.{HasNone, AreCuts, Feeds, FeedsAll, stream_of, CutsTheStream, CutsAreOne}
+use Rattle.edi_syntax.proofs.CutLemmas.{no_fault, grows, nothing_open, first_is_one}
 use Rattle.edi_syntax.specs.Positions as positions
-
--- ==== BehindLemmas: Bytes that come after nine of an interchange: no advice can begin any more.
 
 -- ---- more bytes
 

@@ -1,29 +1,16 @@
 -- Messages one after the other.
+use Rattle.std.specs.{Char.digit_value, List.{list_all, find, flat_map}, Str.Parse.digits_value, Option.{is_none, option_or}, Str.bytes_eq}
 use Rattle.std.proofs.Common.{◌≡◌, ℕ, ◌+◌, ◌-◌, ◌*◌, ◌^◌, ◌<◌, ◌≤◌, true, List, [], ◌∷◌, ◌++◌, refl, sym, ap, ◌∙◌, add-one, arith, Bool, false, cond, not, ◌&&◌, nat_le, nat_eq, length, codes, Option, Some, None, inl, inr, IsSome, zero, suc, ◌==◌, subst, append_assoc, get_or}
-use Rattle.std.proofs.Math.Nat.{pow-suc, pow-le-pow_right}
-use Rattle.std.specs.Char.{digit_value}
-use Rattle.std.specs.List.{list_all, find, flat_map}
-use Rattle.std.specs.Str.Parse.{digits_value}
+use Rattle.std.proofs.{Math.Nat.{pow-suc, pow-le-pow_right}, lemmas.List.Folds.{list_all-append, find-append}, lemmas.Int.Digits.digits_value_push}
 use Rattle.std.proofs.lemmas.Bool.{lt-ltb, le-ltb, and_from, le-leb, cases_Bool, not-false, and_parts, leb-true, true≢false, not-true, eqb-true, false≢true}
-use Rattle.std.proofs.lemmas.List.Folds.{list_all-append, find-append}
-use Rattle.std.proofs.lemmas.Int.Digits.{digits_value_push}
-use Rattle.edi_syntax.specs.Characters.{is_digit}
-use Rattle.std.specs.Option.{is_none, option_or}
-use Rattle.std.specs.Str.{bytes_eq}
-use Rattle.std.proofs.lemmas.Option.{cond_some, option_and_then_some}
-use Rattle.edi_syntax.specs.Text.{Content, has_tag}
-use Rattle.edi_syntax.specs.Advice.{has_bad_advice}
-use Rattle.edi_syntax.specs.Segment.{value_of_length}
-use Rattle.edi_syntax.specs.Interchange.{segments_in, is_segment_text, read_fault}
-use Rattle.edi_syntax.specs.declared.interchange.SyntaxFault.{SyntaxFault}
+use Rattle.std.proofs.{lemmas.Option.{cond_some, option_and_then_some}, lemmas.List.{length-append, nil_from_length}, lemmas.Slice.Eq.bytes_eq-Decides}
+use Rattle.edi_syntax.specs.{Characters.is_digit, Text.{Content, has_tag}, Advice.has_bad_advice, Segment.value_of_length}
+use Rattle.edi_syntax.specs.{Interchange.{segments_in, is_segment_text, read_fault}, declared.interchange.SyntaxFault.SyntaxFault}
 use Rattle.edi_syntax.specs.declared.interchange.SyntaxFault.TheVariants.{Service, Segment, NoEnvelope, Group, Version, Number, Moment, Test, MessageFrame, SegmentCount, MessageReference, Empty, ControlCount, ControlReference}
-use Rattle.edi_syntax.specs.Numbers.{number_of, as_control_number}
-use Rattle.edi_syntax.specs.Header.{control_number, control_reference, preparation, test_indicator, is_known_syntax}
+use Rattle.edi_syntax.specs.{Numbers.{number_of, as_control_number}, Header.{control_number, control_reference, preparation, test_indicator, is_known_syntax}}
 use Rattle.edi_syntax.specs.Envelope.{header_of, behind_header, has_envelope, messages_of, counts_messages, repeats_reference, is_of_functional_group}
 use Rattle.edi_syntax.specs.Messages.{messages_in, begins_message, are_messages, is_counted, is_referenced, Message, ends_message, is_inner, before_trailer, trailer_in, message_from}
 use Rattle.edi_syntax.specs.Faults.{applies, applies_to, text_faults, header_faults, body_faults, fault_of, head_fault_of, header_fault_of, body_fault_of, segments_fault}
-use Rattle.std.proofs.lemmas.List.{length-append, nil_from_length}
-use Rattle.std.proofs.lemmas.Slice.Eq.{bytes_eq-Decides}
 use Rattle.edi_syntax.specs.Laws.{IsMessage, message_segments, AreMessages, MessagesStand}
 
 -- ==== NumberLemmas: The number that digits write, one digit more.

@@ -1,7 +1,6 @@
 -- The digits of a moment are read as that moment.
+use Rattle.std.{specs.List.list_all, proofs.lemmas.Bool.{and_parts, and_from, le-leb, leb-true, ltb-true}}
 use Rattle.std.proofs.Common.{◌≡◌, ◌++◌, ℕ, ◌+◌, ◌-◌, ◌*◌, ◌/◌, ◌%◌, ◌<◌, ◌≤◌, Bool, true, false, cond, ◌&&◌, ◌||◌, nat_eq, ◌==◌, nat_le, nat_lt, Some, refl, ap, ◌∙◌, pos, arith}
-use Rattle.std.specs.List.{list_all}
-use Rattle.std.proofs.lemmas.Bool.{and_parts, and_from, le-leb, leb-true, ltb-true}
 use Rattle.jiff.specs.Words.{days_in_month, is_leap_year}
 use Rattle.edi_syntax.specs.Moments.{CivilMoment, is_day, is_moment, is_digit, moment_written, moment_of, moment_digits}
 

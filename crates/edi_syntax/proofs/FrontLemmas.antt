@@ -1,15 +1,9 @@
 -- The bytes of an interchange that may be an advice, and a piece after them.
 use Rattle.std.proofs.Common.{◌≡◌, ℕ, zero, suc, ◌+◌, ◌-◌, ◌<◌, ◌≤◌, true, false, List, [], ◌∷◌, ◌++◌, length, take, drop, get_or, Some, None, refl, sym, ap, subst, ◌∙◌, append_assoc, arith}
-use Rattle.std.proofs.Math.ListN.{set}
-use Rattle.std.proofs.lemmas.Bool.{true≢false}
-use Rattle.std.proofs.lemmas.List.{take_all, take_more, take_more_set, length-drop, length-set, append-nil}
+use Rattle.std.proofs.{Math.ListN.set, lemmas.Bool.true≢false, lemmas.List.{take_all, take_more, take_more_set, length-drop, length-set, append-nil}}
 use Rattle.std.proofs.Math.Seq.{take-add}
-use Rattle.edi_syntax.specs.Characters.{is_break}
-use Rattle.edi_syntax.specs.Reading.{breaks_len}
-use Rattle.edi_syntax.specs.Cuts.{fault_of, is_closed, is_whole, IsOpenBefore, Faults}
-use Rattle.edi_syntax.specs.Steps.{IsReadingOf, Holds, IsReadOn, IsRefusedBehind}
-use Rattle.edi_syntax.specs.declared.position.Reading.{Reading}
-use Rattle.edi_syntax.specs.declared.cutter.CutFault.{CutFault}
+use Rattle.edi_syntax.specs.{Characters.is_break, Reading.breaks_len, Cuts.{fault_of, is_closed, is_whole, IsOpenBefore, Faults}}
+use Rattle.edi_syntax.specs.{Steps.{IsReadingOf, Holds, IsReadOn, IsRefusedBehind}, declared.position.Reading.Reading, declared.cutter.CutFault.CutFault}
 use Rattle.edi_syntax.proofs.PositionLemmas.{before_more, no_breaks}
 
 -- the bytes of the piece so far stand after the text, and were read

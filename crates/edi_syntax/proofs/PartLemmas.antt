@@ -1,15 +1,10 @@
 -- The parts of a segment's text stand for its elements and values.
+use Rattle.std.{specs.{Option.{option_map, option_map_or}, Prelude.unwrap_or}, proofs.lemmas.List.{at_drop_more, at_drop_all, drop-drop}}
 use Rattle.std.proofs.Common.{◌≡◌, ℕ, zero, suc, ◌+◌, ◌-◌, ◌<◌, ◌≤◌, Bool, true, false, cond, nat_eq, List, [], ◌∷◌, length, take, drop, get_or, map, Option, Some, None, refl, sym, ap, ◌∙◌, inl, inr, add-one, arith}
-use Rattle.std.specs.Option.{option_map, option_map_or}
-use Rattle.std.specs.Prelude.{unwrap_or}
-use Rattle.edi_syntax.specs.Characters.{is_data_byte, is_release}
-use Rattle.std.proofs.lemmas.List.{at_drop_more, at_drop_all, drop-drop}
 use Rattle.std.proofs.lemmas.Bool.{eqb-true, eq-eqb, cases_Bool}
-use Rattle.edi_syntax.specs.Tokens.{token_of, releases}
-use Rattle.edi_syntax.specs.Reading.{push_byte, push_value, push_element, with_token, elements_of}
+use Rattle.edi_syntax.specs.{Characters.{is_data_byte, is_release}, Tokens.{token_of, releases}, declared.characters.Service.Service}
+use Rattle.edi_syntax.specs.{Reading.{push_byte, push_value, push_element, with_token, elements_of}, declared.token.Token.Token}
 use Rattle.edi_syntax.specs.Parts.{separates, push_front, parts_of, separator_of, split_of, value_of}
-use Rattle.edi_syntax.specs.declared.characters.Service.{Service}
-use Rattle.edi_syntax.specs.declared.token.Token.{Token}
 use Rattle.edi_syntax.specs.declared.token.Token.TheVariants.{Data, Release, Component, Element, Terminator, Invalid}
 use Rattle.edi_syntax.proofs.SegmentLemmas.{MeansUnreleased, token_means, released_means, component_token, element_token}
 

@@ -1,18 +1,11 @@
 -- What was read of a piece, after the line breaks at its front.
 use Rattle.std.proofs.Common.{◌≡◌, ℕ, zero, suc, ◌+◌, ◌-◌, ◌<◌, ◌≤◌, Bool, true, false, cond, nat_lt, List, [], ◌∷◌, ◌++◌, length, take, drop, Option, Some, None, IfSome, refl, sym, ap, subst, ◌∙◌, inl, inr, arith}
-use Rattle.std.proofs.lemmas.Bool.{cases_Bool, false≢true, ltb-true, ltb-false, eqb-true}
-use Rattle.std.proofs.lemmas.List.{take_all, length-drop, append-nil}
+use Rattle.std.proofs.{lemmas.Bool.{cases_Bool, false≢true, ltb-true, ltb-false, eqb-true}, lemmas.List.{take_all, length-drop, append-nil}}
 use Rattle.std.proofs.Math.Seq.{take-append-add}
-use Rattle.edi_syntax.specs.Characters.{is_break}
-use Rattle.edi_syntax.specs.Reading.{breaks_len}
-use Rattle.edi_syntax.specs.Advice.{without_breaks}
+use Rattle.edi_syntax.specs.{Characters.is_break, Reading.breaks_len, Advice.without_breaks, Steps.{Holds, IsReadOn, IsRefusedBehind}}
 use Rattle.edi_syntax.specs.Cuts.{Cutting, fault_of, is_closed, is_whole, is_nil, IsOpenBefore, IsInterchange, IsPending, Faults, HasNoFault, Answers, Fails, FaultsWithin}
-use Rattle.edi_syntax.specs.Steps.{Holds, IsReadOn, IsRefusedBehind}
-use Rattle.edi_syntax.specs.declared.position.Reading.{Reading}
-use Rattle.edi_syntax.specs.declared.cutter.CutFault.{CutFault}
-use Rattle.edi_syntax.specs.declared.cutter.CutFault.TheVariants.{TooLong, Service as ServiceFault, Segment, Memory}
-use Rattle.edi_syntax.proofs.PositionLemmas.{never_memory, no_breaks}
-use Rattle.edi_syntax.proofs.CutLemmas.{first_is_one}
+use Rattle.edi_syntax.{specs.{declared.position.Reading.Reading, declared.cutter.CutFault.CutFault}, proofs.PositionLemmas.{never_memory, no_breaks}}
+use Rattle.edi_syntax.{specs.declared.cutter.CutFault.TheVariants.{TooLong, Service as ServiceFault, Segment, Memory}, proofs.CutLemmas.first_is_one}
 use Rattle.edi_syntax.proofs.BehindLemmas.{none_left}
 
 -- ---- line breaks at the front

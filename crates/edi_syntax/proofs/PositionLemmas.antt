@@ -1,29 +1,16 @@
 -- The positions that bytes of segments lead to, and the texts of segments.
+use Rattle.std.{specs.{Option.option_map, List.list_all}, proofs.lemmas.List.{length-drop, append-nil, take_at, length-append, take-append-le}}
 use Rattle.std.proofs.Common.{◌≡◌, ◌⊎◌, ℕ, zero, suc, ◌+◌, ◌≤◌, Bool, true, false, cond, ◌&&◌, nat_eq, List, [], ◌∷◌, ◌++◌, length, take, drop, Some, None, refl, sym, ap, subst, ◌∙◌, inl, inr, append_assoc, arith, codes, ◌<◌, nat_lt}
-use Rattle.std.specs.Option.{option_map}
-use Rattle.std.specs.List.{list_all}
 use Rattle.std.proofs.lemmas.Bool.{and_parts, and_from, or_cases, or_parts, eqb-true, eq-eqb, false≢true, cases_Bool, ltb-true, ltb-false}
-use Rattle.std.proofs.lemmas.List.{length-drop, append-nil, take_at, length-append, take-append-le}
-use Rattle.edi_syntax.specs.Characters.{is_tag_byte, is_break}
-use Rattle.edi_syntax.specs.Tokens.{token_of, releases}
-use Rattle.edi_syntax.specs.Text.{Content, SegmentText, SegmentsText}
-use Rattle.edi_syntax.specs.Reading.{with_end, end_of, begins_elements, body_len, content_of}
+use Rattle.edi_syntax.specs.{Characters.{is_tag_byte, is_break}, Tokens.{token_of, releases}, Text.{Content, SegmentText, SegmentsText}, Steps.Holds}
+use Rattle.edi_syntax.specs.{Reading.{with_end, end_of, begins_elements, body_len, content_of}, declared.characters.Service.Service, declared.token.Token.Token}
 use Rattle.edi_syntax.specs.Positions.{position_by, inside_by, position_after, SegmentsBehindBreaks, Closes, RefusedWhereNothingGoesOn, ClosedWhereATrailerEnds, is_refused}
-use Rattle.edi_syntax.specs.declared.characters.Service.{Service}
-use Rattle.edi_syntax.specs.declared.token.Token.{Token}
-use Rattle.edi_syntax.specs.declared.token.Token.TheVariants.{Data, Release, Component, Element, Terminator, Invalid}
-use Rattle.edi_syntax.specs.declared.position.Position.{Position}
-use Rattle.edi_syntax.specs.declared.position.Position.TheVariants.{Between, First, Second, Tagged, Inside, Refused}
-use Rattle.edi_syntax.proofs.SegmentLemmas.{service_distinct, released_data, element_token, terminator_token, body_sound, segment_found, segment_complete, mapped_some, mapped_suc, cond_none}
-use Rattle.edi_syntax.proofs.SegmentsLemmas.{tag_is_no_break}
-use Rattle.edi_syntax.specs.Advice.{characters, default_service}
+use Rattle.edi_syntax.specs.{declared.token.Token.TheVariants.{Data, Release, Component, Element, Terminator, Invalid}, declared.position.Position.Position}
+use Rattle.edi_syntax.specs.{declared.position.Position.TheVariants.{Between, First, Second, Tagged, Inside, Refused}, Advice.{characters, default_service}}
 use Rattle.edi_syntax.specs.Cuts.{Cutting, breaks_advice, position_of, is_closed, fault_of, is_whole, is_nil, pending_bytes, interchange, IsOpen, IsOpenBefore}
-use Rattle.edi_syntax.specs.Steps.{Holds}
-use Rattle.edi_syntax.specs.declared.position.Reading.{Reading}
-use Rattle.edi_syntax.specs.declared.cutter.CutFault.TheVariants.{TooLong, Service as ServiceFault, Segment, Memory}
-use Rattle.edi_syntax.proofs.AdviceLemmas.{same_service}
-
--- ==== PositionLemmas: The positions that bytes of segments lead to, and the texts of segments.
+use Rattle.edi_syntax.specs.{declared.position.Reading.Reading, declared.cutter.CutFault.TheVariants.{TooLong, Service as ServiceFault, Segment, Memory}}
+use Rattle.edi_syntax.proofs.SegmentLemmas.{service_distinct, released_data, element_token, terminator_token, body_sound, segment_found, segment_complete, mapped_some, mapped_suc, cond_none}
+use Rattle.edi_syntax.proofs.{SegmentsLemmas.tag_is_no_break, AdviceLemmas.same_service}
 
 pub refused_stays : (s : Service) (bytes : List ℕ) → position_after s Refused bytes ≡ Refused
 unfolding position_after

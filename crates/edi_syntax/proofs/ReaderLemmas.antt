@@ -1,18 +1,10 @@
 -- Where there is nothing but segments, the first terminator that is not released ends the first of them.
+use Rattle.std.{specs.{Option.{option_map, option_map_or}, List.list_all}, proofs.lemmas.Bool.{eqb-true, eq-eqb, cases_Bool, false≢true}}
 use Rattle.std.proofs.Common.{◌≡◌, ℕ, suc, ◌+◌, ◌<◌, ◌≤◌, Bool, true, false, cond, ◌&&◌, nat_eq, List, [], ◌∷◌, length, take, drop, Option, Some, None, refl, sym, ap, ◌∙◌, inl, inr, arith}
-use Rattle.std.specs.Option.{option_map, option_map_or}
-use Rattle.std.specs.List.{list_all}
-use Rattle.std.proofs.lemmas.Bool.{eqb-true, eq-eqb, cases_Bool, false≢true}
-use Rattle.std.proofs.lemmas.Option.{some_pair_parts}
-use Rattle.std.proofs.lemmas.List.{length-drop, length-take, drop-drop}
-use Rattle.edi_syntax.specs.Characters.{is_tag_byte}
-use Rattle.edi_syntax.specs.Tokens.{token_of, releases}
-use Rattle.edi_syntax.specs.Parts.{separates, separator_of, split_of}
-use Rattle.edi_syntax.specs.Text.{Content}
-use Rattle.edi_syntax.specs.Reading.{with_end, end_of, begins_elements, body_len, content_of, next_at, breaks_len, are_segments}
-use Rattle.edi_syntax.specs.declared.characters.Service.{Service}
-use Rattle.edi_syntax.specs.declared.token.Token.{Token}
-use Rattle.edi_syntax.specs.declared.token.Token.TheVariants.{Data, Release, Component, Element, Terminator, Invalid}
+use Rattle.std.proofs.{lemmas.Option.some_pair_parts, lemmas.List.{length-drop, length-take, drop-drop}}
+use Rattle.edi_syntax.specs.{Characters.is_tag_byte, Tokens.{token_of, releases}, Parts.{separates, separator_of, split_of}, Text.Content}
+use Rattle.edi_syntax.specs.{Reading.{with_end, end_of, begins_elements, body_len, content_of, next_at, breaks_len, are_segments}, declared.token.Token.Token}
+use Rattle.edi_syntax.specs.{declared.characters.Service.Service, declared.token.Token.TheVariants.{Data, Release, Component, Element, Terminator, Invalid}}
 use Rattle.edi_syntax.proofs.SegmentLemmas.{MeansUnreleased, token_means, released_means, terminator_token, mapped_some, mapped_suc, cond_none}
 use Rattle.edi_syntax.proofs.SegmentsLemmas.{next_of_are_segments, no_end}
 

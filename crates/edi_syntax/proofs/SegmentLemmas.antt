@@ -1,18 +1,13 @@
 -- The segment at the front of bytes is the one whose text stands there.
+use Rattle.std.{specs.{Option.option_map, List.list_all, Str.bytes_eq}, proofs.lemmas.Slice.Eq.bytes_eq-Decides}
 use Rattle.std.proofs.Common.{◌≡◌, ◌⊎◌, ℕ, nat_eq, true, false, not, ◌||◌, Option, Some, None, refl, sym, ap, IsTrue, inl, inr, Bool, ◌&&◌, List, [], ◌∷◌, ◌++◌, ◌∙◌, append_assoc, suc, ◌+◌, cond, length, take, drop, subst, arith, ◌↔◌}
 use Rattle.std.proofs.lemmas.Bool.{and_parts, and_from, or_parts, or_from, not-true, not_from_false, eqb-true, eqb-false, ne_eqb, eq-eqb, cases_Bool, false≢true, or_cases, or_right, or_left}
-use Rattle.edi_syntax.specs.Characters.{is_data_byte, is_release, are_service_characters, is_tag_byte}
-use Rattle.edi_syntax.specs.Tokens.{is_service, is_plain, may_be_released, token_of, releases}
-use Rattle.edi_syntax.specs.declared.characters.Service.{Service}
-use Rattle.edi_syntax.specs.declared.token.Token.{Token}
+use Rattle.std.proofs.lemmas.List.{take_at, drop_at, take-append-drop, take-take, drop-take, drop-drop, length-append, length-take, length-drop}
+use Rattle.edi_syntax.specs.{Characters.{is_data_byte, is_release, are_service_characters, is_tag_byte}, declared.characters.Service.Service}
+use Rattle.edi_syntax.specs.{Tokens.{is_service, is_plain, may_be_released, token_of, releases}, declared.token.Token.Token}
 use Rattle.edi_syntax.specs.declared.token.Token.TheVariants.{Data, Release, Component, Element, Terminator, Invalid}
 use Rattle.edi_syntax.specs.Text.{SpellsByte, Spells, ElementText, ElementsText, Content, SegmentText}
 use Rattle.edi_syntax.specs.Reading.{push_byte, push_value, push_element, with_token, elements_of, stays_inside, are_elements, with_end, end_of, begins_elements, body_len, content_of}
-use Rattle.std.specs.Option.{option_map}
-use Rattle.std.specs.List.{list_all}
-use Rattle.std.proofs.lemmas.List.{take_at, drop_at, take-append-drop, take-take, drop-take, drop-drop, length-append, length-take, length-drop}
-use Rattle.std.specs.Str.{bytes_eq}
-use Rattle.std.proofs.lemmas.Slice.Eq.{bytes_eq-Decides}
 
 -- ==== TokenLemmas: What a token says of its byte, and the token of each kind of byte.
 

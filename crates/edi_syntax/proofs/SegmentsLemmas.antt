@@ -1,23 +1,13 @@
 -- The segments that are read are those of the text.
+use Rattle.std.{specs.{Option.{option_map, option_map_or}, List.{list_all, position_or_len}}, proofs.lemmas.Option.none-some}
 use Rattle.std.proofs.Common.{◌≡◌, ℕ, suc, ◌+◌, ◌<◌, ◌≤◌, Bool, true, false, List, [], ◌∷◌, length, drop, get_or, Option, Some, None, refl, sym, ap, ◌∙◌, arith, inl, inr, ◌⊎◌, zero, ◌&&◌, nat_eq, ◌++◌, take, append_assoc, add-one, subst, not}
-use Rattle.std.specs.Option.{option_map, option_map_or}
-use Rattle.std.proofs.lemmas.List.{at_drop_more, at_drop_all, drop-drop, drop_at, take-append-drop}
-use Rattle.edi_syntax.specs.Tokens.{token_of, releases, stays_unreleased, is_service}
-use Rattle.edi_syntax.specs.Reading.{stays_inside, with_end, end_of, body_len, content_of, next_at, breaks_len, segments_from, are_segments_from, segments_of, are_segments}
-use Rattle.edi_syntax.specs.declared.characters.Service.{Service}
-use Rattle.edi_syntax.specs.declared.token.Token.{Token}
-use Rattle.edi_syntax.specs.declared.token.Token.TheVariants.{Data, Release, Component, Element, Terminator, Invalid}
-use Rattle.edi_syntax.proofs.SegmentLemmas.{released_means, segment_at, body_sound, segment_found, segment_complete, mapped_some}
-use Rattle.std.specs.List.{list_all, position_or_len}
+use Rattle.std.proofs.{lemmas.List.{at_drop_more, at_drop_all, drop-drop, drop_at, take-append-drop}, lemmas.List.Sums.{fails_before_first, passes_at_first}}
 use Rattle.std.proofs.lemmas.Bool.{and_parts, and_from, and_right, or_cases, ne_eqb, eqb-true, false≢true, cases_Bool, not-true}
-use Rattle.std.proofs.lemmas.Option.{none-some}
-use Rattle.edi_syntax.specs.Characters.{is_tag_byte, is_break}
-use Rattle.edi_syntax.specs.Text.{Content, SegmentsText}
-use Rattle.std.proofs.lemmas.List.Sums.{fails_before_first, passes_at_first}
-use Rattle.edi_syntax.specs.Parts.{separates, separator_of}
-use Rattle.edi_syntax.specs.Interchange.{without_breaks_at_end}
-use Rattle.edi_syntax.specs.Advice.{default_service}
-use Rattle.edi_syntax.specs.Spelling.{spelling}
+use Rattle.edi_syntax.specs.{Tokens.{token_of, releases, stays_unreleased, is_service}, declared.characters.Service.Service, declared.token.Token.Token}
+use Rattle.edi_syntax.specs.Reading.{stays_inside, with_end, end_of, body_len, content_of, next_at, breaks_len, segments_from, are_segments_from, segments_of, are_segments}
+use Rattle.edi_syntax.specs.{declared.token.Token.TheVariants.{Data, Release, Component, Element, Terminator, Invalid}, Characters.{is_tag_byte, is_break}}
+use Rattle.edi_syntax.specs.{Text.{Content, SegmentsText}, Parts.{separates, separator_of}, Interchange.without_breaks_at_end, Advice.default_service}
+use Rattle.edi_syntax.{specs.Spelling.spelling, proofs.SegmentLemmas.{released_means, segment_at, body_sound, segment_found, segment_complete, mapped_some}}
 
 -- ==== LoopLemmas: One step of the loops over bytes.
 

@@ -1,14 +1,9 @@
 -- One segment more, of those that are looked through.
+use Rattle.std.{specs.List.{list_all, list_any}, proofs.lemmas.Bool.{cases_Bool, false≢true}}
 use Rattle.std.proofs.Common.{◌≡◌, ◌∷◌, Bool, true, false, cond, ◌&&◌, ◌||◌, List, [], length, codes, Some, None, refl, ap, ◌∙◌, inl, inr}
-use Rattle.std.specs.List.{list_all, list_any}
-use Rattle.std.proofs.lemmas.Bool.{cases_Bool, false≢true}
-use Rattle.edi_syntax.specs.Text.{Content, has_tag}
+use Rattle.edi_syntax.specs.{Text.{Content, has_tag}, Envelope.{last_of, is_of_functional_group}, TallyValues.tally_in, Tallies.IsTally}
 use Rattle.edi_syntax.specs.Messages.{begins_message, ends_message, is_inner, before_trailer, trailer_in, messages_in, are_messages, is_counted, is_referenced}
-use Rattle.edi_syntax.specs.Envelope.{last_of, is_of_functional_group}
-use Rattle.edi_syntax.specs.TallyValues.{tally_in}
-use Rattle.edi_syntax.specs.Tallies.{IsTally}
-use Rattle.edi_syntax.specs.declared.faults.Tally.{Tally}
-use Rattle.edi_syntax.proofs.BlockLemmas.{other_tag, inner_tags}
+use Rattle.edi_syntax.{specs.declared.faults.Tally.Tally, proofs.BlockLemmas.{other_tag, inner_tags}}
 
 -- the trailer of a message
 pub record AtTrailer (segments : List Content) (trailer : Content) (more : List Content) : Type 0 where

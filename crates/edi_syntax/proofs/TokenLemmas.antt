@@ -1,15 +1,9 @@
 -- A table of what each byte is, written place by place: of two stores at one byte the later stands, as of the tests of
 -- `token_of` the first decides.
 use Rattle.std.proofs.Common.{◌≡◌, ℕ, ◌<◌, length, cond, eqb, nat_lt, nat_le, not, ◌&&◌, Option, Some, None, Bool, true, false, get_or, set, List, refl, sym, ap, ◌∙◌, arith}
-use Rattle.std.proofs.lemmas.List.{length-set, get_or-set_other}
-use Rattle.std.proofs.lemmas.Grind.{get_or-set_at}
-use Rattle.std.proofs.lemmas.Bool.{eqb-true, eqb-false}
-use Rattle.std.proofs.lemmas.Bool.Decides.{nat_tests}
-use Rattle.edi_syntax.specs.declared.characters.Service.{Service}
-use Rattle.edi_syntax.specs.declared.token.Token.{Token}
+use Rattle.std.proofs.{lemmas.List.{length-set, get_or-set_other}, lemmas.Grind.get_or-set_at, lemmas.Bool.{eqb-true, eqb-false}, lemmas.Bool.Decides.nat_tests}
+use Rattle.edi_syntax.specs.{declared.characters.Service.Service, declared.token.Token.Token, Characters.{is_release, is_data_byte}, Tokens.token_of}
 use Rattle.edi_syntax.specs.declared.token.Token.TheVariants.{Data, Component, Element, Terminator, Release, Invalid}
-use Rattle.edi_syntax.specs.Characters.{is_release, is_data_byte}
-use Rattle.edi_syntax.specs.Tokens.{token_of}
 
 -- the table has 256 tokens, that function's at each byte
 pub record IsTableOf (f : ℕ → Token) (tokens : List Token) : Type 0 where

@@ -1,9 +1,7 @@
 -- The service string advice of a text, and the service characters that it names (ISO 9735, service string advice UNA).
 use Rattle.std.specs.Prelude.{◌≡◌, ℕ, Bool, true, false, not, ◌&&◌, ◌==◌, nat_le, List, length, get_or, drop, Option, None, Some, refl, if◌then◌else◌}
-use Rattle.edi_syntax.specs.Bytes.{space, colon, plus_sign, question_mark, apostrophe}
-use Rattle.edi_syntax.specs.Characters.{are_service_characters, begins_with_advice}
-use Rattle.edi_syntax.specs.Reading.{breaks_len}
-use Rattle.edi_syntax.specs.declared.characters.Service.{Service}
+use Rattle.edi_syntax.specs.{Bytes.{space, colon, plus_sign, question_mark, apostrophe}, Characters.{are_service_characters, begins_with_advice}}
+use Rattle.edi_syntax.specs.{Reading.breaks_len, declared.characters.Service.Service}
 
 -- service characters as numbers
 pub record ServiceCharacters : Type 0 where

@@ -1,7 +1,6 @@
 -- Bytes by what they may be in an EDIFACT text.
-use Rattle.std.specs.Prelude.{ℕ, Bool, false, not, ◌&&◌, ◌||◌, ◌==◌, nat_le, nat_lt, List, take, codes, Option, None, Some}
+use Rattle.std.specs.{Prelude.{ℕ, Bool, false, not, ◌&&◌, ◌||◌, ◌==◌, nat_le, nat_lt, List, take, codes, Option, None, Some}, Str.bytes_eq}
 use Rattle.edi_syntax.specs.Bytes.{line_feed, carriage_return, space, tilde, delete, digit_zero, digit_nine, capital_a, capital_z, small_a, small_z}
-use Rattle.std.specs.Str.{bytes_eq}
 
 abbrev pub is_capital : ℕ → Bool
 is_capital b = nat_le capital_a b && nat_le b capital_z

@@ -1,8 +1,6 @@
 -- Segments that are checked when they are reached.
 use Rattle.std.specs.Prelude.{Bool, List}
-use Rattle.edi_syntax.specs.Text.{Content}
-use Rattle.edi_syntax.specs.Reading.{segments_of, are_segments}
-use Rattle.edi_syntax.specs.declared.segment.CheckedSegments.{CheckedSegments}
+use Rattle.edi_syntax.specs.{Text.Content, Reading.{segments_of, are_segments}, declared.segment.CheckedSegments.CheckedSegments}
 use Rattle.edi_syntax.specs.declared.segments.SegmentCheck.{SegmentCheck}
 
 -- the segments that are left, as far as there are any

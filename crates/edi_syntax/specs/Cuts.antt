@@ -1,12 +1,8 @@
 -- The bytes of an interchange that come one after the other, and where they end or can't go on.
 use Rattle.std.specs.Prelude.{◌≡◌, ℕ, ◌<◌, ◌≤◌, Bool, true, false, not, ◌&&◌, ◌==◌, nat_le, nat_lt, List, [], ◌++◌, take, drop, length, Option, None, Some, if◌then◌else◌}
-use Rattle.edi_syntax.specs.Interchange.{most_bytes}
-use Rattle.edi_syntax.specs.Characters.{begins_with_advice}
-use Rattle.edi_syntax.specs.Advice.{advised_characters, may_be_used, has_advice, service_at, without_breaks}
-use Rattle.edi_syntax.specs.Positions.{position_after, is_refused, GoesOn, Closes}
-use Rattle.edi_syntax.specs.declared.position.Position.{Position}
-use Rattle.edi_syntax.specs.declared.position.Position.TheVariants.{Between, First, Second, Tagged, Inside, Refused}
-use Rattle.edi_syntax.specs.declared.cutter.CutFault.{CutFault}
+use Rattle.edi_syntax.specs.{Interchange.most_bytes, Characters.begins_with_advice, Positions.{position_after, is_refused, GoesOn, Closes}}
+use Rattle.edi_syntax.specs.{Advice.{advised_characters, may_be_used, has_advice, service_at, without_breaks}, declared.position.Position.Position}
+use Rattle.edi_syntax.specs.{declared.position.Position.TheVariants.{Between, First, Second, Tagged, Inside, Refused}, declared.cutter.CutFault.CutFault}
 use Rattle.edi_syntax.specs.declared.cutter.CutFault.TheVariants.{TooLong, Service as ServiceFault, Segment, Memory}
 
 -- the bytes are within an advice, or end with it

@@ -1,9 +1,6 @@
 -- The segments of an interchange: UNB, messages, UNZ (ISO 9735).
-use Rattle.std.specs.Prelude.{Bool, ◌&&◌, ◌||◌, List, [], ◌∷◌, length, codes}
-use Rattle.std.specs.Str.{bytes_eq}
-use Rattle.edi_syntax.specs.Text.{Content, no_segment, has_tag, component_of}
-use Rattle.edi_syntax.specs.Numbers.{is_count}
-use Rattle.edi_syntax.specs.Header.{control_reference, names_partners}
+use Rattle.std.specs.{Prelude.{Bool, ◌&&◌, ◌||◌, List, [], ◌∷◌, length, codes}, Str.bytes_eq}
+use Rattle.edi_syntax.specs.{Text.{Content, no_segment, has_tag, component_of}, Numbers.is_count, Header.{control_reference, names_partners}}
 use Rattle.edi_syntax.specs.Messages.{Message, messages_in}
 
 -- the first segment

@@ -1,8 +1,6 @@
 -- What an opened envelope stands for.
 use Rattle.std.specs.Prelude.{List}
-use Rattle.edi_syntax.specs.Text.{Content}
-use Rattle.edi_syntax.specs.Heads.{head_segments}
-use Rattle.edi_syntax.specs.declared.envelope.Envelope.{Envelope}
+use Rattle.edi_syntax.specs.{Text.Content, Heads.head_segments, declared.envelope.Envelope.Envelope}
 
 -- the segments of the interchange
 abbrev pub envelope_segments : Envelope → List Content

@@ -1,15 +1,10 @@
 -- Which faults apply to a text, each by its own definition over the segments of the whole text, and the first that
 -- does.
-use Rattle.std.specs.Prelude.{ℕ, Bool, false, not, ◌==◌, nat_lt, List, [], ◌∷◌, ◌++◌, length, codes, Option, Some, if◌then◌else◌}
-use Rattle.edi_syntax.specs.Interchange.{most_bytes, segments_in, is_segment_text}
-use Rattle.std.specs.Option.{is_none}
-use Rattle.std.specs.List.{list_all, list_any, find}
-use Rattle.std.specs.Str.{bytes_eq}
-use Rattle.edi_syntax.specs.Text.{Content}
-use Rattle.edi_syntax.specs.Advice.{has_bad_advice}
-use Rattle.edi_syntax.specs.declared.interchange.SyntaxFault.{SyntaxFault}
+use Rattle.std.specs.{Prelude.{ℕ, Bool, false, not, ◌==◌, nat_lt, List, [], ◌∷◌, ◌++◌, length, codes, Option, Some, if◌then◌else◌}, Option.is_none}
+use Rattle.std.specs.{List.{list_all, list_any, find}, Str.bytes_eq}
+use Rattle.edi_syntax.specs.{Interchange.{most_bytes, segments_in, is_segment_text}, Text.Content, Advice.has_bad_advice}
+use Rattle.edi_syntax.specs.{declared.interchange.SyntaxFault.SyntaxFault, Header.{test_indicator, control_number, preparation, is_known_syntax}}
 use Rattle.edi_syntax.specs.declared.interchange.SyntaxFault.TheVariants.{TooLong, Service, Segment, NoEnvelope, Group, Version, Number, Moment, Test, MessageFrame, SegmentCount, MessageReference, Empty, ControlCount, ControlReference}
-use Rattle.edi_syntax.specs.Header.{test_indicator, control_number, preparation, is_known_syntax}
 use Rattle.edi_syntax.specs.Messages.{are_messages, is_counted, is_referenced}
 use Rattle.edi_syntax.specs.Envelope.{header_of, behind_header, messages_of, has_envelope, is_of_functional_group, counts_messages, repeats_reference}
 

@@ -1,11 +1,7 @@
 -- What the frames of messages stand for.
 use Rattle.std.specs.Prelude.{List}
-use Rattle.edi_syntax.specs.Text.{Content}
-use Rattle.edi_syntax.specs.Segment.{content, segments_left}
-use Rattle.edi_syntax.specs.Messages.{Message, message_from, messages_in, before_trailer}
-use Rattle.edi_syntax.specs.declared.frames.Frame.{Frame}
-use Rattle.edi_syntax.specs.declared.frames.Frames.{Frames}
-use Rattle.edi_syntax.specs.declared.envelope.MessageSegments.{MessageSegments}
+use Rattle.edi_syntax.specs.{Text.Content, Segment.{content, segments_left}, Messages.{Message, message_from, messages_in, before_trailer}}
+use Rattle.edi_syntax.specs.{declared.frames.Frame.Frame, declared.frames.Frames.Frames, declared.envelope.MessageSegments.MessageSegments}
 
 -- the message of a frame
 abbrev pub message : Frame → Message

@@ -1,11 +1,7 @@
 -- The first segment of an interchange, UNB, by its data elements (ISO 9735).
-use Rattle.std.specs.Prelude.{ℕ, Bool, not, ◌&&◌, ◌||◌, ◌==◌, List, ◌++◌, length, codes, Option, None, if◌then◌else◌}
-use Rattle.std.specs.Option.{option_and_then}
-use Rattle.std.specs.List.{list_all}
+use Rattle.std.specs.{Prelude.{ℕ, Bool, not, ◌&&◌, ◌||◌, ◌==◌, List, ◌++◌, length, codes, Option, None, if◌then◌else◌}, Option.option_and_then, List.list_all}
 use Rattle.std.specs.Str.{bytes_eq}
-use Rattle.edi_syntax.specs.Moments.{CivilMoment, moment_of}
-use Rattle.edi_syntax.specs.Characters.{is_printable}
-use Rattle.edi_syntax.specs.Text.{Content, component_of, element_of}
+use Rattle.edi_syntax.specs.{Moments.{CivilMoment, moment_of}, Characters.is_printable, Text.{Content, component_of, element_of}}
 use Rattle.edi_syntax.specs.Numbers.{number_of, as_control_number}
 
 -- S001, syntax identifier: 0001 identifier, 0002 version

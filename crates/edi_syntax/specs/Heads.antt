@@ -1,8 +1,6 @@
 -- What an opened head stands for.
 use Rattle.std.specs.Prelude.{List, ◌∷◌}
-use Rattle.edi_syntax.specs.Text.{Content}
-use Rattle.edi_syntax.specs.Segment.{content, segments_left}
-use Rattle.edi_syntax.specs.declared.head.Head.{Head}
+use Rattle.edi_syntax.specs.{Text.Content, Segment.{content, segments_left}, declared.head.Head.Head}
 
 -- the segments of the interchange
 abbrev pub head_segments : Head → List Content

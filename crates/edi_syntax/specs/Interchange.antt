@@ -1,12 +1,7 @@
 -- The text of an interchange (ISO 9735): an advice if there is one, and segments.
-use Rattle.std.specs.Prelude.{◌≡◌, ◌⊎◌, ℕ, Bool, false, List, [], ◌∷◌, ◌++◌, codes, IsTrue, Option, None, Some, if◌then◌else◌}
-use Rattle.edi_syntax.specs.Bytes.{space}
-use Rattle.std.specs.List.{list_all}
-use Rattle.edi_syntax.specs.Characters.{is_break, begins_with_advice}
-use Rattle.edi_syntax.specs.Advice.{without_breaks, default_service, service_at, has_bad_advice, behind_advice}
-use Rattle.edi_syntax.specs.Text.{Content, SegmentsText}
-use Rattle.edi_syntax.specs.Reading.{segments_of, are_segments}
-use Rattle.edi_syntax.specs.declared.characters.Service.{Service}
+use Rattle.std.specs.{Prelude.{◌≡◌, ◌⊎◌, ℕ, Bool, false, List, [], ◌∷◌, ◌++◌, codes, IsTrue, Option, None, Some, if◌then◌else◌}, List.list_all}
+use Rattle.edi_syntax.specs.{Bytes.space, Characters.{is_break, begins_with_advice}, Text.{Content, SegmentsText}, Reading.{segments_of, are_segments}}
+use Rattle.edi_syntax.specs.{Advice.{without_breaks, default_service, service_at, has_bad_advice, behind_advice}, declared.characters.Service.Service}
 use Rattle.edi_syntax.specs.declared.interchange.SyntaxFault.{SyntaxFault}
 use Rattle.edi_syntax.specs.declared.interchange.SyntaxFault.TheVariants.{Service as ServiceFault, Segment as SegmentFault}
 

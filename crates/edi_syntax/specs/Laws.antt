@@ -1,9 +1,6 @@
 -- An interchange by its parts: UNB, messages from UNH to UNT, UNZ (ISO 9735).
-use Rattle.std.specs.Prelude.{◌≡◌, ℕ, true, false, List, [], ◌∷◌, ◌++◌, codes, IsTrue}
-use Rattle.std.specs.List.{list_all, flat_map, AllByRecursion}
-use Rattle.edi_syntax.specs.Text.{Content, has_tag}
-use Rattle.edi_syntax.specs.Advice.{has_bad_advice}
-use Rattle.edi_syntax.specs.Interchange.{InterchangeText, segments_in, is_segment_text}
+use Rattle.std.specs.{Prelude.{◌≡◌, ℕ, true, false, List, [], ◌∷◌, ◌++◌, codes, IsTrue}, List.{list_all, flat_map, AllByRecursion}}
+use Rattle.edi_syntax.specs.{Text.{Content, has_tag}, Advice.has_bad_advice, Interchange.{InterchangeText, segments_in, is_segment_text}}
 use Rattle.edi_syntax.specs.Messages.{Message, begins_message, ends_message, is_inner, messages_in, are_messages}
 
 -- a UNH, segments that neither begin nor end anything, a UNT

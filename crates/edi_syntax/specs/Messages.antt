@@ -1,10 +1,6 @@
 -- The messages of an interchange: what stands from a UNH to a UNT (ISO 9735).
-use Rattle.std.specs.Prelude.{ℕ, ◌+◌, Bool, true, false, not, ◌&&◌, ◌==◌, nat_le, List, [], ◌∷◌, length, codes, if◌then◌else◌}
-use Rattle.std.specs.Str.{bytes_eq}
-use Rattle.std.specs.List.{list_all}
-use Rattle.edi_syntax.specs.Characters.{is_printable}
-use Rattle.edi_syntax.specs.Text.{Content, no_segment, has_tag, component_of}
-use Rattle.edi_syntax.specs.Numbers.{is_count}
+use Rattle.std.specs.{Prelude.{ℕ, ◌+◌, Bool, true, false, not, ◌&&◌, ◌==◌, nat_le, List, [], ◌∷◌, length, codes, if◌then◌else◌}, Str.bytes_eq, List.list_all}
+use Rattle.edi_syntax.specs.{Characters.is_printable, Text.{Content, no_segment, has_tag, component_of}, Numbers.is_count}
 
 -- a message: its header UNH, the segments between, its trailer UNT
 pub record Message : Type 0 where

@@ -1,7 +1,5 @@
 -- Numbers as digits.
-use Rattle.std.specs.Prelude.{ℕ, Bool, ◌&&◌, ◌==◌, nat_le, List, length, Option, None, Some, false, if◌then◌else◌}
-use Rattle.std.specs.Option.{option_map_or}
-use Rattle.std.specs.List.{list_all}
+use Rattle.std.specs.{Prelude.{ℕ, Bool, ◌&&◌, ◌==◌, nat_le, List, length, Option, None, Some, false, if◌then◌else◌}, Option.option_map_or, List.list_all}
 use Rattle.std.specs.Str.Parse.{digits_value}
 use Rattle.edi_syntax.specs.Characters.{is_digit}
 

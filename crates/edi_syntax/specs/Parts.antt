@@ -1,10 +1,7 @@
 -- The parts of a segment, as places in its text.
-use Rattle.std.specs.Prelude.{ℕ, suc, Bool, false, not, ◌&&◌, ◌==◌, List, [], ◌∷◌, take, drop, ◌+◌, Option, None, Some, if◌then◌else◌}
-use Rattle.std.specs.Option.{option_map}
+use Rattle.std.specs.{Prelude.{ℕ, suc, Bool, false, not, ◌&&◌, ◌==◌, List, [], ◌∷◌, take, drop, ◌+◌, Option, None, Some, if◌then◌else◌}, Option.option_map}
 use Rattle.std.specs.List.{list_any}
-use Rattle.edi_syntax.specs.Characters.{is_release}
-use Rattle.edi_syntax.specs.Tokens.{token_of, releases}
-use Rattle.edi_syntax.specs.declared.characters.Service.{Service}
+use Rattle.edi_syntax.specs.{Characters.is_release, Tokens.{token_of, releases}, declared.characters.Service.Service}
 
 -- the byte is the separator, and not released
 abbrev pub separates : ℕ → Bool → ℕ → Bool

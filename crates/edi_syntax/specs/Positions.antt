@@ -1,14 +1,8 @@
 -- Where bytes of segments leave off: a grammar of the prefixes of segments.
-use Rattle.std.specs.Prelude.{◌≡◌, ℕ, ◌<◌, ◌≤◌, Bool, true, false, ◌&&◌, ◌==◌, List, [], ◌∷◌, ◌++◌, length, take, codes, IsTrue, if◌then◌else◌}
-use Rattle.edi_syntax.specs.Bytes.{capital_z}
-use Rattle.std.specs.List.{list_all}
-use Rattle.edi_syntax.specs.Characters.{is_tag_byte, is_break}
-use Rattle.edi_syntax.specs.Tokens.{token_of}
-use Rattle.edi_syntax.specs.Text.{Content, SegmentText, SegmentsText}
-use Rattle.edi_syntax.specs.declared.characters.Service.{Service}
-use Rattle.edi_syntax.specs.declared.token.Token.{Token}
+use Rattle.std.specs.{Prelude.{◌≡◌, ℕ, ◌<◌, ◌≤◌, Bool, true, false, ◌&&◌, ◌==◌, List, [], ◌∷◌, ◌++◌, length, take, codes, IsTrue, if◌then◌else◌}, List.list_all}
+use Rattle.edi_syntax.specs.{Bytes.capital_z, Characters.{is_tag_byte, is_break}, Tokens.token_of, Text.{Content, SegmentText, SegmentsText}}
+use Rattle.edi_syntax.specs.{declared.characters.Service.Service, declared.token.Token.Token, declared.position.Position.Position}
 use Rattle.edi_syntax.specs.declared.token.Token.TheVariants.{Data, Release, Component, Element, Terminator, Invalid}
-use Rattle.edi_syntax.specs.declared.position.Position.{Position}
 use Rattle.edi_syntax.specs.declared.position.Position.TheVariants.{Between, First, Second, Tagged, Inside, Refused}
 
 -- the position after a byte among elements

@@ -1,13 +1,8 @@
 -- What bytes stand for, as functions of the bytes. A flag says whether the first byte is released.
 use Rattle.std.specs.Prelude.{ℕ, zero, suc, ◌+◌, Bool, true, false, not, ◌&&◌, ◌||◌, ◌==◌, List, [], ◌∷◌, take, drop, Option, None, Some, if◌then◌else◌}
-use Rattle.std.specs.Option.{option_map, option_map_or}
-use Rattle.std.specs.List.{list_all}
-use Rattle.edi_syntax.specs.Characters.{is_tag_byte, is_break}
-use Rattle.edi_syntax.specs.Tokens.{token_of, releases}
-use Rattle.edi_syntax.specs.Text.{Content}
-use Rattle.edi_syntax.specs.declared.characters.Service.{Service}
-use Rattle.edi_syntax.specs.declared.token.Token.{Token}
-use Rattle.edi_syntax.specs.declared.token.Token.TheVariants.{Data, Release, Component, Element, Terminator, Invalid}
+use Rattle.std.specs.{Option.{option_map, option_map_or}, List.list_all}
+use Rattle.edi_syntax.specs.{Characters.{is_tag_byte, is_break}, Tokens.{token_of, releases}, Text.Content, declared.characters.Service.Service}
+use Rattle.edi_syntax.specs.{declared.token.Token.Token, declared.token.Token.TheVariants.{Data, Release, Component, Element, Terminator, Invalid}}
 
 -- one byte more in front of the first value
 abbrev pub push_byte : ℕ → List (List (List ℕ)) → List (List (List ℕ))

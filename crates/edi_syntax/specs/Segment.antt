@@ -1,13 +1,7 @@
 -- What the spans of the code stand for.
-use Rattle.std.specs.Prelude.{ℕ, ◌==◌, List, [], length, map, get_or, drop, false, Option, None, Some, if◌then◌else◌}
-use Rattle.std.specs.Option.{option_map_or}
-use Rattle.edi_syntax.specs.Text.{Content}
-use Rattle.edi_syntax.specs.Reading.{content_of, segments_of}
-use Rattle.edi_syntax.specs.Parts.{value_of, parts_of}
-use Rattle.edi_syntax.specs.declared.component.Components.{Components}
-use Rattle.edi_syntax.specs.declared.component.Component.{Component}
-use Rattle.edi_syntax.specs.declared.component.Bytes.{Bytes}
-use Rattle.edi_syntax.specs.declared.segments.Segments.{Segments}
+use Rattle.std.specs.{Prelude.{ℕ, ◌==◌, List, [], length, map, get_or, drop, false, Option, None, Some, if◌then◌else◌}, Option.option_map_or}
+use Rattle.edi_syntax.specs.{Text.Content, Reading.{content_of, segments_of}, Parts.{value_of, parts_of}, declared.component.Components.Components}
+use Rattle.edi_syntax.specs.{declared.component.Component.Component, declared.component.Bytes.Bytes, declared.segments.Segments.Segments}
 use Rattle.edi_syntax.specs.declared.segment.Segment.{Segment}
 
 -- the tag and the values of a segment

@@ -1,11 +1,7 @@
 -- Segments written under the default service characters: releases only before service characters, no empty components
 -- or elements at an end, no line breaks.
-use Rattle.std.specs.Prelude.{◌≡◌, ℕ, Bool, true, false, ◌==◌, List, [], ◌∷◌, ◌++◌, length, take, codes, IsTrue, if◌then◌else◌}
-use Rattle.edi_syntax.specs.Bytes.{colon, plus_sign, question_mark, apostrophe}
-use Rattle.std.specs.List.{list_all, flat_map}
-use Rattle.edi_syntax.specs.Characters.{is_data_byte}
-use Rattle.edi_syntax.specs.Tokens.{is_service}
-use Rattle.edi_syntax.specs.Advice.{default_service}
+use Rattle.std.specs.{Prelude.{◌≡◌, ℕ, Bool, true, false, ◌==◌, List, [], ◌∷◌, ◌++◌, length, take, codes, IsTrue, if◌then◌else◌}, List.{list_all, flat_map}}
+use Rattle.edi_syntax.specs.{Bytes.{colon, plus_sign, question_mark, apostrophe}, Characters.is_data_byte, Tokens.is_service, Advice.default_service}
 use Rattle.edi_syntax.specs.Text.{Content, IsTag}
 
 -- the byte, after the release character if it would serve otherwise

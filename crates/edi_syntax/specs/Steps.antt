@@ -1,10 +1,7 @@
 -- What is kept of the bytes of an interchange: what the code relies on, and no caller has to read.
 use Rattle.std.specs.Prelude.{◌≡◌, ℕ, ◌≤◌, false, List, ◌++◌, length, take, None}
-use Rattle.edi_syntax.specs.Reading.{breaks_len}
-use Rattle.edi_syntax.specs.Advice.{service_at}
-use Rattle.edi_syntax.specs.Cuts.{position_of, breaks_advice, fault_of, is_whole, IsOpenBefore, Faults}
-use Rattle.edi_syntax.specs.declared.cutter.CutFault.{CutFault}
-use Rattle.edi_syntax.specs.declared.position.Reading.{Reading}
+use Rattle.edi_syntax.specs.{Reading.breaks_len, Advice.service_at, Cuts.{position_of, breaks_advice, fault_of, is_whole, IsOpenBefore, Faults}}
+use Rattle.edi_syntax.specs.{declared.cutter.CutFault.CutFault, declared.position.Reading.Reading}
 
 -- the service characters and the position are those of the bytes
 abbrev pub IsReadingOf : Reading → List ℕ → Type 0

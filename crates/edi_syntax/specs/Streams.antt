@@ -1,8 +1,6 @@
 -- A stream that is fed in pieces, and its interchanges.
-use Rattle.std.specs.Prelude.{◌≡◌, ℕ, List, [], ◌∷◌, ◌++◌, take, drop, None, Some}
-use Rattle.std.specs.List.{flat_map}
-use Rattle.edi_syntax.specs.Advice.{without_breaks}
-use Rattle.edi_syntax.specs.Cuts.{Cutting, pending_bytes, interchange, IsInterchange, Answers}
+use Rattle.std.specs.{Prelude.{◌≡◌, ℕ, List, [], ◌∷◌, ◌++◌, take, drop, None, Some}, List.flat_map}
+use Rattle.edi_syntax.specs.{Advice.without_breaks, Cuts.{Cutting, pending_bytes, interchange, IsInterchange, Answers}}
 
 -- no front of the bytes is an interchange
 abbrev pub HasNone : List ℕ → Type 0

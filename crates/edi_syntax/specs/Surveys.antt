@@ -1,13 +1,7 @@
 -- What one look at the segments of an interchange finds: what the code relies on, and no caller has to read.
-use Rattle.std.specs.Prelude.{◌≡◌, true, ◌∷◌}
-use Rattle.std.specs.List.{list_any}
-use Rattle.edi_syntax.specs.Text.{Content}
-use Rattle.edi_syntax.specs.Segment.{content}
-use Rattle.edi_syntax.specs.Checks.{checked_left, are_all}
-use Rattle.edi_syntax.specs.declared.segment.CheckedSegments.{CheckedSegments}
-use Rattle.edi_syntax.specs.Envelope.{last_of, is_of_functional_group}
-use Rattle.edi_syntax.specs.TallyValues.{tally_in}
-use Rattle.edi_syntax.specs.declared.faults.Survey.{Survey}
+use Rattle.std.specs.{Prelude.{◌≡◌, true, ◌∷◌}, List.list_any}
+use Rattle.edi_syntax.specs.{Text.Content, Segment.content, Checks.{checked_left, are_all}, declared.segment.CheckedSegments.CheckedSegments}
+use Rattle.edi_syntax.specs.{Envelope.{last_of, is_of_functional_group}, TallyValues.tally_in, declared.faults.Survey.Survey}
 
 -- of a header and nothing but segments after it
 pub record IsSurvey (header : Content) (rest : CheckedSegments) (survey : Survey) : Type 0 where

@@ -1,15 +1,8 @@
 -- What the messages of an interchange come to, segment by segment: what the code relies on, and no caller has to read.
-use Rattle.std.specs.Prelude.{◌≡◌, ◌≤◌, ◌||◌, true, false, List, [], ◌∷◌, length}
-use Rattle.std.specs.List.{list_all, list_any}
-use Rattle.edi_syntax.specs.Text.{Content}
-use Rattle.edi_syntax.specs.Segment.{content}
-use Rattle.edi_syntax.specs.Checks.{checked_left, are_all}
-use Rattle.edi_syntax.specs.declared.segment.CheckedSegments.{CheckedSegments}
-use Rattle.edi_syntax.specs.Envelope.{last_of, is_of_functional_group}
-use Rattle.edi_syntax.specs.Messages.{before_trailer, trailer_in, messages_in, are_messages, is_counted, is_referenced}
-use Rattle.edi_syntax.specs.declared.faults.Tally.{Tally}
-use Rattle.edi_syntax.specs.declared.faults.Tallied.{Tallied}
-use Rattle.edi_syntax.specs.declared.frames.MessageEnd.{MessageEnd}
+use Rattle.std.specs.{Prelude.{◌≡◌, ◌≤◌, ◌||◌, true, false, List, [], ◌∷◌, length}, List.{list_all, list_any}}
+use Rattle.edi_syntax.specs.{Text.Content, Segment.content, Checks.{checked_left, are_all}, declared.segment.CheckedSegments.CheckedSegments}
+use Rattle.edi_syntax.specs.{Envelope.{last_of, is_of_functional_group}, declared.faults.Tally.Tally, declared.faults.Tallied.Tallied}
+use Rattle.edi_syntax.specs.{Messages.{before_trailer, trailer_in, messages_in, are_messages, is_counted, is_referenced}, declared.frames.MessageEnd.MessageEnd}
 
 -- the end of the message that these segments are after the header of
 pub record EndsMessage (behind : CheckedSegments) (end : MessageEnd) : Type 0 where

@@ -1,9 +1,6 @@
 -- What the messages of an interchange come to, as a function of its segments.
-use Rattle.std.specs.Prelude.{List, length, false, Option, None, Some, if◌then◌else◌}
-use Rattle.std.specs.List.{list_all}
-use Rattle.edi_syntax.specs.Text.{Content}
-use Rattle.edi_syntax.specs.Messages.{messages_in, are_messages, is_counted, is_referenced}
-use Rattle.edi_syntax.specs.declared.faults.Tally.{Tally}
+use Rattle.std.specs.{Prelude.{List, length, false, Option, None, Some, if◌then◌else◌}, List.list_all}
+use Rattle.edi_syntax.specs.{Text.Content, Messages.{messages_in, are_messages, is_counted, is_referenced}, declared.faults.Tally.Tally}
 
 -- whether the messages are counted and referenced, and how many they are, if there are only messages and a UNZ
 abbrev pub tally_in : List Content → Option Tally

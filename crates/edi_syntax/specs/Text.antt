@@ -1,11 +1,7 @@
 -- The text of an interchange: segments, their elements, and the spellings of values. Relations, since a value has
 -- several spellings.
-use Rattle.std.specs.Prelude.{◌≡◌, ℕ, Bool, ◌-◌, List, [], ◌∷◌, ◌++◌, length, get_or, IsTrue, Some}
-use Rattle.std.specs.Str.{bytes_eq}
-use Rattle.std.specs.List.{list_all}
-use Rattle.edi_syntax.specs.Characters.{is_tag_byte, is_break}
-use Rattle.edi_syntax.specs.Tokens.{is_plain, may_be_released}
-use Rattle.edi_syntax.specs.declared.characters.Service.{Service}
+use Rattle.std.specs.{Prelude.{◌≡◌, ℕ, Bool, ◌-◌, List, [], ◌∷◌, ◌++◌, length, get_or, IsTrue, Some}, Str.bytes_eq, List.list_all}
+use Rattle.edi_syntax.specs.{Characters.{is_tag_byte, is_break}, Tokens.{is_plain, may_be_released}, declared.characters.Service.Service}
 
 -- a segment: its tag, and the values of each element
 pub record Content : Type 0 where

@@ -1,8 +1,6 @@
 -- What a byte is, by the service characters and whether the byte before it releases it.
 use Rattle.std.specs.Prelude.{ℕ, Bool, true, false, not, ◌&&◌, ◌||◌, ◌==◌, if◌then◌else◌}
-use Rattle.edi_syntax.specs.Characters.{is_data_byte, is_release}
-use Rattle.edi_syntax.specs.declared.characters.Service.{Service}
-use Rattle.edi_syntax.specs.declared.token.Token.{Token}
+use Rattle.edi_syntax.specs.{Characters.{is_data_byte, is_release}, declared.characters.Service.Service, declared.token.Token.Token}
 use Rattle.edi_syntax.specs.declared.token.Token.TheVariants.{Data, Release, Component, Element, Terminator, Invalid}
 
 abbrev pub is_service : Service → ℕ → Bool

@@ -1,9 +1,6 @@
 -- What the writer wrote reads back as the same segments.
-use Rattle.std.specs.Prelude.{◌≡◌, List, [], ◌∷◌, ◌++◌, length, IsTrue}
-use Rattle.std.specs.List.{list_all, AllByRecursion}
-use Rattle.edi_syntax.specs.Characters.{is_data_byte}
-use Rattle.edi_syntax.specs.Text.{Content, IsSameSegment}
-use Rattle.edi_syntax.specs.Interchange.{InterchangeText, segments_in}
+use Rattle.std.specs.{Prelude.{◌≡◌, List, [], ◌∷◌, ◌++◌, length, IsTrue}, List.{list_all, AllByRecursion}}
+use Rattle.edi_syntax.specs.{Characters.is_data_byte, Text.{Content, IsSameSegment}, Interchange.{InterchangeText, segments_in}}
 use Rattle.edi_syntax.specs.Spelling.{Writing, IsSegmentTag, segments_text, with_segment}
 
 -- a segment that may be written

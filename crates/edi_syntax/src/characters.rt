@@ -1,5 +1,4 @@
-ghost use Rattle.std.specs.List.{list_all};
-ghost use Rattle.std.specs.Prelude.{◌≡◌, ℕ, ◌≤◌, length, IsTrue, true, false, IfOk, IfErr};
+ghost use Rattle.std.specs.{List.list_all, Prelude.{◌≡◌, ℕ, ◌≤◌, length, IsTrue, true, false, IfOk, IfErr}};
 ghost use Rattle.edi_syntax.specs.Characters.{are_service_characters, is_release, begins_with_advice, are_separators, may_serve, is_data_byte, is_tag_byte, is_break, is_printable};
 
 use crate::interchange::SyntaxFault;

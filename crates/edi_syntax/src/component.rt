@@ -1,10 +1,6 @@
-ghost use Rattle.std.specs.Iterator.{YieldsFirstBy, item_count, YieldsFirst};
-ghost use Rattle.std.specs.List.{list_all, list_any};
+ghost use Rattle.std.specs.{Iterator.{YieldsFirstBy, item_count, YieldsFirst}, List.{list_all, list_any}, Str.bytes_eq};
 ghost use Rattle.std.specs.Prelude.{◌≡◌, ◌↔◌, ◌++◌, ℕ, length, IsTrue, IfSome, IfNone, OnOk, OnErr, false, true, map, ◌==◌};
-ghost use Rattle.std.specs.Str.{bytes_eq};
-ghost use Rattle.edi_syntax.specs.Characters.{is_printable};
-ghost use Rattle.edi_syntax.specs.Parts.{has_release, value_of, parts_of};
-ghost use Rattle.edi_syntax.specs.Segment.{value, components_left, bytes_left};
+ghost use Rattle.edi_syntax.specs.{Characters.is_printable, Parts.{has_release, value_of, parts_of}, Segment.{value, components_left, bytes_left}};
 ghost use Rattle.edi_syntax.specs.Spelling.{spelling};
 
 use crate::characters::{Service, are_printable, is_printable};

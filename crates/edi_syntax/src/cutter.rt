@@ -1,7 +1,5 @@
 ghost use Rattle.std.specs.Prelude.{◌≡◌, ◌⊎◌, ℕ, ◌+◌, ◌<◌, ◌≤◌, length, take, List, [], ◌∷◌, ◌++◌, IfOk, IfErr, OnOk, OnErr, IfSome, None, Some, true, false, if◌then◌else◌};
-ghost use Rattle.edi_syntax.specs.Cuts.{is_nil, is_whole};
-ghost use Rattle.edi_syntax.specs.Steps.{Holds, IsReadOn, IsRefusedBehind};
-ghost use Rattle.edi_syntax.specs.Reading.{breaks_len};
+ghost use Rattle.edi_syntax.specs.{Cuts.{is_nil, is_whole}, Steps.{Holds, IsReadOn, IsRefusedBehind}, Reading.breaks_len};
 
 use crate::MOST_BYTES;
 use crate::characters::is_break;

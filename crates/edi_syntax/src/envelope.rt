@@ -1,12 +1,6 @@
-ghost use Rattle.std.specs.Iterator.{YieldsFirstBy, item_count};
-ghost use Rattle.std.specs.Prelude.{◌≡◌, ◌≤◌, length, None};
-ghost use Rattle.edi_syntax.specs.Interchange.{most_bytes};
-ghost use Rattle.edi_syntax.specs.Segment.{content, segments_left};
-ghost use Rattle.edi_syntax.specs.Envelope.{messages_of};
-ghost use Rattle.edi_syntax.specs.Faults.{body_fault_of};
-ghost use Rattle.edi_syntax.specs.Frames.{message_segments_left};
-ghost use Rattle.edi_syntax.specs.Heads.{head_segments};
-ghost use Rattle.edi_syntax.specs.Messages.{before_trailer};
+ghost use Rattle.std.specs.{Iterator.{YieldsFirstBy, item_count}, Prelude.{◌≡◌, ◌≤◌, length, None}};
+ghost use Rattle.edi_syntax.specs.{Interchange.most_bytes, Segment.{content, segments_left}, Envelope.messages_of, Faults.body_fault_of, Heads.head_segments};
+ghost use Rattle.edi_syntax.specs.{Frames.message_segments_left, Messages.before_trailer};
 
 use crate::frames::Frames;
 use crate::head::Head;

@@ -1,15 +1,8 @@
-ghost use Rattle.std.specs.List.{list_any, find};
-ghost use Rattle.std.specs.Prelude.{IfOk, IfErr, None, Some, ◌≡◌, ◌∷◌, ◌≤◌, ◌||◌, [], length, MatchOption, true, false, ◌==◌};
-ghost use Rattle.edi_syntax.specs.Checks.{checked_left, are_all};
-ghost use Rattle.edi_syntax.specs.Interchange.{most_bytes, InterchangeText, segments_in};
-ghost use Rattle.edi_syntax.specs.Segment.{content, segments_left, value};
-ghost use Rattle.edi_syntax.specs.Envelope.{last_of, has_envelope, is_of_functional_group};
-ghost use Rattle.edi_syntax.specs.Envelopes.{envelope_segments};
-ghost use Rattle.edi_syntax.specs.Faults.{applies_to, header_fault_of, body_fault_of, fault_of};
+ghost use Rattle.std.specs.{List.{list_any, find}, Prelude.{IfOk, IfErr, None, Some, ◌≡◌, ◌∷◌, ◌≤◌, ◌||◌, [], length, MatchOption, true, false, ◌==◌}};
+ghost use Rattle.edi_syntax.specs.{Checks.{checked_left, are_all}, Interchange.{most_bytes, InterchangeText, segments_in}, Envelopes.envelope_segments};
+ghost use Rattle.edi_syntax.specs.{Segment.{content, segments_left, value}, Envelope.{last_of, has_envelope, is_of_functional_group}, Surveys.IsSurvey};
+ghost use Rattle.edi_syntax.specs.{Faults.{applies_to, header_fault_of, body_fault_of, fault_of}, Tallies.IsTallied, TallyValues.tally_in};
 ghost use Rattle.edi_syntax.specs.Messages.{messages_in, are_messages, is_reference, is_printable_identity, is_referenced, message_of_ends};
-ghost use Rattle.edi_syntax.specs.Surveys.{IsSurvey};
-ghost use Rattle.edi_syntax.specs.Tallies.{IsTallied};
-ghost use Rattle.edi_syntax.specs.TallyValues.{tally_in};
 
 use crate::envelope::Envelope;
 use crate::frames::{is_of_functional_group, message_end};

@@ -1,11 +1,6 @@
-ghost use Rattle.std.specs.Iterator.{YieldsFirstBy, item_count};
-ghost use Rattle.std.specs.Prelude.{◌≡◌, ℕ, ◌<◌, ◌≤◌, length, MatchOption, true, false, ◌==◌, get_or};
-ghost use Rattle.edi_syntax.specs.Checks.{checked_left};
-ghost use Rattle.edi_syntax.specs.Interchange.{most_bytes};
-ghost use Rattle.edi_syntax.specs.Segment.{content, segments_left, value};
-ghost use Rattle.edi_syntax.specs.Envelope.{is_of_functional_group};
-ghost use Rattle.edi_syntax.specs.Messages.{message_from, message_reference, message_identity, messages_in, are_messages, is_inner};
-ghost use Rattle.edi_syntax.specs.Tallies.{EndsMessage};
+ghost use Rattle.std.specs.{Iterator.{YieldsFirstBy, item_count}, Prelude.{◌≡◌, ℕ, ◌<◌, ◌≤◌, length, MatchOption, true, false, ◌==◌, get_or}};
+ghost use Rattle.edi_syntax.specs.{Checks.checked_left, Interchange.most_bytes, Segment.{content, segments_left, value}, Envelope.is_of_functional_group};
+ghost use Rattle.edi_syntax.specs.{Messages.{message_from, message_reference, message_identity, messages_in, are_messages, is_inner}, Tallies.EndsMessage};
 
 use crate::envelope::MessageSegments;
 use crate::{CheckedSegments, Component, Segment, Segments};

@@ -1,14 +1,8 @@
-ghost use Rattle.std.proofs.Props.{props};
-ghost use Rattle.std.specs.Prelude.{◌≡◌, ◌∷◌, ℕ, ◌<◌, ◌≤◌, length, IfOk, IfErr, Some, None, true, ◌++◌, codes};
-ghost use Rattle.edi_syntax.specs.Moments.{moment_of};
-ghost use Rattle.edi_syntax.specs.Checks.{checked_left, are_all};
-ghost use Rattle.edi_syntax.specs.Interchange.{most_bytes, InterchangeText, segments_in};
-ghost use Rattle.edi_syntax.specs.Segment.{content, segments_left, value};
-ghost use Rattle.edi_syntax.specs.Text.{component_of};
-ghost use Rattle.edi_syntax.specs.Envelope.{header_of, behind_header, last_of};
-ghost use Rattle.edi_syntax.specs.Faults.{head_fault_of, header_fault_of, body_fault_of, segments_fault};
+ghost use Rattle.std.{specs.Prelude.{◌≡◌, ◌∷◌, ℕ, ◌<◌, ◌≤◌, length, IfOk, IfErr, Some, None, true, ◌++◌, codes}, proofs.Props.props};
+ghost use Rattle.edi_syntax.specs.{Moments.moment_of, Checks.{checked_left, are_all}, Interchange.{most_bytes, InterchangeText, segments_in}};
+ghost use Rattle.edi_syntax.specs.{Segment.{content, segments_left, value}, Text.component_of, Envelope.{header_of, behind_header, last_of}};
+ghost use Rattle.edi_syntax.specs.{Faults.{head_fault_of, header_fault_of, body_fault_of, segments_fault}, Numbers.{last_number, number_of, is_count}};
 ghost use Rattle.edi_syntax.specs.Header.{sender, recipient, control_reference, control_number, preparation, names_partners, is_printable_element, is_known_syntax};
-ghost use Rattle.edi_syntax.specs.Numbers.{last_number, number_of, is_count};
 ghost use Rattle.edi_syntax.specs.TallyValues.{tally_in};
 
 use crate::envelope::Envelope;

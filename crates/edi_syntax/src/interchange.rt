@@ -1,7 +1,5 @@
-ghost use Rattle.std.specs.List.{list_all};
-ghost use Rattle.std.specs.Prelude.{◌≡◌, ◌++◌, ℕ, List, IsTrue};
-ghost use Rattle.edi_syntax.specs.Characters.{is_break};
-ghost use Rattle.edi_syntax.specs.Interchange.{interchange_of};
+ghost use Rattle.std.specs.{List.list_all, Prelude.{◌≡◌, ◌++◌, ℕ, List, IsTrue}};
+ghost use Rattle.edi_syntax.specs.{Characters.is_break, Interchange.interchange_of};
 
 use crate::characters::is_break;
 use crate::reader::len_of_breaks;

@@ -1,8 +1,5 @@
-ghost use Rattle.edi_syntax.specs.Laws.{MessagesStand, ReadsTheGrammar};
-ghost use Rattle.edi_syntax.specs.Written.{WritesSegments, ReadsBack};
-ghost use Rattle.edi_syntax.specs.Positions.{RefusedWhereNothingGoesOn, ClosedWhereATrailerEnds};
-ghost use Rattle.edi_syntax.specs.Cuts.{FirstIsOne, CutsGoByTheGrammar};
-ghost use Rattle.edi_syntax.specs.Streams.{CutsTheStream, CutsAreOne};
+ghost use Rattle.edi_syntax.specs.{Laws.{MessagesStand, ReadsTheGrammar}, Written.{WritesSegments, ReadsBack}, Cuts.{FirstIsOne, CutsGoByTheGrammar}};
+ghost use Rattle.edi_syntax.specs.{Positions.{RefusedWhereNothingGoesOn, ClosedWhereATrailerEnds}, Streams.{CutsTheStream, CutsAreOne}};
 
 /// If there is no `SyntaxFault::MessageFrame`, the header is followed by messages from UNH to UNT, and a UNZ.
 pub fn messages_stand()

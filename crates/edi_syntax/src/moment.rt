@@ -1,7 +1,5 @@
+ghost use Rattle.std.specs.{Cmp.Rules.comparing, Prelude.{◌≡◌, ◌==◌, ◌&&◌, ◌+◌, ◌<◌, ◌≤◌, ◌-ℤ◌, length, pos, true, IsTrue, Some}, List.list_all};
 ghost use Rattle.std.proofs.Common.{rules};
-ghost use Rattle.std.specs.Cmp.Rules.{comparing};
-ghost use Rattle.std.specs.Prelude.{◌≡◌, ◌==◌, ◌&&◌, ◌+◌, ◌<◌, ◌≤◌, ◌-ℤ◌, length, pos, true, IsTrue, Some};
-ghost use Rattle.std.specs.List.{list_all};
 ghost use Rattle.edi_syntax.specs.Moments.{CivilMoment, is_moment, is_day, is_digit, number_at, are_moment_digits, moment_of, moment_text, moment_digits, two_digits, day_number, DaysAreTheCalendars};
 ghost use Rattle.jiff.specs.Words.{epoch_day};
 

@@ -1,6 +1,4 @@
-ghost use Rattle.std.specs.List.{position_or_len};
-ghost use Rattle.std.specs.Option.{option_map};
-ghost use Rattle.std.specs.Prelude.{◌≡◌, ℕ, ◌+◌, ◌<◌, ◌≤◌, ◌==◌, get_or, length, drop, IfSome, [], false};
+ghost use Rattle.std.specs.{List.position_or_len, Option.option_map, Prelude.{◌≡◌, ℕ, ◌+◌, ◌<◌, ◌≤◌, ◌==◌, get_or, length, drop, IfSome, [], false}};
 ghost use Rattle.edi_syntax.specs.Parts.{parts_of, separator_of, split_of};
 
 use crate::characters::Service;

@@ -1,8 +1,6 @@
 ghost use Rattle.std.specs.Prelude.{◌≡◌, ◌<◌, ◌≤◌, [], ◌∷◌, IsTrue, IfSome, ◌&&◌, ◌==◌, length, take, unwrap_or, false, ℕ, List, ◌++◌, IfOk, IfErr, None, Some, true};
-ghost use Rattle.edi_syntax.specs.Cuts.{is_in_advice, fault_of, is_closed};
-ghost use Rattle.edi_syntax.specs.Positions.{inside_by, stops, Reads, ReadsTo, Keeps, StayInside};
-ghost use Rattle.edi_syntax.specs.Steps.{IsReadingOf};
-ghost use Rattle.edi_syntax.specs.Characters.{is_tag_byte};
+ghost use Rattle.edi_syntax.specs.{Cuts.{is_in_advice, fault_of, is_closed}, Positions.{inside_by, stops, Reads, ReadsTo, Keeps, StayInside}};
+ghost use Rattle.edi_syntax.specs.{Steps.IsReadingOf, Characters.is_tag_byte};
 
 use crate::characters::{begins_with_advice, is_break, is_data, is_tag_byte};
 use crate::cutter::CutFault;

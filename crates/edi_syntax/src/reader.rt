@@ -1,10 +1,6 @@
-ghost use Rattle.std.specs.Prelude.{◌≡◌, ℕ, IfSome, ◌+◌, ◌<◌, ◌≤◌, length, drop, false, true};
-ghost use Rattle.std.specs.Option.{option_map};
-ghost use Rattle.std.specs.List.{list_all};
-ghost use Rattle.edi_syntax.specs.Characters.{is_tag_byte};
-ghost use Rattle.edi_syntax.specs.Advice.{behind_advice, advice_len};
+ghost use Rattle.std.specs.{Prelude.{◌≡◌, ℕ, IfSome, ◌+◌, ◌<◌, ◌≤◌, length, drop, false, true}, Option.option_map, List.list_all};
+ghost use Rattle.edi_syntax.specs.{Characters.is_tag_byte, Advice.{behind_advice, advice_len}, Segment.content};
 ghost use Rattle.edi_syntax.specs.Reading.{end_of, begins_elements, body_len, next_at, breaks_len, are_segments};
-ghost use Rattle.edi_syntax.specs.Segment.{content};
 
 use crate::characters::{Service, is_break, is_tag_byte};
 use crate::part::split_once_in_rest;

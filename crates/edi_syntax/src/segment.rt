@@ -1,7 +1,5 @@
 ghost use Rattle.std.specs.Prelude.{◌≡◌, ℕ, ◌<◌, ◌∷◌, ◌&&◌, ◌==◌, [], length, MatchOption, IfSome, IfNone, true};
-ghost use Rattle.edi_syntax.specs.Checks.{checked_left, are_all};
-ghost use Rattle.edi_syntax.specs.Reading.{content_of};
-ghost use Rattle.edi_syntax.specs.Segment.{content, value, components_left, element_text, segments_left};
+ghost use Rattle.edi_syntax.specs.{Checks.{checked_left, are_all}, Reading.content_of, Segment.{content, value, components_left, element_text, segments_left}};
 ghost use Rattle.edi_syntax.specs.Text.{has_tag, component_of, element_of};
 
 use crate::characters::Service;

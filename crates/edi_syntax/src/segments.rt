@@ -1,10 +1,6 @@
-ghost use Rattle.std.specs.Iterator.{YieldsFirstBy, item_count};
-ghost use Rattle.std.specs.Prelude.{◌≡◌, IfOk, IfErr, IsOkAnd, ◌≤◌, length, List, None, Some, true, false};
-ghost use Rattle.edi_syntax.specs.Advice.{has_bad_advice};
-ghost use Rattle.edi_syntax.specs.Checks.{checked_left, are_all, segments_to_check, are_all_segments};
-ghost use Rattle.edi_syntax.specs.Interchange.{InterchangeText, segments_in, read_fault, is_segment_text};
-ghost use Rattle.edi_syntax.specs.Reading.{are_segments, segments_of};
-ghost use Rattle.edi_syntax.specs.Text.{Content};
+ghost use Rattle.std.specs.{Iterator.{YieldsFirstBy, item_count}, Prelude.{◌≡◌, IfOk, IfErr, IsOkAnd, ◌≤◌, length, List, None, Some, true, false}};
+ghost use Rattle.edi_syntax.specs.{Advice.has_bad_advice, Checks.{checked_left, are_all, segments_to_check, are_all_segments}, Text.Content};
+ghost use Rattle.edi_syntax.specs.{Interchange.{InterchangeText, segments_in, read_fault, is_segment_text}, Reading.{are_segments, segments_of}};
 
 use crate::characters::Service;
 use crate::interchange::SyntaxFault;

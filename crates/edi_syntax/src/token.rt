@@ -1,8 +1,5 @@
-ghost use Rattle.std.specs.List.{range_with_len};
-ghost use Rattle.std.specs.Option.{option_map};
-ghost use Rattle.std.specs.Prelude.{◌≡◌, ◌+◌, ◌≤◌, length, map, drop, false, true};
-ghost use Rattle.edi_syntax.specs.Reading.{end_of};
-ghost use Rattle.edi_syntax.specs.Tokens.{token_of};
+ghost use Rattle.std.specs.{List.range_with_len, Option.option_map, Prelude.{◌≡◌, ◌+◌, ◌≤◌, length, map, drop, false, true}};
+ghost use Rattle.edi_syntax.specs.{Reading.end_of, Tokens.token_of};
 
 use crate::characters::Service;
 

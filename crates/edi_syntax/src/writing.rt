@@ -1,10 +1,7 @@
 ghost use Rattle.std.specs.List.{list_all};
 ghost use Rattle.std.specs.Prelude.{◌≡◌, ◌≤◌, ℕ, List, length, map, IsTrue, OnOk, OnErr, true, false, ◌++◌, not, ◌∷◌, [], take, drop, if◌then◌else◌};
-ghost use Rattle.edi_syntax.specs.Advice.{default_service};
-ghost use Rattle.edi_syntax.specs.Characters.{is_data_byte};
-ghost use Rattle.edi_syntax.specs.Segment.{value};
+ghost use Rattle.edi_syntax.specs.{Advice.default_service, Characters.is_data_byte, Segment.value, Tokens.is_service};
 ghost use Rattle.edi_syntax.specs.Spelling.{Writing, IsSegmentTag, nothing_written, with_tag, with_element, with_terminator, spelling, is_empty_value, spelled_byte, composite, IsWritable};
-ghost use Rattle.edi_syntax.specs.Tokens.{is_service};
 
 use crate::component::Component;
 use std::alloc::{AllocError, Global};

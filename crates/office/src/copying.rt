@@ -1,5 +1,4 @@
-ghost use Rattle.std.specs.Prelude.{◌≡◌, ◌<◌, ◌≤◌, ◌+◌, ℕ, List, IsTrue, OnOk, length, take, drop};
-ghost use Rattle.std.specs.Io.KnownBytes.{Appends};
+ghost use Rattle.std.specs.{Prelude.{◌≡◌, ◌<◌, ◌≤◌, ◌+◌, ℕ, List, IsTrue, OnOk, length, take, drop}, Io.KnownBytes.Appends};
 
 use sqlite_disk::Disk;
 use std::io::{Error, ErrorKind, Result, Write};

@@ -1,37 +1,18 @@
 -- One event more.
+use Rattle.std.{specs.{Str.bytes_eq, Prelude.{◌==◌, ◌&&◌, ◌⊎◌, is_some, nat_lt, slice_get, IsTrue}}, proofs.lemmas.Bool.{eqb-true, ltb-true}}
 use Rattle.std.proofs.Common.{◌≡◌, ℕ, ◌+◌, ◌<◌, ◌≤◌, List, [], ◌∷◌, ◌++◌, length, Bool, true, false, cond, Option, None, Some, Result, Ok, Err, refl, ap, ◌∙◌, arith, zero, suc, inl, inr, map, sym, subst, IfOk, IfErr}
-use Rattle.std.specs.Str.{bytes_eq}
-use Rattle.edi_syntax.specs.Text.{Content}
-use Rattle.edi_syntax.specs.Interchange.{segments_in, interchange_of}
-use Rattle.edi_syntax.specs.declared.interchange.SyntaxFault.{SyntaxFault}
-use Rattle.edi_syntax.specs.Envelope.{header_of}
-use Rattle.edi_syntax.specs.Faults.{fault_of}
-use Rattle.edi_syntax.specs.Header.{sender, recipient}
-use Rattle.office_replies.specs.declared.deliver.Fault.{Fault}
-use Rattle.office_replies.specs.declared.deliver.Fault.TheVariants.{WrongRecipient}
-use Rattle.office_admission.specs.Parties.{Parties, partner_from}
-use Rattle.office_admission.specs.Admission.{admission, by_header, by_recipient, sender_of, number_in, number_said}
-use Rattle.std.specs.Prelude.{◌==◌, ◌&&◌, ◌⊎◌, is_some, nat_lt, slice_get, IsTrue}
-use Rattle.std.proofs.lemmas.Bool.{eqb-true, ltb-true}
-use Rattle.std.proofs.lemmas.List.{map-append, length-map, length-append, append-nil}
-use Rattle.std.proofs.lemmas.List.Elements.{All-push}
-use Rattle.std.proofs.lemmas.Slice.Eq.{bytes_eq-Decides}
-use Rattle.edi_messages.specs.declared.codes.PartnerKind.{PartnerKind}
-use Rattle.edi_messages.specs.declared.codes.PartnerKind.TheVariants.{Gate, Line, Quay, Yard}
-use Rattle.partner_core.specs.Deliveries.{Delivery, first_text, run}
-use Rattle.partner_core.proofs.Orders.{used_within_run}
-use Rattle.partner_core.specs.Numbered.{with_number}
-use Rattle.terminal_core.specs.declared.change.Version.{Version}
-use Rattle.office_replies.specs.Events.{Event, delivered, migrated, added}
+use Rattle.std.proofs.{lemmas.List.{map-append, length-map, length-append, append-nil}, lemmas.List.Elements.All-push, lemmas.Slice.Eq.bytes_eq-Decides}
+use Rattle.edi_syntax.specs.{Text.Content, Interchange.{segments_in, interchange_of}, declared.interchange.SyntaxFault.SyntaxFault, Envelope.header_of}
+use Rattle.edi_syntax.specs.{Faults.fault_of, Header.{sender, recipient}}
+use Rattle.office_replies.specs.{declared.deliver.Fault.Fault, declared.deliver.Fault.TheVariants.WrongRecipient, Events.{Event, delivered, migrated, added}}
 use Rattle.office_replies.specs.declared.accounts.AccountFault.TheVariants.{Partner, Accounts}
-use Rattle.office_admission.specs.Given.{IsGiven}
-use Rattle.office_admission.specs.Kinds.{kind_named}
-use Rattle.office_admission.specs.PartyCodes.{is_party_code}
-use Rattle.office_admission.specs.Setups.{SetupContent, parties_in}
+use Rattle.office_admission.specs.{Parties.{Parties, partner_from}, Admission.{admission, by_header, by_recipient, sender_of, number_in, number_said}}
+use Rattle.office_admission.specs.{Given.IsGiven, Kinds.kind_named, PartyCodes.is_party_code, Setups.{SetupContent, parties_in}, Laws.IsAddedLast}
 use Rattle.office_admission.specs.Accounts.{AccountContent, AccountPair, added_as, known_as, refused_for, by_own_kind, by_number, by_kind, account_answer, with_answer, accounts_with, content_with, content_after}
 use Rattle.office_admission.specs.Deliveries.{with_delivery, deliveries_of}
-use Rattle.office_admission.specs.Laws.{IsAddedLast}
-use Rattle.terminal_core.proofs.Dropping.{both_true}
+use Rattle.edi_messages.specs.{declared.codes.PartnerKind.PartnerKind, declared.codes.PartnerKind.TheVariants.{Gate, Line, Quay, Yard}}
+use Rattle.partner_core.{specs.{Deliveries.{Delivery, first_text, run}, Numbered.with_number}, proofs.Orders.used_within_run}
+use Rattle.terminal_core.{specs.declared.change.Version.Version, proofs.Dropping.both_true}
 pub use Rattle.office_admission.specs.Grown.{with_party}
 
 -- ==== Growing: What was admitted stays so with an account more.

@@ -1,34 +1,17 @@
 -- What the head of a text, and its body, tell of its admission.
+use Rattle.std.{specs.{Option.is_none, List.{find, list_all}, Str.bytes_eq, Prelude.slice_get}, proofs.lemmas.Option.slice_get-map}
 use Rattle.std.proofs.Common.{◌≡◌, ℕ, ◌+◌, Bool, true, false, cond, List, [], ◌∷◌, ◌++◌, Option, Some, None, Ok, Err, ◌&&◌, refl, sym, ap, ◌∙◌, inl, inr, ◌⊎◌, subst}
-use Rattle.std.specs.Option.{is_none}
-use Rattle.std.specs.List.{find, list_all}
-use Rattle.std.specs.Str.{bytes_eq}
-use Rattle.edi_syntax.specs.Text.{Content}
-use Rattle.edi_syntax.specs.Interchange.{segments_in}
-use Rattle.edi_syntax.specs.declared.interchange.SyntaxFault.{SyntaxFault}
-use Rattle.edi_syntax.specs.Envelope.{header_of}
-use Rattle.edi_syntax.specs.Header.{sender, recipient}
-use Rattle.edi_syntax.proofs.BlockLemmas.{of_body}
-use Rattle.edi_syntax.specs.Faults.{applies, text_faults, header_faults, fault_of, head_fault_of, body_fault_of}
+use Rattle.edi_syntax.specs.{Text.Content, Interchange.segments_in, declared.interchange.SyntaxFault.SyntaxFault, Envelope.header_of, Heads.head_segments}
+use Rattle.edi_syntax.specs.{Header.{sender, recipient}, Faults.{applies, text_faults, header_faults, fault_of, head_fault_of, body_fault_of}}
+use Rattle.edi_syntax.{specs.declared.head.Head.Head, proofs.BlockLemmas.of_body}
 use Rattle.edi_messages.specs.ErrorCodes.{interchange_error}
-use Rattle.office_replies.specs.declared.deliver.Fault.TheVariants.{Syntax, UnknownSender, WrongRecipient}
-use Rattle.partner_core.specs.Numbered.{with_number}
-use Rattle.partner_core.proofs.Keepings.{with_number-at}
-use Rattle.std.specs.Prelude.{slice_get}
-use Rattle.std.proofs.lemmas.Option.{slice_get-map}
-use Rattle.edi_syntax.specs.Heads.{head_segments}
-use Rattle.edi_syntax.specs.declared.head.Head.{Head}
-use Rattle.office_admission.specs.declared.setup.Account.{Account}
-use Rattle.office_admission.specs.Parties.{Parties, partner_from, partner_kinds}
-use Rattle.office_admission.specs.Outcomes.{IsOpened}
+use Rattle.office_replies.specs.{declared.deliver.Fault.TheVariants.{Syntax, UnknownSender, WrongRecipient}, declared.deliver.Fault.Fault}
+use Rattle.office_replies.specs.{declared.deliver.Response.Response, Contents.GivesOrNotNow}
+use Rattle.partner_core.{specs.Numbered.with_number, proofs.Keepings.with_number-at}
+use Rattle.office_admission.specs.{declared.setup.Account.Account, Parties.{Parties, partner_from, partner_kinds}, Outcomes.IsOpened}
 use Rattle.office_admission.specs.Admission.{admission, by_header, by_recipient, sender_of, number_in}
-use Rattle.office_replies.specs.declared.deliver.Fault.{Fault}
-use Rattle.office_replies.specs.declared.deliver.Response.{Response}
-use Rattle.office_replies.specs.Contents.{GivesOrNotNow}
 use Rattle.office_admission.specs.Refusals.{error_of, refusal_of, refusal_to, plain_refusal, rejection, RefusedSurely}
 use Rattle.office_replies.specs.declared.deliver.Response.TheVariants as response
-
--- ==== Admitting: What the head of a text, and its body, tell of its admission.
 
 pub syntax_refused : (P : Parties) (text : List ℕ) (fault : SyntaxFault) → fault_of text ≡ Some fault → admission P text ≡ Err (Syntax fault)
 syntax_refused P text fault e = ap (by_header P (header_of (segments_in text))) e

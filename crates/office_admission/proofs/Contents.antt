@@ -1,10 +1,7 @@
 -- What follows where two set-ups say the same.
-use Rattle.std.proofs.Common.{◌≡◌, ℕ, List, map, string_bytes, sym, ap, ◌∙◌}
-use Rattle.std.proofs.lemmas.Simd.{map-map}
+use Rattle.std.proofs.{Common.{◌≡◌, ℕ, List, map, string_bytes, sym, ap, ◌∙◌}, lemmas.Simd.map-map}
 use Rattle.edi_messages.specs.declared.codes.PartnerKind.{PartnerKind}
-use Rattle.office_admission.specs.declared.setup.Account.{Account}
-use Rattle.office_admission.specs.declared.setup.Setup.{Setup}
-use Rattle.office_admission.specs.Parties.{partner_codes, partner_kinds, parties_of}
+use Rattle.office_admission.specs.{declared.setup.Account.Account, declared.setup.Setup.Setup, Parties.{partner_codes, partner_kinds, parties_of}}
 use Rattle.office_admission.specs.Setups.{account_contents, setup_content}
 
 abbrev codes_in : List (List ℕ × PartnerKind) → List (List ℕ)

@@ -1,54 +1,25 @@
 -- What an interchange leaves is well formed.
+use Rattle.std.{specs.{Prelude.{codes, ◌++◌, ◌==◌}, Option.{option_and_then, unwrap_or}}, proofs.{lemmas.Bool.{and_parts, leb-true}, lemmas.List.length-map}}
 use Rattle.std.proofs.Common.{◌≡◌, ℕ, zero, suc, ◌<◌, ◌≤◌, nat_le, List, [], ◌∷◌, length, Bool, true, false, cond, ◌&&◌, Option, None, Some, is_none, Result, Ok, Err, All, refl, arith, sym, ap, subst, ◌∙◌}
-use Rattle.std.specs.Prelude.{codes, ◌++◌, ◌==◌}
-use Rattle.std.specs.Option.{option_and_then, unwrap_or}
-use Rattle.std.proofs.lemmas.Bool.{and_parts, leb-true}
-use Rattle.std.proofs.lemmas.List.Elements.{All-head, All-tail}
-use Rattle.std.proofs.lemmas.Option.{slice_get_within}
-use Rattle.edi_syntax.specs.Moments.{CivilMoment, moment_of}
-use Rattle.edi_syntax.specs.Text.{Content}
-use Rattle.edi_syntax.specs.Interchange.{segments_in}
-use Rattle.edi_syntax.specs.Envelope.{header_of, messages_of}
-use Rattle.edi_syntax.specs.Faults.{applies, fault_of}
-use Rattle.edi_syntax.specs.Header.{control_reference, control_number, preparation, preparation_date, preparation_time}
-use Rattle.edi_syntax.specs.Messages.{Message}
-use Rattle.edi_syntax.specs.Numbers.{number_of, as_control_number}
-use Rattle.edi_syntax.specs.declared.interchange.SyntaxFault.{SyntaxFault}
-use Rattle.edi_messages.specs.Forms.{OrdersWell}
-use Rattle.edi_messages.specs.Message.{LineContent, ordered, refused, MessageContent}
-use Rattle.edi_messages.specs.Purposes.{CallContent}
-use Rattle.edi_messages.specs.declared.codes.Codes.{Codes}
-use Rattle.edi_messages.specs.declared.message.MessageFault.{MessageFault}
-use Rattle.edi_messages.specs.declared.codes.PartnerKind.{PartnerKind}
+use Rattle.std.proofs.{lemmas.List.Elements.{All-head, All-tail}, lemmas.Option.slice_get_within}
+use Rattle.edi_syntax.specs.{Moments.{CivilMoment, moment_of}, Text.Content, Interchange.segments_in, Envelope.{header_of, messages_of}, Messages.Message}
+use Rattle.edi_syntax.specs.{Faults.{applies, fault_of}, Header.{control_reference, control_number, preparation, preparation_date, preparation_time}}
+use Rattle.edi_syntax.specs.{Numbers.{number_of, as_control_number}, declared.interchange.SyntaxFault.SyntaxFault}
+use Rattle.edi_messages.specs.{Forms.OrdersWell, Message.{LineContent, ordered, refused, MessageContent}, Purposes.CallContent, declared.codes.Codes.Codes}
+use Rattle.edi_messages.specs.{declared.message.MessageFault.MessageFault, declared.codes.PartnerKind.PartnerKind}
 use Rattle.edi_messages.proofs.OrderForms.{IfThere, IsCivil, text_civil, if_civil}
-use Rattle.partner_core.specs.Numbered.{with_number}
-use Rattle.terminal_core.specs.Versions.{newest}
-use Rattle.terminal_core.specs.declared.lines.Side.{Side}
-use Rattle.terminal_core.specs.declared.change.Source.{Source}
-use Rattle.terminal_core.specs.Forms.{IsSource, IsWellFormed}
-use Rattle.terminal_core.specs.State.{TerminalState, IsWhole, empty_state}
-use Rattle.terminal_core.proofs.Applying.{formed_step, empty_formed}
-use Rattle.terminal_core.proofs.Dropping.{drop_formed}
-use Rattle.office_admission.specs.Parties.{Parties}
-use Rattle.office_admission.specs.Admission.{admission, by_header, is_for}
-use Rattle.terminal_core.specs.declared.change.Version.{Version}
-use Rattle.office_admission.specs.Readings.{reading_by}
-use Rattle.office_admission.specs.Taking.{MachineState, clearing_of, clearing_for, list_replaced, line_taken_by, lines_taken_by, verdict_on_by, messages_taken_by, codes_for, source_in, nothing_taken, taken_at_by, taken_of_by, interchange_taken_by, interchange_taken, machine_of, interchange_changes}
-use Rattle.office_admission.proofs.Takings.{orders_formed_by, line_leads, clearing_leads, verdict_leads, Leads, stays, leads_on, interchange_leads_by, interchange_leads, interchange_goes_on}
-use Rattle.std.proofs.lemmas.List.{length-map}
-use Rattle.yard_core.specs.Plan.{IsPlan}
-use Rattle.yard_core.specs.YardMap.{YardMap}
-use Rattle.partner_core.specs.ByPlace.{taken_by_place}
-use Rattle.partner_core.specs.Deliveries.{Delivery, run}
-use Rattle.partner_core.specs.Machine.{Taking}
+use Rattle.partner_core.specs.{Numbered.with_number, ByPlace.taken_by_place, Deliveries.{Delivery, run}, Machine.Taking}
 use Rattle.partner_core.specs.Order.{text_under, order, state_after, state}
-use Rattle.terminal_core.proofs.Removed.{empty_whole}
-use Rattle.office_admission.specs.declared.setup.Setup.{Setup}
+use Rattle.terminal_core.specs.{Versions.newest, declared.lines.Side.Side, declared.change.Source.Source, Forms.{IsSource, IsWellFormed}}
+use Rattle.terminal_core.{specs.{State.{TerminalState, IsWhole, empty_state}, declared.change.Version.Version}, proofs.Applying.{formed_step, empty_formed}}
+use Rattle.terminal_core.proofs.{Dropping.drop_formed, Removed.empty_whole}
+use Rattle.office_admission.specs.{Parties.Parties, Admission.{admission, by_header, is_for}, Readings.reading_by, declared.setup.Setup.Setup}
+use Rattle.office_admission.specs.Taking.{MachineState, clearing_of, clearing_for, list_replaced, line_taken_by, lines_taken_by, verdict_on_by, messages_taken_by, codes_for, source_in, nothing_taken, taken_at_by, taken_of_by, interchange_taken_by, interchange_taken, machine_of, interchange_changes}
 use Rattle.office_admission.specs.TakingLaws.{cascade_changes, IsSoundMachine, KeepsSound, ChangesTerminalAlone}
+use Rattle.office_admission.proofs.Takings.{orders_formed_by, line_leads, clearing_leads, verdict_leads, Leads, stays, leads_on, interchange_leads_by, interchange_leads, interchange_goes_on}
+use Rattle.yard_core.specs.{Plan.IsPlan, YardMap.YardMap}
 use Rattle.edi_syntax.specs.declared.interchange.SyntaxFault.TheVariants as syntax
 use Rattle.std.specs.FinMap as finite_map
-
--- ==== Forming: What an interchange leaves is well formed.
 
 -- ---- the header
 

@@ -1,17 +1,10 @@
 -- Which account a code names, and what a map of the codes says of it after a change.
+use Rattle.std.specs.{Option.option_map, Str.bytes_eq, Cmp.Lexicographic.nat_list_eq_equiv, HashMap.UpdatesBy, Map.{lookup, KeepsOthers, IsKeyTest, AreApart}}
 use Rattle.std.proofs.Common.{◌≡◌, ◌≢◌, ◌<◌, ◌≤◌, ◌+◌, ℕ, Bool, true, false, cond, List, [], ◌∷◌, length, Option, None, Some, IfSome, IsTrue, string_bytes, HashMap, Vec, Global, drop, get_or, refl, ⊎_elim, sym, ap, subst, ◌∙◌, arith, rules}
-use Rattle.std.specs.Option.{option_map}
-use Rattle.std.specs.Str.{bytes_eq}
-use Rattle.std.specs.Cmp.Lexicographic.{nat_list_eq_equiv}
-use Rattle.std.specs.HashMap.{UpdatesBy}
-use Rattle.std.specs.Map.{lookup, KeepsOthers, IsKeyTest, AreApart}
-use Rattle.std.proofs.lemmas.Bool.{cases_Bool, cond-true, cond-false}
-use Rattle.std.proofs.lemmas.List.{drop_more, length-map}
-use Rattle.std.proofs.lemmas.List.Elements.{All-head, All-tail}
+use Rattle.std.proofs.{lemmas.Bool.{cases_Bool, cond-true, cond-false}, lemmas.List.{drop_more, length-map}, lemmas.List.Elements.{All-head, All-tail}}
 use Rattle.std.proofs.lemmas.Slice.Eq.{bytes_eq-Decides}
 use Rattle.edi_messages.specs.declared.codes.PartnerKind.{PartnerKind}
-use Rattle.office_admission.specs.PartyCodes.{is_party_code}
-use Rattle.office_admission.specs.SetupAccounts.{account_contents, partner_codes, partner_from, AreCoded, index_in}
+use Rattle.office_admission.specs.{PartyCodes.is_party_code, SetupAccounts.{account_contents, partner_codes, partner_from, AreCoded, index_in}}
 use Rattle.office_admission.specs.declared.setup.Account.{Account}
 
 equal : (a b : List ℕ) → bytes_eq a b ≡ true → a ≡ b

@@ -1,68 +1,30 @@
 -- What is taken, where it is known what partner it is of and that it is an interchange.
-use Rattle.std.proofs.Common.{◌≡◌, ℕ, suc, ◌==◌, true, false, cond, List, [], ◌∷◌, length, Some, Result, Ok, Err, OnOk, IfOk, eq-eqb, refl, sym, ap, subst, ◌∙◌, ◌≤◌, ◌++◌, Bool, Option, None, map, All, arith, not, codes, is_none, zero, ◌<◌}
-use Rattle.std.specs.Result.{MatchResult, result_err}
-use Rattle.edi_syntax.specs.Moments.{CivilMoment}
-use Rattle.edi_syntax.specs.Text.{Content}
-use Rattle.edi_syntax.specs.Interchange.{segments_in}
-use Rattle.edi_syntax.specs.Envelope.{header_of, messages_of}
-use Rattle.edi_syntax.specs.Header.{preparation}
-use Rattle.edi_syntax.specs.Messages.{Message}
-use Rattle.edi_messages.specs.ErrorCodes.{message_error}
-use Rattle.edi_messages.specs.Message.{MessageContent, reading, LineContent, ordered, refused, judged_message, message_of}
-use Rattle.edi_messages.specs.declared.codes.Codes.{Codes}
-use Rattle.edi_messages.specs.declared.message.MessageFault.{MessageFault}
-use Rattle.partner_core.specs.Numbered.{with_number}
-use Rattle.terminal_core.specs.State.{TerminalState, IsWhole}
-use Rattle.terminal_core.specs.declared.change.Source.{Source}
-use Rattle.office_replies.specs.Messages.{rejected, ReportContent}
-use Rattle.office_admission.specs.declared.setup.Account.{Account}
-use Rattle.office_admission.specs.declared.setup.Setup.{Setup}
-use Rattle.office_admission.specs.Parties.{partner_kinds, parties_of}
-use Rattle.office_admission.specs.Setups.{setup_content, account_contents}
-use Rattle.std.proofs.lemmas.List.{append-nil, length-map}
-use Rattle.std.proofs.lemmas.Option.{none-some}
-use Rattle.office_admission.proofs.Contents.{same_parties, same_kinds}
-use Rattle.office_admission.specs.Admission.{admission, is_for}
-use Rattle.office_admission.specs.Outcomes.{IsAdmitted}
-use Rattle.office_admission.specs.declared.admission.Admitted.{Admitted}
-use Rattle.edi_syntax.specs.Envelopes.{envelope_segments}
-use Rattle.terminal_core.specs.Rows.{ChangeContent}
-use Rattle.terminal_core.specs.Versions.{newest}
-use Rattle.office_admission.specs.Tallies.{interchange_reports, reports_at, reports_of}
-use Rattle.office_admission.specs.Taking.{MachineState, machine_of, rejection_by, verdict_on, messages_taken, verdict_changes, messages_changes, verdicts_of, with_messages, nothing_taken, reply_to, codes_for, source_in, taken_at, taken_of, changes_at_by, changes_of_by, interchange_taken, interchange_changes, clearing_of, clearing_for, list_replaced, line_taken_by, line_changes_by, lines_taken_by, lines_changes_by, verdict_on_by, verdict_changes_by, messages_taken_by, messages_changes_by, taken_at_by, taken_of_by, interchange_taken_by, interchange_changes_by}
-use Rattle.edi_messages.specs.Purposes.{CallContent}
-use Rattle.edi_messages.specs.declared.codes.PartnerKind.{PartnerKind}
-use Rattle.terminal_core.specs.declared.lines.Side.{Side}
-use Rattle.terminal_core.specs.OneByOne.{GoOneByOne}
-use Rattle.terminal_core.specs.Changes.{TerminalRows, rows_of, rows_with_all, AreApplicable}
-use Rattle.terminal_core.proofs.Applying.{all_appended, applicable_joined, applicable_step, goes_on}
-use Rattle.terminal_core.proofs.Changing.{turned_step}
-use Rattle.terminal_core.proofs.Dropping.{drop_turned, drop_applicable, drop_whole}
-use Rattle.terminal_core.proofs.Removed.{whole_step}
-use Rattle.terminal_core.specs.declared.change.Version.{Version}
-use Rattle.office_admission.specs.Readings.{reading_by, unweighed_entry, unweighed_order, unweighed_line, unweighed_reading, is_list_replaced, applies_first, FirstVersionRejectsByItsFaults}
-use Rattle.std.proofs.lemmas.List.Elements.{All-map, All-weaker}
-use Rattle.edi_messages.specs.Forms.{IsFormedEntry, IsFormedOrder, OrdersWell}
+use Rattle.std.specs.{Result.{MatchResult, result_err}, Prelude.{◌&&◌, ◌||◌, slice_get}, List.find, Option.{option_and_then, option_map_or}, Str.bytes_eq}
+use Rattle.std.proofs.Common.{◌≡◌, ℕ, suc, ◌==◌, true, false, cond, List, [], ◌∷◌, length, Some, Result, Ok, Err, OnOk, IfOk, eq-eqb, refl, sym, ap, subst, ◌∙◌, ◌≤◌, ◌++◌, Bool, Option, None, All, arith, not, codes, is_none, zero, ◌<◌}
+use Rattle.std.proofs.{lemmas.List.{append-nil, length-map}, lemmas.Option.none-some, lemmas.List.Elements.{All-map, All-weaker}, lemmas.Bool.and_parts}
+use Rattle.std.proofs.lemmas.Slice.Eq.{bytes_eq-Decides}
+use Rattle.edi_syntax.specs.{Moments.CivilMoment, Text.Content, Interchange.segments_in, Envelope.{header_of, messages_of}, Header.preparation}
+use Rattle.edi_syntax.specs.{Messages.Message, Envelopes.envelope_segments}
+use Rattle.edi_messages.specs.{ErrorCodes.message_error, Message.{MessageContent, reading, LineContent, ordered, refused, judged_message, message_of}}
+use Rattle.edi_messages.specs.{declared.codes.Codes.Codes, declared.message.MessageFault.MessageFault, Purposes.CallContent, Types.message_type_of}
+use Rattle.edi_messages.{specs.{declared.codes.PartnerKind.PartnerKind, Forms.{IsFormedEntry, IsFormedOrder, OrdersWell}}, proofs.SurveyLemmas.purpose_there}
 use Rattle.edi_messages.specs.Orders.{EntryContent, OrderContent, gate_in, gate_out, move, list_discharge, list_load, discharge, load}
 use Rattle.edi_messages.specs.declared.message.MessageFault.TheVariants.{Function, OtherType, NoBgm, Code, NoTransport, NoEquipment, EquipmentCount, TooMany}
-use Rattle.edi_messages.proofs.OrderForms.{IsCivil, orders_are_formed}
-use Rattle.terminal_core.specs.declared.change.Version.TheVariants.{First, Second, Third}
-use Rattle.std.specs.Prelude.{◌&&◌, ◌||◌, slice_get}
-use Rattle.std.specs.List.{find}
-use Rattle.std.specs.Option.{option_and_then, option_map_or}
-use Rattle.std.specs.Str.{bytes_eq}
-use Rattle.std.proofs.lemmas.Bool.{and_parts}
-use Rattle.std.proofs.lemmas.Slice.Eq.{bytes_eq-Decides}
 use Rattle.edi_messages.specs.Faults.{beginning, message_function, is_original, is_replacement, is_list, names_list, replaces_list, order_kind_of, purpose_of, applies, fault_of}
-use Rattle.edi_messages.specs.Types.{message_type_of}
-use Rattle.edi_messages.proofs.SurveyLemmas.{purpose_there}
-use Rattle.edi_messages.proofs.WalkLemmas.{heading_faultless}
-use Rattle.office_admission.specs.Grown.{with_party}
-use Rattle.office_admission.proofs.Adding.{admitted_still, admitted_told}
-use Rattle.office_admission.specs.Growth.{with_account, TakenWithAccount}
+use Rattle.edi_messages.proofs.{OrderForms.{IsCivil, orders_are_formed}, WalkLemmas.heading_faultless}
+use Rattle.partner_core.specs.Numbered.{with_number}
+use Rattle.terminal_core.specs.{State.{TerminalState, IsWhole}, declared.change.Source.Source, Rows.ChangeContent, Versions.newest, declared.lines.Side.Side}
+use Rattle.terminal_core.specs.{OneByOne.GoOneByOne, Changes.{TerminalRows, rows_of, rows_with_all, AreApplicable}, declared.change.Version.Version}
+use Rattle.terminal_core.{specs.declared.change.Version.TheVariants.{First, Second, Third}, proofs.{Changing.turned_step, Removed.whole_step}}
+use Rattle.terminal_core.proofs.{Applying.{all_appended, applicable_joined, applicable_step, goes_on}, Dropping.{drop_turned, drop_applicable, drop_whole}}
+use Rattle.office_replies.specs.Messages.{rejected, ReportContent}
+use Rattle.office_admission.specs.{declared.setup.Account.Account, declared.setup.Setup.Setup, Parties.{partner_kinds, parties_of}, Outcomes.IsAdmitted}
+use Rattle.office_admission.specs.{Setups.{setup_content, account_contents}, Admission.{admission, is_for}, declared.admission.Admitted.Admitted}
+use Rattle.office_admission.specs.{Tallies.{interchange_reports, reports_at, reports_of}, Grown.with_party, Growth.{with_account, TakenWithAccount}}
+use Rattle.office_admission.specs.Taking.{MachineState, machine_of, rejection_by, verdict_on, messages_taken, verdict_changes, messages_changes, verdicts_of, with_messages, nothing_taken, reply_to, codes_for, source_in, taken_at, taken_of, changes_at_by, changes_of_by, interchange_taken, interchange_changes, clearing_of, clearing_for, list_replaced, line_taken_by, line_changes_by, lines_taken_by, lines_changes_by, verdict_on_by, verdict_changes_by, messages_taken_by, messages_changes_by, taken_at_by, taken_of_by, interchange_taken_by, interchange_changes_by}
+use Rattle.office_admission.specs.Readings.{reading_by, unweighed_entry, unweighed_order, unweighed_line, unweighed_reading, is_list_replaced, applies_first, FirstVersionRejectsByItsFaults}
+use Rattle.office_admission.proofs.{Contents.{same_parties, same_kinds}, Adding.{admitted_still, admitted_told}}
 use Rattle.edi_messages.specs.declared.message.MessageFault.TheVariants as message
-
--- ==== Takings: What is taken, where it is known what partner it is of and that it is an interchange.
 
 -- ---- a machine and its set-up
 

@@ -1,16 +1,10 @@
 -- The accounts so far: those of the set-up, and those that were added.
 use Rattle.std.specs.Prelude.{ℕ, ◌+◌, nat_lt, List, [], ◌∷◌, ◌++◌, map, length, Option, None, Some, if◌then◌else◌}
-use Rattle.edi_messages.specs.declared.codes.PartnerKind.{PartnerKind}
-use Rattle.edi_messages.specs.declared.codes.PartnerKind.TheVariants.{Gate, Line, Quay, Yard}
+use Rattle.edi_messages.specs.{declared.codes.PartnerKind.PartnerKind, declared.codes.PartnerKind.TheVariants.{Gate, Line, Quay, Yard}}
 use Rattle.partner_core.specs.Numbered.{with_number}
-use Rattle.office_replies.specs.Events.{Event, delivered, migrated, added}
-use Rattle.office_replies.specs.declared.accounts.AccountFault.{AccountFault}
+use Rattle.office_replies.specs.{Events.{Event, delivered, migrated, added}, declared.accounts.AccountFault.AccountFault}
 use Rattle.office_replies.specs.declared.accounts.AccountFault.TheVariants.{Partner, Kind, Accounts}
-use Rattle.office_admission.specs.Kinds.{kind_named}
-use Rattle.office_admission.specs.Limits.{most_partners}
-use Rattle.office_admission.specs.Parties.{partner_from}
-use Rattle.office_admission.specs.PartyCodes.{is_party_code}
-use Rattle.office_admission.specs.Setups.{SetupContent}
+use Rattle.office_admission.specs.{Kinds.kind_named, Limits.most_partners, Parties.partner_from, PartyCodes.is_party_code, Setups.SetupContent}
 
 -- what is said of an account that is to be added: it is added under this number, it is known under this one, or it is
 -- refused

@@ -1,15 +1,8 @@
 -- Which texts the office takes.
-use Rattle.std.specs.Prelude.{ℕ, List, ◌==◌, Bool, false, Option, None, Some, Result, Ok, Err, if◌then◌else◌}
-use Rattle.std.specs.Option.{unwrap_or}
-use Rattle.std.specs.Str.{bytes_eq}
-use Rattle.edi_syntax.specs.Text.{Content}
-use Rattle.edi_syntax.specs.Interchange.{segments_in}
-use Rattle.edi_syntax.specs.declared.interchange.SyntaxFault.{SyntaxFault}
-use Rattle.edi_syntax.specs.Envelope.{header_of}
-use Rattle.edi_syntax.specs.Faults.{fault_of}
+use Rattle.std.specs.{Prelude.{ℕ, List, ◌==◌, Bool, false, Option, None, Some, Result, Ok, Err, if◌then◌else◌}, Option.unwrap_or, Str.bytes_eq}
+use Rattle.edi_syntax.specs.{Text.Content, Interchange.segments_in, declared.interchange.SyntaxFault.SyntaxFault, Envelope.header_of, Faults.fault_of}
 use Rattle.edi_syntax.specs.Header.{sender, recipient, control_number}
-use Rattle.office_replies.specs.declared.deliver.Fault.{Fault}
-use Rattle.office_replies.specs.declared.deliver.Fault.TheVariants.{Syntax, UnknownSender, WrongRecipient}
+use Rattle.office_replies.specs.{declared.deliver.Fault.Fault, declared.deliver.Fault.TheVariants.{Syntax, UnknownSender, WrongRecipient}}
 use Rattle.office_admission.specs.Parties.{Parties, partner_from}
 
 -- the partner that a header names as the sender, counted from 1

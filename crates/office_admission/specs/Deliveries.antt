@@ -2,11 +2,8 @@
 use Rattle.std.specs.Prelude.{ℕ, List, [], ◌∷◌, Result, Ok, Err}
 use Rattle.edi_syntax.specs.Interchange.{interchange_of}
 use Rattle.partner_core.specs.Deliveries.{Delivery, delivery}
-use Rattle.office_replies.specs.Events.{Event, delivered, migrated, added}
-use Rattle.office_replies.specs.declared.deliver.Fault.{Fault}
-use Rattle.office_admission.specs.Setups.{SetupContent, parties_in}
-use Rattle.office_admission.specs.Accounts.{content_with}
-use Rattle.office_admission.specs.Admission.{admission}
+use Rattle.office_replies.specs.{Events.{Event, delivered, migrated, added}, declared.deliver.Fault.Fault}
+use Rattle.office_admission.specs.{Setups.{SetupContent, parties_in}, Accounts.content_with, Admission.admission}
 
 -- a text that is admitted, as a delivery of its partner under its number; the others add nothing
 abbrev pub with_delivery : List ℕ → Result (ℕ × ℕ) Fault → List Delivery → List Delivery

@@ -1,14 +1,9 @@
 -- Which set-ups the set-up files can give.
-use Rattle.std.specs.Prelude.{◌≡◌, ℕ, ◌≤◌, List, length, slice_get, Some, None, All, IsTrue}
-use Rattle.std.specs.List.Sorted.{IsNonDecreasingBy}
-use Rattle.edi_messages.specs.CodeText.{table_fault}
-use Rattle.edi_messages.specs.Codes.{table_texts}
-use Rattle.edi_messages.specs.declared.codes.PartnerKind.{PartnerKind}
-use Rattle.yard_core.specs.declared.plan.Block.{Block}
-use Rattle.yard_core.specs.Plan.{IsPlan}
-use Rattle.office_admission.specs.Limits.{most_partners, most_visits}
+use Rattle.std.specs.{Prelude.{◌≡◌, ℕ, ◌≤◌, List, length, slice_get, Some, None, All, IsTrue}, List.Sorted.IsNonDecreasingBy}
+use Rattle.edi_messages.specs.{CodeText.table_fault, Codes.table_texts, declared.codes.PartnerKind.PartnerKind}
+use Rattle.yard_core.specs.{declared.plan.Block.Block, Plan.IsPlan}
+use Rattle.office_admission.specs.{Limits.{most_partners, most_visits}, Setups.SetupContent}
 pub use Rattle.office_admission.specs.PartyCodes.{is_party_byte, is_party_code}
-use Rattle.office_admission.specs.Setups.{SetupContent}
 
 -- no two partners have one code
 abbrev pub AreDistinct : List (List ℕ × PartnerKind) → Type 0

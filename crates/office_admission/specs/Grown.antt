@@ -1,7 +1,6 @@
 -- Parties with an account more.
 use Rattle.std.specs.Prelude.{◌≡◌, ℕ, List, [], ◌∷◌, ◌++◌, Ok}
-use Rattle.office_admission.specs.Parties.{Parties}
-use Rattle.office_admission.specs.Admission.{admission}
+use Rattle.office_admission.specs.{Parties.Parties, Admission.admission}
 
 -- the parties, a partner of that code being the last
 abbrev pub with_party : Parties → List ℕ → Parties

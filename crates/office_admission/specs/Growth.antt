@@ -2,9 +2,7 @@
 use Rattle.std.specs.Prelude.{◌≡◌, ℕ, List, [], ◌∷◌, ◌++◌, length, Ok}
 use Rattle.edi_messages.specs.declared.codes.PartnerKind.{PartnerKind}
 use Rattle.terminal_core.specs.declared.change.Version.{Version}
-use Rattle.office_admission.specs.Admission.{admission}
-use Rattle.office_admission.specs.Grown.{with_party}
-use Rattle.office_admission.specs.Taking.{MachineState, interchange_taken_by}
+use Rattle.office_admission.specs.{Admission.admission, Grown.with_party, Taking.{MachineState, interchange_taken_by}}
 
 -- the machine, a partner of that code and kind being the last of its partners
 abbrev pub with_account : List ℕ → PartnerKind → MachineState → MachineState

@@ -1,8 +1,6 @@
 -- The words for what a partner is.
-use Rattle.std.specs.Prelude.{List, ℕ, Option, None, Some, codes, if◌then◌else◌}
-use Rattle.std.specs.Str.{bytes_eq}
-use Rattle.edi_messages.specs.declared.codes.PartnerKind.{PartnerKind}
-use Rattle.edi_messages.specs.declared.codes.PartnerKind.TheVariants.{Gate, Line, Quay, Yard}
+use Rattle.std.specs.{Prelude.{List, ℕ, Option, None, Some, codes, if◌then◌else◌}, Str.bytes_eq}
+use Rattle.edi_messages.specs.{declared.codes.PartnerKind.PartnerKind, declared.codes.PartnerKind.TheVariants.{Gate, Line, Quay, Yard}}
 
 -- what a word says that a partner is
 abbrev pub kind_named : List ℕ → Option PartnerKind

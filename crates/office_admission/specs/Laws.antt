@@ -3,15 +3,9 @@ use Rattle.std.specs.Prelude.{◌≡◌, ℕ, ◌+◌, ◌<◌, List, [], ◌∷
 use Rattle.edi_messages.specs.declared.codes.PartnerKind.{PartnerKind}
 use Rattle.edi_syntax.specs.Interchange.{interchange_of}
 use Rattle.partner_core.specs.Deliveries.{first_text, run}
-use Rattle.office_replies.specs.Events.{Event, delivered, added}
-use Rattle.office_replies.specs.declared.deliver.Fault.{Fault}
-use Rattle.office_admission.specs.Given.{IsGiven}
-use Rattle.office_admission.specs.Kinds.{kind_named}
-use Rattle.office_admission.specs.Limits.{most_partners}
-use Rattle.office_admission.specs.Parties.{partner_from}
-use Rattle.office_admission.specs.Setups.{SetupContent, parties_in, setup_with_account}
-use Rattle.office_admission.specs.Accounts.{account_answer, added_as, content_with, content_after}
-use Rattle.office_admission.specs.Admission.{admission}
+use Rattle.office_replies.specs.{Events.{Event, delivered, added}, declared.deliver.Fault.Fault}
+use Rattle.office_admission.specs.{Given.IsGiven, Kinds.kind_named, Limits.most_partners, Parties.partner_from, Admission.admission}
+use Rattle.office_admission.specs.{Setups.{SetupContent, parties_in, setup_with_account}, Accounts.{account_answer, added_as, content_with, content_after}}
 use Rattle.office_admission.specs.Deliveries.{with_delivery, deliveries_of}
 
 -- ---- the accounts so far

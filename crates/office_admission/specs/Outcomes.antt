@@ -1,19 +1,11 @@
 -- What is known of a text that was admitted, and of one that was refused.
 use Rattle.std.specs.Prelude.{◌≡◌, ℕ, ◌≤◌, List, length, None, Some, Ok, Err}
-use Rattle.edi_syntax.specs.Interchange.{segments_in}
-use Rattle.edi_syntax.specs.Envelope.{header_of}
-use Rattle.edi_syntax.specs.Envelopes.{envelope_segments}
-use Rattle.edi_syntax.specs.Faults.{head_fault_of}
-use Rattle.edi_syntax.specs.declared.head.Head.{Head}
+use Rattle.edi_syntax.specs.{Interchange.segments_in, Envelope.header_of, Envelopes.envelope_segments, Faults.head_fault_of, declared.head.Head.Head}
 use Rattle.edi_syntax.specs.Heads.{head_segments}
 use Rattle.partner_core.specs.Numbered.{with_number}
 use Rattle.office_replies.specs.declared.deliver.Fault.{Fault}
-use Rattle.office_admission.specs.Parties.{parties_of, partner_kinds}
-use Rattle.office_admission.specs.declared.setup.Setup.{Setup}
-use Rattle.office_admission.specs.Admission.{admission, number_in, sender_of}
-use Rattle.office_admission.specs.Refusals.{HasNoContrl, error_of}
-use Rattle.office_admission.specs.declared.admission.Admitted.{Admitted}
-use Rattle.office_admission.specs.declared.refusal.Refusal.{Refusal}
+use Rattle.office_admission.specs.{Parties.{parties_of, partner_kinds}, declared.setup.Setup.Setup, Admission.{admission, number_in, sender_of}}
+use Rattle.office_admission.specs.{Refusals.{HasNoContrl, error_of}, declared.admission.Admitted.Admitted, declared.refusal.Refusal.Refusal}
 use Rattle.office_admission.specs.declared.refusal.Refusal.TheVariants.{Plain, WithContrl}
 
 -- the head is that of the text, which has no fault as far as its header

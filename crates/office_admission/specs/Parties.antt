@@ -1,7 +1,7 @@
 -- The terminal and its partners.
 use Rattle.std.specs.Prelude.{ℕ, List, string_bytes}
-pub use Rattle.office_admission.specs.SetupAccounts.{partner_codes, partner_kinds, partner_from}
 use Rattle.office_admission.specs.declared.setup.Setup.{Setup}
+pub use Rattle.office_admission.specs.SetupAccounts.{partner_codes, partner_kinds, partner_from}
 
 -- the terminal's own code, and those of the partners that have an account
 pub record Parties : Type 0 where

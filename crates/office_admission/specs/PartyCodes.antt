@@ -1,7 +1,5 @@
 -- What the code of a terminal or of a partner may be.
-use Rattle.std.specs.Prelude.{ℕ, Bool, ◌&&◌, ◌||◌, ◌==◌, nat_le, List, length}
-use Rattle.std.specs.Char.{is_ascii_uppercase, is_ascii_lowercase, is_ascii_digit}
-use Rattle.std.specs.List.{list_all}
+use Rattle.std.specs.{Prelude.{ℕ, Bool, ◌&&◌, ◌||◌, ◌==◌, nat_le, List, length}, Char.{is_ascii_uppercase, is_ascii_lowercase, is_ascii_digit}, List.list_all}
 
 -- a letter, a digit, a hyphen, a dot or an underscore
 abbrev pub is_party_byte : ℕ → Bool

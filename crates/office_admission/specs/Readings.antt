@@ -1,18 +1,10 @@
 -- What a message says by the rules of a version of the office. Those of the newest read it as it stands.
-use Rattle.std.specs.Prelude.{◌≡◌, Bool, true, not, ◌&&◌, map, Result, Ok, Err, if◌then◌else◌}
-use Rattle.std.specs.List.{find}
-use Rattle.std.specs.Option.{option_map_or}
-use Rattle.std.specs.Result.{result_err}
-use Rattle.edi_syntax.specs.Moments.{CivilMoment}
-use Rattle.edi_syntax.specs.Messages.{Message}
-use Rattle.edi_messages.specs.Faults.{beginning, is_original, names_list, replaces_list, applies, message_faults}
-use Rattle.edi_messages.specs.Message.{LineContent, ordered, refused, MessageContent, reading}
-use Rattle.edi_messages.specs.Orders.{EntryContent, OrderContent, gate_in, discharge}
-use Rattle.edi_messages.specs.declared.codes.Codes.{Codes}
-use Rattle.edi_messages.specs.declared.message.MessageFault.{MessageFault}
-use Rattle.edi_messages.specs.declared.message.MessageFault.TheVariants.{Function}
-use Rattle.terminal_core.specs.declared.change.Version.{Version}
-use Rattle.terminal_core.specs.declared.change.Version.TheVariants.{First, Second, Third}
+use Rattle.std.specs.{Prelude.{◌≡◌, Bool, true, not, ◌&&◌, map, Result, Ok, Err, if◌then◌else◌}, List.find, Option.option_map_or, Result.result_err}
+use Rattle.edi_syntax.specs.{Moments.CivilMoment, Messages.Message}
+use Rattle.edi_messages.specs.{Faults.{beginning, is_original, names_list, replaces_list, applies, message_faults}, declared.codes.Codes.Codes}
+use Rattle.edi_messages.specs.{Message.{LineContent, ordered, refused, MessageContent, reading}, Orders.{EntryContent, OrderContent, gate_in, discharge}}
+use Rattle.edi_messages.specs.{declared.message.MessageFault.MessageFault, declared.message.MessageFault.TheVariants.Function}
+use Rattle.terminal_core.specs.{declared.change.Version.Version, declared.change.Version.TheVariants.{First, Second, Third}}
 
 -- ---- without weights
 

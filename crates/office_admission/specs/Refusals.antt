@@ -1,23 +1,14 @@
 -- How a text is answered that is not admitted.
 use Rattle.std.specs.Prelude.{◌≡◌, ◌⊎◌, ℕ, List, Option, None, Some, Err, encode_utf8_all}
-use Rattle.edi_syntax.specs.Text.{Content}
-use Rattle.edi_syntax.specs.Interchange.{segments_in}
-use Rattle.edi_syntax.specs.Envelope.{header_of}
-use Rattle.edi_messages.specs.Contrl.{rejection_text}
-use Rattle.edi_messages.specs.ErrorCodes.{interchange_error}
-use Rattle.office_replies.specs.Bodies.{refused_text}
-use Rattle.office_replies.specs.Contents.{AnswerContent, answer_with}
-use Rattle.office_replies.specs.Kinds as kinds
-use Rattle.office_replies.specs.Names.{fault_name}
-use Rattle.office_replies.specs.Refusals.{refusal_text}
-use Rattle.office_replies.specs.Responses.{fault_status}
-use Rattle.office_replies.specs.declared.deliver.Fault.{Fault}
-use Rattle.office_replies.specs.declared.deliver.Fault.TheVariants.{Syntax, UnknownSender, WrongRecipient}
+use Rattle.edi_syntax.specs.{Text.Content, Interchange.segments_in, Envelope.header_of}
+use Rattle.edi_messages.specs.{Contrl.rejection_text, ErrorCodes.interchange_error}
+use Rattle.office_replies.specs.{Bodies.refused_text, Contents.{AnswerContent, answer_with}, Names.fault_name, Refusals.refusal_text, Responses.fault_status}
+use Rattle.office_replies.specs.{declared.deliver.Fault.Fault, declared.deliver.Fault.TheVariants.{Syntax, UnknownSender, WrongRecipient}}
 use Rattle.office_replies.specs.declared.deliver.Response.{Response}
+use Rattle.office_admission.specs.{Parties.Parties, Admission.{admission, sender_of}}
+use Rattle.office_replies.specs.Kinds as kinds
 use Rattle.office_replies.specs.declared.deliver.Response.TheVariants as response
 use Rattle.office_replies.specs.declared.deliver.Worst.TheVariants as worst
-use Rattle.office_admission.specs.Parties.{Parties}
-use Rattle.office_admission.specs.Admission.{admission, sender_of}
 
 -- the error code (0085) of the CONTRL that a refusal carries, if it carries one
 abbrev pub error_of : Fault → Option ℕ

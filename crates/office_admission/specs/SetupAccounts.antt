@@ -1,11 +1,8 @@
 -- The partners' accounts, and which of them a code names.
-use Rattle.std.specs.Prelude.{◌≡◌, ℕ, ◌+◌, List, [], ◌∷◌, map, string_bytes, Option, None, Some, All, IsTrue, Vec, if◌then◌else◌}
-use Rattle.std.specs.HashMap.{HashMap, get_by}
-use Rattle.std.specs.Str.{bytes_eq}
-use Rattle.std.specs.declared.alloc.Global.{Global}
+use Rattle.std.specs.{Prelude.{◌≡◌, ℕ, ◌+◌, List, [], ◌∷◌, map, string_bytes, Option, None, Some, All, IsTrue, Vec, if◌then◌else◌}, HashMap.{HashMap, get_by}}
+use Rattle.std.specs.{Str.bytes_eq, declared.alloc.Global.Global}
 use Rattle.edi_messages.specs.declared.codes.PartnerKind.{PartnerKind}
-use Rattle.office_admission.specs.PartyCodes.{is_party_code}
-use Rattle.office_admission.specs.declared.setup.Account.{Account}
+use Rattle.office_admission.specs.{PartyCodes.is_party_code, declared.setup.Account.Account}
 
 -- the codes of accounts
 abbrev pub partner_codes : List Account → List (List ℕ)

@@ -1,11 +1,9 @@
 -- What a set-up says, whatever memory holds it.
 use Rattle.std.specs.Prelude.{ℕ, List, [], ◌∷◌, ◌++◌, map, string_bytes}
-use Rattle.edi_messages.specs.declared.code.CodeTable.{CodeTable}
-use Rattle.edi_messages.specs.declared.codes.PartnerKind.{PartnerKind}
+use Rattle.edi_messages.specs.{declared.code.CodeTable.CodeTable, declared.codes.PartnerKind.PartnerKind}
 use Rattle.yard_core.specs.declared.plan.Block.{Block}
+use Rattle.office_admission.specs.{Parties.Parties, declared.setup.Setup.Setup}
 pub use Rattle.office_admission.specs.SetupAccounts.{account_contents}
-use Rattle.office_admission.specs.Parties.{Parties}
-use Rattle.office_admission.specs.declared.setup.Setup.{Setup}
 
 -- the terminal's code, the codes of document names, the partners, the blocks, and how many visits may be recorded
 pub record SetupContent : Type 0 where

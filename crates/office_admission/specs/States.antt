@@ -1,16 +1,12 @@
 -- The state as a value of models.
-use Rattle.std.specs.Prelude.{ℕ, List, refl}
-use Rattle.std.specs.Coded.{Coded, code_by, coded×, coded_list, coded_ℕ}
-use Rattle.edi_messages.specs.declared.code.CodeTable.{CodeTable}
-use Rattle.edi_messages.specs.declared.codes.PartnerKind.{PartnerKind}
+use Rattle.std.specs.{Prelude.{ℕ, List, refl}, Coded.{Coded, code_by, coded×, coded_list, coded_ℕ}}
+use Rattle.edi_messages.specs.{declared.code.CodeTable.CodeTable, declared.codes.PartnerKind.PartnerKind}
+use Rattle.yard_core.specs.declared.plan.Block.{Block}
+use Rattle.terminal_core.specs.{Codes.terminal_code, State.TerminalState}
+use Rattle.office_admission.specs.{Parties.Parties, Taking.MachineState}
 use Rattle.edi_messages.specs.contracts.code.CodeTable as tables
 use Rattle.edi_messages.specs.contracts.codes.PartnerKind as kinds
-use Rattle.yard_core.specs.declared.plan.Block.{Block}
 use Rattle.yard_core.specs.contracts.plan.Block as blocks
-use Rattle.terminal_core.specs.Codes.{terminal_code}
-use Rattle.terminal_core.specs.State.{TerminalState}
-use Rattle.office_admission.specs.Parties.{Parties}
-use Rattle.office_admission.specs.Taking.{MachineState}
 
 abbrev pub parties_code : Coded Parties
 parties_code =

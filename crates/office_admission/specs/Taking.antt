@@ -1,49 +1,25 @@
 -- What taking an interchange does to the terminal, and what is replied, by the rules of a version of the office. The
 -- words without a version are by the rules in force, those of the newest.
-use Rattle.std.specs.Prelude.{◌≡◌, ℕ, List, [], ◌∷◌, ◌++◌, map, Option, None, Some, Result, Ok, Err, encode_utf8_all, if◌then◌else◌}
-use Rattle.std.specs.Option.{unwrap_or}
+use Rattle.std.specs.{Prelude.{◌≡◌, ℕ, List, [], ◌∷◌, ◌++◌, map, Option, None, Some, Result, Ok, Err, encode_utf8_all, if◌then◌else◌}, Option.unwrap_or}
 use Rattle.box6346.specs.declared.box_number.BoxNumber.{BoxNumber}
-use Rattle.edi_syntax.specs.Moments.{CivilMoment}
-use Rattle.edi_syntax.specs.Text.{Content}
-use Rattle.edi_syntax.specs.Interchange.{segments_in}
-use Rattle.edi_syntax.specs.Envelope.{header_of, messages_of}
-use Rattle.edi_syntax.specs.Header.{control_number, preparation}
-use Rattle.edi_syntax.specs.Messages.{Message, message_reference}
-use Rattle.edi_messages.specs.Contrl.{contrl_text}
-use Rattle.edi_messages.specs.ErrorCodes.{message_error}
-use Rattle.edi_messages.specs.Message.{LineContent, ordered, refused, MessageContent}
-use Rattle.edi_messages.specs.Purposes.{CallContent}
-use Rattle.edi_messages.specs.Orders.{OrderContent, gate_in, gate_out, move, list_discharge, list_load, discharge, load}
-use Rattle.edi_messages.specs.declared.code.CodeTable.{CodeTable}
-use Rattle.edi_messages.specs.declared.codes.Codes.{Codes}
-use Rattle.edi_messages.specs.declared.line.LineFault.{LineFault}
-use Rattle.edi_messages.specs.declared.line.LineFault.TheVariants as line
-use Rattle.edi_messages.specs.declared.message.MessageFault.{MessageFault}
-use Rattle.edi_messages.specs.declared.order.OrderKind.{OrderKind}
-use Rattle.edi_messages.specs.declared.order.OrderKind.TheVariants.{ListDischarge, ListLoad}
-use Rattle.edi_messages.specs.declared.codes.PartnerKind.{PartnerKind}
-use Rattle.edi_messages.specs.declared.message.Verdict.{Verdict}
+use Rattle.edi_syntax.specs.{Moments.CivilMoment, Text.Content, Interchange.segments_in, Envelope.{header_of, messages_of}}
+use Rattle.edi_syntax.specs.{Header.{control_number, preparation}, Messages.{Message, message_reference}}
+use Rattle.edi_messages.specs.{Contrl.contrl_text, ErrorCodes.message_error, Message.{LineContent, ordered, refused, MessageContent}, Purposes.CallContent}
+use Rattle.edi_messages.specs.{Orders.{OrderContent, gate_in, gate_out, move, list_discharge, list_load, discharge, load}, declared.code.CodeTable.CodeTable}
+use Rattle.edi_messages.specs.{declared.codes.Codes.Codes, declared.line.LineFault.LineFault, declared.message.MessageFault.MessageFault}
+use Rattle.edi_messages.specs.{declared.order.OrderKind.OrderKind, declared.order.OrderKind.TheVariants.{ListDischarge, ListLoad}}
+use Rattle.edi_messages.specs.{declared.codes.PartnerKind.PartnerKind, declared.message.Verdict.Verdict}
 use Rattle.edi_messages.specs.declared.message.Verdict.TheVariants.{Accepted, Rejected}
 use Rattle.partner_core.specs.Numbered.{with_number}
-use Rattle.terminal_core.specs.State.{TerminalState}
-use Rattle.terminal_core.specs.Rows.{ChangeContent}
-use Rattle.terminal_core.specs.Step.{step_by}
-use Rattle.terminal_core.specs.Versions.{newest}
-use Rattle.terminal_core.specs.Drop.{list_drop}
-use Rattle.terminal_core.specs.declared.change.Outcome.TheVariants.{Refused}
-use Rattle.terminal_core.specs.declared.change.Reason.{Reason}
-use Rattle.terminal_core.specs.declared.change.Reason.TheVariants.{Form, CheckDigit, Size, Moment, SlotText}
-use Rattle.terminal_core.specs.declared.lines.Side.{Side}
-use Rattle.terminal_core.specs.declared.lines.Side.TheVariants.{Load, Discharge}
-use Rattle.terminal_core.specs.declared.change.Source.{Source}
+use Rattle.terminal_core.specs.{State.TerminalState, Rows.ChangeContent, Step.step_by, Versions.newest, Drop.list_drop, declared.change.Reason.Reason}
+use Rattle.terminal_core.specs.{declared.change.Outcome.TheVariants.Refused, declared.change.Reason.TheVariants.{Form, CheckDigit, Size, Moment, SlotText}}
+use Rattle.terminal_core.specs.{declared.lines.Side.Side, declared.lines.Side.TheVariants.{Load, Discharge}, declared.change.Source.Source}
 use Rattle.terminal_core.specs.declared.change.Version.{Version}
 use Rattle.yard_core.specs.declared.plan.Block.{Block}
 use Rattle.office_replies.specs.declared.message_report.LineReport.{LineReport}
-use Rattle.office_admission.specs.Parties.{Parties, partner_kinds, parties_of}
-use Rattle.office_admission.specs.declared.setup.Setup.{Setup}
-use Rattle.office_admission.specs.Admission.{admission, is_for}
-use Rattle.office_admission.specs.Readings.{reading_by}
 use Rattle.office_replies.specs.Messages.{VerdictContent, accepted, rejected, ReportContent, reply_content_text}
+use Rattle.office_admission.specs.{Parties.{Parties, partner_kinds, parties_of}, declared.setup.Setup.Setup, Admission.{admission, is_for}, Readings.reading_by}
+use Rattle.edi_messages.specs.declared.line.LineFault.TheVariants as line
 
 -- what a terminal is set up with, and the terminal: who it and its partners are, the codes of document names, what each
 -- partner is, the blocks of its yard, how many visits it may record

@@ -1,22 +1,13 @@
 -- What interchanges change, as a whole: the laws of a step hold of all orders of an interchange, one after the other,
 -- and of all interchanges of a run.
 use Rattle.std.specs.Prelude.{◌≡◌, ℕ, ◌≤◌, List, [], ◌∷◌, ◌++◌, length}
-use Rattle.std.specs.FinMap as finite_map
-use Rattle.yard_core.specs.Plan.{IsPlan}
-use Rattle.yard_core.specs.YardMap.{YardMap}
-use Rattle.partner_core.specs.ByPlace.{taken_by_place}
-use Rattle.partner_core.specs.Deliveries.{Delivery}
-use Rattle.partner_core.specs.Machine.{Taking}
-use Rattle.partner_core.specs.Order.{state_after, state}
-use Rattle.terminal_core.specs.Rows.{ChangeContent}
-use Rattle.terminal_core.specs.State.{empty_state, IsWhole}
-use Rattle.terminal_core.specs.Forms.{IsWellFormed}
-use Rattle.terminal_core.specs.OneByOne.{GoOneByOne}
+use Rattle.yard_core.specs.{Plan.IsPlan, YardMap.YardMap}
+use Rattle.partner_core.specs.{ByPlace.taken_by_place, Deliveries.Delivery, Machine.Taking, Order.{state_after, state}}
+use Rattle.terminal_core.specs.{Rows.ChangeContent, State.{empty_state, IsWhole}, Forms.IsWellFormed, OneByOne.GoOneByOne, declared.change.Version.Version}
 use Rattle.terminal_core.specs.Changes.{rows_of, rows_with_all, AreApplicable}
-use Rattle.terminal_core.specs.declared.change.Version.{Version}
-use Rattle.office_admission.specs.Limits.{most_partners}
-use Rattle.office_admission.specs.declared.setup.Setup.{Setup}
+use Rattle.office_admission.specs.{Limits.most_partners, declared.setup.Setup.Setup}
 use Rattle.office_admission.specs.Taking.{MachineState, machine_of, interchange_taken_by, interchange_changes_by, interchange_taken, interchange_changes}
+use Rattle.std.specs.FinMap as finite_map
 
 -- ---- an interchange, by the rules of any version
 

@@ -1,25 +1,15 @@
 -- How what became of messages and their lines is counted.
 use Rattle.std.specs.Prelude.{ℕ, ◌+◌, ◌-◌, ◌^◌, min, List, [], ◌∷◌, Option, None, Some, if◌then◌else◌}
-use Rattle.edi_syntax.specs.Moments.{CivilMoment}
-use Rattle.edi_syntax.specs.Text.{Content}
-use Rattle.edi_syntax.specs.Interchange.{segments_in}
-use Rattle.edi_syntax.specs.Envelope.{header_of, messages_of}
-use Rattle.edi_syntax.specs.Header.{preparation}
-use Rattle.edi_messages.specs.declared.message.MessageFault.{MessageFault}
-use Rattle.edi_messages.specs.declared.message.MessageFault.TheVariants as message
-use Rattle.edi_messages.specs.declared.codes.PartnerKind.{PartnerKind}
+use Rattle.edi_syntax.specs.{Moments.CivilMoment, Text.Content, Interchange.segments_in, Envelope.{header_of, messages_of}, Header.preparation}
+use Rattle.edi_messages.specs.{declared.message.MessageFault.MessageFault, declared.codes.PartnerKind.PartnerKind}
 use Rattle.partner_core.specs.Numbered.{with_number}
-use Rattle.terminal_core.specs.declared.change.Outcome.{Outcome}
+use Rattle.terminal_core.specs.{declared.change.Outcome.Outcome, declared.change.Reason.Reason}
+use Rattle.office_replies.specs.{Messages.{VerdictContent, accepted, rejected, ReportContent}, declared.message_report.LineReport.LineReport}
+use Rattle.office_admission.specs.{Admission.{admission, is_for}, Taking.{MachineState, codes_for, messages_taken, source_in}, declared.tally.Tally.Tally}
+use Rattle.office_admission.specs.{declared.tally.RefusedLines.RefusedLines, declared.tally.RejectedMessages.RejectedMessages}
+use Rattle.edi_messages.specs.declared.message.MessageFault.TheVariants as message
 use Rattle.terminal_core.specs.declared.change.Outcome.TheVariants as outcome
-use Rattle.terminal_core.specs.declared.change.Reason.{Reason}
 use Rattle.terminal_core.specs.declared.change.Reason.TheVariants as reason
-use Rattle.office_replies.specs.Messages.{VerdictContent, accepted, rejected, ReportContent}
-use Rattle.office_replies.specs.declared.message_report.LineReport.{LineReport}
-use Rattle.office_admission.specs.Admission.{admission, is_for}
-use Rattle.office_admission.specs.Taking.{MachineState, codes_for, messages_taken, source_in}
-use Rattle.office_admission.specs.declared.tally.RefusedLines.{RefusedLines}
-use Rattle.office_admission.specs.declared.tally.RejectedMessages.{RejectedMessages}
-use Rattle.office_admission.specs.declared.tally.Tally.{Tally}
 
 -- two counts together, as far as 64 bits go
 abbrev pub capped_sum : ℕ → ℕ → ℕ

@@ -1,12 +1,8 @@
 ghost use Rattle.std.specs.Prelude.{◌≡◌, ℕ, List, ◌+◌, ◌<◌, ◌≤◌, false, IfNone, IfSome, IfOk, IfErr, length};
-ghost use Rattle.edi_syntax.specs.Interchange.{segments_in};
-ghost use Rattle.edi_syntax.specs.Envelope.{header_of};
-ghost use Rattle.office_admission.specs.Admission.{admission, is_for, sender_of};
-ghost use Rattle.office_admission.specs.Outcomes.{IsAdmitted, IsRefused, IsOpened};
+ghost use Rattle.edi_syntax.specs.{Interchange.segments_in, Envelope.header_of};
+ghost use Rattle.office_admission.specs.{Admission.{admission, is_for, sender_of}, Outcomes.{IsAdmitted, IsRefused, IsOpened}, Limits.most_partners};
+ghost use Rattle.office_admission.specs.{Parties.parties_of, declared.setup.Setup.Setup};
 ghost use Rattle.office_replies.specs.declared.deliver.Fault.{Fault};
-ghost use Rattle.office_admission.specs.Limits.{most_partners};
-ghost use Rattle.office_admission.specs.Parties.{parties_of};
-ghost use Rattle.office_admission.specs.declared.setup.Setup.{Setup};
 
 use crate::Setup;
 use crate::refusal::Refusal;

@@ -1,11 +1,9 @@
 //! What follows only from the definitions of accounts and deliveries. Each function has an empty body, and its contract
 //! is the law: a call brings it into the caller's proof.
 //! What follows of whole interchanges, and of runs of them, from what is known of one order.
-ghost use Rattle.office_admission.specs.Grown.{AdmittedStays};
+ghost use Rattle.office_admission.specs.{Grown.AdmittedStays, Growth.TakenWithAccount, Readings.FirstVersionRejectsByItsFaults};
 ghost use Rattle.office_admission.specs.Laws.{AddedIsLast, UnaddedChangesNothing, ContentStaysGiven, DeliveryAdds, AccountAddsNoDelivery, RefusedAddsNoDelivery, FirstsAreAdmitted, NoRunBeyond};
-ghost use Rattle.office_admission.specs.Growth.{TakenWithAccount};
 ghost use Rattle.office_admission.specs.TakingLaws.{InterchangesKeepWhole, InterchangeChangesTurnRows, InterchangeChangesAreApplicable, InterchangesKeepForms, InterchangesKeepSound, InterchangesChangeTerminalAlone, CascadeChangesTurnRows, CascadeChangesAreApplicable, OpeningsAreSound, ByPlaceKeepsSound, ByPlaceChangesTerminalAlone, DeliveriesKeepSound, DeliveriesChangeTerminalAlone};
-ghost use Rattle.office_admission.specs.Readings.{FirstVersionRejectsByItsFaults};
 
 /// An account that is added is the last, under the next number.
 pub fn added_is_last()

@@ -1,6 +1,5 @@
 ghost use Rattle.std.specs.Prelude.{◌≡◌, ◌≤◌, length};
-ghost use Rattle.office_admission.specs.Limits.{most_partners};
-ghost use Rattle.office_admission.specs.Taking.{machine_of};
+ghost use Rattle.office_admission.specs.{Limits.most_partners, Taking.machine_of};
 
 use crate::taking::take;
 use crate::tally::Tally;

@@ -1,11 +1,7 @@
 ghost use Rattle.std.specs.Prelude.{◌≡◌, ℕ, List, IfOk};
-ghost use Rattle.edi_syntax.specs.Interchange.{segments_in};
-ghost use Rattle.edi_syntax.specs.Envelope.{header_of};
-ghost use Rattle.edi_syntax.specs.Heads.{head_segments};
+ghost use Rattle.edi_syntax.specs.{Interchange.segments_in, Envelope.header_of, Heads.head_segments};
 ghost use Rattle.office_replies.specs.Contents.{content_of, GivesOrNotNow};
-ghost use Rattle.office_admission.specs.declared.setup.Setup.{Setup};
-ghost use Rattle.office_admission.specs.Parties.{parties_of};
-ghost use Rattle.office_admission.specs.Outcomes.{IsRefused, fault_in};
+ghost use Rattle.office_admission.specs.{declared.setup.Setup.Setup, Parties.parties_of, Outcomes.{IsRefused, fault_in}};
 ghost use Rattle.office_admission.specs.Refusals.{rejection, refusal_of, RefusedSurely};
 
 use edi_messages::write_rejection;

@@ -1,13 +1,8 @@
-ghost use Rattle.std.specs.List.{list_all};
-ghost use Rattle.std.specs.Option.{option_map};
-ghost use Rattle.std.specs.Prelude.{◌≡◌, ◌<◌, ◌≤◌, ◌+◌, IfOk, IfSome, IsTrue, length, false, MatchOption, [], ◌∷◌, ◌++◌};
+ghost use Rattle.std.specs.{List.list_all, Option.option_map, Prelude.{◌≡◌, ◌<◌, ◌≤◌, ◌+◌, IfOk, IfSome, IsTrue, length, false, MatchOption, [], ◌∷◌, ◌++◌}};
 ghost use Rattle.arrayvec.specs.ArrayVec.{array_vec_len};
 ghost use Rattle.edi_syntax.specs.Segment.{value};
-ghost use Rattle.office_admission.specs.SetupAccounts.{account_contents, partner_from, partner_codes, AreCoded, AreIndexed};
-ghost use Rattle.office_admission.specs.Given.{is_party_byte};
-ghost use Rattle.office_admission.specs.Kinds.{kind_named};
-ghost use Rattle.office_admission.specs.Limits.{most_partners};
-ghost use Rattle.office_admission.specs.PartyCodes.{is_party_code};
+ghost use Rattle.office_admission.specs.{SetupAccounts.{account_contents, partner_from, partner_codes, AreCoded, AreIndexed}, Given.is_party_byte};
+ghost use Rattle.office_admission.specs.{Kinds.kind_named, Limits.most_partners, PartyCodes.is_party_code};
 
 use arrayvec::ArrayVec;
 use edi_messages::{CodeTable, PartnerKind};

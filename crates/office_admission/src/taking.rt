@@ -1,15 +1,9 @@
 ghost use Rattle.std.specs.Prelude.{◌≡◌, ℕ, List, ◌++◌, IfOk, map, string_bytes, Some, encode_utf8_all, ◌∷◌, [], OnOk};
-ghost use Rattle.edi_messages.specs.ErrorCodes.{message_error};
-ghost use Rattle.edi_messages.specs.Message.{reading};
-ghost use Rattle.edi_messages.specs.Owned.{order_content, line_content, message_content};
-ghost use Rattle.edi_syntax.specs.Envelope.{header_of, messages_of};
-ghost use Rattle.edi_syntax.specs.Envelopes.{envelope_segments};
-ghost use Rattle.edi_syntax.specs.Frames.{message, messages_left};
-ghost use Rattle.edi_syntax.specs.Messages.{message_reference};
-ghost use Rattle.office_admission.specs.Outcomes.{IsAdmitted};
-ghost use Rattle.office_replies.specs.Messages.{verdict_content, report_content};
+ghost use Rattle.edi_messages.specs.{ErrorCodes.message_error, Message.reading, Owned.{order_content, line_content, message_content}};
+ghost use Rattle.edi_syntax.specs.{Envelope.{header_of, messages_of}, Envelopes.envelope_segments, Frames.{message, messages_left}, Messages.message_reference};
+ghost use Rattle.office_admission.specs.{Outcomes.IsAdmitted, Tallies.{with_interchange, interchange_reports}};
 ghost use Rattle.office_admission.specs.Taking.{machine_of, interchange_taken, interchange_changes, messages_taken, messages_changes, reply_to, source_in, verdict_on, verdict_of, verdicts_of, verdict_changes, number_ordered, reason_of, line_taken, lines_taken, line_changes, lines_changes, side_listed, clearing_for, Clears};
-ghost use Rattle.office_admission.specs.Tallies.{with_interchange, interchange_reports};
+ghost use Rattle.office_replies.specs.Messages.{verdict_content, report_content};
 ghost use Rattle.terminal_core.specs.Rows.{change_content};
 
 use crate::tally::Tally;

@@ -1,28 +1,16 @@
 -- A closing adds an archive to those that the store's register names.
+use Rattle.std.specs.{Prelude.{◌&&◌, ◌||◌, Contains}, List.{AllByRecursion, list_all}, Cmp.IsTotalOrder, Cmp.Lexicographic.slice_cmp}
+use Rattle.std.{specs.Ordering.{is_eq, is_lt, nat_cmp, ordering_reverse, ordering_then}, proofs.lemmas.Bool.and_parts}
 use Rattle.std.proofs.Common.{◌≡◌, inl, inr, ℕ, List, [], ◌∷◌, ◌++◌, length, Bool, true, false, cond, Option, None, Some, Ordering, Less, Equal, Greater, refl, sym, ap, subst, ◌∙◌}
-use Rattle.std.specs.Prelude.{◌&&◌, ◌||◌, Contains}
-use Rattle.std.specs.List.{AllByRecursion, list_all}
-use Rattle.std.specs.Cmp.{IsTotalOrder}
-use Rattle.std.specs.Cmp.Lexicographic.{slice_cmp}
-use Rattle.std.specs.Ordering.{is_eq, is_lt, nat_cmp, ordering_reverse, ordering_then}
-use Rattle.std.proofs.lemmas.Bool.{and_parts}
 use Rattle.std.proofs.lemmas.Cmp.{nat_cmp_total, nat_list_cmp_total, on_total, then_total, tied_itself}
-use Rattle.sqlite_rules.specs.Lists.{Has}
-use Rattle.sqlite_rules.proofs.ListLemmas.{has_contained}
-use Rattle.terminal_core.specs.State.{side_code}
-use Rattle.terminal_core.proofs.Lined.{same_key, tied_self}
+use Rattle.sqlite_rules.{specs.Lists.Has, proofs.ListLemmas.has_contained}
+use Rattle.terminal_core.{specs.State.side_code, proofs.Lined.{same_key, tied_self}}
 use Rattle.office_rows.specs.Rows.{ListingContent}
 use Rattle.office_history.proofs.Kept.{head_in, tail_in}
-use Rattle.office_parts.specs.Bringing.{is_list}
-use Rattle.office_parts.specs.OwnLists.{ListName, list_name}
-use Rattle.office_parts.specs.Archives.{Archive}
-use Rattle.office_closing.specs.Changes.{unmarked}
-use Rattle.office_closing.specs.Lists.{SettledListContent, comes_before, list_cmp, put_list, put_lists}
-use Rattle.office_closing.specs.Register.{RegisterContent}
+use Rattle.office_parts.specs.{Bringing.is_list, OwnLists.{ListName, list_name}, Archives.Archive}
+use Rattle.office_closing.specs.{Changes.unmarked, Lists.{SettledListContent, comes_before, list_cmp, put_list, put_lists}, Register.RegisterContent}
 use Rattle.office_closing.specs.Sound.{are_rising, are_sound_archives, are_sound_lists, are_sound_segments, are_sound_taken, comes_after, is_sound_mark, may_be_list}
-use Rattle.office_closing.specs.Closes.{Closing, Held, IsClosing, closed_after, raised_register}
-use Rattle.office_closing.specs.Copies.{FileNames}
-use Rattle.office_closing.specs.Deleting.{is_one_of}
+use Rattle.office_closing.specs.{Closes.{Closing, Held, IsClosing, closed_after, raised_register}, Copies.FileNames, Deleting.is_one_of}
 use Rattle.office_closing.specs.PuttingAway.{AreNamedThen, HasLists}
 use Rattle.office_archives.specs.Shelves.{IsKeptAs}
 use Rattle.office_archive_files.specs.ClosedStores.{ClosingsAddAnArchive}

@@ -1,52 +1,25 @@
 -- What a closing leaves of a store opens after the same events.
+use Rattle.std.specs.{Prelude.{◌&&◌, ◌||◌, ◌==◌, Contains, count_by, fold}, List.range_with_len, Cmp.Lexicographic.bytes_decides, Str.bytes_eq}
 use Rattle.std.proofs.Common.{◌≡◌, ◌⊎◌, inl, inr, ℕ, ◌+◌, ◌≤◌, List, [], ◌∷◌, Bool, true, false, cond, length, map, Option, None, Some, filter, not, refl, sym, ap, subst, ◌∙◌, arith}
-use Rattle.std.specs.Prelude.{◌&&◌, ◌||◌, ◌==◌, Contains, count_by, fold}
-use Rattle.std.specs.List.{range_with_len}
-use Rattle.std.specs.Cmp.Lexicographic.{bytes_decides}
-use Rattle.std.specs.Str.{bytes_eq}
 use Rattle.std.proofs.lemmas.Bool.{and_from, and_parts, eq-eqb, eqb-true}
 use Rattle.sqlite.specs.Tree.{Trees}
 use Rattle.sqlite_rules.proofs.ListLemmas.{some_has}
-use Rattle.edi_messages.specs.Purposes.{CallContent}
-use Rattle.edi_messages.specs.declared.codes.PartnerKind.{PartnerKind}
+use Rattle.edi_messages.specs.{Purposes.CallContent, declared.codes.PartnerKind.PartnerKind}
 use Rattle.partner_core.specs.Deliveries.{run}
-use Rattle.terminal_core.specs.Changes.{TerminalRows}
-use Rattle.terminal_core.specs.Forms.{IsWellFormed}
-use Rattle.terminal_core.specs.State.{AreNumbered, IsWhole, TerminalState, side_code}
-use Rattle.terminal_core.specs.declared.lines.Side.{Side}
+use Rattle.terminal_core.specs.{Changes.TerminalRows, Forms.IsWellFormed, State.{AreNumbered, IsWhole, TerminalState, side_code}, declared.lines.Side.Side}
 use Rattle.terminal_core.proofs.Lined.{same_key}
 use Rattle.office_replies.specs.Events.{Event}
 use Rattle.office_loading.proofs.Keyed.{side_is}
-use Rattle.office_rows.specs.Effects.{is_pair}
-use Rattle.office_rows.specs.Rows.{Interchange, Partner, Rows}
-use Rattle.office_rows.specs.Stored.{StoresRows}
-use Rattle.office_rows.specs.Tables.{office_schema}
-use Rattle.office_admission.specs.Given.{IsGiven}
-use Rattle.office_admission.specs.Setups.{SetupContent}
-use Rattle.office_admission.specs.Accounts.{content_after}
-use Rattle.office_admission.specs.Deliveries.{deliveries_of}
-use Rattle.office_history.specs.After.{AreKeptOnce, accounts_from, machine_after}
-use Rattle.office_history.proofs.Kept.{head_in, tail_in, count_more}
-use Rattle.office_parts.specs.Bringing.{is_list}
-use Rattle.office_parts.specs.OwnLists.{ListName, list_name, rows_without_lists, without_lists}
-use Rattle.office_parts.proofs.Writings.{own_office_without}
-use Rattle.office_parts.specs.Archives.{Archive}
-use Rattle.office_parts.specs.Closing.{is_closed}
-use Rattle.office_parts.specs.LeftOver.{rows_beyond}
-use Rattle.office_parts.specs.OwnTerminal.{own_terminal, own_visits}
-use Rattle.office_closing.specs.Changes.{unmarked}
-use Rattle.office_closing.specs.Lists.{SettledListContent, is_of_list, lines_of_list}
-use Rattle.office_closing.specs.Register.{RegisterContent, closed_by, newest_visit}
-use Rattle.office_closing.specs.Sound.{IsSound}
-use Rattle.office_closing.specs.Closes.{AreOrderly, Closing, Held, IsClosing, IsLeft, raised_register}
-use Rattle.office_closing.specs.Copies.{FileNames}
-use Rattle.office_closing.specs.Deleting.{is_one_of}
+use Rattle.office_rows.specs.{Effects.is_pair, Rows.{Interchange, Partner, Rows}, Stored.StoresRows, Tables.office_schema}
+use Rattle.office_admission.specs.{Given.IsGiven, Setups.SetupContent, Accounts.content_after, Deliveries.deliveries_of}
+use Rattle.office_history.{specs.After.{AreKeptOnce, accounts_from, machine_after}, proofs.Kept.{head_in, tail_in, count_more}}
+use Rattle.office_parts.specs.{Bringing.is_list, OwnLists.{ListName, list_name, rows_without_lists, without_lists}, Archives.Archive, Closing.is_closed}
+use Rattle.office_parts.{specs.{LeftOver.rows_beyond, OwnTerminal.{own_terminal, own_visits}}, proofs.Writings.own_office_without}
+use Rattle.office_closing.specs.{Changes.unmarked, Lists.{SettledListContent, is_of_list, lines_of_list}, Register.{RegisterContent, closed_by, newest_visit}}
+use Rattle.office_closing.specs.{Sound.IsSound, Closes.{AreOrderly, Closing, Held, IsClosing, IsLeft, raised_register}, Copies.FileNames, Deleting.is_one_of}
 use Rattle.office_closing.specs.PuttingAway.{AreNamedThen, ClosedStoresStand, HasLists as HasEachList, Stands}
-use Rattle.office_archives.specs.Shelves.{HasLists, IsKeptAs, IsOfCall, NamesAll}
-use Rattle.office_archives.specs.Together.{IsBesideAfter}
-use Rattle.office_archives.proofs.Filled.{of_whole}
-use Rattle.office_archive_files.specs.ClosedStores.{ClosingsAreNoEvents, OpenedRowsAreOrderly, OpensAfter}
-use Rattle.office_archive_files.proofs.NamingLemmas.{closings_are_named}
+use Rattle.office_archives.{specs.{Shelves.{HasLists, IsKeptAs, IsOfCall, NamesAll}, Together.IsBesideAfter}, proofs.Filled.of_whole}
+use Rattle.office_archive_files.{specs.ClosedStores.{ClosingsAreNoEvents, OpenedRowsAreOrderly, OpensAfter}, proofs.NamingLemmas.closings_are_named}
 
 -- ---- the list of a call
 

@@ -1,37 +1,22 @@
 -- A closing over files is one over connections that show what the files held.
 use Rattle.std.proofs.Common.{◌≡◌, inl, inr, ℕ, List, Bool, true, false, Result, sym, ap, subst, ◌∙◌, arith}
 use Rattle.sqlite_schema.specs.Names.{same_name}
-use Rattle.sqlite.specs.Effect.{Database}
-use Rattle.sqlite.specs.Held as connection
-use Rattle.sqlite.specs.Held.{state}
-use Rattle.sqlite.specs.Files.{HoldsDatabase}
-use Rattle.sqlite.specs.Recovery.{Image}
-use Rattle.sqlite.specs.State.{State, HasCleanDisk, Survives}
-use Rattle.sqlite.specs.Tree.{Trees}
+use Rattle.sqlite.specs.{Effect.Database, Held.state, Files.HoldsDatabase, Recovery.Image, State.{State, HasCleanDisk, Survives}, Tree.Trees}
 use Rattle.sqlite_trees.specs.declared.store.Store.{Ghosts}
 use Rattle.office_replies.specs.Events.{Event}
-use Rattle.office_rows.specs.Rows.{Rows}
-use Rattle.office_rows.specs.Stored.{HasRows, StoresRows}
-use Rattle.office_rows.specs.Tables.{office_schema}
-use Rattle.office_rows.proofs.Creating.{stores}
+use Rattle.office_rows.{specs.{Rows.Rows, Stored.{HasRows, StoresRows}, Tables.office_schema}, proofs.Creating.stores}
 use Rattle.office_admission.specs.Setups.{SetupContent}
 use Rattle.office_history.specs.After.{AreKeptOnce}
 use Rattle.office_tables.specs.Opened.{AreMissing}
 use Rattle.office_parts.specs.Archives.{Archive}
-use Rattle.office_closing.specs.Register.{RegisterContent}
-use Rattle.office_closing.specs.Stored.{HasRegister, HasRegisterIn}
-use Rattle.office_closing.specs.Tables.{Layout, older, former, whole, register_tables, schema_in}
-use Rattle.office_closing.specs.Transactions.{IsSettled}
-use Rattle.office_closing.specs.Closes.{Held}
-use Rattle.office_closing.specs.Files.{AreClean, Files, files}
-use Rattle.office_closing.specs.declared.faults.CloseFault.{CloseFault}
+use Rattle.office_closing.specs.{Register.RegisterContent, Stored.{HasRegister, HasRegisterIn}, Transactions.IsSettled, Closes.Held}
+use Rattle.office_closing.specs.{Tables.{Layout, older, former, whole, register_tables, schema_in}, Files.{AreClean, Files, files}}
+use Rattle.office_closing.specs.{declared.faults.CloseFault.CloseFault, declared.planning.PutAway.PutAway}
 use Rattle.office_commands.specs.Opening.{Shows}
-use Rattle.office_closing.specs.declared.planning.PutAway.{PutAway}
 use Rattle.office_archive_files.specs.ClosedFiles.{AreLeft, ClosingsOfFilesAreNoEvents, HoldClosable, HoldsRegister, HoldsRows, OpenStoresAreHeld}
-use Rattle.office_archive_files.specs.ClosedStores.{OpenedRowsAreOrderly, OpensAfter}
-use Rattle.office_archive_files.specs.Closing.{ClosesOver, Images, ShowsRegister}
-use Rattle.office_archive_files.specs.Shelves.{HoldsArchive}
+use Rattle.office_archive_files.specs.{ClosedStores.{OpenedRowsAreOrderly, OpensAfter}, Closing.{ClosesOver, Images, ShowsRegister}, Shelves.HoldsArchive}
 use Rattle.office_archive_files.specs.Stops.{MayBeClosed, StopsAreNoEvents, StopsLeaveOpen}
+use Rattle.sqlite.specs.Held as connection
 
 -- ---- one file
 

@@ -1,24 +1,14 @@
 -- A closing that goes on names the archives that it named.
+use Rattle.std.{specs.{Prelude.{◌&&◌, nat_le}, List.{AllByRecursion, list_all}}, proofs.lemmas.Bool.{and_parts, leb-true}}
 use Rattle.std.proofs.Common.{◌≡◌, ◌⊎◌, inl, inr, ℕ, ◌+◌, ◌≤◌, List, [], ◌∷◌, ◌++◌, length, Bool, true, false, cond, refl, sym, ap, subst, ◌∙◌, arith, None}
-use Rattle.std.specs.Prelude.{◌&&◌, nat_le}
-use Rattle.std.specs.List.{AllByRecursion, list_all}
-use Rattle.std.proofs.lemmas.Bool.{and_parts, leb-true}
-use Rattle.sqlite_rules.specs.Lists.{Has}
-use Rattle.sqlite_rules.proofs.ListLemmas.{contains_had, has_contained, some_from, some_has}
+use Rattle.sqlite_rules.{specs.Lists.Has, proofs.ListLemmas.{contains_had, has_contained, some_from, some_has}}
 use Rattle.edi_messages.specs.Texts.{is_name}
-use Rattle.office_parts.specs.Bringing.{is_list}
-use Rattle.office_parts.specs.OwnLists.{ListName}
-use Rattle.office_parts.specs.Archives.{Archive}
-use Rattle.office_closing.specs.Changes.{unmarked}
-use Rattle.office_closing.specs.Lists.{SettledListContent, comes_before, put_list, put_lists}
-use Rattle.office_closing.specs.Register.{ArchiveContent, RegisterContent, last_closed}
+use Rattle.office_parts.specs.{Bringing.is_list, OwnLists.ListName, Archives.Archive}
+use Rattle.office_closing.specs.{Changes.unmarked, Lists.{SettledListContent, comes_before, put_list, put_lists}, Copies.FileNames, Deleting.is_one_of}
+use Rattle.office_closing.specs.{Register.{ArchiveContent, RegisterContent, last_closed}, Closes.{Closing, Held, IsClosing, raised_register}}
 use Rattle.office_closing.specs.Sound.{IsSound, are_rising, are_sound_archives, are_sound_lists, are_sound_segments, are_sound_taken, is_sound_mark, may_be_list}
-use Rattle.office_closing.specs.Closes.{Closing, Held, IsClosing, raised_register}
-use Rattle.office_closing.specs.Copies.{FileNames}
-use Rattle.office_closing.specs.Deleting.{is_one_of}
 use Rattle.office_closing.specs.PuttingAway.{AreNamedThen, HasLists}
-use Rattle.office_archive_files.specs.ClosedStores.{ClosingsGoOn}
-use Rattle.office_archive_files.proofs.AddedLemmas.{all_has, name_of}
+use Rattle.office_archive_files.{specs.ClosedStores.ClosingsGoOn, proofs.AddedLemmas.{all_has, name_of}}
 
 -- ---- lists that were put into others
 

@@ -1,14 +1,8 @@
 -- A closing's segments and lists are those of its archive.
-use Rattle.std.proofs.Common.{◌≡◌, ℕ, ◌+◌, List, [], ◌∷◌, length, map, true, refl, sym, ap, subst, ◌∙◌}
-use Rattle.std.specs.Prelude.{◌&&◌, filter}
-use Rattle.std.specs.List.{AllByRecursion}
+use Rattle.std.{specs.{Prelude.{◌&&◌, filter}, List.AllByRecursion}, proofs.Common.{◌≡◌, ℕ, ◌+◌, List, [], ◌∷◌, length, map, true, refl, sym, ap, subst, ◌∙◌}}
 use Rattle.std.proofs.lemmas.Bool.{and_from, and_parts}
-use Rattle.office_closing.specs.Changes.{unmarked}
-use Rattle.office_closing.specs.Lists.{SettledListContent}
+use Rattle.office_closing.specs.{Changes.unmarked, Lists.SettledListContent, declared.register.Segment.Segment, declared.comparing.Numbers.Numbers, Closes.Held}
 use Rattle.office_closing.specs.Sound.{are_sound_archives, are_sound_segments, are_sound_taken, are_sound_lists, is_sound, is_sound_mark}
-use Rattle.office_closing.specs.declared.register.Segment.{Segment}
-use Rattle.office_closing.specs.declared.comparing.Numbers.{Numbers}
-use Rattle.office_closing.specs.Closes.{Held}
 use Rattle.office_closing.specs.Copies.{closes_some, segment_of}
 use Rattle.office_archives.proofs.Told.{names_one_more}
 use Rattle.office_archive_files.specs.Naming.{ClosingsAreNamed}

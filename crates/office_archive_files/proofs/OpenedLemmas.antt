@@ -1,30 +1,16 @@
 -- Which stores open after some events, as a closing asks.
+use Rattle.std.{specs.{Prelude.Contains, Option.option_map}, proofs.lemmas.Bool.leb-true}
 use Rattle.std.proofs.Common.{◌≡◌, inl, ◌≤◌, List, [], ◌∷◌, Bool, true, false, cond, filter, not, refl, sym, ap, subst, ◌∙◌, arith}
-use Rattle.std.specs.Prelude.{Contains}
-use Rattle.std.specs.Option.{option_map}
-use Rattle.std.proofs.lemmas.Bool.{leb-true}
 use Rattle.sqlite.specs.Tree.{Trees}
 use Rattle.sqlite_rules.proofs.ListLemmas.{contains_had, has_contained, has_filtered}
 use Rattle.office_replies.specs.Events.{Event}
-use Rattle.office_rows.specs.Effects.{is_pair}
-use Rattle.office_rows.specs.Rows.{Interchange, Rows}
-use Rattle.office_rows.specs.Stored.{StoresRows}
-use Rattle.office_rows.specs.Tables.{office_schema}
+use Rattle.office_rows.specs.{Effects.is_pair, Rows.{Interchange, Rows}, Stored.StoresRows, Tables.office_schema}
 use Rattle.office_admission.specs.Setups.{SetupContent}
-use Rattle.office_history.specs.After.{AreAfter}
-use Rattle.office_history.proofs.Runs.{is_pair_at}
-use Rattle.office_history.proofs.Kept.{found_only, head_in, tail_in}
-use Rattle.office_history.proofs.Accounted.{text_within}
-use Rattle.office_parts.specs.Away.{lists_after}
-use Rattle.office_parts.specs.Naming.{AreHere}
-use Rattle.office_parts.specs.OwnLists.{ListName, is_own_line, rows_without_lists}
+use Rattle.office_history.{specs.After.AreAfter, proofs.{Runs.is_pair_at, Kept.{found_only, head_in, tail_in}, Accounted.text_within}}
+use Rattle.office_parts.specs.{Away.lists_after, Naming.AreHere, OwnLists.{ListName, is_own_line, rows_without_lists}, Closing.{is_beyond, is_closed}}
+use Rattle.office_parts.{specs.{LeftOver.rows_beyond, Parts.nothing_archived}, proofs.Takings.rows_are_parts}
 use Rattle.office_desk.proofs.DeliverLemmas.{own_once}
-use Rattle.office_parts.specs.Closing.{is_beyond, is_closed}
-use Rattle.office_parts.specs.LeftOver.{rows_beyond}
-use Rattle.office_parts.specs.Parts.{nothing_archived}
-use Rattle.office_parts.proofs.Takings.{rows_are_parts}
-use Rattle.office_closing.specs.Changes.{empty_register}
-use Rattle.office_closing.specs.Register.{closed_by}
+use Rattle.office_closing.specs.{Changes.empty_register, Register.closed_by}
 use Rattle.office_archive_files.specs.ClosedStores.{LoadedStoresOpen, OpensAfter, UnclosedStoresOpen}
 
 -- ---- nothing was put away

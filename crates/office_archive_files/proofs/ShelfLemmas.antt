@@ -2,20 +2,12 @@
 use Rattle.std.proofs.Common.{◌≡◌, inl, ℕ, List, [], None, Option, Some, refl, sym, subst, ◌∙◌}
 use Rattle.sqlite_disk.specs.declared.Disk.{Ghosts as DiskGhosts}
 use Rattle.sqlite_trees.specs.declared.store.Store.{Ghosts}
-use Rattle.sqlite.specs.Files.{file_state, over_files}
-use Rattle.sqlite.specs.Held.{Held, state}
-use Rattle.sqlite.specs.Recovery.{Image}
-use Rattle.sqlite.specs.State.{HasCleanDisk}
-use Rattle.sqlite.specs.declared.FileStore.{FileStore}
-use Rattle.office_rows.specs.Stored.{HasRows}
-use Rattle.office_rows.specs.Tables.{office_schema}
+use Rattle.sqlite.specs.{Files.{file_state, over_files}, Held.{Held, state}, Recovery.Image, State.HasCleanDisk, declared.FileStore.FileStore}
+use Rattle.office_rows.specs.{Stored.HasRows, Tables.office_schema}
 use Rattle.office_commands.specs.Opening.{Shows, ShowsHeld}
 use Rattle.office_parts.specs.Archives.{Archive}
-use Rattle.office_closing.specs.Changes.{empty_register}
-use Rattle.office_closing.specs.Register.{RegisterContent, register_content}
-use Rattle.office_closing.specs.declared.register.Register.{Register}
-use Rattle.office_archives.specs.Shelves.{AreShelved, IsOpenAt, IsOpenIfAny, NamesAll}
-use Rattle.office_archives.specs.declared.opened.Opened.{Opened}
+use Rattle.office_closing.specs.{Changes.empty_register, Register.{RegisterContent, register_content}, declared.register.Register.Register}
+use Rattle.office_archives.specs.{Shelves.{AreShelved, IsOpenAt, IsOpenIfAny, NamesAll}, declared.opened.Opened.Opened}
 use Rattle.office_archive_files.specs.Shelves.{HoldArchiveAt}
 
 -- it was opened on the files, and then only read

@@ -1,27 +1,15 @@
 -- At whatever moment a closing stops, its store opens after the same events.
 use Rattle.std.proofs.Common.{◌≡◌, inl, inr, List, [], ◌∷◌, Bool, true, false, cond, filter, Result, refl, sym, ap, subst, ◌∙◌}
-use Rattle.sqlite.specs.Effect.{Database}
-use Rattle.sqlite.specs.Tree.{Trees}
+use Rattle.sqlite.specs.{Effect.Database, Tree.Trees}
 use Rattle.sqlite_trees.specs.declared.store.Store.{Ghosts}
 use Rattle.office_replies.specs.Events.{Event}
-use Rattle.office_rows.specs.Rows.{Rows}
-use Rattle.office_rows.specs.Stored.{StoresRows}
-use Rattle.office_rows.proofs.Creating.{stores}
+use Rattle.office_rows.{specs.{Rows.Rows, Stored.StoresRows}, proofs.Creating.stores}
 use Rattle.office_admission.specs.Setups.{SetupContent}
-use Rattle.office_parts.specs.OwnLists.{is_own_line}
-use Rattle.office_parts.specs.Archives.{Archive}
-use Rattle.office_parts.specs.OwnTerminal.{is_own}
-use Rattle.office_closing.specs.Register.{RegisterContent}
-use Rattle.office_closing.specs.Stored.{HasRegister}
-use Rattle.office_closing.specs.Tables.{whole}
-use Rattle.office_closing.specs.Closes.{Closes, Closing, Held, IsClosing, IsLeft, raised_register}
-use Rattle.office_closing.specs.Copies.{FileNames}
-use Rattle.office_closing.specs.Files.{Files, AreClean, files}
-use Rattle.office_closing.specs.PuttingAway.{AreNamedThen}
-use Rattle.office_closing.specs.declared.faults.CloseFault.{CloseFault}
-use Rattle.office_archive_files.specs.ClosedStores.{ClosingsAreNoEvents, OpensAfter}
+use Rattle.office_parts.specs.{OwnLists.is_own_line, Archives.Archive, OwnTerminal.is_own}
+use Rattle.office_closing.specs.{Register.RegisterContent, Stored.HasRegister, Tables.whole, Closes.{Closes, Closing, Held, IsClosing, IsLeft, raised_register}}
+use Rattle.office_closing.specs.{Copies.FileNames, Files.{Files, AreClean, files}, PuttingAway.AreNamedThen, declared.faults.CloseFault.CloseFault}
+use Rattle.office_archive_files.{specs.ClosedStores.{ClosingsAreNoEvents, OpensAfter}, proofs.AddedLemmas.closings_add_an_archive}
 use Rattle.office_archive_files.specs.Stops.{AreLeftOpen, AreWith, MayBeClosed, StopsAreNoEvents, StopsLeaveOpen, StoresEither}
-use Rattle.office_archive_files.proofs.AddedLemmas.{closings_add_an_archive}
 
 -- ---- nothing is gone
 

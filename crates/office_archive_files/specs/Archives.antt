@@ -1,28 +1,15 @@
 -- Which archive is that of a place of a store.
-use Rattle.std.specs.Prelude.{◌≡◌, ℕ, ◌+◌, ◌-◌, ◌<◌, ◌==◌, nat_lt, List, filter, length, Some, slice_get, take, IsTrue}
-use Rattle.std.specs.List.{AllByRecursion}
-use Rattle.std.specs.Option.{unwrap_or}
-use Rattle.sqlite.specs.Held.{Held, state}
-use Rattle.sqlite.specs.Recovery.{Image}
-use Rattle.sqlite.specs.State.{HasCleanDisk}
+use Rattle.std.specs.{Prelude.{◌≡◌, ℕ, ◌+◌, ◌-◌, ◌<◌, ◌==◌, nat_lt, List, filter, length, Some, slice_get, take, IsTrue}, List.AllByRecursion, Option.unwrap_or}
+use Rattle.sqlite.specs.{Held.{Held, state}, Recovery.Image, State.HasCleanDisk, declared.error.Error.Error}
 use Rattle.sqlite_trees.specs.declared.store.Store.{Ghosts}
 use Rattle.terminal_core.specs.State.{TerminalState, last_number}
-use Rattle.office_rows.specs.Rows.{Rows}
-use Rattle.office_rows.specs.Shown.{AreNexts}
-use Rattle.office_rows.specs.Stored.{HasRows}
-use Rattle.office_rows.specs.Tables.{office_schema}
-use Rattle.office_loading.specs.Closed.{ClosedContent}
-use Rattle.office_loading.specs.Tables.{LoadsOwn}
+use Rattle.office_rows.specs.{Rows.Rows, Shown.AreNexts, Stored.HasRows, Tables.office_schema}
+use Rattle.office_loading.specs.{Closed.ClosedContent, Tables.LoadsOwn}
 use Rattle.office_admission.specs.Setups.{SetupContent}
-use Rattle.office_commands.specs.Opening.{Shows}
-use Rattle.office_commands.specs.Paths.{IsNameOf}
-use Rattle.office_closing.specs.Lists.{SettledListContent}
-use Rattle.office_closing.specs.Register.{ArchiveContent, RegisterContent, closed_by}
-use Rattle.office_closing.specs.Sound.{is_sound}
+use Rattle.office_commands.specs.{Opening.Shows, Paths.IsNameOf}
+use Rattle.office_closing.specs.{Lists.SettledListContent, Register.{ArchiveContent, RegisterContent, closed_by}, Sound.is_sound}
 use Rattle.office_closing.specs.declared.register.Segment.{Segment}
-use Rattle.office_tables.specs.declared.table_fault.TableFault.{TableFault}
-use Rattle.office_tables.specs.declared.table_fault.TableFault.TheVariants.{Memory, Store}
-use Rattle.sqlite.specs.declared.error.Error.{Error}
+use Rattle.office_tables.specs.{declared.table_fault.TableFault.TableFault, declared.table_fault.TableFault.TheVariants.{Memory, Store}}
 
 -- An archive's own register is that of the archive at a place of the store whose register names the archives: it is marked for
 -- the store in this file, and has the archives before that place, with their segments and lists.

@@ -1,31 +1,17 @@
 -- A store that is closed in its files.
 use Rattle.std.specs.Prelude.{◌≡◌, ◌⊎◌, ℕ, List, Result}
-use Rattle.sqlite.specs.Files.{HoldsDatabase}
-use Rattle.sqlite.specs.Held as connection
-use Rattle.sqlite.specs.Recovery.{Image}
-use Rattle.sqlite.specs.Tree.{Trees}
+use Rattle.sqlite.specs.{Files.HoldsDatabase, Recovery.Image, Tree.Trees}
 use Rattle.sqlite_trees.specs.declared.store.Store.{Ghosts}
 use Rattle.office_replies.specs.Events.{Event}
-use Rattle.office_rows.specs.Rows.{Rows}
-use Rattle.office_rows.specs.Stored.{StoresRows}
-use Rattle.office_admission.specs.Given.{IsGiven}
-use Rattle.office_admission.specs.Setups.{SetupContent}
-use Rattle.office_commands.specs.Opening.{HoldsNoTables}
+use Rattle.office_rows.specs.{Rows.Rows, Stored.StoresRows}
+use Rattle.office_admission.specs.{Given.IsGiven, Setups.SetupContent}
+use Rattle.office_commands.specs.{Opening.HoldsNoTables, Beside.HoldsBeside}
 use Rattle.office_parts.specs.Archives.{Archive}
-use Rattle.office_closing.specs.Changes.{empty_register}
-use Rattle.office_closing.specs.Register.{RegisterContent, closed_by}
-use Rattle.office_closing.specs.Sound.{IsSound}
-use Rattle.office_closing.specs.Closes.{AreOrderly, Closing, Held, IsClosing, raised_register}
-use Rattle.office_closing.specs.Copies.{FileNames}
-use Rattle.office_closing.specs.Files.{AreClean, Files, files}
-use Rattle.office_closing.specs.PuttingAway.{AreNamedThen}
+use Rattle.office_closing.specs.{Changes.empty_register, Register.{RegisterContent, closed_by}, Sound.IsSound, Copies.FileNames, Files.{AreClean, Files, files}}
+use Rattle.office_closing.specs.{Closes.{AreOrderly, Closing, Held, IsClosing, raised_register}, PuttingAway.AreNamedThen, declared.planning.PutAway.PutAway}
 use Rattle.office_closing.specs.declared.faults.CloseFault.{CloseFault}
-use Rattle.office_closing.specs.declared.planning.PutAway.{PutAway}
-use Rattle.office_archive_files.specs.ClosedStores.{OpensAfter}
-use Rattle.office_archive_files.specs.Closing.{ClosesOver, Images}
-use Rattle.office_commands.specs.Beside.{HoldsBeside}
-use Rattle.office_archive_files.specs.Shelves.{HoldsArchive}
-use Rattle.office_archive_files.specs.Stops.{StopsLeaveOpen, StoresEither}
+use Rattle.office_archive_files.specs.{ClosedStores.OpensAfter, Closing.{ClosesOver, Images}, Shelves.HoldsArchive, Stops.{StopsLeaveOpen, StoresEither}}
+use Rattle.sqlite.specs.Held as connection
 
 -- files hold the rows of an office
 pub record HoldsRows (image : Image) (rows : Rows) : Type 0 where

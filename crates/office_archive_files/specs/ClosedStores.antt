@@ -3,23 +3,14 @@ use Rattle.std.specs.Prelude.{◌≡◌, List, []}
 use Rattle.sqlite.specs.Tree.{Trees}
 use Rattle.terminal_core.specs.State.{TerminalState}
 use Rattle.office_replies.specs.Events.{Event}
-use Rattle.office_rows.specs.Rows.{Rows}
-use Rattle.office_rows.specs.Stored.{StoresRows}
-use Rattle.office_rows.specs.Tables.{office_schema}
-use Rattle.office_admission.specs.Given.{IsGiven}
-use Rattle.office_admission.specs.Setups.{SetupContent}
+use Rattle.office_rows.specs.{Rows.Rows, Stored.StoresRows, Tables.office_schema}
+use Rattle.office_admission.specs.{Given.IsGiven, Setups.SetupContent}
 use Rattle.office_history.specs.After.{AreAfter, AreKeptOnce}
 use Rattle.office_loading.specs.Tables.{LoadsOwn}
-use Rattle.office_parts.specs.OwnLists.{rows_without_lists}
-use Rattle.office_parts.specs.Archives.{Archive}
-use Rattle.office_closing.specs.Changes.{empty_register, unmarked}
-use Rattle.office_closing.specs.Register.{RegisterContent, closed_by}
-use Rattle.office_closing.specs.Sound.{IsSound}
-use Rattle.office_closing.specs.Closes.{AreOrderly, Closing, Held, IsClosing, IsLeft, raised_register}
-use Rattle.office_closing.specs.Copies.{FileNames}
-use Rattle.office_closing.specs.PuttingAway.{AreNamedThen}
-use Rattle.office_archives.specs.Shelves.{NamesAll}
-use Rattle.office_archives.specs.Together.{IsBesideAfter}
+use Rattle.office_parts.specs.{OwnLists.rows_without_lists, Archives.Archive}
+use Rattle.office_closing.specs.{Changes.{empty_register, unmarked}, Register.{RegisterContent, closed_by}, Sound.IsSound, Copies.FileNames}
+use Rattle.office_closing.specs.{Closes.{AreOrderly, Closing, Held, IsClosing, IsLeft, raised_register}, PuttingAway.AreNamedThen}
+use Rattle.office_archives.specs.{Shelves.NamesAll, Together.IsBesideAfter}
 
 -- A store that may be closed: its sound register names these archives, and beside them it holds what a desk opens from after
 -- those events. These are its rows, with no interchange twice.

@@ -1,28 +1,14 @@
 -- What the command that puts history away does to the four files that it opens.
 use Rattle.std.specs.Prelude.{◌≡◌, ◌≢◌, ◌⊎◌, ⊤, ℕ, Bool, true, false, IsTrue, ◌==◌, List, length, Result, IfOk}
 use Rattle.sqlite_trees.specs.declared.store.Store.{Ghosts}
-use Rattle.sqlite.specs.Held.{Held, state}
-use Rattle.sqlite.specs.Recovery.{Image}
-use Rattle.sqlite.specs.State.{HasCleanDisk}
+use Rattle.sqlite.specs.{Held.{Held, state}, Recovery.Image, State.HasCleanDisk}
 use Rattle.office_rows.specs.Tables.{no_schema}
-use Rattle.office_tables.specs.Opened.{AreMissing}
-use Rattle.office_commands.specs.Opening.{HoldsNoTables, Shows}
-use Rattle.office_closing.specs.Changes.{empty_register}
-use Rattle.office_closing.specs.Tables.{register_tables}
-use Rattle.office_closing.specs.Transactions.{IsSettled, Makes}
-use Rattle.office_closing.specs.Closes.{ArePutAway, Closes}
-use Rattle.office_closing.specs.Copies.{FileNames}
-use Rattle.office_closing.specs.Files.{AreClean, AreIdle, files}
-use Rattle.office_closing.specs.declared.faults.CloseFault.{CloseFault}
+use Rattle.office_tables.specs.{Opened.AreMissing, Faults.IsOfStoreOr}
+use Rattle.office_commands.specs.{Opening.{HoldsNoTables, Shows}, Paths.IsNameOf}
+use Rattle.office_closing.specs.{Changes.empty_register, Tables.register_tables, Transactions.{IsSettled, Makes}, Closes.{ArePutAway, Closes}, Copies.FileNames}
+use Rattle.office_closing.specs.{Files.{AreClean, AreIdle, files}, declared.faults.CloseFault.CloseFault, declared.faults.File.File, Register.RegisterContent}
+use Rattle.office_closing.specs.{declared.faults.Refusal.TheVariants.Register, declared.planning.PutAway.PutAway, Sound.IsSound, Stored.HasRegister}
 use Rattle.office_closing.specs.declared.faults.CloseFault.TheVariants as fault
-use Rattle.office_closing.specs.declared.faults.File.{File}
-use Rattle.office_closing.specs.declared.faults.Refusal.TheVariants.{Register}
-use Rattle.office_closing.specs.declared.planning.PutAway.{PutAway}
-use Rattle.office_closing.specs.Register.{RegisterContent}
-use Rattle.office_closing.specs.Sound.{IsSound}
-use Rattle.office_closing.specs.Stored.{HasRegister}
-use Rattle.office_tables.specs.Faults.{IsOfStoreOr}
-use Rattle.office_commands.specs.Paths.{IsNameOf}
 
 -- what the four files held
 pub record Images : Type 0 where

@@ -1,16 +1,12 @@
 -- The lines that list a store's archives.
 use Rattle.std.specs.Prelude.{◌≡◌, ℕ, ◌==◌, false, cond, List, [], ◌∷◌, ◌++◌, length, codes, decimal, IsTrue}
 use Rattle.office_reports.specs.Names.{line}
-use Rattle.sqlite.specs.Held.{Held, state}
-use Rattle.sqlite.specs.Recovery.{Image}
-use Rattle.sqlite.specs.State.{HasCleanDisk}
+use Rattle.sqlite.specs.{Held.{Held, state}, Recovery.Image, State.HasCleanDisk}
 use Rattle.sqlite_trees.specs.declared.store.Store.{Ghosts}
-use Rattle.office_closing.specs.Register.{ArchiveContent, RegisterContent, closed_by}
-use Rattle.office_closing.specs.Sound.{is_sound}
+use Rattle.office_closing.specs.{Register.{ArchiveContent, RegisterContent, closed_by}, Sound.is_sound}
 use Rattle.office_admission.specs.Setups.{SetupContent}
 use Rattle.office_commands.specs.Beside.{IsSetUpHeld}
-use Rattle.office_archive_files.specs.Archives.{PassesAt}
-use Rattle.office_archive_files.specs.declared.shelf.Found.{Found}
+use Rattle.office_archive_files.specs.{Archives.PassesAt, declared.shelf.Found.Found}
 use Rattle.office_archive_files.specs.declared.shelf.Found.TheVariants as found
 
 -- what is found under the name of an archive, in a word

@@ -1,10 +1,7 @@
 -- What a store's register names after a closing.
 use Rattle.std.specs.Prelude.{◌≡◌, ℕ, List, [], ◌∷◌, ◌++◌, IsTrue}
 use Rattle.office_parts.specs.Archives.{Archive}
-use Rattle.office_closing.specs.Changes.{unmarked}
-use Rattle.office_closing.specs.Sound.{is_sound}
-use Rattle.office_closing.specs.Closes.{Closing, Held, IsClosing, closed_after, raised_register}
-use Rattle.office_closing.specs.Copies.{FileNames}
+use Rattle.office_closing.specs.{Changes.unmarked, Sound.is_sound, Closes.{Closing, Held, IsClosing, closed_after, raised_register}, Copies.FileNames}
 use Rattle.office_archives.specs.Shelves.{HasLists, NamesAll}
 
 -- If the archive's own register names these archives, then the store's register names them after the closing, and after them the

@@ -1,8 +1,6 @@
 -- The archives of a store in files.
 use Rattle.std.specs.Prelude.{◌≡◌, ℕ, List, Some}
-use Rattle.sqlite.specs.Files.{HoldsDatabase}
-use Rattle.sqlite.specs.Recovery.{Image}
-use Rattle.sqlite.specs.Tree.{Trees}
+use Rattle.sqlite.specs.{Files.HoldsDatabase, Recovery.Image, Tree.Trees}
 use Rattle.office_rows.specs.Stored.{StoresRows}
 use Rattle.office_history.specs.After.{AreKeptOnce}
 use Rattle.office_parts.specs.Archives.{Archive}

@@ -1,24 +1,16 @@
 -- What a stop of a closing leaves of a store is opened after the same events.
 use Rattle.std.specs.Prelude.{◌≡◌, ◌⊎◌, ◌++◌, ◌∷◌, [], List, Result}
-use Rattle.sqlite.specs.Held as connection
 use Rattle.sqlite.specs.Tree.{Trees}
 use Rattle.sqlite_trees.specs.declared.store.Store.{Ghosts}
 use Rattle.office_replies.specs.Events.{Event}
 use Rattle.office_rows.specs.Rows.{Rows}
-use Rattle.office_admission.specs.Given.{IsGiven}
-use Rattle.office_admission.specs.Setups.{SetupContent}
+use Rattle.office_admission.specs.{Given.IsGiven, Setups.SetupContent}
 use Rattle.office_parts.specs.Archives.{Archive}
-use Rattle.office_closing.specs.Register.{RegisterContent}
-use Rattle.office_closing.specs.Stored.{HasRegisterIn}
-use Rattle.office_closing.specs.Tables.{Layout, schema_in}
-use Rattle.office_closing.specs.Transactions.{IsSettled}
-use Rattle.office_closing.specs.Closes.{AreHeld, Closes, Closing, Held, IsClosing, raised_register}
-use Rattle.office_closing.specs.Copies.{FileNames}
-use Rattle.office_closing.specs.Files.{Files, AreClean, files}
-use Rattle.office_closing.specs.PuttingAway.{AreNamedThen}
-use Rattle.office_closing.specs.declared.faults.CloseFault.{CloseFault}
-use Rattle.office_closing.specs.declared.planning.PutAway.{PutAway}
+use Rattle.office_closing.specs.{Register.RegisterContent, Stored.HasRegisterIn, Tables.{Layout, schema_in}, Transactions.IsSettled, Copies.FileNames}
+use Rattle.office_closing.specs.{Closes.{AreHeld, Closes, Closing, Held, IsClosing, raised_register}, Files.{Files, AreClean, files}, PuttingAway.AreNamedThen}
+use Rattle.office_closing.specs.{declared.faults.CloseFault.CloseFault, declared.planning.PutAway.PutAway}
 use Rattle.office_archive_files.specs.ClosedStores.{OpensAfter}
+use Rattle.sqlite.specs.Held as connection
 
 -- the trees are those of a database that has this register, in one of the two layouts
 abbrev pub StoresEither : RegisterContent → Trees → Type 0

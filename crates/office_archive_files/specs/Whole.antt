@@ -1,12 +1,8 @@
 -- What a closing leaves of its four files, once each was left whole.
 use Rattle.std.specs.Prelude.{ℕ, List, Result}
-use Rattle.sqlite_disk.specs.declared.Disk.{Ghosts}
-use Rattle.sqlite_disk.specs.declared.Files.{Files}
-use Rattle.sqlite.specs.Files.{over_files}
-use Rattle.sqlite.specs.Held.{Held}
-use Rattle.sqlite.specs.declared.FileStore.{FileStore}
-use Rattle.office_closing.specs.declared.faults.CloseFault.{CloseFault}
-use Rattle.office_closing.specs.declared.planning.PutAway.{PutAway}
+use Rattle.sqlite_disk.specs.{declared.Disk.Ghosts, declared.Files.Files}
+use Rattle.sqlite.specs.{Files.over_files, Held.Held, declared.FileStore.FileStore}
+use Rattle.office_closing.specs.{declared.faults.CloseFault.CloseFault, declared.planning.PutAway.PutAway}
 use Rattle.office_commands.specs.Whole.{IsLeft}
 use Rattle.office_archive_files.specs.Closing.{ClosesOver, Images}
 

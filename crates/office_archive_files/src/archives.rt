@@ -1,7 +1,6 @@
 ghost use Rattle.std.specs.Prelude.{◌≡◌, ◌++◌, ◌∷◌, [], codes, map, IfErr, IfOk, OnOk, string_bytes};
 ghost use Rattle.office_archive_files.specs.Listing.{FollowIn, IsListed, archive_line, listing_status, listing_text, word_of};
-ghost use Rattle.office_commands.specs.Ending.{Prints};
-ghost use Rattle.office_commands.specs.Refusing.{IsRefused};
+ghost use Rattle.office_commands.specs.{Ending.Prints, Refusing.IsRefused};
 ghost use Rattle.office_closing.specs.Register.{archive_content, register_content};
 ghost use Rattle.office_reports.specs.Names.{line};
 ghost use Rattle.sqlite.specs.WalFiles.{image_at};

@@ -1,13 +1,10 @@
 ghost use Rattle.std.specs.Prelude.{◌≡◌, ⊤, false, true, IfErr, IfNone, IfOk, IfSome, IsTrue, OnErr};
 ghost use Rattle.office_archive_files.specs.Closing.{AreOpened, ClosesOver, Images, IsOfOpening, MayMakeRegister, ShowsRegister, TellsNone};
 ghost use Rattle.office_commands.specs.Opening.{HoldsNoTables, Shows};
-ghost use Rattle.office_closing.specs.Files.{AreIdle, files};
-ghost use Rattle.office_closing.specs.Transactions.{IsSettled};
+ghost use Rattle.office_closing.specs.{Files.{AreIdle, files}, Transactions.IsSettled};
 ghost use Rattle.office_tables.specs.Faults.{IsOfStore, IsOfStoreOr};
 ghost use Rattle.office_rows.specs.Tables.{no_schema};
-ghost use Rattle.sqlite.specs.Held.{state};
-ghost use Rattle.sqlite.specs.Recovery.{Image};
-ghost use Rattle.sqlite.specs.State.{HasCleanDisk, Opens};
+ghost use Rattle.sqlite.specs.{Held.state, Recovery.Image, State.{HasCleanDisk, Opens}};
 
 use office_closing::{
     CloseFault, File, FileFault, PutAway, Refusal, close, create_register, read_register,

@@ -1,13 +1,10 @@
 ghost use Rattle.std.specs.Prelude.{◌≡◌, ◌↔◌, ◌<◌, ◌+◌, ◌-◌, ◌++◌, ◌∷◌, [], true, IfSome, Some, filter, length, map, nat_lt, option_map, slice_get, string_bytes, take};
 ghost use Rattle.std.specs.List.{AllByRecursion};
 ghost use Rattle.office_archive_files.specs.Archives.{IsBelowNext, IsOfOffice, IsRegisterAt, Reaches};
-ghost use Rattle.office_closing.specs.Lists.{SettledListContent, list_content};
-ghost use Rattle.office_closing.specs.Register.{archive_content, register_content};
+ghost use Rattle.office_closing.specs.{Lists.{SettledListContent, list_content}, Register.{archive_content, register_content}};
 ghost use Rattle.office_closing.specs.declared.register.Segment.{Segment};
-ghost use Rattle.office_admission.specs.SetupAccounts.{account_contents};
-ghost use Rattle.office_admission.specs.Setups.{setup_content};
-ghost use Rattle.terminal_core.specs.Rows.{visit_content};
-ghost use Rattle.terminal_core.specs.State.{last_number};
+ghost use Rattle.office_admission.specs.{SetupAccounts.account_contents, Setups.setup_content};
+ghost use Rattle.terminal_core.specs.{Rows.visit_content, State.last_number};
 
 use office_admission::{Account, Setup};
 use office_closing::{Archive, Register, Segment, SettledList, is_same_list};

@@ -1,9 +1,7 @@
 //! Laws of a store in files and its archives: each function does nothing, and its contract is the law.
 
-ghost use Rattle.office_archive_files.specs.ClosedFiles.{ClosingsOfFilesAreNoEvents, OpenStoresAreHeld};
+ghost use Rattle.office_archive_files.specs.{ClosedFiles.{ClosingsOfFilesAreNoEvents, OpenStoresAreHeld}, Naming.ClosingsAreNamed, Stops.StopsAreNoEvents};
 ghost use Rattle.office_archive_files.specs.ClosedStores.{ClosingsAddAnArchive, ClosingsAreNoEvents, ClosingsGoOn, LoadedStoresOpen, OpenedRowsAreOrderly, UnclosedStoresOpen};
-ghost use Rattle.office_archive_files.specs.Naming.{ClosingsAreNamed};
-ghost use Rattle.office_archive_files.specs.Stops.{StopsAreNoEvents};
 
 use office_closing::laws::closed_stores_stand;
 use sqlite::Alter;

@@ -1,14 +1,12 @@
 ghost use Rattle.std.specs.Prelude.{◌≡◌, ℕ, IfErr, IfOk, List, string_bytes};
-ghost use Rattle.office_archive_files.specs.Archives.{IsNamedAt, PassesAt, SaysNoArchive, going_on, segments_at};
-ghost use Rattle.office_archive_files.specs.declared.shelf.Found.{Found};
+ghost use Rattle.office_archive_files.specs.{Archives.{IsNamedAt, PassesAt, SaysNoArchive, going_on, segments_at}, declared.shelf.Found.Found};
 ghost use Rattle.office_archive_files.specs.Shelves.{HoldArchiveAt};
 ghost use Rattle.office_archives.specs.Shelves.{IsOpenAt};
 ghost use Rattle.office_loading.specs.Closed.{closed_content};
 ghost use Rattle.office_parts.specs.Archives.{Archive};
 ghost use Rattle.office_closing.specs.Register.{RegisterContent, register_content};
 ghost use Rattle.office_admission.specs.Setups.{setup_content};
-ghost use Rattle.sqlite.specs.Files.{over_files};
-ghost use Rattle.sqlite.specs.WalFiles.{image_at};
+ghost use Rattle.sqlite.specs.{Files.over_files, WalFiles.image_at};
 
 use crate::is_archive::{archive_at, is_register_of, is_same_office, reaches};
 use office_admission::Setup;

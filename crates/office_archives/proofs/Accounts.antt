@@ -1,57 +1,26 @@
 -- An account more, to a desk over a store's own rows and the archives beside it.
-use Rattle.std.proofs.Common.{◌≡◌, ℕ, ◌+◌, ◌<◌, inl, inr, List, [], ◌∷◌, ◌++◌, length, map, Option, None, Some, String, refl, sym, ap, ap₂, subst, ◌∙◌, arith, is_lt, Greater}
-use Rattle.std.specs.Prelude.{get_or, IsSorted}
-use Rattle.std.specs.List.{range_with_len}
-use Rattle.std.specs.List.Sorted.{IsPermutation}
-use Rattle.std.specs.Ordering.{nat_cmp}
-use Rattle.std.specs.declared.alloc.Global.{Global}
-use Rattle.std.proofs.lemmas.Bool.Decides.{nat_tests}
-use Rattle.std.proofs.lemmas.List.FromFn.{length-range_with_len, get_or-range_with_len}
-use Rattle.std.proofs.lemmas.List.Sorted.{IsPermutation-refl}
-use Rattle.sqlite.specs.Effect.{Database}
-use Rattle.sqlite.specs.Held.{state}
-use Rattle.sqlite.specs.Tree.{Trees}
+use Rattle.std.specs.{Prelude.{get_or, IsSorted}, List.range_with_len, List.Sorted.IsPermutation, Ordering.nat_cmp, declared.alloc.Global.Global}
+use Rattle.std.proofs.Common.{◌≡◌, ℕ, ◌+◌, ◌<◌, inl, inr, List, [], ◌∷◌, ◌++◌, length, map, Option, None, Some, String, sym, ap, ap₂, subst, ◌∙◌, arith, is_lt, Greater}
+use Rattle.std.proofs.{lemmas.Bool.Decides.nat_tests, lemmas.List.FromFn.{length-range_with_len, get_or-range_with_len}, lemmas.List.Sorted.IsPermutation-refl}
+use Rattle.sqlite.specs.{Effect.Database, Held.state, Tree.Trees}
 use Rattle.sqlite_trees.specs.declared.store.Store.{Ghosts}
 use Rattle.edi_messages.specs.declared.codes.PartnerKind.{PartnerKind}
 use Rattle.partner_core.specs.Deliveries.{run}
 use Rattle.terminal_core.specs.State.{TerminalState}
-use Rattle.office_replies.specs.Adding.{with_added}
-use Rattle.office_replies.specs.Events.{Event, added}
-use Rattle.office_replies.specs.declared.accounts.AccountAnswer.{AccountAnswer}
+use Rattle.office_replies.specs.{Adding.with_added, Events.{Event, added}, declared.accounts.AccountAnswer.AccountAnswer}
 use Rattle.office_replies.specs.declared.accounts.AccountAnswer.TheVariants.{Added, Known, Refused, NotNow}
-use Rattle.office_loading.specs.Closed.{closed_content}
-use Rattle.office_rows.specs.Rows.{Rows}
-use Rattle.office_rows.specs.Effects.{with_partner}
-use Rattle.office_rows.specs.Shown.{AreNexts}
-use Rattle.office_rows.specs.Stored.{HasRows, StoresRows}
-use Rattle.office_admission.specs.Kinds.{kind_named}
-use Rattle.office_admission.specs.Setups.{SetupContent, setup_content, setup_with_account}
+use Rattle.office_loading.specs.{Closed.closed_content, Tables.LoadsOwn}
+use Rattle.office_rows.specs.{Rows.Rows, Effects.with_partner, Shown.AreNexts, Stored.{HasRows, StoresRows}}
+use Rattle.office_admission.specs.{Kinds.kind_named, Setups.{SetupContent, setup_content, setup_with_account}, Taking.MachineState}
 use Rattle.office_admission.specs.Accounts.{AccountContent, added_as, known_as, refused_for, account_answer}
-use Rattle.office_loading.specs.Tables.{LoadsOwn}
-use Rattle.office_admission.specs.Taking.{MachineState}
-use Rattle.office_history.specs.After.{AreKeptOnce, accounts_from, content_after, deliveries_of, machine_after}
-use Rattle.office_history.proofs.Ground.{account_adds_row}
-use Rattle.office_parts.specs.Archives.{Archive}
-use Rattle.office_parts.specs.OwnTerminal.{own_terminal}
-use Rattle.office_parts.specs.Parts.{ArePartsAfter}
-use Rattle.office_parts.proofs.Takings.{account_more}
-use Rattle.office_parts.specs.Away.{AreAway}
-use Rattle.office_parts.specs.OwnLists.{rows_without_lists, without_lists}
-use Rattle.office_parts.proofs.AwayLemmas.{with_account}
-use Rattle.office_parts.proofs.Writings.{own_office_without}
-use Rattle.office_desk.specs.Accounts.{AddsOver, AnswersAccount, IsLengthened, IsSameOrNone, LeavesAddedOver, Says}
-use Rattle.office_desk.specs.Beside.{IsOrNone, nexts_after}
-use Rattle.office_desk.specs.Calls.{Enrols}
-use Rattle.office_desk.specs.Offices.{HoldsOffice}
-use Rattle.office_desk.specs.declared.beside.Beside.{Beside}
-use Rattle.office_desk.specs.declared.desk.Desk.{Desk}
-use Rattle.office_desk.proofs.AccountLemmas.{grown, nexts_grown}
-use Rattle.office_desk.proofs.HoldLemmas.{either_of, ids_from, nexts_loaded}
-use Rattle.office_desk.proofs.DeliverLemmas.{office_once, office_with}
-use Rattle.office_archives.specs.Standing.{IsOwnWithRest, KnowsClosed, StandsBeside}
-use Rattle.office_archives.specs.Together.{EnrolsTogether, IsBesideAfter, LeavesAccount, StandTogether}
+use Rattle.office_history.{specs.After.{AreKeptOnce, accounts_from, content_after, deliveries_of, machine_after}, proofs.Ground.account_adds_row}
+use Rattle.office_parts.specs.{Archives.Archive, OwnTerminal.own_terminal, Parts.ArePartsAfter, Away.AreAway, OwnLists.{rows_without_lists, without_lists}}
+use Rattle.office_parts.proofs.{Takings.account_more, AwayLemmas.with_account, Writings.own_office_without}
+use Rattle.office_desk.specs.{Accounts.{AddsOver, AnswersAccount, IsLengthened, IsSameOrNone, LeavesAddedOver, Says}, Beside.{IsOrNone, nexts_after}}
+use Rattle.office_desk.{specs.{Calls.Enrols, Offices.HoldsOffice, declared.beside.Beside.Beside, declared.desk.Desk.Desk}, proofs.KeptLemmas.nexts_from}
+use Rattle.office_desk.proofs.{AccountLemmas.{grown, nexts_grown}, HoldLemmas.{either_of, ids_from, nexts_loaded}, DeliverLemmas.{office_once, office_with}}
+use Rattle.office_archives.specs.{Standing.{IsOwnWithRest, KnowsClosed, StandsBeside}, Together.{EnrolsTogether, IsBesideAfter, LeavesAccount, StandTogether}}
 use Rattle.office_archives.proofs.Filled.{of_whole}
-use Rattle.office_desk.proofs.KeptLemmas.{nexts_from}
 
 -- ---- the partners' numbers
 

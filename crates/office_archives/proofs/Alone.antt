@@ -1,46 +1,28 @@
 -- A desk of which nothing was put away, and no archives: what it is asked is answered as desk and archives answer together.
+use Rattle.std.{specs.Prelude.{◌&&◌, is_some, nat_le, option_map, string_bytes}, proofs.lemmas.Bool.{and_parts, leb-true}}
 use Rattle.std.proofs.Common.{◌≡◌, ℕ, zero, suc, ◌≤◌, List, [], ◌∷◌, Bool, true, false, Option, None, Some, Result, refl, sym, ap, subst, ◌∙◌, length, arith}
-use Rattle.std.specs.Prelude.{◌&&◌, is_some, nat_le, option_map, string_bytes}
-use Rattle.std.proofs.lemmas.Bool.{and_parts, leb-true}
-use Rattle.sqlite.specs.Held.{state}
-use Rattle.sqlite.specs.Tree.{Trees}
+use Rattle.sqlite.specs.{Held.state, Tree.Trees}
 use Rattle.sqlite_trees.specs.declared.store.Store.{Ghosts}
 use Rattle.edi_messages.specs.Owned.{call_content}
 use Rattle.terminal_core.specs.State.{TerminalState}
 use Rattle.office_admission.specs.Setups.{SetupContent, setup_content}
-use Rattle.office_desk.proofs.LookLemmas.{looks_nowhere}
-use Rattle.office_desk.specs.Calls.{Leads, Looks}
-use Rattle.office_desk.specs.Desks.{IsSound}
-use Rattle.office_desk.specs.Looking.{DeskShows}
+use Rattle.office_desk.{specs.{Calls.{Leads, Looks}, Desks.IsSound, Looking.DeskShows, declared.desk.Desk.Desk}, proofs.LookLemmas.looks_nowhere}
 use Rattle.office_desk.specs.Reports.{DeskTells, TellsAbout, TellsReplyOf, contrl_for_partner, partner_called, ticket_of}
-use Rattle.office_desk.specs.declared.desk.Desk.{Desk}
-use Rattle.office_parts.specs.Archives.{Archive, Hold, archive_of, reply_by}
-use Rattle.office_parts.specs.Away.{AreAway, lines_away}
-use Rattle.office_parts.specs.Naming.{AreHere}
-use Rattle.office_parts.specs.OwnLists.{ListName, list_name, rows_without_lists, without_lists}
-use Rattle.office_parts.specs.OwnTerminal.{own_terminal}
-use Rattle.office_parts.specs.Parts.{AreClosed, Archived}
-use Rattle.office_replies.specs.Events.{Event}
-use Rattle.office_replies.specs.declared.deliver.Response.{Response}
-use Rattle.office_reports.specs.Looking.{Look, of_archive, report, texts_after}
-use Rattle.office_reports.specs.declared.query.NotNow.{NotNow}
-use Rattle.office_reports.specs.declared.query.About.{About}
-use Rattle.office_reports.specs.declared.query.Query.{Query}
-use Rattle.office_reports.specs.declared.query.View.{View}
-use Rattle.office_reports.specs.declared.query.View.TheVariants.{Text, Json, Csv, Page}
+use Rattle.office_parts.specs.{Archives.{Archive, Hold, archive_of, reply_by}, Away.{AreAway, lines_away}, Naming.AreHere, OwnTerminal.own_terminal}
+use Rattle.office_parts.specs.{OwnLists.{ListName, list_name, rows_without_lists, without_lists}, Parts.{AreClosed, Archived}}
+use Rattle.office_replies.specs.{Events.Event, declared.deliver.Response.Response}
+use Rattle.office_reports.specs.{Looking.{Look, of_archive, report, texts_after}, declared.query.NotNow.NotNow, declared.query.About.About}
+use Rattle.office_reports.specs.{declared.query.Query.Query, declared.query.View.View, declared.query.View.TheVariants.{Text, Json, Csv, Page}}
 use Rattle.office_report_data.specs.Told.{ReportContent, shown}
-use Rattle.office_report_data.specs.Told as value
-use Rattle.office_reports.specs.declared.query.About.TheVariants as about
 use Rattle.office_loading.specs.Closed.{last_closed}
 use Rattle.office_history.specs.After.{machine_after}
 use Rattle.office_rows.specs.Rows.{Rows}
-use Rattle.office_archives.specs.Standing.{IsBeyond, NamesNoneAway, StandsBeside}
-use Rattle.office_archives.specs.Telling.{AreAsked, IsOfNumber, TellsTogether, json_beside, shown_beside}
-use Rattle.office_archives.specs.Together.{LeadsTogether, LooksTogether, ShowsBeside, TellsBeside}
+use Rattle.office_archives.specs.{Standing.{IsBeyond, NamesNoneAway, StandsBeside}, Telling.{AreAsked, IsOfNumber, TellsTogether, json_beside, shown_beside}}
+use Rattle.office_archives.{specs.Together.{LeadsTogether, LooksTogether, ShowsBeside, TellsBeside}, proofs.{Noted.{asked_end, no_note}, Together.looks_on}}
 use Rattle.office_archives.proofs.Beside.{calls_beside, container_beside, expected_beside, here_beside, list_beside, neither_beside, nobody_beside, number_beside, tells_so}
-use Rattle.office_archives.proofs.Noted.{asked_end, no_note}
 use Rattle.office_archives.proofs.Standing.{beyond_answered, beyond_left}
-use Rattle.office_archives.proofs.Together.{looks_on}
+use Rattle.office_report_data.specs.Told as value
+use Rattle.office_reports.specs.declared.query.About.TheVariants as about
 
 -- ---- what no archives hold
 

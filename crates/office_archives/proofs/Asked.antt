@@ -1,44 +1,25 @@
 -- What an archive tells that is asked as the store that it was.
-use Rattle.std.proofs.Common.{◌≡◌, ℕ, ◌+◌, ◌<◌, ◌≤◌, List, [], ◌∷◌, ◌++◌, length, map, Bool, true, false, cond, Option, None, Some, refl, sym, ap, subst, ◌∙◌, arith}
 use Rattle.std.specs.Prelude.{is_some, string_bytes}
-use Rattle.std.specs.Option.{option_and_then, option_map}
+use Rattle.std.specs.Option.{option_map}
 use Rattle.std.specs.Str.{bytes_eq}
-use Rattle.partner_core.specs.Deliveries.{first_text, run}
-use Rattle.partner_core.proofs.Orders.{some_of, used_within_run}
-use Rattle.partner_core.proofs.OnceEach.{within_replied}
-use Rattle.terminal_core.specs.declared.change.Source.{Source}
-use Rattle.terminal_core.specs.Rows.{VisitContent}
-use Rattle.terminal_core.specs.Versions.{newest}
-use Rattle.office_admission.specs.Accounts.{AccountPair, content_after}
-use Rattle.office_admission.specs.Deliveries.{deliveries_of}
+use Rattle.std.proofs.Common.{◌≡◌, ℕ, ◌+◌, ◌<◌, ◌≤◌, List, [], ◌∷◌, ◌++◌, length, map, Bool, true, false, cond, Option, None, Some, refl, sym, ap, subst, ◌∙◌, arith}
+use Rattle.partner_core.{specs.Deliveries.{first_text, run}, proofs.{Orders.{some_of, used_within_run}, OnceEach.within_replied}}
+use Rattle.terminal_core.specs.{declared.change.Source.Source, Rows.VisitContent, Versions.newest}
+use Rattle.office_admission.specs.{Accounts.{AccountPair, content_after}, Deliveries.deliveries_of, Parties.partner_from, Setups.SetupContent}
 use Rattle.office_admission.proofs.Adding.{content_on, found_low}
 use Rattle.office_replies.specs.Events.{Event}
 use Rattle.office_rows.specs.Rows.{Rows}
-use Rattle.office_admission.specs.Parties.{partner_from}
-use Rattle.office_admission.specs.Setups.{SetupContent}
 use Rattle.office_tables.specs.Answers.{IsNextOf}
 use Rattle.office_reports.specs.declared.query.About.{About}
 use Rattle.office_report_data.specs.Told.{ReportContent, shown}
-use Rattle.office_report_data.specs.Told as value
-use Rattle.office_history.specs.After.{machine_after, opening_of, taking_in, reply_in, AreAfter}
-use Rattle.office_history.specs.Cascade.{text_in}
-use Rattle.office_history.specs.Laws.{HasNoMigration}
+use Rattle.office_history.specs.{After.{machine_after, opening_of, taking_in, reply_in, AreAfter}, Cascade.text_in, Laws.HasNoMigration}
 use Rattle.office_history.proofs.Accounted.{delivered_within, text_within}
-use Rattle.office_parts.specs.LeftOver.{rows_beyond}
-use Rattle.office_parts.specs.OwnTerminal.{own_terminal, own_visits}
-use Rattle.office_parts.specs.Parts.{Archived, ArePartsAfter}
-use Rattle.office_parts.proofs.Takings.{visits_same}
-use Rattle.office_parts.proofs.LeftOver.{told_alike}
+use Rattle.office_parts.{specs.{LeftOver.rows_beyond, OwnTerminal.{own_terminal, own_visits}, Parts.{Archived, ArePartsAfter}}, proofs.Takings.visits_same}
+use Rattle.office_parts.{specs.OwnLists.{ListName, rows_without_lists, without_lists}, proofs.LeftOver.told_alike}
 use Rattle.office_parts.proofs.Orders.{body_there, found_beyond, reply_there}
-use Rattle.office_parts.specs.OwnLists.{ListName, rows_without_lists, without_lists}
 use Rattle.office_desk.specs.Reports.{AreShownAlike, contrl_for_partner, contrl_told, partner_called, ticket_if_taken, ticket_of, TellsAbout, TellsReply, TellsReplyOf}
-use Rattle.office_archives.specs.Asked.{IsBetween, IsOfNumberBetween, KeepsNumber}
-use Rattle.office_archives.specs.Laws.{ArchivesAreAskedAsStores}
-use Rattle.office_archives.specs.Visits.{visits_by}
-use Rattle.office_archives.proofs.StayedTold.{copy_tells}
-use Rattle.office_archives.proofs.ClosedTold.{next_is_there}
-use Rattle.office_archives.proofs.Later.{keep_numbers, has_more}
-use Rattle.office_archives.proofs.Sources.{tickets_alike}
+use Rattle.office_archives.specs.{Asked.{IsBetween, IsOfNumberBetween, KeepsNumber}, Laws.ArchivesAreAskedAsStores, Visits.visits_by}
+use Rattle.office_archives.proofs.{StayedTold.copy_tells, ClosedTold.next_is_there, Later.{keep_numbers, has_more}, Sources.tickets_alike}
 use Rattle.office_reports.specs.declared.query.About.TheVariants as about
 
 -- ---- the partner of a code

@@ -1,70 +1,36 @@
 -- What desk and archives tell, from whatever events after which they stand.
-use Rattle.std.proofs.Common.{◌≡◌, count_by, option_map, ℕ, List, [], ◌∷◌, Bool, true, false, cond, Option, Some, map, refl, sym, ap, subst, ◌∙◌, ◌<◌, ◌≤◌, length, None, Result, Ok, Err, arith}
-use Rattle.std.specs.Prelude.{Contains, IsPermutation, filter, ◌&&◌, is_some, nat_le, String, string_bytes}
+use Rattle.std.specs.Prelude.{Contains, IsPermutation, filter, ◌&&◌, is_some, nat_le, String}
 use Rattle.std.specs.Ordering.{eq_by_cmp}
-use Rattle.std.proofs.lemmas.List.Elements.{Contains-append_right}
-use Rattle.std.proofs.lemmas.List.Sorted.{IsPermutation-sym}
-use Rattle.box6346.specs.declared.box_number.BoxNumber.{BoxNumber}
-use Rattle.edi_messages.specs.Owned.{call_content}
-use Rattle.edi_messages.specs.Purposes.{CallContent}
-use Rattle.terminal_core.specs.Changes.{TerminalRows}
-use Rattle.terminal_core.specs.Drop.{is_pending}
-use Rattle.terminal_core.specs.State.{LineContent, LineKey, Lines, TerminalState, line_key, line_of}
-use Rattle.terminal_core.specs.declared.lines.LineState.TheVariants.{Done}
-use Rattle.terminal_core.specs.declared.lines.Side.{Side}
-use Rattle.terminal_core.proofs.Lined.{keys_total, order, same_key, tied_self}
-use Rattle.office_replies.specs.Events.{Event}
-use Rattle.office_rows.specs.ByKey.{AreListedOnce, line_entry, lines_by}
-use Rattle.office_rows.specs.Rows.{ListingContent, Rows}
-use Rattle.office_admission.specs.Setups.{SetupContent, setup_content}
-use Rattle.office_reports.specs.declared.query.About.{About}
-use Rattle.office_reports.specs.declared.query.Query.{Query}
-use Rattle.office_reports.specs.declared.query.View.{View}
-use Rattle.office_report_data.specs.Told.{ReportContent, shown}
-use Rattle.office_report_data.specs.Told as value
-use Rattle.office_reports.specs.Listed.{AreListed}
-use Rattle.office_reports.specs.Lists.{HasLine, is_done_line}
-use Rattle.office_reports.specs.Containers.{ContainerContent, container_of}
-use Rattle.office_reports.specs.Visits.{VisitsContent, visits_of}
-use Rattle.office_reports.specs.Work.{JobContent, WorkContent, is_open_entry, job_of, work_by}
-use Rattle.office_history.specs.After.{machine_after, content_after}
-use Rattle.office_history.proofs.Loads.{lines_same}
-use Rattle.office_parts.specs.Archives.{Archive, archive_of}
-use Rattle.office_parts.specs.Parts.{Archived, ArePartsAfter}
-use Rattle.office_parts.specs.Away.{AreAway, lines_away}
-use Rattle.office_parts.specs.Bringing.{is_list, is_of, lines_of}
-use Rattle.office_parts.specs.OwnLists.{ListName, list_name, list_of, rows_without_lists, without_lists}
-use Rattle.office_parts.proofs.KeepingLemmas.{away_done}
-use Rattle.office_archives.specs.ListsAway.{AreLinesIfAway, TellsByLines, FindsIfAway}
-use Rattle.office_archives.specs.Telling.{AreAsked, AreEnded, IsOfExpected, IsOfList, IsOfWhatIsHere, TellsTogether, TogetherTells, HasListAway, IsOfContainer, IsOfNeither, IsOfNumber, TellsClosed, archives_with_lists, shown_beside, with_note}
-use Rattle.office_archives.proofs.Noted.{expected_end}
-use Rattle.office_archives.proofs.Rising.{listed_whole}
-use Rattle.office_pages.specs.Found.{found_page}
-use Rattle.office_pages.specs.Start.{StartContent, office_page}
-use Rattle.office_pages.specs.Wanted.{expected_page}
-use Rattle.office_reports.specs.OpenLines.{open_lines}
-use Rattle.office_reports.specs.declared.calls.ListCount.{ListCount}
-use Rattle.office_parts.proofs.Takings.{own_rows, visits_same}
-use Rattle.terminal_core.specs.Rows.{VisitContent}
-use Rattle.office_archives.proofs.Brought.{kept_so}
-use Rattle.office_archives.proofs.Filled.{Entry, all_looked_up as filled_looked_up, first_in, listed_alike, filled_container, filled_list, filled_neither, filled_number, filled_visits, open_same, yard_listed}
 use Rattle.std.specs.declared.alloc.Global.{Global}
-use Rattle.std.proofs.lemmas.Bool.{leb-false, leb-true, and_parts}
-use Rattle.sqlite_trees.specs.declared.store.Store.{Ghosts}
-use Rattle.edi_messages.specs.declared.call.Call.{Call}
-use Rattle.office_loading.specs.Closed.{last_closed}
-use Rattle.office_reports.specs.Looking.{Tells}
+use Rattle.std.proofs.Common.{◌≡◌, count_by, option_map, ℕ, List, [], ◌∷◌, Bool, true, false, cond, Option, Some, map, refl, sym, ap, subst, ◌∙◌, ◌<◌, ◌≤◌, length, None, Result, Ok, Err, arith}
+use Rattle.std.proofs.{lemmas.List.Elements.Contains-append_right, lemmas.List.Sorted.IsPermutation-sym, lemmas.Bool.{leb-false, leb-true, and_parts}}
+use Rattle.box6346.specs.declared.box_number.BoxNumber.{BoxNumber}
+use Rattle.edi_messages.specs.{Owned.call_content, Purposes.CallContent, declared.call.Call.Call}
+use Rattle.terminal_core.specs.{Changes.TerminalRows, Drop.is_pending, State.{LineContent, LineKey, Lines, TerminalState, line_key, line_of}, Rows.VisitContent}
+use Rattle.terminal_core.{specs.{declared.lines.LineState.TheVariants.Done, declared.lines.Side.Side}, proofs.Lined.{keys_total, order, same_key, tied_self}}
+use Rattle.office_replies.specs.Events.{Event}
+use Rattle.office_rows.specs.{ByKey.{AreListedOnce, line_entry, lines_by}, Rows.{ListingContent, Rows}}
+use Rattle.office_admission.specs.Setups.{SetupContent, setup_content}
+use Rattle.office_reports.specs.{declared.query.About.About, declared.query.Query.Query, declared.query.View.View, Listed.AreListed, OpenLines.open_lines}
+use Rattle.office_reports.specs.{Lists.{HasLine, is_done_line}, Containers.{ContainerContent, container_of}, Visits.{VisitsContent, visits_of}, Looking.Tells}
+use Rattle.office_reports.specs.{Work.{JobContent, WorkContent, is_open_entry, job_of, work_by}, declared.calls.ListCount.ListCount}
 use Rattle.office_reports.specs.declared.query.NotNow.{NotNow}
-use Rattle.office_desk.specs.Calls.{OnlyLooks}
-use Rattle.office_desk.specs.Desks.{IsSound}
-use Rattle.office_desk.specs.Offices.{DeskHolds}
-use Rattle.office_desk.specs.Reports.{DeskTells, Shows, TellsAbout, TellsNext, TellsOf, container_by, partner_called}
-use Rattle.office_desk.specs.declared.desk.Desk.{Desk}
-use Rattle.office_parts.specs.OwnTerminal.{MayStay, own_terminal}
-use Rattle.office_archives.specs.Keeping.{IsClosedIn}
-use Rattle.office_archives.specs.Together.{StandTogether, TellsBeside}
-use Rattle.office_archives.proofs.Standing.{closed_here, closed_told}
+use Rattle.office_report_data.specs.Told.{ReportContent, shown}
+use Rattle.office_history.{specs.After.{machine_after, content_after}, proofs.Loads.lines_same}
+use Rattle.office_parts.specs.{Archives.{Archive, archive_of}, Parts.{Archived, ArePartsAfter}, Away.{AreAway, lines_away}, Bringing.{is_list, is_of, lines_of}}
+use Rattle.office_parts.specs.{OwnLists.{ListName, list_name, list_of, rows_without_lists, without_lists}, OwnTerminal.{MayStay, own_terminal}}
+use Rattle.office_parts.proofs.{KeepingLemmas.away_done, Takings.{own_rows, visits_same}}
+use Rattle.office_archives.specs.{ListsAway.{AreLinesIfAway, TellsByLines, FindsIfAway}, Keeping.IsClosedIn, Together.{StandTogether, TellsBeside}}
+use Rattle.office_archives.specs.Telling.{AreAsked, AreEnded, IsOfExpected, IsOfList, IsOfWhatIsHere, TellsTogether, TogetherTells, HasListAway, IsOfContainer, IsOfNeither, IsOfNumber, TellsClosed, archives_with_lists, shown_beside, with_note}
+use Rattle.office_archives.proofs.{Noted.expected_end, Rising.listed_whole, Brought.kept_so, Standing.{closed_here, closed_told}}
+use Rattle.office_archives.proofs.Filled.{Entry, all_looked_up as filled_looked_up, first_in, listed_alike, filled_container, filled_list, filled_neither, filled_number, filled_visits, open_same, yard_listed}
 use Rattle.office_archives.proofs.Told.{accounts_told, container_told, list_told, nobody_told, number_told, others_told}
+use Rattle.office_pages.specs.{Found.found_page, Start.{StartContent, office_page}, Wanted.expected_page}
+use Rattle.sqlite_trees.specs.declared.store.Store.{Ghosts}
+use Rattle.office_loading.specs.Closed.{last_closed}
+use Rattle.office_desk.specs.{Calls.OnlyLooks, Desks.IsSound, Offices.DeskHolds, declared.desk.Desk.Desk}
+use Rattle.office_desk.specs.Reports.{DeskTells, Shows, TellsAbout, TellsOf, container_by, partner_called}
+use Rattle.office_report_data.specs.Told as value
 use Rattle.std.specs.FinMap as finite_map
 use Rattle.office_reports.specs.declared.query.About.TheVariants as about
 

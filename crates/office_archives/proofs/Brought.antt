@@ -1,59 +1,29 @@
 -- Lists that are brought back into a store.
+use Rattle.std.specs.{Prelude.{◌&&◌, not, option_map, IsTrue, IsPermutation, String, string_bytes}, declared.alloc.Global.Global}
 use Rattle.std.proofs.Common.{◌≡◌, inl, inr, ℕ, List, [], ◌∷◌, ◌++◌, Bool, true, false, Option, None, Some, Result, Ok, Err, OnOk, refl, sym, ap, subst, ◌∙◌, ◌-◌}
-use Rattle.std.specs.Prelude.{◌&&◌, not, option_map, IsTrue, IsPermutation, String, string_bytes}
-use Rattle.sqlite.specs.Effect.{Database}
-use Rattle.sqlite.specs.Held.{state}
-use Rattle.sqlite.specs.State.{HasCleanDisk}
-use Rattle.sqlite.specs.Tree.{Trees}
+use Rattle.sqlite.specs.{Effect.Database, Held.state, State.HasCleanDisk, Tree.Trees}
 use Rattle.sqlite_trees.specs.declared.store.Store.{Ghosts}
-use Rattle.edi_messages.specs.Owned.{call_content}
-use Rattle.edi_messages.specs.Purposes.{CallContent}
-use Rattle.terminal_core.specs.State.{TerminalState}
-use Rattle.terminal_core.specs.declared.lines.Side.{Side}
+use Rattle.edi_messages.specs.{Owned.call_content, Purposes.CallContent}
+use Rattle.terminal_core.{specs.{State.TerminalState, declared.lines.Side.Side}, proofs.Lined.tied_self}
 use Rattle.office_replies.specs.Events.{Event}
-use Rattle.office_loading.specs.Closed.{closed_content}
-use Rattle.office_rows.specs.Opening.{with_lines}
-use Rattle.office_rows.specs.Rows.{ListingContent, Rows}
-use Rattle.office_rows.specs.Stored.{HasRows, StoresRows}
+use Rattle.office_loading.specs.{Closed.closed_content, Tables.LoadsOwn}
+use Rattle.office_rows.specs.{Opening.with_lines, Rows.{ListingContent, Rows}, Stored.{HasRows, StoresRows}}
 use Rattle.office_admission.specs.Setups.{SetupContent, setup_content}
 use Rattle.office_history.specs.After.{AreKeptOnce, content_after, machine_after}
-use Rattle.office_tables.specs.declared.table_fault.TableFault.{TableFault}
-use Rattle.office_loading.specs.Tables.{LoadsOwn}
-use Rattle.office_tables.specs.Writing.{Commits, WritesWhole}
-use Rattle.office_reports.specs.declared.query.About.{About}
-use Rattle.office_reports.specs.declared.query.Query.{Query}
+use Rattle.office_tables.specs.{declared.table_fault.TableFault.TableFault, Writing.{Commits, WritesWhole}}
+use Rattle.office_reports.specs.{declared.query.About.About, declared.query.Query.Query}
 use Rattle.office_report_data.specs.Told.{ReportContent, shown}
-use Rattle.office_desk.specs.Beside.{IsOrNone}
-use Rattle.office_desk.specs.Calls.{OnlyLooks}
-use Rattle.office_desk.specs.Desks.{IsSound}
-use Rattle.office_desk.specs.Offices.{HoldsOffice}
-use Rattle.office_desk.specs.Reports.{DeskTells, TellsAbout, TellsOf, partner_called}
-use Rattle.office_desk.specs.declared.desk.Desk.{Desk}
-use Rattle.office_desk.proofs.DeliverLemmas.{office_once, office_with}
-use Rattle.office_parts.specs.Archives.{Archive}
-use Rattle.office_parts.specs.OwnTerminal.{own_terminal}
-use Rattle.office_parts.specs.Away.{AreAway, lines_away}
-use Rattle.office_parts.specs.Bringing.{BringsBack, all_but, is_list}
-use Rattle.office_parts.specs.Naming.{AreHere}
-use Rattle.office_parts.specs.OwnLists.{ListName, list_name, rows_without_lists, without_lists}
-use Rattle.terminal_core.proofs.Lined.{tied_self}
-use Rattle.office_parts.proofs.AwayLemmas.{came_back, none_away, others_stay}
-use Rattle.office_parts.proofs.BringingLemmas.{brought_back}
-use Rattle.office_parts.proofs.Writings.{own_office_without}
-use Rattle.office_archives.specs.Bringing.{BringsTogether, StandsWith, lists_back}
-use Rattle.office_archives.specs.ListsAway.{AsksList, FindsIfAway}
-use Rattle.office_archives.specs.Standing.{IsOwnWithRest, KnowsClosed, StandsBeside}
-use Rattle.office_archives.specs.Together.{IsBesideAfter, LeavesBeside, StandTogether, TellsOfOne}
-use Rattle.office_archives.proofs.Filled.{no_list, some_list, of_whole}
-use Rattle.office_archives.proofs.Together.{looked_stands, rows_left}
-use Rattle.std.specs.declared.alloc.Global.{Global}
-use Rattle.box6346.specs.declared.box_number.BoxNumber.{BoxNumber}
-use Rattle.office_archives.specs.Keeping.{IsReportIn}
+use Rattle.office_desk.specs.{Beside.IsOrNone, Calls.OnlyLooks, Desks.IsSound, Offices.HoldsOffice, Reports.{DeskTells, TellsAbout, TellsOf, partner_called}}
+use Rattle.office_desk.{specs.declared.desk.Desk.Desk, proofs.DeliverLemmas.{office_once, office_with}}
+use Rattle.office_parts.specs.{Archives.Archive, OwnTerminal.own_terminal, Away.{AreAway, lines_away}, Bringing.{BringsBack, all_but, is_list}, Naming.AreHere}
+use Rattle.office_parts.{specs.OwnLists.{ListName, list_name, rows_without_lists, without_lists}, proofs.AwayLemmas.{came_back, none_away, others_stay}}
+use Rattle.office_parts.proofs.{BringingLemmas.brought_back, Writings.own_office_without}
+use Rattle.office_archives.specs.{Bringing.{BringsTogether, StandsWith, lists_back}, ListsAway.{AsksList, FindsIfAway}, Keeping.IsReportIn}
+use Rattle.office_archives.specs.{Standing.{IsOwnWithRest, KnowsClosed, StandsBeside}, Together.{IsBesideAfter, LeavesBeside, StandTogether, TellsOfOne}}
 use Rattle.office_archives.specs.Telling.{AreAsked, IsOfContainer, IsOfNumber, IsPlace, TellsAsStore, TellsByAbout, TellsOwnContainer, TellsOwnNumber, shown_beside}
-use Rattle.office_archives.proofs.Beside.{container_asked}
+use Rattle.office_archives.proofs.{Filled.{no_list, some_list, of_whole}, Together.{looked_stands, rows_left}, Beside.container_asked}
+use Rattle.box6346.specs.declared.box_number.BoxNumber.{BoxNumber}
 use Rattle.office_reports.specs.declared.query.About.TheVariants as about
-
--- ==== Brought: Lists that are brought back into a store.
 
 -- what was put away as these lines is a list of them
 pub kept_so : (archives : List Archive) (list : ListName) (kept back : List ListingContent) (lines : List ListingContent) → lines_away archives list ≡ Some kept → lines_away archives list ≡ Some back → IsPermutation lines kept → IsPermutation lines back

@@ -1,17 +1,14 @@
 -- Why a report of a store and its archives can't be reported.
-use Rattle.std.proofs.Common.{◌≡◌, ℕ, List, true, false, Some, Result, Ok, Err, sym, ap, ◌∙◌}
-use Rattle.std.specs.Prelude.{◌&&◌, IfErr, nat_le, string_bytes}
+use Rattle.std.{specs.Prelude.{◌&&◌, IfErr, nat_le, string_bytes}, proofs.Common.{◌≡◌, ℕ, List, true, false, Some, Result, Ok, Err, sym, ap, ◌∙◌}}
 use Rattle.sqlite_trees.specs.declared.store.Store.{Ghosts}
 use Rattle.edi_messages.specs.Purposes.{CallContent}
 use Rattle.terminal_core.specs.declared.lines.Side.{Side}
 use Rattle.office_admission.specs.Setups.{setup_content}
 use Rattle.office_loading.specs.Closed.{last_closed}
 use Rattle.office_reports.specs.declared.query.About.{About}
+use Rattle.office_desk.specs.{Reports.partner_called, declared.desk.Desk.Desk}
+use Rattle.office_archives.specs.{Causes.{IsAskedHere, IsNotClosed}, Telling.{IsOfList, IsOfNumber}}
 use Rattle.office_reports.specs.declared.query.About.TheVariants as about
-use Rattle.office_desk.specs.Reports.{partner_called}
-use Rattle.office_desk.specs.declared.desk.Desk.{Desk}
-use Rattle.office_archives.specs.Causes.{IsAskedHere, IsNotClosed}
-use Rattle.office_archives.specs.Telling.{IsOfList, IsOfNumber}
 
 -- whatever the fault is
 pub err_all : {T E : Type 0} (result : Result T E) (Fails : E → Type 0) → ((fault : E) → Fails fault) → IfErr result Fails

@@ -1,36 +1,23 @@
 -- Reports of numbers that are closed, by their archives and by the whole.
+use Rattle.std.specs.{Prelude.{◌==◌, Contains, filter, find, string_bytes}, Option.{option_map, option_and_then}}
 use Rattle.std.proofs.Common.{◌≡◌, ℕ, ◌+◌, ◌<◌, ◌≤◌, inl, inr, List, [], ◌∷◌, length, Bool, true, false, cond, Option, None, Some, is_some, refl, sym, ap, subst, ◌∙◌, arith}
-use Rattle.std.specs.Prelude.{◌==◌, Contains, filter, find, string_bytes}
-use Rattle.std.specs.Option.{option_map, option_and_then}
 use Rattle.std.proofs.lemmas.Bool.{cases_lt, eq-eqb, eqb-true}
 use Rattle.edi_messages.specs.declared.codes.PartnerKind.{PartnerKind}
-use Rattle.terminal_core.specs.declared.change.Source.{Source}
-use Rattle.terminal_core.specs.Rows.{VisitContent}
-use Rattle.office_admission.specs.Deliveries.{deliveries_of}
+use Rattle.terminal_core.specs.{declared.change.Source.Source, Rows.VisitContent}
+use Rattle.office_admission.specs.{Deliveries.deliveries_of, Setups.SetupContent}
 use Rattle.office_replies.specs.Events.{Event}
-use Rattle.office_rows.specs.Rows.{Interchange, Partner, Rows}
-use Rattle.office_rows.specs.Effects.{is_pair}
-use Rattle.office_admission.specs.Setups.{SetupContent}
+use Rattle.office_rows.specs.{Rows.{Interchange, Partner, Rows}, Effects.is_pair}
 use Rattle.office_tables.specs.Answers.{has_id, IsNextOf}
 use Rattle.office_report_data.specs.Told.{shown}
-use Rattle.office_report_data.specs.Told as value
-use Rattle.office_history.specs.After.{accounts_from, content_after, machine_after, reply_in, AreAfter}
-use Rattle.office_history.specs.Cascade.{text_in}
-use Rattle.office_history.proofs.Kept.{head_in}
+use Rattle.office_history.{specs.{After.{accounts_from, content_after, machine_after, reply_in, AreAfter}, Cascade.text_in}, proofs.Kept.head_in}
 use Rattle.office_history.proofs.Accounted.{text_within}
 use Rattle.partner_core.specs.Deliveries.{run}
-use Rattle.office_parts.specs.Archives.{Archive, archive_of, reply_by, Hold}
-use Rattle.office_parts.specs.Parts.{Archived, ArePartsAfter}
-use Rattle.office_parts.proofs.Takings.{visits_same}
+use Rattle.office_parts.{specs.{Archives.{Archive, archive_of, reply_by, Hold}, Parts.{Archived, ArePartsAfter}}, proofs.{Takings.visits_same, Splits.some_is}}
 use Rattle.office_parts.proofs.Orders.{body_there, found_within, reply_there, there_if_replied}
-use Rattle.office_parts.proofs.Splits.{some_is}
 use Rattle.office_desk.specs.Reports.{AreShownAlike, answered, contrl_for_partner, contrl_told, ticket_if_taken, ticket_of, TellsReply, TellsReplyOf}
-use Rattle.office_archives.specs.Closed.{closed_reply, closed_contrl, closed_ticket}
-use Rattle.office_archives.specs.Copies.{AreCopies}
-use Rattle.office_archives.specs.Laws.{ArchivesTellReplies, ArchivesTellTickets}
-use Rattle.office_archives.proofs.StayedTold.{archives_tell_visits}
-use Rattle.office_archives.specs.Visits.{visits_by}
-use Rattle.office_archives.proofs.Sources.{tickets_alike}
+use Rattle.office_archives.specs.{Closed.{closed_reply, closed_contrl, closed_ticket}, Copies.AreCopies, Laws.{ArchivesTellReplies, ArchivesTellTickets}}
+use Rattle.office_archives.{specs.Visits.visits_by, proofs.{StayedTold.archives_tell_visits, Sources.tickets_alike}}
+use Rattle.office_report_data.specs.Told as value
 
 -- ---- the number that is next
 

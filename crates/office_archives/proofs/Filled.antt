@@ -1,91 +1,41 @@
 -- What a store tells from which lists are away, told with all lists.
+use Rattle.std.specs.{Prelude.{◌==◌, filter, nat_le, not, Contains, string_bytes, String}, Str.bytes_eq, Cmp.Lexicographic.bytes_decides}
+use Rattle.std.{specs.{Option.{option_map, option_and_then}, declared.alloc.Global.Global}, proofs.{lemmas.Bool.leb-true, lemmas.List.Elements.filter-append}}
 use Rattle.std.proofs.Common.{◌≡◌, ℕ, ◌+◌, ◌<◌, ◌≤◌, List, [], ◌∷◌, ◌++◌, map, Bool, true, false, cond, Option, Some, refl, sym, ap, subst, ◌∙◌, arith, zero, None, is_some}
-use Rattle.std.specs.Prelude.{◌==◌, filter, nat_le, not, Contains, string_bytes, String}
-use Rattle.std.proofs.lemmas.Bool.{leb-true}
-use Rattle.std.proofs.lemmas.List.Elements.{filter-append}
-use Rattle.terminal_core.specs.Rows.{ChangeContent, visit_opened, visit_closed, placed_at, moved_to, removed_from, listed_on, line_done, unlisted, VisitContent}
-use Rattle.office_rows.specs.Rows.{Interchange, Rows}
-use Rattle.office_rows.specs.Effects.{is_pair, with_change, with_waiting}
-use Rattle.office_admission.specs.Taking.{MachineState, interchange_taken}
-use Rattle.office_history.specs.Cascade.{TakenContent, AreTakenFrom, text_in, texts_with, with_changes, with_interchange, with_interchanges, with_run}
-use Rattle.office_history.proofs.Runs.{pair_of}
-use Rattle.office_parts.specs.Closing.{is_beyond, is_closed}
-use Rattle.office_parts.specs.Parts.{Archived, AreParts, ArePartsAfter}
-use Rattle.office_parts.proofs.LeftOver.{stay_apart, told_alike}
-use Rattle.office_parts.proofs.Splits.{contained_has, has_contained, has_filtered, has_left, has_right}
-use Rattle.office_archives.specs.Standing.{IsOwnWithRest, KnowsClosed}
-use Rattle.std.specs.Str.{bytes_eq}
-use Rattle.box6346.specs.declared.box_number.BoxNumber.{BoxNumber}
-use Rattle.box6346.specs.declared.slot.Slot.{Slot}
-use Rattle.edi_messages.specs.Owned.{call_content}
-use Rattle.edi_messages.specs.Purposes.{CallContent}
-use Rattle.edi_messages.specs.declared.call.Call.{Call}
-use Rattle.edi_messages.specs.declared.codes.PartnerKind.{PartnerKind}
-use Rattle.terminal_core.specs.declared.lines.Side.{Side}
-use Rattle.terminal_core.specs.Drop.{container_in, is_pending}
-use Rattle.terminal_core.specs.State.{LineContent, TerminalState, line_key, line_of, open_visit}
-use Rattle.terminal_core.proofs.Dropping.{both_true}
-use Rattle.office_admission.specs.Setups.{SetupContent, parties_in, setup_content}
-use Rattle.office_reports.specs.declared.query.About.{About}
-use Rattle.office_reports.specs.declared.query.Query.{Query}
-use Rattle.office_report_data.specs.Told.{ReportContent, shown}
-use Rattle.office_report_data.specs.Told as value
-use Rattle.office_reports.specs.Listed.{AreListed}
-use Rattle.office_reports.specs.Lists.{list_by, HasLine as HasContent}
-use Rattle.office_reports.specs.Yard.{StandsAt, slot_in}
-use Rattle.office_reports.specs.declared.yard.Standing.{Standing}
-use Rattle.office_reports.specs.Containers.{blocker_in, by_visit, container_of, found_by, stay_by}
-use Rattle.office_reports.specs.Visits.{visits_of}
-use Rattle.office_reports.specs.Passages.{arrival_by}
-use Rattle.office_reports.specs.OpenLines.{is_open_for, open_lines}
-use Rattle.office_reports.specs.Partners.{PartnerContent}
-use Rattle.office_reports.specs.Work.{work_by}
-use Rattle.office_history.specs.After.{reply_in, AreKeptOnce, content_after, reply_if_any, SaysSame, machine_after}
-use Rattle.office_desk.specs.Reports.{AreLookedUp, IsLookedUp, container_by, TellsAbout, TellsNext, TellsOf, TellsPartner, TellsReply, TellsReplyOf, contrl_for_partner, partner_called, ticket_of}
-use Rattle.office_parts.specs.Keeping.{AreDoneIfAway}
-use Rattle.office_parts.specs.OwnLists.{ListName, list_name, rows_without_lists, without_lists}
-use Rattle.office_parts.specs.Staying.{HasLine}
-use Rattle.office_parts.proofs.KeepingLemmas.{open_kept}
-use Rattle.office_parts.proofs.BringingLemmas.{own_there}
-use Rattle.office_archives.specs.Telling.{IsOfList, IsOfNeither, IsOfNumber}
-use Rattle.std.specs.Cmp.Lexicographic.{bytes_decides}
-use Rattle.std.specs.Option.{option_map, option_and_then}
-use Rattle.std.specs.declared.alloc.Global.{Global}
 use Rattle.std.proofs.lemmas.Option.{same_Some}
-use Rattle.edi_syntax.specs.Interchange.{interchange_of}
-use Rattle.partner_core.specs.Answers.{Repeat, Clash}
-use Rattle.partner_core.specs.Standings.{is_same_text}
-use Rattle.office_replies.specs.Contents.{content_of}
-use Rattle.office_replies.specs.declared.deliver.Response.{Response}
-use Rattle.office_tables.specs.Answers.{IsKept, RepliesAs}
-use Rattle.office_tables.specs.declared.interchanges.Kept.{Kept}
-use Rattle.office_history.proofs.Accounted.{within}
-use Rattle.office_tables.proofs.WriteLemmas.{one_kept, text_kept}
-use Rattle.office_parts.specs.Archives.{Archive, archive_of, text_by, Hold}
-use Rattle.office_parts.proofs.Orders.{archives_answered}
-use Rattle.office_desk.specs.Answers.{answer_by_model}
-use Rattle.office_archives.specs.Keeping.{IsClosedIn, IsKeptIn}
-use Rattle.office_archives.specs.Answering.{AnswersClosed}
-use Rattle.sqlite.specs.Effect.{Database}
-use Rattle.sqlite.specs.Held.{state}
-use Rattle.sqlite_trees.specs.declared.store.Store.{Ghosts}
-use Rattle.edi_messages.specs.Codes.{table_texts}
-use Rattle.edi_messages.specs.CodeText.{table_fault}
-use Rattle.office_replies.specs.Events.{Event}
-use Rattle.office_loading.specs.Closed.{ClosedContent, closed_content}
-use Rattle.office_rows.specs.Stored.{HasRows}
-use Rattle.office_admission.specs.Given.{IsGiven}
-use Rattle.office_history.proofs.Alike.{codes_after, now_with_codes}
-use Rattle.office_history.proofs.Loads.{one_setup, one_terminal}
-use Rattle.office_desk.specs.Offices.{DeskHolds}
-use Rattle.office_desk.specs.declared.desk.Desk.{Desk}
-use Rattle.office_desk.proofs.OwnNumbers.{answers_alike}
-use Rattle.office_desk.proofs.DeliverLemmas.{own_once, shown_by_own}
-use Rattle.office_parts.specs.OwnTerminal.{own_terminal}
-use Rattle.office_parts.specs.Away.{AreAway}
-use Rattle.office_parts.proofs.Reading.{away_alike}
+use Rattle.terminal_core.specs.Rows.{ChangeContent, visit_opened, visit_closed, placed_at, moved_to, removed_from, listed_on, line_done, unlisted, VisitContent}
+use Rattle.terminal_core.specs.{declared.lines.Side.Side, Drop.{container_in, is_pending}, State.{LineContent, TerminalState, line_key, line_of, open_visit}}
+use Rattle.terminal_core.proofs.Dropping.{both_true}
+use Rattle.office_rows.specs.{Rows.{Interchange, Rows}, Effects.{is_pair, with_change, with_waiting}, Stored.HasRows}
+use Rattle.office_admission.specs.{Taking.{MachineState, interchange_taken}, Setups.{SetupContent, parties_in, setup_content}, Given.IsGiven}
+use Rattle.office_history.specs.Cascade.{TakenContent, AreTakenFrom, text_in, texts_with, with_changes, with_interchange, with_interchanges, with_run}
+use Rattle.office_history.{specs.After.{reply_in, AreKeptOnce, content_after, reply_if_any, SaysSame, machine_after}, proofs.{Runs.pair_of, Accounted.within}}
+use Rattle.office_history.proofs.{Alike.{codes_after, now_with_codes}, Loads.{one_setup, one_terminal}}
+use Rattle.office_parts.specs.{Closing.{is_beyond, is_closed}, Parts.{Archived, AreParts, ArePartsAfter}, Keeping.AreDoneIfAway, Staying.HasLine, Away.AreAway}
+use Rattle.office_parts.specs.{OwnLists.{ListName, list_name, rows_without_lists, without_lists}, Archives.{Archive, archive_of, text_by, Hold}}
+use Rattle.office_parts.{specs.OwnTerminal.own_terminal, proofs.{LeftOver.{stay_apart, told_alike}, KeepingLemmas.open_kept, BringingLemmas.own_there}}
+use Rattle.office_parts.proofs.{Splits.{contained_has, has_contained, has_filtered, has_left, has_right}, Orders.archives_answered, Reading.away_alike}
 use Rattle.office_parts.proofs.Writings.{own_office_without}
-use Rattle.office_archives.specs.Opening.{OpenedStandBeside, OpensBeside}
+use Rattle.office_archives.specs.{Standing.{IsOwnWithRest, KnowsClosed}, Telling.{IsOfList, IsOfNeither, IsOfNumber}, Keeping.{IsClosedIn, IsKeptIn}}
+use Rattle.office_archives.specs.{Answering.AnswersClosed, Opening.{OpenedStandBeside, OpensBeside}}
+use Rattle.box6346.specs.{declared.box_number.BoxNumber.BoxNumber, declared.slot.Slot.Slot}
+use Rattle.edi_messages.specs.{Owned.call_content, Purposes.CallContent, declared.call.Call.Call, declared.codes.PartnerKind.PartnerKind, Codes.table_texts}
+use Rattle.edi_messages.specs.CodeText.{table_fault}
+use Rattle.office_reports.specs.{declared.query.About.About, declared.query.Query.Query, Listed.AreListed, Lists.{list_by, HasLine as HasContent}, Work.work_by}
+use Rattle.office_reports.specs.{Yard.{StandsAt, slot_in}, declared.yard.Standing.Standing, Containers.{blocker_in, by_visit, container_of, found_by, stay_by}}
+use Rattle.office_reports.specs.{Visits.visits_of, Passages.arrival_by, OpenLines.{is_open_for, open_lines}, Partners.PartnerContent}
+use Rattle.office_report_data.specs.Told.{ReportContent, shown}
+use Rattle.office_desk.specs.Reports.{AreLookedUp, IsLookedUp, container_by, TellsAbout, TellsNext, TellsOf, TellsPartner, TellsReply, TellsReplyOf, contrl_for_partner, partner_called, ticket_of}
+use Rattle.office_desk.{specs.{Answers.answer_by_model, Offices.DeskHolds, declared.desk.Desk.Desk}, proofs.OwnNumbers.answers_alike}
+use Rattle.office_desk.proofs.DeliverLemmas.{own_once, shown_by_own}
+use Rattle.edi_syntax.specs.Interchange.{interchange_of}
+use Rattle.partner_core.specs.{Answers.{Repeat, Clash}, Standings.is_same_text}
+use Rattle.office_replies.specs.{Contents.content_of, declared.deliver.Response.Response, Events.Event}
+use Rattle.office_tables.{specs.{Answers.{IsKept, RepliesAs}, declared.interchanges.Kept.Kept}, proofs.WriteLemmas.{one_kept, text_kept}}
+use Rattle.sqlite.specs.{Effect.Database, Held.state}
+use Rattle.sqlite_trees.specs.declared.store.Store.{Ghosts}
+use Rattle.office_loading.specs.Closed.{ClosedContent, closed_content}
+use Rattle.office_report_data.specs.Told as value
 use Rattle.office_reports.specs.declared.query.About.TheVariants as about
 
 -- ==== Resting: Closed interchanges that still stand in a store, while others are written beyond them.

@@ -1,42 +1,18 @@
 -- What interchanges make of the visits: each goes on in its place, and earlier ones of a container are over.
-use Rattle.std.proofs.Common.{◌≡◌, ℕ, List, [], ◌∷◌, ◌++◌, Option, None, Some, Result, Ok, Err, refl, sym, subst, append_assoc}
-use Rattle.std.proofs.lemmas.List.{append-nil}
-use Rattle.edi_syntax.specs.Moments.{CivilMoment}
-use Rattle.edi_messages.specs.declared.codes.Codes.{Codes}
-use Rattle.edi_messages.specs.declared.message.MessageFault.{MessageFault}
-use Rattle.edi_messages.specs.declared.codes.PartnerKind.{PartnerKind}
-use Rattle.edi_messages.specs.Message.{LineContent, ordered, refused, MessageContent}
-use Rattle.edi_messages.specs.Purposes.{CallContent}
-use Rattle.edi_syntax.specs.Text.{Content}
-use Rattle.edi_syntax.specs.Interchange.{segments_in}
-use Rattle.edi_syntax.specs.Envelope.{header_of, messages_of}
-use Rattle.edi_syntax.specs.Header.{preparation}
+use Rattle.std.proofs.{Common.{◌≡◌, ℕ, List, [], ◌∷◌, ◌++◌, Option, None, Some, Result, Ok, Err, refl, sym, subst, append_assoc}, lemmas.List.append-nil}
+use Rattle.edi_syntax.specs.{Moments.CivilMoment, Text.Content, Interchange.segments_in, Envelope.{header_of, messages_of}, Header.preparation}
 use Rattle.edi_syntax.specs.Messages.{Message}
-use Rattle.partner_core.specs.Deliveries.{Delivery}
-use Rattle.partner_core.specs.Machine.{Taking}
-use Rattle.partner_core.specs.Numbered.{with_number}
-use Rattle.partner_core.specs.Order.{numbers_made_next, state, state_after, text_under}
+use Rattle.edi_messages.specs.{declared.codes.Codes.Codes, declared.message.MessageFault.MessageFault, declared.codes.PartnerKind.PartnerKind}
+use Rattle.edi_messages.specs.{Message.{LineContent, ordered, refused, MessageContent}, Purposes.CallContent}
+use Rattle.partner_core.specs.{Deliveries.Delivery, Machine.Taking, Numbered.with_number, Order.{numbers_made_next, state, state_after, text_under}}
 use Rattle.partner_core.proofs.Orders.{state-append}
-use Rattle.terminal_core.specs.declared.change.Source.{Source}
-use Rattle.terminal_core.specs.declared.change.Version.{Version}
-use Rattle.terminal_core.specs.declared.lines.Side.{Side}
-use Rattle.terminal_core.specs.State.{TerminalState, IsWhole}
-use Rattle.terminal_core.specs.Versions.{newest}
-use Rattle.terminal_core.proofs.Changing.{either}
-use Rattle.terminal_core.proofs.Removed.{empty_whole}
-use Rattle.office_admission.specs.Accounts.{content_after}
-use Rattle.office_admission.specs.Admission.{admission, is_for}
-use Rattle.office_admission.specs.Deliveries.{deliveries_of}
-use Rattle.office_admission.proofs.Adding.{content_on, deliveries_on, given_after}
-use Rattle.office_replies.specs.Events.{Event}
-use Rattle.office_admission.specs.Given.{IsGiven}
-use Rattle.office_admission.specs.Setups.{SetupContent}
-use Rattle.office_admission.specs.Readings.{reading_by}
+use Rattle.terminal_core.specs.{declared.change.Source.Source, declared.change.Version.Version, declared.lines.Side.Side, State.{TerminalState, IsWhole}}
+use Rattle.terminal_core.{specs.Versions.newest, proofs.{Changing.either, Removed.empty_whole}}
+use Rattle.office_admission.specs.{Accounts.content_after, Admission.{admission, is_for}, Deliveries.deliveries_of, Given.IsGiven, Setups.SetupContent}
+use Rattle.office_admission.{specs.Readings.reading_by, proofs.{Adding.{content_on, deliveries_on, given_after}, Takings.{clearing_leads, line_leads}}}
 use Rattle.office_admission.specs.Taking.{MachineState, clearing_of, clearing_for, list_replaced, line_taken_by, lines_taken_by, verdict_on_by, messages_taken_by, codes_for, source_in, nothing_taken, taken_at_by, taken_of_by, interchange_taken_by}
-use Rattle.office_admission.proofs.Takings.{clearing_leads, line_leads}
-use Rattle.office_history.specs.After.{empty_yard, machine_after, opening_of, taking_in}
-use Rattle.office_history.specs.Laws.{HasNoMigration}
-use Rattle.office_history.proofs.Places.{kept_over, placed, in_force}
+use Rattle.office_replies.specs.Events.{Event}
+use Rattle.office_history.{specs.{After.{empty_yard, machine_after, opening_of, taking_in}, Laws.HasNoMigration}, proofs.Places.{kept_over, placed, in_force}}
 use Rattle.office_archives.proofs.Later.{same_terminal, taking_on}
 use Rattle.office_archives.proofs.Moves.{AreOverBefore, GoOn, go_on_after, go_on_further, go_on_same, over_after, step_moves}
 

@@ -1,25 +1,14 @@
 -- What was written of a store and its archives, file by file, is the journal of all.
-use Rattle.std.proofs.Common.{◌≡◌, ℕ, zero, suc, ◌+◌, List, [], ◌∷◌, ◌++◌, length, Option, None, Some, Result, Ok, Err, IfOk, IsTrue, refl, sym, ap, subst, ◌∙◌, arith}
-use Rattle.std.specs.Prelude.{◌-◌, drop, IfSome}
-use Rattle.std.specs.Io.KnownBytes.{Appends}
-use Rattle.std.proofs.lemmas.List.{length-append}
-use Rattle.std.proofs.lemmas.List.Concat.{flat_map-append}
-use Rattle.sqlite.specs.Held.{Held, state}
-use Rattle.sqlite.specs.Effect.{Database}
-use Rattle.sqlite.specs.State.{State, HasCleanDisk}
+use Rattle.std.{specs.{Prelude.{◌-◌, drop, IfSome}, Io.KnownBytes.Appends}, proofs.{lemmas.List.length-append, lemmas.List.Concat.flat_map-append}}
+use Rattle.std.proofs.Common.{◌≡◌, ℕ, zero, suc, ◌+◌, List, [], ◌∷◌, ◌++◌, length, Option, None, Some, Result, Ok, Err, IfOk, refl, sym, ap, subst, ◌∙◌, arith}
+use Rattle.sqlite.specs.{Held.{Held, state}, Effect.Database, State.{State, HasCleanDisk}}
 use Rattle.sqlite_trees.specs.declared.store.Store.{Ghosts}
-use Rattle.office_rows.specs.Rows.{Interchange, Rows}
-use Rattle.office_rows.specs.Stored.{HasRows}
-use Rattle.office_tables.proofs.MadeLemmas.{clean_first}
-use Rattle.office_tables.specs.Reading.{Reads}
-use Rattle.office_tables.specs.declared.table_fault.TableFault.{TableFault}
-use Rattle.office_loading.specs.Pages.{lines_of}
-use Rattle.office_loading.proofs.TakenLemmas.{appends_then}
-use Rattle.office_parts.specs.Archives.{Archive}
+use Rattle.office_rows.specs.{Rows.{Interchange, Rows}, Stored.HasRows}
+use Rattle.office_tables.{specs.{Reading.Reads, declared.table_fault.TableFault.TableFault}, proofs.MadeLemmas.clean_first}
+use Rattle.office_loading.{specs.Pages.lines_of, proofs.TakenLemmas.appends_then}
+use Rattle.office_parts.specs.{Archives.Archive, ArchiveJournal.{carried_on, journal_beyond, texts_added}}
 use Rattle.office_closing.specs.Register.{ArchiveContent, RegisterContent, last_closed}
-use Rattle.office_parts.specs.ArchiveJournal.{carried_on, journal_beyond, texts_added}
-use Rattle.office_archives.specs.Parts.{PartIsWritten, StandInOrder, WritesPart}
-use Rattle.office_archives.specs.declared.passing.Rest.{Rest}
+use Rattle.office_archives.specs.{Parts.{PartIsWritten, StandInOrder, WritesPart}, declared.passing.Rest.Rest}
 use Rattle.office_archives.specs.Texts.{AreAdded, AreShownAs, HasInOrder, IsAdded, IsJournal, WrittenIsJournal, closed_before}
 
 -- ---- what is left of two lists, one after the other

@@ -1,50 +1,27 @@
 -- What comes later opens and closes no visit of an interchange that was taken.
+use Rattle.std.{specs.{Option.{unwrap_or, option_or}, Prelude.{◌==◌, nat_le, slice_get, Contains}}, proofs.lemmas.List.{append-nil, length-map}}
 use Rattle.std.proofs.Common.{◌≡◌, ◌⊎◌, ℕ, zero, suc, ◌+◌, ◌<◌, ◌≤◌, inl, inr, List, [], ◌∷◌, ◌++◌, length, map, Bool, true, false, cond, ◌&&◌, Option, None, Some, Ok, refl, sym, ap, subst, ◌∙◌, arith, append_assoc, ◌||◌, is_some}
-use Rattle.std.specs.Option.{unwrap_or, option_or}
-use Rattle.std.specs.Prelude.{◌==◌, nat_le, slice_get, Contains}
 use Rattle.std.proofs.lemmas.Bool.{and_parts, eqb-true, eq-eqb, false_from_ne_true, cases_lt}
-use Rattle.std.proofs.lemmas.List.{append-nil, length-map}
 use Rattle.edi_messages.specs.declared.codes.PartnerKind.{PartnerKind}
-use Rattle.edi_syntax.specs.Moments.{CivilMoment}
-use Rattle.edi_syntax.specs.Interchange.{segments_in}
-use Rattle.edi_syntax.specs.Text.{Content}
-use Rattle.edi_syntax.specs.Envelope.{header_of, messages_of}
-use Rattle.edi_syntax.specs.Header.{preparation}
-use Rattle.partner_core.specs.ByPlace.{AreNumbered, taken_by_place}
-use Rattle.partner_core.specs.Deliveries.{Delivery, first_text, is_used, run}
-use Rattle.partner_core.specs.Machine.{Taking}
-use Rattle.partner_core.specs.Numbered.{with_number}
+use Rattle.edi_syntax.specs.{Moments.CivilMoment, Interchange.segments_in, Text.Content, Envelope.{header_of, messages_of}, Header.preparation}
+use Rattle.partner_core.specs.{ByPlace.{AreNumbered, taken_by_place}, Deliveries.{Delivery, first_text, is_used, run}, Machine.Taking, Numbered.with_number}
 use Rattle.partner_core.specs.Order.{numbers_above, numbers_made_next, reply_of, text_under, state_after, state, order, reply_among}
-use Rattle.partner_core.proofs.Orders.{first-kept, some_of, run_grows, state-append, used_within_run, first-used, reply_of-append}
-use Rattle.terminal_core.specs.Rows.{VisitContent}
-use Rattle.terminal_core.specs.State.{TerminalState, empty_state}
-use Rattle.terminal_core.specs.Versions.{newest}
-use Rattle.terminal_core.specs.declared.change.Source.{Source}
-use Rattle.terminal_core.specs.declared.change.Version.{Version}
-use Rattle.office_admission.specs.Accounts.{AccountPair, accounts_with, content_with, content_after}
-use Rattle.office_admission.specs.Admission.{admission, is_for, number_said}
-use Rattle.office_admission.specs.Deliveries.{deliveries_of}
+use Rattle.partner_core.proofs.{Orders.{first-kept, some_of, run_grows, state-append, used_within_run, first-used, reply_of-append}, OnceEach.within_replied}
+use Rattle.terminal_core.specs.{Rows.VisitContent, State.{TerminalState, empty_state}, Versions.newest, declared.change.Source.Source}
+use Rattle.terminal_core.specs.{declared.change.Version.Version, declared.visits.Departure.Departure}
+use Rattle.office_admission.specs.{Accounts.{AccountPair, accounts_with, content_with, content_after}, Admission.{admission, is_for, number_said}}
+use Rattle.office_admission.specs.{Deliveries.deliveries_of, Setups.{SetupContent, parties_in}, TakingLaws.ChangesTerminalAlone}
+use Rattle.office_admission.specs.Taking.{MachineState, messages_taken_by, codes_for, source_in, nothing_taken, reply_to, taken_at_by, taken_of_by, interchange_taken_by}
 use Rattle.office_admission.proofs.Adding.{Grows, stayed, grew, grows, stays, content_on, deliveries_on, first_admitted}
 use Rattle.office_replies.specs.Events.{Event, delivered, migrated, added}
-use Rattle.office_admission.specs.Setups.{SetupContent, parties_in}
-use Rattle.office_admission.specs.TakingLaws.{ChangesTerminalAlone}
-use Rattle.office_admission.specs.Taking.{MachineState, messages_taken_by, codes_for, source_in, nothing_taken, reply_to, taken_at_by, taken_of_by, interchange_taken_by}
-use Rattle.office_history.specs.After.{with_earlier_event, migration_in, taking_by, taking_in, opening_of, machine_after, AreAfter}
-use Rattle.office_history.specs.Laws.{HasNoMigration}
-use Rattle.office_history.proofs.Places.{TakesAlike, reply_alike, state_alike, placed, in_force, numbered, alone_in}
-use Rattle.office_history.proofs.Accounted.{within}
-use Rattle.office_archives.specs.Visits.{visits_by, visit_by, IsWithin, HasLeftWithin}
+use Rattle.office_history.specs.{After.{with_earlier_event, migration_in, taking_by, taking_in, opening_of, machine_after, AreAfter}, Laws.HasNoMigration}
+use Rattle.office_history.proofs.{Places.{TakesAlike, reply_alike, state_alike, placed, in_force, numbered, alone_in}, Accounted.within}
+use Rattle.office_archives.specs.{Visits.{visits_by, visit_by, IsWithin, HasLeftWithin}, Laws.{LaterLeaveVisits, VisitsAreOfTaken, LaterKeepNumbers}}
 use Rattle.office_archives.proofs.Sources.{IsAnother, interchange_keeps, by_cons}
-use Rattle.terminal_core.specs.declared.visits.Departure.{Departure}
 use Rattle.office_rows.specs.Rows.{Rows}
 use Rattle.office_reports.specs.Tickets.{is_source, is_opened_by, exit_moment_by, is_told_by}
-use Rattle.office_parts.proofs.Takings.{visits_same}
-use Rattle.office_parts.proofs.Splits.{Has, has_contained}
-use Rattle.office_archives.specs.Laws.{LaterLeaveVisits, VisitsAreOfTaken, LaterKeepNumbers}
-use Rattle.partner_core.proofs.OnceEach.{within_replied}
+use Rattle.office_parts.proofs.{Takings.visits_same, Splits.{Has, has_contained}}
 use Rattle.std.specs.FinMap as finite_map
-
--- ==== Later: What comes later opens and closes no visit of an interchange that was taken.
 
 -- ---- what becomes next is another interchange
 

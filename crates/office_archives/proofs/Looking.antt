@@ -1,8 +1,6 @@
 -- What is read of a store by which no change is under way.
-use Rattle.std.proofs.Common.{◌≡◌, Result, Ok, Err, IfOk, sym, subst}
-use Rattle.std.specs.Prelude.{IfErr, IsTrue, OnOk}
-use Rattle.sqlite.specs.Effect.{Database}
-use Rattle.sqlite.specs.State.{State, IsUnchanged}
+use Rattle.std.{specs.Prelude.{IfErr, IsTrue, OnOk}, proofs.Common.{◌≡◌, Result, Ok, Err, IfOk, sym, subst}}
+use Rattle.sqlite.specs.{Effect.Database, State.{State, IsUnchanged}}
 
 -- it is what is committed
 pub ok_committed : {T E : Type 0} (old new : State) (settled : IsTrue old.is_open → old.now ≡ old.committed) (Shows : Database → T → Type 0) (result : Result T E) → OnOk result (IsUnchanged old new) → IfOk result (Shows old.now) → IfOk result (Shows old.committed)

@@ -1,64 +1,33 @@
 -- What an order makes of the visits: none is lost, and what is over stays as it is.
+use Rattle.std.specs.{Prelude.{◌==◌, nat_lt, Contains, count_by, filter, find, codes, not, string_bytes}, List.{AllByRecursion, flat_map}, Str.bytes_eq}
+use Rattle.std.{specs.{List.Sorted.IsPermutation, Cmp.Lexicographic.bytes_decides}, proofs.lemmas.Bool.{and_parts, and_from, eq-eqb, eqb-true, ltb-true}}
 use Rattle.std.proofs.Common.{◌≡◌, ℕ, ◌+◌, ◌<◌, List, [], ◌∷◌, ◌++◌, length, map, Bool, true, false, cond, Option, None, Some, is_none, is_some, refl, sym, ap, ap₂, subst, ◌∙◌, arith, ◌≤◌, inl, inr, Result, Ok, Err}
-use Rattle.std.specs.Prelude.{◌==◌, nat_lt, Contains, count_by, filter, find, codes, not, string_bytes}
-use Rattle.std.specs.List.{AllByRecursion, flat_map}
-use Rattle.std.specs.List.Sorted.{IsPermutation}
-use Rattle.std.proofs.lemmas.Bool.{and_parts, and_from, eq-eqb, eqb-true, ltb-true}
 use Rattle.std.proofs.lemmas.List.Elements.{filter-append}
-use Rattle.edi_messages.specs.declared.codes.PartnerKind.{PartnerKind}
+use Rattle.edi_messages.specs.{declared.codes.PartnerKind.PartnerKind, Purposes.CallContent}
+use Rattle.edi_messages.specs.Orders.{EntryContent, OrderContent, gate_in, gate_out, move, list_discharge, list_load, discharge, load}
 use Rattle.partner_core.specs.Deliveries.{run}
-use Rattle.terminal_core.specs.declared.visits.Departure.{Departure}
-use Rattle.terminal_core.specs.Rows.{VisitContent}
-use Rattle.terminal_core.specs.State.{TerminalState, LineContent, line_of, is_in, is_open_visit, is_visit_of}
-use Rattle.office_admission.specs.Deliveries.{deliveries_of}
+use Rattle.terminal_core.specs.{declared.visits.Departure.Departure, Rows.VisitContent, Versions.spares_empty, declared.change.Version.Version}
+use Rattle.terminal_core.specs.{State.{TerminalState, LineContent, line_of, is_in, is_open_visit, is_visit_of}, declared.lines.LineState.LineState}
+use Rattle.terminal_core.specs.{declared.lines.LineState.TheVariants.{Pending, Done as LineIsDone}, declared.change.Outcome.Outcome, declared.lines.Side.Side}
+use Rattle.terminal_core.specs.{declared.change.Outcome.TheVariants.Refused, declared.change.Reason.TheVariants.{AlreadyIn, NotIn, VisitLimit}}
+use Rattle.terminal_core.specs.{declared.lines.Side.TheVariants.{Load, Discharge}, declared.change.Source.Source, declared.visits.Way.Way}
+use Rattle.terminal_core.{specs.declared.visits.Way.TheVariants.{Gate, Ship}, proofs.{Changing.either, Open.kept_number}}
+use Rattle.terminal_core.specs.Step.{StepResult, with_refusal, step_by, yard_with_entry, is_full, visit_of, after_entry, after_entry_at, closed_visit, after_departure, after_departure_at, departure_by, after_move_at, after_listing_at, then_line_done_at, by_line, by_state}
+use Rattle.office_admission.specs.{Deliveries.deliveries_of, Setups.SetupContent}
 use Rattle.office_replies.specs.Events.{Event}
-use Rattle.office_rows.specs.Effects.{is_pair}
-use Rattle.office_rows.specs.Opening.{tables_version}
-use Rattle.office_rows.specs.Rows.{Interchange, Rows}
-use Rattle.office_admission.specs.Setups.{SetupContent}
+use Rattle.office_rows.specs.{Effects.is_pair, Opening.tables_version, Rows.{Interchange, Rows}}
 use Rattle.office_tables.specs.Answers.{has_id, IsNextOf}
 use Rattle.office_loading.specs.Waiting.{is_waiting, waiting_numbers}
-use Rattle.office_reports.specs.declared.query.About.{About}
-use Rattle.office_reports.specs.Program.{program_version}
-use Rattle.office_reports.specs.Metrics.{gauge, gauges, gauge_text, is_here, versions_text}
+use Rattle.office_reports.specs.{declared.query.About.About, Program.program_version, Metrics.{gauge, gauges, gauge_text, is_here, versions_text}}
 use Rattle.office_reports.specs.Partners.{PartnerContent}
-use Rattle.office_history.specs.After.{content_after, machine_after}
-use Rattle.office_history.proofs.Accounted.{next_follows}
-use Rattle.office_parts.specs.OwnTerminal.{own_terminal, own_visits, IsOverOrStays, MayStay}
-use Rattle.office_parts.specs.Closing.{is_put_away}
-use Rattle.office_parts.specs.Parts.{Archived, ArePartsAfter}
-use Rattle.office_parts.proofs.Takings.{visits_same}
-use Rattle.office_parts.proofs.Orders.{closed_within}
-use Rattle.office_parts.proofs.Splits.{contained_has, has_contained, had_filtered, Has, has_mapped, has_pushed}
+use Rattle.office_history.{specs.After.{content_after, machine_after}, proofs.{Accounted.next_follows, Kept.count_more}}
+use Rattle.office_parts.specs.{OwnTerminal.{own_terminal, own_visits, IsOverOrStays, MayStay}, Closing.is_put_away, Parts.{Archived, ArePartsAfter}}
+use Rattle.office_parts.proofs.{Takings.visits_same, Orders.closed_within, Splits.{contained_has, has_contained, had_filtered, Has, has_mapped, has_pushed}}
 use Rattle.office_desk.specs.Reports.{AreLookedUp, IsLookedUp, partner_called, TellsAbout, TellsPartner}
-use Rattle.office_archives.specs.Counted.{with_visits, IsOfPartners, TellsOwnMetrics}
-use Rattle.office_archives.specs.Laws.{PartnersAreToldAlike, MetricsAreTold}
-use Rattle.office_history.proofs.Kept.{count_more}
-use Rattle.std.specs.Str.{bytes_eq}
-use Rattle.std.specs.Cmp.Lexicographic.{bytes_decides}
-use Rattle.box6346.specs.declared.box_number.BoxNumber.{BoxNumber}
-use Rattle.box6346.specs.declared.slot.Slot.{Slot}
+use Rattle.office_archives.specs.{Counted.{with_visits, IsOfPartners, TellsOwnMetrics}, Laws.{PartnersAreToldAlike, MetricsAreTold}}
+use Rattle.box6346.specs.{declared.box_number.BoxNumber.BoxNumber, declared.slot.Slot.Slot}
 use Rattle.edi_syntax.specs.Moments.{CivilMoment}
-use Rattle.edi_messages.specs.Orders.{EntryContent, OrderContent, gate_in, gate_out, move, list_discharge, list_load, discharge, load}
-use Rattle.edi_messages.specs.Purposes.{CallContent}
-use Rattle.yard_core.specs.declared.placements.Placement.{Placement}
-use Rattle.yard_core.specs.Decisions.{Refusal, yard_without, yard_with_move}
-use Rattle.yard_core.specs.YardMap.{YardMap}
-use Rattle.terminal_core.specs.Versions.{spares_empty}
-use Rattle.terminal_core.specs.declared.change.Version.{Version}
-use Rattle.terminal_core.specs.declared.lines.LineState.{LineState}
-use Rattle.terminal_core.specs.declared.lines.LineState.TheVariants.{Pending, Done as LineIsDone}
-use Rattle.terminal_core.specs.declared.change.Outcome.{Outcome}
-use Rattle.terminal_core.specs.declared.change.Outcome.TheVariants.{Refused}
-use Rattle.terminal_core.specs.declared.change.Reason.TheVariants.{AlreadyIn, NotIn, VisitLimit}
-use Rattle.terminal_core.specs.declared.lines.Side.{Side}
-use Rattle.terminal_core.specs.declared.lines.Side.TheVariants.{Load, Discharge}
-use Rattle.terminal_core.specs.declared.change.Source.{Source}
-use Rattle.terminal_core.specs.declared.visits.Way.{Way}
-use Rattle.terminal_core.specs.declared.visits.Way.TheVariants.{Gate, Ship}
-use Rattle.terminal_core.specs.Step.{StepResult, with_refusal, step_by, yard_with_entry, is_full, visit_of, after_entry, after_entry_at, closed_visit, after_departure, after_departure_at, departure_by, after_move_at, after_listing_at, then_line_done_at, by_line, by_state}
-use Rattle.terminal_core.proofs.Changing.{either}
-use Rattle.terminal_core.proofs.Open.{kept_number}
+use Rattle.yard_core.specs.{declared.placements.Placement.Placement, Decisions.{Refusal, yard_without, yard_with_move}, YardMap.YardMap}
 use Rattle.office_reports.specs.declared.query.About.TheVariants as about
 
 -- ==== CountedTold: Reports that count, by the store's own rows and by the whole.

@@ -1,17 +1,13 @@
 -- Pages with a note of how many archives there are.
-use Rattle.std.proofs.Common.{◌≡◌, ℕ, ◌-◌, List, [], ◌++◌, length, take, Option, None, Some, refl, sym, ap, ◌∙◌, arith}
-use Rattle.std.specs.Option.{option_map}
-use Rattle.std.proofs.Math.Seq.{take-append_seam}
-use Rattle.std.proofs.lemmas.List.{append-nil, length-append}
+use Rattle.std.{specs.Option.option_map, proofs.Common.{◌≡◌, ℕ, ◌-◌, List, [], ◌++◌, length, take, Option, None, Some, refl, sym, ap, ◌∙◌, arith}}
+use Rattle.std.proofs.{Math.Seq.take-append_seam, lemmas.List.{append-nil, length-append}}
 use Rattle.box6346.specs.declared.box_number.BoxNumber.{BoxNumber}
 use Rattle.terminal_core.specs.State.{LineContent, LineKey}
 use Rattle.office_reports.specs.declared.query.View.TheVariants.{Page}
-use Rattle.office_pages.specs.Archives.{archives_note}
-use Rattle.office_pages.specs.Fixed.{foot}
-use Rattle.office_pages.specs.Wanted.{expected_page}
+use Rattle.office_pages.specs.{Archives.archives_note, Fixed.foot, Wanted.expected_page}
 use Rattle.office_report_data.specs.Told.{ReportContent, shown}
-use Rattle.office_report_data.specs.Told as value
 use Rattle.office_archives.specs.Telling.{AreAsked, AreEnded, with_note}
+use Rattle.office_report_data.specs.Told as value
 
 -- what stands before a page's end stays
 pub body_left : (body : List ℕ) → take (length (body ++ foot) - length foot) (body ++ foot) ≡ body

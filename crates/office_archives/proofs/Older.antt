@@ -1,19 +1,13 @@
 -- If a closing puts away each visit that is over in its archive, of each container's visits the older go first.
+use Rattle.std.{specs.{Prelude.{Contains, nat_lt, ◌||◌}, Str.bytes_eq}, proofs.lemmas.Bool.{lt-ltb, ltb-true, or_cases, or_left, or_right}}
 use Rattle.std.proofs.Common.{◌≡◌, ◌⊎◌, ℕ, ◌<◌, inl, inr, List, [], ◌∷◌, Bool, true, false, cond, is_some, refl, sym, ap, subst, ◌∙◌, arith}
-use Rattle.std.specs.Prelude.{Contains, nat_lt, ◌||◌}
-use Rattle.std.specs.Str.{bytes_eq}
-use Rattle.std.proofs.lemmas.Bool.{lt-ltb, ltb-true, or_cases, or_left, or_right}
-use Rattle.terminal_core.specs.Rows.{VisitContent}
-use Rattle.terminal_core.specs.State.{AreNumbered, is_visit_of}
+use Rattle.terminal_core.specs.{Rows.VisitContent, State.{AreNumbered, is_visit_of}}
 use Rattle.office_rows.specs.Rows.{Rows}
 use Rattle.office_history.specs.After.{machine_after}
-use Rattle.office_parts.specs.OwnTerminal.{is_own, own_visits}
-use Rattle.office_parts.proofs.Takings.{visits_same}
+use Rattle.office_parts.{specs.OwnTerminal.{is_own, own_visits}, proofs.Takings.visits_same}
 use Rattle.office_parts.proofs.Splits.{own_rise, Has, contained_has, had_filtered, has_contained, has_filtered}
-use Rattle.office_archives.specs.Laws.{ClearingsGoOldestFirst, FullClosingsGoOldestFirst}
-use Rattle.office_archives.specs.Stayed.{GoOldestFirst, PutsAwayOver}
-use Rattle.office_archives.proofs.Going.{after_ordered, later_go_on}
-use Rattle.office_archives.proofs.Moves.{AreOverBefore, GoOn}
+use Rattle.office_archives.specs.{Laws.{ClearingsGoOldestFirst, FullClosingsGoOldestFirst}, Stayed.{GoOldestFirst, PutsAwayOver}}
+use Rattle.office_archives.proofs.{Going.{after_ordered, later_go_on}, Moves.{AreOverBefore, GoOn}}
 
 -- ---- one before another
 

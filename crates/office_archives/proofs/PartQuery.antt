@@ -1,49 +1,23 @@
 -- The query of a file's texts: what it means, and what it finds.
+use Rattle.std.{specs.{List.{AllByRecursion, AllZip}, Io.KnownBytes.Appends}, proofs.lemmas.List.drop_all}
 use Rattle.std.proofs.Common.{◌≡◌, ℕ, false, true, List, [], ◌∷◌, ◌++◌, map, filter, codes, refl, sym, ap, subst, ◌∙◌, ◌-◌, drop, arith, length, Bool, Option, None, Some}
-use Rattle.std.specs.List.{AllByRecursion, AllZip}
-use Rattle.sqlite.specs.declared.types.Value.TheVariants.{Null}
-use Rattle.sqlite.specs.Order.{Row, column}
-use Rattle.sqlite.specs.Tree.{Trees, IsTable}
-use Rattle.sqlite.specs.Collation.TheVariants.{Binary}
-use Rattle.sqlite.specs.Term.{Term, col}
-use Rattle.sqlite.specs.Query.{Query, Output, IsAnswer}
-use Rattle.sqlite.specs.Program.{overlay}
-use Rattle.sqlite.specs.Effect.{Database, ReadsFirst}
-use Rattle.sqlite.specs.Command.{Command}
-use Rattle.sqlite.specs.Command.TheVariants.{Select}
-use Rattle.sqlite.specs.Listing.{understood, reads_listing}
-use Rattle.sqlite.specs.State.{State, Begins, Shown, IsUnchanged}
+use Rattle.sqlite.specs.{declared.types.Value.TheVariants.Null, Order.{Row, column}, Tree.{Trees, IsTable}, Collation.TheVariants.Binary, Term.{Term, col}}
+use Rattle.sqlite.specs.{Query.{Query, Output, IsAnswer}, Program.overlay, Effect.{Database, ReadsFirst}, Command.Command, Command.TheVariants.Select}
+use Rattle.sqlite.specs.{Listing.{understood, reads_listing}, State.{State, Begins, Shown, IsUnchanged}, Held.{Held, state}, Given.Advances}
 use Rattle.sqlite.proofs.Callers.{IsPlain, command_of, begins_as, reads_as, given_begin, unchanged_then}
-use Rattle.sqlite_value.specs.Keys.{ascending}
-use Rattle.sqlite_value.specs.declared.keys.Key.{Key}
+use Rattle.sqlite_value.specs.{Keys.ascending, declared.keys.Key.Key}
 use Rattle.sqlite_tied.specs.Compute.{everything}
 use Rattle.sqlite_trees.proofs.ListLemmas.{map-map, filter_all}
 use Rattle.sqlite_resolve.specs.Compile.{first}
-use Rattle.office_rows.specs.Tables.{interchange_table, office_schema}
-use Rattle.office_rows.specs.Rows.{Interchange, Rows}
-use Rattle.office_rows.specs.Values.{interchange_values}
-use Rattle.office_rows.specs.Stored.{HasRows, columns_of}
-use Rattle.office_rows.proofs.WriteLemmas.{rows_of, passes, answer_in_order}
-use Rattle.office_tables.specs.Reading.{OnlyShows}
-use Rattle.office_tables.proofs.WritesLemmas.{is_read, understands_query}
-use Rattle.office_loading.proofs.RowLemmas.{keyed, in_order}
-use Rattle.office_archives.specs.Parts.{ShowsInterchange, StandInOrder, AreDone, PassesRow, PartIsWritten, texts_written}
-use Rattle.std.specs.Io.KnownBytes.{Appends}
-use Rattle.std.proofs.lemmas.List.{drop_all}
-use Rattle.sqlite.specs.Held.{Held, state}
-use Rattle.sqlite.specs.Given.{Advances}
-use Rattle.sqlite_rules.proofs.ListLemmas.{has_last, has_front}
-use Rattle.office_loading.proofs.StreamLemmas.{Stands, all_shown}
-use Rattle.office_loading.specs.Texts.{IsText}
-use Rattle.office_loading.specs.Pages.{lines_of}
-use Rattle.office_loading.proofs.TextQuery.{stored_body}
+use Rattle.office_rows.specs.{Tables.{interchange_table, office_schema}, Rows.{Interchange, Rows}, Values.interchange_values, Stored.{HasRows, columns_of}}
+use Rattle.office_rows.proofs.{WriteLemmas.{rows_of, passes, answer_in_order}, Creating.has_mapped}
+use Rattle.office_tables.{specs.Reading.OnlyShows, proofs.WritesLemmas.{is_read, understands_query}}
+use Rattle.office_loading.{specs.{Texts.IsText, Pages.lines_of}, proofs.{RowLemmas.{keyed, in_order}, StreamLemmas.{Stands, all_shown}, TextQuery.stored_body}}
 use Rattle.office_loading.proofs.TakenLemmas.{nothing_appended}
-use Rattle.office_archives.specs.declared.passing.Rest.{Rest}
+use Rattle.office_archives.specs.{Parts.{ShowsInterchange, StandInOrder, AreDone, PassesRow, PartIsWritten, texts_written}, declared.passing.Rest.Rest}
 use Rattle.office_archives.specs.declared.passing.Passing.{Passing}
-use Rattle.office_rows.proofs.Creating.{has_mapped}
+use Rattle.sqlite_rules.proofs.ListLemmas.{has_last, has_front}
 use Rattle.sqlite_trees.specs.declared.store.Store as store
-
--- ==== PartQuery: The query of a file's texts: what it means, and what it finds.
 
 abbrev pub select_part : List ℕ
 select_part = codes "SELECT body, partner, number FROM interchange ORDER BY rowid"

@@ -1,55 +1,31 @@
 -- Lists that are put into a register: of each list the lines are those that were put there last.
-use Rattle.std.proofs.Common.{◌≡◌, length, ℕ, ◌≤◌, List, true, Option, None, Some, is_some, option_map, string_bytes, String, refl, sym, ap, subst, ◌∙◌, [], ◌∷◌, Bool, map, false, cond, arith, Ordering, Less, Equal, Greater, is_gt}
 use Rattle.std.specs.Prelude.{IsTrue, count_by, filter, option_map, ◌&&◌, ◌==◌, fold, nat_le, nat_lt}
 use Rattle.std.specs.Option.{option_and_then, option_or}
-use Rattle.std.specs.declared.alloc.Global.{Global}
-use Rattle.sqlite.specs.Held.{Held, state}
-use Rattle.sqlite.specs.State.{HasCleanDisk}
+use Rattle.std.specs.{declared.alloc.Global.Global, List.{AllByRecursion, list_all}, Cmp.Lexicographic.{bytes_decides, slice_cmp}, Str.bytes_eq}
+use Rattle.std.{specs.Ordering.{is_lt, nat_cmp, ordering_reverse, ordering_then}, proofs.lemmas.Bool.{and_parts, eqb-true, leb-true}}
+use Rattle.std.proofs.Common.{◌≡◌, length, ℕ, ◌≤◌, List, true, Option, None, Some, is_some, option_map, string_bytes, String, refl, sym, ap, subst, ◌∙◌, [], ◌∷◌, Bool, map, false, cond, arith, Ordering, Less, Equal, Greater, is_gt}
+use Rattle.std.proofs.lemmas.Bool.Decides.{nat_tests}
+use Rattle.std.proofs.lemmas.Cmp.{nat_cmp_total, nat_list_cmp_total, tied_itself, upto}
+use Rattle.sqlite.specs.{Held.{Held, state}, State.HasCleanDisk}
 use Rattle.sqlite_trees.specs.declared.store.Store.{Ghosts}
-use Rattle.office_rows.specs.Rows.{Rows}
-use Rattle.office_rows.specs.Stored.{HasRows}
-use Rattle.office_tables.specs.Answers.{IsKept, IsNextOf}
-use Rattle.office_tables.specs.declared.interchanges.Kept.{Kept}
+use Rattle.office_rows.specs.{Rows.Rows, Stored.HasRows}
+use Rattle.office_tables.specs.{Answers.{IsKept, IsNextOf}, declared.interchanges.Kept.Kept}
 use Rattle.office_history.specs.After.{AreKeptOnce, reply_in, content_after, machine_after}
-use Rattle.office_parts.specs.Archives.{Archive, archive_of}
-use Rattle.office_closing.specs.Register.{register_content}
-use Rattle.office_closing.specs.declared.register.Register.{Register}
-use Rattle.office_desk.proofs.Faults.{reply_of_kept}
-use Rattle.office_archives.specs.Shelves.{AreShelved, IsOpenAt, IsOpenIfAny, NamesAll, archive_at}
-use Rattle.office_archives.specs.declared.opened.Opened.{Opened}
+use Rattle.office_parts.{specs.{Archives.{Archive, archive_of}, OwnTerminal.{own_terminal, MayStay}}, proofs.{Takings.visits_same, Splits.open_kept}}
+use Rattle.office_closing.specs.{Register.register_content, declared.register.Register.Register, Sound.{are_rising, may_be_list}}
+use Rattle.office_closing.specs.Lists.{SettledListContent, comes_before, is_of_list, lines_of_list, list_cmp, put_list, put_lists}
+use Rattle.office_closing.proofs.SoundLemmas.{list_total}
+use Rattle.office_desk.{specs.Reports.{TellsAbout, TellsNext, partner_called}, proofs.Faults.reply_of_kept}
+use Rattle.office_archives.specs.{Shelves.{AreShelved, IsOpenAt, IsOpenIfAny, NamesAll, archive_at}, declared.opened.Opened.Opened}
+use Rattle.office_archives.specs.Reporting.{IsOfWhatStands, WhatStandsIsToldAlike}
 use Rattle.box6346.specs.declared.box_number.BoxNumber.{BoxNumber}
-use Rattle.edi_messages.specs.Owned.{call_content}
-use Rattle.edi_messages.specs.declared.call.Call.{Call}
-use Rattle.terminal_core.specs.declared.lines.Side.{Side}
-use Rattle.terminal_core.specs.State.{LineContent, TerminalState, open_visit, side_code}
+use Rattle.edi_messages.specs.{Owned.call_content, declared.call.Call.Call, Purposes.CallContent, Texts.is_name}
+use Rattle.terminal_core.specs.{declared.lines.Side.Side, State.{LineContent, TerminalState, open_visit, side_code}}
 use Rattle.office_admission.specs.Setups.{SetupContent}
-use Rattle.office_reports.specs.declared.query.About.{About}
+use Rattle.office_reports.specs.{declared.query.About.About, Listed.AreListed, Yard.{StandsAt, slot_in}, declared.yard.Standing.Standing, Containers.blocker_in}
+use Rattle.office_reports.specs.{Work.{is_open_entry, jobs_of, standing_by, work_by}, Lists.is_done_line}
 use Rattle.office_report_data.specs.Told.{ReportContent}
 use Rattle.office_report_data.specs.Told as value
-use Rattle.office_reports.specs.Listed.{AreListed}
-use Rattle.office_reports.specs.Yard.{StandsAt, slot_in}
-use Rattle.office_reports.specs.declared.yard.Standing.{Standing}
-use Rattle.office_reports.specs.Containers.{blocker_in}
-use Rattle.office_reports.specs.Work.{is_open_entry, jobs_of, standing_by, work_by}
-use Rattle.office_reports.specs.Lists.{is_done_line}
-use Rattle.office_desk.specs.Reports.{TellsAbout, TellsNext, partner_called}
-use Rattle.office_parts.specs.OwnTerminal.{own_terminal, MayStay}
-use Rattle.office_parts.proofs.Takings.{visits_same}
-use Rattle.office_parts.proofs.Splits.{open_kept}
-use Rattle.office_archives.specs.Reporting.{IsOfWhatStands, WhatStandsIsToldAlike}
-use Rattle.std.specs.List.{AllByRecursion, list_all}
-use Rattle.std.specs.Cmp.{IsTotalOrder}
-use Rattle.std.specs.Cmp.Lexicographic.{bytes_decides, slice_cmp}
-use Rattle.std.specs.Ordering.{is_lt, nat_cmp, ordering_reverse, ordering_then}
-use Rattle.std.specs.Str.{bytes_eq}
-use Rattle.std.proofs.lemmas.Bool.{and_parts, eqb-true, leb-true}
-use Rattle.std.proofs.lemmas.Bool.Decides.{nat_tests}
-use Rattle.std.proofs.lemmas.Cmp.{nat_cmp_total, nat_list_cmp_total, on_total, then_total, tied_itself, upto}
-use Rattle.edi_messages.specs.Purposes.{CallContent}
-use Rattle.edi_messages.specs.Texts.{is_name}
-use Rattle.office_closing.specs.Lists.{SettledListContent, comes_before, is_of_list, lines_of_list, list_cmp, put_list, put_lists}
-use Rattle.office_closing.specs.Sound.{are_rising, may_be_list}
-use Rattle.office_closing.proofs.SoundLemmas.{list_total}
 use Rattle.office_closing.specs.Register as register
 use Rattle.office_reports.specs.declared.query.About.TheVariants as about
 

@@ -1,66 +1,31 @@
 -- An interchange opens and closes visits in its own name: those of another stay as they are.
+use Rattle.std.{specs.{Prelude.{◌==◌, filter, codes, Contains}, Str.bytes_eq, List.{flat_map, list_any}}, proofs.lemmas.List.append-nil}
 use Rattle.std.proofs.Common.{◌≡◌, ap₂, decimal, ℕ, List, [], ◌∷◌, ◌++◌, map, Bool, true, false, cond, ◌&&◌, ◌||◌, Option, None, Some, is_some, is_none, Result, Ok, Err, refl, sym, ap, ◌∙◌, ◌<◌, inl, inr, arith, subst}
-use Rattle.std.specs.Prelude.{◌==◌, filter, codes, Contains}
-use Rattle.std.specs.Str.{bytes_eq}
-use Rattle.std.proofs.lemmas.Bool.{and_parts, eqb-true, false_from_ne_true, and_from}
-use Rattle.std.proofs.lemmas.List.{append-nil}
-use Rattle.std.proofs.lemmas.List.Elements.{filter-append}
-use Rattle.box6346.specs.declared.box_number.BoxNumber.{BoxNumber}
-use Rattle.box6346.specs.declared.slot.Slot.{Slot}
-use Rattle.edi_syntax.specs.Moments.{CivilMoment}
-use Rattle.edi_messages.specs.declared.codes.Codes.{Codes}
-use Rattle.edi_messages.specs.declared.message.MessageFault.{MessageFault}
-use Rattle.edi_messages.specs.declared.codes.PartnerKind.{PartnerKind}
-use Rattle.edi_messages.specs.Message.{LineContent as ReadLine, ordered, refused as refused_line, MessageContent}
+use Rattle.std.proofs.{lemmas.Bool.{and_parts, eqb-true, false_from_ne_true, and_from}, lemmas.List.Elements.filter-append}
+use Rattle.box6346.specs.{declared.box_number.BoxNumber.BoxNumber, declared.slot.Slot.Slot}
+use Rattle.edi_syntax.specs.{Moments.CivilMoment, Interchange.segments_in, Envelope.{header_of, messages_of}, Header.preparation, Messages.Message}
+use Rattle.edi_messages.specs.{declared.codes.Codes.Codes, declared.message.MessageFault.MessageFault, declared.codes.PartnerKind.PartnerKind}
+use Rattle.edi_messages.specs.{Message.{LineContent as ReadLine, ordered, refused as refused_line, MessageContent}, Purposes.CallContent}
 use Rattle.edi_messages.specs.Orders.{EntryContent, OrderContent, gate_in, gate_out, move, list_discharge, list_load, discharge, load}
-use Rattle.edi_messages.specs.Purposes.{CallContent}
-use Rattle.edi_syntax.specs.Interchange.{segments_in}
-use Rattle.edi_syntax.specs.Envelope.{header_of, messages_of}
-use Rattle.edi_syntax.specs.Header.{preparation}
-use Rattle.edi_syntax.specs.Messages.{Message}
 use Rattle.partner_core.specs.Numbered.{with_number}
-use Rattle.yard_core.specs.declared.placements.Placement.{Placement}
-use Rattle.yard_core.specs.Decisions.{Refusal, yard_without, yard_with_move}
-use Rattle.yard_core.specs.YardMap.{YardMap}
-use Rattle.terminal_core.specs.Versions.{spares_empty}
-use Rattle.terminal_core.specs.declared.change.Version.{Version}
-use Rattle.terminal_core.specs.declared.visits.Departure.{Departure}
-use Rattle.terminal_core.specs.declared.lines.LineState.{LineState}
-use Rattle.terminal_core.specs.declared.lines.LineState.TheVariants.{Pending, Done as LineIsDone}
-use Rattle.terminal_core.specs.declared.change.Outcome.{Outcome}
-use Rattle.terminal_core.specs.declared.change.Outcome.TheVariants.{Refused}
-use Rattle.terminal_core.specs.declared.change.Reason.TheVariants.{AlreadyIn, NotIn, VisitLimit}
-use Rattle.terminal_core.specs.declared.lines.Side.{Side}
-use Rattle.terminal_core.specs.declared.lines.Side.TheVariants.{Load, Discharge}
-use Rattle.terminal_core.specs.declared.change.Source.{Source}
-use Rattle.terminal_core.specs.declared.visits.Way.{Way}
-use Rattle.terminal_core.specs.declared.visits.Way.TheVariants.{Gate, Ship}
-use Rattle.terminal_core.specs.Rows.{VisitContent}
-use Rattle.terminal_core.specs.State.{TerminalState, LineContent, line_of, is_in, is_open_visit}
+use Rattle.yard_core.specs.{declared.placements.Placement.Placement, Decisions.{Refusal, yard_without, yard_with_move}, YardMap.YardMap}
+use Rattle.terminal_core.specs.{Versions.spares_empty, declared.change.Version.Version, declared.visits.Departure.Departure, declared.lines.LineState.LineState}
+use Rattle.terminal_core.specs.{declared.lines.LineState.TheVariants.{Pending, Done as LineIsDone}, declared.change.Outcome.Outcome, declared.lines.Side.Side}
+use Rattle.terminal_core.specs.{declared.change.Outcome.TheVariants.Refused, declared.change.Reason.TheVariants.{AlreadyIn, NotIn, VisitLimit}}
+use Rattle.terminal_core.specs.{declared.lines.Side.TheVariants.{Load, Discharge}, declared.change.Source.Source, declared.visits.Way.Way, Rows.VisitContent}
+use Rattle.terminal_core.specs.{declared.visits.Way.TheVariants.{Gate, Ship}, State.{TerminalState, LineContent, line_of, is_in, is_open_visit}}
 use Rattle.terminal_core.specs.Step.{StepResult, with_refusal, step_by, yard_with_entry, is_full, visit_of, after_entry, after_entry_at, closed_visit, after_departure, after_departure_at, departure_by as leaves_by, after_move_at, after_listing_at, then_line_done_at, by_line, by_state}
 use Rattle.terminal_core.proofs.Changing.{either}
-use Rattle.office_admission.specs.Admission.{admission, is_for, number_said}
+use Rattle.office_admission.specs.{Admission.{admission, is_for, number_said}, Readings.reading_by}
 use Rattle.office_admission.specs.Taking.{MachineState, clearing_of, clearing_for, list_replaced, line_taken_by, lines_taken_by, verdict_on_by, messages_taken_by, codes_for, source_in, nothing_taken, taken_at_by, taken_of_by, interchange_taken_by}
-use Rattle.office_admission.specs.Readings.{reading_by}
 use Rattle.office_reports.specs.Tickets.{is_closed_by, is_source, is_opened_by, exit_moment_by, is_told_by, entry_line, exit_line, entry_lines, exit_lines, ticket_lines, ticket_of, told_text}
-use Rattle.office_reports.specs.declared.query.View.{View}
-use Rattle.office_reports.specs.declared.query.View.TheVariants.{Text, Json, Csv}
-use Rattle.office_reports.proofs.Standings.{ticket_stays}
-use Rattle.office_report_data.specs.Tickets.{closed_data, opened_data, ticket_data}
-use Rattle.office_report_data.specs.Told.{shown}
-use Rattle.office_report_data.specs.Told as value
-use Rattle.serde_json.specs.Data.{array, member, no_members, number, object, string, unsigned}
-use Rattle.serde_json.specs.View.{items_of}
-use Rattle.serde_json.specs.Written.{compact_text}
-use Rattle.office_archives.specs.Visits.{departure_by, visit_by, visits_by, IsWithin, HasLeftWithin, IsVisitWithin}
-use Rattle.std.specs.List.{flat_map, list_any}
-use Rattle.office_parts.specs.OwnTerminal.{own_visits, is_own}
-use Rattle.office_parts.proofs.Splits.{Has, contained_has, has_contained, has_filtered}
-use Rattle.office_reports.specs.Names.{line}
+use Rattle.office_reports.{specs.{declared.query.View.View, declared.query.View.TheVariants.{Text, Json, Csv}, Names.line}, proofs.Standings.ticket_stays}
+use Rattle.office_report_data.specs.{Tickets.{closed_data, opened_data, ticket_data}, Told.shown}
+use Rattle.serde_json.specs.{Data.{array, member, no_members, number, object, string, unsigned}, View.items_of, Written.compact_text}
+use Rattle.office_archives.specs.{Visits.{departure_by, visit_by, visits_by, IsWithin, HasLeftWithin, IsVisitWithin}, Stayed.GoOldestFirst}
 use Rattle.office_archives.specs.Laws.{ClosingsGoOldestFirst, NothingWentAtFirst}
-use Rattle.office_archives.specs.Stayed.{GoOldestFirst}
-
--- ==== Sources: An interchange opens and closes visits in its own name: those of another stay as they are.
+use Rattle.office_parts.{specs.OwnTerminal.{own_visits, is_own}, proofs.Splits.{Has, contained_has, has_contained, has_filtered}}
+use Rattle.office_report_data.specs.Told as value
 
 -- ---- lists of visits
 

@@ -1,90 +1,44 @@
 -- A delivery under a number that is not closed, to a desk over a store's own rows.
+use Rattle.std.specs.{Cmp.Lexicographic.bytes_decides, Prelude.{nat_lt, Contains, find, string_bytes}, Option.{option_map, option_and_then}}
 use Rattle.std.proofs.Common.{◌≡◌, ℕ, ◌+◌, ◌<◌, ◌≤◌, inl, inr, List, [], ◌∷◌, ◌++◌, Bool, true, false, cond, Option, None, Some, is_some, Result, Ok, Err, refl, sym, ap, subst, ◌∙◌, arith}
-use Rattle.std.specs.Cmp.Lexicographic.{bytes_decides}
-use Rattle.std.specs.Prelude.{nat_lt, Contains, find, string_bytes}
-use Rattle.std.specs.Option.{option_map, option_and_then}
 use Rattle.std.proofs.lemmas.Bool.{cases_order, eqb-true, ltb-true}
-use Rattle.sqlite.specs.Held.{state}
-use Rattle.sqlite.specs.State.{State, HasCleanDisk}
-use Rattle.sqlite.specs.Tree.{Trees}
+use Rattle.sqlite.specs.{Held.state, State.{State, HasCleanDisk}, Tree.Trees}
 use Rattle.sqlite_trees.specs.declared.store.Store.{Ghosts}
-use Rattle.edi_syntax.specs.Interchange.{interchange_of, segments_in}
-use Rattle.edi_syntax.specs.Envelope.{header_of}
-use Rattle.partner_core.specs.Answers.{AnswerModel, Waiting, answer_by}
-use Rattle.partner_core.specs.Deliveries.{delivery, run}
-use Rattle.partner_core.specs.Standings.{is_same_text, standing_of}
-use Rattle.partner_core.specs.declared.runs.Standing.TheVariants.{Known, Other, Early, Next}
-use Rattle.terminal_core.specs.State.{TerminalState, last_number}
-use Rattle.terminal_core.specs.Versions.{newest}
-use Rattle.office_replies.specs.Contents.{content_of}
-use Rattle.office_replies.specs.Delivering.{Delivers}
-use Rattle.office_replies.specs.Events.{Event, delivered}
-use Rattle.office_replies.specs.declared.deliver.Fault.{Fault}
+use Rattle.edi_syntax.specs.{Interchange.{interchange_of, segments_in}, Envelope.header_of}
+use Rattle.partner_core.specs.{Answers.{AnswerModel, Waiting, answer_by}, Deliveries.{delivery, run}, Standings.{is_same_text, standing_of}}
+use Rattle.partner_core.{specs.declared.runs.Standing.TheVariants.{Known, Other, Early, Next}, proofs.Orders.some_of}
+use Rattle.terminal_core.specs.{State.{TerminalState, last_number}, Versions.newest, declared.change.Source.Source}
+use Rattle.office_replies.specs.{Contents.content_of, Delivering.Delivers, Events.{Event, delivered}, declared.deliver.Fault.Fault}
 use Rattle.office_replies.specs.declared.deliver.Response.{Response}
 use Rattle.sqlite_rules.proofs.ListLemmas.{contains_had, has_contained, has_filtered}
-use Rattle.office_rows.specs.Rows.{Interchange, Rows}
-use Rattle.office_rows.specs.Effects.{is_pair, with_waiting}
-use Rattle.office_rows.specs.Stored.{StoresRows}
+use Rattle.office_rows.specs.{Rows.{Interchange, Rows}, Effects.{is_pair, with_waiting}, Stored.StoresRows}
 use Rattle.office_loading.specs.Closed.{ClosedContent, closed_content}
-use Rattle.office_admission.specs.Given.{IsGiven}
-use Rattle.office_admission.specs.Parties.{Parties, parties_of}
-use Rattle.office_admission.specs.Setups.{SetupContent, parties_in, setup_content}
-use Rattle.office_admission.specs.Admission.{admission}
-use Rattle.office_admission.specs.Refusals.{refusal_of, MayBeNotNow}
+use Rattle.office_admission.specs.{Given.IsGiven, Parties.{Parties, parties_of}, Setups.{SetupContent, parties_in, setup_content}, Admission.admission}
+use Rattle.office_admission.{specs.{Refusals.{refusal_of, MayBeNotNow}, Taking.MachineState}, proofs.Forming.runs_alone}
 use Rattle.office_tables.specs.Answers.{IsNextOf, has_id}
-use Rattle.office_admission.specs.Taking.{MachineState}
-use Rattle.office_admission.proofs.Forming.{runs_alone}
 use Rattle.office_history.specs.After.{content_after, deliveries_of, machine_after, machine_with, opening_of, reply_if_any, reply_in, taking_in}
-use Rattle.office_history.specs.Cascade.{text_in, texts_with, with_run, AreTakenFrom}
-use Rattle.office_history.specs.Laws.{IsFor, AnswersBy, answer_model_of}
-use Rattle.office_history.proofs.Lawful.{early_adds, now_same, refused_adds, used_adds}
-use Rattle.office_history.proofs.Places.{alone_in}
-use Rattle.office_history.proofs.Accounted.{answers, next_follows, within}
-use Rattle.office_parts.specs.Archives.{Archive, archive_of, Hold}
-use Rattle.office_parts.specs.OwnTerminal.{own_machine, own_terminal, own_visits}
-use Rattle.office_parts.specs.Parts.{Archived, rows_of_archives, AreClosed, ArePartsAfter}
-use Rattle.office_parts.proofs.Takings.{early_parts, visits_same}
-use Rattle.office_parts.proofs.LeftOver.{told_alike}
-use Rattle.office_parts.proofs.Orders.{numbers_told}
-use Rattle.office_parts.specs.Away.{AreAway, lists_after}
-use Rattle.office_parts.specs.Naming.{AreHere}
-use Rattle.office_parts.specs.OwnLists.{ListName, machine_without, rows_without_lists, without_lists}
-use Rattle.office_parts.proofs.AwayLemmas.{with_early, with_next, without_row, next_names}
+use Rattle.office_history.{specs.{Cascade.{text_in, texts_with, with_run, AreTakenFrom}, Laws.{IsFor, AnswersBy, answer_model_of}}, proofs.Places.alone_in}
+use Rattle.office_history.proofs.{Lawful.{early_adds, now_same, refused_adds, used_adds}, Accounted.{answers, next_follows, within}, Loads.one_terminal}
+use Rattle.office_parts.specs.{Archives.{Archive, archive_of, Hold}, OwnTerminal.{own_machine, own_terminal, own_visits}, Away.{AreAway, lists_after}}
+use Rattle.office_parts.{specs.{Parts.{Archived, rows_of_archives, AreClosed, ArePartsAfter}, Naming.AreHere, LeftOver.rows_beyond}, proofs.LeftOver.told_alike}
+use Rattle.office_parts.{specs.OwnLists.{ListName, machine_without, rows_without_lists, without_lists}, proofs.Takings.{early_parts, visits_same}}
+use Rattle.office_parts.proofs.{Orders.numbers_told, AwayLemmas.{with_early, with_next, without_row, next_names}}
 use Rattle.office_parts.proofs.Writings.{next_adds, runs_written, own_office_without}
-use Rattle.office_desk.specs.Answers.{AnswersNext, answer_at, answer_by_model, answer_to, code_of}
-use Rattle.office_desk.specs.Calls.{Leads}
-use Rattle.office_desk.specs.Desks.{IsSound}
-use Rattle.office_desk.specs.Kept.{AnswersAt, AnswersOver, Office, TakesIn}
-use Rattle.office_desk.specs.Leaving.{IsTakenInto, LeavesOver}
-use Rattle.office_desk.specs.Offices.{DeskHolds}
-use Rattle.office_desk.specs.declared.desk.Desk.{Desk}
+use Rattle.office_desk.specs.{Answers.{AnswersNext, answer_at, answer_by_model, answer_to, code_of}, Calls.Leads, Desks.IsSound, Offices.DeskHolds}
+use Rattle.office_desk.specs.{Kept.{AnswersAt, AnswersOver, Office, TakesIn}, Leaving.{IsTakenInto, LeavesOver}, declared.desk.Desk.Desk}
+use Rattle.office_desk.specs.Reports.{partner_called, ticket_if_taken, ticket_of}
 use Rattle.office_desk.proofs.HoldLemmas.{either_of}
 use Rattle.office_desk.proofs.DeliverLemmas.{parties_same, own_once, shown_by_own}
 use Rattle.office_archives.specs.Standing.{IsOwnWithRest, KnowsClosed, StandsBeside, IsBeyond, NamesNoneAway, DeliveriesBeyondAreAnswered}
-use Rattle.office_archives.specs.Together.{IsBesideAfter, LeavesBeside, LeavesDelivered}
-use Rattle.office_archives.proofs.Filled.{run_is_own, taken_alike, texts_own, waiting_is_own, of_whole}
-use Rattle.partner_core.proofs.Orders.{some_of}
-use Rattle.terminal_core.specs.declared.change.Source.{Source}
-use Rattle.office_reports.specs.declared.query.About.{About}
-use Rattle.office_reports.specs.declared.query.Query.{Query}
-use Rattle.office_reports.specs.declared.query.View.{View}
+use Rattle.office_archives.specs.{Together.{IsBesideAfter, LeavesBeside, LeavesDelivered}, Closed.{closed_contrl, closed_reply, closed_ticket}}
+use Rattle.office_archives.{specs.{Copies.{AreCopies, IsCopy}, Keeping.{IsClosedIn, IsTicketIn, IsTicketOf}}, proofs.StayedTold.found_in_turn}
+use Rattle.office_archives.specs.Telling.{ClosedTells, IsOfNumber, TellsClosed, TellsTogether, TogetherTells}
+use Rattle.office_archives.proofs.{Filled.{run_is_own, taken_alike, texts_own, waiting_is_own, of_whole}, ClosedTold.{closed_replies, closed_tickets}}
+use Rattle.office_reports.specs.{declared.query.About.About, declared.query.Query.Query, declared.query.View.View, Tickets.ticket_of as told_ticket}
 use Rattle.office_report_data.specs.Told.{shown}
 use Rattle.office_report_data.specs.Told as value
-use Rattle.office_reports.specs.Tickets.{ticket_of as told_ticket}
-use Rattle.office_history.proofs.Loads.{one_terminal}
-use Rattle.office_parts.specs.LeftOver.{rows_beyond}
-use Rattle.office_desk.specs.Reports.{partner_called, ticket_if_taken, ticket_of}
-use Rattle.office_desk.proofs.Values.{text_shown}
-use Rattle.office_archives.specs.Closed.{closed_contrl, closed_reply, closed_ticket}
-use Rattle.office_archives.specs.Copies.{AreCopies, IsCopy}
-use Rattle.office_archives.proofs.StayedTold.{found_in_turn}
-use Rattle.office_archives.proofs.ClosedTold.{closed_replies, closed_tickets}
-use Rattle.office_archives.specs.Keeping.{IsClosedIn, IsTicketIn, IsTicketOf}
-use Rattle.office_archives.specs.Telling.{ClosedTells, IsOfNumber, TellsClosed, TellsTogether, TogetherTells}
 use Rattle.office_replies.specs.declared.deliver.Response.TheVariants as response
 use Rattle.office_reports.specs.declared.query.About.TheVariants as about
-
--- ==== Standing: A delivery under a number that is not closed, to a desk over a store's own rows.
 
 -- ---- the machine
 

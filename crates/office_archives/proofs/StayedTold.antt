@@ -1,51 +1,32 @@
 -- Reports of containers, by the store's own rows and by the whole.
+use Rattle.std.specs.Prelude.{Contains, filter, not, string_bytes, find, reverse}
+use Rattle.std.specs.Option.{option_map, option_or}
+use Rattle.std.{specs.Cmp.Lexicographic.bytes_decides, proofs.{lemmas.Bool.{leb-true, le-leb, cases_lt}, lemmas.Option.same_Some}}
 use Rattle.std.proofs.Common.{◌≡◌, ℕ, ◌<◌, ◌≤◌, inl, inr, List, [], ◌∷◌, nat_le, Bool, true, false, cond, Option, Some, refl, sym, ap, subst, ◌∙◌, arith, ◌++◌, None, append_assoc, ◌&&◌, ◌||◌, is_some}
-use Rattle.std.proofs.lemmas.Bool.{leb-true, le-leb, cases_lt}
-use Rattle.std.proofs.lemmas.Option.{same_Some}
-use Rattle.terminal_core.specs.declared.change.Source.{Source}
+use Rattle.std.proofs.{lemmas.List.{append-nil, reverse-append}, lemmas.List.Folds.find-append}
+use Rattle.terminal_core.specs.{declared.change.Source.Source, declared.visits.Departure.Departure, Rows.VisitContent}
+use Rattle.terminal_core.specs.State.{TerminalState, is_visit_of, last_visit, open_visit}
 use Rattle.office_replies.specs.Events.{Event}
 use Rattle.office_rows.specs.Rows.{Rows}
-use Rattle.office_admission.specs.Setups.{SetupContent}
-use Rattle.office_history.specs.After.{AreAfter, content_after, machine_after, reply_in}
-use Rattle.office_parts.specs.Archives.{Archive, archive_of}
-use Rattle.office_parts.specs.Parts.{Archived, ArePartsAfter}
-use Rattle.office_parts.proofs.Splits.{contained_has, had_both, had_filtered, has_contained, open_kept}
-use Rattle.office_archives.specs.Copies.{GoByNumbers, IsCopy, AreInTurn}
-use Rattle.office_archives.specs.Laws.{ArchivesTellVisits, ClosingsGoByNumbers, CopiesOfNowAreCopies, CopiesStay, ClosingsAddCopies, NumbersBeyondAreToldAlike, ContainersAreTold, VisitsAreTold}
-use Rattle.office_archives.specs.Visits.{visits_by, IsWithin, HasLeftWithin, IsVisitWithin}
-use Rattle.office_archives.proofs.Sources.{same_stayed, other_visit, tickets_alike}
-use Rattle.office_archives.proofs.Later.{later_leave_visits, migration_on, visits_of_taken}
-use Rattle.std.specs.Prelude.{Contains, filter, not, string_bytes, find, reverse}
-use Rattle.std.proofs.lemmas.List.{append-nil, reverse-append}
-use Rattle.partner_core.specs.Deliveries.{run}
-use Rattle.terminal_core.specs.declared.visits.Departure.{Departure}
-use Rattle.terminal_core.specs.Rows.{VisitContent}
-use Rattle.office_admission.specs.Deliveries.{deliveries_of}
-use Rattle.office_history.specs.Laws.{HasNoMigration}
-use Rattle.office_parts.specs.Closing.{is_put_away, archived_with}
-use Rattle.office_parts.specs.OwnTerminal.{is_own, own_terminal, own_visits, MayStay}
-use Rattle.std.specs.Option.{option_and_then, option_map, option_or}
-use Rattle.office_tables.specs.Answers.{IsNextOf}
-use Rattle.office_reports.specs.declared.query.About.{About}
-use Rattle.office_report_data.specs.Told.{ReportContent, shown}
-use Rattle.office_report_data.specs.Told as value
-use Rattle.office_reports.specs.OpenLines.{open_lines}
-use Rattle.office_reports.specs.Visits.{visits_by as reported_by}
-use Rattle.office_history.specs.Cascade.{text_in}
-use Rattle.office_parts.proofs.Takings.{visits_same}
-use Rattle.office_parts.proofs.Orders.{body_there, found_beyond, reply_there}
-use Rattle.office_desk.specs.Reports.{AreShownAlike, container_by, container_told as told_container, contrl_for_partner, contrl_told, partner_called, ticket_if_taken, ticket_of, TellsAbout, TellsReply, TellsReplyOf}
-use Rattle.office_archives.specs.Beyond.{IsBeyond, IsOfNumberBeyond}
-use Rattle.std.specs.Cmp.Lexicographic.{bytes_decides}
-use Rattle.std.proofs.lemmas.List.Folds.{find-append}
-use Rattle.box6346.specs.declared.box_number.BoxNumber.{BoxNumber}
-use Rattle.box6346.specs.declared.slot.Slot.{Slot}
-use Rattle.partner_core.proofs.Orders.{option_or-none}
-use Rattle.terminal_core.specs.State.{TerminalState, is_visit_of, last_visit, open_visit}
-use Rattle.office_reports.specs.Yard.{slot_in}
-use Rattle.office_reports.specs.Containers.{ContainerContent, container_of, found_by, gone_by}
+use Rattle.office_admission.specs.{Setups.SetupContent, Deliveries.deliveries_of}
+use Rattle.office_history.specs.{After.{AreAfter, content_after, machine_after, reply_in}, Laws.HasNoMigration, Cascade.text_in}
 use Rattle.office_history.proofs.Kept.{head_in, tail_in}
+use Rattle.office_parts.specs.{Archives.{Archive, archive_of}, Parts.{Archived, ArePartsAfter}, Closing.{is_put_away, archived_with}}
+use Rattle.office_parts.{specs.OwnTerminal.{is_own, own_terminal, own_visits, MayStay}, proofs.Takings.visits_same}
+use Rattle.office_parts.proofs.{Splits.{contained_has, had_both, had_filtered, has_contained, open_kept}, Orders.{body_there, found_beyond, reply_there}}
+use Rattle.office_archives.specs.{Copies.{GoByNumbers, IsCopy, AreInTurn}, Visits.{visits_by, IsWithin, HasLeftWithin, IsVisitWithin}}
+use Rattle.office_archives.specs.Laws.{ArchivesTellVisits, ClosingsGoByNumbers, CopiesOfNowAreCopies, CopiesStay, ClosingsAddCopies, NumbersBeyondAreToldAlike, ContainersAreTold, VisitsAreTold}
+use Rattle.office_archives.{specs.Beyond.{IsBeyond, IsOfNumberBeyond}, proofs.Sources.{same_stayed, other_visit, tickets_alike}}
 use Rattle.office_archives.specs.Stayed.{visits_of, report_with, GoOldestFirst, stays_if_any, stands_in, container_if_there, container_with}
+use Rattle.office_archives.proofs.Later.{later_leave_visits, migration_on, visits_of_taken}
+use Rattle.partner_core.{specs.Deliveries.run, proofs.Orders.option_or-none}
+use Rattle.office_tables.specs.Answers.{IsNextOf}
+use Rattle.office_reports.specs.{declared.query.About.About, OpenLines.open_lines, Visits.visits_by as reported_by, Yard.slot_in}
+use Rattle.office_reports.specs.Containers.{ContainerContent, container_of, found_by, gone_by}
+use Rattle.office_report_data.specs.Told.{ReportContent, shown}
+use Rattle.office_desk.specs.Reports.{AreShownAlike, container_by, container_told as told_container, contrl_for_partner, contrl_told, partner_called, ticket_if_taken, ticket_of, TellsAbout, TellsReply, TellsReplyOf}
+use Rattle.box6346.specs.{declared.box_number.BoxNumber.BoxNumber, declared.slot.Slot.Slot}
+use Rattle.office_report_data.specs.Told as value
 use Rattle.office_reports.specs.declared.query.About.TheVariants as about
 
 -- ==== Archived: What archives tell of numbers that are closed.

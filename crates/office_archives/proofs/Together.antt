@@ -1,69 +1,37 @@
 -- What a delivery does to a desk and the archives beside it.
-use Rattle.std.proofs.Common.{◌≡◌, ℕ, ◌≤◌, inl, List, [], ◌∷◌, ◌++◌, true, false, Result, Ok, Err, sym, refl, ap, subst, ◌∙◌, arith, zero, suc, ◌+◌, ◌-◌, ◌<◌, length, map, Bool, cond, Some}
-use Rattle.std.specs.Prelude.{nat_le, None, IsTrue, slice_get}
+use Rattle.std.specs.Prelude.{nat_le, None, IsTrue}
+use Rattle.std.proofs.Common.{◌≡◌, ℕ, ◌≤◌, inl, List, [], ◌∷◌, ◌++◌, true, false, Result, Ok, Err, sym, refl, ap, subst, ◌∙◌, arith, ◌+◌, ◌-◌, ◌<◌}
 use Rattle.std.proofs.lemmas.Bool.{leb-true, leb-false}
-use Rattle.sqlite.specs.Held.{Held, state}
-use Rattle.sqlite.specs.State.{HasCleanDisk}
-use Rattle.sqlite.specs.Tree.{Trees}
+use Rattle.sqlite.specs.{Held.{Held, state}, State.HasCleanDisk, Tree.Trees, Effect.Database}
 use Rattle.sqlite_trees.specs.declared.store.Store.{Ghosts}
 use Rattle.edi_syntax.specs.Interchange.{interchange_of}
 use Rattle.partner_core.proofs.Orders.{some_of, used_within_run}
-use Rattle.office_replies.specs.Contents.{content_of}
-use Rattle.office_replies.specs.Delivering.{Delivers, with_answered}
-use Rattle.office_replies.specs.Events.{Event, delivered}
-use Rattle.office_replies.specs.declared.deliver.Fault.{Fault}
+use Rattle.office_replies.specs.{Contents.content_of, Delivering.{Delivers, with_answered}, Events.{Event, delivered}, declared.deliver.Fault.Fault}
 use Rattle.office_replies.specs.declared.deliver.Response.{Response}
 use Rattle.office_loading.specs.Closed.{closed_content, last_closed}
-use Rattle.office_rows.specs.Rows.{Rows}
-use Rattle.office_rows.specs.Stored.{StoresRows}
-use Rattle.office_rows.proofs.Creating.{stores}
-use Rattle.office_admission.specs.Parties.{parties_of, Parties, partner_from}
-use Rattle.office_tables.specs.declared.table_fault.TableFault.{TableFault}
+use Rattle.office_rows.{specs.{Rows.Rows, Stored.StoresRows}, proofs.Creating.stores}
+use Rattle.office_admission.specs.Parties.{parties_of}
 use Rattle.office_admission.specs.Setups.{SetupContent, parties_in, setup_content}
 use Rattle.office_admission.specs.Admission.{admission}
 use Rattle.office_admission.specs.Refusals.{RefusedSurely}
-use Rattle.terminal_core.specs.Versions.{newest}
-use Rattle.office_parts.specs.Away.{AreAway, lists_after}
-use Rattle.office_parts.specs.Naming.{AreHere, interchange_lists}
-use Rattle.office_parts.specs.OwnLists.{ListName, rows_without_lists, without_lists}
-use Rattle.office_parts.proofs.AwayLemmas.{without_row}
 use Rattle.office_admission.specs.Taking.{MachineState, machine_of}
-use Rattle.office_history.specs.After.{content_after, deliveries_of, machine_after, machine_with}
-use Rattle.office_history.specs.Laws.{AddsNoRow, IsFor, answer_model_of}
-use Rattle.office_history.proofs.Lawful.{now_same, used_adds}
-use Rattle.office_history.proofs.Accounted.{within}
-use Rattle.office_desk.specs.Answers.{AnswersNext, answer_at, answer_by_model, answer_to, code_of}
-use Rattle.office_desk.specs.Calls.{Leads, OnlyLooks}
-use Rattle.office_desk.specs.Desks.{IsSound}
+use Rattle.office_tables.specs.declared.table_fault.TableFault.{TableFault}
+use Rattle.terminal_core.specs.{Versions.newest, State.TerminalState}
+use Rattle.office_parts.specs.{Away.{AreAway, lists_after}, Naming.{AreHere, interchange_lists}, OwnLists.{ListName, rows_without_lists, without_lists}}
+use Rattle.office_parts.{specs.{Archives.{Archive, archive_of}, OwnTerminal.own_terminal, Parts.ArePartsAfter}, proofs.AwayLemmas.without_row}
+use Rattle.office_parts.proofs.Orders.{archives_answered, closed_within}
+use Rattle.office_history.specs.{After.{content_after, deliveries_of, machine_after, machine_with}, Laws.{AddsNoRow, IsFor, answer_model_of}}
+use Rattle.office_history.proofs.{Lawful.{now_same, used_adds}, Accounted.within}
+use Rattle.office_desk.specs.{Answers.{AnswersNext, answer_at, answer_by_model, answer_to, code_of}, Calls.{Leads, OnlyLooks}, Desks.IsSound}
 use Rattle.office_desk.specs.Noting.{HasFault, IsNow, NotesFault}
 use Rattle.office_desk.specs.Offices.{DeskHolds, HoldsOffice}
 use Rattle.office_desk.specs.declared.desk.Desk.{Desk}
-use Rattle.office_desk.proofs.DeliverLemmas.{not_now_surely, notes_none, parties_same}
-use Rattle.office_desk.proofs.HoldLemmas.{machine_same}
-use Rattle.office_parts.specs.Archives.{Archive, archive_of}
-use Rattle.office_parts.specs.OwnTerminal.{own_terminal}
-use Rattle.office_parts.specs.Parts.{ArePartsAfter}
-use Rattle.office_parts.proofs.Orders.{archives_answered, closed_within}
-use Rattle.office_archives.specs.Answering.{AnswersClosed}
-use Rattle.office_archives.specs.Bringing.{BringsTogether, StandsWith, named_by}
+use Rattle.office_desk.proofs.{DeliverLemmas.{not_now_surely, notes_none, parties_same}, HoldLemmas.machine_same}
+use Rattle.office_archives.specs.{Answering.AnswersClosed, Bringing.{BringsTogether, StandsWith, named_by}}
 use Rattle.office_archives.specs.Standing.{IsBeyond, KnowsClosed, NamesNoneAway, StandsBeside}
 use Rattle.office_archives.specs.Together.{IsBesideAfter, LeadsTogether, LeavesDelivered, StandTogether, OnlyLooksTogether}
 use Rattle.office_archives.proofs.Standing.{answered_left, beyond_answered, beyond_left, machine_is}
-use Rattle.std.specs.Cmp.Lexicographic.{bytes_decides}
-use Rattle.std.specs.Option.{unwrap_or}
-use Rattle.std.specs.Str.{bytes_eq}
-use Rattle.std.proofs.lemmas.List.{length-map}
-use Rattle.std.proofs.lemmas.Option.{same_Some}
-use Rattle.sqlite.specs.Effect.{Database}
-use Rattle.edi_messages.specs.declared.codes.PartnerKind.{PartnerKind}
-use Rattle.terminal_core.specs.State.{TerminalState}
-use Rattle.partner_core.proofs.Keepings.{with_number-below}
-use Rattle.office_admission.specs.Given.{IsGiven, AreDistinct}
-use Rattle.office_admission.specs.declared.setup.Setup.{Setup}
-use Rattle.office_desk.specs.Reports.{partner_called}
 use Rattle.office_replies.specs.declared.deliver.Response.TheVariants as response
-
--- ==== Together: What a delivery does to a desk and the archives beside it.
 
 module _ {S : Type 0} (g : Ghosts S) where
   -- no archive is asked for a number that is not closed

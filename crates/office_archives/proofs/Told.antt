@@ -1,63 +1,36 @@
 -- What a store's rows and its archives tell, and what the rows after the events tell.
+use Rattle.std.specs.{Prelude.{◌==◌, nat_lt, not, filter, Contains, string_bytes, ◌&&◌, nat_le, max, if◌then◌else◌, find, slice_get}, List.Sorted.IsPermutation}
+use Rattle.std.{specs.{Option.{option_and_then, option_map, option_or}, List.{AllByRecursion, list_all}}, proofs.lemmas.List.Folds.find-append}
 use Rattle.std.proofs.Common.{◌≡◌, ℕ, ◌+◌, ◌<◌, List, [], ◌∷◌, length, map, Bool, true, false, cond, Option, None, Some, refl, sym, ap, subst, ◌∙◌, arith, zero, suc, ◌-◌, ◌≤◌, ◌++◌, inl, inr, ◌⊎◌}
-use Rattle.std.specs.Prelude.{◌==◌, nat_lt, not, filter, Contains, string_bytes, ◌&&◌, nat_le, max, if◌then◌else◌, find, slice_get}
-use Rattle.std.specs.Option.{option_and_then, option_map, option_or}
-use Rattle.std.specs.List.Sorted.{IsPermutation}
 use Rattle.std.proofs.lemmas.Bool.{and_parts, eqb-true, leb-true, ltb-true, le-leb, leb-false}
-use Rattle.edi_messages.specs.declared.codes.PartnerKind.{PartnerKind}
+use Rattle.edi_messages.specs.{declared.codes.PartnerKind.PartnerKind, Purposes.CallContent}
 use Rattle.partner_core.specs.Deliveries.{run}
 use Rattle.sqlite_rules.proofs.ListLemmas.{contains_had, has_contained, has_filtered}
-use Rattle.edi_messages.specs.Purposes.{CallContent}
-use Rattle.terminal_core.specs.State.{TerminalState}
-use Rattle.terminal_core.specs.declared.lines.Side.{Side}
-use Rattle.office_admission.specs.Deliveries.{deliveries_of}
+use Rattle.terminal_core.specs.{State.TerminalState, declared.lines.Side.Side}
+use Rattle.office_admission.specs.{Deliveries.deliveries_of, Setups.SetupContent, Limits.most_partners}
 use Rattle.office_replies.specs.Events.{Event}
 use Rattle.office_rows.specs.Rows.{Interchange, Rows, ListingContent}
-use Rattle.office_admission.specs.Setups.{SetupContent}
 use Rattle.office_tables.specs.Answers.{has_id, IsNextOf}
 use Rattle.office_loading.specs.Waiting.{is_waiting, waiting_numbers}
-use Rattle.office_reports.specs.declared.query.About.{About}
-use Rattle.office_reports.specs.declared.query.Query.{Query}
-use Rattle.office_reports.specs.declared.query.View.{View}
+use Rattle.office_reports.specs.{declared.query.About.About, declared.query.Query.Query, declared.query.View.View, Partners.PartnerContent}
 use Rattle.office_report_data.specs.Told.{ReportContent, shown}
-use Rattle.office_report_data.specs.Told as value
-use Rattle.office_reports.specs.Partners.{PartnerContent}
-use Rattle.office_history.specs.After.{content_after, machine_after, reply_in}
-use Rattle.office_history.specs.Cascade.{text_in}
-use Rattle.office_history.proofs.Accounted.{next_follows}
-use Rattle.office_parts.specs.Archives.{Archive, Hold, archive_of}
-use Rattle.office_parts.specs.Closing.{is_beyond, is_closed}
-use Rattle.office_parts.specs.OwnTerminal.{own_terminal}
-use Rattle.office_parts.specs.Parts.{Archived, ArePartsAfter}
-use Rattle.office_parts.proofs.LeftOver.{told_alike as beyond_alike}
+use Rattle.office_history.{specs.{After.{content_after, machine_after, reply_in}, Cascade.text_in}, proofs.Accounted.next_follows}
+use Rattle.office_parts.specs.{Archives.{Archive, Hold, archive_of}, Closing.{is_beyond, is_closed}, OwnTerminal.own_terminal, Parts.{Archived, ArePartsAfter}}
+use Rattle.office_parts.{specs.{Away.lines_away, OwnLists.{ListName, list_name}}, proofs.{LeftOver.told_alike as beyond_alike, AwayLemmas.away_with}}
 use Rattle.office_parts.proofs.Orders.{body_there, closed_within, found_beyond, reply_there}
 use Rattle.office_desk.specs.Reports.{AreLookedUp, IsLookedUp, Shows, TellsAbout, TellsAfter, TellsNext, TellsOf, TellsPartner, TellsReply, TellsReplyOf, contrl_for_partner, contrl_told, partner_called, ticket_if_taken, ticket_of}
-use Rattle.office_archives.specs.Beyond.{IsBeyond}
 use Rattle.office_desk.proofs.Values.{text_shown}
-use Rattle.office_archives.specs.Counted.{IsOfPartners, TellsOwnMetrics}
-use Rattle.office_archives.proofs.StayedTold.{beyond_told, containers_told, visits_told}
-use Rattle.office_archives.proofs.Moves.{all_looked_up as whole_looked_up, metrics_told, partners_told}
-use Rattle.office_archives.specs.Reporting.{IsOfWhatStands}
-use Rattle.office_archives.specs.Standing.{IsOwnWithRest}
+use Rattle.office_archives.specs.{Beyond.IsBeyond, Counted.{IsOfPartners, TellsOwnMetrics}, Reporting.IsOfWhatStands, Standing.IsOwnWithRest}
 use Rattle.office_archives.specs.Telling.{IsOfContainer, IsOfList, IsOfNeither, IsOfNumber, TellsTogether, TogetherTells, shown_beside}
-use Rattle.office_archives.proofs.Rising.{told_alike, put_told, rises, up_to_most}
-use Rattle.std.specs.List.{AllByRecursion, list_all}
-use Rattle.std.proofs.lemmas.List.Folds.{find-append}
+use Rattle.office_archives.specs.Shelves.{HasLists, IsKeptAs, IsOfCall, NamesAll, NamesOneMore, archive_at}
+use Rattle.office_archives.proofs.{StayedTold.{beyond_told, containers_told, visits_told}, Rising.{told_alike, put_told, rises, up_to_most}}
+use Rattle.office_archives.proofs.Moves.{all_looked_up as whole_looked_up, metrics_told, partners_told}
 use Rattle.edi_syntax.specs.Numbers.{last_number}
-use Rattle.office_admission.specs.Limits.{most_partners}
-use Rattle.office_parts.specs.Away.{lines_away}
-use Rattle.office_parts.specs.OwnLists.{ListName, list_name}
-use Rattle.office_parts.proofs.AwayLemmas.{away_with}
-use Rattle.office_closing.specs.Changes.{closed_with}
-use Rattle.office_closing.specs.Lists.{SettledListContent, lines_of_list, put_lists}
+use Rattle.office_closing.specs.{Changes.closed_with, Lists.{SettledListContent, lines_of_list, put_lists}, declared.register.Segment.Segment}
 use Rattle.office_closing.specs.Register.{ArchiveContent, RegisterContent, is_of, last_closed, reaches}
 use Rattle.office_closing.specs.Sound.{are_in_order, are_rising, are_sound_archives, are_sound_segments, are_sound_taken, close_more, is_sound, is_sound_mark, is_within, may_be_list}
-use Rattle.office_closing.specs.declared.register.Segment.{Segment}
-use Rattle.office_archives.specs.Shelves.{HasLists, IsKeptAs, IsOfCall, NamesAll, NamesOneMore, archive_at}
 use Rattle.office_reports.specs.declared.query.About.TheVariants as about
 use Rattle.office_parts.specs.Archives as parts
-
--- ==== Told: What a store's rows and its archives tell, and what the rows after the events tell.
 
 -- ---- closed interchanges wait for nothing
 

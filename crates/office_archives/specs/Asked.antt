@@ -3,10 +3,9 @@ use Rattle.std.specs.Prelude.{◌≡◌, ℕ, ◌<◌, ◌≤◌, Option, None, 
 use Rattle.office_rows.specs.Rows.{Rows}
 use Rattle.office_admission.specs.Setups.{SetupContent}
 use Rattle.office_reports.specs.declared.query.About.{About}
-use Rattle.office_reports.specs.declared.query.About.TheVariants as about
-use Rattle.office_history.specs.After.{reply_in}
-use Rattle.office_history.specs.Cascade.{text_in}
+use Rattle.office_history.specs.{After.reply_in, Cascade.text_in}
 use Rattle.office_desk.specs.Reports.{partner_called}
+use Rattle.office_reports.specs.declared.query.About.TheVariants as about
 
 -- the rows keep under the partner's number the text and the reply that the earlier ones kept
 pub record KeepsNumber (before after : Rows) (partner number : ℕ) : Type 0 where

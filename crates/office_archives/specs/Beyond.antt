@@ -2,8 +2,8 @@
 use Rattle.std.specs.Prelude.{ℕ, ◌<◌, Option, None, Some, string_bytes}
 use Rattle.office_admission.specs.Setups.{SetupContent}
 use Rattle.office_reports.specs.declared.query.About.{About}
-use Rattle.office_reports.specs.declared.query.About.TheVariants as about
 use Rattle.office_desk.specs.Reports.{partner_called}
+use Rattle.office_reports.specs.declared.query.About.TheVariants as about
 
 -- the partner's number is beyond what is closed of it; of nobody nothing is closed
 abbrev pub IsBeyond : (last_closed : ℕ → ℕ) → Option ℕ → (number : ℕ) → Type 0

@@ -1,21 +1,15 @@
 -- Lists that are away are brought back into the store before a text names them.
 use Rattle.std.specs.Prelude.{◌≡◌, ℕ, false, List, [], IsTrue, OnOk, Result, Ok, Err}
-use Rattle.sqlite.specs.Held.{state}
-use Rattle.sqlite.specs.State.{HasCleanDisk}
+use Rattle.sqlite.specs.{Held.state, State.HasCleanDisk}
 use Rattle.sqlite_trees.specs.declared.store.Store.{Ghosts}
 use Rattle.terminal_core.specs.Versions.{newest}
 use Rattle.office_loading.specs.Closed.{closed_content}
-use Rattle.office_desk.specs.Desks.{IsSound}
-use Rattle.office_desk.specs.declared.desk.Desk.{Desk}
-use Rattle.office_parts.specs.Naming.{AreHere, interchange_lists}
-use Rattle.office_parts.specs.OwnLists.{ListName}
-use Rattle.office_parts.specs.Archives.{Archive}
+use Rattle.office_desk.specs.{Desks.IsSound, declared.desk.Desk.Desk}
+use Rattle.office_parts.specs.{Naming.{AreHere, interchange_lists}, OwnLists.ListName, Archives.Archive}
 use Rattle.office_replies.specs.Events.{Event}
-use Rattle.office_admission.specs.Parties.{partner_kinds}
-use Rattle.office_admission.specs.Setups.{SetupContent}
+use Rattle.office_admission.specs.{Parties.partner_kinds, Setups.SetupContent}
 use Rattle.office_tables.specs.declared.table_fault.TableFault.{TableFault}
-use Rattle.office_archives.specs.Standing.{StandsBeside}
-use Rattle.office_archives.specs.Together.{LeavesBeside}
+use Rattle.office_archives.specs.{Standing.StandsBeside, Together.LeavesBeside}
 
 -- the lists that the text names as that of the partner, by the desk's set-up
 abbrev pub named_by : {S : Type 0} {g : Ghosts S} → Desk S g → (partner : ℕ) → (text : List ℕ) → List ListName

@@ -5,15 +5,10 @@ use Rattle.terminal_core.specs.State.{TerminalState}
 use Rattle.office_admission.specs.Setups.{setup_content}
 use Rattle.office_loading.specs.Closed.{last_closed}
 use Rattle.office_rows.specs.Rows.{Rows}
-use Rattle.office_tables.specs.Faults.{IsOfStoreOr}
-use Rattle.office_tables.specs.declared.table_fault.TableFault.{TableFault}
-use Rattle.office_reports.specs.Looking.{Look, of_archive, report, texts_after}
-use Rattle.office_reports.specs.declared.query.About.{About}
+use Rattle.office_tables.specs.{Faults.IsOfStoreOr, declared.table_fault.TableFault.TableFault}
+use Rattle.office_reports.specs.{Looking.{Look, of_archive, report, texts_after}, declared.query.About.About}
+use Rattle.office_desk.specs.{Causes.AsksUnfitReply, Offices.DeskHolds, Reports.partner_called, declared.desk.Desk.Desk}
 use Rattle.office_reports.specs.declared.query.About.TheVariants as about
-use Rattle.office_desk.specs.Causes.{AsksUnfitReply}
-use Rattle.office_desk.specs.Offices.{DeskHolds}
-use Rattle.office_desk.specs.Reports.{partner_called}
-use Rattle.office_desk.specs.declared.desk.Desk.{Desk}
 
 -- over an office's rows the store failed, or memory was refused, or the reply that is asked for is no text
 abbrev pub IsDeserved : {S : Type 0} (g : Ghosts S) → Desk S g → About → TableFault → Type 0

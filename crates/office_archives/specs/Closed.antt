@@ -1,10 +1,9 @@
 -- What archives tell of a number that is closed: its reply, its CONTRL and its ticket.
-use Rattle.std.specs.Prelude.{ℕ, List, Option, Some}
-use Rattle.std.specs.Option.{option_map, option_and_then}
+use Rattle.std.specs.{Prelude.{ℕ, List, Option, Some}, Option.{option_map, option_and_then}}
 use Rattle.office_report_data.specs.Told.{ReportContent}
-use Rattle.office_report_data.specs.Told as value
 use Rattle.office_parts.specs.Archives.{Archive, archive_of, reply_by}
 use Rattle.office_desk.specs.Reports.{contrl_told, ticket_of}
+use Rattle.office_report_data.specs.Told as value
 
 -- the reply that the number's archive keeps
 abbrev pub closed_reply : List Archive → (code : List ℕ) → (partner number : ℕ) → Option ReportContent

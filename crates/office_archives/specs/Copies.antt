@@ -2,15 +2,11 @@
 use Rattle.std.specs.Prelude.{◌≡◌, ℕ, ◌≤◌, Bool, List, [], ◌∷◌, ◌++◌, Contains, filter}
 use Rattle.partner_core.specs.Deliveries.{run}
 use Rattle.terminal_core.specs.Rows.{VisitContent}
-use Rattle.office_admission.specs.Deliveries.{deliveries_of}
+use Rattle.office_admission.specs.{Deliveries.deliveries_of, Setups.SetupContent}
 use Rattle.office_replies.specs.Events.{Event}
 use Rattle.office_rows.specs.Rows.{Interchange, Rows}
-use Rattle.office_admission.specs.Setups.{SetupContent}
 use Rattle.office_history.specs.Laws.{HasNoMigration}
-use Rattle.office_parts.specs.Archives.{Archive}
-use Rattle.office_parts.specs.Closing.{is_closed}
-use Rattle.office_parts.specs.LeftOver.{rows_beyond}
-use Rattle.office_parts.specs.Parts.{Archived, ArePartsAfter}
+use Rattle.office_parts.specs.{Archives.Archive, Closing.is_closed, LeftOver.rows_beyond, Parts.{Archived, ArePartsAfter}}
 use Rattle.office_parts.specs.OwnLists.{ListName, rows_without_lists}
 use Rattle.office_archives.specs.Visits.{IsVisitWithin}
 

@@ -1,18 +1,13 @@
 -- What a store's own rows count, of which visits were put away.
-use Rattle.std.specs.Prelude.{◌≡◌, ℕ, ◌+◌, Bool, List, ◌++◌, map, filter, codes, length, Option, Some, if◌then◌else◌}
-use Rattle.std.specs.List.{flat_map}
-use Rattle.std.specs.Str.{bytes_eq}
+use Rattle.std.specs.{Prelude.{◌≡◌, ℕ, ◌+◌, Bool, List, ◌++◌, map, filter, codes, length, Option, Some, if◌then◌else◌}, List.flat_map, Str.bytes_eq}
 use Rattle.terminal_core.specs.State.{TerminalState}
-use Rattle.office_rows.specs.Opening.{tables_version}
-use Rattle.office_rows.specs.Rows.{Rows}
+use Rattle.office_rows.specs.{Opening.tables_version, Rows.Rows}
 use Rattle.office_admission.specs.Setups.{SetupContent}
-use Rattle.office_reports.specs.declared.query.About.{About}
-use Rattle.office_reports.specs.declared.query.About.TheVariants as about
-use Rattle.office_reports.specs.Program.{program_version}
-use Rattle.office_reports.specs.Metrics.{GaugeContent, gauges, gauge_text, versions_text}
+use Rattle.office_reports.specs.{declared.query.About.About, Program.program_version, Metrics.{GaugeContent, gauges, gauge_text, versions_text}}
 use Rattle.office_reports.specs.Partners.{PartnerContent}
 use Rattle.office_parts.specs.Closing.{is_put_away}
 use Rattle.office_desk.specs.Reports.{AreLookedUp}
+use Rattle.office_reports.specs.declared.query.About.TheVariants as about
 
 -- it is asked for the partners, or one of them, or whether the office can be asked
 abbrev pub IsOfPartners : About → Type 0

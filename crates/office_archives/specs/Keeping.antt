@@ -1,24 +1,18 @@
 -- What the archives of a store keep: under a number, and as the stores that they were.
-use Rattle.std.specs.Prelude.{◌≡◌, ◌⊎◌, ℕ, ◌<◌, ◌≤◌, List, Option, None, Some, is_some, string_bytes, true}
-use Rattle.std.specs.Option.{option_map}
+use Rattle.std.specs.{Prelude.{◌≡◌, ◌⊎◌, ℕ, ◌<◌, ◌≤◌, List, Option, None, Some, is_some, string_bytes, true}, Option.option_map}
 use Rattle.sqlite.specs.Effect.{Database}
 use Rattle.terminal_core.specs.State.{TerminalState}
-use Rattle.office_rows.specs.Rows.{Rows}
-use Rattle.office_rows.specs.Stored.{HasRows}
+use Rattle.office_rows.specs.{Rows.Rows, Stored.HasRows}
 use Rattle.office_admission.specs.Setups.{SetupContent}
-use Rattle.office_loading.specs.Closed.{ClosedContent}
-use Rattle.office_loading.specs.Tables.{LoadsOwn}
+use Rattle.office_loading.specs.{Closed.ClosedContent, Tables.LoadsOwn}
 use Rattle.office_history.specs.After.{reply_in}
-use Rattle.office_reports.specs.declared.query.About.{About}
-use Rattle.office_reports.specs.declared.query.Query.{Query}
-use Rattle.office_reports.specs.declared.query.View.{View}
-use Rattle.office_reports.specs.Tickets.{ticket_of}
+use Rattle.office_reports.specs.{declared.query.About.About, declared.query.Query.Query, declared.query.View.View, Tickets.ticket_of}
 use Rattle.office_report_data.specs.Told.{ReportContent, shown}
-use Rattle.office_report_data.specs.Told as value
 use Rattle.office_desk.specs.Reports.{Shows, TellsAbout}
 use Rattle.office_tables.specs.declared.interchanges.Kept.{Kept}
 use Rattle.office_parts.specs.Archives.{Archive, archive_of, text_by, reply_by}
 use Rattle.office_archives.specs.Shelves.{archive_at}
+use Rattle.office_report_data.specs.Told as value
 
 -- the number is closed: it is one, from 1, and one of the archives reaches it
 abbrev pub IsClosedIn : List Archive → ℕ → ℕ → Type 0

@@ -1,35 +1,23 @@
 -- The laws of reports of what was put away.
 use Rattle.std.specs.Prelude.{◌≡◌, ℕ, ◌≤◌, nat_lt, Bool, true, false, ◌||◌, List, [], ◌∷◌, ◌++◌, Contains, filter, Option, Some, option_map, string_bytes}
-use Rattle.std.specs.declared.alloc.Global.{Global}
-use Rattle.std.specs.declared.string.String.{String}
+use Rattle.std.specs.{declared.alloc.Global.Global, declared.string.String.String}
 use Rattle.box6346.specs.declared.box_number.BoxNumber.{BoxNumber}
 use Rattle.partner_core.specs.Deliveries.{run}
-use Rattle.terminal_core.specs.declared.change.Source.{Source}
-use Rattle.terminal_core.specs.Rows.{VisitContent}
-use Rattle.office_admission.specs.Deliveries.{deliveries_of}
+use Rattle.terminal_core.specs.{declared.change.Source.Source, Rows.VisitContent}
+use Rattle.office_admission.specs.{Deliveries.deliveries_of, Given.IsGiven, Setups.SetupContent}
 use Rattle.office_replies.specs.Events.{Event}
 use Rattle.office_rows.specs.Rows.{Interchange, ListingContent, Rows}
-use Rattle.office_admission.specs.Given.{IsGiven}
-use Rattle.office_admission.specs.Setups.{SetupContent}
 use Rattle.office_reports.specs.declared.query.About.{About}
-use Rattle.office_reports.specs.declared.query.About.TheVariants as about
-use Rattle.office_history.specs.After.{AreAfter, content_after, machine_after}
-use Rattle.office_history.specs.Laws.{HasNoMigration}
-use Rattle.office_parts.specs.Archives.{Archive, archive_of, Hold}
-use Rattle.office_parts.specs.Closing.{archived_with, is_closed, MayClose}
-use Rattle.office_parts.specs.LeftOver.{rows_beyond}
-use Rattle.office_parts.specs.OwnTerminal.{own_terminal}
-use Rattle.office_parts.specs.Parts.{Archived, nothing_archived, ArePartsAfter}
+use Rattle.office_history.specs.{After.{AreAfter, content_after, machine_after}, Laws.HasNoMigration}
+use Rattle.office_parts.specs.{Archives.{Archive, archive_of, Hold}, Closing.{archived_with, is_closed, MayClose}, LeftOver.rows_beyond}
+use Rattle.office_parts.specs.{OwnTerminal.own_terminal, Parts.{Archived, nothing_archived, ArePartsAfter}}
+use Rattle.office_parts.specs.OwnLists.{ListName, rows_without_lists, without_lists}
 use Rattle.office_report_data.specs.Told.{ReportContent}
 use Rattle.office_desk.specs.Reports.{IsText, TellsAbout, partner_called}
-use Rattle.office_parts.specs.OwnLists.{ListName, rows_without_lists, without_lists}
-use Rattle.office_archives.specs.Asked.{IsOfNumberBetween, KeepsNumber}
-use Rattle.office_archives.specs.Beyond.{IsOfNumberBeyond}
-use Rattle.office_archives.specs.Closed.{closed_contrl, closed_reply, closed_ticket}
-use Rattle.office_archives.specs.Copies.{GoByNumbers, IsCopy, AreCopies, newest_closed}
-use Rattle.office_archives.specs.Counted.{IsOfPartners, TellsOwnMetrics}
-use Rattle.office_archives.specs.Stayed.{GoOldestFirst, PutsAwayOver, TellsWhatStays, container_if_there}
-use Rattle.office_archives.specs.Visits.{visits_by, IsVisitWithin}
+use Rattle.office_archives.specs.{Asked.{IsOfNumberBetween, KeepsNumber}, Beyond.IsOfNumberBeyond, Closed.{closed_contrl, closed_reply, closed_ticket}}
+use Rattle.office_archives.specs.{Copies.{GoByNumbers, IsCopy, AreCopies, newest_closed}, Counted.{IsOfPartners, TellsOwnMetrics}}
+use Rattle.office_archives.specs.{Stayed.{GoOldestFirst, PutsAwayOver, TellsWhatStays, container_if_there}, Visits.{visits_by, IsVisitWithin}}
+use Rattle.office_reports.specs.declared.query.About.TheVariants as about
 
 -- ---- what an interchange did, and what is kept of it
 

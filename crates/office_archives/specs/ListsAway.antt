@@ -1,25 +1,18 @@
 -- Lists that are away: what is found of one, and what its lines report.
 use Rattle.std.specs.Prelude.{◌≡◌, Bool, false, true, List, Option, None, Some, option_map}
 use Rattle.sqlite_trees.specs.declared.store.Store.{Ghosts}
-use Rattle.edi_messages.specs.Owned.{call_content}
-use Rattle.edi_messages.specs.Purposes.{CallContent}
-use Rattle.terminal_core.specs.State.{TerminalState}
-use Rattle.terminal_core.specs.declared.lines.Side.{Side}
+use Rattle.edi_messages.specs.{Owned.call_content, Purposes.CallContent}
+use Rattle.terminal_core.specs.{State.TerminalState, declared.lines.Side.Side}
 use Rattle.office_replies.specs.Events.{Event}
-use Rattle.office_rows.specs.ByKey.{AreListedOnce, lines_by}
-use Rattle.office_rows.specs.Rows.{ListingContent}
+use Rattle.office_rows.specs.{ByKey.{AreListedOnce, lines_by}, Rows.ListingContent}
 use Rattle.office_admission.specs.Setups.{SetupContent}
-use Rattle.office_reports.specs.declared.query.About.{About}
-use Rattle.office_reports.specs.declared.query.About.TheVariants as about
-use Rattle.office_reports.specs.Work.{work_by}
-use Rattle.office_reports.specs.Lists.{IsOfLines, list_by}
+use Rattle.office_reports.specs.{declared.query.About.About, Work.work_by, Lists.{IsOfLines, list_by}}
 use Rattle.office_report_data.specs.Told.{ReportContent}
-use Rattle.office_report_data.specs.Told as value
 use Rattle.office_desk.specs.declared.desk.Desk.{Desk}
-use Rattle.office_parts.specs.Archives.{Archive}
-use Rattle.office_parts.specs.Away.{lines_away}
-use Rattle.office_parts.specs.OwnLists.{ListName}
+use Rattle.office_parts.specs.{Archives.Archive, Away.lines_away, OwnLists.ListName}
 use Rattle.office_archives.specs.Standing.{StandsBeside}
+use Rattle.office_reports.specs.declared.query.About.TheVariants as about
+use Rattle.office_report_data.specs.Told as value
 
 -- it is asked for the list of that call
 abbrev pub AsksList : About → CallContent → Side → Type 0

@@ -1,21 +1,12 @@
 -- What loading does to a store that is only looked at.
 use Rattle.std.specs.Prelude.{◌≡◌, Result, IfErr, IfOk, IsTrue}
-use Rattle.sqlite.specs.Held.{Held, state}
-use Rattle.sqlite.specs.State.{HasCleanDisk}
+use Rattle.sqlite.specs.{Held.{Held, state}, State.HasCleanDisk}
 use Rattle.sqlite_trees.specs.declared.store.Store.{Ghosts}
-use Rattle.office_admission.specs.Given.{IsGiven}
-use Rattle.office_admission.specs.Setups.{setup_content}
-use Rattle.office_admission.specs.declared.setup.Setup.{Setup}
-use Rattle.office_desk.specs.Offices.{FailsToOpen}
-use Rattle.office_desk.specs.declared.beside.Beside.{Beside}
-use Rattle.office_loading.specs.Closed.{ClosedContent}
-use Rattle.office_loading.specs.Tables.{LoadsOwn}
-use Rattle.office_rows.specs.Rows.{Rows}
-use Rattle.office_rows.specs.Shown.{AreNexts}
-use Rattle.office_rows.specs.Stored.{HasRows}
-use Rattle.office_rows.specs.Tables.{office_schema}
-use Rattle.office_tables.specs.Reading.{Reads}
-use Rattle.office_tables.specs.declared.table_fault.TableFault.{TableFault}
+use Rattle.office_admission.specs.{Given.IsGiven, Setups.setup_content, declared.setup.Setup.Setup}
+use Rattle.office_desk.specs.{Offices.FailsToOpen, declared.beside.Beside.Beside}
+use Rattle.office_loading.specs.{Closed.ClosedContent, Tables.LoadsOwn}
+use Rattle.office_rows.specs.{Rows.Rows, Shown.AreNexts, Stored.HasRows, Tables.office_schema}
+use Rattle.office_tables.specs.{Reading.Reads, declared.table_fault.TableFault.TableFault}
 
 -- By what is committed, if the tables are those of an office: beyond what is closed it is its set-up, its terminal and its
 -- partners' next numbers, or the fault is the one that they deserve. Nothing is written.

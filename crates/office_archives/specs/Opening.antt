@@ -5,14 +5,11 @@ use Rattle.sqlite_trees.specs.declared.store.Store.{Ghosts}
 use Rattle.office_replies.specs.Events.{Event}
 use Rattle.office_loading.specs.Closed.{closed_content}
 use Rattle.office_rows.specs.Tables.{office_schema}
-use Rattle.office_admission.specs.Given.{IsGiven}
-use Rattle.office_admission.specs.Setups.{SetupContent, setup_content}
+use Rattle.office_admission.specs.{Given.IsGiven, Setups.{SetupContent, setup_content}}
 use Rattle.office_history.specs.After.{SaysSame, content_after}
-use Rattle.office_desk.specs.Offices.{OpensOffice}
-use Rattle.office_desk.specs.declared.desk.Desk.{Desk}
+use Rattle.office_desk.specs.{Offices.OpensOffice, declared.desk.Desk.Desk}
 use Rattle.office_parts.specs.Archives.{Archive}
-use Rattle.office_archives.specs.Standing.{StandsBeside}
-use Rattle.office_archives.specs.Together.{IsBesideAfter}
+use Rattle.office_archives.specs.{Standing.StandsBeside, Together.IsBesideAfter}
 
 -- The desk's set-up says the same as the opening one with the accounts so far, and it stands beside the archives after the
 -- events, for an opening set-up that says the same.

@@ -1,16 +1,10 @@
 -- What writing the texts of one file leaves.
-use Rattle.std.specs.Prelude.{◌≡◌, ℕ, ◌-◌, Bool, true, false, List, [], ◌∷◌, ◌++◌, map, drop, length, Option, None, Some}
-use Rattle.std.specs.Io.KnownBytes.{Appends}
-use Rattle.sqlite.specs.declared.types.Value.TheVariants.{Blob}
-use Rattle.sqlite.specs.Order.{Row, column}
-use Rattle.office_rows.specs.Tables.{interchange_table}
-use Rattle.office_rows.specs.Rows.{Interchange}
-use Rattle.office_rows.specs.Values.{number_value, interchange_values}
-use Rattle.office_rows.specs.Stored.{columns_of}
+use Rattle.std.specs.{Prelude.{◌≡◌, ℕ, ◌-◌, Bool, true, false, List, [], ◌∷◌, ◌++◌, map, drop, length, Option, None, Some}, Io.KnownBytes.Appends}
+use Rattle.sqlite.specs.{declared.types.Value.TheVariants.Blob, Order.{Row, column}}
+use Rattle.office_rows.specs.{Tables.interchange_table, Rows.Interchange, Values.{number_value, interchange_values}, Stored.columns_of}
 use Rattle.office_loading.specs.Pages.{lines_of}
 use Rattle.office_parts.specs.ArchiveJournal.{texts_beyond, texts_added, carried_on}
-use Rattle.office_archives.specs.declared.passing.Rest.{Rest}
-use Rattle.office_archives.specs.declared.passing.Passing.{Passing}
+use Rattle.office_archives.specs.{declared.passing.Rest.Rest, declared.passing.Passing.Passing}
 
 -- the interchanges stand in the table in this order
 abbrev pub StandInOrder : List Interchange → (stored : List Row) → Type 0

@@ -4,12 +4,11 @@ use Rattle.office_replies.specs.Events.{Event}
 use Rattle.office_rows.specs.Rows.{Rows}
 use Rattle.office_admission.specs.Setups.{SetupContent}
 use Rattle.office_reports.specs.declared.query.About.{About}
-use Rattle.office_reports.specs.declared.query.About.TheVariants as about
 use Rattle.office_history.specs.After.{content_after, machine_after}
 use Rattle.office_report_data.specs.Told.{ReportContent}
 use Rattle.office_desk.specs.Reports.{TellsAbout}
-use Rattle.office_parts.specs.OwnTerminal.{own_terminal}
-use Rattle.office_parts.specs.Parts.{Archived, ArePartsAfter}
+use Rattle.office_parts.specs.{OwnTerminal.own_terminal, Parts.{Archived, ArePartsAfter}}
+use Rattle.office_reports.specs.declared.query.About.TheVariants as about
 
 -- it is asked what stands in the yard, how full it is, what the lists say and what is left of them, or which number comes
 -- next

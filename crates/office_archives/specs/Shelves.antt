@@ -1,28 +1,18 @@
 -- The archives of a store, of which one at a time is open.
 use Rattle.std.specs.Prelude.{◌≡◌, ◌⊎◌, ℕ, ◌+◌, ◌-◌, ◌≤◌, nat_lt, List, [], ◌∷◌, ◌++◌, filter, length, Option, None, Some, slice_get, IsTrue}
-use Rattle.std.specs.List.{AllByRecursion}
-use Rattle.std.specs.Option.{option_and_then}
-use Rattle.sqlite.specs.Effect.{Database}
-use Rattle.sqlite.specs.Held.{Held, state}
-use Rattle.sqlite.specs.State.{HasCleanDisk}
+use Rattle.std.specs.{List.AllByRecursion, Option.option_and_then}
+use Rattle.sqlite.specs.{Effect.Database, Held.{Held, state}, State.HasCleanDisk}
 use Rattle.sqlite_trees.specs.declared.store.Store.{Ghosts}
 use Rattle.edi_messages.specs.Purposes.{CallContent}
 use Rattle.terminal_core.specs.declared.lines.Side.{Side}
-use Rattle.office_rows.specs.Rows.{ListingContent}
-use Rattle.office_rows.specs.Stored.{HasRows}
+use Rattle.office_rows.specs.{Rows.ListingContent, Stored.HasRows}
 use Rattle.office_history.specs.After.{AreKeptOnce}
-use Rattle.office_parts.specs.Archives.{Archive, archive_of}
-use Rattle.office_parts.specs.Away.{lines_away}
-use Rattle.office_parts.specs.OwnLists.{ListName, list_name}
-use Rattle.office_closing.specs.Texts.{IsTextOf}
-use Rattle.office_closing.specs.Changes.{closed_with}
-use Rattle.office_closing.specs.Lists.{SettledListContent, lines_of_list}
-use Rattle.office_closing.specs.Register.{ArchiveContent, RegisterContent, last_closed, register_content}
-use Rattle.office_closing.specs.Register as register
-use Rattle.office_closing.specs.Sound.{is_sound}
-use Rattle.office_closing.specs.declared.register.Register.{Register}
+use Rattle.office_parts.specs.{Archives.{Archive, archive_of}, Away.lines_away, OwnLists.{ListName, list_name}}
+use Rattle.office_closing.specs.{Texts.IsTextOf, Changes.closed_with, Lists.{SettledListContent, lines_of_list}, Sound.is_sound}
+use Rattle.office_closing.specs.{Register.{ArchiveContent, RegisterContent, last_closed, register_content}, declared.register.Register.Register}
 use Rattle.office_closing.specs.declared.register.Segment.{Segment}
 use Rattle.office_archives.specs.declared.opened.Opened.{Opened}
+use Rattle.office_closing.specs.Register as register
 
 -- the archive at a place, the first at 1
 abbrev pub archive_at : List Archive → ℕ → Option Archive

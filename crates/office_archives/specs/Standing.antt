@@ -2,29 +2,14 @@
 use Rattle.std.specs.Prelude.{◌≡◌, ℕ, ◌<◌, Bool, List, Contains, filter, Ok, None, true}
 use Rattle.sqlite_trees.specs.declared.store.Store.{Ghosts}
 use Rattle.edi_syntax.specs.Interchange.{interchange_of}
-use Rattle.office_replies.specs.Delivering.{Delivers}
-use Rattle.office_replies.specs.Events.{Event}
-use Rattle.office_replies.specs.declared.deliver.Response.{Response}
+use Rattle.office_replies.specs.{Delivering.Delivers, Events.Event, declared.deliver.Response.Response}
 use Rattle.office_loading.specs.Closed.{ClosedContent, closed_content}
 use Rattle.office_rows.specs.Rows.{Interchange, Rows}
-use Rattle.office_admission.specs.Given.{IsGiven}
-use Rattle.office_admission.specs.Parties.{parties_of}
-use Rattle.office_admission.specs.Setups.{SetupContent, setup_content}
-use Rattle.office_admission.specs.Admission.{admission}
+use Rattle.office_admission.specs.{Given.IsGiven, Parties.parties_of, Setups.{SetupContent, setup_content}, Admission.admission}
 use Rattle.office_history.specs.After.{content_after, machine_after}
-use Rattle.office_parts.specs.Away.{AreAway, lists_after}
-use Rattle.office_parts.specs.Naming.{AreHere}
-use Rattle.office_parts.specs.OwnLists.{ListName, rows_without_lists, without_lists}
-use Rattle.office_desk.specs.Answers.{AnswersNext}
-use Rattle.office_desk.specs.Calls.{Leads}
-use Rattle.office_desk.specs.Desks.{IsSound}
-use Rattle.office_desk.specs.Offices.{DeskHolds}
-use Rattle.office_desk.specs.declared.desk.Desk.{Desk}
-use Rattle.office_parts.specs.Archives.{Archive, archive_of, Hold}
-use Rattle.office_parts.specs.Closing.{is_closed}
-use Rattle.office_parts.specs.LeftOver.{rows_beyond}
-use Rattle.office_parts.specs.OwnTerminal.{own_terminal}
-use Rattle.office_parts.specs.Parts.{Archived, ArePartsAfter}
+use Rattle.office_parts.specs.{Away.{AreAway, lists_after}, Naming.AreHere, OwnLists.{ListName, rows_without_lists, without_lists}, Closing.is_closed}
+use Rattle.office_parts.specs.{Archives.{Archive, archive_of, Hold}, LeftOver.rows_beyond, OwnTerminal.own_terminal, Parts.{Archived, ArePartsAfter}}
+use Rattle.office_desk.specs.{Answers.AnswersNext, Calls.Leads, Desks.IsSound, Offices.DeskHolds, declared.desk.Desk.Desk}
 
 -- The rows that a store has: beyond what is closed its own, and interchanges that are closed and still to be deleted,
 -- which its archives hold.

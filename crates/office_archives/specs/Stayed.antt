@@ -1,17 +1,12 @@
 -- What a store's own rows tell of containers, of which visits were put away.
 use Rattle.std.specs.Prelude.{◌≡◌, ℕ, ◌<◌, Bool, true, false, ◌&&◌, ◌||◌, List, [], ◌∷◌, Contains, filter, is_some, Option, None, Some, option_map, if◌then◌else◌}
 use Rattle.box6346.specs.declared.box_number.BoxNumber.{BoxNumber}
-use Rattle.terminal_core.specs.Rows.{VisitContent}
-use Rattle.terminal_core.specs.State.{TerminalState, is_visit_of, last_number, last_visit, open_visit}
+use Rattle.terminal_core.specs.{Rows.VisitContent, State.{TerminalState, is_visit_of, last_number, last_visit, open_visit}}
 use Rattle.office_admission.specs.Setups.{SetupContent}
-use Rattle.office_reports.specs.Visits.{visits_by}
-use Rattle.office_reports.specs.Yard.{slot_in}
-use Rattle.office_reports.specs.Containers.{ContainerContent, container_of}
-use Rattle.office_reports.specs.OpenLines.{open_lines}
+use Rattle.office_reports.specs.{Visits.visits_by, Yard.slot_in, Containers.{ContainerContent, container_of}, OpenLines.open_lines}
 use Rattle.office_report_data.specs.Told.{ReportContent}
+use Rattle.office_parts.specs.{Archives.{Archive, IsInArchive}, OwnTerminal.own_visits}
 use Rattle.office_report_data.specs.Told as value
-use Rattle.office_parts.specs.Archives.{Archive, IsInArchive}
-use Rattle.office_parts.specs.OwnTerminal.{own_visits}
 
 -- ---- all visits of a container
 

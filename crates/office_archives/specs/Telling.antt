@@ -1,49 +1,27 @@
 -- What a store and its archives report together.
 use Rattle.std.specs.Prelude.{◌≡◌, ◌⊎◌, ◌==◌, ℕ, ◌≤◌, Bool, true, false, is_some, ◌-◌, List, [], ◌∷◌, ◌++◌, length, take, Option, None, Some, codes, decimal, string_bytes, if◌then◌else◌}
 use Rattle.std.specs.Option.{option_map, unwrap_or}
-use Rattle.std.specs.FinMap as finite_map
 use Rattle.serde_json.specs.Written.{compact_text}
 use Rattle.office_replies.specs.Events.{Event}
 use Rattle.office_rows.specs.Rows.{Rows}
 use Rattle.office_admission.specs.Setups.{SetupContent}
-use Rattle.office_reports.specs.declared.query.About.{About}
-use Rattle.office_reports.specs.declared.query.About.TheVariants as about
-use Rattle.office_reports.specs.declared.query.Query.{Query}
-use Rattle.office_reports.specs.declared.query.View.{View}
-use Rattle.office_reports.specs.declared.query.View.TheVariants.{Text, Json, Csv, Page}
-use Rattle.office_reports.specs.Blocks.{AreBlocks, BlocksContent}
-use Rattle.office_reports.specs.OpenLines.{open_lines}
-use Rattle.office_reports.specs.Partners.{PartnerContent, partners_of}
-use Rattle.office_pages.specs.Archives.{archives_note}
-use Rattle.office_pages.specs.Fixed.{foot}
-use Rattle.office_pages.specs.Found.{found_page}
-use Rattle.office_pages.specs.Start.{StartContent, office_page}
-use Rattle.office_pages.specs.Wanted.{expected_page}
-use Rattle.office_report_data.specs.Told.{ReportContent, shown}
-use Rattle.office_report_data.specs.Told as value
-use Rattle.office_report_data.specs.Archives.{with_archives as with_member}
-use Rattle.office_report_data.specs.Calls.{calls_object}
-use Rattle.office_report_data.specs.Containers.{container_object}
+use Rattle.office_reports.specs.{declared.query.About.About, declared.query.Query.Query, declared.query.View.View, Blocks.{AreBlocks, BlocksContent}}
+use Rattle.office_reports.specs.{declared.query.View.TheVariants.{Text, Json, Csv, Page}, OpenLines.open_lines, Partners.{PartnerContent, partners_of}}
+use Rattle.office_reports.specs.{Names.line, Calls.lists_in}
+use Rattle.office_pages.specs.{Archives.archives_note, Fixed.foot, Found.found_page, Start.{StartContent, office_page}, Wanted.expected_page}
+use Rattle.office_report_data.specs.{Told.{ReportContent, shown}, Archives.with_archives as with_member, Calls.calls_object, Containers.container_object}
 use Rattle.office_report_data.specs.Visits.{visits_object}
-use Rattle.office_reports.specs.Names.{line}
 use Rattle.office_history.specs.After.{content_after, machine_after}
 use Rattle.office_desk.specs.Reports.{AreLookedUp, Shows, TellsAfter, partner_called, partner_if_called}
-use Rattle.office_parts.specs.Archives.{Archive}
-use Rattle.office_parts.specs.Parts.{Archived}
-use Rattle.office_parts.specs.Away.{lines_away}
-use Rattle.office_parts.specs.OwnLists.{ListName, own_lines}
-use Rattle.office_parts.specs.OwnTerminal.{own_visits}
-use Rattle.edi_messages.specs.Owned.{call_content}
-use Rattle.edi_messages.specs.Purposes.{CallContent}
-use Rattle.terminal_core.specs.declared.lines.Side.{Side}
-use Rattle.office_reports.specs.Calls.{lists_in}
-use Rattle.terminal_core.specs.State.{Lines, TerminalState}
-use Rattle.office_archives.specs.Closed.{closed_contrl, closed_reply}
-use Rattle.office_archives.specs.Copies.{AreCopies, GoByNumbers}
-use Rattle.office_archives.specs.Counted.{TellsOwnMetrics}
+use Rattle.office_parts.specs.{Archives.Archive, Parts.Archived, Away.lines_away, OwnLists.{ListName, own_lines}, OwnTerminal.own_visits}
+use Rattle.edi_messages.specs.{Owned.call_content, Purposes.CallContent}
+use Rattle.terminal_core.specs.{declared.lines.Side.Side, State.{Lines, TerminalState}}
+use Rattle.office_archives.specs.{Closed.{closed_contrl, closed_reply}, Copies.{AreCopies, GoByNumbers}, Counted.TellsOwnMetrics, Shelves.archive_at}
 use Rattle.office_archives.specs.Stayed.{GoOldestFirst, TellsWhatStays, container_if_there}
 use Rattle.office_archives.specs.Keeping.{IsClosedBefore, IsNotClosedBefore, IsReportIn, IsTicketIn, IsValueOf}
-use Rattle.office_archives.specs.Shelves.{archive_at}
+use Rattle.std.specs.FinMap as finite_map
+use Rattle.office_reports.specs.declared.query.About.TheVariants as about
+use Rattle.office_report_data.specs.Told as value
 
 -- ---- containers
 

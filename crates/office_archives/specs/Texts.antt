@@ -1,19 +1,12 @@
 -- What writing the texts of a store and its archives leaves: file by file, and of all together.
-use Rattle.std.specs.Prelude.{◌≡◌, ℕ, ◌+◌, ◌-◌, Bool, true, List, [], ◌∷◌, drop, length, Option, None, Some}
-use Rattle.std.specs.Io.KnownBytes.{Appends}
-use Rattle.sqlite.specs.Held.{Held, state}
-use Rattle.sqlite.specs.State.{State, HasCleanDisk}
+use Rattle.std.specs.{Prelude.{◌≡◌, ℕ, ◌+◌, ◌-◌, Bool, true, List, [], ◌∷◌, drop, length, Option, None, Some}, Io.KnownBytes.Appends}
+use Rattle.sqlite.specs.{Held.{Held, state}, State.{State, HasCleanDisk}}
 use Rattle.sqlite_trees.specs.declared.store.Store.{Ghosts}
-use Rattle.office_rows.specs.Rows.{Rows}
-use Rattle.office_rows.specs.Stored.{HasRows}
-use Rattle.office_rows.specs.Tables.{interchange_table}
+use Rattle.office_rows.specs.{Rows.Rows, Stored.HasRows, Tables.interchange_table}
 use Rattle.office_loading.specs.Pages.{lines_of}
-use Rattle.office_parts.specs.Archives.{Archive}
+use Rattle.office_parts.specs.{Archives.Archive, ArchiveJournal.journal_of}
 use Rattle.office_closing.specs.Register.{ArchiveContent, RegisterContent, last_closed}
-use Rattle.office_parts.specs.ArchiveJournal.{journal_of}
-use Rattle.office_archives.specs.Parts.{PartIsWritten, StandInOrder}
-use Rattle.office_archives.specs.declared.passing.Rest.{Rest}
-use Rattle.office_archives.specs.Shelves.{IsOpenAt, register_before}
+use Rattle.office_archives.specs.{Parts.{PartIsWritten, StandInOrder}, declared.passing.Rest.Rest, Shelves.{IsOpenAt, register_before}}
 
 -- the last numbers that were closed before the archive at a place, as a register says
 abbrev pub closed_before : (place : ℕ) → RegisterContent → ℕ → ℕ

@@ -1,40 +1,21 @@
 -- A desk over the rows that a store has, and the store's archives: where they stand together, and what a call does.
 use Rattle.std.specs.Prelude.{◌≡◌, ◌⊎◌, ℕ, Bool, List, [], ◌∷◌, ◌++◌, Option, OnOk, Result}
-use Rattle.sqlite.specs.Held.{state}
-use Rattle.sqlite.specs.State.{State, HasCleanDisk}
-use Rattle.sqlite.specs.Tree.{Trees}
+use Rattle.sqlite.specs.{Held.state, State.{State, HasCleanDisk}, Tree.Trees}
 use Rattle.sqlite_trees.specs.declared.store.Store.{Ghosts}
 use Rattle.terminal_core.specs.State.{TerminalState}
-use Rattle.office_replies.specs.Delivering.{with_answered}
-use Rattle.office_replies.specs.Adding.{with_added}
-use Rattle.office_replies.specs.Events.{Event, added, delivered}
-use Rattle.office_replies.specs.declared.accounts.AccountAnswer.{AccountAnswer}
-use Rattle.office_replies.specs.declared.accounts.AccountAnswer.TheVariants as account
+use Rattle.office_replies.specs.{Delivering.with_answered, Adding.with_added, Events.{Event, added, delivered}, declared.accounts.AccountAnswer.AccountAnswer}
 use Rattle.office_replies.specs.declared.deliver.Response.{Response}
-use Rattle.office_replies.specs.declared.deliver.Response.TheVariants as response
-use Rattle.office_reports.specs.Looking.{Look, Tells, of_archive, report, texts_after}
-use Rattle.office_reports.specs.declared.query.NotNow.{NotNow}
-use Rattle.office_reports.specs.declared.query.Query.{Query}
+use Rattle.office_reports.specs.{Looking.{Look, Tells, of_archive, report, texts_after}, declared.query.NotNow.NotNow, declared.query.Query.Query}
 use Rattle.office_loading.specs.Closed.{ClosedContent, closed_content}
-use Rattle.office_rows.specs.Rows.{Rows}
-use Rattle.office_rows.specs.Stored.{StoresRows}
+use Rattle.office_rows.specs.{Rows.Rows, Stored.StoresRows}
 use Rattle.office_admission.specs.Setups.{SetupContent, setup_content}
 use Rattle.office_history.specs.After.{SaysSame, content_after}
-use Rattle.office_parts.specs.Away.{AreAway}
-use Rattle.office_parts.specs.OwnLists.{ListName, rows_without_lists}
-use Rattle.office_desk.specs.Accounts.{AnswersAccount}
-use Rattle.office_desk.specs.Answers.{AnswersNext}
-use Rattle.office_desk.specs.Calls.{Enrols, Leads, Looks}
-use Rattle.office_desk.specs.Desks.{IsSound}
-use Rattle.office_desk.specs.Looking.{DeskHands, IsOpenAt, ShowsUnfitReply}
-use Rattle.office_desk.specs.Noting.{NotesCause, NotesFault, NotesLook, NotesStore}
-use Rattle.office_desk.specs.Offices.{DeskHolds}
-use Rattle.office_desk.specs.declared.desk.Desk.{Desk}
-use Rattle.office_parts.specs.Archives.{Archive, Hold}
-use Rattle.office_parts.specs.Parts.{Archived, ArePartsAfter}
-use Rattle.office_archives.specs.Causes.{IsLookedAtHere}
-use Rattle.office_archives.specs.Standing.{IsOwnWithRest, KnowsClosed, StandsBeside}
-use Rattle.office_archives.specs.Telling.{TellsOfArchive, TellsTogether}
+use Rattle.office_parts.specs.{Away.AreAway, OwnLists.{ListName, rows_without_lists}, Archives.{Archive, Hold}, Parts.{Archived, ArePartsAfter}}
+use Rattle.office_desk.specs.{Accounts.AnswersAccount, Answers.AnswersNext, Calls.{Enrols, Leads, Looks}, Desks.IsSound, Offices.DeskHolds}
+use Rattle.office_desk.specs.{Looking.{DeskHands, IsOpenAt, ShowsUnfitReply}, Noting.{NotesCause, NotesFault, NotesLook, NotesStore}, declared.desk.Desk.Desk}
+use Rattle.office_archives.specs.{Causes.IsLookedAtHere, Standing.{IsOwnWithRest, KnowsClosed, StandsBeside}, Telling.{TellsOfArchive, TellsTogether}}
+use Rattle.office_replies.specs.declared.accounts.AccountAnswer.TheVariants as account
+use Rattle.office_replies.specs.declared.deliver.Response.TheVariants as response
 
 -- the archives are those of a store, and desk and archives stand after the events
 pub record StandTogether {S A : Type 0} (g : Ghosts S) (are : List Archive → A → Type 0) (content : SetupContent)

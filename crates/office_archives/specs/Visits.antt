@@ -1,8 +1,6 @@
 -- What an interchange did to visits: those that it opened, and those that it closed.
 use Rattle.std.specs.Prelude.{ℕ, ◌≤◌, List, map, filter, Option, None, Some, if◌then◌else◌}
-use Rattle.terminal_core.specs.declared.visits.Departure.{Departure}
-use Rattle.terminal_core.specs.declared.change.Source.{Source}
-use Rattle.terminal_core.specs.Rows.{VisitContent}
+use Rattle.terminal_core.specs.{declared.visits.Departure.Departure, declared.change.Source.Source, Rows.VisitContent}
 use Rattle.office_reports.specs.Tickets.{is_source, is_told_by}
 
 -- ---- the visits of one interchange

@@ -1,28 +1,19 @@
-ghost use Rattle.std.specs.Option.{option_map};
-ghost use Rattle.std.specs.Prelude.{◌≡◌, ◌≤◌, ◌&&◌, ◌↔◌, ℕ, nat_le, [], IfErr, IfOk, List, OnOk, Some, false, string_bytes, true};
+ghost use Rattle.std.specs.{Option.option_map, Prelude.{◌≡◌, ◌≤◌, ◌&&◌, ◌↔◌, ℕ, nat_le, [], IfErr, IfOk, List, OnOk, Some, false, string_bytes, true}};
 ghost use Rattle.std.specs.Result.{result_map_both};
 ghost use Rattle.edi_messages.specs.Owned.{call_content};
-ghost use Rattle.edi_syntax.specs.Interchange.{interchange_of, segments_in};
-ghost use Rattle.edi_syntax.specs.Envelope.{header_of};
-ghost use Rattle.office_admission.specs.Admission.{number_in};
-ghost use Rattle.office_admission.specs.Outcomes.{IsAdmitted};
-ghost use Rattle.office_archives.specs.Causes.{IsDeserved, IsDeservedHere};
-ghost use Rattle.office_archives.specs.Keeping.{IsClosedBefore, IsNotClosedBefore};
+ghost use Rattle.edi_syntax.specs.{Interchange.{interchange_of, segments_in}, Envelope.header_of};
+ghost use Rattle.office_admission.specs.{Admission.number_in, Outcomes.IsAdmitted, Setups.{SetupContent, setup_content}};
+ghost use Rattle.office_archives.specs.{Causes.{IsDeserved, IsDeservedHere}, Keeping.{IsClosedBefore, IsNotClosedBefore}};
 ghost use Rattle.office_archives.specs.Telling.{IsOfContainer, IsOfExpected, IsOfList, IsOfNumber, IsOfWhatIsHere, IsPlace, TellsAsStore};
 ghost use Rattle.office_archives.specs.Together.{EnrolsTogether, LeadsTogether, LooksTogether, OnlyLooksTogether, StandTogether, TellsBeside, TellsOfOne};
 ghost use Rattle.office_loading.specs.Closed.{last_closed};
-ghost use Rattle.office_desk.specs.Calls.{OnlyLooks};
-ghost use Rattle.office_desk.specs.Desks.{IsSound};
-ghost use Rattle.office_desk.specs.Reports.{DeskTells, IsOpenFor, partner_called};
+ghost use Rattle.office_desk.specs.{Calls.OnlyLooks, Desks.IsSound, Reports.{DeskTells, IsOpenFor, partner_called}};
 ghost use Rattle.office_history.specs.After.{content_after};
 ghost use Rattle.office_parts.specs.Archives.{Archive};
-ghost use Rattle.office_reports.specs.Looking.{of_archive, report, texts_after};
-ghost use Rattle.office_reports.specs.declared.query.About.TheVariants.{Calls};
+ghost use Rattle.office_reports.specs.{Looking.{of_archive, report, texts_after}, declared.query.About.TheVariants.Calls};
 ghost use Rattle.office_replies.specs.Events.{Event};
-ghost use Rattle.office_admission.specs.Setups.{SetupContent, setup_content};
 ghost use Rattle.office_tables.specs.declared.table_fault.TableFault.TheVariants.{Version};
-ghost use Rattle.sqlite.specs.Held.{state};
-ghost use Rattle.sqlite.specs.State.{HasCleanDisk};
+ghost use Rattle.sqlite.specs.{Held.state, State.HasCleanDisk};
 
 use crate::archives::{
     Archives, answer_closed, partner_called, tell_closed, with_archives, with_note,

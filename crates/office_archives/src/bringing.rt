@@ -2,8 +2,7 @@ ghost use Rattle.std.specs.Prelude.{ℕ, List, [], ◌∷◌, map};
 ghost use Rattle.edi_messages.specs.Owned.{call_content};
 ghost use Rattle.office_admission.specs.Outcomes.{IsAdmitted};
 ghost use Rattle.office_archives.specs.Bringing.{BringsTogether, named_by};
-ghost use Rattle.office_parts.specs.Named.{named_list_content};
-ghost use Rattle.office_parts.specs.OwnLists.{list_name};
+ghost use Rattle.office_parts.specs.{Named.named_list_content, OwnLists.list_name};
 
 use crate::archives::Archives;
 use crate::lists_away::lines_if_away;

@@ -1,17 +1,11 @@
-ghost use Rattle.std.specs.Option.{option_and_then, option_map};
-ghost use Rattle.std.specs.Prelude.{◌≡◌, ◌++◌, ◌∷◌, [], IfOk, is_some, string_bytes, nat_lt, filter, map, OnOk};
-ghost use Rattle.office_archives.specs.Keeping.{IsReportOf, IsTicketOf};
-ghost use Rattle.office_archives.specs.Shelves.{register_before};
+ghost use Rattle.std.specs.{Option.{option_and_then, option_map}, Prelude.{◌≡◌, ◌++◌, ◌∷◌, [], IfOk, is_some, string_bytes, nat_lt, filter, map, OnOk}};
+ghost use Rattle.office_archives.specs.{Keeping.{IsReportOf, IsTicketOf}, Shelves.register_before};
 ghost use Rattle.office_loading.specs.Closed.{closed_content};
-ghost use Rattle.office_tables.specs.DeliveryReading.{OnlyReads};
+ghost use Rattle.office_tables.specs.{DeliveryReading.OnlyReads, Reading.Reads};
 ghost use Rattle.office_history.specs.After.{AreKeptOnce};
-ghost use Rattle.office_closing.specs.Register.{ArchiveContent, archive_content, closed_by, register_content};
-ghost use Rattle.office_closing.specs.declared.register.Segment.{Segment};
-ghost use Rattle.office_rows.specs.Rows.{Rows};
-ghost use Rattle.office_rows.specs.Stored.{HasRows};
-ghost use Rattle.office_tables.specs.Reading.{Reads};
-ghost use Rattle.sqlite.specs.Held.{state};
-ghost use Rattle.sqlite.specs.State.{HasCleanDisk};
+ghost use Rattle.office_closing.specs.{Register.{ArchiveContent, archive_content, closed_by, register_content}, declared.register.Segment.Segment};
+ghost use Rattle.office_rows.specs.{Rows.Rows, Stored.HasRows};
+ghost use Rattle.sqlite.specs.{Held.state, State.HasCleanDisk};
 
 use office_closing::{Archive, Register, Segment, is_sound};
 use office_desk::tell;

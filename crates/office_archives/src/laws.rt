@@ -1,9 +1,6 @@
 //! Laws of a store and its archives: each function has an empty body, and its contract is the law.
 //! The laws of these reports. Each function has an empty body, and its contract is the law.
-ghost use Rattle.office_archives.specs.Opening.{OpenedStandBeside};
-ghost use Rattle.office_archives.specs.Reporting.{WhatStandsIsToldAlike};
-ghost use Rattle.office_archives.specs.Shelves.{NamesOneMore};
-ghost use Rattle.office_archives.specs.Standing.{DeliveriesBeyondAreAnswered};
+ghost use Rattle.office_archives.specs.{Opening.OpenedStandBeside, Reporting.WhatStandsIsToldAlike, Shelves.NamesOneMore, Standing.DeliveriesBeyondAreAnswered};
 ghost use Rattle.office_archives.specs.Texts.{OpensOn, WrittenIsJournal};
 ghost use Rattle.office_archives.specs.Laws.{VisitsAreOfTaken, LaterLeaveVisits, LaterKeepNumbers, ArchivesTellVisits, ArchivesTellReplies, ArchivesTellTickets, ArchivesAreAskedAsStores, NumbersBeyondAreToldAlike, VisitsAreTold, ContainersAreTold, PartnersAreToldAlike, MetricsAreTold, CopiesOfNowAreCopies, CopiesStay, ClosingsAddCopies, NothingWentAtFirst, ClosingsGoByNumbers, ClosingsGoOldestFirst, FullClosingsGoOldestFirst, ClearingsGoOldestFirst};
 

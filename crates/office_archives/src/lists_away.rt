@@ -1,16 +1,10 @@
-ghost use Rattle.std.specs.Option.{option_map};
-ghost use Rattle.std.specs.Prelude.{◌≡◌, ◌≤◌, IfOk, IfSome, IsTrue, OnOk, length, map, string_bytes};
+ghost use Rattle.std.specs.{Option.option_map, Prelude.{◌≡◌, ◌≤◌, IfOk, IfSome, IsTrue, OnOk, length, map, string_bytes}};
 ghost use Rattle.edi_messages.specs.Owned.{call_content};
-ghost use Rattle.office_archives.specs.ListsAway.{AsksList, FindsIfAway, TellsByLines};
-ghost use Rattle.office_archives.specs.Telling.{IsOfList};
-ghost use Rattle.office_desk.specs.Calls.{OnlyLooks};
-ghost use Rattle.office_desk.specs.Desks.{IsSound};
-ghost use Rattle.office_desk.specs.Reports.{Shows};
+ghost use Rattle.office_archives.specs.{ListsAway.{AsksList, FindsIfAway, TellsByLines}, Telling.IsOfList};
+ghost use Rattle.office_desk.specs.{Calls.OnlyLooks, Desks.IsSound, Reports.Shows};
 ghost use Rattle.office_parts.specs.OwnLists.{list_name};
-ghost use Rattle.office_rows.specs.ByKey.{AreListedOnce, lines_by};
-ghost use Rattle.office_rows.specs.Rows.{listing_content};
-ghost use Rattle.sqlite.specs.Held.{state};
-ghost use Rattle.sqlite.specs.State.{HasCleanDisk};
+ghost use Rattle.office_rows.specs.{ByKey.{AreListedOnce, lines_by}, Rows.listing_content};
+ghost use Rattle.sqlite.specs.{Held.state, State.HasCleanDisk};
 
 use crate::archives::Archives;
 use edi_messages::Call;

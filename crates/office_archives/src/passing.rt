@@ -1,5 +1,4 @@
-ghost use Rattle.office_archives.specs.Parts.{TakesNext};
-ghost use Rattle.office_archives.specs.Passing.{is_none, rest_after};
+ghost use Rattle.office_archives.specs.{Parts.TakesNext, Passing.{is_none, rest_after}};
 ghost use Rattle.office_loading.specs.Closed.{last_closed};
 ghost use Rattle.std.specs.Prelude.{◌≡◌, ◌+◌, not, nat_le, IfOk, OnOk, IfErr};
 ghost use Rattle.office_tables.specs.Faults.{IsOfStore};

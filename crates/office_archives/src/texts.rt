@@ -2,8 +2,7 @@ ghost use Rattle.std.specs.Prelude.{◌≡◌, false, map, IfOk, IfSome, IsTrue,
 ghost use Rattle.office_archives.specs.Texts.{AreAdded, FailsIfNone, IsAdded, IsJournalWritten, OpensOn};
 ghost use Rattle.office_tables.specs.DeliveryReading.{OnlyReads};
 ghost use Rattle.office_parts.specs.Archives.{Archive};
-ghost use Rattle.office_closing.specs.Register.{archive_content, register_content};
-ghost use Rattle.office_closing.specs.Sound.{is_sound};
+ghost use Rattle.office_closing.specs.{Register.{archive_content, register_content}, Sound.is_sound};
 ghost use Rattle.sqlite.specs.Held.{state};
 
 use crate::former_store::closed_before;

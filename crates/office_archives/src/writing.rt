@@ -1,11 +1,8 @@
 ghost use Rattle.office_archives.specs.Parts.{LeavesPort, PassesRow, StandInOrder, WritesPart};
-ghost use Rattle.office_loading.specs.Closed.{last_closed};
+ghost use Rattle.office_loading.specs.{Closed.last_closed, Texts.IsText};
 ghost use Rattle.office_rows.specs.Stored.{HasRows};
-ghost use Rattle.office_tables.specs.Faults.{IsOfStore, IsOfStoreOr};
-ghost use Rattle.office_tables.specs.Reading.{Reads};
-ghost use Rattle.office_loading.specs.Texts.{IsText};
-ghost use Rattle.sqlite.specs.Held.{state};
-ghost use Rattle.sqlite.specs.State.{HasCleanDisk};
+ghost use Rattle.office_tables.specs.{Faults.{IsOfStore, IsOfStoreOr}, Reading.Reads};
+ghost use Rattle.sqlite.specs.{Held.state, State.HasCleanDisk};
 ghost use Rattle.std.specs.Prelude.{⊤, IfOk, IfErr};
 
 use crate::passing::{Passing, Rest};

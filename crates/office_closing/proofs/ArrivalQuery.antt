@@ -1,46 +1,27 @@
 -- The query of the texts in the order of arrival: what it means, and what its rows say of the texts of a store and of an archive.
-use Rattle.std.proofs.Common.{◌≡◌, ◌⊎◌, inl, inr, ℕ, ◌+◌, ◌<◌, false, true, Bool, not, cond, List, [], ◌∷◌, ◌++◌, map, filter, length, codes, refl, sym, ap, ap₂, subst, ◌∙◌, arith}
 use Rattle.std.specs.List.{AllByRecursion}
-use Rattle.std.specs.Prelude.{◌↔◌, nat_le}
+use Rattle.std.specs.Prelude.{◌↔◌}
 use Rattle.std.proofs.lemmas.List.{map-append}
 use Rattle.std.proofs.lemmas.List.Elements.{filter-append}
+use Rattle.std.proofs.Common.{◌≡◌, ◌⊎◌, inl, inr, ℕ, ◌+◌, ◌<◌, false, true, Bool, cond, List, [], ◌∷◌, ◌++◌, map, filter, codes, refl, sym, ap, subst, ◌∙◌}
 use Rattle.partner_core.specs.Deliveries.{Delivery}
-use Rattle.sqlite_value.specs.declared.value.Value.{Value}
-use Rattle.sqlite_value.specs.declared.value.Value.TheVariants.{Blob, Int, Null, Real, Text}
-use Rattle.sqlite.specs.Order.{Row, column}
-use Rattle.sqlite.specs.Tree.{Trees, IsTable}
-use Rattle.sqlite.specs.Collation.TheVariants.{Binary}
-use Rattle.sqlite.specs.Term.{Term, col}
-use Rattle.sqlite.specs.Query.{Query, Output, IsAnswer}
-use Rattle.sqlite.specs.Program.{overlay}
-use Rattle.sqlite.specs.Effect.{Database, ReadsFirst}
-use Rattle.sqlite.specs.Command.{Command}
-use Rattle.sqlite.specs.Command.TheVariants.{Select}
-use Rattle.sqlite.specs.Given.{HasGiven}
-use Rattle.sqlite.specs.Held as connection
-use Rattle.sqlite.specs.Held.{state}
-use Rattle.sqlite.specs.Listing.{understood, reads_listing}
-use Rattle.sqlite.specs.State.{State, Begins, Shown, IsUnchanged}
-use Rattle.sqlite.proofs.Callers.{IsPlain, command_of, begins_as, given_begin, reads_as}
-use Rattle.sqlite_value.specs.Keys.{ascending}
+use Rattle.sqlite_value.specs.{declared.value.Value.Value, declared.value.Value.TheVariants.{Blob, Int, Null, Real, Text}, Keys.ascending}
 use Rattle.sqlite_value.specs.declared.keys.Key.{Key}
+use Rattle.sqlite.specs.{Order.{Row, column}, Tree.{Trees, IsTable}, Collation.TheVariants.Binary, Term.{Term, col}, Query.{Query, Output, IsAnswer}}
+use Rattle.sqlite.specs.{Program.overlay, Effect.{Database, ReadsFirst}, Command.Command, Command.TheVariants.Select, Given.HasGiven, Held.state}
+use Rattle.sqlite.specs.{Listing.{understood, reads_listing}, State.{State, Begins, Shown, IsUnchanged}}
+use Rattle.sqlite.proofs.Callers.{IsPlain, command_of, begins_as, given_begin, reads_as}
 use Rattle.sqlite_tied.specs.Compute.{everything}
-use Rattle.sqlite_trees.proofs.ListLemmas.{map-map, filter_all}
-use Rattle.sqlite_trees.specs.declared.store.Store.{Ghosts}
+use Rattle.sqlite_trees.{specs.declared.store.Store.Ghosts, proofs.ListLemmas.{map-map, filter_all}}
 use Rattle.sqlite_resolve.specs.Compile.{first}
-use Rattle.office_rows.specs.Tables.{interchange_table, office_schema}
-use Rattle.office_rows.specs.Rows.{Interchange, Rows}
-use Rattle.office_rows.specs.Values.{interchange_values, number_value}
-use Rattle.office_rows.specs.Stored.{HasRows, columns_of}
-use Rattle.office_rows.proofs.WriteLemmas.{rows_of, passes, answer_in_order}
-use Rattle.office_tables.specs.Reading.{OnlyShows}
-use Rattle.office_tables.proofs.WritesLemmas.{is_read, understands_query}
+use Rattle.office_rows.specs.{Tables.{interchange_table, office_schema}, Rows.{Interchange, Rows}, Values.{interchange_values, number_value}}
+use Rattle.office_rows.{specs.Stored.{HasRows, columns_of}, proofs.WriteLemmas.{rows_of, passes, answer_in_order}}
+use Rattle.office_tables.{specs.Reading.OnlyShows, proofs.WritesLemmas.{is_read, understands_query}}
 use Rattle.office_loading.proofs.RowLemmas.{keyed, in_order}
-use Rattle.office_parts.specs.Closing.{is_beyond}
-use Rattle.office_parts.specs.InOrder.{as_delivery}
+use Rattle.office_parts.specs.{Closing.is_beyond, InOrder.as_delivery}
 use Rattle.office_closing.specs.Arriving.{AreApart, AreFirstShown, AreSameShown, HasAll, HasFirst, IsAnother, IsTold, StandInOrder, TellsTexts, arrival_in, arrivals_in, number_in, select_arrivals, shows_beyond}
-use Rattle.office_closing.specs.Copies.{AreFirst}
-use Rattle.office_closing.specs.declared.arriving.Likeness.{Likeness}
+use Rattle.office_closing.specs.{Copies.AreFirst, declared.arriving.Likeness.Likeness}
+use Rattle.sqlite.specs.Held as connection
 use Rattle.office_closing.specs.declared.arriving.Likeness.TheVariants as likeness
 
 -- ---- the query

@@ -1,71 +1,35 @@
 -- Transactions that delete, one after the other.
+use Rattle.std.{specs.Prelude.{◌↔◌, Contains, slice_get}, proofs.{lemmas.Bool.eqb-true, lemmas.Bool.Decides.nat_tests, lemmas.Option.same_Some}}
 use Rattle.std.proofs.Common.{◌≡◌, ℕ, List, [], ◌∷◌, Bool, true, false, ◌&&◌, ◌||◌, ◌==◌, not, Ok, IsTrue, codes, filter, refl, sym, ap₂, ◌∙◌, arith, Result, Err, IfErr, OnErr, OnOk, subst, ◌⊎◌, inl, inr, ◌++◌, ap, None, map, length}
-use Rattle.std.proofs.lemmas.Bool.{eqb-true}
-use Rattle.std.proofs.lemmas.Bool.Decides.{nat_tests}
-use Rattle.sqlite.specs.Collation.TheVariants.{Binary}
-use Rattle.sqlite.specs.Command.TheVariants.{Delete}
-use Rattle.sqlite.specs.Listing.{understood}
-use Rattle.sqlite.specs.Ops.{binary, is_true}
-use Rattle.sqlite.specs.Order.{Row, column}
-use Rattle.sqlite.specs.State.{State, HasCleanDisk, Executes, Shows, Survives, IsRolledBack, KeepsCommit}
-use Rattle.sqlite.specs.Term.{Term, col}
-use Rattle.sqlite.proofs.Callers.{IsPlain, command_of, statement_of, runs_as, survives_begin}
-use Rattle.sqlite_rules.specs.Calls.{ids_of}
-use Rattle.sqlite_rules.specs.declared.error.Rowids.TheVariants.{Given}
-use Rattle.sqlite_sql.specs.declared.ops.BinaryOp.TheVariants.{Compare}
-use Rattle.sqlite_sql.specs.declared.ops.CompareOp.TheVariants.{Eq}
+use Rattle.sqlite.specs.{Collation.TheVariants.Binary, Command.TheVariants.Delete, Listing.understood, Ops.{binary, is_true}, Order.{Row, column}, Tree.Trees}
+use Rattle.sqlite.specs.{State.{State, HasCleanDisk, Executes, Shows, Survives, IsRolledBack, KeepsCommit}, Term.{Term, col}, Held.{Held, state}}
+use Rattle.sqlite.{specs.declared.types.Value.TheVariants.Text, proofs.Callers.{IsPlain, command_of, statement_of, runs_as, survives_begin}}
+use Rattle.sqlite.proofs.StateLemmas.{survives_then, survives_weaker}
+use Rattle.sqlite_rules.specs.{Calls.ids_of, declared.error.Rowids.TheVariants.Given}
+use Rattle.sqlite_sql.specs.{declared.ops.BinaryOp.TheVariants.Compare, declared.ops.CompareOp.TheVariants.Eq}
 use Rattle.sqlite_tied.specs.Compute.{everything}
 use Rattle.edi_messages.specs.Purposes.{CallContent}
-use Rattle.sqlite.specs.declared.types.Value.TheVariants.{Text}
-use Rattle.terminal_core.specs.Rows.{VisitContent}
-use Rattle.terminal_core.specs.State.{side_code, AreNumbered, TerminalState}
-use Rattle.terminal_core.specs.declared.lines.Side.{Side}
-use Rattle.office_rows.specs.Effects.{is_pair}
-use Rattle.office_rows.specs.Rows.{ListingContent, Rows, listing_content}
-use Rattle.office_rows.specs.Stored.{HasRows}
-use Rattle.office_rows.specs.Tables.{interchange_table, listing_table, visit_table, office_schema}
+use Rattle.terminal_core.specs.{Rows.VisitContent, State.{side_code, AreNumbered, TerminalState}, declared.lines.Side.Side, Listings.lines_of}
+use Rattle.terminal_core.{specs.{Restoring.AreOnce, declared.lines.Listing.Listing}, proofs.Whole.{found_at, same_index}}
+use Rattle.office_rows.{specs.{Effects.is_pair, Rows.{ListingContent, Rows, listing_content}, Stored.HasRows}, proofs.Listed.and_true}
+use Rattle.office_rows.{specs.Tables.{interchange_table, listing_table, visit_table, office_schema}, proofs.Creating.{keep_then, on_ok, quiet_then, stores}}
 use Rattle.office_rows.specs.Values.{number_value, interchange_values, line_values, visit_values}
 use Rattle.office_rows.proofs.WriteLemmas.{holds_deleted, rows_of, deletes, equal_numbers, equal_texts}
 use Rattle.office_rows.proofs.Writing.{only_interchanges, only_lines, only_visits, equals}
-use Rattle.office_parts.specs.Bringing.{is_list}
-use Rattle.office_parts.specs.OwnLists.{is_own_line, list_name, rows_without_lists, ListName}
-use Rattle.office_closing.specs.Deleting.{Deletes, without_interchange, without_visits, Becomes}
-use Rattle.office_closing.proofs.FoundLemmas.{list_tied, listings_by}
-use Rattle.office_rows.proofs.Listed.{and_true}
-use Rattle.sqlite.specs.Held.{Held, state}
-use Rattle.sqlite.specs.Tree.{Trees}
-use Rattle.sqlite.proofs.StateLemmas.{survives_then, survives_weaker}
-use Rattle.sqlite_trees.specs.declared.store.Store.{Ghosts}
-use Rattle.office_rows.proofs.Creating.{keep_then, on_ok, quiet_then, stores}
-use Rattle.office_tables.specs.Faults.{IsOfStore}
-use Rattle.office_tables.specs.declared.table_fault.TableFault.{TableFault}
-use Rattle.office_tables.proofs.WritesLemmas.{survives_here}
-use Rattle.office_tables.specs.Writing.{IsUndone}
-use Rattle.office_closing.specs.Clearing.{IsCleared, IsPartlyCleared, StoresLeft, Clears}
-use Rattle.office_tables.proofs.WriteLemmas.{on_failed}
-use Rattle.std.specs.Prelude.{◌↔◌, Contains, slice_get}
-use Rattle.std.proofs.lemmas.Option.{same_Some}
-use Rattle.terminal_core.proofs.Whole.{found_at, same_index}
+use Rattle.office_parts.specs.{Bringing.is_list, OwnLists.{is_own_line, list_name, rows_without_lists, ListName}}
 use Rattle.office_parts.proofs.Splits.{has_contained, contained_has, has_left, has_right, has_pushed}
-use Rattle.office_closing.specs.declared.visits.VisitFault.{VisitFault}
-use Rattle.office_closing.specs.declared.visits.VisitFault.TheVariants.{Differs}
-use Rattle.office_closing.specs.Visits.{AreAlike, AreToGo, GoesBelow, IsCauseOf, IsOtherwiseOver}
-use Rattle.terminal_core.specs.Listings.{lines_of}
-use Rattle.terminal_core.specs.Restoring.{AreOnce}
-use Rattle.terminal_core.specs.declared.lines.Listing.{Listing}
-use Rattle.office_closing.specs.Going.{AreDone}
-use Rattle.office_loading.proofs.Keyed.{listed_once}
-use Rattle.office_closing.specs.Changes.{unmarked}
-use Rattle.office_closing.specs.Lists.{SettledListContent, list_content}
-use Rattle.office_closing.specs.Register.{ArchiveContent, RegisterContent}
-use Rattle.office_closing.specs.declared.faults.CloseFault.{CloseFault}
-use Rattle.office_closing.specs.declared.planning.ClosingLists.{ClosingLists}
-use Rattle.office_closing.specs.declared.planning.History.{History}
-use Rattle.office_closing.specs.declared.planning.Plan.{Plan}
-use Rattle.office_closing.specs.declared.planning.Stage.{Stage}
+use Rattle.office_closing.specs.{Deleting.{Deletes, without_interchange, without_visits, Becomes}, Clearing.{IsCleared, IsPartlyCleared, StoresLeft, Clears}}
+use Rattle.office_closing.specs.{declared.visits.VisitFault.VisitFault, declared.visits.VisitFault.TheVariants.Differs, Going.AreDone, Changes.unmarked}
+use Rattle.office_closing.specs.{Visits.{AreAlike, AreToGo, GoesBelow, IsCauseOf, IsOtherwiseOver}, Lists.{SettledListContent, list_content}}
+use Rattle.office_closing.specs.{Register.{ArchiveContent, RegisterContent}, declared.faults.CloseFault.CloseFault, declared.planning.ClosingLists.ClosingLists}
+use Rattle.office_closing.specs.{declared.planning.History.History, declared.planning.Plan.Plan, declared.planning.Stage.Stage}
 use Rattle.office_closing.specs.Copies.{AreDoneIn, ComesOn, FileNames, GoWith, HasCome, IsOfStore as AreOfStore, OfficeContent, archive_in, lists_at, segments_in, taken_at}
-use Rattle.office_closing.specs.declared.register.Segment.{Segment}
+use Rattle.office_closing.{specs.declared.register.Segment.Segment, proofs.FoundLemmas.{list_tied, listings_by}}
 use Rattle.office_closing.specs.Planning.{AreClosingLists, AreFor, AreInBoth, IsHistory, IsPlan, IsPlanOf, IsRefused, IsRefusedWith, IsTakenFor}
+use Rattle.sqlite_trees.specs.declared.store.Store.{Ghosts}
+use Rattle.office_tables.{specs.{Faults.IsOfStore, declared.table_fault.TableFault.TableFault, Writing.IsUndone}, proofs.WritesLemmas.survives_here}
+use Rattle.office_tables.proofs.WriteLemmas.{on_failed}
+use Rattle.office_loading.proofs.Keyed.{listed_once}
 use Rattle.office_closing.specs.declared.faults.CloseFault.TheVariants as fault
 use Rattle.office_closing.specs.declared.faults.Refusal.TheVariants as refusal
 use Rattle.office_closing.specs.declared.planning.Stage.TheVariants as stage

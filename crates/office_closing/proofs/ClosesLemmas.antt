@@ -1,66 +1,30 @@
 -- Where a closing ends, and what it leaves there.
+use Rattle.std.specs.{Prelude.{Contains, IsPermutation, find}, Option.{option_map, option_or}}
 use Rattle.std.proofs.Common.{inl, inr, Result, Ok, Err, IsTrue, map, sym, subst, ◌∙◌, ◌≡◌, ◌⊎◌, ℕ, ◌<◌, ◌≤◌, List, [], ◌∷◌, ◌++◌, ◌||◌, Bool, true, false, Option, None, Some, filter, not, refl, ap, arith}
-use Rattle.sqlite.specs.Effect.{Database}
-use Rattle.sqlite.specs.State.{State, KeepsCommit, Survives}
-use Rattle.sqlite.specs.Tree.{Trees}
-use Rattle.sqlite.proofs.StateLemmas.{survives_weaker}
-use Rattle.office_rows.specs.Stored.{HasRows}
+use Rattle.sqlite.{specs.{Effect.Database, State.{State, KeepsCommit, Survives}, Tree.Trees}, proofs.StateLemmas.survives_weaker}
+use Rattle.office_rows.specs.{Stored.HasRows, Effects.is_pair, Opened.{NumberKept, OpenedRows}, Rows.{Interchange, Rows}}
 use Rattle.office_tables.specs.declared.table_fault.TableFault.{TableFault}
-use Rattle.office_closing.specs.Changes.{closed_with, marked_for, unchanged, unmarked}
-use Rattle.office_closing.specs.Lists.{list_content, SettledListContent}
-use Rattle.office_closing.specs.Register.{archive_content, RegisterContent, closed_by, newest_visit}
-use Rattle.office_closing.specs.Stored.{HasRegister}
-use Rattle.office_closing.specs.declared.faults.CloseFault.{CloseFault}
-use Rattle.office_closing.specs.declared.faults.File.TheVariants as file
-use Rattle.office_closing.specs.declared.planning.Plan.{Plan}
-use Rattle.office_closing.specs.declared.planning.PutAway.{PutAway}
-use Rattle.office_closing.specs.Clearing.{Clears}
+use Rattle.office_closing.specs.{Changes.{closed_with, marked_for, unchanged, unmarked}, Lists.{list_content, SettledListContent}, Stored.HasRegister}
+use Rattle.office_closing.specs.{Register.{archive_content, RegisterContent, closed_by, newest_visit}, declared.faults.CloseFault.CloseFault, Clearing.Clears}
+use Rattle.office_closing.specs.{declared.planning.Plan.Plan, declared.planning.PutAway.PutAway, Copies.FileNames, Judging.{AreResting, IsJudged, IsResting}}
 use Rattle.office_closing.specs.Closes.{AreHeld, AreInTheirOrder, ArePutAway, HasItsTexts, IsOfClosing, Closes, Closing, HasArchive, Held, IsBeforehand, IsMarkedNow, IsLeft, StoresLeftRows, StoresMarked, StoresRaised, Tells, cleared, closing_content, AreOfSetup, PutsAway}
-use Rattle.office_closing.specs.Copies.{FileNames}
-use Rattle.office_closing.specs.Files.{AreClean, AreIdle, AreRead, Files, IsRead}
-use Rattle.office_closing.specs.Judging.{AreResting, IsJudged, IsResting}
-use Rattle.office_closing.specs.Refusing.{IsFileOf}
-use Rattle.office_closing.specs.Steps.{IsOfWriting, StepsIf, is_unmarked, is_unraised}
-use Rattle.office_closing.proofs.PlanLemmas.{beyond_is_above, of_store_there, written_tells}
-use Rattle.std.specs.Prelude.{Contains, IsPermutation, find}
-use Rattle.std.specs.Option.{option_map, option_or}
-use Rattle.sqlite_rules.proofs.ListLemmas.{contains_had, has_contained, has_filtered, has_found, has_kept, has_left, has_right, some_from, some_has}
-use Rattle.terminal_core.specs.State.{TerminalState}
-use Rattle.terminal_core.proofs.Lined.{same_key, tied_self}
-use Rattle.office_admission.specs.Accounts.{content_after}
-use Rattle.office_replies.specs.Events.{Event}
-use Rattle.office_loading.specs.Closed.{ClosedContent}
-use Rattle.office_loading.specs.OwnOffice.{AreInOrder, IsOwnOffice}
-use Rattle.office_rows.specs.Effects.{is_pair}
-use Rattle.office_rows.specs.Opened.{NumberKept, OpenedRows}
-use Rattle.office_rows.specs.Rows.{Interchange, Rows}
-use Rattle.office_admission.specs.Setups.{SetupContent}
-use Rattle.office_history.specs.After.{AreKeptOnce, SaysSame, machine_after}
-use Rattle.office_history.specs.Cascade.{text_in}
-use Rattle.office_history.proofs.Loads.{ShowsSetupAndTerminal, one_setup}
-use Rattle.office_history.proofs.Once.{once_if_rising, place, place_of}
-use Rattle.office_history.proofs.Runs.{pair_of}
-use Rattle.office_history.proofs.Kept.{Rises}
-use Rattle.office_parts.specs.Archives.{Archive}
-use Rattle.office_parts.specs.Closing.{is_beyond, is_closed}
-use Rattle.office_parts.specs.LeftOver.{rows_beyond}
-use Rattle.office_parts.specs.OwnTerminal.{own_terminal}
-use Rattle.office_parts.proofs.LeftOver.{told_alike}
-use Rattle.office_closing.proofs.TextLemmas.{one_list}
-use Rattle.office_parts.specs.Away.{AreAway, lines_away}
-use Rattle.office_parts.specs.Bringing.{is_list, lines_of}
-use Rattle.office_parts.specs.OwnLists.{ListName, rows_without_lists, without_lists}
-use Rattle.office_parts.proofs.AwayLemmas.{away_with}
-use Rattle.office_parts.proofs.Writings.{own_office_without}
-use Rattle.office_closing.specs.Going.{MayGo, lines_on, name_of}
-use Rattle.office_closing.specs.DoneListLaws.{KeepLines}
+use Rattle.office_closing.specs.{Files.{AreClean, AreIdle, AreRead, Files, IsRead}, Refusing.IsFileOf, Steps.{IsOfWriting, StepsIf, is_unmarked, is_unraised}}
+use Rattle.office_closing.{specs.{Going.{MayGo, lines_on, name_of}, DoneListLaws.KeepLines, Deleting.is_one_of}, proofs.TextLemmas.one_list}
+use Rattle.office_closing.{specs.PuttingAway.{AreNamedThen, ListsThatGoAreAway, Stands}, proofs.PlanLemmas.{beyond_is_above, of_store_there, written_tells}}
 use Rattle.office_closing.proofs.DoneAwayLemmas.{put_away}
-use Rattle.office_closing.specs.Deleting.{is_one_of}
-use Rattle.office_closing.specs.PuttingAway.{AreNamedThen, ListsThatGoAreAway, Stands}
+use Rattle.sqlite_rules.proofs.ListLemmas.{contains_had, has_contained, has_filtered, has_found, has_kept, has_left, has_right, some_from, some_has}
+use Rattle.terminal_core.{specs.State.TerminalState, proofs.Lined.{same_key, tied_self}}
+use Rattle.office_admission.specs.{Accounts.content_after, Setups.SetupContent}
+use Rattle.office_replies.specs.Events.{Event}
+use Rattle.office_loading.specs.{Closed.ClosedContent, OwnOffice.{AreInOrder, IsOwnOffice}}
+use Rattle.office_history.{specs.{After.{AreKeptOnce, SaysSame, machine_after}, Cascade.text_in}, proofs.{Loads.{ShowsSetupAndTerminal, one_setup}, Kept.Rises}}
+use Rattle.office_history.proofs.{Once.{once_if_rising, place, place_of}, Runs.pair_of}
+use Rattle.office_parts.specs.{Archives.Archive, Closing.{is_beyond, is_closed}, LeftOver.rows_beyond, OwnTerminal.own_terminal, Away.{AreAway, lines_away}}
+use Rattle.office_parts.{specs.{Bringing.{is_list, lines_of}, OwnLists.{ListName, rows_without_lists, without_lists}}, proofs.LeftOver.told_alike}
+use Rattle.office_parts.proofs.{AwayLemmas.away_with, Writings.own_office_without}
+use Rattle.office_closing.specs.declared.faults.File.TheVariants as file
 use Rattle.office_closing.specs.declared.faults.CloseFault.TheVariants as fault
 use Rattle.office_closing.proofs.FileLemmas as lemma
-
--- ==== ClosesLemmas: Where a closing ends, and what it leaves there.
 
 -- ---- reading
 

@@ -1,47 +1,21 @@
 -- What calls in a transaction come to, one after the other, and what the whole one commits.
+use Rattle.std.{specs.{Ordering.is_lt, List.Sorted.{IsPermutation, IsSortedBy}}, proofs.{lemmas.List.append-nil, lemmas.List.Sorted.IsPermutation-map}}
 use Rattle.std.proofs.Common.{◌≡◌, ◌++◌, List, [], ◌∷◌, IsTrue, Result, Ok, true, take, refl, sym, ap, subst, ◌∙◌, append_assoc, arith, ℕ, Bool, false, Err, map, filter}
-use Rattle.std.proofs.lemmas.List.{append-nil}
-use Rattle.sqlite.specs.Effect.{Database}
-use Rattle.sqlite.specs.State.{State, HasCleanDisk, Shows, Survives, Shown}
-use Rattle.sqlite.specs.Tree.{Trees}
-use Rattle.office_rows.specs.Steps.{Turns}
-use Rattle.office_rows.specs.Stored.{HasEmpty, columns_of}
-use Rattle.office_rows.specs.Tables.{no_schema}
-use Rattle.office_rows.proofs.Creating.{keep_then, quiet_then, on_ok}
-use Rattle.office_tables.specs.declared.table_fault.TableFault.{TableFault}
-use Rattle.office_tables.proofs.WritesLemmas.{survives_here}
-use Rattle.office_closing.specs.declared.register.Segment.{Segment}
-use Rattle.office_closing.specs.Changes.{empty_register, unchanged, with_segments, with_lists, with_taken}
-use Rattle.office_closing.specs.Lists.{SettledListContent, put_list, put_lists}
-use Rattle.office_closing.specs.Register.{RegisterContent}
-use Rattle.office_closing.specs.Stored.{HasRegister, HasWhole, StoresRegister}
+use Rattle.sqlite.specs.{Effect.Database, State.{State, HasCleanDisk, Shows, Survives, Shown}, Tree.Trees, declared.types.Value.TheVariants.Null, Order.Row}
+use Rattle.sqlite.specs.{Collation.TheVariants.Binary, Schema.Schema, Table.Table, Term.{Term, eval_all}, Query.{Output, key_cmp}, Program.overlay}
+use Rattle.sqlite.{specs.{Command.TheVariants.Select, Listing.{understood, reads_listing}}, proofs.Callers.{IsPlain, command_of, reads_as}}
+use Rattle.office_rows.specs.{Steps.Turns, Stored.{HasEmpty, columns_of}, Tables.no_schema, Shown.{columns_at, ShowsTable}}
+use Rattle.office_rows.proofs.{Creating.{keep_then, quiet_then, on_ok}, Listed.{unmapped, sorted_as}, WriteLemmas.{rows_of, passes, answer_in_order}}
+use Rattle.office_tables.{specs.declared.table_fault.TableFault.TableFault, proofs.WritesLemmas.survives_here}
+use Rattle.office_closing.specs.{declared.register.Segment.Segment, Changes.{empty_register, unchanged, with_segments, with_lists, with_taken}}
+use Rattle.office_closing.specs.{Lists.{SettledListContent, put_list, put_lists}, Register.RegisterContent, Stored.{HasRegister, HasWhole, StoresRegister}}
 use Rattle.office_closing.specs.Tables.{register_tables, archive_table, segment_table, closed_for_table, settled_table, taken_table, Layout, register_schema, schema_in, has_table}
-use Rattle.office_closing.specs.declared.register_reading.Later.TheVariants as later
 use Rattle.office_closing.specs.Transactions.{Holding, Steps, Writes, WritesTo, WritesIfOpen, IsMade, HasBecome}
-use Rattle.std.specs.Ordering.{is_lt}
-use Rattle.std.specs.List.Sorted.{IsPermutation, IsSortedBy}
-use Rattle.std.proofs.lemmas.List.Sorted.{IsPermutation-map}
-use Rattle.sqlite.specs.declared.types.Value.TheVariants.{Null}
-use Rattle.sqlite.specs.Collation.TheVariants.{Binary}
-use Rattle.sqlite.specs.Order.{Row}
-use Rattle.sqlite.specs.Schema.{Schema}
-use Rattle.sqlite.specs.Table.{Table}
-use Rattle.sqlite.specs.Term.{Term, eval_all}
-use Rattle.sqlite.specs.Query.{Output, key_cmp}
-use Rattle.sqlite.specs.Program.{overlay}
-use Rattle.sqlite.specs.Command.TheVariants.{Select}
-use Rattle.sqlite.specs.Listing.{understood, reads_listing}
 use Rattle.sqlite_resolve.specs.declared.error.CompileError.{CompileError}
-use Rattle.sqlite.proofs.Callers.{IsPlain, command_of, reads_as}
 use Rattle.sqlite_trees.proofs.ListLemmas.{map-map, filter_all, all_of}
-use Rattle.sqlite_value.specs.Keys.{ascending}
-use Rattle.sqlite_value.specs.declared.keys.Key.{Key}
-use Rattle.office_rows.specs.Shown.{columns_at, ShowsTable}
-use Rattle.office_rows.proofs.Listed.{unmapped, sorted_as}
-use Rattle.office_rows.proofs.WriteLemmas.{rows_of, passes, answer_in_order}
+use Rattle.sqlite_value.specs.{Keys.ascending, declared.keys.Key.Key}
+use Rattle.office_closing.specs.declared.register_reading.Later.TheVariants as later
 use Rattle.office_closing.proofs.WriteTexts as texts
-
--- ==== Committing: What calls in a transaction come to, one after the other, and what the whole one commits.
 
 -- the trees of a database that has the register store it
 pub stores : (content : RegisterContent) (db : Database) → HasWhole content db → StoresRegister content db.trees

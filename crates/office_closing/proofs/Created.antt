@@ -1,44 +1,24 @@
 -- What each statement that makes a table makes of an empty database.
-use Rattle.std.proofs.Common.{◌≡◌, ℕ, List, [], ◌∷◌, None, Ok, false, ap, sym, subst, ◌∙◌, zero, suc, ◌+◌, ◌<◌, ◌==◌, ◌&&◌, ◌++◌, inl, inr, true, length, take, drop, set, get_or, max, nat_le, nat_lt, if◌then◌else◌, refl, ap₂, add-one, arith, Option, Some, fold}
-use Rattle.std.proofs.lemmas.List.Sorted.{IsPermutation-refl}
-use Rattle.sqlite.specs.Effect.{Database, IsDatabase}
-use Rattle.sqlite.specs.Schema.{Schema}
-use Rattle.sqlite.specs.Table.{Table}
-use Rattle.sqlite.specs.Does.{Tally, lacks_sequence}
-use Rattle.sqlite.specs.Command.TheVariants.{CreateTable, Nothing}
-use Rattle.sqlite.specs.State.{State, Executes, Writes}
-use Rattle.sqlite.specs.Compile.{table_defined_by}
-use Rattle.sqlite.specs.Listing.{understood}
-use Rattle.sqlite.proofs.Callers.{IsPlain, command_of, statement_of, runs_as}
-use Rattle.sqlite_catalog.specs.Change.{created, next_tree, KeepsRows}
-use Rattle.sqlite_catalog.specs.Listing.{Lists}
-use Rattle.sqlite_trees.specs.Objects.{catalog_tree}
-use Rattle.office_rows.specs.Stored.{Holds, HasEmpty}
-use Rattle.office_rows.specs.Tables.{schema_of}
-use Rattle.office_rows.proofs.WriteLemmas.{went, same_value}
-use Rattle.office_closing.specs.Changes.{empty_register}
-use Rattle.office_closing.specs.Register.{RegisterContent, is_of, last_closed}
-use Rattle.office_closing.specs.Stored.{HasRegister, HasRegisterIn, HasListed, HasWhole, archive_values, segment_values, file_values, list_values, if_any}
-use Rattle.office_closing.specs.Tables.{archive_table, segment_table, closed_for_table, settled_table, taken_table, Layout, older, former, whole, register_tables, older_schema, former_schema, register_schema}
-use Rattle.office_rows.proofs.Reading.{nothing_held}
 use Rattle.std.specs.List.{list_all}
 use Rattle.std.proofs.lemmas.Bool.{cases_Bool, and_parts}
 use Rattle.std.proofs.lemmas.Bool.Decides.{nat_tests}
-use Rattle.std.proofs.lemmas.List.{take_more, get_or-set_same, get_or-set_other}
-use Rattle.std.proofs.lemmas.List.Recursion.{and_at, max_push}
-use Rattle.std.proofs.Math.Seq.{drop-cons}
-use Rattle.office_admission.specs.Limits.{most_partners}
-use Rattle.office_closing.specs.declared.register.Segment.{Segment}
-use Rattle.office_closing.specs.Sound.{is_within, close_more}
+use Rattle.std.proofs.Common.{◌≡◌, ℕ, List, [], ◌∷◌, None, Ok, false, ap, sym, subst, ◌∙◌, zero, suc, ◌+◌, ◌<◌, ◌==◌, ◌&&◌, ◌++◌, inl, inr, true, length, take, drop, set, get_or, max, nat_le, nat_lt, if◌then◌else◌, refl, ap₂, add-one, arith, Some, fold}
+use Rattle.std.proofs.{lemmas.List.{take_more, get_or-set_same, get_or-set_other}, lemmas.List.Recursion.{and_at, max_push}, Math.Seq.drop-cons}
 use Rattle.std.proofs.lemmas.Slice.Eq.{bytes_eq-Decides}
+use Rattle.sqlite.specs.{Effect.{Database, IsDatabase}, Schema.Schema, Table.Table, Does.{Tally, lacks_sequence}, Command.TheVariants.{CreateTable, Nothing}}
+use Rattle.sqlite.specs.{State.{State, Executes, Writes}, Compile.table_defined_by, Listing.understood}
+use Rattle.sqlite.proofs.Callers.{IsPlain, command_of, statement_of, runs_as}
+use Rattle.sqlite_catalog.specs.{Change.{created, next_tree, KeepsRows}, Listing.Lists}
+use Rattle.sqlite_trees.specs.Objects.{catalog_tree}
+use Rattle.office_rows.{specs.{Stored.{Holds, HasEmpty}, Tables.schema_of}, proofs.{WriteLemmas.{went, same_value}, Reading.nothing_held}}
+use Rattle.office_closing.specs.{Changes.empty_register, Register.{RegisterContent, is_of, last_closed}, declared.register.Segment.Segment}
+use Rattle.office_closing.specs.Stored.{HasRegister, HasRegisterIn, HasListed, HasWhole, archive_values, segment_values, file_values, list_values, if_any}
+use Rattle.office_closing.specs.Tables.{archive_table, segment_table, closed_for_table, settled_table, taken_table, Layout, older, former, whole, register_tables, older_schema, former_schema, register_schema}
+use Rattle.office_closing.specs.{Sound.{is_within, close_more}, Lists.{SettledListContent, is_of_list, lines_of_list}}
+use Rattle.office_admission.specs.Limits.{most_partners}
 use Rattle.edi_messages.specs.Purposes.{CallContent}
-use Rattle.terminal_core.specs.State.{side_code}
-use Rattle.terminal_core.specs.declared.lines.Side.{Side}
-use Rattle.terminal_core.specs.declared.lines.Side.TheVariants.{Load, Discharge}
-use Rattle.office_closing.specs.Lists.{SettledListContent, is_of_list, lines_of_list}
+use Rattle.terminal_core.specs.{State.side_code, declared.lines.Side.Side, declared.lines.Side.TheVariants.{Load, Discharge}}
 use Rattle.office_closing.proofs.WriteTexts as texts
-
--- ==== Created: What each statement that makes a table makes of an empty database.
 
 -- a sound database lists its tables
 pub listed_by : {schema : Schema} (db : Database) → db.schema ≡ schema → IsDatabase db → Lists (db.trees catalog_tree) schema

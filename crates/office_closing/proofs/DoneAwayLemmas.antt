@@ -1,40 +1,20 @@
 -- Lists that are put away are away.
+use Rattle.std.specs.{Prelude.{◌≢◌, ◌||◌, ◌&&◌, not, filter, Contains, IsPermutation}, List.AllByRecursion, Ordering.eq_by_cmp}
 use Rattle.std.proofs.Common.{◌≡◌, ℕ, ◌+◌, ◌<◌, ◌≤◌, List, [], ◌∷◌, length, map, Bool, true, false, cond, None, Some, inl, inr, refl, sym, ap, ap₂, subst, ◌∙◌, arith}
-use Rattle.std.specs.Prelude.{◌≢◌, ◌||◌, ◌&&◌, not, filter, Contains, IsPermutation}
-use Rattle.std.specs.List.{AllByRecursion}
-use Rattle.std.specs.Ordering.{eq_by_cmp}
 use Rattle.std.proofs.lemmas.Bool.{cases_eq, cases_order}
 use Rattle.edi_messages.specs.declared.codes.PartnerKind.{PartnerKind}
-use Rattle.partner_core.specs.Deliveries.{Delivery, first_text, run}
-use Rattle.partner_core.specs.Numbered.{with_number}
-use Rattle.partner_core.proofs.Orders.{free_after_run}
-use Rattle.terminal_core.specs.Changes.{TerminalRows}
-use Rattle.terminal_core.specs.State.{LineKey, Lines, line_key}
-use Rattle.terminal_core.specs.Versions.{newest}
-use Rattle.terminal_core.specs.declared.lines.LineState.TheVariants.{Done}
+use Rattle.partner_core.{specs.{Deliveries.{Delivery, first_text, run}, Numbered.with_number}, proofs.Orders.free_after_run}
+use Rattle.terminal_core.specs.{Changes.TerminalRows, State.{LineKey, Lines, line_key}, Versions.newest, declared.lines.LineState.TheVariants.Done}
 use Rattle.terminal_core.proofs.Lined.{order, keys_total, same_key, tied_self}
-use Rattle.office_admission.specs.Accounts.{content_after}
-use Rattle.office_admission.specs.Deliveries.{deliveries_of}
+use Rattle.office_admission.specs.{Accounts.content_after, Deliveries.deliveries_of, Setups.SetupContent}
 use Rattle.office_replies.specs.Events.{Event}
-use Rattle.office_rows.specs.ByKey.{line_entry, lines_by}
-use Rattle.office_rows.specs.Rows.{ListingContent, Partner, Rows}
-use Rattle.office_admission.specs.Setups.{SetupContent}
-use Rattle.office_history.specs.After.{SaysSame, accounts_from, machine_after}
-use Rattle.office_history.specs.Cascade.{text_in}
-use Rattle.office_history.proofs.Kept.{head_in, tail_in}
-use Rattle.office_history.proofs.Accounted.{text_within}
-use Rattle.office_parts.specs.Archives.{Archive}
-use Rattle.office_parts.specs.Parts.{Archived, ArePartsAfter}
-use Rattle.office_parts.proofs.Takings.{free_in_whole, own_rows}
-use Rattle.office_parts.proofs.LeftOver.{told_alike}
-use Rattle.office_parts.specs.Away.{AreAway, ArePutAway, HasDoneLine, lines_away, lists_after}
-use Rattle.office_parts.specs.Bringing.{is_list, is_of, lines_of}
-use Rattle.office_parts.specs.Naming.{AreHere, lists_named_by}
-use Rattle.office_parts.specs.OwnLists.{ListName, is_own_line, list_name, list_of, rows_without_lists}
-use Rattle.office_parts.proofs.Reading.{lists_are, named_same}
-use Rattle.office_parts.proofs.BringingLemmas.{same_tests, twice}
-use Rattle.office_closing.specs.Going.{IsWaiting, MayGo, lines_on, lists_in}
-use Rattle.office_closing.specs.DoneListLaws.{AwayStaysWithClosing, KeepLines, PutAwayListsAreAway}
+use Rattle.office_rows.specs.{ByKey.{line_entry, lines_by}, Rows.{ListingContent, Partner, Rows}}
+use Rattle.office_history.{specs.{After.{SaysSame, accounts_from, machine_after}, Cascade.text_in}, proofs.{Kept.{head_in, tail_in}, Accounted.text_within}}
+use Rattle.office_parts.specs.{Archives.Archive, Parts.{Archived, ArePartsAfter}, Away.{AreAway, ArePutAway, HasDoneLine, lines_away, lists_after}}
+use Rattle.office_parts.{specs.{Bringing.{is_list, is_of, lines_of}, Naming.{AreHere, lists_named_by}}, proofs.Takings.{free_in_whole, own_rows}}
+use Rattle.office_parts.{specs.OwnLists.{ListName, is_own_line, list_name, list_of, rows_without_lists}, proofs.LeftOver.told_alike}
+use Rattle.office_parts.proofs.{Reading.{lists_are, named_same}, BringingLemmas.{same_tests, twice}}
+use Rattle.office_closing.specs.{Going.{IsWaiting, MayGo, lines_on, lists_in}, DoneListLaws.{AwayStaysWithClosing, KeepLines, PutAwayListsAreAway}}
 use Rattle.std.specs.FinMap as finite_map
 
 -- ---- lines of lists that are not away

@@ -1,49 +1,25 @@
 -- What a closing comes to, file by file: after all four were read, a step that changes a register, and a store that is cleared.
+use Rattle.std.{specs.{Prelude.{nat_le, nat_lt, String, Contains}, Option.{option_map, option_and_then}}, proofs.lemmas.List.Folds.list_any-append}
 use Rattle.std.proofs.Common.{◌≡◌, ◌⊎◌, inl, inr, ℕ, ◌<◌, ◌≤◌, List, [], ◌∷◌, ◌++◌, Bool, true, false, ◌&&◌, ◌||◌, ◌==◌, Option, None, Some, refl, sym, ap, subst, ◌∙◌, string_bytes, zero, suc, get_or, length, arith, Result, Ok, Err, IsTrue, OnErr, map}
-use Rattle.std.specs.Prelude.{nat_le, nat_lt, String, Contains}
-use Rattle.std.specs.Option.{option_map, option_and_then}
 use Rattle.std.proofs.lemmas.Bool.{eqb-true, eq-eqb, le-leb, leb-true, lt-ltb, ltb-true, cases_Bool}
-use Rattle.std.proofs.lemmas.List.Folds.{list_any-append}
-use Rattle.office_rows.specs.Rows.{Interchange, Rows}
-use Rattle.office_history.specs.After.{AreKeptOnce, reply_if_any, reply_in}
-use Rattle.office_history.specs.Cascade.{text_in}
-use Rattle.office_tables.specs.Answers.{IsKept, RepliesAs}
-use Rattle.office_tables.specs.Faults.{IsOfStoreOr}
-use Rattle.office_tables.specs.declared.interchanges.Kept.{Kept}
-use Rattle.office_tables.specs.declared.table_fault.TableFault.{TableFault}
+use Rattle.std.proofs.lemmas.List.Elements.{Contains-append_cases, Contains-append_left, Contains-append_right}
+use Rattle.office_rows.specs.{Rows.{Interchange, Rows}, Stored.HasRows}
+use Rattle.office_history.specs.{After.{AreKeptOnce, reply_if_any, reply_in}, Cascade.text_in}
+use Rattle.office_tables.specs.{Answers.{IsKept, RepliesAs}, Faults.IsOfStoreOr, declared.interchanges.Kept.Kept, declared.table_fault.TableFault.TableFault}
 use Rattle.office_tables.specs.declared.table_fault.TableFault.TheVariants.{Store, Damaged, Version, Memory}
 use Rattle.office_tables.proofs.WriteLemmas.{none_kept, one_kept, no_text, text_kept}
-use Rattle.office_closing.specs.declared.faults.File.{File}
-use Rattle.office_closing.specs.declared.faults.FileFault.{FileFault}
-use Rattle.office_closing.specs.declared.comparing.Numbers.{Numbers}
+use Rattle.office_closing.specs.{declared.faults.File.File, declared.faults.FileFault.FileFault, declared.comparing.Numbers.Numbers, Planning.AreInBoth}
 use Rattle.office_closing.specs.Comparing.{kept_text, kept_reply, IsSameKept, IsToldAlike, IsComparedAs, HasUnfitAmong, IsOfEither, IsOfFile}
-use Rattle.office_closing.specs.Deleting.{is_of, is_among, all_but, goes, is_one_of, with_visits_that, without_visits}
-use Rattle.std.proofs.lemmas.List.Elements.{Contains-append_cases, Contains-append_left, Contains-append_right}
-use Rattle.office_closing.specs.Lists.{SettledListContent, list_content}
-use Rattle.office_closing.specs.Planning.{AreInBoth}
-use Rattle.sqlite.specs.Effect.{Database}
-use Rattle.sqlite.specs.State.{State, HasCleanDisk, IsUnchanged, Survives}
-use Rattle.sqlite.specs.Tree.{Trees}
-use Rattle.sqlite.proofs.StateLemmas.{survives_then}
-use Rattle.office_rows.specs.Stored.{HasRows}
-use Rattle.office_closing.specs.Changes.{closed_with, marked_for, unchanged, unmarked}
-use Rattle.office_closing.specs.Register.{RegisterContent, archive_content}
-use Rattle.office_closing.specs.Stored.{HasRegister}
-use Rattle.office_closing.specs.Transactions.{IsSettled}
-use Rattle.office_closing.specs.declared.faults.CloseFault.{CloseFault}
-use Rattle.office_closing.specs.declared.planning.Plan.{Plan}
-use Rattle.office_closing.specs.declared.planning.Stage.{Stage}
-use Rattle.office_closing.specs.Clearing.{Clears, IsWithoutSome, IsWithoutSomeLists, IsWithoutSomeVisits}
+use Rattle.office_closing.specs.{Deleting.{is_of, is_among, all_but, goes, is_one_of, with_visits_that, without_visits}, Stored.HasRegister, Copies.FileNames}
+use Rattle.office_closing.specs.{Lists.{SettledListContent, list_content}, Changes.{closed_with, marked_for, unchanged, unmarked}, Transactions.IsSettled}
+use Rattle.office_closing.specs.{Register.{RegisterContent, archive_content}, declared.faults.CloseFault.CloseFault, declared.planning.Plan.Plan}
+use Rattle.office_closing.specs.{declared.planning.Stage.Stage, Clearing.{Clears, IsWithoutSome, IsWithoutSomeLists, IsWithoutSomeVisits}}
 use Rattle.office_closing.specs.Closes.{AreHeld, Closing, HasArchive, Held, IsAtStage, IsLeft, IsMarkedNow, StoresLeftRows, StoresMarked, StoresRaised, cleared, closing_content, raised_register}
-use Rattle.office_closing.specs.Copies.{FileNames}
-use Rattle.office_closing.specs.Files.{AreClean, AreRead, Files}
-use Rattle.office_closing.specs.Judging.{AreResting, IsJudged, IsResting}
-use Rattle.office_closing.specs.Steps.{IsAsBefore, StepsIf, is_unmarked, is_unraised}
-use Rattle.office_parts.specs.LeftOver.{rows_without}
-use Rattle.office_parts.specs.OwnLists.{rows_without_lists}
-use Rattle.office_parts.proofs.BringingLemmas.{more_away}
-use Rattle.office_closing.proofs.ClearLemmas.{clears_failed, clears_then, clears_weaker}
+use Rattle.office_closing.specs.{Files.{AreClean, AreRead, Files}, Judging.{AreResting, IsJudged, IsResting}}
+use Rattle.office_closing.{specs.Steps.{IsAsBefore, StepsIf, is_unmarked, is_unraised}, proofs.ClearLemmas.{clears_failed, clears_then, clears_weaker}}
 use Rattle.office_closing.proofs.NumberLemmas.{lists_none, and_both, deleted_none, deleted_twice, or_parts, whole_is_some, whole_is_some_visits, with_all, with_both}
+use Rattle.sqlite.{specs.{Effect.Database, State.{State, HasCleanDisk, IsUnchanged, Survives}, Tree.Trees}, proofs.StateLemmas.survives_then}
+use Rattle.office_parts.{specs.{LeftOver.rows_without, OwnLists.rows_without_lists}, proofs.BringingLemmas.more_away}
 use Rattle.office_closing.specs.declared.faults.File.TheVariants as file
 use Rattle.office_closing.specs.declared.planning.Stage.TheVariants as stage
 
@@ -379,9 +355,6 @@ module _ (names : FileNames) (old mid : Files) (plan : Plan) (rests : AreResting
 
   pub register_committed : AreClean mid → (held : Held) → AreHeld held old → HasRegister held.register mid.register.committed
   register_committed = register_there
-
-  pub is_judged : AreClean mid → (held : Held) → AreHeld held old → IsJudged held names plan
-  is_judged = found
 
 -- ==== LeftLemmas: What is left of a store that is cleared of interchanges, then of visits, and then of lists.
 

@@ -1,44 +1,24 @@
 -- What each statement that writes makes of a register.
+use Rattle.std.{specs.{List.{flat_map, filter_map, AllByRecursion, list_all}, List.Sorted.IsPermutation}, proofs.lemmas.Bool.{cases_Bool, and_parts}}
 use Rattle.std.proofs.Common.{◌≡◌, ℕ, List, [], ◌∷◌, ◌++◌, append-nil, map, slice_get, true, false, Some, None, Ok, refl, sym, ap, subst, ◌∙◌, length, ◌/◌, ◌==◌, is_lt, int_cmp, fold, MatchBool, if◌then◌else◌, arith, zero, suc, ◌+◌, ◌<◌, ◌≤◌, inl, inr, take, set, replicate, get_or, max, nat_le}
-use Rattle.std.specs.List.{flat_map, filter_map, AllByRecursion, list_all}
-use Rattle.std.specs.List.Sorted.{IsPermutation}
 use Rattle.std.proofs.lemmas.List.Sorted.{IsPermutation-trans, IsPermutation-cons, IsPermutation-map, IsPermutation-middle, IsPermutation-refl, IsPermutation-sym}
-use Rattle.sqlite.specs.Order.{Row, column}
-use Rattle.sqlite.specs.Term.{Term}
-use Rattle.sqlite.specs.Table.{Table}
-use Rattle.sqlite.specs.Source.TheVariants.{Values}
-use Rattle.sqlite.specs.Command.TheVariants.{Insert}
-use Rattle.sqlite_schema.specs.declared.schema.Keys.TheVariants.{Enforced}
-use Rattle.sqlite_schema.specs.Rules.{parent_key}
-use Rattle.sqlite_rules.specs.Cast.{cast_row}
-use Rattle.sqlite_rules.specs.declared.error.Rowids.TheVariants.{Chosen, Above}
-use Rattle.sqlite_rules.specs.Edit.{edit_of, taken_by, with_rowid, put_all, Applies}
+use Rattle.std.proofs.{lemmas.Bool.Decides.nat_tests, lemmas.List.{take_more, get_or-map, get_or-set_same, get_or-set_other}}
+use Rattle.sqlite.specs.{Order.{Row, column}, Term.Term, Table.Table, Source.TheVariants.Values, Command.TheVariants.Insert, Effect.{Database, value_rows}}
+use Rattle.sqlite.specs.{Rows.{Written, Task, stamped, CountsIn, count_of, higher, rowids_for, sequence, Gives}, Does.{Tally, Does, OnRows, AtPlace}}
+use Rattle.sqlite.specs.{State.{State, mode_of, Writes, Executes}, declared.types.Value.TheVariants.Null, Listing.understood}
+use Rattle.sqlite.proofs.Callers.{one_step, statement_of, runs_as}
+use Rattle.sqlite_schema.specs.{declared.schema.Keys.TheVariants.Enforced, Rules.parent_key}
+use Rattle.sqlite_rules.specs.{Cast.cast_row, declared.error.Rowids.TheVariants.{Chosen, Above}, Edit.{edit_of, taken_by, with_rowid, put_all, Applies}}
 use Rattle.sqlite_rules.specs.Action.{works, work_by, pairs, deed_for, Writes as Steps}
-use Rattle.sqlite.specs.Effect.{Database, value_rows}
 use Rattle.sqlite_trees.specs.Objects.{catalog_tree}
 use Rattle.sqlite_catalog.specs.Listing.{Lists}
-use Rattle.sqlite.specs.Rows.{Written, Task, stamped, CountsIn, count_of, higher, rowids_for, sequence, Gives}
-use Rattle.sqlite.specs.Does.{Tally, Does, OnRows, AtPlace}
-use Rattle.sqlite.specs.State.{State, mode_of, Writes, Executes}
-use Rattle.sqlite.proofs.Callers.{one_step, statement_of, runs_as}
-use Rattle.office_rows.specs.Stored.{Holds, columns_of}
-use Rattle.office_rows.proofs.Creating.{put_all_fresh, put_all_shaped}
+use Rattle.office_rows.{specs.{Stored.{Holds, columns_of}, Values.number_value}, proofs.Creating.{put_all_fresh, put_all_shaped}}
 use Rattle.office_rows.proofs.WriteLemmas.{went, same_value, cast_null, cast_int}
 use Rattle.office_closing.specs.Tables.{register_schema, archive_table, segment_table, closed_for_table, settled_table, taken_table}
+use Rattle.office_closing.specs.{declared.register.Segment.Segment, Changes.{with_archive, with_segments, with_lists, with_taken, unmarked, marked_for}}
+use Rattle.office_closing.specs.{Lists.{SettledListContent, comes_before, put_list}, Register.{ArchiveContent, RegisterContent, is_of, last_closed}}
+use Rattle.office_closing.specs.{Stored.{HasWhole, archive_values, segment_values, file_values, list_values}, Sound.{is_sound, is_within, IsOfAccount}}
 use Rattle.office_closing.proofs.Created.{listed_by, last_pushed}
-use Rattle.sqlite.specs.declared.types.Value.TheVariants.{Null}
-use Rattle.sqlite.specs.Listing.{understood}
-use Rattle.office_rows.specs.Values.{number_value}
-use Rattle.terminal_core.specs.State.{side_code}
-use Rattle.office_closing.specs.declared.register.Segment.{Segment}
-use Rattle.office_closing.specs.Changes.{with_archive, with_segments, with_lists, with_taken, unmarked, marked_for}
-use Rattle.office_closing.specs.Lists.{SettledListContent, comes_before, put_list}
-use Rattle.office_closing.specs.Register.{ArchiveContent, RegisterContent, is_of, last_closed}
-use Rattle.office_closing.specs.Stored.{HasWhole, archive_values, segment_values, file_values, list_values}
-use Rattle.std.proofs.lemmas.Bool.{cases_Bool, and_parts}
-use Rattle.std.proofs.lemmas.Bool.Decides.{nat_tests}
-use Rattle.std.proofs.lemmas.List.{take_more, get_or-map, get_or-set_same, get_or-set_other}
-use Rattle.office_closing.specs.Sound.{is_sound, is_within, IsOfAccount}
 use Rattle.office_closing.proofs.WriteTexts as texts
 
 -- ==== Inserting: What inserting a row makes of its table.

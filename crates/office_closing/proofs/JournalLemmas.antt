@@ -1,19 +1,10 @@
 -- The journal of all files, with one archive more.
 use Rattle.std.proofs.Common.{◌≡◌, ℕ, ◌+◌, ◌≤◌, zero, suc, List, [], ◌∷◌, ◌++◌, map, filter, length, drop, refl, sym, ap, subst, ◌∙◌, arith}
-use Rattle.std.proofs.lemmas.List.{drop_at, length-map, map-append}
-use Rattle.std.proofs.lemmas.List.Elements.{filter-append}
-use Rattle.partner_core.specs.Deliveries.{Delivery}
+use Rattle.std.proofs.{lemmas.List.{drop_at, length-map, map-append}, lemmas.List.Elements.filter-append}
 use Rattle.office_rows.specs.Rows.{Interchange}
-use Rattle.office_parts.specs.Archives.{Archive}
-use Rattle.office_parts.specs.ArchiveJournal.{body_of, carried_on, journal_beyond, texts_added, texts_beyond}
-use Rattle.office_parts.specs.Closing.{is_beyond}
-use Rattle.office_parts.specs.Copies.{closed_after, is_above}
-use Rattle.office_parts.specs.InOrder.{as_delivery}
-use Rattle.office_parts.specs.Journal.{text_of}
-use Rattle.office_parts.proofs.Files.{above_twice, deliveries_beyond}
-use Rattle.office_closing.specs.Arriving.{arrivals}
-use Rattle.office_closing.specs.Copies.{AreFirst}
-use Rattle.office_closing.specs.Journal.{ClosingsKeepJournal, carried_after}
+use Rattle.office_parts.specs.{Archives.Archive, ArchiveJournal.{body_of, carried_on, journal_beyond, texts_added, texts_beyond}, Closing.is_beyond}
+use Rattle.office_parts.{specs.{Copies.{closed_after, is_above}, InOrder.as_delivery, Journal.text_of}, proofs.Files.{above_twice, deliveries_beyond}}
+use Rattle.office_closing.specs.{Arriving.arrivals, Copies.AreFirst, Journal.{ClosingsKeepJournal, carried_after}}
 
 bodies_are : (interchanges : List Interchange) → map body_of interchanges ≡ map text_of (map as_delivery interchanges)
 bodies_are [] = refl

@@ -1,50 +1,27 @@
 -- What a plan says of the rows and the registers of store and archive.
+use Rattle.std.{specs.{Prelude.{Contains, IsPermutation, IsUtf8}, List.AllByRecursion}, proofs.lemmas.Bool.{and_parts, eqb-true}}
 use Rattle.std.proofs.Common.{◌≡◌, ◌⊎◌, inl, inr, ℕ, ◌+◌, ◌==◌, ◌<◌, ◌≤◌, List, [], ◌∷◌, ◌++◌, ◌&&◌, None, Bool, true, false, cond, if◌then◌else◌, filter, map, length, refl, sym, ap, ap₂, subst, ◌∙◌, arith, Result, Ok, Err}
-use Rattle.std.specs.Prelude.{Contains, IsPermutation, IsUtf8}
-use Rattle.std.specs.List.{AllByRecursion}
-use Rattle.std.proofs.lemmas.Bool.{and_parts, eqb-true}
-use Rattle.std.proofs.lemmas.Str.{IsUtf8-string_bytes}
-use Rattle.std.proofs.lemmas.List.Sorted.{Contains-permutation, IsPermutation-sym}
-use Rattle.terminal_core.specs.Rows.{VisitContent}
-use Rattle.terminal_core.specs.State.{last_number}
+use Rattle.std.proofs.{lemmas.Str.IsUtf8-string_bytes, lemmas.List.Sorted.{Contains-permutation, IsPermutation-sym}}
+use Rattle.terminal_core.specs.{Rows.VisitContent, State.last_number}
 use Rattle.office_loading.specs.Tables.{LoadsOwn}
-use Rattle.office_closing.specs.Waiting.{AreWaitedFor}
-use Rattle.office_closing.proofs.WaitingLemmas.{accounts_by_id, all_found, goes_as, one_nexts}
-use Rattle.office_parts.specs.OwnLists.{ListName}
-use Rattle.office_closing.specs.declared.register.Segment.{Segment}
-use Rattle.office_closing.specs.Changes.{closed_with, marked_for, unmarked}
-use Rattle.office_closing.specs.declared.settled_lists.SettledList.{SettledList}
-use Rattle.office_closing.specs.Lists.{SettledListContent, comes_before, list_content, put_list, put_lists}
-use Rattle.office_closing.specs.Register.{ArchiveContent, RegisterContent, closed_by, last_closed}
+use Rattle.office_closing.specs.{Waiting.AreWaitedFor, declared.register.Segment.Segment, Changes.{closed_with, marked_for, unmarked}, Deleting.is_among}
+use Rattle.office_closing.specs.{declared.settled_lists.SettledList.SettledList, Lists.{SettledListContent, comes_before, list_content, put_list, put_lists}}
+use Rattle.office_closing.specs.{Register.{ArchiveContent, RegisterContent, closed_by, last_closed}, declared.comparing.Numbers.Numbers, Comparing.IsComparedAs}
 use Rattle.office_closing.specs.Sound.{IsSound, are_sound_archives, are_sound_lists, are_sound_segments, are_sound_taken, is_sound, is_sound_mark}
-use Rattle.office_closing.specs.declared.comparing.Numbers.{Numbers}
-use Rattle.office_closing.specs.declared.planning.Plan.{Plan}
-use Rattle.office_closing.specs.declared.planning.Stage.{Stage}
-use Rattle.office_closing.specs.Deleting.{is_among}
+use Rattle.office_closing.specs.{declared.planning.Plan.Plan, declared.planning.Stage.Stage, Going.AreDone, Files.{Files, IsRead, IsReadIfOpen}, Laws.Raises}
 use Rattle.office_closing.specs.Closes.{AreHeld, Closing, ClosesAll, Held, IsAtStage, IsBelowNext, IsClosing, KeepsTaken, PutsAway, closed_after, closed_before, closing_content, raised_register}
-use Rattle.office_closing.specs.Comparing.{IsComparedAs}
 use Rattle.office_closing.specs.Copies.{ClosesNone, FileNames, HasCome, IsOpened, OfficeContent, archive_in, closes_some, is_put_away_with, lists_at, numbers_from, numbers_of, raised_by, segment_of, segments_of, GoWith, is_with, segments_in, taken_at, taken_of}
-use Rattle.office_closing.specs.Going.{AreDone}
-use Rattle.office_closing.specs.Files.{Files, IsRead, IsReadIfOpen}
-use Rattle.office_closing.specs.Judging.{IsComparedIf, IsJudged, WantsAll}
-use Rattle.office_closing.specs.Steps.{is_unraised}
-use Rattle.office_closing.specs.Laws.{Raises}
-use Rattle.office_closing.specs.Planning.{IsPlan}
-use Rattle.office_closing.specs.Visits.{AreToGo}
-use Rattle.office_history.proofs.Kept.{head_in, tail_in}
+use Rattle.office_closing.specs.{Judging.{IsComparedIf, IsJudged, WantsAll}, Steps.is_unraised, Planning.IsPlan, Visits.AreToGo}
+use Rattle.office_closing.proofs.{WaitingLemmas.{accounts_by_id, all_found, goes_as, one_nexts}, ClearLemmas.{done_with, gone_are_done, one_longer}}
 use Rattle.office_closing.proofs.PlanLemmas.{compared_held, goes_if_not, may_stay, account_found, numbers_are_from, segments_raise, segments_rise}
-use Rattle.office_closing.proofs.ClearLemmas.{done_with, gone_are_done, one_longer}
 use Rattle.office_closing.proofs.NumberLemmas.{lines_loaded, visits_loaded}
-use Rattle.sqlite.specs.State.{State, HasCleanDisk}
-use Rattle.sqlite.proofs.Callers.{unchanged_then}
+use Rattle.office_parts.specs.OwnLists.{ListName}
+use Rattle.office_history.proofs.Kept.{head_in, tail_in}
+use Rattle.sqlite.{specs.State.{State, HasCleanDisk}, proofs.Callers.unchanged_then}
 use Rattle.office_rows.proofs.Creating.{keep_then, on_ok, quiet_then}
-use Rattle.office_tables.specs.DeliveryReading.{OnlyReads}
+use Rattle.office_tables.specs.{DeliveryReading.OnlyReads, Reading.Reads, declared.table_fault.TableFault.TableFault}
 use Rattle.office_tables.proofs.WriteLemmas.{nothing_read, same_unchanged}
-use Rattle.office_tables.specs.Reading.{Reads}
-use Rattle.office_tables.specs.declared.table_fault.TableFault.{TableFault}
 use Rattle.office_closing.specs.declared.planning.Stage.TheVariants as stage
-
--- ==== JudgeLemmas: What a plan says of the rows and the registers of store and archive.
 
 -- ---- texts
 

@@ -1,50 +1,25 @@
 -- Rows that are deleted in turn.
-use Rattle.std.proofs.Common.{◌≡◌, ◌⊎◌, inl, inr, ℕ, ◌+◌, ◌≤◌, List, [], ◌∷◌, ◌++◌, Bool, true, false, cond, not, ◌&&◌, ◌||◌, ◌==◌, filter, refl, sym, ap, ◌∙◌, arith, ◌<◌, Result, Ok, Err, get_or, length, map, take, subst}
-use Rattle.std.specs.Prelude.{nat_le, nat_lt, Contains, IsTrue}
+use Rattle.std.specs.Prelude.{nat_le, nat_lt, Contains}
 use Rattle.std.specs.List.{list_any}
-use Rattle.std.proofs.lemmas.Bool.Decides.{nat_tests}
-use Rattle.std.proofs.lemmas.List.Elements.{filter_agree}
-use Rattle.std.proofs.lemmas.List.Folds.{list_any-append}
-use Rattle.office_rows.specs.Effects.{is_pair}
-use Rattle.office_rows.specs.Rows.{Interchange, Rows, ListingContent}
-use Rattle.office_parts.specs.LeftOver.{rows_without}
-use Rattle.office_parts.specs.OwnTerminal.{is_own}
-use Rattle.office_closing.specs.declared.comparing.Numbers.{Numbers}
-use Rattle.office_closing.specs.Clearing.{IsWithoutSome, IsWithoutSomeVisits, Clears, IsWithoutSomeLists}
-use Rattle.office_closing.specs.Deleting.{with_visits_that, all_but, without_visits, is_of, goes, Deletes, is_one_of, without_interchange}
-use Rattle.std.proofs.lemmas.List.{map-append, map_more, take-map}
-use Rattle.sqlite.specs.State.{State}
-use Rattle.office_tables.specs.declared.table_fault.TableFault.{TableFault}
-use Rattle.office_closing.specs.Going.{name_of}
-use Rattle.office_parts.specs.Bringing.{is_list}
-use Rattle.office_parts.specs.OwnLists.{ListName, is_own_line, list_name, rows_without_lists}
-use Rattle.office_parts.proofs.BringingLemmas.{more_away}
-use Rattle.office_closing.specs.Lists.{SettledListContent, list_content}
-use Rattle.office_closing.specs.declared.settled_lists.SettledList.{SettledList}
 use Rattle.std.specs.List.Sorted.{IsPermutation}
+use Rattle.std.proofs.lemmas.Bool.Decides.{nat_tests}
+use Rattle.std.proofs.Common.{◌≡◌, ◌⊎◌, inl, inr, ℕ, ◌+◌, ◌≤◌, List, [], ◌∷◌, ◌++◌, Bool, true, false, cond, not, ◌&&◌, ◌||◌, ◌==◌, filter, refl, sym, ap, ◌∙◌, arith, ◌<◌, Result, Ok, Err, get_or, length, map, take, subst}
+use Rattle.std.proofs.{lemmas.List.Elements.filter_agree, lemmas.List.Folds.list_any-append, lemmas.List.{map-append, map_more, take-map}}
 use Rattle.std.proofs.lemmas.List.Sorted.{Contains-permutation, IsPermutation-sym, IsPermutation-trans}
-use Rattle.sqlite.specs.Effect.{Database}
-use Rattle.terminal_core.specs.Changes.{TerminalRows}
-use Rattle.terminal_core.specs.Forms.{IsFormedVisit}
-use Rattle.terminal_core.specs.Rows.{VisitContent}
-use Rattle.terminal_core.specs.State.{TerminalState}
+use Rattle.office_rows.specs.{Effects.is_pair, Rows.{Interchange, Rows, ListingContent}, ByKey.{AreListedOnce, lines_by}, Stored.HasRows}
+use Rattle.office_rows.specs.{Tables.{listing_table, visit_table}, Values.{line_values, visit_values}}
+use Rattle.office_parts.specs.{LeftOver.rows_without, OwnTerminal.is_own, Bringing.is_list, OwnLists.{ListName, is_own_line, list_name, rows_without_lists}}
+use Rattle.office_parts.proofs.BringingLemmas.{more_away}
+use Rattle.office_closing.specs.{declared.comparing.Numbers.Numbers, Clearing.{IsWithoutSome, IsWithoutSomeVisits, Clears, IsWithoutSomeLists}, Going.name_of}
+use Rattle.office_closing.specs.{Deleting.{with_visits_that, all_but, without_visits, is_of, goes, Deletes, is_one_of, without_interchange}, Closes.AreOrderly}
+use Rattle.office_closing.{specs.{Lists.{SettledListContent, list_content}, declared.settled_lists.SettledList.SettledList}, proofs.FoundLemmas.once_same}
+use Rattle.sqlite.specs.{State.State, Effect.Database}
+use Rattle.office_tables.specs.declared.table_fault.TableFault.{TableFault}
+use Rattle.terminal_core.specs.{Changes.TerminalRows, Forms.IsFormedVisit, Rows.VisitContent, State.TerminalState}
 use Rattle.office_admission.specs.Setups.{SetupContent}
-use Rattle.office_closing.proofs.FoundLemmas.{once_same}
-use Rattle.office_rows.specs.ByKey.{AreListedOnce, lines_by}
-use Rattle.office_rows.specs.Stored.{HasRows}
-use Rattle.office_rows.specs.Tables.{listing_table, visit_table}
-use Rattle.office_rows.specs.Values.{line_values, visit_values}
-use Rattle.office_loading.specs.Closed.{ClosedContent}
-use Rattle.office_loading.specs.Tables.{LoadsOwn}
-use Rattle.office_history.proofs.Loads.{numbered_rise, line_one, visit_one}
-use Rattle.office_history.proofs.Kept.{Rises, rising_same, same_records, shown_in}
-use Rattle.office_closing.specs.Closes.{AreOrderly}
+use Rattle.office_loading.specs.{Closed.ClosedContent, Tables.LoadsOwn}
+use Rattle.office_history.proofs.{Loads.{numbered_rise, line_one, visit_one}, Kept.{Rises, rising_same, same_records, shown_in}}
 use Rattle.office_closing.proofs.ClearLemmas as lemma
-use Rattle.terminal_core.specs.declared.visits.Way.TheVariants as way
-use Rattle.terminal_core.specs.declared.lines.LineState.TheVariants as line_state
-use Rattle.terminal_core.specs.declared.lines.Side.TheVariants as side
-
--- ==== NumberLemmas: Rows that are deleted in turn.
 
 filter_twice : {A : Type 0} (p q : A → Bool) (xs : List A) → filter q (filter p xs) ≡ filter (λ x. p x && q x) xs
 filter_twice p q [] = refl

@@ -1,51 +1,27 @@
 -- What an archive closes, by its numbers and by its segments.
+use Rattle.std.specs.{Prelude.{◌↔◌, Contains, None, All, slice_get, nat_le, nat_lt}, List.{AllByRecursion, list_any, range_with_len}}
 use Rattle.std.proofs.Common.{◌≡◌, inl, inr, ℕ, suc, ◌<◌, ◌≤◌, ◌==◌, ◌||◌, List, [], ◌∷◌, Bool, true, false, cond, not, filter, get_or, refl, sym, ap, ap₂, subst, ◌∙◌, arith, ◌⊎◌, ◌+◌, ◌-◌, ◌&&◌, max, ◌++◌, if◌then◌else◌, map, length, take, drop, length-append, Ok, Err, IsTrue}
-use Rattle.std.specs.Prelude.{◌↔◌, Contains, None, All, slice_get, nat_le, nat_lt}
-use Rattle.std.specs.List.{AllByRecursion, list_any, range_with_len}
-use Rattle.std.proofs.lemmas.Bool.{cases_Bool, eqb-true, le-leb, leb-true, and_parts, eq-eqb, lt-ltb, ltb-true}
+use Rattle.std.proofs.{lemmas.Bool.{cases_Bool, eqb-true, le-leb, leb-true, and_parts, eq-eqb, lt-ltb, ltb-true}, lemmas.Bool.Decides.nat_tests}
 use Rattle.std.proofs.lemmas.List.{get_or_default, get_or-map, get_or_append_left, length-map, map-append, take_all, take-append-drop, append-nil}
-use Rattle.std.proofs.lemmas.List.Elements.{filter_passes, recursion_from_All}
-use Rattle.std.proofs.lemmas.Bool.Decides.{nat_tests}
-use Rattle.std.proofs.lemmas.Option.{same_Some}
-use Rattle.terminal_core.specs.Rows.{VisitContent}
-use Rattle.terminal_core.specs.State.{AreNumbered, last_from, last_number}
-use Rattle.terminal_core.proofs.Whole.{found_at, same_index}
+use Rattle.std.proofs.{lemmas.List.Elements.{filter_passes, recursion_from_All}, lemmas.Option.same_Some}
+use Rattle.terminal_core.{specs.{Rows.VisitContent, State.{AreNumbered, last_from, last_number}}, proofs.Whole.{found_at, same_index}}
 use Rattle.office_rows.specs.Rows.{Interchange, Rows, Partner}
-use Rattle.office_parts.specs.Archives.{HoldsWhatGoes}
-use Rattle.office_parts.specs.Closing.{is_closed, is_beyond, carried}
-use Rattle.office_parts.specs.LeftOver.{rows_beyond, rows_without}
-use Rattle.office_parts.specs.OwnTerminal.{own_visits, IsOverOrStays, MayStay}
-use Rattle.office_parts.specs.Parts.{Archived}
-use Rattle.office_parts.proofs.LeftOver.{may_go}
-use Rattle.office_parts.proofs.Opening.{own_beyond}
-use Rattle.office_closing.specs.declared.comparing.Numbers.{Numbers}
-use Rattle.office_closing.specs.Comparing.{IsComparedAs, IsOfFile}
-use Rattle.office_closing.specs.Deleting.{all_but, without_visits, goes, is_of, is_among}
-use Rattle.office_closing.specs.Laws.{Raises, ComparedIsHeld, ClearingLeavesTheRest, ClearedIsCarried}
-use Rattle.office_closing.specs.Visits.{AreToGo, GoesBelow}
-use Rattle.office_history.proofs.Kept.{head_in, tail_in}
-use Rattle.office_closing.specs.declared.register.Segment.{Segment}
-use Rattle.office_closing.specs.Register.{last_closed, RegisterContent}
+use Rattle.office_parts.specs.{Archives.HoldsWhatGoes, Closing.{is_closed, is_beyond, carried}, LeftOver.{rows_beyond, rows_without}, Parts.Archived}
+use Rattle.office_parts.{specs.OwnTerminal.{own_visits, IsOverOrStays, MayStay}, proofs.{LeftOver.may_go, Opening.own_beyond}}
+use Rattle.office_closing.specs.{declared.comparing.Numbers.Numbers, Comparing.{IsComparedAs, IsOfFile}, Visits.{AreToGo, GoesBelow}, Files.Files}
+use Rattle.office_closing.specs.{Deleting.{all_but, without_visits, goes, is_of, is_among}, declared.register.Segment.Segment, declared.faults.Refusal.Refusal}
+use Rattle.office_closing.specs.{Laws.{Raises, ComparedIsHeld, ClearingLeavesTheRest, ClearedIsCarried}, Register.{last_closed, RegisterContent}}
 use Rattle.office_closing.specs.Copies.{AreAtMost, ClosesNone, closes_some, numbers_from, segment_of, segments_of, FileNames, IsOpened, OfficeContent, AreFirst}
-use Rattle.office_closing.specs.declared.faults.CloseFault.{CloseFault}
-use Rattle.office_closing.specs.declared.faults.Refusal.{Refusal}
-use Rattle.office_closing.specs.Files.{Files}
-use Rattle.office_closing.specs.Planning.{IsRefused}
-use Rattle.office_closing.specs.Arriving.{HasAll, HasFirst, HasTexts, arrivals}
+use Rattle.office_closing.specs.{declared.faults.CloseFault.CloseFault, Planning.IsRefused, Arriving.{HasAll, HasFirst, HasTexts, arrivals}}
 use Rattle.office_closing.specs.Refusing.{HasReason, HasUnfit, HasUnread, IsOfComparing, IsOfOpening, IsOfOrdering, IsOfThis, IsOtherwise, IsUnopened, IsWhy, HaveNoNexts}
-use Rattle.office_closing.specs.Steps.{IsOfWriting, StepsIf}
-use Rattle.sqlite.specs.State.{State, HasCleanDisk, Survives}
-use Rattle.sqlite.proofs.StateLemmas.{survives_weaker}
-use Rattle.office_tables.proofs.WritesLemmas.{survives_here}
-use Rattle.office_closing.specs.Transactions.{Becomes, HasBecome}
-use Rattle.office_closing.specs.Register as register
-use Rattle.office_closing.specs.Closes.{Held, IsFaultIn, Tells}
-use Rattle.office_closing.specs.declared.faults.CloseFault.TheVariants as fault
-use Rattle.office_closing.specs.declared.faults.File.{File}
-use Rattle.office_closing.specs.declared.faults.File.TheVariants as file
-use Rattle.office_tables.specs.Faults.{IsOfStore, IsOfStoreOr}
-use Rattle.office_tables.specs.declared.table_fault.TableFault.{TableFault}
+use Rattle.office_closing.specs.{Steps.{IsOfWriting, StepsIf}, Transactions.{Becomes, HasBecome}, Closes.{Held, IsFaultIn, Tells}, declared.faults.File.File}
+use Rattle.office_history.proofs.Kept.{head_in, tail_in}
+use Rattle.sqlite.{specs.State.{State, HasCleanDisk, Survives}, proofs.StateLemmas.survives_weaker}
+use Rattle.office_tables.{specs.{Faults.{IsOfStore, IsOfStoreOr}, declared.table_fault.TableFault.TableFault}, proofs.WritesLemmas.survives_here}
 use Rattle.office_tables.specs.declared.table_fault.TableFault.TheVariants.{Store, Damaged, Version, Memory}
+use Rattle.office_closing.specs.Register as register
+use Rattle.office_closing.specs.declared.faults.CloseFault.TheVariants as fault
+use Rattle.office_closing.specs.declared.faults.File.TheVariants as file
 use Rattle.office_closing.specs.declared.faults.Refusal.TheVariants as refusal
 
 -- ==== LawLemmas: The laws of a closing.
@@ -198,9 +174,6 @@ or_right false b e = e
 or_parts : (a b : Bool) → (a || b) ≡ true → (a ≡ true) ⊎ (b ≡ true)
 or_parts true b e = inl refl
 or_parts false b e = inr e
-
-none_is : (n : ℕ) → n ≤ 0 → n ≡ 0
-none_is n h = omega (arith, h)
 
 -- the numbers from that one on
 abbrev pub AreFrom : (before : ℕ → ℕ) → List Numbers → Type 0

@@ -1,43 +1,23 @@
 -- The tables show a sound register in one way, and it fits the types of a register.
+use Rattle.std.specs.{Prelude.IsUtf8, List.{AllByRecursion, list_all}, Cmp.IsTotalOrder, Ordering.{int_cmp, is_lt, nat_cmp, ordering_then}}
 use Rattle.std.proofs.Common.{◌≡◌, ℕ, pos, ◌+◌, ◌<◌, ◌≤◌, ◌==◌, ◌&&◌, ◌⊎◌, inl, inr, Bool, true, false, cond, List, [], ◌∷◌, map, length, Option, None, Some, nat_le, nat_lt, refl, sym, ap, ap₂, subst, ◌∙◌, arith, Ordering, Less, Equal, Greater, is_gt, true≢false}
-use Rattle.std.specs.Prelude.{IsUtf8}
-use Rattle.std.specs.List.{AllByRecursion, list_all}
-use Rattle.std.specs.Cmp.{IsTotalOrder}
-use Rattle.std.specs.Ordering.{int_cmp, is_lt, nat_cmp, ordering_then}
-use Rattle.std.proofs.lemmas.Bool.{cases_Bool, and_parts}
-use Rattle.std.proofs.lemmas.Bool.Decides.{nat_tests}
+use Rattle.std.proofs.{lemmas.Bool.{cases_Bool, and_parts}, lemmas.Bool.Decides.nat_tests, lemmas.Int.ints, lemmas.List.Sorted.IsPermutation-sym}
 use Rattle.std.proofs.lemmas.Cmp.{tied_itself, then_total, on_total, nat_cmp_total, nat_list_cmp_total}
-use Rattle.std.proofs.lemmas.Int.{ints}
-use Rattle.std.proofs.lemmas.List.Sorted.{IsPermutation-sym}
-use Rattle.sqlite.specs.Order.{Row}
-use Rattle.sqlite.specs.Table.{Table}
-use Rattle.sqlite.specs.Effect.{Database}
-use Rattle.sqlite_value.specs.Order.{value_cmp}
-use Rattle.sqlite_value.proofs.OrderLemmas.{value_cmp-Int, value_cmp-Text, value_cmp_total}
+use Rattle.sqlite.specs.{Order.Row, Table.Table, Effect.Database}
+use Rattle.sqlite_value.{specs.Order.value_cmp, proofs.OrderLemmas.{value_cmp-Int, value_cmp-Text, value_cmp_total}}
 use Rattle.sqlite_trees.specs.Tree.{IsAscending}
-use Rattle.sqlite_keyed.proofs.ListLemmas.{all_weaker, ascending_weaker}
-use Rattle.sqlite_keyed.proofs.SortLemmas.{sorted_unique}
+use Rattle.sqlite_keyed.proofs.{ListLemmas.{all_weaker, ascending_weaker}, SortLemmas.sorted_unique}
 use Rattle.sqlite_exec.proofs.PartitionLemmas.{sorted_from_ascending}
-use Rattle.office_rows.specs.Values.{number_value}
-use Rattle.office_rows.specs.Stored.{Holds}
-use Rattle.office_rows.specs.Shown.{columns_at, ShowsTable}
-use Rattle.office_loading.proofs.VersionLemmas.{keys_cmp, keys_total, in_order, same_rows}
-use Rattle.terminal_core.specs.State.{side_code}
-use Rattle.terminal_core.specs.declared.lines.Side.{Side}
-use Rattle.terminal_core.specs.declared.lines.Side.TheVariants.{Load, Discharge}
-use Rattle.office_loading.proofs.RowLemmas.{name_text}
-use Rattle.office_closing.specs.Lists.{SettledListContent, list_cmp}
-use Rattle.office_closing.specs.declared.register.Segment.{Segment}
-use Rattle.office_closing.specs.Register.{ArchiveContent, RegisterContent}
+use Rattle.office_rows.specs.{Values.number_value, Stored.Holds, Shown.{columns_at, ShowsTable}}
+use Rattle.office_loading.proofs.{VersionLemmas.{keys_cmp, keys_total, in_order, same_rows}, RowLemmas.name_text}
+use Rattle.terminal_core.specs.{State.side_code, declared.lines.Side.Side, declared.lines.Side.TheVariants.{Load, Discharge}}
+use Rattle.office_closing.specs.{Lists.{SettledListContent, list_cmp}, declared.register.Segment.Segment, Register.{ArchiveContent, RegisterContent}}
 use Rattle.office_closing.specs.Reading.{FitsArchive, FitsSegment, FitsList, FitsRegister, FailsTables, ShowsNoSound}
 use Rattle.office_closing.specs.Sound.{may_be_archive, are_numbered, is_within, comes_later, are_in_order, may_be_list, are_rising, are_sound_archives, are_sound_segments, are_sound_taken, is_sound_mark, IsSound, is_sound}
 use Rattle.office_closing.specs.Stored.{HasRegisterIn, HoldsLists, HoldsTaken, ShowsLists, ShowsTaken, ShowsRegister, list_values, archive_values, segment_values, file_values, if_any}
 use Rattle.office_closing.specs.Tables.{archive_table, segment_table, closed_for_table, settled_table, taken_table, Layout, older, former, whole}
-use Rattle.office_tables.specs.declared.table_fault.TableFault.{TableFault}
-use Rattle.office_tables.specs.Faults.{IsOfStore, IsOfStoreOr}
+use Rattle.office_tables.specs.{declared.table_fault.TableFault.TableFault, Faults.{IsOfStore, IsOfStoreOr}}
 use Rattle.office_tables.proofs.WritesLemmas.{of_store_weaker, of_store_alone}
-
--- ==== SoundLemmas: The tables show a sound register in one way, and it fits the types of a register.
 
 -- ---- numbers
 

@@ -1,41 +1,21 @@
 -- A store that is closed stands beside its archives.
+use Rattle.std.{specs.{Prelude.{◌&&◌, ◌||◌, ◌==◌, Contains, fold, nat_le}, List.AllByRecursion}, proofs.lemmas.Bool.{and_parts, cases_order, leb-true}}
 use Rattle.std.proofs.Common.{◌≡◌, inl, inr, ℕ, ◌+◌, ◌<◌, ◌≤◌, List, [], ◌∷◌, ◌++◌, Bool, true, false, filter, not, refl, sym, ap, subst, ◌∙◌, arith}
-use Rattle.std.specs.Prelude.{◌&&◌, ◌||◌, ◌==◌, Contains, fold, nat_le}
-use Rattle.std.specs.List.{AllByRecursion}
-use Rattle.std.proofs.lemmas.Bool.{and_parts, cases_order, leb-true}
-use Rattle.sqlite_rules.specs.Lists.{Has}
-use Rattle.sqlite_rules.proofs.ListLemmas.{contains_had, has_contained, has_filtered, has_kept, has_left, has_right}
+use Rattle.sqlite_rules.{specs.Lists.Has, proofs.ListLemmas.{contains_had, has_contained, has_filtered, has_kept, has_left, has_right}}
 use Rattle.partner_core.specs.Deliveries.{run}
-use Rattle.terminal_core.specs.Rows.{VisitContent}
-use Rattle.terminal_core.specs.State.{AreNumbered, last_number}
-use Rattle.terminal_core.proofs.Whole.{below_last, found_at}
-use Rattle.office_admission.specs.Deliveries.{deliveries_of}
+use Rattle.terminal_core.{specs.{Rows.VisitContent, State.{AreNumbered, last_number}}, proofs.Whole.{below_last, found_at}}
+use Rattle.office_admission.specs.{Deliveries.deliveries_of, Setups.SetupContent}
 use Rattle.office_replies.specs.Events.{Event}
 use Rattle.office_rows.specs.Rows.{Interchange, Rows}
-use Rattle.office_admission.specs.Setups.{SetupContent}
-use Rattle.office_history.specs.After.{reply_in}
-use Rattle.office_history.specs.Cascade.{text_in}
-use Rattle.office_history.proofs.Accounted.{next_follows}
-use Rattle.office_closing.proofs.DoneAwayLemmas.{closing_keeps}
-use Rattle.office_parts.specs.OwnLists.{ListName, rows_without_lists}
-use Rattle.office_parts.proofs.BringingLemmas.{more_away}
-use Rattle.office_parts.specs.Archives.{Archive, Hold, HoldsWhatGoes}
-use Rattle.office_parts.specs.Closing.{MayClose, archived_with, carried, is_beyond, is_closed, whole_with}
-use Rattle.office_parts.specs.LeftOver.{rows_beyond}
-use Rattle.office_parts.specs.OwnTerminal.{IsOverOrStays, MayStay, own_visits}
-use Rattle.office_parts.specs.Parts.{Archived}
-use Rattle.office_parts.proofs.Closings.{added_hold, closings_held, closing_parts}
-use Rattle.office_parts.proofs.Takings.{all_own}
-use Rattle.office_parts.proofs.LeftOver.{may_go, raising_closes, told_alike}
-use Rattle.office_parts.proofs.Orders.{closed_within}
-use Rattle.office_closing.specs.Register.{ArchiveContent, RegisterContent, last_closed, newest_visit}
-use Rattle.office_closing.specs.Sound.{are_numbered, are_sound_archives, have_own_files}
+use Rattle.office_history.{specs.{After.reply_in, Cascade.text_in}, proofs.Accounted.next_follows}
+use Rattle.office_closing.specs.{Register.{ArchiveContent, RegisterContent, last_closed, newest_visit}, Copies.FileNames, Deleting.{all_but, with_visits_that}}
+use Rattle.office_closing.specs.{Sound.{are_numbered, are_sound_archives, have_own_files}, PuttingAway.{AreNamedThen, ClosedStoresStand, Stands}}
 use Rattle.office_closing.specs.Closes.{AreOrderly, Closing, Held, IsClosing, IsLeft, closed_after, closed_before, raised_register}
-use Rattle.office_closing.specs.Copies.{FileNames}
-use Rattle.office_closing.specs.Deleting.{all_but, with_visits_that}
-use Rattle.office_closing.specs.PuttingAway.{AreNamedThen, ClosedStoresStand, Stands}
-use Rattle.office_closing.proofs.ClosesLemmas.{gone_away}
-use Rattle.office_closing.proofs.PlanLemmas.{gone_contained, gone_is_closed, last_kept, stays_if_newest}
+use Rattle.office_closing.proofs.{DoneAwayLemmas.closing_keeps, ClosesLemmas.gone_away, PlanLemmas.{gone_contained, gone_is_closed, last_kept, stays_if_newest}}
+use Rattle.office_parts.specs.{OwnLists.{ListName, rows_without_lists}, Archives.{Archive, Hold, HoldsWhatGoes}, LeftOver.rows_beyond, Parts.Archived}
+use Rattle.office_parts.specs.{Closing.{MayClose, archived_with, carried, is_beyond, is_closed, whole_with}, OwnTerminal.{IsOverOrStays, MayStay, own_visits}}
+use Rattle.office_parts.proofs.{BringingLemmas.more_away, Closings.{added_hold, closings_held, closing_parts}, Takings.all_own, Orders.closed_within}
+use Rattle.office_parts.proofs.LeftOver.{may_go, raising_closes, told_alike}
 
 -- ---- the newest visit of an archive
 

@@ -1,34 +1,22 @@
 -- What a stop of a closing leaves, and that a closing goes on from there.
-use Rattle.std.proofs.Common.{◌≡◌, ◌⊎◌, inl, inr, ℕ, ◌+◌, ◌≤◌, ◌==◌, List, [], ◌∷◌, ◌++◌, Bool, true, false, cond, not, filter, length, Option, None, Some, Result, Ordering, Less, refl, sym, ap, ap₂, subst, ◌∙◌, arith}
-use Rattle.std.specs.Prelude.{◌&&◌, nat_le}
-use Rattle.std.specs.List.{AllByRecursion, list_all}
-use Rattle.std.specs.Ordering.{is_lt, ordering_reverse}
+use Rattle.std.specs.{Prelude.{◌&&◌, nat_le}, List.{AllByRecursion, list_all}, Ordering.{is_lt, ordering_reverse}}
+use Rattle.std.proofs.Common.{◌≡◌, ◌⊎◌, inl, inr, ℕ, ◌+◌, ◌≤◌, ◌==◌, List, [], ◌∷◌, ◌++◌, Bool, true, false, cond, not, filter, length, Option, None, Some, Result, Less, refl, sym, ap, ap₂, subst, ◌∙◌, arith}
 use Rattle.std.proofs.lemmas.Bool.{and_parts, eqb-true, eq-eqb, leb-true}
-use Rattle.sqlite.specs.Effect.{Database}
-use Rattle.sqlite.specs.Tree.{Trees}
+use Rattle.sqlite.specs.{Effect.Database, Tree.Trees}
 use Rattle.sqlite_trees.specs.declared.store.Store.{Ghosts}
 use Rattle.edi_messages.specs.Texts.{is_name}
 use Rattle.terminal_core.specs.State.{last_number}
-use Rattle.office_rows.specs.Rows.{Rows}
-use Rattle.office_rows.specs.Stored.{HasRows, StoresRows}
-use Rattle.office_rows.proofs.Creating.{stores}
-use Rattle.office_closing.specs.Changes.{closed_with, marked_for, unmarked}
-use Rattle.office_closing.specs.Closes.{AreHeld, AreOrderly, Closes, Closing, Held, IsAtStage, IsClosing, IsLeft, raised_register}
+use Rattle.office_rows.{specs.{Rows.Rows, Stored.{HasRows, StoresRows}}, proofs.Creating.stores}
+use Rattle.office_closing.specs.{Changes.{closed_with, marked_for, unmarked}, Files.{AreClean, Files, files}, Register.{RegisterContent, last_closed}}
+use Rattle.office_closing.specs.{Closes.{AreHeld, AreOrderly, Closes, Closing, Held, IsAtStage, IsClosing, IsLeft, raised_register}, Tables.whole}
 use Rattle.office_closing.specs.Copies.{ComesOn, FileNames, HasCome, IsOpened, OfficeContent, archive_in, is_put_away_with, is_with, lists_at, numbers_from, numbers_of, raised_by, segments_of}
-use Rattle.office_closing.specs.Files.{AreClean, Files, files}
-use Rattle.office_closing.specs.Lists.{SettledListContent, comes_before, list_cmp, put_list, put_lists}
-use Rattle.office_closing.specs.Register.{RegisterContent, last_closed}
+use Rattle.office_closing.specs.{Lists.{SettledListContent, comes_before, list_cmp, put_list, put_lists}, Stored.{HasRegister, StoresEither}}
 use Rattle.office_closing.specs.Sound.{are_rising, are_sound_archives, are_sound_lists, are_sound_segments, are_sound_taken, is_sound, is_file_name, is_sound_mark, is_within, may_be_list}
 use Rattle.office_closing.specs.Stopping.{AreLeft, AreSettled, GoesOnFrom, IsOnItsWay, Left, MayBeLeft, StoppedClosingsGoOn, StopsAreOnTheWay}
-use Rattle.office_closing.specs.Stored.{HasRegister, StoresEither}
-use Rattle.office_closing.specs.Tables.{whole}
-use Rattle.office_closing.specs.declared.faults.CloseFault.{CloseFault}
-use Rattle.office_closing.specs.declared.planning.Stage.{Stage}
-use Rattle.office_closing.specs.declared.register.Segment.{Segment}
-use Rattle.office_closing.specs.declared.planning.Stage.TheVariants as stage
-use Rattle.office_closing.proofs.NumberLemmas.{visits_loaded}
-use Rattle.office_closing.proofs.SoundLemmas.{IsAfter, all_after, list_total, rising, settled, taken_within}
+use Rattle.office_closing.specs.{declared.faults.CloseFault.CloseFault, declared.planning.Stage.Stage, declared.register.Segment.Segment}
+use Rattle.office_closing.proofs.{NumberLemmas.visits_loaded, SoundLemmas.{IsAfter, all_after, list_total, rising, settled, taken_within}}
 use Rattle.office_closing.proofs.WaitingLemmas.{one_nexts}
+use Rattle.office_closing.specs.declared.planning.Stage.TheVariants as stage
 
 -- ---- what is left
 

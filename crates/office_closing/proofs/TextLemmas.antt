@@ -1,32 +1,19 @@
 -- A text of lines has one reading.
+use Rattle.std.specs.{Prelude.{◌&&◌, ◌==◌, nat_le, slice_index, Result, Ok, Err, if◌then◌else◌}, Char.{is_ascii_uppercase, is_ascii_digit}, Int.IsInRange}
+use Rattle.std.{specs.{List.{list_all, All, AllByRecursion}, Str.{IsAscii, IsUtf8, IsCharBoundary}}, proofs.lemmas.Bool.{and_parts, eqb-true, or_cases}}
 use Rattle.std.proofs.Common.{◌≡◌, ◌≢◌, ℕ, ◌+◌, ◌-◌, ◌<◌, List, [], ◌∷◌, ◌++◌, length, take, drop, get_or, Bool, true, sym, ap, ◌∙◌, append_assoc, arith, subst, IsTrue, inl, inr, refl, length-append, false}
-use Rattle.std.specs.Prelude.{◌&&◌, ◌==◌, nat_le, slice_index, Result, Ok, Err, if◌then◌else◌}
-use Rattle.std.specs.Char.{is_ascii_uppercase, is_ascii_digit}
-use Rattle.std.specs.Int.{IsInRange}
-use Rattle.std.specs.List.{list_all, All, AllByRecursion}
-use Rattle.std.specs.Str.{IsAscii, IsUtf8, IsCharBoundary}
 use Rattle.std.proofs.lemmas.List.{get_or-take, get_or-drop, length-drop, length-take-le, take_more, append-nil, take-append-drop}
 use Rattle.std.proofs.lemmas.List.Elements.{All-nil, All-cons, All-get_or, All-from_get_or, All-head, All-tail, All-append, All-weaker, All-push, All-from_recursion, recursion_from_All}
-use Rattle.std.proofs.lemmas.Bool.{and_parts, eqb-true, or_cases}
-use Rattle.std.proofs.lemmas.Bool.Decides.{nat_tests, leb_tells}
-use Rattle.std.proofs.lemmas.Str.Ascii.{IsAscii-from_reads}
-use Rattle.std.proofs.lemmas.Str.{IsUtf8-from_ascii, IsCharBoundary-at_seam}
-use Rattle.edi_syntax.specs.Characters.{is_printable}
-use Rattle.edi_messages.specs.Texts.{is_name}
-use Rattle.terminal_core.specs.Forms.{IsFormedPort}
-use Rattle.terminal_core.specs.declared.lines.Side.{Side}
-use Rattle.terminal_core.specs.declared.lines.Side.TheVariants.{Load, Discharge}
+use Rattle.std.proofs.{lemmas.Bool.Decides.{nat_tests, leb_tells}, lemmas.Str.Ascii.IsAscii-from_reads, lemmas.Str.{IsUtf8-from_ascii, IsCharBoundary-at_seam}}
 use Rattle.std.proofs.lemmas.List.Concat.{flat_map-append}
-use Rattle.edi_messages.specs.Purposes.{CallContent}
-use Rattle.office_rows.specs.Rows.{ListingContent}
-use Rattle.office_rows.specs.Opening.{listing_row}
-use Rattle.office_closing.specs.Texts.{lines_text, IsOfList, IsLineOf, IsTextOf}
-use Rattle.box6346.specs.ContainerNumber.{number_of}
-use Rattle.box6346.specs.NumberText.{has_form, is_checked, is_number}
-use Rattle.box6346.specs.declared.box_number.BoxNumber.{BoxNumber}
-use Rattle.box6346.specs.declared.box_number.NumberFault.{NumberFault}
-use Rattle.box6346.specs.declared.box_number.NumberFault.TheVariants.{Form, CheckDigit}
+use Rattle.edi_syntax.specs.Characters.{is_printable}
+use Rattle.edi_messages.specs.{Texts.is_name, Purposes.CallContent}
+use Rattle.terminal_core.specs.{Forms.IsFormedPort, declared.lines.Side.Side, declared.lines.Side.TheVariants.{Load, Discharge}}
 use Rattle.terminal_core.specs.declared.lines.LineState.TheVariants.{Done}
+use Rattle.office_rows.specs.{Rows.ListingContent, Opening.listing_row}
+use Rattle.office_closing.specs.Texts.{lines_text, IsOfList, IsLineOf, IsTextOf}
+use Rattle.box6346.specs.{ContainerNumber.number_of, NumberText.{has_form, is_checked, is_number}, declared.box_number.BoxNumber.BoxNumber}
+use Rattle.box6346.specs.{declared.box_number.NumberFault.NumberFault, declared.box_number.NumberFault.TheVariants.{Form, CheckDigit}}
 use Rattle.box6346.specs.NumberText as number
 
 -- ==== PlainLemmas: The characters of a line: each from space to tilde.
@@ -237,10 +224,6 @@ pub record IsReadUpTo (call : CallContent) (side : Side) (text : List ℕ) (line
   pub left : HasLines call side text → HasLines call side rest
 
 module _ (call : CallContent) (side : Side) where
-  -- before the first line
-  pub read_nothing : (text : List ℕ) → IsReadUpTo call side text [] text
-  read_nothing text = record { read = refl; own = tt; left = λ h. h }
-
   -- what a text that begins with a line has after it
   after_first : (piece after : List ℕ) (lines : List ListingContent) → All IsInside piece →
       IsTextOf call side (piece ++ 10 ∷ after) lines →
@@ -286,12 +269,6 @@ module _ (call : CallContent) (side : Side) where
   pub refused_rest : (rest : List ℕ) → ((i : ℕ) → i < length rest → get_or rest i 0 ≢ 10) → length rest ≢ 0 →
       HasLines call side rest → ⊥
   refused_rest rest inside some there = refused_lines rest there.lines (All-from_get_or IsInside rest 0 inside) some there.theirs
-
-  -- at the end of the text
-  pub read_all : (text : List ℕ) (lines : List ListingContent) (rest : List ℕ) → length rest ≡ 0 →
-      IsReadUpTo call side text lines rest → IsTextOf call side text lines
-  read_all text lines [] none all = (all.read ∙ append-nil (lines_text lines), all.own)
-  read_all text lines (b ∷ rest) none all = absurd (omega arith)
 
 -- ==== ReadingLemmas: What a line without its line feed is read as.
 

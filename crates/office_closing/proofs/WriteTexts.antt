@@ -1,56 +1,26 @@
 -- What the texts mean that make the tables, and those that write.
+use Rattle.std.{specs.{Prelude.{IfSome, IsUtf8, String, string_bytes, Vec}, Option.option_map, List.AllByRecursion}, proofs.lemmas.Bool.cases_Bool}
 use Rattle.std.proofs.Common.{◌≡◌, ℕ, List, [], ◌∷◌, codes, Ok, refl, true, false, Err, ◌<◌, ◌≤◌, map, length, Option, None, Some, Result, IfOk, IfErr, inl, inr, sym, ap, subst, ◌∙◌, arith}
-use Rattle.sqlite.specs.declared.types.Value.TheVariants.{Null}
-use Rattle.sqlite.specs.Term.{Term, lit, col}
-use Rattle.sqlite.specs.Source.TheVariants.{Values}
-use Rattle.sqlite.specs.Command.TheVariants.{CreateTable, Insert, Nothing, Select}
-use Rattle.sqlite.specs.Compile.{table_defined_by}
-use Rattle.sqlite_tied.specs.Compute.{everything}
-use Rattle.sqlite.specs.Listing.{understood, reads_listing, listing_schema}
+use Rattle.std.proofs.{lemmas.List.length-map, lemmas.List.Sorted.length_permutation}
+use Rattle.sqlite.specs.{declared.types.Value.TheVariants.Null, Term.{Term, lit, col}, Source.TheVariants.Values, Compile.table_defined_by, Effect.Database}
+use Rattle.sqlite.specs.{Command.TheVariants.{CreateTable, Insert, Nothing, Select}, Listing.{understood, reads_listing, listing_schema}, Order.Row}
+use Rattle.sqlite.specs.{Collation.TheVariants.Binary, Outline.Outline, Schema.Schema, Steps.Outlines, declared.error.Error.Error}
+use Rattle.sqlite.specs.{State.{State, IsNotRun, IsNoStatement, IsUnchanged, KeepsCommit, store_error}, declared.error.Error.TheVariants.SqlInputError}
 use Rattle.sqlite.proofs.Callers.{IsPlain, command_of, statement_of}
-use Rattle.office_rows.specs.Tables.{no_schema, schema_of}
-use Rattle.office_tables.proofs.MadeLemmas.{MakesAnew}
-use Rattle.office_closing.specs.Tables.{archive_table, segment_table, closed_for_table, settled_table, taken_table, older_schema, former_schema, register_schema, Layout, older, former, whole, schema_in, has_table, asking}
-use Rattle.office_closing.specs.declared.register_reading.Later.{Later}
-use Rattle.office_closing.specs.declared.register_reading.Later.TheVariants as later
-use Rattle.std.proofs.lemmas.Bool.{cases_Bool}
-use Rattle.sqlite.specs.Collation.TheVariants.{Binary}
-use Rattle.sqlite_resolve.specs.Compile.{first}
-use Rattle.sqlite_resolve.specs.declared.error.CompileError.TheVariants.{NoSuchTable}
-use Rattle.sqlite_value.specs.Keys.{ascending}
-use Rattle.sqlite_value.specs.declared.keys.Key.{Key}
-use Rattle.office_rows.proofs.WriteLemmas.{rows_of}
-use Rattle.office_tables.specs.Reading.{OnlyShows}
+use Rattle.sqlite_tied.specs.Compute.{everything}
+use Rattle.office_rows.{specs.Tables.{no_schema, schema_of}, proofs.{WriteLemmas.rows_of, Creating.stops_keep}}
+use Rattle.office_tables.{specs.{Reading.OnlyShows, declared.table_fault.TableFault.TableFault, Faults.IsOfStoreOr}, proofs.MadeLemmas.MakesAnew}
 use Rattle.office_tables.proofs.WritesLemmas.{is_read, only_shows, of_store_weaker}
-use Rattle.std.specs.Prelude.{IfSome, IsUtf8, String, string_bytes, Vec}
-use Rattle.std.specs.Option.{option_map}
-use Rattle.std.specs.List.{AllByRecursion}
-use Rattle.std.proofs.lemmas.List.{length-map}
-use Rattle.std.proofs.lemmas.List.Sorted.{length_permutation}
-use Rattle.sqlite.specs.Effect.{Database}
-use Rattle.sqlite.specs.Order.{Row}
-use Rattle.sqlite.specs.Outline.{Outline}
-use Rattle.sqlite.specs.Schema.{Schema}
-use Rattle.sqlite.specs.State.{State, IsNotRun, IsNoStatement, IsUnchanged, KeepsCommit, store_error}
-use Rattle.sqlite.specs.Steps.{Outlines}
-use Rattle.sqlite.specs.declared.error.Error.{Error}
-use Rattle.sqlite.specs.declared.error.Error.TheVariants.{SqlInputError}
-use Rattle.sqlite_resolve.specs.declared.compiled.Compiled.{Compiled}
-use Rattle.sqlite_resolve.specs.declared.error.CompileError.{CompileError}
-use Rattle.sqlite_trees.specs.declared.error.StoreError.{StoreError}
-use Rattle.sqlite_trees.specs.declared.error.StoreError.TheVariants.{OutOfMemory, Io, Corrupt, Full, Broken, Unstorable}
-use Rattle.office_tables.specs.declared.table_fault.TableFault.{TableFault}
-use Rattle.office_tables.specs.Faults.{IsOfStoreOr}
-use Rattle.office_rows.proofs.Creating.{stops_keep}
-use Rattle.office_loading.specs.Tables.{FailsTable, ReadsTable}
-use Rattle.office_loading.proofs.VersionLemmas.{same_rows}
-use Rattle.office_closing.specs.declared.register.Segment.{Segment}
-use Rattle.office_closing.specs.Lists.{SettledListContent}
-use Rattle.office_closing.specs.Register.{ArchiveContent}
+use Rattle.office_closing.specs.Tables.{archive_table, segment_table, closed_for_table, settled_table, taken_table, older_schema, former_schema, register_schema, Layout, older, former, whole, schema_in, has_table, asking}
+use Rattle.office_closing.specs.{declared.register_reading.Later.Later, declared.register.Segment.Segment, Lists.SettledListContent, Register.ArchiveContent}
 use Rattle.office_closing.specs.Reading.{FitsArchive, FitsSegment, FitsList, ShowsArchives, ShowsSegments, ShowsFiles, FailsMark, ReadsMark, FailsTables}
 use Rattle.office_closing.specs.Stored.{ShowsLists, ShowsTaken, file_values, if_any}
-
--- ==== WriteTexts: What the texts mean that make the tables, and those that write.
+use Rattle.sqlite_resolve.specs.{Compile.first, declared.error.CompileError.TheVariants.NoSuchTable, declared.compiled.Compiled.Compiled}
+use Rattle.sqlite_resolve.specs.declared.error.CompileError.{CompileError}
+use Rattle.sqlite_value.specs.{Keys.ascending, declared.keys.Key.Key}
+use Rattle.sqlite_trees.specs.{declared.error.StoreError.StoreError, declared.error.StoreError.TheVariants.{OutOfMemory, Io, Corrupt, Full, Broken, Unstorable}}
+use Rattle.office_loading.{specs.Tables.{FailsTable, ReadsTable}, proofs.VersionLemmas.same_rows}
+use Rattle.office_closing.specs.declared.register_reading.Later.TheVariants as later
 
 -- ---- tables
 

@@ -2,25 +2,14 @@
 -- the store's.
 use Rattle.std.specs.Prelude.{◌≡◌, ◌⊎◌, ℕ, nat_le, not, Bool, true, false, List, [], ◌∷◌, ◌++◌, codes, filter, map, pos, negsuc, Option, None, Some, Result}
 use Rattle.partner_core.specs.Deliveries.{Delivery}
-use Rattle.sqlite_value.specs.declared.value.Value.{Value}
-use Rattle.sqlite_value.specs.declared.value.Value.TheVariants.{Null, Int, Real, Text, Blob}
-use Rattle.sqlite_value.specs.Order.{Row, column}
+use Rattle.sqlite_value.specs.{declared.value.Value.Value, declared.value.Value.TheVariants.{Null, Int, Real, Text, Blob}, Order.{Row, column}}
 use Rattle.sqlite_trees.specs.declared.store.Store.{Ghosts}
-use Rattle.sqlite.specs.declared.rows.stream.Rows.{Rows as Query}
-use Rattle.sqlite.specs.Given.{HasGiven}
-use Rattle.sqlite.specs.Held as connection
-use Rattle.sqlite.specs.Held.{state}
-use Rattle.sqlite.specs.State.{Shown}
-use Rattle.office_rows.specs.Rows.{Interchange, Rows}
-use Rattle.office_rows.specs.Stored.{columns_of}
-use Rattle.office_rows.specs.Tables.{interchange_table}
-use Rattle.office_rows.specs.Values.{interchange_values}
+use Rattle.sqlite.specs.{declared.rows.stream.Rows.Rows as Query, Given.HasGiven, Held.state, State.Shown}
+use Rattle.office_rows.specs.{Rows.{Interchange, Rows}, Stored.columns_of, Tables.interchange_table, Values.interchange_values}
 use Rattle.office_tables.specs.Reading.{OnlyShows}
-use Rattle.office_parts.specs.Closing.{is_beyond}
-use Rattle.office_parts.specs.InOrder.{as_delivery}
-use Rattle.office_closing.specs.Copies.{AreFirst}
-use Rattle.office_closing.specs.Files.{IsRead}
-use Rattle.office_closing.specs.declared.arriving.Likeness.{Likeness}
+use Rattle.office_parts.specs.{Closing.is_beyond, InOrder.as_delivery}
+use Rattle.office_closing.specs.{Copies.AreFirst, Files.IsRead, declared.arriving.Likeness.Likeness}
+use Rattle.sqlite.specs.Held as connection
 use Rattle.office_closing.specs.declared.arriving.Likeness.TheVariants as likeness
 
 -- ---- the texts

@@ -1,8 +1,6 @@
 -- What the calls that write make of a register.
 use Rattle.std.specs.Prelude.{ℕ, List, [], ◌∷◌, ◌++◌, None, Some}
-use Rattle.office_closing.specs.declared.register.Segment.{Segment}
-use Rattle.office_closing.specs.Lists.{SettledListContent, put_lists}
-use Rattle.office_closing.specs.Register.{ArchiveContent, RegisterContent}
+use Rattle.office_closing.specs.{declared.register.Segment.Segment, Lists.{SettledListContent, put_lists}, Register.{ArchiveContent, RegisterContent}}
 
 -- that of a store of which nothing was put away
 abbrev pub empty_register : RegisterContent

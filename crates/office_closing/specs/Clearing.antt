@@ -1,14 +1,9 @@
 -- What clearing a store of rows that were closed commits: some transactions, one after the other.
 use Rattle.std.specs.Prelude.{◌≡◌, ℕ, true, Bool, Result, IfErr, IsTrue, OnErr, OnOk}
-use Rattle.sqlite.specs.State.{State, HasCleanDisk, Survives}
-use Rattle.sqlite.specs.Tree.{Trees}
-use Rattle.office_rows.specs.Rows.{Interchange, Rows}
-use Rattle.office_rows.specs.Stored.{HasRows, StoresRows}
-use Rattle.office_tables.specs.Faults.{IsOfStore}
-use Rattle.office_tables.specs.declared.table_fault.TableFault.{TableFault}
-use Rattle.office_parts.specs.LeftOver.{rows_without}
-use Rattle.office_parts.specs.OwnLists.{ListName, rows_without_lists}
-use Rattle.office_tables.specs.Writing.{EndsIdle}
+use Rattle.sqlite.specs.{State.{State, HasCleanDisk, Survives}, Tree.Trees}
+use Rattle.office_rows.specs.{Rows.{Interchange, Rows}, Stored.{HasRows, StoresRows}}
+use Rattle.office_tables.specs.{Faults.IsOfStore, declared.table_fault.TableFault.TableFault, Writing.EndsIdle}
+use Rattle.office_parts.specs.{LeftOver.rows_without, OwnLists.{ListName, rows_without_lists}}
 use Rattle.office_closing.specs.Deleting.{with_visits_that}
 
 -- the most rows that one transaction deletes (our own)

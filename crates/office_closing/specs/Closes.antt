@@ -1,51 +1,25 @@
 -- What a closing of a store does: what it closes, what is left, and what it leaves at a fault and by a crash.
 use Rattle.std.specs.Prelude.{◌≡◌, ◌≢◌, ◌⊎◌, [], ℕ, ◌+◌, ◌<◌, ◌≤◌, true, Bool, List, Contains, length, map, None, Some, Result, Ok, Err, IfErr, IsTrue, OnErr, OnOk}
 use Rattle.std.specs.List.{AllByRecursion, range_with_len}
-use Rattle.sqlite.specs.Effect.{Database}
-use Rattle.sqlite.specs.State.{KeepsCommit, State, Survives}
-use Rattle.sqlite.specs.Tree.{Trees}
-use Rattle.terminal_core.specs.Forms.{IsFormedVisit}
-use Rattle.terminal_core.specs.Rows.{VisitContent}
-use Rattle.terminal_core.specs.State.{AreNumbered, TerminalState, last_number}
-use Rattle.office_rows.specs.Rows.{Interchange, Partner, Rows}
-use Rattle.office_rows.specs.Shown.{AreNexts}
-use Rattle.office_rows.specs.Stored.{HasRows, StoresRows}
+use Rattle.sqlite.specs.{Effect.Database, State.{KeepsCommit, State, Survives}, Tree.Trees}
+use Rattle.terminal_core.specs.{Forms.IsFormedVisit, Rows.VisitContent, State.{AreNumbered, TerminalState, last_number}}
+use Rattle.office_rows.specs.{Rows.{Interchange, Partner, Rows}, Shown.AreNexts, Stored.{HasRows, StoresRows}}
 use Rattle.office_admission.specs.Setups.{SetupContent}
 use Rattle.office_history.specs.After.{AreKeptOnce}
 use Rattle.office_loading.specs.Tables.{LoadsOwn}
-use Rattle.office_closing.specs.Going.{GoesAs, IsAmong, MayGo}
-use Rattle.office_parts.specs.OwnLists.{ListName, rows_without_lists}
-use Rattle.office_parts.specs.Archives.{HoldsWhatGoes}
-use Rattle.office_parts.specs.LeftOver.{rows_without}
-use Rattle.office_parts.specs.OwnTerminal.{MayStay}
-use Rattle.office_parts.specs.Parts.{Archived}
-use Rattle.office_tables.specs.Faults.{IsOfStore, IsOfStoreOr}
-use Rattle.office_tables.specs.declared.table_fault.TableFault.{TableFault}
-use Rattle.office_closing.specs.declared.register.Segment.{Segment}
-use Rattle.office_closing.specs.Changes.{closed_with, marked_for, unmarked}
-use Rattle.office_closing.specs.Lists.{SettledListContent, list_content}
-use Rattle.office_closing.specs.Register.{ArchiveContent, RegisterContent, archive_content, closed_by, last_closed}
-use Rattle.office_closing.specs.Sound.{IsSound}
-use Rattle.office_closing.specs.Stored.{HasRegister, StoresRegister}
-use Rattle.office_closing.specs.Transactions.{IsSettled}
-use Rattle.office_closing.specs.declared.faults.CloseFault.{CloseFault}
-use Rattle.office_closing.specs.declared.faults.CloseFault.TheVariants as fault
-use Rattle.office_closing.specs.declared.faults.File.{File}
-use Rattle.office_closing.specs.declared.faults.File.TheVariants as file
-use Rattle.office_closing.specs.declared.comparing.Numbers.{Numbers}
-use Rattle.office_closing.specs.declared.planning.Plan.{Plan}
-use Rattle.office_closing.specs.declared.planning.PutAway.{PutAway}
-use Rattle.office_closing.specs.declared.planning.Stage.{Stage}
-use Rattle.office_closing.specs.declared.planning.Stage.TheVariants as stage
-use Rattle.office_closing.specs.Arriving.{HasTexts, StandInOrder}
-use Rattle.office_closing.specs.Comparing.{IsOfEither}
-use Rattle.office_closing.specs.Copies.{ClosesNone, FileNames, numbers_from, segments_of, taken_of}
+use Rattle.office_closing.specs.{Going.{GoesAs, IsAmong, MayGo}, declared.register.Segment.Segment, Changes.{closed_with, marked_for, unmarked}, Sound.IsSound}
+use Rattle.office_closing.specs.{Lists.{SettledListContent, list_content}, Register.{ArchiveContent, RegisterContent, archive_content, closed_by, last_closed}}
+use Rattle.office_closing.specs.{Stored.{HasRegister, StoresRegister}, Transactions.IsSettled, declared.faults.CloseFault.CloseFault, declared.faults.File.File}
+use Rattle.office_closing.specs.{declared.comparing.Numbers.Numbers, declared.planning.Plan.Plan, declared.planning.PutAway.PutAway, Comparing.IsOfEither}
+use Rattle.office_closing.specs.{declared.planning.Stage.Stage, Arriving.{HasTexts, StandInOrder}, Files.{Files, AreClean, AreIdle, AreRead, IsRead}}
+use Rattle.office_closing.specs.{Copies.{ClosesNone, FileNames, numbers_from, segments_of, taken_of}, Laws.Raises, Steps.IsOfWriting, Visits.AreToGo}
 use Rattle.office_closing.specs.Deleting.{all_but, goes, is_one_of, with_visits_that, without_visits}
-use Rattle.office_closing.specs.Files.{Files, AreClean, AreIdle, AreRead, IsRead}
-use Rattle.office_closing.specs.Laws.{Raises}
 use Rattle.office_closing.specs.Refusing.{HasUnfit, HasUnread, IsFileOf, IsUnopened, IsWhy}
-use Rattle.office_closing.specs.Steps.{IsOfWriting}
-use Rattle.office_closing.specs.Visits.{AreToGo}
+use Rattle.office_parts.specs.{OwnLists.{ListName, rows_without_lists}, Archives.HoldsWhatGoes, LeftOver.rows_without, OwnTerminal.MayStay, Parts.Archived}
+use Rattle.office_tables.specs.{Faults.{IsOfStore, IsOfStoreOr}, declared.table_fault.TableFault.TableFault}
+use Rattle.office_closing.specs.declared.faults.CloseFault.TheVariants as fault
+use Rattle.office_closing.specs.declared.faults.File.TheVariants as file
+use Rattle.office_closing.specs.declared.planning.Stage.TheVariants as stage
 
 -- ---- what the files hold before
 

@@ -1,19 +1,11 @@
 -- Whether an archive keeps what is to go from the store.
-use Rattle.std.specs.Prelude.{◌≡◌, ℕ, true, List, Option, None, Some, string_bytes}
-use Rattle.std.specs.Option.{option_map}
+use Rattle.std.specs.{Prelude.{◌≡◌, ℕ, true, List, Option, None, Some, string_bytes}, Option.option_map}
 use Rattle.office_rows.specs.Rows.{Rows}
-use Rattle.office_history.specs.After.{reply_in}
-use Rattle.office_history.specs.Cascade.{text_in}
-use Rattle.office_tables.specs.Answers.{HasUnfitReply}
-use Rattle.office_tables.specs.Faults.{IsOfStoreOr}
-use Rattle.office_tables.specs.declared.interchanges.Kept.{Kept}
-use Rattle.office_tables.specs.declared.table_fault.TableFault.{TableFault}
-use Rattle.office_closing.specs.Deleting.{is_among}
-use Rattle.office_closing.specs.declared.comparing.Difference.{Difference}
-use Rattle.office_closing.specs.declared.faults.File.{File}
-use Rattle.office_closing.specs.declared.faults.File.TheVariants as file
-use Rattle.office_closing.specs.declared.faults.FileFault.{FileFault}
+use Rattle.office_history.specs.{After.reply_in, Cascade.text_in}
+use Rattle.office_tables.specs.{Answers.HasUnfitReply, Faults.IsOfStoreOr, declared.interchanges.Kept.Kept, declared.table_fault.TableFault.TableFault}
+use Rattle.office_closing.specs.{Deleting.is_among, declared.comparing.Difference.Difference, declared.faults.File.File, declared.faults.FileFault.FileFault}
 use Rattle.office_closing.specs.declared.comparing.Numbers.{Numbers}
+use Rattle.office_closing.specs.declared.faults.File.TheVariants as file
 
 -- ---- what is kept
 

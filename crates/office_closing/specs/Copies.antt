@@ -2,30 +2,16 @@
 use Rattle.std.specs.Prelude.{◌≡◌, ◌≢◌, ℕ, ◌+◌, ◌-◌, ◌≤◌, ◌==◌, ◌++◌, Bool, false, nat_lt, List, [], ◌∷◌, length, map, filter, None, Some, IsTrue}
 use Rattle.sqlite.specs.Effect.{Database}
 use Rattle.terminal_core.specs.State.{TerminalState, last_number}
-use Rattle.office_admission.specs.Limits.{most_partners}
-use Rattle.office_admission.specs.Setups.{SetupContent, setup_content}
-use Rattle.office_rows.specs.ByKey.{AreListedOnce, lines_by}
-use Rattle.office_rows.specs.Rows.{ListingContent, Rows}
-use Rattle.office_rows.specs.Shown.{AreNexts}
-use Rattle.office_rows.specs.Stored.{HasRows}
-use Rattle.office_rows.specs.Tables.{office_schema}
+use Rattle.office_admission.specs.{Limits.most_partners, Setups.{SetupContent, setup_content}}
+use Rattle.office_rows.specs.{ByKey.{AreListedOnce, lines_by}, Rows.{ListingContent, Rows}, Shown.AreNexts, Stored.HasRows, Tables.office_schema}
 use Rattle.office_loading.specs.Tables.{LoadsOwn}
-use Rattle.office_closing.specs.Going.{AreDone}
+use Rattle.office_closing.specs.{Going.AreDone, declared.register.Segment.Segment, Changes.{closed_with, unmarked}, Lists.SettledListContent, Visits.IsCauseOf}
+use Rattle.office_closing.specs.{Register.{ArchiveContent, RegisterContent, register_content, last_closed, closed_by, is_newer_than}, Stored.HasRegister}
+use Rattle.office_closing.specs.{Sound.{is_sound, is_file_name, IsSound}, declared.faults.Refusal.Refusal, declared.comparing.Numbers.Numbers}
+use Rattle.office_closing.specs.{declared.planning.Opened.Opened, declared.planning.Stage.Stage, declared.visits.VisitFault.TheVariants.Differs}
 use Rattle.office_parts.specs.OwnLists.{ListName}
-use Rattle.office_closing.specs.declared.register.Segment.{Segment}
-use Rattle.office_closing.specs.Changes.{closed_with, unmarked}
-use Rattle.office_closing.specs.Lists.{SettledListContent}
-use Rattle.office_closing.specs.Register.{ArchiveContent, RegisterContent, register_content, last_closed, closed_by, is_newer_than}
-use Rattle.office_closing.specs.Sound.{is_sound, is_file_name, IsSound}
-use Rattle.office_closing.specs.Stored.{HasRegister}
-use Rattle.office_closing.specs.declared.faults.Refusal.{Refusal}
 use Rattle.office_closing.specs.declared.faults.Refusal.TheVariants as refusal
-use Rattle.office_closing.specs.declared.comparing.Numbers.{Numbers}
-use Rattle.office_closing.specs.declared.planning.Opened.{Opened}
-use Rattle.office_closing.specs.declared.planning.Stage.{Stage}
 use Rattle.office_closing.specs.declared.planning.Stage.TheVariants as stage
-use Rattle.office_closing.specs.declared.visits.VisitFault.TheVariants.{Differs}
-use Rattle.office_closing.specs.Visits.{IsCauseOf}
 
 -- ---- what is opened
 

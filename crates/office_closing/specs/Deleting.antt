@@ -1,19 +1,10 @@
 -- Which rows a closing deletes, and what a call that deletes rows does to the transaction that it is in.
-use Rattle.std.specs.Prelude.{◌≡◌, ℕ, ◌==◌, ◌&&◌, nat_le, nat_lt, not, Bool, List, Result, OnOk, IfErr, IsTrue}
-use Rattle.std.specs.List.{list_any}
+use Rattle.std.specs.{Prelude.{◌≡◌, ℕ, ◌==◌, ◌&&◌, nat_le, nat_lt, not, Bool, List, Result, OnOk, IfErr, IsTrue}, List.list_any}
 use Rattle.sqlite.specs.State.{State, HasCleanDisk, KeepsCommit, Survives}
-use Rattle.office_rows.specs.Effects.{is_pair}
-use Rattle.office_rows.specs.Rows.{Interchange, Rows}
-use Rattle.office_rows.specs.Stored.{HasRows}
-use Rattle.office_closing.specs.Going.{name_of}
-use Rattle.office_parts.specs.Bringing.{is_list}
-use Rattle.office_parts.specs.OwnLists.{ListName}
-use Rattle.office_closing.specs.Lists.{SettledListContent}
-use Rattle.office_tables.specs.Faults.{IsOfStore}
-use Rattle.office_tables.specs.declared.table_fault.TableFault.{TableFault}
-use Rattle.office_parts.specs.LeftOver.{rows_without}
-use Rattle.office_parts.specs.OwnTerminal.{own_visits}
-use Rattle.office_closing.specs.declared.comparing.Numbers.{Numbers}
+use Rattle.office_rows.specs.{Effects.is_pair, Rows.{Interchange, Rows}, Stored.HasRows}
+use Rattle.office_closing.specs.{Going.name_of, Lists.SettledListContent, declared.comparing.Numbers.Numbers}
+use Rattle.office_parts.specs.{Bringing.is_list, OwnLists.ListName, LeftOver.rows_without, OwnTerminal.own_visits}
+use Rattle.office_tables.specs.{Faults.IsOfStore, declared.table_fault.TableFault.TableFault}
 
 -- ---- which interchanges go: those under some numbers of each partner
 

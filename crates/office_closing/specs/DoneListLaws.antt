@@ -4,12 +4,8 @@ use Rattle.office_replies.specs.Events.{Event}
 use Rattle.office_rows.specs.Rows.{ListingContent, Rows}
 use Rattle.office_admission.specs.Setups.{SetupContent}
 use Rattle.office_history.specs.After.{SaysSame, content_after}
-use Rattle.office_parts.specs.Away.{AreAway, lines_away}
-use Rattle.office_parts.specs.Bringing.{lines_of}
-use Rattle.office_parts.specs.OwnLists.{ListName, rows_without_lists}
-use Rattle.office_parts.specs.Archives.{Archive}
-use Rattle.office_parts.specs.Closing.{MayClose, carried}
-use Rattle.office_parts.specs.Parts.{Archived, ArePartsAfter}
+use Rattle.office_parts.specs.{Away.{AreAway, lines_away}, Bringing.lines_of, OwnLists.{ListName, rows_without_lists}, Archives.Archive}
+use Rattle.office_parts.specs.{Closing.{MayClose, carried}, Parts.{Archived, ArePartsAfter}}
 use Rattle.office_closing.specs.Going.{MayGo}
 
 -- these archives keep the lines of the list that stand in the rows, in some order

@@ -1,7 +1,6 @@
 -- The four files of a closing: the store and its register, the archive and its register.
 use Rattle.std.specs.Prelude.{◌≡◌, false, Result, IsTrue, OnOk}
-use Rattle.sqlite.specs.Held.{Held, state}
-use Rattle.sqlite.specs.State.{State, HasCleanDisk, IsUnchanged, KeepsCommit, Survives}
+use Rattle.sqlite.specs.{Held.{Held, state}, State.{State, HasCleanDisk, IsUnchanged, KeepsCommit, Survives}}
 use Rattle.sqlite_trees.specs.declared.store.Store.{Ghosts}
 use Rattle.office_tables.specs.DeliveryReading.{IsSame}
 

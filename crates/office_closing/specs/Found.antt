@@ -1,12 +1,9 @@
 -- What is found of one list.
-use Rattle.std.specs.Prelude.{◌≡◌, ℕ, List, Contains}
-use Rattle.std.specs.List.{AllByRecursion}
+use Rattle.std.specs.{Prelude.{◌≡◌, ℕ, List, Contains}, List.AllByRecursion}
 use Rattle.terminal_core.specs.declared.lines.LineState.TheVariants.{Done}
 use Rattle.office_rows.specs.Rows.{ListingContent}
-use Rattle.office_closing.specs.Texts.{lines_text}
+use Rattle.office_closing.specs.{Texts.lines_text, Lists.SettledListContent, Going.{lines_on, name_of}}
 use Rattle.office_parts.specs.OwnLists.{ListName, list_name}
-use Rattle.office_closing.specs.Lists.{SettledListContent}
-use Rattle.office_closing.specs.Going.{lines_on, name_of}
 
 -- the list that the line is of
 abbrev pub list_on : ListingContent → ListName

@@ -1,17 +1,12 @@
 -- Which lists of a store may be put away: those of which every line is done, and which no text that waits names.
-use Rattle.std.specs.Prelude.{◌≡◌, ◌≢◌, ℕ, ◌<◌, List, [], ◌∷◌, map, filter, Contains, IsPermutation, Some}
-use Rattle.std.specs.List.{AllByRecursion}
+use Rattle.std.specs.{Prelude.{◌≡◌, ◌≢◌, ℕ, ◌<◌, List, [], ◌∷◌, map, filter, Contains, IsPermutation, Some}, List.AllByRecursion}
 use Rattle.edi_messages.specs.declared.codes.PartnerKind.{PartnerKind}
-use Rattle.terminal_core.specs.Versions.{newest}
-use Rattle.terminal_core.specs.declared.lines.LineState.TheVariants.{Done}
+use Rattle.terminal_core.specs.{Versions.newest, declared.lines.LineState.TheVariants.Done}
 use Rattle.office_rows.specs.Rows.{ListingContent, Partner, Rows}
 use Rattle.office_admission.specs.Setups.{SetupContent}
 use Rattle.office_history.specs.Cascade.{text_in}
-use Rattle.office_closing.specs.Texts.{IsTextOf, lines_text}
-use Rattle.office_parts.specs.Bringing.{is_of}
-use Rattle.office_parts.specs.Naming.{interchange_lists}
-use Rattle.office_parts.specs.OwnLists.{ListName, list_name}
-use Rattle.office_closing.specs.Lists.{SettledListContent}
+use Rattle.office_closing.specs.{Texts.{IsTextOf, lines_text}, Lists.SettledListContent}
+use Rattle.office_parts.specs.{Bringing.is_of, Naming.interchange_lists, OwnLists.{ListName, list_name}}
 
 -- ---- texts that wait
 

@@ -1,12 +1,8 @@
 -- What a closing makes of the journal of all files: it leaves it as it is.
 use Rattle.std.specs.Prelude.{◌≡◌, ℕ, ◌≤◌, List, [], ◌∷◌, ◌++◌, filter, length}
 use Rattle.office_rows.specs.Rows.{Interchange}
-use Rattle.office_parts.specs.Archives.{Archive}
-use Rattle.office_parts.specs.ArchiveJournal.{carried_on, journal_of}
-use Rattle.office_parts.specs.Closing.{is_beyond}
-use Rattle.office_parts.specs.Copies.{closed_after, is_above}
-use Rattle.office_closing.specs.Arriving.{arrivals}
-use Rattle.office_closing.specs.Copies.{AreFirst}
+use Rattle.office_parts.specs.{Archives.Archive, ArchiveJournal.{carried_on, journal_of}, Closing.is_beyond, Copies.{closed_after, is_above}}
+use Rattle.office_closing.specs.{Arriving.arrivals, Copies.AreFirst}
 
 -- how many texts the last of these archives has beyond what it closes: so many the next file has too
 abbrev pub carried_after : (closed_before : ℕ → ℕ) → (carried : ℕ) → List Archive → ℕ

@@ -1,13 +1,8 @@
 -- What is found of the four files before anything is written.
 use Rattle.std.specs.Prelude.{◌≡◌, true, [], None, IsTrue}
-use Rattle.sqlite.specs.State.{State}
-use Rattle.sqlite.specs.Tree.{Trees}
-use Rattle.office_closing.specs.declared.planning.Plan.{Plan}
-use Rattle.office_closing.specs.Closes.{Held, IsAtStage, IsClosing, closing_content}
-use Rattle.office_closing.specs.Comparing.{IsComparedAs}
-use Rattle.office_closing.specs.Copies.{FileNames}
-use Rattle.office_closing.specs.Files.{Files}
-use Rattle.office_closing.specs.Steps.{is_unraised}
+use Rattle.sqlite.specs.{State.State, Tree.Trees}
+use Rattle.office_closing.specs.{declared.planning.Plan.Plan, Closes.{Held, IsAtStage, IsClosing, closing_content}, Comparing.IsComparedAs, Copies.FileNames}
+use Rattle.office_closing.specs.{Files.Files, Steps.is_unraised}
 
 -- the archive is a copy and holds what goes, and the closing has come so far
 pub record IsJudged (held : Held) (names : FileNames) (plan : Plan) : Type 0 where

@@ -4,19 +4,11 @@ use Rattle.terminal_core.specs.State.{AreNumbered}
 use Rattle.office_replies.specs.Events.{Event}
 use Rattle.office_rows.specs.Rows.{Rows}
 use Rattle.office_admission.specs.Setups.{SetupContent}
-use Rattle.office_parts.specs.Archives.{HoldsWhatGoes}
-use Rattle.office_parts.specs.Closing.{carried}
-use Rattle.office_parts.specs.LeftOver.{rows_beyond, rows_without}
-use Rattle.office_parts.specs.OwnTerminal.{MayStay}
+use Rattle.office_parts.specs.{Archives.HoldsWhatGoes, Closing.carried, LeftOver.{rows_beyond, rows_without}, OwnTerminal.MayStay}
 use Rattle.office_parts.specs.Parts.{Archived, ArePartsAfter}
-use Rattle.office_closing.specs.declared.comparing.Numbers.{Numbers}
-use Rattle.office_closing.specs.Changes.{with_taken}
-use Rattle.office_closing.specs.Clearing.{IsWithoutSome}
-use Rattle.office_closing.specs.Comparing.{IsComparedAs}
-use Rattle.office_closing.specs.Copies.{AreAtMost, taken_of}
-use Rattle.office_closing.specs.Deleting.{all_but, without_visits, is_among, goes}
+use Rattle.office_closing.specs.{declared.comparing.Numbers.Numbers, Changes.with_taken, Clearing.IsWithoutSome, Comparing.IsComparedAs, Visits.AreToGo}
+use Rattle.office_closing.specs.{Copies.{AreAtMost, taken_of}, Deleting.{all_but, without_visits, is_among, goes}}
 use Rattle.office_closing.specs.Register.{RegisterContent, is_newer_than, next_of}
-use Rattle.office_closing.specs.Visits.{AreToGo}
 
 -- these are the numbers by which the last ones that are closed rise
 pub record Raises (before : ℕ → ℕ) (closing : List Numbers) (after : ℕ → ℕ) : Type 0 where

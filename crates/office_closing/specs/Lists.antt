@@ -1,13 +1,8 @@
 -- Lists that were put away: with which archive, and their lines.
-use Rattle.std.specs.Prelude.{ℕ, ◌==◌, ◌&&◌, Bool, List, [], ◌∷◌, fold, if◌then◌else◌, Option, None, Some, string_bytes}
-use Rattle.std.specs.declared.cmp.Ordering.{Ordering}
-use Rattle.std.specs.Ordering.{is_lt, nat_cmp, ordering_then}
-use Rattle.std.specs.Cmp.Lexicographic.{slice_cmp}
-use Rattle.std.specs.Str.{bytes_eq}
-use Rattle.edi_messages.specs.Owned.{call_content}
-use Rattle.edi_messages.specs.Purposes.{CallContent}
-use Rattle.terminal_core.specs.State.{side_code}
-use Rattle.terminal_core.specs.declared.lines.Side.{Side}
+use Rattle.std.specs.{Prelude.{ℕ, ◌==◌, ◌&&◌, Bool, List, [], ◌∷◌, fold, if◌then◌else◌, Option, None, Some, string_bytes}, declared.cmp.Ordering.Ordering}
+use Rattle.std.specs.{Ordering.{is_lt, nat_cmp, ordering_then}, Cmp.Lexicographic.slice_cmp, Str.bytes_eq}
+use Rattle.edi_messages.specs.{Owned.call_content, Purposes.CallContent}
+use Rattle.terminal_core.specs.{State.side_code, declared.lines.Side.Side}
 use Rattle.office_closing.specs.declared.settled_lists.SettledList.{SettledList}
 
 -- these lines of this list of the call were put away with that archive

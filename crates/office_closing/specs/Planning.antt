@@ -1,22 +1,14 @@
 -- What a closing is to do, as the opened offices and their registers tell.
 use Rattle.std.specs.Prelude.{◌≡◌, ◌≢◌, ◌↔◌, ℕ, Bool, true, Option, None, Some, List, Contains, filter, map}
 use Rattle.office_parts.specs.OwnLists.{ListName}
-use Rattle.office_closing.specs.Changes.{unmarked}
-use Rattle.office_closing.specs.Lists.{SettledListContent, list_content}
-use Rattle.office_closing.specs.Register.{archive_content}
-use Rattle.office_closing.specs.declared.register.Segment.{Segment}
-use Rattle.office_closing.specs.declared.faults.CloseFault.{CloseFault}
+use Rattle.office_closing.specs.{Changes.unmarked, Lists.{SettledListContent, list_content}, Register.archive_content, declared.register.Segment.Segment}
+use Rattle.office_closing.specs.{declared.faults.CloseFault.CloseFault, declared.planning.ClosingLists.ClosingLists, declared.planning.History.History}
+use Rattle.office_closing.specs.{declared.planning.Mark.Mark, declared.planning.Plan.Plan, declared.planning.Stage.Stage, Visits.AreToGo}
+use Rattle.office_closing.specs.Copies.{AreDoneIn, ComesOn, FileNames, IsCopy, IsReason, OfficeContent, archive_in, is_put_away_with, is_with, lists_at, numbers_of, segments_in, segments_of, taken_at, taken_of}
 use Rattle.office_closing.specs.declared.faults.CloseFault.TheVariants as fault
 use Rattle.office_closing.specs.declared.faults.Refusal.TheVariants as refusal
-use Rattle.office_closing.specs.declared.planning.ClosingLists.{ClosingLists}
-use Rattle.office_closing.specs.declared.planning.History.{History}
-use Rattle.office_closing.specs.declared.planning.Mark.{Mark}
 use Rattle.office_closing.specs.declared.planning.Mark.TheVariants as mark
-use Rattle.office_closing.specs.declared.planning.Plan.{Plan}
-use Rattle.office_closing.specs.declared.planning.Stage.{Stage}
 use Rattle.office_closing.specs.declared.planning.Stage.TheVariants as stage
-use Rattle.office_closing.specs.Copies.{AreDoneIn, ComesOn, FileNames, IsCopy, IsReason, OfficeContent, archive_in, is_put_away_with, is_with, lists_at, numbers_of, segments_in, segments_of, taken_at, taken_of}
-use Rattle.office_closing.specs.Visits.{AreToGo}
 
 -- these are the lists that are done, if the registers name the same archives, and else those that the store's has with this one
 pub record AreFor (own copy : OfficeContent) (archive : ℕ) (done lists : List SettledListContent) : Type 0 where

@@ -2,22 +2,12 @@
 use Rattle.std.specs.Prelude.{◌≡◌, ◌⊎◌, ◌||◌, ◌<◌, ◌++◌, ◌∷◌, [], ℕ, Bool, true, false, Contains, filter, List, None, Some}
 use Rattle.office_replies.specs.Events.{Event}
 use Rattle.office_rows.specs.Rows.{Interchange, ListingContent, Rows}
-use Rattle.office_admission.specs.Given.{IsGiven}
-use Rattle.office_admission.specs.Setups.{SetupContent}
-use Rattle.office_closing.specs.Texts.{IsTextOf}
-use Rattle.office_closing.specs.Going.{name_of}
-use Rattle.office_parts.specs.Away.{AreAway}
-use Rattle.office_parts.specs.OwnLists.{ListName, rows_without_lists}
-use Rattle.office_parts.specs.Archives.{Archive, Hold}
-use Rattle.office_parts.specs.Closing.{is_closed}
-use Rattle.office_parts.specs.LeftOver.{rows_beyond}
-use Rattle.office_parts.specs.Parts.{Archived, ArePartsAfter}
-use Rattle.office_closing.specs.Changes.{unmarked}
-use Rattle.office_closing.specs.Lists.{SettledListContent}
+use Rattle.office_admission.specs.{Given.IsGiven, Setups.SetupContent}
+use Rattle.office_closing.specs.{Texts.IsTextOf, Going.name_of, Changes.unmarked, Lists.SettledListContent, Copies.FileNames, Deleting.is_one_of}
 use Rattle.office_closing.specs.Register.{RegisterContent, last_closed, newest_visit}
 use Rattle.office_closing.specs.Closes.{AreOrderly, Closing, Held, IsClosing, IsLeft, PutsAway, closed_after, raised_register}
-use Rattle.office_closing.specs.Copies.{FileNames}
-use Rattle.office_closing.specs.Deleting.{is_one_of}
+use Rattle.office_parts.specs.{Away.AreAway, OwnLists.{ListName, rows_without_lists}, Archives.{Archive, Hold}, Closing.is_closed, LeftOver.rows_beyond}
+use Rattle.office_parts.specs.Parts.{Archived, ArePartsAfter}
 
 -- ---- where a store stands
 

@@ -1,19 +1,12 @@
 -- What the columns of a register's rows say, and what reading them answers.
-use Rattle.std.specs.Prelude.{◌≡◌, ℕ, ◌<◌, ◌^◌, List, [], ◌∷◌, map, IfSome, IsUtf8, Option, Result, Ok, Err, String, string_bytes}
-use Rattle.std.specs.Option.{option_map}
+use Rattle.std.specs.{Prelude.{◌≡◌, ℕ, ◌<◌, ◌^◌, List, [], ◌∷◌, map, IfSome, IsUtf8, Option, Result, Ok, Err, String, string_bytes}, Option.option_map}
 use Rattle.std.specs.List.{AllByRecursion}
-use Rattle.sqlite.specs.Order.{Row}
-use Rattle.sqlite.specs.Effect.{Database}
+use Rattle.sqlite.specs.{Order.Row, Effect.Database}
 use Rattle.office_rows.specs.Shown.{ShowsTable, columns_at}
-use Rattle.office_tables.specs.declared.table_fault.TableFault.{TableFault}
-use Rattle.office_tables.specs.Faults.{IsOfStoreOr}
-use Rattle.office_closing.specs.declared.register.Register.{Register}
-use Rattle.office_closing.specs.declared.register.Segment.{Segment}
-use Rattle.office_closing.specs.Lists.{SettledListContent}
-use Rattle.office_closing.specs.Register.{ArchiveContent, RegisterContent, register_content}
-use Rattle.office_closing.specs.Sound.{IsSound}
+use Rattle.office_tables.specs.{declared.table_fault.TableFault.TableFault, Faults.IsOfStoreOr}
+use Rattle.office_closing.specs.{declared.register.Register.Register, declared.register.Segment.Segment, Lists.SettledListContent, Sound.IsSound}
+use Rattle.office_closing.specs.{Register.{ArchiveContent, RegisterContent, register_content}, Tables.{archive_table, segment_table, closed_for_table, Layout}}
 use Rattle.office_closing.specs.Stored.{ShowsLists, ShowsRegister, archive_values, segment_values, file_values, list_values, if_any}
-use Rattle.office_closing.specs.Tables.{archive_table, segment_table, closed_for_table, Layout}
 
 -- ---- what no caller has to read: which rows fit the types of a record
 

@@ -2,23 +2,15 @@
 use Rattle.std.specs.Prelude.{◌≡◌, ◌⊎◌, ◌<◌, ℕ, List, length, true}
 use Rattle.sqlite.specs.Effect.{Database}
 use Rattle.office_admission.specs.Limits.{most_partners}
-use Rattle.office_rows.specs.Rows.{Rows}
+use Rattle.office_rows.specs.{Rows.Rows, Shown.AreNexts}
 use Rattle.office_loading.specs.Tables.{FailsToLoadOwn, HasHighNext}
-use Rattle.office_tables.specs.Answers.{HasUnfitReply}
-use Rattle.office_tables.specs.Faults.{IsOfStore, IsOfStoreOr}
-use Rattle.office_tables.specs.declared.table_fault.TableFault.{TableFault}
-use Rattle.office_closing.specs.declared.faults.File.{File}
-use Rattle.office_closing.specs.declared.faults.CloseFault.{CloseFault}
-use Rattle.office_closing.specs.declared.faults.CloseFault.TheVariants as fault
-use Rattle.office_closing.specs.declared.faults.Refusal.{Refusal}
-use Rattle.office_closing.specs.declared.faults.Refusal.TheVariants as refusal
-use Rattle.office_closing.specs.Arriving.{HasTexts, StandInOrder}
-use Rattle.office_closing.specs.Comparing.{IsOfEither, IsToldAlike}
+use Rattle.office_tables.specs.{Answers.HasUnfitReply, Faults.{IsOfStore, IsOfStoreOr}, declared.table_fault.TableFault.TableFault}
+use Rattle.office_closing.specs.{declared.faults.File.File, declared.faults.CloseFault.CloseFault, declared.faults.Refusal.Refusal, Files.Files}
+use Rattle.office_closing.specs.{Arriving.{HasTexts, StandInOrder}, Comparing.{IsOfEither, IsToldAlike}, Waiting.HasWaiting}
 use Rattle.office_closing.specs.Copies.{ClosesNone, FileNames, IsOpened, IsReason, OfficeContent}
-use Rattle.office_closing.specs.Files.{Files}
 use Rattle.office_closing.specs.Register.{RegisterContent, closed_by, is_newer_than, last_closed}
-use Rattle.office_rows.specs.Shown.{AreNexts}
-use Rattle.office_closing.specs.Waiting.{HasWaiting}
+use Rattle.office_closing.specs.declared.faults.CloseFault.TheVariants as fault
+use Rattle.office_closing.specs.declared.faults.Refusal.TheVariants as refusal
 
 -- ---- a file that can't be read
 

@@ -1,11 +1,8 @@
 -- What a register of archives says: which archives hold a store's history, and which numbers each of them closed.
 use Rattle.std.specs.Prelude.{ℕ, ◌==◌, ◌&&◌, nat_le, max, Bool, List, [], ◌∷◌, map, find, fold, get_or, if◌then◌else◌, nat_lt, not, Option, string_bytes}
-use Rattle.std.specs.List.{list_any}
-use Rattle.std.specs.Option.{option_map}
+use Rattle.std.specs.{List.list_any, Option.option_map}
 use Rattle.office_loading.specs.Closed.{ClosedContent}
-use Rattle.office_closing.specs.declared.register.Archive.{Archive}
-use Rattle.office_closing.specs.declared.register.Register.{Register}
-use Rattle.office_closing.specs.declared.register.Segment.{Segment}
+use Rattle.office_closing.specs.{declared.register.Archive.Archive, declared.register.Register.Register, declared.register.Segment.Segment}
 use Rattle.office_closing.specs.Lists.{SettledListContent, list_content}
 
 -- an archive: its place in the order of closing, the name of its file, the number of its newest visit

@@ -1,12 +1,10 @@
 -- Which registers are sound.
 use Rattle.std.specs.Prelude.{ℕ, ◌≤◌, ◌+◌, ◌==◌, ◌&&◌, ◌||◌, not, nat_le, nat_lt, Bool, true, List, [], ◌∷◌, ◌++◌, length, IsTrue, IfSome, IsUtf8, Option, None, Some}
-use Rattle.std.specs.List.{list_all, list_any, AllByRecursion}
-use Rattle.std.specs.Str.{bytes_eq}
+use Rattle.std.specs.{List.{list_all, list_any, AllByRecursion}, Str.bytes_eq}
 use Rattle.edi_messages.specs.Texts.{is_name}
 use Rattle.edi_syntax.specs.Numbers.{last_number}
 use Rattle.office_admission.specs.Limits.{most_partners, most_visits}
-use Rattle.office_closing.specs.declared.register.Segment.{Segment}
-use Rattle.office_closing.specs.Lists.{SettledListContent, comes_before}
+use Rattle.office_closing.specs.{declared.register.Segment.Segment, Lists.{SettledListContent, comes_before}}
 use Rattle.office_closing.specs.Register.{ArchiveContent, RegisterContent, last_closed}
 
 -- the most archives that a store may have

@@ -1,22 +1,13 @@
 -- What a stop of a closing leaves, and that the next call with the same files goes on from there.
 use Rattle.std.specs.Prelude.{◌≡◌, ◌⊎◌, true, List, None, Result}
-use Rattle.sqlite.specs.Effect.{Database}
-use Rattle.sqlite.specs.Held as connection
-use Rattle.sqlite.specs.Tree.{Trees}
+use Rattle.sqlite.specs.{Effect.Database, Tree.Trees}
 use Rattle.sqlite_trees.specs.declared.store.Store.{Ghosts}
 use Rattle.office_rows.specs.Stored.{HasRows, StoresRows}
-use Rattle.office_closing.specs.Changes.{unmarked}
-use Rattle.office_closing.specs.Closes.{AreHeld, AreOrderly, Closes, Closing, Held, IsAtStage, IsClosing, IsLeft}
-use Rattle.office_closing.specs.Copies.{ComesOn, FileNames, HasCome, IsOpened, OfficeContent, archive_in, lists_at}
-use Rattle.office_closing.specs.Files.{AreClean, Files, files}
-use Rattle.office_closing.specs.Lists.{SettledListContent}
-use Rattle.office_closing.specs.Sound.{IsSound}
-use Rattle.office_closing.specs.Steps.{is_unraised}
-use Rattle.office_closing.specs.Stored.{HasRegister, StoresEither}
-use Rattle.office_closing.specs.Transactions.{IsSettled}
-use Rattle.office_closing.specs.declared.faults.CloseFault.{CloseFault}
-use Rattle.office_closing.specs.declared.planning.PutAway.{PutAway}
-use Rattle.office_closing.specs.declared.planning.Stage.{Stage}
+use Rattle.office_closing.specs.{Changes.unmarked, Closes.{AreHeld, AreOrderly, Closes, Closing, Held, IsAtStage, IsClosing, IsLeft}, Lists.SettledListContent}
+use Rattle.office_closing.specs.{Copies.{ComesOn, FileNames, HasCome, IsOpened, OfficeContent, archive_in, lists_at}, Files.{AreClean, Files, files}}
+use Rattle.office_closing.specs.{Sound.IsSound, Steps.is_unraised, Stored.{HasRegister, StoresEither}, Transactions.IsSettled, declared.planning.Stage.Stage}
+use Rattle.office_closing.specs.{declared.faults.CloseFault.CloseFault, declared.planning.PutAway.PutAway}
+use Rattle.sqlite.specs.Held as connection
 use Rattle.office_closing.specs.declared.planning.Stage.TheVariants as stage
 
 -- ---- what is left

@@ -1,18 +1,11 @@
 -- How a database holds a register.
 use Rattle.std.specs.Prelude.{◌≡◌, ◌⊎◌, ℕ, List, [], ◌∷◌, Option, None, Some, map}
-use Rattle.sqlite.specs.declared.types.Value.TheVariants.{Text}
-use Rattle.sqlite.specs.Order.{Row}
-use Rattle.sqlite.specs.Tree.{Trees}
+use Rattle.sqlite.specs.{declared.types.Value.TheVariants.Text, Order.Row, Tree.Trees, Effect.Database}
 use Rattle.terminal_core.specs.State.{side_code}
-use Rattle.sqlite.specs.Effect.{Database}
 use Rattle.sqlite_trees.specs.Objects.{catalog_tree}
 use Rattle.sqlite_catalog.specs.Listing.{Lists}
-use Rattle.office_rows.specs.Values.{number_value}
-use Rattle.office_rows.specs.Stored.{Holds}
-use Rattle.office_rows.specs.Shown.{ShowsTable}
-use Rattle.office_closing.specs.declared.register.Segment.{Segment}
-use Rattle.office_closing.specs.Lists.{SettledListContent}
-use Rattle.office_closing.specs.Register.{ArchiveContent, RegisterContent}
+use Rattle.office_rows.specs.{Values.number_value, Stored.Holds, Shown.ShowsTable}
+use Rattle.office_closing.specs.{declared.register.Segment.Segment, Lists.SettledListContent, Register.{ArchiveContent, RegisterContent}}
 use Rattle.office_closing.specs.Tables.{archive_table, segment_table, closed_for_table, settled_table, taken_table, Layout, older, former, whole, register_schema, schema_in}
 
 -- ---- rows, in the order of the columns

@@ -1,9 +1,7 @@
 -- The tables of a register as SQL declares them.
 use Rattle.std.specs.Prelude.{ℕ, Bool, true, false, [], ◌∷◌, Some, None, codes, List}
 use Rattle.sqlite_value.specs.Keys.{plain}
-use Rattle.sqlite.specs.Table.{Table}
-use Rattle.sqlite.specs.Schema.{Schema}
-use Rattle.sqlite.specs.Kind.TheVariants.{Integer, Text}
+use Rattle.sqlite.specs.{Table.Table, Schema.Schema, Kind.TheVariants.{Integer, Text}}
 use Rattle.office_rows.specs.Tables.{required_column, key_column, schema_of}
 use Rattle.office_closing.specs.declared.register_reading.Later.{Later}
 use Rattle.office_closing.specs.declared.register_reading.Later.TheVariants as later

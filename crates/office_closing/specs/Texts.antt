@@ -1,13 +1,10 @@
 -- A vessel's list that is done, as a text: of each line its container's number, its port, if it has one, and a line feed.
 -- Neither the vessel, nor the voyage, nor the side is in the text.
-use Rattle.std.specs.Prelude.{◌≡◌, ℕ, List, [], ◌∷◌, ◌++◌, IsTrue}
-use Rattle.std.specs.List.{flat_map, AllByRecursion}
+use Rattle.std.specs.{Prelude.{◌≡◌, ℕ, List, [], ◌∷◌, ◌++◌, IsTrue}, List.{flat_map, AllByRecursion}}
 use Rattle.box6346.specs.NumberText.{is_number}
 use Rattle.edi_syntax.specs.Bytes.{line_feed}
 use Rattle.edi_messages.specs.Purposes.{CallContent}
-use Rattle.terminal_core.specs.Forms.{IsFormedPort}
-use Rattle.terminal_core.specs.declared.lines.LineState.TheVariants.{Done}
-use Rattle.terminal_core.specs.declared.lines.Side.{Side}
+use Rattle.terminal_core.specs.{Forms.IsFormedPort, declared.lines.LineState.TheVariants.Done, declared.lines.Side.Side}
 use Rattle.office_rows.specs.Rows.{ListingContent}
 
 -- ---- the text

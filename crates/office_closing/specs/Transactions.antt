@@ -1,13 +1,9 @@
 -- What the calls that write do to the transaction that they are in, and what a whole one commits.
 use Rattle.std.specs.Prelude.{◌≡◌, Result, OnOk, IfErr, IsTrue}
-use Rattle.sqlite.specs.State.{State, HasCleanDisk, KeepsCommit, Survives}
-use Rattle.sqlite.specs.Effect.{Database}
-use Rattle.sqlite.specs.Tree.{Trees}
+use Rattle.sqlite.specs.{State.{State, HasCleanDisk, KeepsCommit, Survives}, Effect.Database, Tree.Trees}
 use Rattle.office_rows.specs.Tables.{no_schema}
-use Rattle.office_tables.specs.declared.table_fault.TableFault.{TableFault}
-use Rattle.office_tables.specs.Faults.{IsOfStore}
-use Rattle.office_closing.specs.Register.{RegisterContent}
-use Rattle.office_closing.specs.Stored.{HasRegister, HasWhole, StoresRegister}
+use Rattle.office_tables.specs.{declared.table_fault.TableFault.TableFault, Faults.IsOfStore}
+use Rattle.office_closing.specs.{Register.RegisterContent, Stored.{HasRegister, HasWhole, StoresRegister}}
 
 -- ---- inside a transaction
 

@@ -1,9 +1,7 @@
 -- Which visits go at a closing.
 use Rattle.std.specs.Prelude.{◌≡◌, ◌≢◌, ◌↔◌, ℕ, ◌<◌, true, List, Contains, is_some}
-use Rattle.terminal_core.specs.Rows.{VisitContent}
-use Rattle.terminal_core.specs.State.{last_number}
-use Rattle.office_closing.specs.declared.visits.VisitFault.{VisitFault}
-use Rattle.office_closing.specs.declared.visits.VisitFault.TheVariants.{Differs, Memory}
+use Rattle.terminal_core.specs.{Rows.VisitContent, State.last_number}
+use Rattle.office_closing.specs.{declared.visits.VisitFault.VisitFault, declared.visits.VisitFault.TheVariants.{Differs, Memory}}
 
 -- the visit goes: the copy has it as the store does, it is over, and its number is below the store's newest
 pub record GoesBelow (newest : ℕ) (copy : List VisitContent) (visit : VisitContent) : Type 0 where

@@ -1,11 +1,8 @@
 -- The lists that texts that wait name, as they are read.
-use Rattle.std.specs.Prelude.{◌≡◌, ◌↔◌, ℕ, List, [], length, map, Contains, Option, None, Some}
-use Rattle.std.specs.List.{flat_map, range_with_len}
-use Rattle.office_rows.specs.Rows.{Partner, Rows}
-use Rattle.office_rows.specs.Shown.{AreNexts}
+use Rattle.std.specs.{Prelude.{◌≡◌, ◌↔◌, ℕ, List, [], length, map, Contains, Option, None, Some}, List.{flat_map, range_with_len}}
+use Rattle.office_rows.specs.{Rows.{Partner, Rows}, Shown.AreNexts}
 use Rattle.office_admission.specs.Setups.{SetupContent}
-use Rattle.office_history.specs.After.{AreKeptOnce}
-use Rattle.office_history.specs.Cascade.{text_in}
+use Rattle.office_history.specs.{After.AreKeptOnce, Cascade.text_in}
 use Rattle.office_loading.specs.Waiting.{waiting_numbers}
 use Rattle.office_parts.specs.OwnLists.{ListName}
 use Rattle.office_closing.specs.Going.{IsWaitedFor, lists_in}

@@ -1,16 +1,11 @@
 //! How the texts of an archive stand to the store's: whether they are the first of them, in the order in which they arrived.
 ghost use Rattle.std.specs.Prelude.{◌≡◌, ◌↔◌, IfErr, IfOk, OnOk, Some, option_copied, true};
 ghost use Rattle.office_closing.specs.Arriving.{AreCompared, GoesBeyond, IsReadOn, IsTold, StandInOrder, TellsRows, arrival_in, shows_beyond, stops_at};
-ghost use Rattle.office_closing.specs.Comparing.{IsOfEither};
-ghost use Rattle.office_closing.specs.Files.{IsRead};
+ghost use Rattle.office_closing.specs.{Comparing.IsOfEither, Files.IsRead};
 ghost use Rattle.office_loading.specs.Closed.{last_closed};
-ghost use Rattle.office_rows.specs.Rows.{Rows as OfficeRows};
-ghost use Rattle.office_rows.specs.Stored.{HasRows};
+ghost use Rattle.office_rows.specs.{Rows.Rows as OfficeRows, Stored.HasRows};
 ghost use Rattle.office_tables.specs.Faults.{IsOfStore};
-ghost use Rattle.sqlite.specs.Given.{row_if};
-ghost use Rattle.sqlite.specs.Held.{state};
-ghost use Rattle.sqlite.specs.Order.{column};
-ghost use Rattle.sqlite.specs.State.{HasCleanDisk};
+ghost use Rattle.sqlite.specs.{Given.row_if, Held.state, Order.column, State.HasCleanDisk};
 ghost use Rattle.sqlite_value.specs.Value.{owned};
 
 use crate::faults::{File, FileFault};

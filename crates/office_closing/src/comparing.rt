@@ -1,13 +1,9 @@
 ghost use Rattle.std.specs.Prelude.{◌≡◌, ◌↔◌, [], ◌∷◌, true, IfOk, IfErr};
-ghost use Rattle.office_closing.specs.Comparing.{HasUnfitAmong, IsComparedAs, IsOfEither, IsSameKept, IsToldAlike};
-ghost use Rattle.office_closing.specs.Files.{IsRead, IsReadIfOpen};
+ghost use Rattle.office_closing.specs.{Comparing.{HasUnfitAmong, IsComparedAs, IsOfEither, IsSameKept, IsToldAlike}, Files.{IsRead, IsReadIfOpen}};
 ghost use Rattle.office_history.specs.After.{AreKeptOnce};
-ghost use Rattle.office_rows.specs.Rows.{Rows};
-ghost use Rattle.office_rows.specs.Stored.{HasRows};
-ghost use Rattle.office_tables.specs.Answers.{HasUnfitReply, IsKept};
-ghost use Rattle.office_tables.specs.Faults.{IsOfStoreOr};
-ghost use Rattle.sqlite.specs.Held.{state};
-ghost use Rattle.sqlite.specs.State.{HasCleanDisk};
+ghost use Rattle.office_rows.specs.{Rows.Rows, Stored.HasRows};
+ghost use Rattle.office_tables.specs.{Answers.{HasUnfitReply, IsKept}, Faults.IsOfStoreOr};
+ghost use Rattle.sqlite.specs.{Held.state, State.HasCleanDisk};
 
 use crate::faults::{File, FileFault};
 use office_tables::{Kept, TableFault, kept};

@@ -1,14 +1,9 @@
 ghost use Rattle.std.specs.Prelude.{◌≡◌, [], ◌∷◌, take, false, OnOk, OnErr, IfErr, IsTrue};
-ghost use Rattle.office_closing.specs.Changes.{empty_register};
-ghost use Rattle.office_closing.specs.Stored.{HasWhole};
+ghost use Rattle.office_closing.specs.{Changes.empty_register, Stored.HasWhole, Transactions.{Makes, IsMade}};
 ghost use Rattle.office_closing.specs.Tables.{register_tables, archive_table, segment_table, closed_for_table, settled_table, taken_table};
-ghost use Rattle.office_closing.specs.Transactions.{Makes, IsMade};
 ghost use Rattle.office_rows.specs.Stored.{HasEmpty};
-ghost use Rattle.office_tables.specs.Faults.{IsOfStore};
-ghost use Rattle.office_tables.specs.Opened.{AreMissing};
-ghost use Rattle.office_tables.specs.Writes.{Creates};
-ghost use Rattle.sqlite.specs.Held.{state};
-ghost use Rattle.sqlite.specs.State.{HasCleanDisk, Survives};
+ghost use Rattle.office_tables.specs.{Faults.IsOfStore, Opened.AreMissing, Writes.Creates};
+ghost use Rattle.sqlite.specs.{Held.state, State.{HasCleanDisk, Survives}};
 
 use office_tables::TableFault;
 use sqlite::{Alter, Connection, Transaction};

@@ -1,17 +1,12 @@
 //! The lists of a store of which every line is done.
-ghost use Rattle.std.specs.List.{list_any};
-ghost use Rattle.std.specs.Option.{option_map};
+ghost use Rattle.std.specs.{List.list_any, Option.option_map};
 ghost use Rattle.std.specs.Prelude.{◌≡◌, ◌⊎◌, ◌↔◌, ◌++◌, true, false, Contains, IfNone, IfOk, IfSome, OnOk, map, option_to_list, string_bytes};
 ghost use Rattle.edi_messages.specs.Owned.{call_content};
-ghost use Rattle.office_closing.specs.Found.{AreAllDone, HasLineOf, IsFoundAs, TellsDone, list_on};
-ghost use Rattle.office_closing.specs.Going.{AreDone, IsAmong, lines_on, name_of};
-ghost use Rattle.office_parts.specs.Bringing.{is_of};
-ghost use Rattle.office_parts.specs.Named.{named_list_content};
-ghost use Rattle.office_parts.specs.OwnLists.{list_name};
+ghost use Rattle.office_closing.specs.{Found.{AreAllDone, HasLineOf, IsFoundAs, TellsDone, list_on}, Going.{AreDone, IsAmong, lines_on, name_of}};
 ghost use Rattle.office_closing.specs.Lists.{list_content};
+ghost use Rattle.office_parts.specs.{Bringing.is_of, Named.named_list_content, OwnLists.list_name};
 ghost use Rattle.office_rows.specs.Rows.{listing_content};
-ghost use Rattle.terminal_core.specs.Listings.{is_side};
-ghost use Rattle.terminal_core.specs.declared.lines.LineState.TheVariants.{Done};
+ghost use Rattle.terminal_core.specs.{Listings.is_side, declared.lines.LineState.TheVariants.Done};
 
 use crate::{SettledList, push_line};
 use edi_messages::Call;

@@ -3,12 +3,9 @@
 //! Laws of lists that are put away: each function has an empty body, and its contract is the law.
 //! The law of these texts. The function has an empty body, and its contract is the law: a call brings it into the
 //! caller's proof.
-ghost use Rattle.office_closing.specs.Laws.{ComparedIsHeld, ClearingLeavesTheRest, ClearedIsCarried, TakenTellsTheDay};
-ghost use Rattle.office_closing.specs.Journal.{ClosingsKeepJournal};
-ghost use Rattle.office_closing.specs.PuttingAway.{ClosedStoresStand, ListsThatGoAreAway};
-ghost use Rattle.office_closing.specs.DoneListLaws.{AwayStaysWithClosing, PutAwayListsAreAway};
-ghost use Rattle.office_closing.specs.Stopping.{StoppedClosingsGoOn, StopsAreOnTheWay};
-ghost use Rattle.office_closing.specs.Texts.{OneTextOneList};
+ghost use Rattle.office_closing.specs.{Laws.{ComparedIsHeld, ClearingLeavesTheRest, ClearedIsCarried, TakenTellsTheDay}, Journal.ClosingsKeepJournal};
+ghost use Rattle.office_closing.specs.{PuttingAway.{ClosedStoresStand, ListsThatGoAreAway}, DoneListLaws.{AwayStaysWithClosing, PutAwayListsAreAway}};
+ghost use Rattle.office_closing.specs.{Stopping.{StoppedClosingsGoOn, StopsAreOnTheWay}, Texts.OneTextOneList};
 
 use sqlite::Alter;
 

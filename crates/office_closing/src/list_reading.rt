@@ -3,8 +3,7 @@ ghost use Rattle.std.specs.Prelude.{◌≡◌, ◌↔◌, IfNone, IfOk, IfSome, 
 ghost use Rattle.edi_messages.specs.Owned.{call_content};
 ghost use Rattle.office_closing.specs.Texts.{IsLineOf, IsTextOf};
 ghost use Rattle.office_rows.specs.Rows.{ListingContent, listing_content};
-ghost use Rattle.terminal_core.specs.Forms.{IsFormedPort};
-ghost use Rattle.terminal_core.specs.declared.lines.LineState.TheVariants.{Done};
+ghost use Rattle.terminal_core.specs.{Forms.IsFormedPort, declared.lines.LineState.TheVariants.Done};
 
 use box6346::BoxNumber;
 use edi_messages::Call;

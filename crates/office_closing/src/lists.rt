@@ -1,7 +1,5 @@
 ghost use Rattle.std.specs.Prelude.{◌≡◌, ◌↔◌, true, Contains, IfOk, filter, map};
-ghost use Rattle.office_closing.specs.Copies.{is_put_away_with, office_content};
-ghost use Rattle.office_closing.specs.Planning.{AreFor, AreInBoth};
-ghost use Rattle.office_closing.specs.Lists.{list_content};
+ghost use Rattle.office_closing.specs.{Copies.{is_put_away_with, office_content}, Planning.{AreFor, AreInBoth}, Lists.list_content};
 
 use crate::planning::{Opened, append};
 use crate::{SettledList, copied_list, is_same_list};

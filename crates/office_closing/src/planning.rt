@@ -1,18 +1,12 @@
-ghost use Rattle.std.specs.Option.{option_map};
-ghost use Rattle.std.specs.Prelude.{◌≡◌, ◌↔◌, ◌≤◌, ◌++◌, ◌∷◌, [], true, IfOk, IfErr, IsTrue, MatchOption, OnOk, length, map, string_bytes};
+ghost use Rattle.std.specs.{Option.option_map, Prelude.{◌≡◌, ◌↔◌, ◌≤◌, ◌++◌, ◌∷◌, [], true, IfOk, IfErr, IsTrue, MatchOption, OnOk, length, map, string_bytes}};
 ghost use Rattle.office_loading.specs.Closed.{last_closed};
 ghost use Rattle.office_closing.specs.Copies.{AreAtMost, AreDoneIn, AreFirst, ComesOn, FileNames, IsNoLater, IsOfStore, IsReason, IsSameOffice, archive_in, numbers_from, numbers_of, office_content, segments_of};
-ghost use Rattle.office_closing.specs.Closes.{IsOfClosing, closing_content};
+ghost use Rattle.office_closing.specs.{Closes.{IsOfClosing, closing_content}, Steps.{is_unmarked, is_unraised}, Visits.AreToGo, declared.planning.Stage.Stage};
 ghost use Rattle.office_closing.specs.Planning.{AreClosingLists, AreFor, IsHistory, IsMarkedAs, IsPlan, IsPlanOf, IsRefused, IsRefusedWith, IsTakenFor, IsToldBy};
-ghost use Rattle.office_closing.specs.Steps.{is_unmarked, is_unraised};
-ghost use Rattle.office_closing.specs.Visits.{AreToGo};
-ghost use Rattle.office_closing.specs.declared.planning.Stage.{Stage};
+ghost use Rattle.office_closing.specs.{Lists.list_content, Register.{archive_content, register_content}};
 ghost use Rattle.office_parts.specs.Named.{named_list_content};
-ghost use Rattle.office_closing.specs.Lists.{list_content};
-ghost use Rattle.office_closing.specs.Register.{archive_content, register_content};
+ghost use Rattle.office_admission.specs.{SetupAccounts.account_contents, Limits.most_partners};
 ghost use Rattle.office_closing.specs.Sound as sound;
-ghost use Rattle.office_admission.specs.SetupAccounts.{account_contents};
-ghost use Rattle.office_admission.specs.Limits.{most_partners};
 
 use crate::comparing::Numbers;
 use crate::faults::{CloseFault, Refusal};

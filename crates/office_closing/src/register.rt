@@ -1,12 +1,8 @@
-ghost use Rattle.std.specs.Prelude.{◌≡◌, ◌↔◌, ◌++◌, ◌∷◌, [], true, false, ℕ, IfOk, OnOk, IsTrue, get_or, map};
-ghost use Rattle.std.specs.List.{AllByRecursion};
-ghost use Rattle.std.specs.Option.{option_map};
+ghost use Rattle.std.specs.{Prelude.{◌≡◌, ◌↔◌, ◌++◌, ◌∷◌, [], true, false, ℕ, IfOk, OnOk, IsTrue, get_or, map}, List.AllByRecursion, Option.option_map};
 ghost use Rattle.office_loading.specs.Closed.{closed_content};
 ghost use Rattle.edi_messages.specs.Owned.{call_content};
-ghost use Rattle.office_closing.specs.Changes.{closed_with, unmarked};
-ghost use Rattle.office_closing.specs.Lists.{list_content, lines_of_list};
+ghost use Rattle.office_closing.specs.{Changes.{closed_with, unmarked}, Lists.{list_content, lines_of_list}, Sound.{is_sound, IsOfAccount}};
 ghost use Rattle.office_closing.specs.Register.{archive_content, register_content, last_closed, archive_of, newest_visit, closed_by, is_newer_than, is_passed};
-ghost use Rattle.office_closing.specs.Sound.{is_sound, IsOfAccount};
 
 use crate::settled_lists::{SettledList, are_same_lists, is_of_list, put_lists};
 use edi_messages::Call;

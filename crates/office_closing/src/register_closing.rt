@@ -1,14 +1,10 @@
 ghost use Rattle.std.specs.Prelude.{◌≡◌, [], ◌∷◌, map, false, OnOk, OnErr, IfErr, IsTrue};
 ghost use Rattle.office_closing.specs.Changes.{unchanged, with_archive, with_segments, with_lists, with_taken, closed_with, unmarked, marked_for};
-ghost use Rattle.office_closing.specs.Lists.{list_content};
-ghost use Rattle.office_closing.specs.Register.{archive_content};
-ghost use Rattle.office_closing.specs.Stored.{HasRegister, HasListed, HasWhole};
+ghost use Rattle.office_closing.specs.{Lists.list_content, Register.archive_content, Stored.{HasRegister, HasListed, HasWhole}};
 ghost use Rattle.office_closing.specs.Transactions.{Writes, WritesTo, WritesIfOpen, Becomes, HasBecome};
 ghost use Rattle.office_tables.specs.Faults.{IsOfStore};
-ghost use Rattle.sqlite.specs.Held.{state};
-ghost use Rattle.sqlite.specs.State.{HasCleanDisk, Survives};
-ghost use Rattle.sqlite_value.specs.Value.{owned};
-ghost use Rattle.sqlite_value.specs.declared.value.Value.TheVariants.{Text};
+ghost use Rattle.sqlite.specs.{Held.state, State.{HasCleanDisk, Survives}};
+ghost use Rattle.sqlite_value.specs.{Value.owned, declared.value.Value.TheVariants.Text};
 
 use crate::register::{Archive, Segment};
 use crate::settled_lists::{SettledList, side_code};

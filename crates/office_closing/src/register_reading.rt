@@ -1,19 +1,12 @@
-ghost use Rattle.std.specs.Prelude.{◌≡◌, ◌<◌, [], ◌∷◌, ⊤, IfOk, IfErr, IsTrue, IsUtf8, map, length, string_bytes, true};
-ghost use Rattle.std.specs.Option.{option_map};
-ghost use Rattle.office_loading.specs.Decoded.{itself};
-ghost use Rattle.office_loading.specs.Tables.{ReadsTable};
-ghost use Rattle.office_closing.specs.Lists.{list_content};
+ghost use Rattle.std.specs.{Prelude.{◌≡◌, ◌<◌, [], ◌∷◌, ⊤, IfOk, IfErr, IsTrue, IsUtf8, map, length, string_bytes, true}, Option.option_map};
+ghost use Rattle.office_loading.specs.{Decoded.itself, Tables.ReadsTable};
+ghost use Rattle.office_closing.specs.{Lists.list_content, Register.{archive_content, register_content}, Sound.{is_sound, IsSound}};
 ghost use Rattle.office_closing.specs.Reading.{FitsArchive, FitsSegment, FitsList, ShowsArchives, ShowsSegments, ShowsFiles, ReadsMark, ReadsTables, ReadsRegister};
-ghost use Rattle.office_closing.specs.Register.{archive_content, register_content};
-ghost use Rattle.office_closing.specs.Sound.{is_sound, IsSound};
 ghost use Rattle.office_closing.specs.Stored.{HasRegister, ShowsLists, ShowsTaken, if_any};
 ghost use Rattle.office_closing.specs.Tables.{archive_table, segment_table, closed_for_table, settled_table, taken_table, Layout, whole, has_table, asking, register_schema, schema_in};
-ghost use Rattle.office_rows.specs.Shown.{ShowsTable};
-ghost use Rattle.office_rows.specs.Tables.{no_schema};
-ghost use Rattle.office_tables.specs.Faults.{IsOfStore, IsOfStoreOr};
-ghost use Rattle.office_tables.specs.Reading.{OnlyShows, Reads};
-ghost use Rattle.sqlite.specs.Held.{state};
-ghost use Rattle.sqlite.specs.State.{HasCleanDisk, Shown};
+ghost use Rattle.office_rows.specs.{Shown.ShowsTable, Tables.no_schema};
+ghost use Rattle.office_tables.specs.{Faults.{IsOfStore, IsOfStoreOr}, Reading.{OnlyShows, Reads}};
+ghost use Rattle.sqlite.specs.{Held.state, State.{HasCleanDisk, Shown}};
 
 use crate::register::{Archive, Register, Segment};
 use crate::register_rows::read_all;

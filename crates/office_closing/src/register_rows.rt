@@ -1,9 +1,6 @@
 ghost use Rattle.std.specs.Prelude.{◌≡◌, ◌++◌, ◌∷◌, [], ◌^◌, OnOk, string_bytes};
-ghost use Rattle.office_loading.specs.Columns.{SaysNumber, SaysSide, SaysText};
-ghost use Rattle.office_loading.specs.Decoded.{Decodes, DecodesAll, IsSaid, ReadsAs, fault_of_column, itself};
-ghost use Rattle.office_closing.specs.Lists.{list_content};
-ghost use Rattle.office_closing.specs.Reading.{SaysArchive, SaysSegment, SaysFile, SaysList};
-ghost use Rattle.office_closing.specs.Register.{archive_content};
+ghost use Rattle.office_loading.specs.{Columns.{SaysNumber, SaysSide, SaysText}, Decoded.{Decodes, DecodesAll, IsSaid, ReadsAs, fault_of_column, itself}};
+ghost use Rattle.office_closing.specs.{Lists.list_content, Reading.{SaysArchive, SaysSegment, SaysFile, SaysList}, Register.archive_content};
 ghost use Rattle.sqlite.specs.Order.{Row as Columns, column};
 
 use crate::register::{Archive, Segment};

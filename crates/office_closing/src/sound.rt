@@ -1,12 +1,8 @@
-ghost use Rattle.std.specs.Prelude.{◌≡◌, ◌&&◌, nat_le, [], IfOk, None, IsTrue, length, map, string_bytes};
-ghost use Rattle.std.specs.List.{list_all, list_any};
-ghost use Rattle.std.specs.Option.{option_map};
+ghost use Rattle.std.specs.{Prelude.{◌≡◌, ◌&&◌, nat_le, [], IfOk, None, IsTrue, length, map, string_bytes}, List.{list_all, list_any}, Option.option_map};
 ghost use Rattle.edi_messages.specs.Texts.{is_name};
 ghost use Rattle.edi_syntax.specs.Characters.{is_printable};
 ghost use Rattle.office_admission.specs.Limits.{most_partners};
-ghost use Rattle.office_closing.specs.Lists.{list_content};
-ghost use Rattle.office_closing.specs.declared.register.Segment.{Segment};
-ghost use Rattle.office_closing.specs.Register.{register_content, archive_content};
+ghost use Rattle.office_closing.specs.{Lists.list_content, declared.register.Segment.Segment, Register.{register_content, archive_content}};
 ghost use Rattle.office_closing.specs.Sound as sound;
 
 use crate::register::{Archive, Register, Segment};

@@ -1,7 +1,6 @@
 ghost use Rattle.std.specs.Prelude.{◌≡◌, ◌≤◌, IfOk, filter, length};
 ghost use Rattle.office_admission.specs.Limits.{most_partners};
-ghost use Rattle.office_closing.specs.Copies.{is_with, office_content, taken_of};
-ghost use Rattle.office_closing.specs.Planning.{IsTakenFor};
+ghost use Rattle.office_closing.specs.{Copies.{is_with, office_content, taken_of}, Planning.IsTakenFor};
 
 use crate::Segment;
 use crate::planning::{Opened, append, numbers_to_close, segments_of};

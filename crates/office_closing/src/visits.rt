@@ -1,9 +1,7 @@
 ghost use Rattle.std.specs.Prelude.{◌≡◌, ◌≢◌, ◌↔◌, ◌<◌, ◌++◌, [], ◌∷◌, ℕ, true, Contains, MatchOption, IfOk, IfErr, OnOk, length, map, slice_index};
 ghost use Rattle.office_closing.specs.Visits.{AreAlike, AreToGo, GoesBelow, IsCauseOf, IsOtherwiseOver};
 ghost use Rattle.office_closing.specs.declared.visits.VisitFault.TheVariants.{Differs, Memory};
-ghost use Rattle.terminal_core.specs.Restoring.{AreRising, numbers_of};
-ghost use Rattle.terminal_core.specs.Rows.{VisitContent, visit_content};
-ghost use Rattle.terminal_core.specs.State.{AreNumbered, last_number};
+ghost use Rattle.terminal_core.specs.{Restoring.{AreRising, numbers_of}, Rows.{VisitContent, visit_content}, State.{AreNumbered, last_number}};
 
 use box6346::Slot;
 use std::alloc::{AllocError, Global};

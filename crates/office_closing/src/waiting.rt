@@ -1,18 +1,12 @@
 //! The lists that texts that wait name.
-ghost use Rattle.std.specs.List.Sorted.{IsPermutation};
-ghost use Rattle.std.specs.Prelude.{◌≡◌, ◌≤◌, ◌++◌, ℕ, ⊤, Contains, IfErr, IfOk, OnOk, length, map};
-ghost use Rattle.office_tables.specs.DeliveryReading.{OnlyReads};
+ghost use Rattle.std.specs.{List.Sorted.IsPermutation, Prelude.{◌≡◌, ◌≤◌, ◌++◌, ℕ, ⊤, Contains, IfErr, IfOk, OnOk, length, map}};
+ghost use Rattle.office_tables.specs.{DeliveryReading.OnlyReads, Faults.IsOfStoreOr, Reading.Reads};
 ghost use Rattle.office_closing.specs.Waiting.{AreWaitedFor, HasWaiting, HaveNexts, WaitsBeyond, lists_beyond, lists_under, lists_under_each};
 ghost use Rattle.office_history.specs.After.{AreKeptOnce};
 ghost use Rattle.office_parts.specs.Named.{named_list_content};
-ghost use Rattle.office_rows.specs.Rows.{Rows};
-ghost use Rattle.office_rows.specs.Stored.{HasRows};
-ghost use Rattle.office_admission.specs.Limits.{most_partners};
-ghost use Rattle.office_admission.specs.Setups.{setup_content};
-ghost use Rattle.office_tables.specs.Faults.{IsOfStoreOr};
-ghost use Rattle.office_tables.specs.Reading.{Reads};
-ghost use Rattle.sqlite.specs.Held.{state};
-ghost use Rattle.sqlite.specs.State.{HasCleanDisk};
+ghost use Rattle.office_rows.specs.{Rows.Rows, Stored.HasRows};
+ghost use Rattle.office_admission.specs.{Limits.most_partners, Setups.setup_content};
+ghost use Rattle.sqlite.specs.{Held.state, State.HasCleanDisk};
 
 use office_admission::{Setup, admit_for};
 use office_loading::waiting_numbers;

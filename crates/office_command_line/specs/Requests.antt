@@ -1,21 +1,14 @@
 -- What the words of a command line ask for.
-use Rattle.std.specs.Prelude.{◌≡◌, ℕ, Bool, true, false, ◌&&◌, nat_le, List, [], Option, None, Some, codes, if◌then◌else◌}
+use Rattle.std.specs.{Prelude.{◌≡◌, ℕ, Bool, true, false, ◌&&◌, nat_le, List, [], Option, None, Some, codes, if◌then◌else◌}, Str.bytes_eq}
 use Rattle.std.specs.Option.{option_map, option_map_or, option_and_then}
-use Rattle.std.specs.Str.{bytes_eq}
-use Rattle.clap.specs.Words.{Row, Text, first_of, subcommand_of, kind_of, fault_of, IsAmong}
-use Rattle.clap.specs.declared.error.Error.{Error}
-use Rattle.clap.specs.declared.error.kind.ErrorKind.{ErrorKind}
-use Rattle.clap.specs.declared.error.kind.ErrorKind.TheVariants.{DisplayHelp, DisplayVersion, OutOfMemory}
+use Rattle.clap.specs.{Words.{Row, Text, first_of, subcommand_of, kind_of, fault_of, IsAmong}, declared.error.Error.Error}
+use Rattle.clap.specs.{declared.error.kind.ErrorKind.ErrorKind, declared.error.kind.ErrorKind.TheVariants.{DisplayHelp, DisplayVersion, OutOfMemory}}
 use Rattle.edi_syntax.specs.Numbers.{number_of}
-use Rattle.office_command_line.specs.Commands.{office_app}
-use Rattle.office_command_line.specs.declared.command_reading.CommandFault.{CommandFault}
+use Rattle.office_command_line.specs.{Commands.office_app, declared.command_reading.CommandFault.CommandFault, declared.command_reading.Request.Request}
 use Rattle.office_command_line.specs.declared.command_reading.CommandFault.TheVariants.{Words, Values, Memory}
-use Rattle.office_reports.specs.Keys.{passed_of}
-use Rattle.office_reports.specs.declared.query.ReportKind.{ReportKind}
+use Rattle.office_reports.specs.{Keys.passed_of, declared.query.ReportKind.ReportKind, declared.query.View.View}
 use Rattle.office_reports.specs.declared.query.ReportKind.TheVariants.{Yard, Visits, List as VesselList, Ticket, Reply, Container, Work, Partners, Partner, Blocks, Calls, Contrl, Picture, Health, Metrics, Block, Start}
-use Rattle.office_reports.specs.declared.query.View.{View}
 use Rattle.office_reports.specs.declared.query.View.TheVariants.{Text as TextView, Json, Csv, Page as PageView}
-use Rattle.office_command_line.specs.declared.command_reading.Request.{Request}
 use Rattle.office_command_line.specs.declared.command_reading.Request.TheVariants as request
 
 -- a request, whatever memory holds its texts

@@ -1,6 +1,5 @@
 ghost use Rattle.std.specs.Prelude.{◌≡◌, IfOk, true, false};
-ghost use Rattle.clap.specs.Words.{app_of, rule_of};
-ghost use Rattle.clap.specs.declared.builder.command.Command.TheViews.{out-Command};
+ghost use Rattle.clap.specs.{Words.{app_of, rule_of}, declared.builder.command.Command.TheViews.out-Command};
 ghost use Rattle.office_command_line.specs.Commands.{word, word_if_any, flag, valued_option, init_app, deliver_app, serve_app, report_app, texts_app, account_app, migrate_app, close_app, explain_app, demo_app, office_app, with_daily_work, with_upkeep};
 
 use clap::{Arg, ArgAction, Command};

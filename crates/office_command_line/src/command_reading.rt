@@ -1,5 +1,4 @@
-ghost use Rattle.std.specs.Option.{option_map};
-ghost use Rattle.std.specs.Prelude.{◌≡◌, IfOk, IfErr, map};
+ghost use Rattle.std.specs.{Option.option_map, Prelude.{◌≡◌, IfOk, IfErr, map}};
 ghost use Rattle.clap.specs.Words.{found_of, rows_of, subcommand_rows_of, first_of};
 ghost use Rattle.office_command_line.specs.Requests.{request_content, init_request, account_request, migrate_request, close_request, explain_asked, deliver_request, serve_request, report_request, report_said, report_with, archives_alone, archives_with, table_with, view_said, texts_asked, from_said, request_by, request_met, is_set, kind_said, usage_line, wants_key, RefusesWords, RefusesMet, WordsAsk, fault_told, number_if_any, number_upto};
 

@@ -2,18 +2,12 @@
 use Rattle.std.proofs.Common.{ℕ, List}
 use Rattle.sqlite.specs.Recovery.{Image}
 use Rattle.sqlite_trees.specs.declared.store.Store.{Ghosts}
-use Rattle.office_replies.specs.Events.{Event}
-use Rattle.office_replies.specs.declared.accounts.AccountAnswer.{AccountAnswer}
+use Rattle.office_replies.specs.{Events.Event, declared.accounts.AccountAnswer.AccountAnswer}
 use Rattle.office_admission.specs.Setups.{SetupContent}
-use Rattle.office_desk.specs.Calls.{Enrols}
-use Rattle.office_desk.specs.Desks.{IsSound, OpensAt}
-use Rattle.office_desk.specs.declared.desk.Desk.{Desk}
+use Rattle.office_desk.specs.{Calls.Enrols, Desks.{IsSound, OpensAt}, declared.desk.Desk.Desk}
 use Rattle.office_parts.specs.Archives.{Archive}
 use Rattle.office_archives.specs.Together.{EnrolsTogether}
-use Rattle.office_commands.specs.Accounts.{IsAskedAlone, IsAskedOver}
-use Rattle.office_commands.specs.Beside.{OpensOn}
-use Rattle.office_commands.specs.Opening.{BeginsAt}
-use Rattle.office_commands.proofs.Alike.{account_alike}
+use Rattle.office_commands.{specs.{Accounts.{IsAskedAlone, IsAskedOver}, Beside.OpensOn, Opening.BeginsAt}, proofs.Alike.account_alike}
 use Rattle.office_commands.proofs.StreamLemmas.{stand_alike}
 
 -- of a desk of which nothing was put away

@@ -2,24 +2,13 @@
 use Rattle.std.proofs.Common.{◌≡◌, ℕ, List, [], ◌∷◌, true, Option, Result, Ok, Err, IfOk, IfErr, OnOk, OnErr, refl, sym, ap, subst, ◌∙◌}
 use Rattle.edi_messages.specs.Codes.{table_texts}
 use Rattle.edi_syntax.specs.Interchange.{interchange_of}
-use Rattle.office_replies.specs.Delivering.{LeadsOn}
-use Rattle.office_replies.specs.Events.{Event}
-use Rattle.office_replies.specs.declared.deliver.Response.{Response}
+use Rattle.office_replies.specs.{Delivering.LeadsOn, Events.Event, declared.deliver.Response.Response, declared.accounts.AccountAnswer.AccountAnswer}
 use Rattle.office_replies.specs.declared.deliver.Response.TheVariants.{Taken, Repeat, Waiting, Clash, Refused, RefusedWithContrl, NotNow}
-use Rattle.office_replies.specs.declared.accounts.AccountAnswer.{AccountAnswer}
-use Rattle.office_replies.specs.declared.deliver.Worst.{Worst}
-use Rattle.office_admission.specs.Accounts.{account_answer}
-use Rattle.office_admission.specs.Refusals.{MayBeNotNow}
-use Rattle.office_admission.specs.Setups.{SetupContent}
-use Rattle.office_history.specs.After.{SaysSame, content_after}
-use Rattle.office_history.proofs.Alike.{now_with_codes, parties_same, with_codes}
-use Rattle.office_replies.specs.Accounts.{AnsweredAccount, AccountCutShort}
-use Rattle.office_replies.specs.declared.port.Port.{Port}
-use Rattle.office_replies.specs.declared.stream.StreamFault.{StreamFault}
-use Rattle.office_replies.specs.declared.stream.StreamFault.TheVariants.{Write}
-use Rattle.office_desk.specs.Accounts.{AnswersAccount, Says}
-use Rattle.office_desk.specs.Answers.{AnswersNext}
-use Rattle.office_desk.proofs.OwnNumbers.{answers_alike, codes_after}
+use Rattle.office_replies.specs.{declared.deliver.Worst.Worst, Accounts.{AnsweredAccount, AccountCutShort}, declared.port.Port.Port}
+use Rattle.office_replies.specs.{declared.stream.StreamFault.StreamFault, declared.stream.StreamFault.TheVariants.Write}
+use Rattle.office_admission.specs.{Accounts.account_answer, Refusals.MayBeNotNow, Setups.SetupContent}
+use Rattle.office_history.{specs.After.{SaysSame, content_after}, proofs.Alike.{now_with_codes, parties_same, with_codes}}
+use Rattle.office_desk.{specs.{Accounts.{AnswersAccount, Says}, Answers.AnswersNext}, proofs.OwnNumbers.{answers_alike, codes_after}}
 use Rattle.office_commands.specs.Accounts.{AnswersAsked, LeavesWriter}
 
 pub now_alike : (one other : SetupContent) → SaysSame one other → (es : List Event) → SaysSame (content_after one es) (content_after other es)

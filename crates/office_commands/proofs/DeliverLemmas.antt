@@ -1,22 +1,16 @@
 -- Deliveries to a desk and its archives, one after the other.
 use Rattle.std.proofs.Common.{◌≡◌, ℕ, List, [], ◌∷◌, refl, sym, ap, subst, ◌∙◌}
-use Rattle.sqlite.specs.Held.{state}
-use Rattle.sqlite.specs.Recovery.{Image}
+use Rattle.sqlite.specs.{Held.state, Recovery.Image}
 use Rattle.sqlite_trees.specs.declared.store.Store.{Ghosts}
-use Rattle.office_replies.specs.Delivering.{LeadsOn, events_behind, with_answered}
-use Rattle.office_replies.specs.Events.{Event}
-use Rattle.office_replies.specs.declared.deliver.Response.{Response}
+use Rattle.office_replies.specs.{Delivering.{LeadsOn, events_behind, with_answered}, Events.Event, declared.deliver.Response.Response}
 use Rattle.office_loading.specs.Closed.{ClosedContent, closed_content}
 use Rattle.office_admission.specs.Setups.{SetupContent}
-use Rattle.office_desk.specs.Calls as calls
-use Rattle.office_desk.specs.Desks.{IsSound}
-use Rattle.office_desk.specs.declared.desk.Desk.{Desk}
-use Rattle.office_commands.proofs.Alike.{answer_alike}
+use Rattle.office_desk.specs.{Desks.IsSound, declared.desk.Desk.Desk}
+use Rattle.office_commands.{specs.{Beside.OpensOn, Delivering.{AreAnsweredIfSound, AreDeliveredOver, Leads, LeavesAll, StandAlike}}, proofs.Alike.answer_alike}
 use Rattle.office_commands.proofs.StreamLemmas.{delivered_alone}
 use Rattle.office_parts.specs.Archives.{Archive}
 use Rattle.office_archives.specs.Together.{LeavesBeside, LeavesDelivered, StandTogether}
-use Rattle.office_commands.specs.Beside.{OpensOn}
-use Rattle.office_commands.specs.Delivering.{AreAnsweredIfSound, AreDeliveredOver, Leads, LeavesAll, StandAlike}
+use Rattle.office_desk.specs.Calls as calls
 
 module _ {S A : Type 0} (g : Ghosts S) (is_sound : A → Type 0) (are : List Archive → A → Type 0) where
   -- a desk and its archives

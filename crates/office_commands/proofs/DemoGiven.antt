@@ -1,16 +1,10 @@
 -- Set-up files could give the demonstration's set-up.
+use Rattle.std.{specs.{Prelude.slice_get, Str.bytes_eq}, proofs.lemmas.Bool.and_parts}
 use Rattle.std.proofs.Common.{◌≡◌, ℕ, zero, suc, Bool, true, false, not, ◌&&◌, List, [], ◌∷◌, None, Some, refl, sym, ap, subst, ◌∙◌, arith, rules}
-use Rattle.std.specs.Prelude.{slice_get}
-use Rattle.std.specs.Str.{bytes_eq}
-use Rattle.std.proofs.lemmas.Bool.{and_parts}
-use Rattle.edi_messages.specs.CodeText.{table_fault}
-use Rattle.edi_messages.specs.Codes.{table_texts}
-use Rattle.edi_messages.specs.declared.code.CodeTable.{CodeTable}
-use Rattle.edi_messages.specs.declared.codes.PartnerKind.{PartnerKind}
+use Rattle.edi_messages.specs.{CodeText.table_fault, Codes.table_texts, declared.code.CodeTable.CodeTable, declared.codes.PartnerKind.PartnerKind}
 use Rattle.terminal_core.proofs.Open.{same_self}
 use Rattle.yard_core.specs.Plan.{AreApart}
-use Rattle.office_admission.specs.Given.{IsGiven, AreDistinct}
-use Rattle.office_admission.specs.Setups.{SetupContent}
+use Rattle.office_admission.specs.{Given.{IsGiven, AreDistinct}, Setups.SetupContent}
 use Rattle.office_commands.specs.Demo.{IsDemo, demo_content, demo_partners, demo_blocks}
 
 -- the name is that of none of these

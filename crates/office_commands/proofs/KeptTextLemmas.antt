@@ -1,26 +1,13 @@
 -- What is printed of texts whose rows stand under the rowids 1, 2, 3 and so on.
+use Rattle.std.specs.{Prelude.{◌||◌, drop, filter}, Cmp.nat_cmp_is, Io.KnownBytes.Appends, List.list_any, Ordering.{is_ge, is_gt, nat_cmp}}
 use Rattle.std.proofs.Common.{◌≡◌, inl, inr, ℕ, zero, suc, ◌+◌, ◌<◌, ◌≤◌, List, [], ◌∷◌, length, map, Bool, true, false, Option, None, Ordering, Less, Equal, Greater, refl, sym, ap, subst, ◌∙◌, arith}
-use Rattle.std.specs.Prelude.{◌||◌, drop, filter}
-use Rattle.std.specs.Cmp.{nat_cmp_is}
-use Rattle.std.specs.Io.KnownBytes.{Appends}
-use Rattle.std.specs.List.{list_any}
-use Rattle.std.specs.Ordering.{is_ge, is_gt, nat_cmp}
-use Rattle.std.proofs.lemmas.Bool.{cases_order, ne_eqb}
-use Rattle.std.proofs.lemmas.List.{drop-map, length-map}
-use Rattle.sqlite.specs.Order.{Row, column, value_cmp}
-use Rattle.sqlite.specs.Tree.{Trees, rowid}
-use Rattle.sqlite.specs.declared.types.Value.TheVariants.{Blob}
-use Rattle.office_rows.specs.Tables.{interchange_table}
-use Rattle.office_rows.specs.Values.{number_value}
+use Rattle.std.proofs.{lemmas.Bool.{cases_order, ne_eqb}, lemmas.List.{drop-map, length-map}}
+use Rattle.sqlite.specs.{Order.{Row, column, value_cmp}, Tree.{Trees, rowid}, declared.types.Value.TheVariants.Blob}
+use Rattle.office_rows.specs.{Tables.interchange_table, Values.number_value, Places.ArePlaced}
 use Rattle.office_history.proofs.Runs.{number_order}
-use Rattle.office_rows.specs.Places.{ArePlaced}
-use Rattle.office_loading.specs.Pages.{lines_of}
-use Rattle.office_loading.specs.Texts.{AreTextsAfter, has_reached, is_after, is_from}
-use Rattle.office_desk.specs.Rebuilding.{KeepsTexts}
-use Rattle.office_desk.proofs.PageLemmas.{handed_out}
-use Rattle.office_desk.proofs.KeptLemmas.{same_blobs}
-use Rattle.office_commands.specs.Printing.{PrintsKept, PrintsOf, PrintsTexts}
-use Rattle.office_commands.specs.Reporting.{office_database}
+use Rattle.office_loading.specs.{Pages.lines_of, Texts.{AreTextsAfter, has_reached, is_after, is_from}}
+use Rattle.office_desk.{specs.Rebuilding.KeepsTexts, proofs.{PageLemmas.handed_out, KeptLemmas.same_blobs}}
+use Rattle.office_commands.specs.{Printing.{PrintsKept, PrintsOf, PrintsTexts}, Reporting.office_database}
 
 module _ (from : ℕ) where
   -- how a row's number stands to that one

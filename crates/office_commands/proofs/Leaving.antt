@@ -1,26 +1,13 @@
 -- What the demonstration's stream leaves behind where it ends before the input.
-use Rattle.std.proofs.Common.{◌≡◌, ◌<◌, ℕ, Bool, true, List, [], Result, Ok, Err, rules}
-use Rattle.sqlite_trees.specs.View.{doubt}
-use Rattle.sqlite.specs.Held.{state}
-use Rattle.sqlite.specs.State.{HasCleanDisk}
-use Rattle.sqlite.specs.Steps.{over_memory}
-use Rattle.sqlite.specs.declared.connection.Connection.{Connection}
-use Rattle.sqlite_trees.specs.declared.memory.MemStore.{MemStore}
+use Rattle.std.proofs.Common.{◌≡◌, ◌<◌, ℕ, Bool, true, [], Result, Err, rules}
+use Rattle.sqlite_trees.specs.{View.doubt, declared.memory.MemStore.MemStore}
+use Rattle.sqlite.specs.{Held.state, State.HasCleanDisk, Steps.over_memory, declared.connection.Connection.Connection}
 use Rattle.office_admission.specs.Setups.{setup_content}
-use Rattle.office_desk.specs.Answers.{AnswersNext}
-use Rattle.office_replies.specs.declared.deliver.Worst.{Worst}
-use Rattle.office_desk.specs.Calls.{Leads}
-use Rattle.office_desk.specs.Desks.{IsSound, StandsFor}
-use Rattle.office_desk.proofs.AccountLemmas.{answered_all}
-use Rattle.office_replies.specs.Delivering.{AreAnswered, LeadsOn}
-use Rattle.office_replies.specs.Streams.{PortBytes, Streams}
-use Rattle.office_replies.specs.Faults.{MatchFault}
-use Rattle.office_replies.specs.declared.stream.StreamFault.{StreamFault}
-use Rattle.office_replies.specs.declared.stream.StreamFault.TheVariants.{Read, Write, Turns}
+use Rattle.office_desk.{specs.{Answers.AnswersNext, Calls.Leads, Desks.{IsSound, StandsFor}}, proofs.AccountLemmas.answered_all}
+use Rattle.office_replies.specs.{declared.deliver.Worst.Worst, Delivering.{AreAnswered, LeadsOn}, Streams.{PortBytes, Streams}, Faults.MatchFault}
+use Rattle.office_replies.specs.{declared.stream.StreamFault.StreamFault, declared.stream.StreamFault.TheVariants.{Read, Write, Turns}}
 use Rattle.office_replies.proofs.StreamLemmas.{streams_as}
-use Rattle.office_commands.specs.declared.demo.DemoFault.TheVariants.{Stream}
-use Rattle.office_commands.specs.Opening.{MemoryDesk}
-use Rattle.office_commands.specs.Demo.{OpensDemo, DemoLeft, IsOfPorts, port_failures}
+use Rattle.office_commands.specs.{declared.demo.DemoFault.TheVariants.Stream, Opening.MemoryDesk, Demo.{OpensDemo, DemoLeft, IsOfPorts, port_failures}}
 
 -- what a stream from such a desk on leaves behind
 pub left_by : (ports : PortBytes) (opening desk : MemoryDesk) (fault : StreamFault) → OpensDemo opening

@@ -2,18 +2,12 @@
 use Rattle.std.proofs.Common.{ℕ, List, [], Option}
 use Rattle.sqlite.specs.Recovery.{Image}
 use Rattle.sqlite_trees.specs.declared.store.Store.{Ghosts}
-use Rattle.office_reports.specs.declared.query.ReportKind.{ReportKind}
-use Rattle.office_reports.specs.declared.query.View.{View}
-use Rattle.office_desk.specs.Calls.{OnlyLooks}
-use Rattle.office_desk.specs.Desks.{IsSound}
-use Rattle.office_desk.specs.Reports.{DeskTells, FindsAfter}
-use Rattle.office_desk.specs.declared.desk.Desk.{Desk}
+use Rattle.office_reports.specs.{declared.query.ReportKind.ReportKind, declared.query.View.View}
+use Rattle.office_desk.specs.{Calls.OnlyLooks, Desks.IsSound, Reports.{DeskTells, FindsAfter}, declared.desk.Desk.Desk}
 use Rattle.office_parts.specs.Archives.{Archive}
 use Rattle.office_archives.specs.Together.{OnlyLooksTogether}
+use Rattle.office_commands.specs.{Beside.{IsAlone, OpensOn}, Looking.LooksOver, Reporting.{TellsHeld, TellsKey, TellsOver}}
 use Rattle.office_commands.proofs.ReportLemmas.{found_alike, key_also, told_over}
-use Rattle.office_commands.specs.Beside.{IsAlone, OpensOn}
-use Rattle.office_commands.specs.Looking.{LooksOver}
-use Rattle.office_commands.specs.Reporting.{TellsHeld, TellsKey, TellsOver}
 
 pub looked_over : {S A : Type 0} (g : Ghosts S) (are : List Archive → A → Type 0) (image : Image) (opened office : Desk S g × A) → OnlyLooksTogether g are opened.0 opened.1 office.0 office.1 → (are [] opened.1 → OnlyLooks g opened.0 office.0) → LooksOver g are image opened office
 looked_over g are image opened office looks own = record {

@@ -3,33 +3,18 @@ use Rattle.std.proofs.Common.{◌≡◌, ◌⊎◌, inl, inr, ℕ, List, Result,
 use Rattle.sqlite_disk.specs.declared.Disk.{Ghosts as DiskGhosts}
 use Rattle.sqlite_catalog.specs.Listing.{Lists}
 use Rattle.sqlite_trees.specs.Objects.{catalog_tree}
-use Rattle.sqlite.specs.Effect.{Database}
-use Rattle.sqlite.specs.Files.{HoldsDatabase, file_state, over_files}
-use Rattle.sqlite.specs.Held.{Held}
-use Rattle.sqlite.specs.Recovery.{Image}
-use Rattle.sqlite.specs.Schema.{Schema}
-use Rattle.sqlite.specs.State.{State, HasCleanDisk}
-use Rattle.sqlite.specs.Tree.{Trees}
-use Rattle.sqlite.specs.declared.FileStore.{FileStore}
+use Rattle.sqlite.specs.{Effect.Database, Files.{HoldsDatabase, file_state, over_files}, Held.Held, Recovery.Image, Schema.Schema, State.{State, HasCleanDisk}}
+use Rattle.sqlite.specs.{Tree.Trees, declared.FileStore.FileStore}
 use Rattle.terminal_core.specs.declared.change.Version.{Version}
 use Rattle.office_replies.specs.Events.{Event}
 use Rattle.office_admission.specs.Setups.{SetupContent}
-use Rattle.office_rows.specs.Bare.{HasBareRows}
-use Rattle.office_rows.specs.Layouts.{bare_schema}
-use Rattle.office_rows.specs.Rows.{Rows}
-use Rattle.office_rows.specs.Migrated.{migrated_rows}
-use Rattle.office_rows.specs.Stored.{HasRows, StoresRows}
+use Rattle.office_rows.{specs.{Bare.HasBareRows, Layouts.bare_schema, Rows.Rows, Migrated.migrated_rows, Stored.{HasRows, StoresRows}}, proofs.Creating.stores}
 use Rattle.office_rows.specs.Tables.{interchange_table, no_schema}
-use Rattle.office_rows.proofs.Creating.{stores}
-use Rattle.office_tables.specs.declared.table_fault.TableFault.{TableFault}
-use Rattle.office_tables.proofs.MadeLemmas.{clean_first}
-use Rattle.office_loading.specs.History.{HoldsAfter, IsOlderAfter, StoresAfter}
-use Rattle.office_loading.specs.Migration.{IsSettled, StandAlike}
-use Rattle.office_desk.proofs.HoldLemmas.{committed_leaves}
-use Rattle.office_desk.specs.Crashes.{IsAfter}
+use Rattle.office_tables.{specs.declared.table_fault.TableFault.TableFault, proofs.MadeLemmas.clean_first}
+use Rattle.office_loading.specs.{History.{HoldsAfter, IsOlderAfter, StoresAfter}, Migration.{IsSettled, StandAlike}}
+use Rattle.office_desk.{specs.Crashes.IsAfter, proofs.HoldLemmas.committed_leaves}
 use Rattle.office_commands.specs.Migrating.{CommitsOver, GoesOnFrom, HoldsBare, HoldsOlder, IsJudged, IsMigratedOver, MigratesBetween, TakesOver}
-use Rattle.office_commands.specs.Opening.{HoldsNoTables, ShowsHeld}
-use Rattle.office_commands.specs.Reporting.{office_database}
+use Rattle.office_commands.specs.{Opening.{HoldsNoTables, ShowsHeld}, Reporting.office_database}
 
 -- what follows of two facts of a result
 ok_both : {X E : Type 0} {P Q R : Type 0} (r : Result X E) → (P → Q → R) → OnOk r P → OnOk r Q → OnOk r R

@@ -1,45 +1,23 @@
 -- A store that is opened on its files, beside its archives.
+use Rattle.std.{specs.{Prelude.{◌&&◌, nat_le, IfSome, IsTrue, Option}, List.list_all}, proofs.lemmas.Bool.{and_parts, eqb-false, eqb-true, leb-true}}
 use Rattle.std.proofs.Common.{◌≡◌, ◌≢◌, ◌==◌, ℕ, ◌+◌, List, [], ◌∷◌, Bool, true, false, length, None, Some, refl, sym, ap, subst, ◌∙◌, arith}
-use Rattle.std.specs.Prelude.{◌&&◌, nat_le, IfSome, IsTrue, Option}
-use Rattle.std.specs.List.{list_all}
-use Rattle.std.proofs.lemmas.Bool.{and_parts, eqb-false, eqb-true, leb-true}
-use Rattle.sqlite.specs.Effect.{Database}
-use Rattle.sqlite.specs.Held.{Held, state}
-use Rattle.sqlite.specs.Recovery.{Image}
+use Rattle.sqlite.specs.{Effect.Database, Held.{Held, state}, Recovery.Image, Tree.Trees}
 use Rattle.sqlite_trees.specs.declared.store.Store.{Ghosts}
 use Rattle.office_replies.specs.Events.{Event}
 use Rattle.edi_syntax.specs.Numbers.{last_number}
-use Rattle.sqlite.specs.Tree.{Trees}
 use Rattle.edi_messages.specs.Codes.{table_texts}
-use Rattle.office_loading.specs.Closed.{closed_content, nothing_closed}
-use Rattle.office_loading.specs.declared.closed.Closed.{Closed}
+use Rattle.office_loading.specs.{Closed.{closed_content, nothing_closed}, declared.closed.Closed.Closed}
 use Rattle.office_history.proofs.Alike.{reopens}
 use Rattle.office_tables.proofs.MadeLemmas.{clean_first}
-use Rattle.office_rows.specs.Stored.{HasRows, StoresRows}
-use Rattle.office_rows.specs.Tables.{office_schema}
-use Rattle.office_rows.proofs.Creating.{stores}
-use Rattle.office_admission.specs.Given.{IsGiven}
-use Rattle.office_admission.specs.Setups.{SetupContent, setup_content}
-use Rattle.office_admission.specs.declared.setup.Setup.{Setup}
-use Rattle.office_admission.specs.Limits.{most_partners}
-use Rattle.office_closing.specs.Register.{RegisterContent, closed_by, is_newer_than, last_closed, newest_visit}
+use Rattle.office_rows.{specs.{Stored.{HasRows, StoresRows}, Tables.office_schema}, proofs.Creating.stores}
+use Rattle.office_admission.specs.{Given.IsGiven, Setups.{SetupContent, setup_content}, declared.setup.Setup.Setup, Limits.most_partners}
+use Rattle.office_closing.specs.{Register.{RegisterContent, closed_by, is_newer_than, last_closed, newest_visit}, declared.register.Segment.Segment}
 use Rattle.office_closing.specs.Sound.{are_in_order, are_sound_archives, are_sound_lists, are_sound_segments, are_sound_taken, close_more, is_sound, is_sound_mark, is_within}
-use Rattle.office_closing.specs.declared.register.Segment.{Segment}
-use Rattle.office_commands.specs.Opening.{BeginsAt, Shows}
-use Rattle.office_desk.specs.Beside.{IsBeside, IsOrNone}
-use Rattle.office_desk.specs.Desks.{IsSound, OpensAt}
-use Rattle.office_desk.specs.Telling.{Holds}
-use Rattle.office_desk.specs.declared.beside.Beside.{Beside}
-use Rattle.office_desk.proofs.DeliverLemmas.{beside_loaded, office_with, shown_by_own}
-use Rattle.office_desk.proofs.HoldLemmas.{held_leaves, nexts_loaded}
-use Rattle.office_desk.proofs.OwnNumbers.{codes_after}
-use Rattle.office_desk.specs.declared.desk.Desk.{Desk}
-use Rattle.office_parts.specs.Archives.{Archive}
-use Rattle.office_parts.specs.OwnLists.{rows_without_lists}
-use Rattle.office_archives.specs.Shelves.{NamesAll}
-use Rattle.office_archives.specs.Together.{IsBesideAfter}
-use Rattle.office_archives.proofs.Filled.{opened_beside}
-use Rattle.office_commands.specs.Beside.{IsLoaded, IsOfDay, IsOpenedOver, IsOpenedWhole, OpensFor, OpensOn, OpensWith}
+use Rattle.office_commands.specs.{Opening.{BeginsAt, Shows}, Beside.{IsLoaded, IsOfDay, IsOpenedOver, IsOpenedWhole, OpensFor, OpensOn, OpensWith}}
+use Rattle.office_desk.specs.{Beside.{IsBeside, IsOrNone}, Desks.{IsSound, OpensAt}, Telling.Holds, declared.beside.Beside.Beside, declared.desk.Desk.Desk}
+use Rattle.office_desk.proofs.{DeliverLemmas.{beside_loaded, office_with, shown_by_own}, HoldLemmas.{held_leaves, nexts_loaded}, OwnNumbers.codes_after}
+use Rattle.office_parts.specs.{Archives.Archive, OwnLists.rows_without_lists}
+use Rattle.office_archives.{specs.{Shelves.NamesAll, Together.IsBesideAfter}, proofs.Filled.opened_beside}
 
 pub opens_for : {S : Type 0} (g : Ghosts S) (found : Held S) (desk : Desk S g) → IsOpenedOver g found desk → IsSound g desk → (list : List Archive) (content : SetupContent) (es : List Event) → IsGiven content →
     (state g found).committed.schema ≡ office_schema → IsBesideAfter list (closed_content desk.closed) content es (state g found).committed.trees → OpensFor g list content es desk

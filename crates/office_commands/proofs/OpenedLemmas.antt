@@ -1,20 +1,11 @@
 -- What a connection to files shows.
-use Rattle.std.proofs.Common.{◌≡◌, inl, inr, [], length, true, false, Result, Ok, Err, IfOk, arith, refl, ap, sym, subst}
+use Rattle.std.proofs.Common.{◌≡◌, inl, inr, [], length, true, false, arith, refl, ap, sym, subst}
 use Rattle.std.proofs.Math.Logic.{∥∥₁_elim}
 use Rattle.sqlite_disk.specs.declared.Disk.{Ghosts}
-use Rattle.sqlite_catalog.specs.Listing.{Lists}
-use Rattle.sqlite_catalog.proofs.ReadLemmas.{lists_once}
-use Rattle.sqlite_trees.specs.Props.{Trees-set}
-use Rattle.sqlite_trees.specs.Sound.{is_sound_list}
-use Rattle.sqlite_trees.specs.Objects.{catalog_tree}
+use Rattle.sqlite_catalog.{specs.Listing.Lists, proofs.ReadLemmas.lists_once}
+use Rattle.sqlite_trees.specs.{Props.Trees-set, Sound.is_sound_list, Objects.catalog_tree}
 use Rattle.sqlite_schema.specs.Names.{same_name}
-use Rattle.sqlite.specs.Effect.{Database, IsDatabase}
-use Rattle.sqlite.specs.Files.{IsOpened, file_state}
-use Rattle.sqlite.specs.Held.{Held}
-use Rattle.sqlite.specs.Recovery.{Image}
-use Rattle.sqlite.specs.Start.{FindsIn}
-use Rattle.sqlite.specs.State.{HasCleanDisk}
-use Rattle.sqlite.specs.Tree.{Trees}
+use Rattle.sqlite.specs.{Effect.{Database, IsDatabase}, Files.{IsOpened, file_state}, Held.Held, Recovery.Image, Start.FindsIn, State.HasCleanDisk, Tree.Trees}
 use Rattle.sqlite.specs.declared.FileStore.{FileStore}
 use Rattle.office_rows.specs.Tables.{no_schema, office_schema, office_tables}
 use Rattle.office_tables.specs.Opened.{AreMissing}
@@ -58,8 +49,3 @@ shows_no_tables image conn empty shows (inr (db, held, lists)) = ap (λ (d : Dat
 pub never_missing : AreMissing office_tables office_schema → ⊥
 unfolding same_name
 never_missing missing = let none : true ≡ false = missing.0 in absurd cc
-
--- what follows from two facts of a result
-pub if_both : {X E : Type 0} {P Q R : X → Type 0} (r : Result X E) → ((x : X) → P x → Q x → R x) → IfOk r P → IfOk r Q → IfOk r R
-if_both (Ok x) f p q = f x p q
-if_both (Err e) f p q = p

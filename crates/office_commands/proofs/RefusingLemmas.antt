@@ -1,26 +1,14 @@
 -- Why a store is not opened.
-use Rattle.std.proofs.Common.{◌≡◌, ℕ, List, true, inl, inr, subst, Result, Ok, Err, IsTrue}
-use Rattle.std.specs.Prelude.{IfErr}
-use Rattle.sqlite.specs.Effect.{Database}
-use Rattle.sqlite.specs.Held.{Held, state}
-use Rattle.sqlite.specs.Recovery.{Image}
-use Rattle.sqlite.specs.State.{HasCleanDisk}
+use Rattle.std.{specs.Prelude.IfErr, proofs.Common.{◌≡◌, ℕ, List, true, inl, inr, subst, Result, Ok, Err, IsTrue}}
+use Rattle.sqlite.specs.{Effect.Database, Held.{Held, state}, Recovery.Image, State.HasCleanDisk}
 use Rattle.sqlite_trees.specs.declared.store.Store.{Ghosts}
-use Rattle.office_rows.specs.Rows.{Rows}
-use Rattle.office_rows.specs.Shown.{AreNexts}
-use Rattle.office_rows.specs.Stored.{HasRows}
-use Rattle.office_rows.specs.Tables.{office_schema}
-use Rattle.office_tables.specs.DeliveryReading.{OnlyReads}
-use Rattle.office_tables.specs.declared.table_fault.TableFault.{TableFault}
-use Rattle.office_tables.proofs.WriteLemmas.{only_on}
-use Rattle.office_closing.specs.Register.{RegisterContent, closed_by, is_newer_than}
-use Rattle.office_closing.specs.Sound.{is_sound}
+use Rattle.office_rows.specs.{Rows.Rows, Shown.AreNexts, Stored.HasRows, Tables.office_schema}
+use Rattle.office_tables.{specs.{DeliveryReading.OnlyReads, declared.table_fault.TableFault.TableFault}, proofs.WriteLemmas.only_on}
+use Rattle.office_closing.specs.{Register.{RegisterContent, closed_by, is_newer_than}, Sound.is_sound}
 use Rattle.office_desk.specs.Offices.{FailsToOpen}
 use Rattle.office_loading.specs.Closed.{ClosedContent}
-use Rattle.office_commands.specs.Opening.{Shows}
-use Rattle.office_commands.specs.Refusing.{IsOfRegister, IsOlderOver, IsRefused, IsUnloaded, IsUnloadedOver, IsUnopened}
-use Rattle.office_commands.specs.declared.offices.OpenFault.{OpenFault}
-use Rattle.office_commands.specs.declared.offices.OpenFault.TheVariants.{Closed, Store, Register, Older}
+use Rattle.office_commands.specs.{Opening.Shows, Refusing.{IsOfRegister, IsOlderOver, IsRefused, IsUnloaded, IsUnloadedOver, IsUnopened}}
+use Rattle.office_commands.specs.{declared.offices.OpenFault.OpenFault, declared.offices.OpenFault.TheVariants.{Closed, Store, Register, Older}}
 
 module _ {S : Type 0} (g : Ghosts S) (image : Image) (Marked : Type 0) where
   -- its file could not be opened

@@ -1,42 +1,23 @@
 -- What a desk tells, by a set-up that only says the same, and by the tables that the files held.
-use Rattle.std.proofs.Common.{◌≡◌, inl, inr, ℕ, List, Option, Some, option_map, Result, Ok, Err, IfOk, ap, sym, subst, ◌∙◌}
 use Rattle.std.specs.Prelude.{length, string_bytes}
-use Rattle.std.specs.FinMap as finite_map
-use Rattle.sqlite.specs.Effect.{Database}
-use Rattle.sqlite.specs.Held.{state}
-use Rattle.sqlite.specs.Tree.{Trees}
+use Rattle.std.proofs.Common.{◌≡◌, inl, inr, ℕ, List, Option, Some, option_map, ap, sym, subst, ◌∙◌}
+use Rattle.sqlite.specs.{Effect.Database, Held.state, Tree.Trees}
 use Rattle.sqlite_trees.specs.declared.store.Store.{Ghosts}
 use Rattle.terminal_core.specs.State.{TerminalState}
 use Rattle.office_replies.specs.Events.{Event}
-use Rattle.office_admission.specs.Parties.{partner_from}
-use Rattle.office_admission.specs.Setups.{SetupContent, setup_content}
-use Rattle.office_rows.specs.Opening.{tables_version}
-use Rattle.office_rows.specs.Rows.{Rows}
-use Rattle.office_rows.specs.Stored.{HasRows}
-use Rattle.office_loading.specs.Closed.{closed_content, nothing_closed}
-use Rattle.office_loading.proofs.Offices.{whole_office}
-use Rattle.office_loading.specs.Tables.{Loads, LoadsOwn}
-use Rattle.office_history.specs.After.{SaysSame, content_after}
-use Rattle.office_history.proofs.Alike.{parties_same}
-use Rattle.office_reports.specs.Program.{program_version}
-use Rattle.office_reports.specs.declared.query.About.{About}
-use Rattle.office_reports.specs.declared.query.About.TheVariants as about
-use Rattle.office_reports.specs.declared.query.Query.{Query}
-use Rattle.office_reports.specs.declared.query.ReportKind.{ReportKind}
-use Rattle.office_reports.specs.declared.query.View.{View}
-use Rattle.office_reports.specs.Visits.{visits_of}
-use Rattle.office_reports.specs.Calls.{lists_in}
-use Rattle.office_reports.specs.Partners.{partners_of}
-use Rattle.office_reports.specs.Metrics.{metrics_text}
-use Rattle.office_reports.specs.Picture.{IsPicture}
+use Rattle.office_admission.specs.{Parties.partner_from, Setups.{SetupContent, setup_content}}
+use Rattle.office_rows.specs.{Opening.tables_version, Rows.Rows, Stored.HasRows}
+use Rattle.office_loading.{specs.{Closed.{closed_content, nothing_closed}, Tables.{Loads, LoadsOwn}}, proofs.Offices.whole_office}
+use Rattle.office_history.{specs.After.{SaysSame, content_after}, proofs.Alike.parties_same}
+use Rattle.office_reports.specs.{Program.program_version, declared.query.About.About, declared.query.Query.Query, declared.query.ReportKind.ReportKind}
+use Rattle.office_reports.specs.{declared.query.View.View, Visits.visits_of, Calls.lists_in, Partners.partners_of, Metrics.metrics_text, Picture.IsPicture}
 use Rattle.office_report_data.specs.Told.{ReportContent, shown}
-use Rattle.office_report_data.specs.Told as value
 use Rattle.office_desk.specs.Reports.{AreLookedUp, FindsAfter, TellsAbout, TellsAfter, TellsNext, TellsPartner, TellsPartners, TellsReplyOf, DeskTells, container_told, contrl_for_partner, ticket_of, partner_called}
-use Rattle.office_desk.specs.declared.desk.Desk.{Desk}
-use Rattle.office_desk.proofs.OwnNumbers.{answers_alike}
-use Rattle.office_commands.proofs.Alike.{now_alike}
-use Rattle.office_commands.specs.Opening.{OpensOver}
-use Rattle.office_commands.specs.Reporting.{TellsKey, TellsOver, in_lines, report_text, report_status}
+use Rattle.office_desk.{specs.declared.desk.Desk.Desk, proofs.OwnNumbers.answers_alike}
+use Rattle.office_commands.{specs.{Opening.OpensOver, Reporting.{TellsKey, TellsOver, in_lines, report_text, report_status}}, proofs.Alike.now_alike}
+use Rattle.std.specs.FinMap as finite_map
+use Rattle.office_reports.specs.declared.query.About.TheVariants as about
+use Rattle.office_report_data.specs.Told as value
 
 -- what is reported at each query is reported at that of a key
 pub key_also : (tells tells' : Query → Option (List ℕ) → Type 0) (kind : ReportKind) (view : View) (key : List ℕ) (found : Option (List ℕ))
@@ -130,11 +111,6 @@ told_over g db desk asked found over none told =
       loads = subst (λ (d : Database). Loads d content terminal) over.shows whole;
       tells = λ rows has. told.office rows terminal (over.office.holds rows (subst (HasRows rows) (sym over.shows) has));
     }
-
--- what follows of a result from what holds of it if something else does
-pub if_held : {T E : Type 0} (Held : Type 0) (P Q : T → Type 0) (r : Result T E) → ((value : T) → P value → Q value) → (Held → IfOk r P) → IfOk r (λ value. Held → Q value)
-if_held Held P Q (Ok value) also told = λ held. also value (told held)
-if_held Held P Q (Err e) also told = tt
 
 -- what was found was printed in whole lines
 pub printed_found : {T : Type 0} (prints : List ℕ → ℕ → Type 0) (bytes : T → List ℕ) (found : Option T) (text : T) (lines printed : List ℕ) → found ≡ Some text

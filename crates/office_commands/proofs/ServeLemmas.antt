@@ -1,33 +1,22 @@
 -- Requests that are served of a store and its archives.
-use Rattle.std.proofs.Common.{◌≡◌, ◌⊎◌, inl, inr, ℕ, List, [], ◌∷◌, ◌++◌, Option, Some, Result, refl, sym, ap, subst, ◌∙◌}
-use Rattle.sqlite.specs.Held.{state}
-use Rattle.sqlite.specs.Recovery.{Image}
-use Rattle.sqlite.specs.Tree.{Trees}
+use Rattle.std.proofs.Common.{◌≡◌, ◌⊎◌, inl, inr, ℕ, List, [], ◌∷◌, ◌++◌, Option, Result, refl, sym, ap, subst, ◌∙◌}
+use Rattle.sqlite.specs.{Held.state, Recovery.Image, Tree.Trees}
 use Rattle.sqlite_trees.specs.declared.store.Store.{Ghosts}
-use Rattle.office_replies.specs.Adding.{with_added}
-use Rattle.office_replies.specs.Delivering.{with_answered}
-use Rattle.office_replies.specs.Events.{Event, added, delivered}
-use Rattle.office_replies.specs.declared.accounts.AccountAnswer.{AccountAnswer}
-use Rattle.office_replies.specs.declared.accounts.AccountAnswer.TheVariants as account_answer
+use Rattle.office_replies.specs.{Adding.with_added, Delivering.with_answered, Events.{Event, added, delivered}, declared.accounts.AccountAnswer.AccountAnswer}
 use Rattle.office_replies.specs.declared.deliver.Response.{Response}
-use Rattle.office_replies.specs.declared.deliver.Response.TheVariants as response
-use Rattle.office_reports.specs.Looking.{Look}
-use Rattle.office_reports.specs.declared.query.NotNow.{NotNow}
+use Rattle.office_reports.specs.{Looking.Look, declared.query.NotNow.NotNow}
 use Rattle.office_loading.specs.Closed.{ClosedContent, closed_content}
-use Rattle.office_admission.specs.Given.{IsGiven}
-use Rattle.office_admission.specs.Setups.{SetupContent}
+use Rattle.office_admission.specs.{Given.IsGiven, Setups.SetupContent}
 use Rattle.office_history.specs.After.{SaysSame}
 use Rattle.office_http.specs.Steps.{Step, account, delivery, events_after, look, with_step, StepLeads, StepsLead}
-use Rattle.office_desk.specs.Desks.{IsSound}
-use Rattle.office_desk.specs.declared.desk.Desk.{Desk}
-use Rattle.office_commands.specs.Serving.{AreServedBy, EnrolsNamed, LeadsNamed, MayBeThere}
+use Rattle.office_desk.specs.{Desks.IsSound, declared.desk.Desk.Desk}
+use Rattle.office_commands.specs.{Serving.{AreServedBy, EnrolsNamed, LeadsNamed, MayBeThere}, Delivering.{Leads, StandAlike}, Beside.{HoldsBeside, OpensOn}}
+use Rattle.office_commands.specs.ServingBeside.{AllServed, AreServedTogether, Enrols, HoldsPending, IsServedOver, IsServedTogether, Looks}
+use Rattle.office_commands.proofs.{Alike.{account_alike, answer_alike}, ServingLemmas.{PendsAfter, PendsBehind, none_pends, one_before, served_alone}}
 use Rattle.office_parts.specs.Archives.{Archive}
 use Rattle.office_archives.specs.Together.{IsBesideAfter}
-use Rattle.office_commands.specs.Delivering.{Leads, StandAlike}
-use Rattle.office_commands.specs.Beside.{HoldsBeside, OpensOn}
-use Rattle.office_commands.specs.ServingBeside.{AllServed, AreServedTogether, Enrols, HoldsPending, IsServedOver, IsServedTogether, Looks}
-use Rattle.office_commands.proofs.Alike.{account_alike, answer_alike}
-use Rattle.office_commands.proofs.ServingLemmas.{PendsAfter, PendsBehind, none_pends, one_before, served_alone}
+use Rattle.office_replies.specs.declared.accounts.AccountAnswer.TheVariants as account_answer
+use Rattle.office_replies.specs.declared.deliver.Response.TheVariants as response
 use Rattle.office_desk.specs.Calls as calls
 
 says_then : (one other third : SetupContent) → SaysSame one other → SaysSame other third → SaysSame one third

@@ -1,43 +1,23 @@
 -- Requests that are served, of a desk of which nothing was put away.
+use Rattle.std.{specs.{Io.KnownBytes.Appends, Prelude.string_bytes}, proofs.KnownBytes.{Appends-nil, Appends-trans}}
 use Rattle.std.proofs.Common.{◌≡◌, ◌⊎◌, inl, inr, ℕ, Bool, true, false, List, [], ◌∷◌, ◌++◌, Option, Some, Result, Ok, Err, refl, sym, ap, subst, ◌∙◌}
-use Rattle.std.proofs.KnownBytes.{Appends-nil, Appends-trans}
-use Rattle.std.specs.Io.KnownBytes.{Appends}
-use Rattle.std.specs.Prelude.{string_bytes}
-use Rattle.sqlite.specs.Held.{state}
-use Rattle.sqlite.specs.Recovery.{Image}
-use Rattle.sqlite.specs.Tree.{Trees}
+use Rattle.sqlite.specs.{Held.state, Recovery.Image, Tree.Trees}
 use Rattle.sqlite_trees.specs.declared.store.Store.{Ghosts}
-use Rattle.office_replies.specs.Adding.{with_added}
-use Rattle.office_replies.specs.Delivering.{with_answered}
-use Rattle.office_replies.specs.Events.{Event, delivered, migrated, added}
-use Rattle.office_replies.specs.declared.accounts.AccountAnswer.{AccountAnswer}
-use Rattle.office_replies.specs.declared.accounts.AccountAnswer.TheVariants as account_answer
-use Rattle.office_replies.specs.declared.deliver.Response.{Response}
-use Rattle.office_replies.specs.declared.deliver.Response.TheVariants as response
-use Rattle.office_reports.specs.Looking.{Look, of_archive, report, texts_after, Tells}
-use Rattle.office_reports.specs.declared.query.NotNow.{NotNow}
-use Rattle.office_admission.specs.Setups.{SetupContent}
-use Rattle.office_admission.specs.Accounts.{content_after, content_with}
+use Rattle.office_replies.specs.{Adding.with_added, Delivering.with_answered, Events.{Event, delivered, migrated, added}, declared.deliver.Response.Response}
+use Rattle.office_replies.specs.{declared.accounts.AccountAnswer.AccountAnswer, Fronts.AppendsFront, declared.port.Port.Port}
+use Rattle.office_reports.specs.{Looking.{Look, of_archive, report, texts_after, Tells}, declared.query.NotNow.NotNow}
+use Rattle.office_admission.specs.{Setups.SetupContent, Accounts.{content_after, content_with}}
 use Rattle.office_history.specs.After.{SaysSame}
-use Rattle.office_replies.specs.Fronts.{AppendsFront}
-use Rattle.office_replies.specs.declared.port.Port.{Port}
-use Rattle.office_http.specs.Served.{AtMost, calls_of}
-use Rattle.office_http.specs.Steps.{Step, delivery, account, look, with_step, events_after, StepLeads, StepsLead}
-use Rattle.office_desk.specs.Answers.{AnswersNext}
-use Rattle.office_desk.specs.Accounts.{AnswersAccount}
+use Rattle.office_http.specs.{Served.{AtMost, calls_of}, Steps.{Step, delivery, account, look, with_step, events_after, StepLeads, StepsLead}}
 use Rattle.office_desk.specs.Calls.{Leads, Enrols, Looks}
 use Rattle.office_desk.specs.Crashes.{IsAfter}
 use Rattle.office_desk.specs.Desks.{IsSound, OpensAt, StandsFor}
-use Rattle.office_desk.specs.Looking.{DeskShows, ShowsAfter}
-use Rattle.office_desk.specs.declared.desk.Desk.{Desk}
-use Rattle.office_desk.proofs.OwnNumbers.{answers_alike}
-use Rattle.office_commands.specs.Delivering.{StandsAlike}
-use Rattle.office_commands.specs.Opening.{BeginsAt}
-use Rattle.office_commands.specs.Ending.{Prints, Tells as TellsText}
-use Rattle.office_commands.specs.Serving.{EndsServing, listening_line, served_line, IsServed, AreServed, postponed_event, HasNoEvent, MayBeThere, HoldsServed, LeadsNamed, EnrolsNamed, LeadsWhile, EnrolsWhile, AreServedBy, IsServedAlone}
-use Rattle.office_commands.proofs.Alike.{account_alike, answer_alike}
-use Rattle.office_commands.proofs.ReportLemmas.{found_alike}
-use Rattle.office_commands.proofs.StreamLemmas.{stand_alike}
+use Rattle.office_desk.{specs.{Looking.{DeskShows, ShowsAfter}, declared.desk.Desk.Desk}, proofs.OwnNumbers.answers_alike}
+use Rattle.office_commands.{specs.{Delivering.StandsAlike, Opening.BeginsAt, Ending.{Prints, Tells as TellsText}}, proofs.Alike.{account_alike, answer_alike}}
+use Rattle.office_commands.specs.Serving.{EndsServing, listening_line, served_line, IsServed, AreServed, postponed_event, HasNoEvent, MayBeThere, LeadsNamed, EnrolsNamed, AreServedBy, IsServedAlone}
+use Rattle.office_commands.proofs.{ReportLemmas.found_alike, StreamLemmas.stand_alike}
+use Rattle.office_replies.specs.declared.accounts.AccountAnswer.TheVariants as account_answer
+use Rattle.office_replies.specs.declared.deliver.Response.TheVariants as response
 
 -- ---- what stands around a desk
 

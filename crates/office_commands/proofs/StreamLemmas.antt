@@ -1,25 +1,16 @@
 -- What is said of a stream by how it came out, and of one to a desk of which nothing was put away.
-use Rattle.std.proofs.Common.{◌≡◌, ◌≢◌, ◌≤◌, ◌<◌, inl, inr, ℕ, ◌+◌, ◌-◌, ◌^◌, ◌++◌, min, List, [], ◌∷◌, Option, true, false, Result, Ok, Err, IfOk, IfErr, OnOk, arith}
+use Rattle.std.proofs.Common.{◌≡◌, ◌≢◌, ◌≤◌, ◌<◌, ℕ, ◌+◌, ◌-◌, ◌^◌, ◌++◌, min, List, [], ◌∷◌, true, false, Result, Ok, Err, IfErr, OnOk, arith}
 use Rattle.sqlite.specs.Recovery.{Image}
-use Rattle.office_replies.specs.Delivering.{AreAnswered, AnswersEach, LeadsOn, with_answered, events_behind}
-use Rattle.office_replies.specs.Events.{Event}
-use Rattle.office_replies.specs.declared.deliver.Response.{Response}
-use Rattle.office_replies.specs.declared.deliver.Worst.{Worst}
+use Rattle.office_replies.specs.{Delivering.{AreAnswered, AnswersEach, LeadsOn, with_answered, events_behind}, Events.Event, declared.deliver.Response.Response}
+use Rattle.office_replies.specs.{declared.deliver.Worst.Worst, Faults.MatchFault, declared.stream.StreamFault.StreamFault}
+use Rattle.office_replies.specs.declared.stream.StreamFault.TheVariants.{Read, Write, Turns}
 use Rattle.office_admission.specs.Setups.{SetupContent}
 use Rattle.office_history.specs.After.{SaysSame}
-use Rattle.office_replies.specs.Faults.{MatchFault}
-use Rattle.office_replies.specs.declared.stream.StreamFault.{StreamFault}
-use Rattle.office_replies.specs.declared.stream.StreamFault.TheVariants.{Read, Write, Turns}
-use Rattle.office_desk.specs.Answers.{AnswersNext}
-use Rattle.office_desk.specs.Calls.{Leads}
-use Rattle.sqlite_trees.specs.declared.store.Store.{Ghosts}
-use Rattle.office_desk.specs.Desks.{IsSound, OpensAt, StandsFor}
-use Rattle.office_desk.specs.declared.desk.Desk.{Desk}
+use Rattle.office_desk.specs.{Answers.AnswersNext, Calls.Leads, Desks.{IsSound, OpensAt, StandsFor}, declared.desk.Desk.Desk}
 use Rattle.office_desk.proofs.AccountLemmas.{answered_all, leaves_all, sound_before}
+use Rattle.sqlite_trees.specs.declared.store.Store.{Ghosts}
+use Rattle.office_commands.specs.{Delivering.{AreDeliveredAlone, StandsAlike}, Opening.BeginsAt, Ending.{Ports, LeavesPorts, most_turns}}
 use Rattle.office_commands.proofs.Alike.{answer_alike}
-use Rattle.office_commands.specs.Delivering.{AreDeliveredAlone, StandsAlike}
-use Rattle.office_commands.specs.Opening.{BeginsAt}
-use Rattle.office_commands.specs.Ending.{Ports, LeavesPorts, most_turns}
 
 module _ {R W : Type 0} (old new : Ports R W) where
   -- what the ports have noted

@@ -1,28 +1,13 @@
 -- What is printed of texts, and the rows that stay, by what the files held.
-use Rattle.std.proofs.Common.{◌≡◌, inl, inr, ℕ, List, Result, Ok, Err, IfOk, IfErr, IsTrue, sym, subst, ◌∙◌}
-use Rattle.std.proofs.lemmas.Result.{IfOk-weaker}
-use Rattle.sqlite.specs.Effect.{Database}
-use Rattle.sqlite.specs.Held.{Held, state}
-use Rattle.sqlite.specs.Order.{Row}
-use Rattle.sqlite.specs.Recovery.{Image}
-use Rattle.sqlite.specs.State.{State, HasCleanDisk}
-use Rattle.sqlite.specs.Tree.{Trees}
-use Rattle.office_rows.specs.Rows.{Rows}
-use Rattle.office_rows.specs.Stored.{HasRows}
-use Rattle.office_rows.specs.Tables.{interchange_table}
-use Rattle.office_tables.proofs.MadeLemmas.{clean_first}
-use Rattle.office_tables.specs.Faults.{IsOfStore}
-use Rattle.office_tables.specs.Reading.{Reads}
-use Rattle.office_tables.specs.declared.table_fault.TableFault.{TableFault}
+use Rattle.std.proofs.{Common.{◌≡◌, inl, inr, ℕ, List, Result, Ok, Err, IfOk, IfErr, IsTrue, sym, subst, ◌∙◌}, lemmas.Result.IfOk-weaker}
+use Rattle.sqlite.specs.{Effect.Database, Held.{Held, state}, Order.Row, Recovery.Image, State.{State, HasCleanDisk}, Tree.Trees}
+use Rattle.office_rows.specs.{Rows.Rows, Stored.HasRows, Tables.interchange_table}
+use Rattle.office_tables.{specs.{Faults.IsOfStore, Reading.Reads, declared.table_fault.TableFault.TableFault}, proofs.MadeLemmas.clean_first}
 use Rattle.sqlite_trees.specs.declared.store.Store.{Ghosts}
 use Rattle.office_replies.specs.Events.{Event}
 use Rattle.office_admission.specs.Setups.{SetupContent}
-use Rattle.office_desk.specs.Desks.{IsSound, OpensAt}
-use Rattle.office_desk.specs.declared.desk.Desk.{Desk}
-use Rattle.office_commands.specs.Beside.{OpensOn}
-use Rattle.office_commands.specs.Opening.{BeginsAt, HoldsTables}
-use Rattle.office_commands.specs.Printing.{HoldsRows, IsSoundStore, PrintsAlone}
-use Rattle.office_commands.specs.Reporting.{office_database}
+use Rattle.office_desk.specs.{Desks.{IsSound, OpensAt}, declared.desk.Desk.Desk}
+use Rattle.office_commands.specs.{Beside.OpensOn, Opening.{BeginsAt, HoldsTables}, Printing.{HoldsRows, IsSoundStore, PrintsAlone}, Reporting.office_database}
 
 -- what holds of the rows that a store has committed
 abbrev pub ByRows : State → (List Row → Type 0) → Type 0

@@ -1,25 +1,12 @@
 -- What a command that adds an account leaves of a store and its archives, if they stood together after some events.
 use Rattle.std.specs.Prelude.{◌≡◌, ℕ, List, true, Option, Result, Ok, Err}
-use Rattle.sqlite.specs.Held.{state}
-use Rattle.sqlite.specs.Recovery.{Image}
-use Rattle.sqlite.specs.State.{State}
+use Rattle.sqlite.specs.{Held.state, Recovery.Image, State.State}
 use Rattle.sqlite_trees.specs.declared.store.Store.{Ghosts}
-use Rattle.office_replies.specs.Adding.{Adds}
-use Rattle.office_replies.specs.Events.{Event}
-use Rattle.office_replies.specs.declared.accounts.AccountAnswer.{AccountAnswer}
-use Rattle.office_replies.specs.declared.deliver.Worst.{Worst}
-use Rattle.office_replies.specs.Accounts.{AnsweredAccount, AccountCutShort}
-use Rattle.office_replies.specs.declared.port.Port.{Port}
-use Rattle.office_replies.specs.declared.stream.StreamFault.{StreamFault}
+use Rattle.office_replies.specs.{Adding.Adds, Events.Event, declared.accounts.AccountAnswer.AccountAnswer, declared.deliver.Worst.Worst}
+use Rattle.office_replies.specs.{Accounts.{AnsweredAccount, AccountCutShort}, declared.port.Port.Port, declared.stream.StreamFault.StreamFault}
 use Rattle.office_admission.specs.Setups.{SetupContent}
-use Rattle.office_desk.specs.Accounts.{AnswersAccount, LeavesAdded}
-use Rattle.office_desk.specs.Desks.{IsSound}
-use Rattle.office_desk.specs.declared.desk.Desk.{Desk}
-use Rattle.office_commands.specs.Alike.{Alike}
-use Rattle.office_commands.specs.Beside.{IfHeld, IsAlone}
-use Rattle.office_commands.specs.Delivering.{StandAlike, StandsAlike}
-use Rattle.office_commands.specs.Ending.{outcome_status}
-use Rattle.office_commands.specs.Opening.{BeginsAt}
+use Rattle.office_desk.specs.{Accounts.{AnswersAccount, LeavesAdded}, Desks.IsSound, declared.desk.Desk.Desk}
+use Rattle.office_commands.specs.{Alike.Alike, Beside.{IfHeld, IsAlone}, Delivering.{StandAlike, StandsAlike}, Ending.outcome_status, Opening.BeginsAt}
 use Rattle.office_loading.specs.Closed.{closed_content}
 use Rattle.office_parts.specs.Archives.{Archive}
 use Rattle.office_archives.specs.Together.{EnrolsTogether, LeavesAccount}

@@ -1,33 +1,18 @@
 -- A store that is opened on its files, beside its archives.
 use Rattle.std.specs.Prelude.{◌≡◌, false, List, [], Ok, IfSome, IsTrue}
-use Rattle.sqlite.specs.Files.{HoldsDatabase}
-use Rattle.sqlite.specs.Held.{Held, state}
-use Rattle.sqlite.specs.Recovery.{Image}
-use Rattle.sqlite.specs.State.{HasCleanDisk}
-use Rattle.sqlite.specs.Tree.{Trees}
+use Rattle.sqlite.specs.{Files.HoldsDatabase, Held.{Held, state}, Recovery.Image, State.HasCleanDisk, Tree.Trees}
 use Rattle.sqlite_trees.specs.declared.store.Store.{Ghosts}
 use Rattle.office_replies.specs.Events.{Event}
-use Rattle.office_loading.specs.Closed.{ClosedContent, closed_content, nothing_closed}
+use Rattle.office_loading.specs.{Closed.{ClosedContent, closed_content, nothing_closed}, Tables.LoadsOwn}
 use Rattle.terminal_core.specs.State.{TerminalState}
-use Rattle.office_loading.specs.Tables.{LoadsOwn}
-use Rattle.office_rows.specs.Rows.{Rows}
-use Rattle.office_rows.specs.Shown.{AreNexts}
-use Rattle.office_rows.specs.Stored.{HasRows}
-use Rattle.office_rows.specs.Tables.{office_schema}
+use Rattle.office_rows.specs.{Rows.Rows, Shown.AreNexts, Stored.HasRows, Tables.office_schema}
 use Rattle.office_tables.specs.Reading.{Reads}
-use Rattle.office_admission.specs.Given.{IsGiven}
-use Rattle.office_admission.specs.Setups.{SetupContent}
-use Rattle.office_closing.specs.Register.{RegisterContent, closed_by, is_newer_than}
-use Rattle.office_closing.specs.Sound.{is_sound}
+use Rattle.office_admission.specs.{Given.IsGiven, Setups.SetupContent}
+use Rattle.office_closing.specs.{Register.{RegisterContent, closed_by, is_newer_than}, Sound.is_sound}
 use Rattle.office_history.specs.After.{AreAfter}
-use Rattle.office_desk.specs.Desks.{IsSound, OpensAt}
-use Rattle.office_desk.specs.Offices.{OpensOffice}
-use Rattle.office_desk.specs.declared.beside.Beside.{Beside}
-use Rattle.office_desk.specs.declared.desk.Desk.{Desk}
+use Rattle.office_desk.specs.{Desks.{IsSound, OpensAt}, Offices.OpensOffice, declared.beside.Beside.Beside, declared.desk.Desk.Desk}
 use Rattle.office_parts.specs.Archives.{Archive}
-use Rattle.office_archives.specs.Opening.{OpensBeside}
-use Rattle.office_archives.specs.Shelves.{NamesAll}
-use Rattle.office_archives.specs.Together.{IsBesideAfter, LeavesBeside}
+use Rattle.office_archives.specs.{Opening.OpensBeside, Shelves.NamesAll, Together.{IsBesideAfter, LeavesBeside}}
 use Rattle.office_commands.specs.Opening.{BeginsAt, HoldsTables, OpensOver}
 
 -- the files hold the rows that a store has: with what these archives hold they are parts of the rows after those events

@@ -1,11 +1,8 @@
 -- How the demonstration ends: its exit status, and what is reported.
 use Rattle.std.specs.Prelude.{◌≡◌, ◌⊎◌, ℕ, List, []}
-use Rattle.office_replies.specs.declared.deliver.Worst.{Worst}
-use Rattle.office_commands.specs.declared.demo.DemoFault.{DemoFault}
-use Rattle.office_commands.specs.declared.demo.DemoFault.TheVariants.{Store, Stream}
-use Rattle.office_replies.specs.Streams.{PortBytes}
-use Rattle.office_commands.specs.Ending.{status_of, store_text, stream_text}
-use Rattle.office_commands.specs.Demo.{DemoRuns, DemoLeft, PortFailures, IsOfPorts}
+use Rattle.office_replies.specs.{declared.deliver.Worst.Worst, Streams.PortBytes}
+use Rattle.office_commands.specs.{declared.demo.DemoFault.DemoFault, declared.demo.DemoFault.TheVariants.{Store, Stream}}
+use Rattle.office_commands.specs.{Ending.{status_of, store_text, stream_text}, Demo.{DemoRuns, DemoLeft, PortFailures, IsOfPorts}}
 
 -- what is reported of a fault
 abbrev pub fault_text : DemoFault → List ℕ

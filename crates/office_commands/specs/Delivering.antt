@@ -1,24 +1,16 @@
 -- What deliveries leave of a store and its archives, if they stood together after some events.
 use Rattle.std.specs.Prelude.{ℕ, List, [], ◌∷◌}
-use Rattle.sqlite.specs.Held.{state}
-use Rattle.sqlite.specs.Recovery.{Image}
-use Rattle.sqlite.specs.State.{State}
+use Rattle.sqlite.specs.{Held.state, Recovery.Image, State.State}
 use Rattle.sqlite_trees.specs.declared.store.Store.{Ghosts}
-use Rattle.office_replies.specs.Delivering.{AreAnswered, LeadsOn, events_behind, with_answered}
-use Rattle.office_replies.specs.Events.{Event}
-use Rattle.office_replies.specs.declared.deliver.Response.{Response}
+use Rattle.office_replies.specs.{Delivering.{AreAnswered, LeadsOn, events_behind, with_answered}, Events.Event, declared.deliver.Response.Response}
 use Rattle.office_loading.specs.Closed.{ClosedContent, closed_content}
 use Rattle.office_admission.specs.Setups.{SetupContent}
-use Rattle.office_desk.specs.Answers.{AnswersNext}
-use Rattle.office_desk.specs.Calls as calls
-use Rattle.office_desk.specs.Crashes as crash
-use Rattle.office_desk.specs.Desks.{IsSound, StandsFor}
-use Rattle.office_desk.specs.declared.desk.Desk.{Desk}
+use Rattle.office_desk.specs.{Answers.AnswersNext, Desks.{IsSound, StandsFor}, declared.desk.Desk.Desk}
 use Rattle.office_parts.specs.Archives.{Archive}
 use Rattle.office_archives.specs.Together.{LeadsTogether, LeavesBeside, LeavesDelivered, StandTogether}
-use Rattle.office_commands.specs.Alike.{Alike}
-use Rattle.office_commands.specs.Beside.{IfHeld, IsAlone}
-use Rattle.office_commands.specs.Opening.{BeginsAt}
+use Rattle.office_commands.specs.{Alike.Alike, Beside.{IfHeld, IsAlone}, Opening.BeginsAt}
+use Rattle.office_desk.specs.Calls as calls
+use Rattle.office_desk.specs.Crashes as crash
 
 -- ---- a store of which nothing was put away
 

@@ -1,23 +1,15 @@
 -- The set-up of the demonstration.
 use Rattle.std.specs.Prelude.{◌≡◌, ℕ, Bool, true, List, [], ◌∷◌, codes}
 use Rattle.edi_syntax.specs.Bytes.{capital_a}
-use Rattle.edi_messages.specs.Codes.{table_texts}
-use Rattle.edi_messages.specs.declared.code.CodeTable.{CodeTable}
-use Rattle.edi_messages.specs.declared.codes.PartnerKind.{PartnerKind}
+use Rattle.edi_messages.specs.{Codes.table_texts, declared.code.CodeTable.CodeTable, declared.codes.PartnerKind.PartnerKind}
 use Rattle.edi_messages.specs.declared.codes.PartnerKind.TheVariants.{Gate, Line, Quay, Yard}
 use Rattle.yard_core.specs.declared.plan.Block.{Block}
-use Rattle.office_admission.specs.Limits.{most_visits}
-use Rattle.office_admission.specs.Setups.{SetupContent, setup_content}
+use Rattle.office_admission.specs.{Limits.most_visits, Setups.{SetupContent, setup_content}}
 use Rattle.sqlite.specs.Steps.{over_memory}
-use Rattle.office_desk.specs.Answers.{AnswersNext}
-use Rattle.office_desk.specs.Desks.{StandsFor}
-use Rattle.office_commands.specs.Opening.{MemoryDesk, OpensEmpty}
-use Rattle.office_replies.specs.declared.deliver.Worst.{Worst}
-use Rattle.office_replies.specs.Delivering.{AreAnswered}
-use Rattle.office_replies.specs.Streams.{PortBytes, Streamed, Began, Delivered}
+use Rattle.office_desk.specs.{Answers.AnswersNext, Desks.StandsFor}
+use Rattle.office_commands.specs.{Opening.{MemoryDesk, OpensEmpty}, declared.demo.DemoFault.DemoFault, declared.demo.DemoFault.TheVariants.{Store, Stream}}
+use Rattle.office_replies.specs.{declared.deliver.Worst.Worst, Delivering.AreAnswered, Streams.{PortBytes, Streamed, Began, Delivered}}
 use Rattle.office_replies.specs.declared.stream.StreamFault.TheVariants.{Read, Write, Turns}
-use Rattle.office_commands.specs.declared.demo.DemoFault.{DemoFault}
-use Rattle.office_commands.specs.declared.demo.DemoFault.TheVariants.{Store, Stream}
 
 -- gate-in, gate-out, yard-move, discharge-list, load-list, discharge-report and load-report
 abbrev pub demo_codes : List (List ℕ)

@@ -1,14 +1,8 @@
 -- How a command ends: its exit status, and what is reported.
-use Rattle.std.specs.Prelude.{◌≡◌, ◌≤◌, ◌⊎◌, ℕ, ◌+◌, ◌-◌, ◌^◌, min, List, [], Bool, true, false, Option, Result, Ok, Err, codes}
-use Rattle.std.specs.Io.KnownBytes.{Appends}
-use Rattle.office_replies.specs.declared.deliver.Worst.{Worst}
-use Rattle.office_replies.specs.declared.deliver.Worst.TheVariants.{Fine, Refused, NotNow}
-use Rattle.office_replies.specs.Fronts.{AppendsFront}
-use Rattle.office_replies.specs.declared.port.Port.{Port}
-use Rattle.office_replies.specs.declared.stream.StreamFault.{StreamFault}
-use Rattle.office_replies.specs.declared.stream.StreamFault.TheVariants.{Read, Write, Turns}
-use Rattle.office_tables.specs.declared.table_fault.TableFault.{TableFault}
-use Rattle.office_tables.specs.declared.table_fault.TableFault.TheVariants.{Store, Damaged, Version, Memory}
+use Rattle.std.specs.{Prelude.{◌≡◌, ◌≤◌, ◌⊎◌, ℕ, ◌+◌, ◌-◌, ◌^◌, min, List, [], Bool, true, false, Option, Result, Ok, Err, codes}, Io.KnownBytes.Appends}
+use Rattle.office_replies.specs.{declared.deliver.Worst.Worst, declared.deliver.Worst.TheVariants.{Fine, Refused, NotNow}, Fronts.AppendsFront}
+use Rattle.office_replies.specs.{declared.port.Port.Port, declared.stream.StreamFault.StreamFault, declared.stream.StreamFault.TheVariants.{Read, Write, Turns}}
+use Rattle.office_tables.specs.{declared.table_fault.TableFault.TableFault, declared.table_fault.TableFault.TheVariants.{Store, Damaged, Version, Memory}}
 
 -- ---- statuses and texts
 

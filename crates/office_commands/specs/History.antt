@@ -1,11 +1,9 @@
 -- What was put away of a store, as its register says.
 use Rattle.std.specs.Prelude.{◌≡◌, Bool, length, Option, None, Some, is_some, IfSome, IsTrue, true, false}
-use Rattle.office_closing.specs.Register.{RegisterContent}
-use Rattle.office_closing.specs.Sound.{is_sound}
+use Rattle.office_closing.specs.{Register.RegisterContent, Sound.is_sound}
 use Rattle.sqlite.specs.declared.error.Error.TheVariants.{SqlInputError}
 use Rattle.sqlite_resolve.specs.declared.error.CompileError.TheVariants.{NoSuchTable}
-use Rattle.office_tables.specs.declared.table_fault.TableFault.{TableFault}
-use Rattle.office_tables.specs.declared.table_fault.TableFault.TheVariants.{Store}
+use Rattle.office_tables.specs.{declared.table_fault.TableFault.TableFault, declared.table_fault.TableFault.TheVariants.Store}
 use Rattle.office_commands.specs.declared.register.History.{History}
 
 -- what was put away of a store with that register, or with none

@@ -1,26 +1,15 @@
 -- What a report leaves: it only looks.
 use Rattle.std.specs.Prelude.{◌≡◌, ◌⊎◌, ℕ, List, [], Option, Some}
-use Rattle.sqlite.specs.Held.{state}
-use Rattle.sqlite.specs.Recovery.{Image}
+use Rattle.sqlite.specs.{Held.state, Recovery.Image}
 use Rattle.sqlite_trees.specs.declared.store.Store.{Ghosts}
 use Rattle.office_replies.specs.Events.{Event}
-use Rattle.office_reports.specs.Keys.{query_content, query_of}
-use Rattle.office_reports.specs.declared.query.Query.{Query}
-use Rattle.office_reports.specs.declared.query.ReportKind.{ReportKind}
-use Rattle.office_reports.specs.declared.query.View.{View}
-use Rattle.office_tables.specs.Faults.{IsOfStore}
-use Rattle.office_tables.specs.declared.table_fault.TableFault.{TableFault}
+use Rattle.office_reports.specs.{Keys.{query_content, query_of}, declared.query.Query.Query, declared.query.ReportKind.ReportKind, declared.query.View.View}
+use Rattle.office_tables.specs.{Faults.IsOfStore, declared.table_fault.TableFault.TableFault}
 use Rattle.office_admission.specs.Setups.{SetupContent}
-use Rattle.office_desk.specs.Calls.{OnlyLooks}
-use Rattle.office_desk.specs.Desks.{IsSound}
-use Rattle.office_desk.specs.declared.desk.Desk.{Desk}
+use Rattle.office_desk.specs.{Calls.OnlyLooks, Desks.IsSound, declared.desk.Desk.Desk}
 use Rattle.office_parts.specs.Archives.{Archive}
-use Rattle.office_archives.specs.Causes.{IsDeserved, IsDeservedHere}
-use Rattle.office_archives.specs.Together.{OnlyLooksTogether, TellsBeside}
-use Rattle.office_commands.specs.Beside.{IsAlone}
-use Rattle.office_commands.specs.Delivering.{LeavesAlike}
-use Rattle.office_commands.specs.Opening.{BeginsAt}
-use Rattle.office_commands.specs.Reporting.{TellsHeld, TellsKey}
+use Rattle.office_archives.specs.{Causes.{IsDeserved, IsDeservedHere}, Together.{OnlyLooksTogether, TellsBeside}}
+use Rattle.office_commands.specs.{Beside.IsAlone, Delivering.LeavesAlike, Opening.BeginsAt, Reporting.{TellsHeld, TellsKey}}
 
 -- It only looked at a desk of which nothing was put away. If the desk is sound in the end, then from whatever events the files
 -- held the rows, a crash leaves these.

@@ -2,30 +2,16 @@
 use Rattle.std.specs.Prelude.{◌≡◌, ◌⊎◌, ℕ, List, [], ◌∷◌, ◌++◌, IsTrue, Result, Ok, Err, IfErr, OnOk, OnErr, codes}
 use Rattle.sqlite_disk.specs.declared.Disk.{Ghosts as DiskGhosts}
 use Rattle.sqlite_trees.specs.declared.store.Store.{Ghosts}
-use Rattle.sqlite.specs.Effect.{Database}
-use Rattle.sqlite.specs.Files.{HoldsDatabase, file_state, over_files}
-use Rattle.sqlite.specs.Held.{Held, state}
-use Rattle.sqlite.specs.Recovery.{Image}
-use Rattle.sqlite.specs.State.{State, HasCleanDisk, Survives}
-use Rattle.sqlite.specs.Tree.{Trees}
-use Rattle.sqlite.specs.declared.FileStore.{FileStore}
+use Rattle.sqlite.specs.{Effect.Database, Files.{HoldsDatabase, file_state, over_files}, Held.{Held, state}, Recovery.Image, Tree.Trees}
+use Rattle.sqlite.specs.{State.{State, HasCleanDisk, Survives}, declared.FileStore.FileStore}
 use Rattle.terminal_core.specs.declared.change.Version.{Version}
 use Rattle.office_replies.specs.Events.{Event, migrated}
 use Rattle.office_admission.specs.Setups.{SetupContent}
-use Rattle.office_rows.specs.Bare.{HasBareRows}
-use Rattle.office_rows.specs.Layouts.{bare_schema}
-use Rattle.office_rows.specs.Migrated.{migrated_rows}
-use Rattle.office_rows.specs.Rows.{Rows}
-use Rattle.office_rows.specs.Stored.{HasRows}
-use Rattle.office_rows.specs.Tables.{interchange_table, no_schema}
-use Rattle.office_tables.specs.Faults.{IsOfStore}
-use Rattle.office_tables.specs.Reading.{Reads}
-use Rattle.office_tables.specs.declared.table_fault.TableFault.{TableFault}
-use Rattle.office_loading.specs.History.{HoldsAfter, IsOlderAfter, StoresAfter}
-use Rattle.office_loading.specs.Migration.{IsMigration, Migrates, StandAlike}
+use Rattle.office_rows.specs.{Bare.HasBareRows, Layouts.bare_schema, Migrated.migrated_rows, Rows.Rows, Stored.HasRows, Tables.{interchange_table, no_schema}}
+use Rattle.office_tables.specs.{Faults.IsOfStore, Reading.Reads, declared.table_fault.TableFault.TableFault}
+use Rattle.office_loading.specs.{History.{HoldsAfter, IsOlderAfter, StoresAfter}, Migration.{IsMigration, Migrates, StandAlike}}
 use Rattle.office_desk.specs.Crashes.{IsAfter, Leaves}
-use Rattle.office_commands.specs.Opening.{HoldsNoTables, ShowsHeld}
-use Rattle.office_commands.specs.Reporting.{office_database}
+use Rattle.office_commands.specs.{Opening.{HoldsNoTables, ShowsHeld}, Reporting.office_database}
 
 -- ---- between two stores of any kind
 

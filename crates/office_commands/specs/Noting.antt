@@ -1,13 +1,11 @@
 -- What a person is told of an answer.
 use Rattle.std.specs.Prelude.{◌≡◌}
-use Rattle.office_commands.specs.declared.notes.AccountNote.{AccountNote}
-use Rattle.office_commands.specs.declared.notes.AccountNote.TheVariants as account_note
-use Rattle.office_commands.specs.declared.notes.DeliveryNote.{DeliveryNote}
-use Rattle.office_commands.specs.declared.notes.DeliveryNote.TheVariants as note
-use Rattle.office_replies.specs.declared.accounts.AccountAnswer.{AccountAnswer}
-use Rattle.office_replies.specs.declared.accounts.AccountAnswer.TheVariants as answer
-use Rattle.office_replies.specs.declared.deliver.Response.{Response}
+use Rattle.office_commands.specs.{declared.notes.AccountNote.AccountNote, declared.notes.DeliveryNote.DeliveryNote}
+use Rattle.office_replies.specs.{declared.accounts.AccountAnswer.AccountAnswer, declared.deliver.Response.Response}
 use Rattle.office_replies.specs.declared.deliver.Response.TheVariants.{Taken, Repeat, Waiting, Clash, Refused, RefusedWithContrl, NotNow}
+use Rattle.office_commands.specs.declared.notes.AccountNote.TheVariants as account_note
+use Rattle.office_commands.specs.declared.notes.DeliveryNote.TheVariants as note
+use Rattle.office_replies.specs.declared.accounts.AccountAnswer.TheVariants as answer
 
 -- a delivery was answered so
 abbrev pub IsNoteOf : Response → DeliveryNote → Type 0

@@ -2,26 +2,14 @@
 use Rattle.std.specs.Prelude.{◌≡◌, ◌⊎◌, List, []}
 use Rattle.sqlite_disk.specs.declared.Disk.{Ghosts as DiskGhosts}
 use Rattle.sqlite_catalog.specs.Listing.{Lists}
-use Rattle.sqlite_trees.specs.Objects.{catalog_tree}
-use Rattle.sqlite_trees.specs.declared.memory.MemStore.{MemStore}
-use Rattle.sqlite_trees.specs.declared.store.Store.{Ghosts}
-use Rattle.sqlite.specs.Files.{HoldsDatabase, file_state}
-use Rattle.sqlite.specs.Held.{Held, state}
-use Rattle.sqlite.specs.Recovery.{Image}
-use Rattle.sqlite.specs.Schema.{Schema}
-use Rattle.sqlite.specs.State.{HasCleanDisk}
-use Rattle.sqlite.specs.Steps.{over_memory}
-use Rattle.sqlite.specs.Tree.{Trees}
-use Rattle.sqlite.specs.declared.FileStore.{FileStore}
-use Rattle.office_admission.specs.Given.{IsGiven}
-use Rattle.office_admission.specs.Setups.{SetupContent, setup_content}
+use Rattle.sqlite_trees.specs.{Objects.catalog_tree, declared.memory.MemStore.MemStore, declared.store.Store.Ghosts}
+use Rattle.sqlite.specs.{Files.{HoldsDatabase, file_state}, Held.{Held, state}, Recovery.Image, Schema.Schema, State.HasCleanDisk, Steps.over_memory}
+use Rattle.sqlite.specs.{Tree.Trees, declared.FileStore.FileStore}
+use Rattle.office_admission.specs.{Given.IsGiven, Setups.{SetupContent, setup_content}}
 use Rattle.office_replies.specs.Events.{Event}
 use Rattle.office_rows.specs.Tables.{office_schema, no_schema}
 use Rattle.office_history.specs.After.{SaysSame}
-use Rattle.office_desk.specs.Crashes.{IsAfter}
-use Rattle.office_desk.specs.Desks.{StandsFor}
-use Rattle.office_desk.specs.Offices.{OpensOffice}
-use Rattle.office_desk.specs.declared.desk.Desk.{Desk}
+use Rattle.office_desk.specs.{Crashes.IsAfter, Desks.StandsFor, Offices.OpensOffice, declared.desk.Desk.Desk}
 
 -- ---- over tables in memory
 

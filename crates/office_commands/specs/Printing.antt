@@ -2,33 +2,17 @@
 use Rattle.std.specs.Prelude.{◌≡◌, ◌⊎◌, ◌≤◌, ◌<◌, ℕ, List, [], Bool, true, false, Option, Result, IfOk, IfErr, IsTrue, codes, drop, length}
 use Rattle.std.specs.Io.KnownBytes.{Appends, Keeps}
 use Rattle.sqlite_trees.specs.declared.store.Store.{Ghosts}
-use Rattle.sqlite.specs.Files.{HoldsDatabase}
-use Rattle.sqlite.specs.Held.{Held, state}
-use Rattle.sqlite.specs.Order.{Row}
-use Rattle.sqlite.specs.Recovery.{Image}
-use Rattle.sqlite.specs.State.{State, HasCleanDisk}
-use Rattle.sqlite.specs.Tree.{Trees}
+use Rattle.sqlite.specs.{Files.HoldsDatabase, Held.{Held, state}, Order.Row, Recovery.Image, State.{State, HasCleanDisk}, Tree.Trees}
 use Rattle.office_replies.specs.Events.{Event}
-use Rattle.office_rows.specs.Rows.{Rows}
-use Rattle.office_rows.specs.Stored.{StoresRows}
-use Rattle.office_rows.specs.Tables.{interchange_table}
+use Rattle.office_rows.specs.{Rows.Rows, Stored.StoresRows, Tables.interchange_table}
 use Rattle.office_admission.specs.Setups.{SetupContent}
-use Rattle.office_tables.specs.Faults.{IsOfStore}
-use Rattle.office_tables.specs.DeliveryReading.{OnlyReads}
-use Rattle.office_tables.specs.Reading.{Reads}
-use Rattle.office_tables.specs.declared.table_fault.TableFault.{TableFault}
-use Rattle.office_loading.specs.Pages.{lines_of}
-use Rattle.office_loading.specs.Texts.{has_reached}
-use Rattle.office_loading.specs.Writing.{AreWritten}
-use Rattle.office_desk.specs.Rebuilding.{KeepsTexts}
-use Rattle.office_desk.specs.declared.desk.Desk.{Desk}
+use Rattle.office_tables.specs.{Faults.IsOfStore, DeliveryReading.OnlyReads, Reading.Reads, declared.table_fault.TableFault.TableFault}
+use Rattle.office_loading.specs.{Pages.lines_of, Texts.has_reached, Writing.AreWritten}
+use Rattle.office_desk.specs.{Rebuilding.KeepsTexts, declared.desk.Desk.Desk}
 use Rattle.office_parts.specs.Archives.{Archive}
 use Rattle.office_closing.specs.Register.{RegisterContent}
 use Rattle.office_archives.specs.Texts.{IsJournalWritten}
-use Rattle.office_commands.specs.Beside.{IsBesideShelf, OpensOn}
-use Rattle.office_commands.specs.Delivering.{LeavesAlike}
-use Rattle.office_commands.specs.Opening.{BeginsAt, HoldsTables}
-use Rattle.office_commands.specs.Reporting.{office_database}
+use Rattle.office_commands.specs.{Beside.{IsBesideShelf, OpensOn}, Delivering.LeavesAlike, Opening.{BeginsAt, HoldsTables}, Reporting.office_database}
 
 -- All texts after a number are printed and flushed, with 0; or there are fewer than that, and `none` is, with 1; or the
 -- writer failed, with 3.

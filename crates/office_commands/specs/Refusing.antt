@@ -1,25 +1,14 @@
 -- Why a store is not opened.
 use Rattle.std.specs.Prelude.{◌≡◌, ◌≢◌, ◌⊎◌, ⊤, None, Ok, Err, IsTrue}
-use Rattle.sqlite.specs.Effect.{Database}
-use Rattle.sqlite.specs.Held.{Held, state}
-use Rattle.sqlite.specs.Recovery.{Image}
-use Rattle.sqlite.specs.State.{HasCleanDisk}
+use Rattle.sqlite.specs.{Effect.Database, Held.{Held, state}, Recovery.Image, State.HasCleanDisk}
 use Rattle.sqlite_trees.specs.declared.store.Store.{Ghosts}
-use Rattle.office_rows.specs.Rows.{Rows}
-use Rattle.office_rows.specs.Stored.{HasRows}
-use Rattle.office_rows.specs.Tables.{office_schema}
-use Rattle.office_tables.specs.DeliveryReading.{OnlyReads}
-use Rattle.office_tables.specs.Faults.{IsOfStore, IsOfStoreOr}
-use Rattle.office_tables.specs.declared.table_fault.TableFault.{TableFault}
+use Rattle.office_rows.specs.{Rows.Rows, Stored.HasRows, Tables.office_schema}
+use Rattle.office_tables.specs.{DeliveryReading.OnlyReads, Faults.{IsOfStore, IsOfStoreOr}, declared.table_fault.TableFault.TableFault}
 use Rattle.office_tables.specs.declared.table_fault.TableFault.TheVariants.{Memory}
 use Rattle.office_loading.specs.Closed.{ClosedContent}
-use Rattle.office_closing.specs.Register.{RegisterContent, closed_by}
-use Rattle.office_closing.specs.Refusing.{AreOlder}
-use Rattle.office_closing.specs.Sound.{is_sound}
+use Rattle.office_closing.specs.{Register.{RegisterContent, closed_by}, Refusing.AreOlder, Sound.is_sound}
 use Rattle.office_desk.specs.Offices.{FailsToOpen}
-use Rattle.office_commands.specs.Opening.{Shows}
-use Rattle.office_commands.specs.declared.offices.OpenFault.{OpenFault}
-use Rattle.office_commands.specs.declared.offices.OpenFault.TheVariants.{Closed, Store, Register, Older}
+use Rattle.office_commands.specs.{Opening.Shows, declared.offices.OpenFault.OpenFault, declared.offices.OpenFault.TheVariants.{Closed, Store, Register, Older}}
 
 -- ---- by which step
 

@@ -1,22 +1,13 @@
 -- What a command prints of a report.
-use Rattle.std.specs.Prelude.{◌≡◌, ◌⊎◌, ℕ, List, [], ◌∷◌, Option, None, Some, codes, eqb, if◌then◌else◌}
-use Rattle.std.specs.List.{ends_with}
-use Rattle.sqlite.specs.Effect.{Database}
-use Rattle.sqlite.specs.Recovery.{Image}
-use Rattle.sqlite.specs.Tree.{Trees}
+use Rattle.std.specs.{Prelude.{◌≡◌, ◌⊎◌, ℕ, List, [], ◌∷◌, Option, None, Some, codes, eqb, if◌then◌else◌}, List.ends_with}
+use Rattle.sqlite.specs.{Effect.Database, Recovery.Image, Tree.Trees}
 use Rattle.edi_syntax.specs.Bytes.{line_feed}
 use Rattle.terminal_core.specs.State.{TerminalState}
-use Rattle.office_replies.specs.Events.{Event}
-use Rattle.office_replies.specs.StreamLines.{line}
+use Rattle.office_replies.specs.{Events.Event, StreamLines.line}
 use Rattle.office_admission.specs.Setups.{SetupContent}
-use Rattle.office_rows.specs.Rows.{Rows}
-use Rattle.office_rows.specs.Stored.{HasRows}
-use Rattle.office_rows.specs.Tables.{office_schema}
+use Rattle.office_rows.specs.{Rows.Rows, Stored.HasRows, Tables.office_schema}
 use Rattle.office_loading.specs.Tables.{Loads}
-use Rattle.office_reports.specs.Keys.{query_content, query_of}
-use Rattle.office_reports.specs.declared.query.Query.{Query}
-use Rattle.office_reports.specs.declared.query.ReportKind.{ReportKind}
-use Rattle.office_reports.specs.declared.query.View.{View}
+use Rattle.office_reports.specs.{Keys.{query_content, query_of}, declared.query.Query.Query, declared.query.ReportKind.ReportKind, declared.query.View.View}
 use Rattle.office_desk.specs.Reports.{FindsAfter, TellsOf}
 use Rattle.office_commands.specs.Opening.{BeginsAt, HoldsTables}
 

@@ -1,8 +1,6 @@
 -- Who an interchange says that it is from.
 use Rattle.std.specs.Prelude.{◌≡◌, ℕ, List, Some}
-use Rattle.edi_syntax.specs.Text.{Content}
-use Rattle.edi_syntax.specs.Envelope.{header_of}
-use Rattle.edi_syntax.specs.Header.{control_number, sender}
+use Rattle.edi_syntax.specs.{Text.Content, Envelope.header_of, Header.{control_number, sender}}
 use Rattle.office_commands.specs.declared.notes.Sender.{Sender}
 
 -- these segments name that sender (0004) and that number (0020) in their header

@@ -1,33 +1,18 @@
 -- What requests that are served leave of a store of which nothing was put away, whose files held the rows after some events.
 use Rattle.std.specs.Prelude.{◌≡◌, ◌⊎◌, ℕ, Bool, true, false, List, [], ◌∷◌, ◌++◌, Option, None, Some, Result, codes, decimal, string_bytes}
 use Rattle.std.specs.Io.KnownBytes.{Appends}
-use Rattle.sqlite.specs.Held.{state}
-use Rattle.sqlite.specs.Recovery.{Image}
-use Rattle.sqlite.specs.State.{State}
-use Rattle.sqlite.specs.Tree.{Trees}
+use Rattle.sqlite.specs.{Held.state, Recovery.Image, State.State, Tree.Trees}
 use Rattle.sqlite_trees.specs.declared.store.Store.{Ghosts}
-use Rattle.office_replies.specs.Events.{Event, delivered, added}
-use Rattle.office_replies.specs.declared.accounts.AccountAnswer.{AccountAnswer}
-use Rattle.office_replies.specs.declared.accounts.AccountAnswer.TheVariants as account_answer
-use Rattle.office_replies.specs.declared.deliver.Response.{Response}
-use Rattle.office_replies.specs.declared.deliver.Response.TheVariants as response
-use Rattle.office_reports.specs.Looking.{Look, Tells}
-use Rattle.office_reports.specs.declared.query.NotNow.{NotNow as Unreported}
+use Rattle.office_replies.specs.{Events.{Event, delivered, added}, declared.accounts.AccountAnswer.AccountAnswer, declared.deliver.Response.Response}
+use Rattle.office_replies.specs.{Fronts.AppendsFront, declared.port.Port.Port}
+use Rattle.office_reports.specs.{Looking.{Look, Tells}, declared.query.NotNow.NotNow as Unreported}
 use Rattle.office_admission.specs.Setups.{SetupContent}
-use Rattle.office_replies.specs.Fronts.{AppendsFront}
-use Rattle.office_replies.specs.declared.port.Port.{Port}
-use Rattle.office_http.specs.Served.{AtMost, calls_of}
-use Rattle.office_http.specs.Steps.{Step, delivery, account, look, with_step, events_after}
-use Rattle.office_desk.specs.Accounts.{AnswersAccount}
-use Rattle.office_desk.specs.Answers.{AnswersNext}
-use Rattle.office_desk.specs.Calls.{Leads, Enrols, Looks}
-use Rattle.office_desk.specs.Crashes.{IsAfter}
-use Rattle.office_desk.specs.Desks.{IsSound}
-use Rattle.office_desk.specs.Looking.{ShowsAfter}
+use Rattle.office_http.specs.{Served.{AtMost, calls_of}, Steps.{Step, delivery, account, look, with_step, events_after}}
+use Rattle.office_desk.specs.{Accounts.AnswersAccount, Answers.AnswersNext, Calls.{Leads, Enrols, Looks}, Crashes.IsAfter, Desks.IsSound, Looking.ShowsAfter}
 use Rattle.office_desk.specs.declared.desk.Desk.{Desk}
-use Rattle.office_commands.specs.Alike.{Alike}
-use Rattle.office_commands.specs.Delivering.{StandsAlike}
-use Rattle.office_commands.specs.Opening.{BeginsAt}
+use Rattle.office_commands.specs.{Alike.Alike, Delivering.StandsAlike, Opening.BeginsAt}
+use Rattle.office_replies.specs.declared.accounts.AccountAnswer.TheVariants as account_answer
+use Rattle.office_replies.specs.declared.deliver.Response.TheVariants as response
 
 -- ---- the answers
 

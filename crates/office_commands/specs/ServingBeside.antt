@@ -1,28 +1,19 @@
 -- What requests that are served leave of a store and its archives, if they stood together after some events.
 use Rattle.std.specs.Prelude.{◌≡◌, ◌⊎◌, ℕ, List, [], ◌∷◌, ◌++◌, Option, Result}
-use Rattle.sqlite.specs.Held.{state}
-use Rattle.sqlite.specs.Recovery.{Image}
-use Rattle.sqlite.specs.Tree.{Trees}
+use Rattle.sqlite.specs.{Held.state, Recovery.Image, Tree.Trees}
 use Rattle.sqlite_trees.specs.declared.store.Store.{Ghosts}
-use Rattle.office_replies.specs.Events.{Event}
-use Rattle.office_replies.specs.declared.accounts.AccountAnswer.{AccountAnswer}
-use Rattle.office_replies.specs.declared.accounts.AccountAnswer.TheVariants as account_answer
-use Rattle.office_replies.specs.declared.deliver.Response.TheVariants as response
-use Rattle.office_reports.specs.Looking.{Look, Tells}
-use Rattle.office_reports.specs.declared.query.NotNow.{NotNow}
+use Rattle.office_replies.specs.{Events.Event, declared.accounts.AccountAnswer.AccountAnswer}
+use Rattle.office_reports.specs.{Looking.{Look, Tells}, declared.query.NotNow.NotNow}
 use Rattle.office_loading.specs.Closed.{ClosedContent, closed_content}
 use Rattle.office_admission.specs.Setups.{SetupContent}
 use Rattle.office_http.specs.Steps.{Step, StepsLead, account, delivery, events_after, look, with_step}
-use Rattle.office_desk.specs.Accounts.{AnswersAccount}
-use Rattle.office_desk.specs.Answers.{AnswersNext}
-use Rattle.office_desk.specs.Desks.{IsSound}
-use Rattle.office_desk.specs.declared.desk.Desk.{Desk}
-use Rattle.office_commands.specs.Alike.{Alike}
-use Rattle.office_commands.specs.Serving.{AreServedBy, EnrolsNamed, IsServedAlone, LeadsNamed, MayBeThere}
+use Rattle.office_desk.specs.{Accounts.AnswersAccount, Answers.AnswersNext, Desks.IsSound, declared.desk.Desk.Desk}
+use Rattle.office_commands.specs.{Alike.Alike, Serving.{AreServedBy, EnrolsNamed, IsServedAlone, LeadsNamed, MayBeThere}, Delivering.{Leads, StandAlike}}
+use Rattle.office_commands.specs.Beside.{IfHeld, IsAlone}
 use Rattle.office_parts.specs.Archives.{Archive}
 use Rattle.office_archives.specs.Together.{EnrolsTogether, IsBesideAfter, LooksTogether, ShowsBeside}
-use Rattle.office_commands.specs.Delivering.{Leads, StandAlike}
-use Rattle.office_commands.specs.Beside.{IfHeld, IsAlone}
+use Rattle.office_replies.specs.declared.accounts.AccountAnswer.TheVariants as account_answer
+use Rattle.office_replies.specs.declared.deliver.Response.TheVariants as response
 
 module _ {S A : Type 0} (g : Ghosts S) (is_sound : A → Type 0) (are : List Archive → A → Type 0) where
   -- what asking for an account does to a desk and its archives, and what looking does

@@ -1,7 +1,6 @@
 -- What is reported of a store that was not opened.
 use Rattle.std.specs.Prelude.{ℕ, List, codes}
-use Rattle.office_commands.specs.Ending.{store_text}
-use Rattle.office_commands.specs.declared.offices.OpenFault.{OpenFault}
+use Rattle.office_commands.specs.{Ending.store_text, declared.offices.OpenFault.OpenFault}
 use Rattle.office_commands.specs.declared.offices.OpenFault.TheVariants.{Closed, Store, Register, Older}
 
 abbrev pub open_text : OpenFault → List ℕ

@@ -1,22 +1,13 @@
 -- What the files of a store hold once a command has left it whole: the database file holds all without its log.
 use Rattle.std.specs.Prelude.{◌≡◌, ◌⊎◌, List, [], Result, IfOk, IfErr}
-use Rattle.sqlite_disk.specs.declared.Disk.{Ghosts}
-use Rattle.sqlite_disk.specs.declared.Files.{Files}
-use Rattle.sqlite.specs.Closing.{HoldsAlone}
-use Rattle.sqlite.specs.FileStore.{recovers}
-use Rattle.sqlite.specs.Files.{file_state, image_of}
-use Rattle.sqlite.specs.Held.{Held}
-use Rattle.sqlite.specs.Recovery.{Image}
-use Rattle.sqlite.specs.Tree.{Trees}
-use Rattle.sqlite.specs.WalFiles.{outcomes}
-use Rattle.sqlite.specs.WalReads.{AreClean}
-use Rattle.sqlite.specs.declared.FileStore.{FileStore}
+use Rattle.sqlite_disk.specs.{declared.Disk.Ghosts, declared.Files.Files}
+use Rattle.sqlite.specs.{Closing.HoldsAlone, FileStore.recovers, Files.{file_state, image_of}, Held.Held, Recovery.Image, Tree.Trees, WalFiles.outcomes}
+use Rattle.sqlite.specs.{WalReads.AreClean, declared.FileStore.FileStore}
 use Rattle.office_replies.specs.Events.{Event}
 use Rattle.office_admission.specs.Setups.{SetupContent}
 use Rattle.office_loading.specs.Closed.{ClosedContent}
 use Rattle.office_parts.specs.Archives.{Archive}
-use Rattle.office_commands.specs.Beside.{HoldsBeside}
-use Rattle.office_commands.specs.Opening.{HoldsAfter}
+use Rattle.office_commands.specs.{Beside.HoldsBeside, Opening.HoldsAfter}
 
 -- the database file by itself, as a copy of it is
 abbrev pub without_log : Image → Image

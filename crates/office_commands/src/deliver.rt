@@ -1,15 +1,9 @@
 ghost use Rattle.std.specs.Prelude.{◌≡◌, ◌≤◌, ◌+◌, false, IfOk, IfErr};
-ghost use Rattle.office_commands.specs.Accounts.{AccountEnds, AnswersAsked, IsAskedOver, LeavesWriter};
-ghost use Rattle.office_commands.specs.Beside.{FromOpened, OpensOn};
-ghost use Rattle.office_commands.specs.Delivering.{AreDeliveredOver};
-ghost use Rattle.office_commands.specs.Ending.{Tells, StreamEnds, LeavesPorts, ports, most_turns, outcome_status};
+ghost use Rattle.office_commands.specs.{Accounts.{AccountEnds, AnswersAsked, IsAskedOver, LeavesWriter}, Beside.{FromOpened, OpensOn}, Telling.open_text};
+ghost use Rattle.office_commands.specs.{Delivering.AreDeliveredOver, Ending.{Tells, StreamEnds, LeavesPorts, ports, most_turns, outcome_status}};
 ghost use Rattle.office_commands.specs.Refusing.{IsMarked, IsRefused};
-ghost use Rattle.office_commands.specs.Telling.{open_text};
-ghost use Rattle.office_replies.specs.Delivering.{LeadsOn};
-ghost use Rattle.office_replies.specs.Streams.{Streams, port_bytes};
-ghost use Rattle.sqlite.specs.Files.{over_files};
-ghost use Rattle.sqlite.specs.Recovery.{Image};
-ghost use Rattle.sqlite.specs.WalFiles.{image_at};
+ghost use Rattle.office_replies.specs.{Delivering.LeadsOn, Streams.{Streams, port_bytes}};
+ghost use Rattle.sqlite.specs.{Files.over_files, Recovery.Image, WalFiles.image_at};
 
 use crate::beside::ArchivesBeside;
 use crate::notes::{Noted, Notes};

@@ -1,11 +1,9 @@
 ghost use Rattle.std.specs.Prelude.{◌≡◌, ◌≤◌, ◌+◌, ◌-◌, ◌^◌, min, IfOk, IfErr, OnOk, false, string_bytes};
 ghost use Rattle.edi_messages.specs.Codes.{table_texts};
 ghost use Rattle.office_commands.specs.Demo.{DemoRuns, DemoLeft, port_failures, IsOfPorts, IsDemo, demo_codes, demo_content, demo_partners, OpensDemo};
-ghost use Rattle.office_commands.specs.Ending.{most_turns};
-ghost use Rattle.office_commands.specs.declared.demo.DemoFault.{DemoFault};
+ghost use Rattle.office_commands.specs.{Ending.most_turns, declared.demo.DemoFault.DemoFault};
 ghost use Rattle.office_admission.specs.Setups.{setup_content, account_contents};
-ghost use Rattle.office_replies.specs.Streams.{port_bytes};
-ghost use Rattle.office_replies.specs.declared.stream.StreamFault.{StreamFault};
+ghost use Rattle.office_replies.specs.{Streams.port_bytes, declared.stream.StreamFault.StreamFault};
 
 use crate::deliver::TURNS;
 use crate::opening::open_desk;

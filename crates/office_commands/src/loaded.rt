@@ -1,12 +1,8 @@
 ghost use Rattle.std.specs.Prelude.{◌≡◌, IfErr, IfOk, IsTrue, string_bytes};
-ghost use Rattle.sqlite.specs.Held.{state};
-ghost use Rattle.sqlite.specs.State.{HasCleanDisk};
-ghost use Rattle.office_admission.specs.Given.{IsGiven};
-ghost use Rattle.office_admission.specs.Setups.{setup_content};
-ghost use Rattle.office_closing.specs.Register.{closed_by, is_newer_than, register_content};
-ghost use Rattle.office_closing.specs.Sound.{is_sound};
-ghost use Rattle.office_commands.specs.Beside.{IsLoaded};
-ghost use Rattle.office_commands.specs.Refusing.{IsUnloaded};
+ghost use Rattle.sqlite.specs.{Held.state, State.HasCleanDisk};
+ghost use Rattle.office_admission.specs.{Given.IsGiven, Setups.setup_content};
+ghost use Rattle.office_closing.specs.{Register.{closed_by, is_newer_than, register_content}, Sound.is_sound};
+ghost use Rattle.office_commands.specs.{Beside.IsLoaded, Refusing.IsUnloaded};
 ghost use Rattle.office_loading.specs.Closed.{closed_content};
 ghost use Rattle.office_rows.specs.Tables.{office_schema};
 ghost use Rattle.office_tables.specs.DeliveryReading.{OnlyReads};

@@ -1,19 +1,12 @@
 ghost use Rattle.std.specs.Prelude.{◌≡◌, List, [], ◌∷◌, ◌++◌, false, IfOk, IfErr, OnOk, OnErr, IsTrue};
-ghost use Rattle.sqlite.specs.Held.{state};
-ghost use Rattle.sqlite.specs.State.{HasCleanDisk, Survives};
-ghost use Rattle.sqlite.specs.WalFiles.{image_at};
+ghost use Rattle.sqlite.specs.{Held.state, State.{HasCleanDisk, Survives}, WalFiles.image_at};
 ghost use Rattle.terminal_core.specs.declared.change.Version.{Version};
 ghost use Rattle.office_replies.specs.Events.{Event, migrated};
 ghost use Rattle.office_admission.specs.Setups.{SetupContent};
-ghost use Rattle.office_rows.specs.Layouts.{bare_schema};
-ghost use Rattle.office_rows.specs.Tables.{no_schema};
-ghost use Rattle.office_tables.specs.Faults.{IsOfStore};
-ghost use Rattle.office_tables.specs.Reading.{Reads};
-ghost use Rattle.office_loading.specs.History.{HoldsAfter, IsOlderAfter, StoresAfter};
-ghost use Rattle.office_loading.specs.Migration.{IsMigration, Migrates};
-ghost use Rattle.office_loading.specs.Older.{FailsToLoadOlder};
-ghost use Rattle.office_commands.specs.Ending.{Prints};
-ghost use Rattle.office_commands.specs.Migrating.{FillsNew, IsJudged, IsLookedAt, IsMigratedOver, MigratesBetween, TellsReady};
+ghost use Rattle.office_rows.specs.{Layouts.bare_schema, Tables.no_schema};
+ghost use Rattle.office_tables.specs.{Faults.IsOfStore, Reading.Reads};
+ghost use Rattle.office_loading.specs.{History.{HoldsAfter, IsOlderAfter, StoresAfter}, Migration.{IsMigration, Migrates}, Older.FailsToLoadOlder};
+ghost use Rattle.office_commands.specs.{Ending.Prints, Migrating.{FillsNew, IsJudged, IsLookedAt, IsMigratedOver, MigratesBetween, TellsReady}};
 
 use crate::opening::{open_new, open_there};
 use crate::telling::{DONE, print};

@@ -1,16 +1,10 @@
 ghost use Rattle.std.specs.Prelude.{◌≡◌, ◌≤◌, ℕ, List, [], length, false, IfErr, IfOk, not};
-ghost use Rattle.office_commands.specs.Opening.{HoldsNoTables, HoldsTables, ShowsHeld, OpensEmpty};
-ghost use Rattle.office_commands.specs.Serving.{EnrolsWhile, LeadsWhile};
+ghost use Rattle.office_commands.specs.{Opening.{HoldsNoTables, HoldsTables, ShowsHeld, OpensEmpty}, Serving.{EnrolsWhile, LeadsWhile}};
 ghost use Rattle.office_desk.specs.Crashes.{Leaves};
 ghost use Rattle.office_rows.specs.Tables.{no_schema};
-ghost use Rattle.office_admission.specs.Given.{IsGiven};
-ghost use Rattle.office_admission.specs.Limits.{most_partners};
-ghost use Rattle.office_admission.specs.Setups.{setup_content};
+ghost use Rattle.office_admission.specs.{Given.IsGiven, Limits.most_partners, Setups.setup_content};
 ghost use Rattle.office_tables.specs.Faults.{IsOfStore};
-ghost use Rattle.sqlite.specs.Files.{file_state};
-ghost use Rattle.sqlite.specs.State.{HasCleanDisk, Opens};
-ghost use Rattle.sqlite.specs.Tree.{Trees};
-ghost use Rattle.sqlite.specs.WalFiles.{image_at};
+ghost use Rattle.sqlite.specs.{Files.file_state, State.{HasCleanDisk, Opens}, Tree.Trees, WalFiles.image_at};
 
 use crate::first_page::begin_file;
 use crate::telling::{Faults, HasTerminal, Tallied};

@@ -1,9 +1,6 @@
 ghost use Rattle.std.specs.Prelude.{◌≡◌, ◌==◌, ◌++◌, codes, length, ⊤, IfErr, IfOk, IfSome, IsTrue, option_map, string_bytes};
-ghost use Rattle.office_commands.specs.History.{IsHistory, has_no_tables, history_in};
-ghost use Rattle.office_commands.specs.Paths.{HasNoSlash, IsBeside, path_of};
-ghost use Rattle.office_closing.specs.Changes.{empty_register};
-ghost use Rattle.office_closing.specs.Register.{register_content};
-ghost use Rattle.office_closing.specs.Sound.{is_sound};
+ghost use Rattle.office_commands.specs.{History.{IsHistory, has_no_tables, history_in}, Paths.{HasNoSlash, IsBeside, path_of}};
+ghost use Rattle.office_closing.specs.{Changes.empty_register, Register.register_content, Sound.is_sound};
 ghost use Rattle.office_tables.specs.Faults.{IsOfStore, IsOfStoreOr};
 
 use crate::opening::{NO_STORE, look_there};

@@ -1,13 +1,8 @@
 ghost use Rattle.std.specs.Prelude.{◌≡◌, IfErr, IfOk, OnErr, option_map, string_bytes};
-ghost use Rattle.office_commands.specs.Beside.{FromOpened, OpensOn};
-ghost use Rattle.office_commands.specs.Ending.{Prints};
-ghost use Rattle.office_commands.specs.Looking.{FailsUnder, IsReportedOver, LooksOver};
-ghost use Rattle.office_commands.specs.Refusing.{IsRefused};
+ghost use Rattle.office_commands.specs.{Beside.{FromOpened, OpensOn}, Ending.Prints, Looking.{FailsUnder, IsReportedOver, LooksOver}, Refusing.IsRefused};
 ghost use Rattle.office_commands.specs.Reporting.{Reports, in_lines};
 ghost use Rattle.office_desk.specs.Desks.{IsSound};
-ghost use Rattle.sqlite.specs.Files.{over_files};
-ghost use Rattle.sqlite.specs.Recovery.{Image};
-ghost use Rattle.sqlite.specs.WalFiles.{image_at};
+ghost use Rattle.sqlite.specs.{Files.over_files, Recovery.Image, WalFiles.image_at};
 
 use crate::beside::ArchivesBeside;
 use crate::offices::{FileOffice, OpenFault, open_to_look};

@@ -1,14 +1,8 @@
-ghost use Rattle.std.specs.Io.KnownBytes.{Appends};
-ghost use Rattle.std.specs.Prelude.{◌≡◌, IfErr, IfOk, IfSome, None, string_bytes};
-ghost use Rattle.office_commands.specs.Ending.{Tells};
-ghost use Rattle.office_commands.specs.Beside.{FromOpened, OpensOn};
-ghost use Rattle.office_commands.specs.Refusing.{IsMarked, IsRefused};
+ghost use Rattle.std.specs.{Io.KnownBytes.Appends, Prelude.{◌≡◌, IfErr, IfOk, IfSome, None, string_bytes}};
+ghost use Rattle.office_commands.specs.{Ending.Tells, Beside.{FromOpened, OpensOn}, Refusing.{IsMarked, IsRefused}, ServingBeside.IsServedOver};
 ghost use Rattle.office_commands.specs.Serving.{AreServedBy, EndsServing, ServesNone, listening_line, served_line};
-ghost use Rattle.office_commands.specs.ServingBeside.{IsServedOver};
 ghost use Rattle.office_http.specs.Served.{AtMost};
-ghost use Rattle.sqlite.specs.Files.{over_files};
-ghost use Rattle.sqlite.specs.Recovery.{Image};
-ghost use Rattle.sqlite.specs.WalFiles.{image_at};
+ghost use Rattle.sqlite.specs.{Files.over_files, Recovery.Image, WalFiles.image_at};
 
 use crate::beside::ArchivesBeside;
 use crate::notes::{Noted, Notes, Watching};

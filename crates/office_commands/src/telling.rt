@@ -1,11 +1,7 @@
-ghost use Rattle.std.specs.Io.KnownBytes.{Appends};
-ghost use Rattle.std.specs.Prelude.{◌≡◌, List, ℕ, true, OnOk, OnErr, string_bytes};
-ghost use Rattle.office_commands.specs.Command.{DemoEnds};
-ghost use Rattle.office_commands.specs.Demo.{port_failures};
+ghost use Rattle.std.specs.{Io.KnownBytes.Appends, Prelude.{◌≡◌, List, ℕ, true, OnOk, OnErr, string_bytes}};
+ghost use Rattle.office_commands.specs.{Command.DemoEnds, Demo.port_failures, Telling.open_text};
 ghost use Rattle.office_commands.specs.Ending.{Tells, Prints, status_of, store_text, stream_text, outcome_status, outcome_text};
-ghost use Rattle.office_commands.specs.Telling.{open_text};
-ghost use Rattle.office_replies.specs.Fronts.{AppendsFront};
-ghost use Rattle.office_replies.specs.Streams.{port_bytes};
+ghost use Rattle.office_replies.specs.{Fronts.AppendsFront, Streams.port_bytes};
 
 use crate::demo::run_demo;
 use crate::offices::OpenFault;

@@ -1,22 +1,12 @@
 ghost use Rattle.std.specs.Prelude.{◌≡◌, ⊤, false, IfOk, IfErr, IsTrue};
 ghost use Rattle.office_archives.specs.Texts.{OpensOn};
-ghost use Rattle.office_closing.specs.Register.{is_newer_than, register_content};
-ghost use Rattle.office_closing.specs.Sound.{is_sound};
+ghost use Rattle.office_closing.specs.{Register.{is_newer_than, register_content}, Sound.is_sound};
 ghost use Rattle.office_admission.specs.Setups.{setup_content};
-ghost use Rattle.office_commands.specs.Beside.{IsLoaded};
-ghost use Rattle.office_commands.specs.Opening.{Shows};
-ghost use Rattle.office_commands.specs.Printing.{ArePrintedOver, EndsTexts, PrintsJournal, PrintsTexts};
-ghost use Rattle.office_commands.specs.Refusing.{IsRefused};
+ghost use Rattle.office_commands.specs.{Beside.IsLoaded, Opening.Shows, Printing.{ArePrintedOver, EndsTexts, PrintsJournal, PrintsTexts}, Refusing.IsRefused};
 ghost use Rattle.office_loading.specs.Closed.{closed_content};
 ghost use Rattle.office_rows.specs.Stored.{HasRows};
-ghost use Rattle.office_tables.specs.DeliveryReading.{OnlyReads};
-ghost use Rattle.office_tables.specs.Faults.{IsOfStore, IsOfStoreOr};
-ghost use Rattle.office_tables.specs.Reading.{Reads};
-ghost use Rattle.sqlite.specs.Files.{over_files};
-ghost use Rattle.sqlite.specs.Held.{state};
-ghost use Rattle.sqlite.specs.Recovery.{Image};
-ghost use Rattle.sqlite.specs.State.{HasCleanDisk};
-ghost use Rattle.sqlite.specs.WalFiles.{image_at};
+ghost use Rattle.office_tables.specs.{DeliveryReading.OnlyReads, Faults.{IsOfStore, IsOfStoreOr}, Reading.Reads};
+ghost use Rattle.sqlite.specs.{Files.over_files, Held.state, Recovery.Image, State.HasCleanDisk, WalFiles.image_at};
 
 use crate::beside::ShelfBeside;
 use crate::loaded::{Loaded, load_office};

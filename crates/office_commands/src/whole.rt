@@ -6,8 +6,7 @@ ghost use Rattle.office_loading.specs.Closed.{ClosedContent};
 ghost use Rattle.office_parts.specs.Archives.{Archive};
 ghost use Rattle.office_replies.specs.Events.{Event};
 ghost use Rattle.office_admission.specs.Setups.{SetupContent};
-ghost use Rattle.sqlite.specs.Files.{file_state, over_files};
-ghost use Rattle.sqlite.specs.WalReads.{AreClean};
+ghost use Rattle.sqlite.specs.{Files.{file_state, over_files}, WalReads.AreClean};
 
 use office_archives::{ArchivedDesk, Archives};
 use sqlite::{Connection, FileStore, Files};

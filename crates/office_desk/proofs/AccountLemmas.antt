@@ -1,68 +1,33 @@
 -- What a desk answers to an account that is to be added, and what it holds after it.
-use Rattle.std.proofs.Common.{◌≡◌, ℕ, ◌+◌, ◌-◌, ◌<◌, Bool, true, false, cond, map, List, [], ◌∷◌, ◌++◌, length, Option, None, Some, get_or, option_map, inl, inr, refl, sym, ap, ap₂, subst, ◌∙◌, arith, ◌≤◌, String, string_bytes, codes}
-use Rattle.std.proofs.lemmas.List.{length-append, map-append, length-map}
-use Rattle.std.proofs.lemmas.List.FromFn.{map-range_with_len_more}
+use Rattle.std.specs.{List.range_with_len, Prelude.{slice_get, OnErr, OnOk, Result, Ok, Err, slice_index_or, slice_set}, declared.alloc.Global.Global}
+use Rattle.std.proofs.Common.{◌≡◌, ℕ, ◌+◌, ◌-◌, ◌<◌, true, cond, map, List, [], ◌∷◌, ◌++◌, length, Option, None, Some, get_or, option_map, inl, inr, refl, sym, ap, ap₂, subst, ◌∙◌, arith, ◌≤◌, String, string_bytes, codes}
+use Rattle.std.proofs.{lemmas.List.{length-append, map-append, length-map}, lemmas.List.FromFn.map-range_with_len_more, lemmas.Simd.map-map}
 use Rattle.std.proofs.lemmas.Option.{slice_get-get_or, slice_get-map}
-use Rattle.std.proofs.lemmas.Simd.{map-map}
-use Rattle.std.specs.List.{range_with_len}
-use Rattle.std.specs.Prelude.{slice_get, OnErr, OnOk, Result, Ok, Err, slice_index_or, slice_set}
-use Rattle.sqlite.specs.Effect.{Database}
-use Rattle.sqlite.specs.Tree.{Trees}
+use Rattle.sqlite.specs.{Effect.Database, Tree.Trees, State.State, Held.state}
 use Rattle.sqlite_trees.specs.declared.store.Store.{Ghosts}
 use Rattle.edi_messages.specs.declared.codes.PartnerKind.{PartnerKind}
-use Rattle.partner_core.specs.Deliveries.{run, delivery}
-use Rattle.partner_core.specs.Numbered.{with_number}
-use Rattle.partner_core.proofs.Keepings.{with_number-below}
+use Rattle.partner_core.{specs.{Deliveries.{run, delivery}, Numbered.with_number}, proofs.Keepings.with_number-below}
 use Rattle.terminal_core.specs.State.{TerminalState}
-use Rattle.office_replies.specs.Events.{Event, added}
-use Rattle.office_replies.specs.declared.accounts.AccountAnswer.{AccountAnswer}
-use Rattle.office_replies.specs.declared.accounts.AccountFault.TheVariants.{Partner}
-use Rattle.office_rows.specs.Effects.{with_partner}
-use Rattle.office_rows.specs.Rows.{Rows}
-use Rattle.office_rows.specs.Stored.{HasRows, StoresRows}
-use Rattle.office_admission.specs.Kinds.{kind_named}
-use Rattle.office_admission.specs.SetupAccounts.{account_contents}
-use Rattle.office_admission.specs.Parties.{partner_codes, partner_from, partner_kinds}
-use Rattle.office_admission.specs.declared.setup.Account.{Account}
-use Rattle.office_admission.proofs.Named.{one_further}
-use Rattle.office_admission.specs.PartyCodes.{is_party_code}
-use Rattle.office_admission.specs.Setups.{SetupContent, setup_content, setup_with_account}
-use Rattle.office_admission.specs.Given.{IsGiven}
-use Rattle.office_tables.specs.declared.table_fault.TableFault.{TableFault}
-use Rattle.office_admission.specs.Accounts.{AccountContent, AccountPair, account_answer, added_as, by_kind, by_number, content_after, refused_for}
-use Rattle.office_admission.specs.Deliveries.{deliveries_of}
-use Rattle.office_admission.proofs.Adding.{account_adds, added_last, content_on, given_after, no_run_beyond, parties_grown}
-use Rattle.office_admission.specs.Growth.{with_account}
-use Rattle.office_history.specs.After.{AreAfter, machine_after, machine_with}
-use Rattle.office_history.specs.Laws.{AddsAccount}
-use Rattle.office_history.proofs.Ground.{account_adds_row}
-use Rattle.office_desk.specs.Accounts.{AnswersAccount, IsLengthened, IsSameOrNone, Says}
-use Rattle.office_desk.specs.Beside.{IsBeside, nexts_after}
-use Rattle.office_desk.specs.Crashes.{IsAfter, Leaves, LeavesAll, LeavesBehind}
-use Rattle.office_desk.specs.Telling.{Holds, TakesNext}
-use Rattle.office_desk.specs.Desks.{StandsFor, IsSound}
-use Rattle.office_desk.specs.declared.beside.Beside.{Beside}
-use Rattle.office_desk.specs.declared.desk.Desk.{Desk}
-use Rattle.std.specs.declared.alloc.Global.{Global}
-use Rattle.office_replies.specs.Bodies.{answer_text, waiting_text}
+use Rattle.office_replies.specs.{Events.{Event, added}, declared.accounts.AccountAnswer.AccountAnswer, declared.accounts.AccountFault.TheVariants.Partner}
+use Rattle.office_replies.specs.Bodies.{answer_text}
 use Rattle.office_replies.specs.Contents.{content_of}
-use Rattle.sqlite.specs.State.{State}
-use Rattle.office_admission.specs.declared.setup.Setup.{Setup}
-use Rattle.office_admission.specs.Taking.{machine_of}
-use Rattle.office_history.specs.Cascade.{AreTakenFrom, texts_with, with_run}
-use Rattle.office_tables.specs.DeliveryReading.{IsSame}
-use Rattle.office_tables.specs.Writing.{Commits}
-use Rattle.office_tables.specs.Taken.{taken_content, taken_contents}
-use Rattle.office_tables.specs.declared.running.Taken.{Taken}
-use Rattle.office_desk.specs.Answers.{answer_by_model, AnswersNext}
-use Rattle.sqlite.specs.Held.{state}
 use Rattle.office_replies.specs.Delivering.{AreAnswered, LeadsOn, with_answered}
 use Rattle.office_replies.specs.declared.deliver.Response.{Response}
-use Rattle.office_desk.specs.Calls.{Leads}
+use Rattle.office_rows.specs.{Effects.with_partner, Rows.Rows, Stored.{HasRows, StoresRows}}
+use Rattle.office_admission.specs.{Kinds.kind_named, SetupAccounts.account_contents, Parties.{partner_codes, partner_from, partner_kinds}, Given.IsGiven}
+use Rattle.office_admission.specs.{declared.setup.Account.Account, PartyCodes.is_party_code, Setups.{SetupContent, setup_content, setup_with_account}}
+use Rattle.office_admission.specs.Accounts.{AccountContent, AccountPair, account_answer, added_as, by_kind, by_number, content_after, refused_for}
+use Rattle.office_admission.{specs.{Deliveries.deliveries_of, Growth.with_account, declared.setup.Setup.Setup, Taking.machine_of}, proofs.Named.one_further}
+use Rattle.office_admission.proofs.Adding.{account_adds, added_last, content_on, given_after, no_run_beyond, parties_grown}
+use Rattle.office_tables.specs.{declared.table_fault.TableFault.TableFault, DeliveryReading.IsSame, Writing.Commits, Taken.{taken_content, taken_contents}}
+use Rattle.office_tables.specs.declared.running.Taken.{Taken}
+use Rattle.office_history.specs.{After.{AreAfter, machine_after, machine_with}, Laws.AddsAccount, Cascade.{AreTakenFrom, texts_with, with_run}}
+use Rattle.office_history.proofs.Ground.{account_adds_row}
+use Rattle.office_desk.specs.{Accounts.{AnswersAccount, IsLengthened, IsSameOrNone, Says}, Beside.{IsBeside, nexts_after}, Telling.{Holds, TakesNext}}
+use Rattle.office_desk.specs.{Crashes.{IsAfter, Leaves, LeavesAll, LeavesBehind}, Desks.{StandsFor, IsSound}, declared.beside.Beside.Beside, Calls.Leads}
+use Rattle.office_desk.specs.{declared.desk.Desk.Desk, Answers.{answer_by_model, AnswersNext}}
 use Rattle.partner_core.specs.Answers as told
 use Rattle.office_replies.specs.declared.deliver.Response.TheVariants as response
-
--- ==== AccountLemmas: What a desk answers to an account that is to be added, and what it holds after it.
 
 -- ---- the answer
 
@@ -71,13 +36,6 @@ pub asked : (accounts : List AccountPair) (code kind : List ℕ) (own : PartnerK
     account_answer accounts code kind ≡ by_number accounts own (partner_from 1 code (map (λ (account : AccountPair). account.0) accounts))
 asked accounts code kind own coded named =
     ap (λ b. cond b (by_kind accounts code (kind_named kind)) (refused_for Partner)) coded ∙ ap (by_kind accounts code) named
-
-pub not_named : (accounts : List AccountPair) (code kind : List ℕ) → kind_named kind ≡ None → account_answer accounts code kind ≡ refused_for Partner
-not_named accounts code kind none = by (is_party_code code)
-  where
-    by : (coded : Bool) → cond coded (by_kind accounts code (kind_named kind)) (refused_for Partner) ≡ refused_for Partner
-    by true = ap (by_kind accounts code) none
-    by false = refl
 
 -- ---- the accounts of a set-up
 
@@ -217,10 +175,6 @@ given_left (Err fault) content old new grown with_it same was is = subst IsGiven
 pub taken_is : (body : String Global) (reply : List ℕ) (number : ℕ) (code : List ℕ) → string_bytes body ≡ answer_text (codes "taken") number code reply →
     content_of (response.Taken body) ≡ answer_by_model code number (told.Taken (Some reply))
 taken_is body reply number code is = rw is refl
-
-pub waiting_is : (body : String Global) (next number : ℕ) (code : List ℕ) → string_bytes body ≡ waiting_text next number code →
-    content_of (response.Waiting body) ≡ answer_by_model code number (told.Waiting next)
-waiting_is body next number code is = rw is refl
 
 -- ---- a run
 

@@ -1,83 +1,41 @@
 -- One delivery more to a desk.
+use Rattle.std.{specs.{List.Sorted.IsPermutation, Prelude.{◌==◌, not, nat_le}}, proofs.lemmas.Simd.map-map}
 use Rattle.std.proofs.Common.{◌≡◌, ℕ, List, [], ◌∷◌, ◌++◌, Option, Ok, Err, string_bytes, refl, sym, ap, subst, ◌∙◌, ◌⊎◌, ◌+◌, ◌<◌, ◌≤◌, length, map, inl, inr, Some, arith, None, Bool, true, false, cond}
-use Rattle.std.proofs.lemmas.Simd.{map-map}
-use Rattle.sqlite.specs.Effect.{Database}
-use Rattle.sqlite.specs.Held.{state}
+use Rattle.std.proofs.{lemmas.Bool.{eq-eqb, eqb-true, leb-true, leb-false}, lemmas.List.Sorted.{Contains-permutation, IsPermutation-sym, IsPermutation-trans}}
+use Rattle.sqlite.specs.{Effect.Database, Held.state}
 use Rattle.sqlite_trees.specs.declared.store.Store.{Ghosts}
-use Rattle.edi_syntax.specs.Interchange.{interchange_of, segments_in}
-use Rattle.edi_syntax.specs.Envelope.{header_of}
-use Rattle.partner_core.specs.Answers.{AnswerModel}
-use Rattle.office_replies.specs.Events.{Event, delivered}
-use Rattle.office_replies.specs.Contents.{GivesOrNotNow, content_of}
-use Rattle.office_replies.specs.Delivering.{with_answered}
-use Rattle.office_replies.specs.declared.deliver.Response.{Response}
-use Rattle.office_admission.specs.Parties.{Parties, parties_of}
-use Rattle.office_admission.specs.Setups.{SetupContent, setup_content}
-use Rattle.office_admission.specs.declared.setup.Setup.{Setup}
-use Rattle.office_admission.specs.Admission.{admission}
-use Rattle.office_admission.specs.Outcomes.{IsRefused, fault_in}
-use Rattle.office_admission.specs.Refusals.{refusal_of, MayBeNotNow, RefusedSurely}
-use Rattle.office_admission.specs.declared.refusal.Refusal.{Refusal}
+use Rattle.edi_syntax.specs.{Interchange.{interchange_of, segments_in}, Envelope.header_of}
+use Rattle.partner_core.specs.{Answers.AnswerModel, Deliveries.delivery, Numbered.with_number}
+use Rattle.office_replies.specs.{Events.{Event, delivered}, Contents.{GivesOrNotNow, content_of}, Delivering.with_answered, declared.deliver.Response.Response}
+use Rattle.office_admission.specs.{Parties.{Parties, parties_of}, Setups.{SetupContent, setup_content}, declared.setup.Setup.Setup, Admission.admission}
+use Rattle.office_admission.specs.{Outcomes.{IsRefused, fault_in}, Refusals.{refusal_of, MayBeNotNow, RefusedSurely}, declared.refusal.Refusal.Refusal}
+use Rattle.office_admission.{specs.{Taking.{MachineState, interchange_taken, interchange_changes}, Given.IsGiven}, proofs.Takings.interchange_leads}
+use Rattle.office_admission.proofs.Forming.{runs_alone}
 use Rattle.office_history.specs.After.{content_after, parties_in, AreKeptOnce, accounts_from, AreAfter, deliveries_of, opening_of, machine_after, machine_with, taking_in}
-use Rattle.office_history.specs.Laws.{answer_model_of}
-use Rattle.office_history.proofs.Lawful.{now_same, refused_adds}
-use Rattle.office_loading.specs.Closed.{closed_content, ClosedContent}
-use Rattle.office_desk.specs.Answers.{AnswersNext, answer_by_model, answer_at, answer_to, code_of}
-use Rattle.office_desk.proofs.OwnNumbers.{refused_for, KeepsBeyond, account_there, by_number, keeps_own}
-use Rattle.office_desk.specs.Telling.{Answers, Comes, Holds}
-use Rattle.office_desk.specs.Desks.{StandsFor}
-use Rattle.office_desk.specs.Kept.{AnswersAt, AnswersByKept, AnswersOver, IsNotedFor, Office}
-use Rattle.office_desk.specs.Noting.{IsNow, NotesFault, NotesMemory}
-use Rattle.office_desk.specs.Offices.{DeskHolds, HoldsOffice}
-use Rattle.office_desk.specs.declared.beside.Beside.{Beside}
-use Rattle.office_desk.specs.declared.desk.Desk.{Desk}
-use Rattle.office_tables.specs.declared.table_fault.TableFault.{TableFault}
-use Rattle.office_tables.specs.declared.table_fault.TableFault.TheVariants.{Memory}
-use Rattle.partner_core.specs.Deliveries.{delivery}
-use Rattle.office_desk.specs.Crashes.{Leaves, LeavesBehind}
+use Rattle.office_history.{specs.Laws.answer_model_of, proofs.{Lawful.{now_same, refused_adds}, Loads.{partner_one, ShowsSetupAndTerminal, one_terminal}}}
+use Rattle.office_history.proofs.{Once.{numbers_same, once_if_rising, place, place_of}, Kept.{Rises, same_records, shown_in}, KeptNumbers.have_runs}
+use Rattle.office_history.proofs.{Offices.state_given, Places.alone_in}
+use Rattle.office_loading.specs.{Closed.{closed_content, ClosedContent}, OwnOffice.{AreInOrder, AreOwnNumbers, IsOwnOffice}, Tables.LoadsOwn}
+use Rattle.office_loading.{specs.Checks.{visits_after, AreOwnVisits}, proofs.Offices.after_all}
+use Rattle.office_desk.specs.{Answers.{AnswersNext, answer_by_model, answer_at, answer_to, code_of}, Telling.{Answers, Comes, Holds}, Desks.StandsFor}
+use Rattle.office_desk.specs.{Kept.{AnswersAt, AnswersByKept, AnswersOver, IsNotedFor, Office}, Noting.{IsNow, NotesFault, NotesMemory}, Beside.IsOrNone}
+use Rattle.office_desk.specs.{Offices.{DeskHolds, HoldsOffice}, declared.beside.Beside.Beside, declared.desk.Desk.Desk, Crashes.{Leaves, LeavesBehind}}
+use Rattle.office_desk.{specs.Finding.StaysBeside, proofs.OwnNumbers.{refused_for, KeepsBeyond, account_there, by_number, keeps_own}}
 use Rattle.office_desk.proofs.HoldLemmas.{answered_behind, refused_leaves, beside_same, next_by, nexts_are, number_of}
-use Rattle.std.specs.List.Sorted.{IsPermutation}
-use Rattle.std.proofs.lemmas.Bool.{eq-eqb, eqb-true, leb-true, leb-false}
-use Rattle.std.proofs.lemmas.List.Sorted.{Contains-permutation, IsPermutation-sym, IsPermutation-trans}
+use Rattle.office_tables.specs.{declared.table_fault.TableFault.TableFault, declared.table_fault.TableFault.TheVariants.Memory, Answers.{IsNextOf, has_id}}
 use Rattle.sqlite_rules.proofs.ListLemmas.{contains_had, has_contained, has_filtered, has_kept}
-use Rattle.partner_core.specs.Numbered.{with_number}
-use Rattle.terminal_core.specs.State.{TerminalState, AreNumbered, IsWhole, last_from}
-use Rattle.office_rows.specs.Rows.{Partner, Rows}
-use Rattle.office_rows.specs.Values.{number_value, interchange_values, partner_values}
+use Rattle.terminal_core.specs.{State.{TerminalState, AreNumbered, IsWhole, last_from}, declared.visits.Departure.Departure, OneByOne.GoOneByOne}
+use Rattle.terminal_core.specs.Rows.{VisitContent, ChangeContent, visit_opened, visit_closed, placed_at, moved_to, removed_from, listed_on, line_done, unlisted}
+use Rattle.terminal_core.specs.{Changes.{TerminalRows, rows_of, rows_with, visit_with_departure, rows_with_all, IsApplicable, AreApplicable}, Versions.newest}
+use Rattle.terminal_core.proofs.Open.{kept_number}
+use Rattle.office_rows.specs.Rows.{Rows}
+use Rattle.office_rows.specs.Values.{interchange_values, partner_values}
 use Rattle.office_rows.specs.Stored.{HasRows}
 use Rattle.office_rows.specs.Shown.{AreNexts, columns_at}
-use Rattle.office_rows.specs.Opened.{NumberKept, OpenedRows, Shows, number_kept}
-use Rattle.office_rows.specs.Tables.{partner_table as partners_table}
-use Rattle.office_rows.proofs.Listed.{unmapped}
-use Rattle.office_tables.specs.Answers.{IsNextOf, has_id}
-use Rattle.office_loading.specs.OwnOffice.{AreInOrder, AreOwnNumbers, IsOwnOffice}
-use Rattle.office_history.proofs.Loads.{partner_one, ShowsSetupAndTerminal, one_terminal}
-use Rattle.office_history.proofs.Once.{numbers_same, once_if_rising, place, place_of}
-use Rattle.office_history.proofs.Kept.{Rises, same_records, shown_in}
-use Rattle.office_history.proofs.KeptNumbers.{have_runs}
-use Rattle.office_loading.specs.Tables.{LoadsOwn}
-use Rattle.office_desk.specs.Beside.{IsOrNone}
-use Rattle.office_desk.specs.Finding.{StaysBeside}
-use Rattle.std.specs.Prelude.{◌==◌, not, nat_le}
-use Rattle.terminal_core.specs.declared.visits.Departure.{Departure}
-use Rattle.terminal_core.specs.Rows.{VisitContent, ChangeContent, visit_opened, visit_closed, placed_at, moved_to, removed_from, listed_on, line_done, unlisted}
-use Rattle.terminal_core.specs.Changes.{TerminalRows, rows_of, rows_with, visit_with_departure, rows_with_all, IsApplicable, AreApplicable}
-use Rattle.terminal_core.specs.OneByOne.{GoOneByOne}
-use Rattle.terminal_core.proofs.Open.{kept_number}
-use Rattle.office_loading.specs.Checks.{visits_after, AreOwnVisits}
-use Rattle.office_loading.proofs.Offices.{after_all}
-use Rattle.office_admission.specs.Taking.{MachineState, interchange_taken, interchange_changes}
-use Rattle.office_admission.proofs.Takings.{interchange_leads}
-use Rattle.terminal_core.specs.Versions.{newest}
-use Rattle.office_admission.specs.Given.{IsGiven}
-use Rattle.office_history.proofs.Offices.{state_given}
-use Rattle.office_history.proofs.Places.{alone_in}
-use Rattle.office_admission.proofs.Forming.{runs_alone}
+use Rattle.office_rows.{specs.{Opened.{NumberKept, OpenedRows, Shows, number_kept}, Tables.partner_table as partners_table}, proofs.Listed.unmapped}
 use Rattle.partner_core.specs.Answers as told
 use Rattle.office_replies.specs.declared.deliver.Response.TheVariants as response
 use Rattle.office_replies.specs.declared.deliver.Worst.TheVariants as worst
-
--- ==== DeliverLemmas: One delivery more to a desk.
 
 pub parties_same : (setup : Setup) → parties_of setup ≡ parties_in (setup_content setup)
 parties_same setup = ap (λ (codes : List (List ℕ)). record { terminal = string_bytes setup.terminal; partners = codes }) (sym (map-map _ _ setup.partners.items))

@@ -1,87 +1,44 @@
 -- Why a call fails over the rows of an office.
+use Rattle.std.{specs.{Prelude.{◌==◌, Contains, IsUtf8, codes, map}, Result.IsErrAnd, Option.option_and_then}, proofs.lemmas.Bool.{and_parts, eq-eqb, eqb-true}}
 use Rattle.std.proofs.Common.{◌≡◌, ℕ, ◌+◌, ◌-◌, ◌<◌, ◌≤◌, ◌&&◌, List, [], ◌∷◌, length, inl, inr, Option, None, Some, option_map, get_or, string_bytes, refl, sym, ap, ap₂, subst, ◌∙◌, arith, ◌⊎◌, ◌++◌, Result, Ok, Err, OnOk, OnErr, true, false, is_some}
-use Rattle.std.specs.Prelude.{◌==◌, Contains, IsUtf8, codes, map}
-use Rattle.std.proofs.lemmas.List.Sorted.{Contains-permutation, IsPermutation-sym}
-use Rattle.std.proofs.lemmas.Bool.{and_parts, eq-eqb, eqb-true}
-use Rattle.std.proofs.lemmas.List.{length-map}
-use Rattle.std.proofs.lemmas.List.FromFn.{length-map-range_with_len}
+use Rattle.std.proofs.{lemmas.List.Sorted.{Contains-permutation, IsPermutation-sym}, lemmas.List.length-map, lemmas.List.FromFn.length-map-range_with_len}
 use Rattle.std.proofs.lemmas.Option.{slice_get-get_or}
-use Rattle.partner_core.specs.Numbered.{with_number}
-use Rattle.partner_core.proofs.Keepings.{with_number-below}
-use Rattle.sqlite.specs.Effect.{Database}
-use Rattle.sqlite_rules.specs.Lists.{Has}
-use Rattle.sqlite_rules.proofs.ListLemmas.{contains_had, has_contained, has_filtered, has_kept}
+use Rattle.partner_core.{specs.{Numbered.with_number, Deliveries.{Delivery, delivery, run}}, proofs.{Keepings.with_number-below, Orders.{none_of, some_of}}}
+use Rattle.sqlite.specs.{Effect.Database, State.State, Tree.Trees}
+use Rattle.sqlite_rules.{specs.Lists.Has, proofs.ListLemmas.{contains_had, has_contained, has_filtered, has_kept}}
 use Rattle.edi_messages.specs.declared.codes.PartnerKind.{PartnerKind}
-use Rattle.terminal_core.specs.State.{TerminalState}
-use Rattle.office_rows.specs.Rows.{Partner, Interchange, Rows}
-use Rattle.office_rows.specs.Effects.{is_pair, with_waiting, with_partner}
-use Rattle.office_rows.specs.Office.{AreAccounts}
-use Rattle.office_rows.specs.Opening.{setting_row, tables_version}
-use Rattle.office_rows.specs.Shown.{AreNexts, columns_at}
-use Rattle.office_rows.specs.Stored.{columns_of}
-use Rattle.office_rows.specs.Values.{setting_values}
-use Rattle.office_admission.proofs.Adding.{found_low}
-use Rattle.office_admission.specs.Setups.{SetupContent, parties_in, setup_content}
-use Rattle.office_loading.specs.Closed.{ClosedContent}
-use Rattle.office_history.specs.After.{reply_if_any, AreAfter, machine_after, machine_with, AreKeptOnce, reply_in}
-use Rattle.office_history.specs.Cascade.{text_in, AreTakenFrom, texts_with, with_run}
-use Rattle.office_loading.specs.Waiting.{HasHighWaiting, is_waiting, waiting_in}
-use Rattle.office_tables.specs.Answers.{LacksNext, IsKept, IsNextOf}
-use Rattle.office_tables.specs.Faults.{IsOfStore}
-use Rattle.office_tables.specs.declared.table_fault.TableFault.{TableFault}
-use Rattle.office_tables.specs.declared.table_fault.TableFault.TheVariants.{Store, Damaged, Version, Memory}
+use Rattle.terminal_core.specs.{State.TerminalState, Rows.VisitContent}
+use Rattle.office_rows.specs.{Rows.{Partner, Interchange, Rows}, Effects.{is_pair, with_waiting, with_partner}, Office.AreAccounts, Stored.columns_of}
+use Rattle.office_rows.specs.{Opening.{setting_row, tables_version}, Shown.{AreNexts, columns_at}, Values.setting_values}
+use Rattle.office_rows.proofs.Creating.{has_mapped, stores}
+use Rattle.office_admission.specs.{Setups.{SetupContent, parties_in, setup_content}, Given.IsGiven, Kinds.kind_named, Admission.admission}
+use Rattle.office_admission.specs.{Accounts.{account_answer, added_as, content_after}, Deliveries.deliveries_of, Parties.{Parties, partner_codes, partner_from}}
+use Rattle.office_admission.{specs.declared.setup.Setup.Setup, proofs.Adding.found_low}
+use Rattle.office_loading.{specs.{Closed.ClosedContent, Waiting.{HasHighWaiting, is_waiting, waiting_in}}, proofs.VersionLemmas.full}
 use Rattle.office_loading.specs.Tables.{FailsToLoadOwn, HasHighNext, HasVersion, LoadsOwn}
-use Rattle.office_loading.proofs.VersionLemmas.{full}
-use Rattle.office_tables.specs.DeliveryReading.{HasUnfitBehind}
+use Rattle.office_history.specs.{After.{reply_if_any, AreAfter, machine_after, machine_with, AreKeptOnce, reply_in}, Laws.IsFor}
+use Rattle.office_history.specs.Cascade.{text_in, AreTakenFrom, texts_with, with_run}
+use Rattle.office_tables.specs.{Answers.{LacksNext, IsKept, IsNextOf}, Faults.IsOfStore, declared.table_fault.TableFault.TableFault, Order.HasRowsInOrder}
+use Rattle.office_tables.specs.{declared.table_fault.TableFault.TheVariants.{Store, Damaged, Version, Memory}, DeliveryReading.HasUnfitBehind}
+use Rattle.office_tables.specs.{Writing.{Commits, IsWholeInOrder}, declared.interchanges.Kept.Kept}
 use Rattle.office_tables.proofs.WriteLemmas.{one_kept, none_kept, no_text, text_kept}
 use Rattle.office_reports.specs.declared.query.About.{About}
-use Rattle.office_desk.specs.Causes.{AsksUnfitReply, AsksUnreadable, HasUnfitReplyOf, LacksReply, LacksSome}
-use Rattle.office_desk.specs.Reports.{answered, partner_called, TellsReply, contrl_told, ticket_if_taken}
-use Rattle.office_desk.specs.Offices.{FailsToOpen}
-use Rattle.office_desk.proofs.HoldLemmas.{nexts_are, either_of, reply_kept}
+use Rattle.office_reports.specs.Tickets.{ticket_of as told_ticket}
+use Rattle.office_reports.specs.declared.query.View.{View}
+use Rattle.office_desk.specs.{Causes.{AsksUnfitReply, AsksUnreadable, HasUnfitReplyOf, LacksReply, LacksSome}, Offices.FailsToOpen, Beside.IsAt, Noting.IsNow}
+use Rattle.office_desk.specs.{Reports.{answered, partner_called, TellsReply, contrl_told, ticket_if_taken}, Telling.{Comes, Holds}}
+use Rattle.office_desk.specs.Order.{IsInOrder, IsRunInOrder, IsStoredInOrder, LeavesBehindInOrder, LeavesEitherInOrder, LeavesInOrder, LeavesTakenInOrder, stored, with_taken}
+use Rattle.office_desk.{specs.declared.beside.Beside.Beside, proofs.{HoldLemmas.{nexts_are, either_of, reply_kept}, OwnNumbers.own_reply}}
 use Rattle.office_desk.proofs.DeliverLemmas.{KeepsAccounts, next_follows, next_there, parties_same}
-use Rattle.office_desk.proofs.OwnNumbers.{own_reply}
-use Rattle.office_rows.proofs.Creating.{has_mapped, stores}
-use Rattle.std.specs.Result.{IsErrAnd}
-use Rattle.sqlite.specs.State.{State}
-use Rattle.sqlite.specs.Tree.{Trees}
 use Rattle.edi_syntax.specs.Interchange.{interchange_of}
-use Rattle.partner_core.specs.Deliveries.{Delivery, delivery, run}
-use Rattle.office_replies.specs.Delivering.{with_answered}
-use Rattle.office_replies.specs.Events.{Event, delivered, added}
-use Rattle.office_replies.specs.declared.deliver.Fault.{Fault}
-use Rattle.office_replies.specs.declared.deliver.Response.{Response}
-use Rattle.office_admission.specs.Given.{IsGiven}
-use Rattle.office_admission.specs.Kinds.{kind_named}
-use Rattle.office_admission.specs.Accounts.{account_answer, added_as, content_after}
-use Rattle.office_admission.specs.Admission.{admission}
-use Rattle.office_admission.specs.Deliveries.{deliveries_of}
-use Rattle.office_tables.specs.Order.{HasRowsInOrder}
-use Rattle.office_history.specs.Laws.{IsFor}
-use Rattle.office_tables.specs.Writing.{Commits, IsWholeInOrder}
+use Rattle.office_replies.specs.{Delivering.with_answered, Events.{Event, delivered, added}, declared.deliver.Fault.Fault, declared.deliver.Response.Response}
 use Rattle.office_parts.specs.InOrder.{AreAfterInOrder}
 use Rattle.office_parts.proofs.JournalOrders.{refused_stays_in_order, used_stays_in_order, early_adds_in_order, next_adds_in_order, account_stays_in_order}
-use Rattle.office_desk.specs.Beside.{IsAt}
-use Rattle.office_desk.specs.Noting.{IsNow}
-use Rattle.office_desk.specs.Order.{IsInOrder, IsRunInOrder, IsStoredInOrder, LeavesBehindInOrder, LeavesEitherInOrder, LeavesInOrder, LeavesTakenInOrder, stored, with_taken}
-use Rattle.office_desk.specs.Telling.{Comes, Holds}
-use Rattle.office_desk.specs.declared.beside.Beside.{Beside}
-use Rattle.std.specs.Option.{option_and_then}
-use Rattle.partner_core.proofs.Orders.{none_of, some_of}
-use Rattle.terminal_core.specs.Rows.{VisitContent}
-use Rattle.office_reports.specs.Tickets.{ticket_of as told_ticket}
 use Rattle.office_report_data.specs.Told.{shown}
 use Rattle.office_report_data.specs.Told as value
-use Rattle.office_tables.specs.declared.interchanges.Kept.{Kept}
-use Rattle.office_admission.specs.Parties.{Parties, partner_codes, partner_from}
-use Rattle.office_admission.specs.declared.setup.Setup.{Setup}
-use Rattle.office_reports.specs.Contrls.{contrl_in}
 use Rattle.office_rows.specs.Tables as table
 use Rattle.office_reports.specs.declared.query.About.TheVariants as about
-use Rattle.office_reports.specs.declared.query.View.{View}
 use Rattle.office_replies.specs.declared.deliver.Response.TheVariants as response
-
--- ==== Faults: Why a call fails over the rows of an office.
 
 -- ---- the next numbers
 

@@ -1,65 +1,29 @@
 -- What the desk holds after each delivery.
+use Rattle.std.specs.{Prelude.{◌==◌, count_by, Contains, IsSorted, slice_get, slice_set, slice_index_or}, List.range_with_len, Ordering.nat_cmp}
+use Rattle.std.specs.{List.Sorted.{IsPermutation, IsNonDecreasing}, declared.alloc.Global.Global, Option.{option_map, option_and_then}, Result.IsErrAnd}
+use Rattle.std.{specs.Cmp.Lexicographic.{same_text, other_text}, proofs.{lemmas.Bool.{cases_order, eqb-true, eq-eqb}, lemmas.Option.slice_get_within}}
 use Rattle.std.proofs.Common.{◌≡◌, ◌⊎◌, inl, inr, ℕ, ◌+◌, ◌<◌, List, [], ◌∷◌, ◌++◌, None, Some, Option, Err, IsTrue, sym, subst, ◌∙◌, arith, zero, suc, ◌-◌, ◌≤◌, length, map, Bool, cond, refl, ap, ap₂, true, false, String, string_bytes, Result, Ok, IfOk, OnOk, OnErr}
-use Rattle.sqlite.specs.State.{State, HasCleanDisk, Survives}
-use Rattle.sqlite.specs.Tree.{Trees}
-use Rattle.edi_syntax.specs.Interchange.{interchange_of}
-use Rattle.partner_core.specs.Deliveries.{delivery, run, Delivery}
-use Rattle.office_replies.specs.Events.{Event, delivered}
-use Rattle.office_replies.specs.declared.deliver.Fault.{Fault}
-use Rattle.office_replies.specs.declared.deliver.Response.{Response}
-use Rattle.office_rows.specs.Rows.{Rows, Partner, Interchange}
-use Rattle.office_rows.specs.Effects.{with_waiting}
-use Rattle.office_rows.specs.Stored.{HasRows, StoresRows}
-use Rattle.office_rows.proofs.Creating.{stores}
-use Rattle.office_admission.specs.Given.{IsGiven}
-use Rattle.office_admission.specs.Setups.{SetupContent, setup_content}
-use Rattle.office_admission.specs.Admission.{admission}
-use Rattle.office_history.specs.After.{AreAfter, content_after, deliveries_of, machine_after, machine_with, parties_in, accounts_from, AreKeptOnce, reply_in, reply_if_any}
-use Rattle.office_history.specs.Cascade.{AreTakenFrom, text_in, texts_with, with_run}
-use Rattle.office_history.specs.Laws.{IsFor, AddsRun, AnswersBy, answer_model_of}
-use Rattle.office_history.proofs.Lawful.{refused_adds, used_adds, early_adds, next_adds, now_same}
-use Rattle.office_desk.specs.Crashes.{IsAfter, Leaves, LeavesBehind, LeavesEither}
-use Rattle.office_desk.specs.Beside.{IsAt, nexts_after, IsBeside}
-use Rattle.office_desk.specs.Telling.{Comes, Holds, IsRunDone, Answers, TakesNext}
-use Rattle.office_desk.specs.declared.beside.Beside.{Beside}
-use Rattle.std.specs.Prelude.{◌==◌, count_by, Contains, IsSorted, slice_get, slice_set, slice_index_or}
-use Rattle.std.specs.List.{range_with_len}
-use Rattle.std.specs.List.Sorted.{IsPermutation, IsNonDecreasing}
-use Rattle.std.specs.Ordering.{nat_cmp}
-use Rattle.std.proofs.lemmas.Bool.{cases_order, eqb-true, eq-eqb}
-use Rattle.std.proofs.lemmas.Option.{slice_get_within}
 use Rattle.std.proofs.lemmas.List.Sorted.{Contains-permutation, IsNonDecreasingBy-from_sort, IsPermutation-map, IsPermutation-refl, IsPermutation-sym, IsPermutation-trans, sum_by-IsPermutation}
-use Rattle.edi_messages.specs.declared.codes.PartnerKind.{PartnerKind}
-use Rattle.partner_core.specs.Numbered.{with_number}
-use Rattle.terminal_core.proofs.Indexed.{one_place}
-use Rattle.terminal_core.proofs.Whole.{found_at}
-use Rattle.office_rows.specs.Shown.{AreNexts}
-use Rattle.office_admission.specs.Taking.{MachineState, interchange_taken, machine_of}
-use Rattle.office_history.proofs.Kept.{Rises, above, fewer, head_in, one_at, rising_same, tail_in}
-use Rattle.office_history.proofs.Accounted.{next_in, answers, text_within}
-use Rattle.office_tables.specs.Taken.{taken_contents}
-use Rattle.office_tables.specs.declared.running.Taken.{Taken}
-use Rattle.std.specs.declared.alloc.Global.{Global}
-use Rattle.std.specs.Option.{option_map, option_and_then}
-use Rattle.std.specs.Cmp.Lexicographic.{same_text, other_text}
 use Rattle.std.proofs.lemmas.Simd.{map-map}
-use Rattle.sqlite.specs.Effect.{Database}
-use Rattle.partner_core.specs.Answers.{AnswerModel, Waiting, answer_by}
-use Rattle.partner_core.specs.Standings.{standing_of, is_same_text}
-use Rattle.partner_core.specs.declared.runs.Standing.TheVariants.{Known, Other}
-use Rattle.terminal_core.specs.State.{TerminalState}
-use Rattle.office_replies.specs.Contents.{content_of}
-use Rattle.office_admission.specs.Parties.{partner_kinds}
-use Rattle.office_admission.specs.declared.setup.Setup.{Setup}
-use Rattle.office_tables.specs.Answers.{IsKept, RepliesAs}
-use Rattle.office_tables.specs.declared.interchanges.Kept.{Kept}
-use Rattle.office_tables.specs.Taking.{IsNumbered}
-use Rattle.office_tables.specs.Writing.{Commits, IsWhole}
+use Rattle.sqlite.specs.{State.{State, HasCleanDisk, Survives}, Tree.Trees, Effect.Database}
+use Rattle.edi_syntax.specs.Interchange.{interchange_of}
+use Rattle.partner_core.specs.{Deliveries.{delivery, run, Delivery}, Numbered.with_number, Answers.{AnswerModel, Waiting, answer_by}}
+use Rattle.partner_core.specs.{Standings.{standing_of, is_same_text}, declared.runs.Standing.TheVariants.{Known, Other}}
+use Rattle.office_replies.specs.{Events.{Event, delivered}, declared.deliver.Fault.Fault, declared.deliver.Response.Response, Contents.content_of}
+use Rattle.office_rows.{specs.{Rows.{Rows, Partner, Interchange}, Effects.with_waiting, Stored.{HasRows, StoresRows}, Shown.AreNexts}, proofs.Creating.stores}
+use Rattle.office_admission.specs.{Given.IsGiven, Setups.{SetupContent, setup_content}, Admission.admission, Parties.partner_kinds, declared.setup.Setup.Setup}
+use Rattle.office_admission.specs.Taking.{MachineState, interchange_taken, machine_of}
+use Rattle.office_history.specs.After.{AreAfter, content_after, deliveries_of, machine_after, machine_with, parties_in, accounts_from, AreKeptOnce, reply_in, reply_if_any}
+use Rattle.office_history.specs.{Cascade.{AreTakenFrom, text_in, texts_with, with_run}, Laws.{IsFor, AddsRun, AnswersBy, answer_model_of}}
+use Rattle.office_history.proofs.{Lawful.{refused_adds, used_adds, early_adds, next_adds, now_same}, Accounted.{next_in, answers, text_within}}
+use Rattle.office_history.proofs.Kept.{Rises, above, fewer, head_in, one_at, rising_same, tail_in}
+use Rattle.office_desk.specs.{Crashes.{IsAfter, Leaves, LeavesBehind, LeavesEither}, Beside.{IsAt, nexts_after, IsBeside}, declared.beside.Beside.Beside}
+use Rattle.office_desk.specs.{Telling.{Comes, Holds, IsRunDone, Answers, TakesNext}, Answers.answer_by_model, Taking.{AnswersOrHolds, LeavesTaken}}
+use Rattle.edi_messages.specs.declared.codes.PartnerKind.{PartnerKind}
+use Rattle.terminal_core.{specs.State.TerminalState, proofs.{Indexed.one_place, Whole.found_at}}
+use Rattle.office_tables.specs.{Taken.taken_contents, declared.running.Taken.Taken, Answers.{IsKept, RepliesAs}, declared.interchanges.Kept.Kept}
+use Rattle.office_tables.specs.{Taking.IsNumbered, Writing.{Commits, IsWhole}, declared.table_fault.TableFault.TableFault}
 use Rattle.office_tables.proofs.WriteLemmas.{one_kept, text_kept}
-use Rattle.office_desk.specs.Answers.{answer_by_model}
-use Rattle.std.specs.Result.{IsErrAnd}
-use Rattle.office_tables.specs.declared.table_fault.TableFault.{TableFault}
-use Rattle.office_desk.specs.Taking.{AnswersOrHolds, LeavesTaken}
 use Rattle.office_replies.specs.declared.deliver.Response.TheVariants as response
 
 -- ==== CrashLemmas: What a crash leaves behind each delivery.

@@ -1,85 +1,35 @@
 -- What a desk answers by what it keeps.
+use Rattle.std.specs.{Prelude.{◌==◌, Contains, IsSorted, slice_set, find}, List.{range_with_len, AllByRecursion}, List.Sorted.IsPermutation, Ordering.nat_cmp}
+use Rattle.std.{specs.{Option.option_map, Result.IsErrAnd}, proofs.lemmas.Bool.{cond-true, cond-false, eq-eqb, ne_eqb, le-ltb, lt-ltb}}
 use Rattle.std.proofs.Common.{◌≡◌, ℕ, ◌+◌, ◌-◌, ◌≤◌, List, [], ◌∷◌, length, map, Bool, true, false, cond, Option, refl, sym, ap, ap₂, subst, ◌∙◌, arith, ◌<◌, None, Some, Result, Ok, Err, IfOk, IfErr, OnOk, OnErr, string_bytes, ◌++◌, append_assoc}
-use Rattle.std.specs.Prelude.{◌==◌, Contains, IsSorted, slice_set, find}
-use Rattle.std.specs.List.{range_with_len, AllByRecursion}
-use Rattle.std.specs.List.Sorted.{IsPermutation}
-use Rattle.std.specs.Ordering.{nat_cmp}
-use Rattle.std.proofs.lemmas.Bool.{cond-true, cond-false, eq-eqb, ne_eqb, le-ltb, lt-ltb}
-use Rattle.std.proofs.lemmas.List.Sorted.{Contains-permutation, IsPermutation-map, IsPermutation-sym, length_permutation}
+use Rattle.std.proofs.{lemmas.List.Sorted.{Contains-permutation, IsPermutation-map, IsPermutation-sym, length_permutation}, lemmas.List.append-nil}
+use Rattle.std.proofs.{lemmas.List.FromFn.length-map-range_with_len, lemmas.List.Elements.recursion_from_All}
 use Rattle.edi_messages.specs.declared.codes.PartnerKind.{PartnerKind}
-use Rattle.office_rows.specs.Rows.{Partner, Rows, Interchange}
-use Rattle.office_rows.specs.Effects.{with_waiting, is_pair}
-use Rattle.office_rows.specs.Shown.{AreNexts}
-use Rattle.office_admission.specs.Taking.{MachineState, interchange_taken, machine_of}
-use Rattle.office_history.specs.After.{accounts_from, AreKeptOnce, machine_with, reply_in, AreAfter, SaysSame}
+use Rattle.office_rows.specs.{Rows.{Partner, Rows, Interchange}, Effects.{with_waiting, is_pair}, Shown.AreNexts, Stored.{HasRows, columns_of}}
+use Rattle.office_rows.specs.{Opening.opening_rows, Tables.interchange_table, Values.interchange_values, InPlace.AreInPlace}
+use Rattle.office_admission.specs.{Taking.{MachineState, interchange_taken, machine_of}, Setups.{SetupContent, setup_content}, declared.setup.Setup.Setup}
+use Rattle.office_admission.specs.{Given.IsGiven, Accounts.content_after, Deliveries.deliveries_of}
+use Rattle.office_history.specs.{After.{accounts_from, AreKeptOnce, machine_with, reply_in, AreAfter, SaysSame}, Laws.HasNoMigration}
 use Rattle.office_history.specs.Cascade.{TakenContent, AreTakenFrom, with_interchange, with_interchanges, with_run, text_in, texts_with}
-use Rattle.office_history.proofs.Runs.{changes_beside}
-use Rattle.office_history.proofs.Kept.{head_in, tail_in}
-use Rattle.office_desk.proofs.HoldLemmas.{id_of, ids_are, next_by, nexts_are, set_one, machine_same, reply_kept, number_within}
-use Rattle.std.specs.Option.{option_map}
-use Rattle.std.specs.Result.{IsErrAnd}
-use Rattle.std.proofs.lemmas.List.FromFn.{length-map-range_with_len}
-use Rattle.sqlite.specs.Effect.{Database}
-use Rattle.sqlite.specs.State.{State}
-use Rattle.partner_core.specs.Answers.{Taken, Waiting, answer_by}
-use Rattle.partner_core.specs.Deliveries.{Delivery, run}
-use Rattle.partner_core.specs.Numbered.{with_number}
-use Rattle.partner_core.specs.Standings.{standing_of, is_same_text}
-use Rattle.partner_core.specs.declared.runs.Standing.TheVariants.{Known, Other, Early, Next}
-use Rattle.office_replies.specs.Contents.{content_of}
-use Rattle.office_replies.specs.declared.deliver.Response.{Response}
-use Rattle.office_rows.specs.Stored.{HasRows, columns_of}
-use Rattle.office_admission.specs.Setups.{SetupContent, setup_content}
-use Rattle.office_loading.specs.Closed.{ClosedContent}
-use Rattle.office_admission.specs.declared.setup.Setup.{Setup}
-use Rattle.office_tables.specs.Answers.{IsKept, IsNextOf}
-use Rattle.office_tables.specs.Faults.{IsOfStore, IsOfStoreOr}
-use Rattle.office_tables.proofs.WritesLemmas.{of_store_or}
-use Rattle.office_tables.specs.declared.interchanges.Kept.{Kept}
-use Rattle.office_tables.specs.declared.table_fault.TableFault.{TableFault}
-use Rattle.office_loading.specs.Tables.{LoadsOwn}
-use Rattle.office_tables.specs.Taking.{IsNumbered}
-use Rattle.office_tables.specs.Writing.{Commits}
-use Rattle.office_tables.proofs.WriteLemmas.{text_kept}
-use Rattle.office_desk.specs.Answers.{answer_by_model, AnswersNext}
-use Rattle.office_desk.specs.Beside.{IsOf, IsBeside, nexts_after}
-use Rattle.office_desk.specs.Kept.{Office, TakesIn, AnswersByKept, AnswersOrStays, LacksAnswer}
-use Rattle.office_desk.specs.Offices.{HoldsOffice}
-use Rattle.office_desk.specs.Telling.{TakesNext}
-use Rattle.office_desk.specs.declared.beside.Beside.{Beside}
-use Rattle.office_desk.proofs.DeliverLemmas.{KeepsAccounts, keeps_accounts, next_at, next_follows, office_once, office_with}
-use Rattle.office_desk.proofs.RunLoads.{early_loads, has_in_order, in_order, run_loads}
-use Rattle.std.proofs.lemmas.List.{append-nil}
-use Rattle.std.proofs.lemmas.List.Elements.{recursion_from_All}
-use Rattle.sqlite.specs.Order.{Row}
-use Rattle.sqlite.specs.declared.types.Value.TheVariants.{Blob}
-use Rattle.sqlite_trees.specs.declared.store.Store.{Ghosts}
-use Rattle.office_replies.specs.Delivering.{AreAnswered, LeadsOn, events_behind, with_answered}
-use Rattle.office_replies.specs.Events.{Event, delivered}
-use Rattle.office_rows.specs.Opening.{opening_rows}
-use Rattle.office_rows.specs.Tables.{interchange_table}
-use Rattle.office_rows.specs.Values.{interchange_values}
-use Rattle.office_admission.specs.Given.{IsGiven}
-use Rattle.office_admission.specs.Accounts.{content_after}
-use Rattle.office_admission.specs.Deliveries.{deliveries_of}
-use Rattle.office_tables.specs.Order.{HasRowsInOrder}
-use Rattle.office_history.specs.Laws.{HasNoMigration}
-use Rattle.office_rows.specs.InPlace.{AreInPlace}
-use Rattle.office_parts.specs.Journal.{delivered_all, kept_texts}
-use Rattle.office_parts.specs.Kept.{kept}
-use Rattle.office_parts.specs.Rebuilding.{IsSameOffice}
-use Rattle.office_parts.proofs.Again.{rebuilding}
-use Rattle.office_parts.proofs.Alike.{kept_twice}
-use Rattle.office_parts.proofs.Entries.{again, delivered_content}
-use Rattle.office_parts.proofs.JournalOrders.{opening_is_in_order, stored_is_journal}
-use Rattle.office_desk.specs.Calls.{Leads}
-use Rattle.office_desk.specs.Desks.{IsSound}
-use Rattle.office_desk.specs.Noting.{IsNow}
-use Rattle.office_desk.specs.Order.{IsInOrder, StandsInOrder}
+use Rattle.office_history.proofs.{Runs.changes_beside, Kept.{head_in, tail_in}}
+use Rattle.office_desk.specs.{Answers.{answer_by_model, AnswersNext}, Beside.{IsOf, IsBeside, nexts_after}, Offices.HoldsOffice, Telling.TakesNext, Calls.Leads}
+use Rattle.office_desk.specs.{Kept.{Office, TakesIn, AnswersByKept, AnswersOrStays, LacksAnswer}, declared.beside.Beside.Beside, Desks.IsSound, Noting.IsNow}
+use Rattle.office_desk.{specs.{Order.{IsInOrder, StandsInOrder}, declared.desk.Desk.Desk}, proofs.RunLoads.{early_loads, has_in_order, in_order, run_loads}}
 use Rattle.office_desk.specs.Rebuilding.{DesksAreRebuilt, DesksKeepJournals, LooksStayInOrder, NewStoresAreInOrder, OpenedStandInOrder}
-use Rattle.office_desk.specs.declared.desk.Desk.{Desk}
-use Rattle.office_desk.proofs.OwnNumbers.{answers_alike}
-use Rattle.office_desk.proofs.AccountLemmas.{sound_before}
+use Rattle.office_desk.proofs.{HoldLemmas.{id_of, ids_are, next_by, nexts_are, set_one, machine_same, reply_kept, number_within}, OwnNumbers.answers_alike}
+use Rattle.office_desk.proofs.{DeliverLemmas.{KeepsAccounts, keeps_accounts, next_at, next_follows, office_once, office_with}, AccountLemmas.sound_before}
+use Rattle.sqlite.specs.{Effect.Database, State.State, Order.Row, declared.types.Value.TheVariants.Blob}
+use Rattle.partner_core.specs.{Answers.{Taken, Waiting, answer_by}, Deliveries.{Delivery, run}, Numbered.with_number, Standings.{standing_of, is_same_text}}
+use Rattle.partner_core.specs.declared.runs.Standing.TheVariants.{Known, Other, Early, Next}
+use Rattle.office_replies.specs.{Contents.content_of, declared.deliver.Response.Response, Delivering.{AreAnswered, LeadsOn, events_behind, with_answered}}
+use Rattle.office_replies.specs.Events.{Event, delivered}
+use Rattle.office_loading.specs.{Closed.ClosedContent, Tables.LoadsOwn}
+use Rattle.office_tables.specs.{Answers.{IsKept, IsNextOf}, Faults.{IsOfStore, IsOfStoreOr}, declared.interchanges.Kept.Kept, Taking.IsNumbered}
+use Rattle.office_tables.{specs.{declared.table_fault.TableFault.TableFault, Writing.Commits, Order.HasRowsInOrder}, proofs.WritesLemmas.of_store_or}
+use Rattle.office_tables.proofs.WriteLemmas.{text_kept}
+use Rattle.sqlite_trees.specs.declared.store.Store.{Ghosts}
+use Rattle.office_parts.{specs.{Journal.{delivered_all, kept_texts}, Kept.kept, Rebuilding.IsSameOffice}, proofs.{Again.rebuilding, Alike.kept_twice}}
+use Rattle.office_parts.proofs.{Entries.{again, delivered_content}, JournalOrders.{opening_is_in_order, stored_is_journal}}
 use Rattle.office_replies.specs.declared.deliver.Response.TheVariants as response
 
 -- ==== RunNexts: The partners' next numbers after a run: its own partner's follows it.

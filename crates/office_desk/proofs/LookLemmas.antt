@@ -1,23 +1,14 @@
 -- What a report tells.
+use Rattle.std.specs.{Prelude.{IfErr, OnOk}, Result.result_map_both}
 use Rattle.std.proofs.Common.{◌≡◌, ℕ, List, false, Option, Some, Result, Ok, Err, IfOk, option_map, refl, sym, ap, subst, ◌∙◌}
-use Rattle.std.specs.Prelude.{IfErr, OnOk}
-use Rattle.std.specs.Result.{result_map_both}
-use Rattle.sqlite.specs.Held.{state}
-use Rattle.sqlite.specs.State.{HasCleanDisk}
+use Rattle.sqlite.specs.{Held.state, State.HasCleanDisk}
 use Rattle.sqlite_trees.specs.declared.store.Store.{Ghosts}
 use Rattle.terminal_core.specs.State.{TerminalState}
 use Rattle.office_rows.specs.Rows.{Rows}
-use Rattle.office_admission.specs.Given.{IsGiven}
-use Rattle.office_admission.specs.Setups.{setup_content}
-use Rattle.office_reports.specs.Looking.{Look}
-use Rattle.office_reports.specs.declared.query.NotNow.{NotNow}
-use Rattle.office_tables.specs.declared.table_fault.TableFault.{TableFault}
-use Rattle.office_tables.specs.Faults.{IsOfStoreOr}
-use Rattle.office_desk.specs.Calls.{Looks, OnlyLooks}
-use Rattle.office_desk.specs.Desks.{IsSound}
-use Rattle.office_desk.specs.Looking.{DeskShows, IsOpenAt, ShowsUnfitReply}
-use Rattle.office_desk.specs.Noting.{Notes}
-use Rattle.office_desk.specs.Offices.{DeskHolds}
+use Rattle.office_admission.specs.{Given.IsGiven, Setups.setup_content}
+use Rattle.office_reports.specs.{Looking.Look, declared.query.NotNow.NotNow}
+use Rattle.office_tables.specs.{declared.table_fault.TableFault.TableFault, Faults.IsOfStoreOr}
+use Rattle.office_desk.specs.{Calls.{Looks, OnlyLooks}, Desks.IsSound, Looking.{DeskShows, IsOpenAt, ShowsUnfitReply}, Noting.Notes, Offices.DeskHolds}
 use Rattle.office_desk.specs.declared.desk.Desk.{Desk}
 
 -- a desk looks at nothing

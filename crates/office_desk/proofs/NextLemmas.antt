@@ -1,32 +1,16 @@
 -- That nothing is kept under a partner's next number.
-use Rattle.std.proofs.Common.{◌≡◌, ℕ, ◌+◌, ◌≤◌, List, [], ◌∷◌, Option, None, Some, Contains, refl, sym, ap, subst, ◌∙◌}
-use Rattle.std.specs.Option.{option_map}
-use Rattle.sqlite.specs.Effect.{Database}
-use Rattle.sqlite.specs.State.{State}
-use Rattle.partner_core.specs.Deliveries.{Delivery, run}
-use Rattle.partner_core.specs.Numbered.{with_number}
-use Rattle.partner_core.proofs.Orders.{free_after_run}
+use Rattle.std.{specs.Option.option_map, proofs.Common.{◌≡◌, ℕ, ◌+◌, ◌≤◌, List, [], ◌∷◌, Option, None, Some, Contains, refl, sym, ap, subst, ◌∙◌}}
+use Rattle.sqlite.specs.{Effect.Database, State.State}
+use Rattle.partner_core.{specs.{Deliveries.{Delivery, run}, Numbered.with_number}, proofs.Orders.free_after_run}
 use Rattle.terminal_core.specs.State.{TerminalState}
 use Rattle.office_replies.specs.Events.{Event}
-use Rattle.office_rows.specs.Rows.{Interchange, Rows}
-use Rattle.office_rows.specs.Stored.{HasRows}
+use Rattle.office_rows.specs.{Rows.{Interchange, Rows}, Stored.HasRows}
 use Rattle.office_admission.specs.Setups.{SetupContent}
 use Rattle.office_loading.specs.Closed.{ClosedContent}
-use Rattle.office_tables.specs.Answers.{IsKept, pair_of}
-use Rattle.office_tables.specs.declared.interchanges.Kept.{Kept}
-use Rattle.office_history.specs.After.{AreKeptOnce, deliveries_of}
-use Rattle.office_history.specs.Cascade.{text_in}
-use Rattle.office_history.proofs.Kept.{head_in}
-use Rattle.office_tables.proofs.WriteLemmas.{no_text, one_kept}
-use Rattle.office_desk.specs.Finding.{KeepsBeside}
-use Rattle.office_desk.specs.Kept.{Office}
-use Rattle.office_desk.specs.Offices.{HoldsOffice}
-use Rattle.office_desk.specs.Taking.{IsNew}
-use Rattle.office_desk.specs.Telling.{Holds}
-use Rattle.office_desk.specs.declared.beside.Beside.{Beside}
-use Rattle.office_desk.proofs.HoldLemmas.{next_is}
-use Rattle.office_desk.proofs.KeptLemmas.{next_found}
-use Rattle.office_desk.proofs.DeliverLemmas.{keeps_accounts, next_follows}
+use Rattle.office_tables.{specs.{Answers.{IsKept, pair_of}, declared.interchanges.Kept.Kept}, proofs.WriteLemmas.{no_text, one_kept}}
+use Rattle.office_history.{specs.{After.{AreKeptOnce, deliveries_of}, Cascade.text_in}, proofs.Kept.head_in}
+use Rattle.office_desk.specs.{Finding.KeepsBeside, Kept.Office, Offices.HoldsOffice, Taking.IsNew, Telling.Holds, declared.beside.Beside.Beside}
+use Rattle.office_desk.proofs.{HoldLemmas.next_is, KeptLemmas.next_found, DeliverLemmas.{keeps_accounts, next_follows}}
 
 -- a number with no text has no interchange
 none_in : (partner number : ℕ) (rows : Rows) → AreKeptOnce rows.interchanges → text_in rows partner number ≡ None → IsKept partner number rows None

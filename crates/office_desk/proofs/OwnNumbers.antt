@@ -1,60 +1,26 @@
 -- What a store keeps of its partners' interchanges, of which some were put away: by number, and by what its tables show.
-use Rattle.std.proofs.Common.{◌≡◌, ℕ, ◌-◌, ◌≤◌, List, [], Ok, Err, Some, refl, sym, ap, subst, ◌∙◌, string_bytes, ◌+◌, ◌∷◌, ◌++◌, Result, ap₂, ◌⊎◌, zero, suc, ◌<◌, inl, inr, length, map, All, Option, None, is_some, true, arith}
-use Rattle.std.specs.Prelude.{slice_get, nat_le, if◌then◌else◌, find, filter, Contains}
-use Rattle.std.specs.Option.{unwrap_or, option_map, option_and_then}
-use Rattle.std.proofs.lemmas.Option.{slice_get-map}
-use Rattle.edi_syntax.specs.Text.{Content}
-use Rattle.edi_syntax.specs.Interchange.{interchange_of, segments_in}
-use Rattle.edi_syntax.specs.Envelope.{header_of}
-use Rattle.edi_syntax.specs.Header.{control_number}
-use Rattle.partner_core.specs.Numbered.{with_number}
-use Rattle.partner_core.proofs.Keepings.{with_number-below}
-use Rattle.office_replies.specs.Contents.{GivesOrNotNow}
-use Rattle.office_replies.specs.declared.deliver.Fault.{Fault}
-use Rattle.office_replies.specs.declared.deliver.Response.{Response}
-use Rattle.office_admission.specs.Parties.{Parties, parties_of, partner_codes}
-use Rattle.office_admission.specs.declared.setup.Account.{Account}
-use Rattle.office_admission.specs.declared.setup.Setup.{Setup}
-use Rattle.office_admission.specs.Admission.{admission, number_in}
-use Rattle.office_admission.specs.Outcomes.{IsRefused, fault_in}
-use Rattle.office_admission.specs.Refusals.{RefusedSurely, refusal_of}
-use Rattle.office_admission.specs.declared.refusal.Refusal.{Refusal}
-use Rattle.office_admission.specs.declared.refusal.Refusal.TheVariants.{Plain, WithContrl}
-use Rattle.edi_messages.specs.Codes.{table_texts}
-use Rattle.edi_messages.specs.declared.code.CodeTable.{CodeTable}
-use Rattle.partner_core.specs.Deliveries.{Delivery, delivery, first_text, run}
-use Rattle.partner_core.specs.Order.{state}
-use Rattle.partner_core.specs.Answers.{AnswerModel, Taken, Repeat, Waiting, Clash, is_other, answer_of}
-use Rattle.terminal_core.specs.Versions.{newest}
-use Rattle.office_replies.specs.Events.{Event}
+use Rattle.std.specs.{Prelude.{slice_get, nat_le, if◌then◌else◌, find, filter, Contains}, Option.{unwrap_or, option_map, option_and_then}}
+use Rattle.std.{specs.{List.{range_with_len, AllByRecursion}, List.Sorted.IsPermutation}, proofs.{lemmas.Option.slice_get-map, lemmas.Bool.cases_order}}
+use Rattle.std.proofs.Common.{◌≡◌, ℕ, ◌-◌, ◌≤◌, List, [], Ok, Err, Some, refl, sym, ap, subst, ◌∙◌, string_bytes, ◌+◌, ◌∷◌, ◌++◌, Result, ap₂, ◌⊎◌, zero, suc, ◌<◌, inl, inr, length, map, Option, None, is_some, true, arith}
+use Rattle.std.proofs.{lemmas.List.Elements.All-contains, lemmas.List.Sorted.{IsPermutation-sym, Contains-permutation}}
+use Rattle.edi_syntax.specs.{Text.Content, Interchange.{interchange_of, segments_in}, Envelope.header_of, Header.control_number}
+use Rattle.partner_core.{specs.{Numbered.with_number, Deliveries.{Delivery, delivery, first_text, run}, Order.state}, proofs.Keepings.with_number-below}
+use Rattle.partner_core.{specs.Answers.{AnswerModel, Taken, Repeat, Waiting, Clash, is_other, answer_of}, proofs.Orders.none_of}
+use Rattle.office_replies.specs.{Contents.GivesOrNotNow, declared.deliver.Fault.Fault, declared.deliver.Response.Response, Events.Event}
+use Rattle.office_admission.specs.{Parties.{Parties, parties_of, partner_codes}, declared.setup.Account.Account, declared.setup.Setup.Setup}
+use Rattle.office_admission.specs.{Admission.{admission, number_in}, Outcomes.{IsRefused, fault_in}, Refusals.{RefusedSurely, refusal_of}}
+use Rattle.office_admission.specs.{declared.refusal.Refusal.Refusal, declared.refusal.Refusal.TheVariants.{Plain, WithContrl}}
 use Rattle.office_admission.specs.Setups.{SetupContent, parties_in}
+use Rattle.edi_messages.specs.{Codes.table_texts, declared.code.CodeTable.CodeTable, declared.codes.PartnerKind.PartnerKind}
+use Rattle.terminal_core.specs.Versions.{newest}
 use Rattle.office_history.specs.After.{SaysSame, content_after, deliveries_of, machine_after, opening_of, taking_in, AreKeptOnce, accounts_from, reply_if_any, reply_in}
-use Rattle.office_history.specs.Laws.{answer_model_of}
+use Rattle.office_history.{specs.{Laws.answer_model_of, Cascade.text_in}, proofs.{Kept.{Has, taken_by, found_only, head_in, tail_in}, Runs.is_pair_at}}
 use Rattle.office_history.proofs.Alike.{after_with_codes, delivered_with_codes, now_with_codes, opening_like, reply_like, state_like, taking_with_codes, with_codes}
-use Rattle.office_parts.specs.Kept.{kept}
-use Rattle.office_desk.specs.Answers.{code_of, answer_by_model, answer_at, answer_to}
-use Rattle.office_desk.specs.Alike.{AnswersAlike}
-use Rattle.std.specs.List.{range_with_len, AllByRecursion}
-use Rattle.std.specs.List.Sorted.{IsPermutation}
-use Rattle.std.proofs.lemmas.Bool.{cases_order}
-use Rattle.std.proofs.lemmas.List.Elements.{All-contains}
-use Rattle.std.proofs.lemmas.List.Sorted.{IsPermutation-sym, Contains-permutation}
-use Rattle.edi_messages.specs.declared.codes.PartnerKind.{PartnerKind}
-use Rattle.partner_core.proofs.Orders.{none_of}
-use Rattle.office_rows.specs.Rows.{Partner, Interchange, Rows}
-use Rattle.office_rows.specs.Effects.{is_pair}
-use Rattle.office_rows.specs.Opened.{NumberKept, number_kept}
-use Rattle.office_rows.specs.Office.{AreWaiting}
-use Rattle.office_loading.specs.Checks.{AreKeptBeyond, taken_beyond}
-use Rattle.office_loading.specs.OwnOffice.{AreInOrder, AreOwnNumbers, IsClosedBelow}
-use Rattle.office_history.specs.Cascade.{text_in}
-use Rattle.office_history.proofs.Kept.{Has, taken_by, found_only, head_in, tail_in}
 use Rattle.office_history.proofs.KeptNumbers.{HaveRuns, found_pair, has_in, has_left, has_right, has_taken, replies, within_at}
-use Rattle.office_history.proofs.Runs.{is_pair_at}
-use Rattle.office_parts.specs.Closing.{is_beyond}
-use Rattle.office_parts.proofs.Opening.{IsBeyond}
-use Rattle.office_parts.proofs.Orders.{beyond_numbered}
-use Rattle.office_parts.proofs.OwnOffices.{KeepsOwn, beyond_in, in_beyond}
+use Rattle.office_parts.{specs.{Kept.kept, Closing.is_beyond}, proofs.{Opening.IsBeyond, Orders.beyond_numbered, OwnOffices.{KeepsOwn, beyond_in, in_beyond}}}
+use Rattle.office_desk.specs.{Answers.{code_of, answer_by_model, answer_at, answer_to}, Alike.AnswersAlike}
+use Rattle.office_rows.specs.{Rows.{Partner, Interchange, Rows}, Effects.is_pair, Opened.{NumberKept, number_kept}, Office.AreWaiting}
+use Rattle.office_loading.specs.{Checks.{AreKeptBeyond, taken_beyond}, OwnOffice.{AreInOrder, AreOwnNumbers, IsClosedBelow}}
 pub use Rattle.office_history.proofs.Alike.{codes_after}
 
 -- ==== Admitted: What is known of a text that was admitted, or refused.

@@ -1,69 +1,32 @@
 -- What a desk hands out: pages of its journal.
+use Rattle.std.specs.{Prelude.{◌==◌, ◌||◌, drop, filter}, Result.IsErrAnd, List.list_any, Cmp.nat_cmp_is, Ordering.{is_ge, is_gt}}
 use Rattle.std.proofs.Common.{◌≡◌, ◌⊎◌, option_map, string_bytes, ℕ, ◌+◌, ◌<◌, ◌≤◌, inl, inr, List, [], ◌∷◌, cond, Option, None, Some, Result, Ok, Err, OnOk, refl, sym, ap, subst, ◌∙◌, arith, zero, suc, length, map, Bool, true, false, Ordering, Less, Equal, Greater, ◌-◌, ◌++◌, take, get_or, slice_get}
-use Rattle.std.specs.Prelude.{◌==◌, ◌||◌, drop, filter}
-use Rattle.std.specs.Result.{IsErrAnd}
-use Rattle.std.proofs.lemmas.Bool.{cond-true, eq-eqb, le-ltb, lt-ltb, cases_order, ne_eqb}
-use Rattle.sqlite.specs.Effect.{Database}
-use Rattle.sqlite.specs.State.{State}
-use Rattle.sqlite.specs.Tree.{Trees, rowid}
-use Rattle.partner_core.specs.Answers.{Taken, Waiting, answer_by}
-use Rattle.partner_core.specs.Deliveries.{Delivery, delivery}
-use Rattle.partner_core.specs.Standings.{is_same_text, standing_of}
-use Rattle.partner_core.specs.declared.runs.Standing.TheVariants.{Early, Next}
-use Rattle.terminal_core.specs.State.{TerminalState}
-use Rattle.terminal_core.specs.Versions.{newest}
-use Rattle.office_replies.specs.declared.deliver.Response.{Response}
-use Rattle.office_loading.specs.Closed.{ClosedContent}
-use Rattle.office_rows.specs.Rows.{Rows}
-use Rattle.office_rows.specs.Effects.{with_waiting}
-use Rattle.office_rows.specs.Stored.{HasRows, StoresRows}
-use Rattle.office_rows.proofs.Creating.{stores}
-use Rattle.office_admission.specs.Setups.{SetupContent, setup_content, account_contents}
-use Rattle.office_admission.specs.declared.setup.Setup.{Setup}
-use Rattle.office_tables.specs.Answers.{IsKept, IsNextOf}
-use Rattle.office_tables.specs.declared.interchanges.Kept.{Kept}
-use Rattle.office_tables.specs.declared.table_fault.TableFault.{TableFault}
-use Rattle.office_admission.specs.Taking.{MachineState, interchange_taken, machine_of}
-use Rattle.office_admission.proofs.Forming.{terminal_alone}
-use Rattle.office_history.specs.After.{machine_with}
-use Rattle.office_history.specs.Cascade.{TakenContent, AreTakenFrom, text_in, texts_with, with_run}
-use Rattle.office_tables.specs.Writing.{Commits, IsWhole}
-use Rattle.office_tables.proofs.WriteLemmas.{text_kept}
-use Rattle.office_desk.specs.Kept.{Office, TakesIn}
-use Rattle.office_desk.specs.Leaving.{IsTakenInto, LeavesIt, LeavesItOrNot, LeavesOver, LeavesRows, LeavesTakenOver}
-use Rattle.office_desk.specs.Offices.{HoldsOffice}
-use Rattle.office_desk.specs.Telling.{IsRunDone, TakesNext}
-use Rattle.office_desk.specs.declared.beside.Beside.{Beside}
-use Rattle.office_desk.proofs.HoldLemmas.{either_of, machine_same, reply_kept}
-use Rattle.office_desk.proofs.KeptLemmas.{used_takes, journal_kept, same_blobs}
-use Rattle.office_desk.proofs.DeliverLemmas.{office_once}
-use Rattle.std.specs.List.{list_any}
-use Rattle.std.specs.Cmp.{nat_cmp_is}
-use Rattle.std.specs.Ordering.{is_ge, is_gt}
+use Rattle.std.proofs.{lemmas.Bool.{cond-true, eq-eqb, le-ltb, lt-ltb, cases_order, ne_eqb}, lemmas.Option.{slice_get-map, slice_get_read}}
 use Rattle.std.proofs.lemmas.List.{drop-map, length-map, take_more, map-append, length-take}
-use Rattle.sqlite.specs.Order.{Row, column, value_cmp}
-use Rattle.sqlite.specs.declared.types.Value.TheVariants.{Blob}
-use Rattle.sqlite_trees.specs.declared.store.Store.{Ghosts}
-use Rattle.office_rows.specs.Tables.{interchange_table}
-use Rattle.office_rows.specs.Values.{number_value}
-use Rattle.office_history.proofs.Runs.{number_order}
-use Rattle.office_rows.specs.Places.{ArePlaced}
-use Rattle.office_parts.specs.Journal.{kept_texts}
-use Rattle.office_loading.specs.Pages.{IsPage, most_page_bytes}
-use Rattle.office_loading.specs.Texts.{has_reached, is_after, is_from}
+use Rattle.sqlite.specs.{Effect.Database, State.State, Tree.{Trees, rowid}, Order.{Row, column, value_cmp}, declared.types.Value.TheVariants.Blob}
+use Rattle.partner_core.specs.{Answers.{Taken, Waiting, answer_by}, Deliveries.{Delivery, delivery}, Standings.{is_same_text, standing_of}}
+use Rattle.partner_core.specs.declared.runs.Standing.TheVariants.{Early, Next}
+use Rattle.terminal_core.specs.{State.TerminalState, Versions.newest}
+use Rattle.office_replies.specs.declared.deliver.Response.{Response}
+use Rattle.office_loading.specs.{Closed.ClosedContent, Pages.{IsPage, most_page_bytes}, Texts.{has_reached, is_after, is_from}}
 use Rattle.office_loading.proofs.TakenLemmas.{reached_none}
-use Rattle.office_desk.specs.Looking.{PagesOf}
-use Rattle.office_desk.specs.Rebuilding.{DesksHandOutJournals, HandsTexts, KeepsTexts}
-use Rattle.std.proofs.lemmas.Option.{slice_get-map, slice_get_read}
-use Rattle.edi_messages.specs.declared.codes.PartnerKind.{PartnerKind}
-use Rattle.office_admission.specs.Parties.{partner_codes, partner_from}
-use Rattle.office_admission.specs.declared.setup.Account.{Account}
-use Rattle.office_reports.specs.Partners.{PartnerContent, partner_content, row_of}
-use Rattle.office_report_data.specs.Told as value
-use Rattle.office_reports.specs.declared.partners.Partner.{Partner}
-use Rattle.office_desk.specs.Causes.{LacksNumbers, LacksSome}
-use Rattle.office_desk.specs.Reports.{AreLookedUp, IsLookedUp, TellsPartner}
+use Rattle.office_rows.specs.{Rows.Rows, Effects.with_waiting, Stored.{HasRows, StoresRows}, Tables.interchange_table, Values.number_value, Places.ArePlaced}
+use Rattle.office_rows.proofs.Creating.{stores}
+use Rattle.office_admission.specs.{Setups.{SetupContent, setup_content, account_contents}, declared.setup.Setup.Setup, Parties.{partner_codes, partner_from}}
+use Rattle.office_admission.{specs.{Taking.{MachineState, interchange_taken, machine_of}, declared.setup.Account.Account}, proofs.Forming.terminal_alone}
+use Rattle.office_tables.specs.{Answers.{IsKept, IsNextOf}, declared.interchanges.Kept.Kept, declared.table_fault.TableFault.TableFault}
+use Rattle.office_tables.{specs.Writing.{Commits, IsWhole}, proofs.WriteLemmas.text_kept}
+use Rattle.office_history.{specs.{After.machine_with, Cascade.{TakenContent, AreTakenFrom, text_in, texts_with, with_run}}, proofs.Runs.number_order}
+use Rattle.office_desk.specs.{Kept.{Office, TakesIn}, Leaving.{IsTakenInto, LeavesIt, LeavesItOrNot, LeavesOver, LeavesRows, LeavesTakenOver}, Looking.PagesOf}
+use Rattle.office_desk.specs.{Offices.HoldsOffice, Telling.{IsRunDone, TakesNext}, declared.beside.Beside.Beside, Causes.{LacksNumbers, LacksSome}}
+use Rattle.office_desk.specs.{Rebuilding.{DesksHandOutJournals, HandsTexts, KeepsTexts}, Reports.{AreLookedUp, IsLookedUp, TellsPartner}}
+use Rattle.office_desk.proofs.{HoldLemmas.{either_of, machine_same, reply_kept}, KeptLemmas.{used_takes, journal_kept, same_blobs}, DeliverLemmas.office_once}
 use Rattle.office_desk.proofs.AccountLemmas.{found_by_code}
+use Rattle.sqlite_trees.specs.declared.store.Store.{Ghosts}
+use Rattle.office_parts.specs.Journal.{kept_texts}
+use Rattle.edi_messages.specs.declared.codes.PartnerKind.{PartnerKind}
+use Rattle.office_reports.specs.{Partners.{PartnerContent, partner_content, row_of}, declared.partners.Partner.Partner}
+use Rattle.office_report_data.specs.Told as value
 use Rattle.office_replies.specs.declared.deliver.Response.TheVariants as response
 
 -- ==== LeavingLemmas: What a crash leaves of an office's rows after one delivery.

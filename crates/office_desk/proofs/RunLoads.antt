@@ -1,46 +1,25 @@
 -- The rows after a run are those of an office again.
+use Rattle.std.{specs.{Prelude.{◌==◌, ◌&&◌}, List.Sorted.IsPermutation, Option.option_or}, proofs.lemmas.List.length-map}
 use Rattle.std.proofs.Common.{◌≡◌, ℕ, ◌+◌, ◌<◌, ◌≤◌, List, [], ◌∷◌, length, map, Bool, true, false, cond, None, Some, is_some, refl, sym, ap, subst, ◌∙◌, arith, zero, suc, ◌-◌, inl, inr, Option, ◌≢◌}
-use Rattle.std.specs.Prelude.{◌==◌, ◌&&◌}
-use Rattle.std.specs.List.Sorted.{IsPermutation}
 use Rattle.std.proofs.lemmas.Bool.{cond-false, cases_order, cond-true, eq-eqb, ne_eqb, cases_eq, eqb-true}
 use Rattle.std.proofs.lemmas.List.Sorted.{IsPermutation-map, IsPermutation-refl, IsPermutation-sym, IsPermutation-trans}
-use Rattle.sqlite.specs.Order.{Row}
-use Rattle.sqlite.specs.Table.{Table}
-use Rattle.sqlite.specs.Effect.{Database}
-use Rattle.terminal_core.specs.State.{TerminalState, IsWhole}
-use Rattle.office_rows.specs.Rows.{Rows}
-use Rattle.office_rows.specs.Values.{partner_values, visit_values, place_values, line_values, setting_values, block_values}
-use Rattle.office_rows.specs.Stored.{HasRows, Holds, columns_of}
-use Rattle.office_rows.specs.Effects.{with_waiting}
-use Rattle.office_rows.specs.Shown.{ShowsTable, columns_at}
-use Rattle.office_rows.specs.Office.{settings_by_name, HasAccounts}
-use Rattle.office_rows.specs.Opened.{OpenedRows, Shows}
-use Rattle.office_rows.specs.Tables.{partner_table, visit_table, place_table, listing_table, block_table, setting_table}
-use Rattle.office_admission.specs.Setups.{SetupContent}
-use Rattle.office_loading.specs.Closed.{ClosedContent}
-use Rattle.office_history.specs.Cascade.{text_in, TakenContent, AreTakenFrom, texts_with, with_run}
-use Rattle.office_history.proofs.Afters.{once_with, pair_is, reply_with, text_with, RunTaken, run_taken}
-use Rattle.office_history.proofs.Kept.{shown_in}
-use Rattle.office_loading.specs.Tables.{LoadsOwn}
+use Rattle.sqlite.specs.{Order.Row, Table.Table, Effect.Database}
+use Rattle.terminal_core.specs.{State.{TerminalState, IsWhole}, Versions.newest, Forms.IsWellFormed}
+use Rattle.office_rows.specs.{Rows.Rows, Values.{partner_values, visit_values, place_values, line_values, setting_values, block_values}, Effects.with_waiting}
+use Rattle.office_rows.specs.{Stored.{HasRows, Holds, columns_of}, Shown.{ShowsTable, columns_at}, Office.{settings_by_name, HasAccounts}}
+use Rattle.office_rows.specs.{Opened.{OpenedRows, Shows}, Tables.{partner_table, visit_table, place_table, listing_table, block_table, setting_table}}
+use Rattle.office_admission.{specs.{Setups.SetupContent, Taking.{MachineState, interchange_taken}}, proofs.Forming.{interchange_formed, terminal_alone}}
+use Rattle.office_admission.proofs.Takings.{interchange_leads}
+use Rattle.office_loading.specs.{Closed.ClosedContent, Tables.LoadsOwn, Checks.AreOwnVisits}
+use Rattle.office_history.{specs.{Cascade.{text_in, TakenContent, AreTakenFrom, texts_with, with_run}, After.{machine_with, reply_in}}, proofs.Kept.shown_in}
+use Rattle.office_history.proofs.{Afters.{once_with, pair_is, reply_with, text_with, RunTaken, run_taken}, Accounted.{IsAccounted, interchange_keeps}}
+use Rattle.office_history.proofs.Ground.{OnGround, interchange_stays}
 use Rattle.office_parts.proofs.OwnOffices.{AreOfOwn, own_shown}
-use Rattle.office_desk.proofs.DeliverLemmas.{keeps_accounts, interchange_keeps_own}
-use Rattle.office_desk.proofs.OwnNumbers.{KeepsBeyond, by_interchange}
-use Rattle.std.specs.Option.{option_or}
+use Rattle.office_desk.proofs.{DeliverLemmas.{keeps_accounts, interchange_keeps_own}, OwnNumbers.{KeepsBeyond, by_interchange}}
 use Rattle.partner_core.specs.Cascade.{TakesTexts, for_each_partner}
-use Rattle.partner_core.specs.Deliveries.{run}
 use Rattle.partner_core.specs.Machine.{Taking}
 use Rattle.partner_core.specs.Order.{numbers_above, reply_among}
-use Rattle.terminal_core.specs.Versions.{newest}
-use Rattle.terminal_core.specs.Forms.{IsWellFormed}
-use Rattle.office_loading.specs.Checks.{AreOwnVisits}
-use Rattle.office_admission.specs.Taking.{MachineState, interchange_taken}
-use Rattle.office_admission.proofs.Forming.{interchange_formed, terminal_alone}
-use Rattle.office_admission.proofs.Takings.{interchange_leads}
-use Rattle.office_history.proofs.Accounted.{IsAccounted, interchange_keeps}
-use Rattle.office_history.proofs.Ground.{OnGround, interchange_stays}
-use Rattle.std.proofs.lemmas.List.{length-map}
 use Rattle.partner_core.proofs.Orders.{some_of}
-use Rattle.office_history.specs.After.{machine_with, reply_in}
 
 -- ==== OfficeSteps: An office's rows in the order of their keys, and what is kept for later.
 

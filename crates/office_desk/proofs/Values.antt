@@ -1,13 +1,11 @@
 -- What is told as a text is shown as that, whatever it is to be shown as.
 use Rattle.std.proofs.Common.{◌≡◌, List, ℕ, Option, None, Some, option_map, refl, ap}
 use Rattle.edi_messages.specs.Purposes.{CallContent}
-use Rattle.terminal_core.specs.State.{LineContent, TerminalState}
-use Rattle.terminal_core.specs.declared.lines.Side.{Side}
-use Rattle.office_reports.specs.Lists.{IsOfLines}
-use Rattle.office_reports.specs.declared.query.View.{View}
+use Rattle.terminal_core.specs.{State.{LineContent, TerminalState}, declared.lines.Side.Side}
+use Rattle.office_reports.specs.{Lists.IsOfLines, declared.query.View.View}
 use Rattle.office_report_data.specs.Told.{ReportContent, shown}
-use Rattle.office_report_data.specs.Told as value
 use Rattle.office_desk.specs.Reports.{IsText, Shows}
+use Rattle.office_report_data.specs.Told as value
 
 pub text_shown : (view : View) (found : Option (List ℕ)) → found ≡ option_map (shown view) (option_map value.text found)
 unfolding shown

@@ -1,26 +1,16 @@
 -- What a desk answers to an account that is to be added, and what it leaves.
 use Rattle.std.specs.Prelude.{◌≡◌, ◌⊎◌, ℕ, List, [], ◌∷◌, ◌++◌, Option, None, Some, string_bytes}
-use Rattle.sqlite.specs.Held.{state}
-use Rattle.sqlite.specs.State.{State}
-use Rattle.sqlite.specs.Tree.{Trees}
+use Rattle.sqlite.specs.{Held.state, State.State, Tree.Trees}
 use Rattle.sqlite_trees.specs.declared.store.Store.{Ghosts}
 use Rattle.edi_messages.specs.declared.codes.PartnerKind.{PartnerKind}
-use Rattle.office_admission.specs.Accounts.{AccountContent, AccountPair, added_as, known_as, refused_for, account_answer, content_after}
-use Rattle.office_replies.specs.AccountAnswers.{account_added_text, account_known_text}
-use Rattle.office_replies.specs.Events.{Event, added}
-use Rattle.office_replies.specs.declared.accounts.AccountAnswer.{AccountAnswer}
-use Rattle.office_replies.specs.declared.accounts.AccountAnswer.TheVariants.{Added, Known, Refused, NotNow}
-use Rattle.office_rows.specs.Effects.{with_partner}
-use Rattle.office_rows.specs.Rows.{Rows}
-use Rattle.office_rows.specs.Stored.{HasRows, StoresRows}
-use Rattle.office_admission.specs.Kinds.{kind_named}
+use Rattle.office_admission.specs.{Accounts.{AccountContent, AccountPair, added_as, known_as, refused_for, account_answer, content_after}, Kinds.kind_named}
 use Rattle.office_admission.specs.Setups.{SetupContent, setup_content, setup_with_account}
-use Rattle.office_desk.specs.Crashes.{IsAfter, Leaves}
-use Rattle.office_desk.specs.Leaving.{LeavesRows}
-use Rattle.office_desk.specs.declared.accounts.AccountStanding.{AccountStanding}
-use Rattle.office_desk.specs.declared.accounts.AccountStanding.TheVariants as standing
-use Rattle.office_desk.specs.declared.beside.Beside.{Beside}
+use Rattle.office_replies.specs.{AccountAnswers.{account_added_text, account_known_text}, Events.{Event, added}, declared.accounts.AccountAnswer.AccountAnswer}
+use Rattle.office_replies.specs.declared.accounts.AccountAnswer.TheVariants.{Added, Known, Refused, NotNow}
+use Rattle.office_rows.specs.{Effects.with_partner, Rows.Rows, Stored.{HasRows, StoresRows}}
+use Rattle.office_desk.specs.{Crashes.{IsAfter, Leaves}, Leaving.LeavesRows, declared.accounts.AccountStanding.AccountStanding, declared.beside.Beside.Beside}
 use Rattle.office_desk.specs.declared.desk.Desk.{Desk}
+use Rattle.office_desk.specs.declared.accounts.AccountStanding.TheVariants as standing
 
 -- ---- the answer
 

@@ -1,25 +1,16 @@
 -- What a delivery is answered.
-use Rattle.std.specs.Prelude.{◌≡◌, ℕ, List, [], Result, Ok, Err, codes}
-use Rattle.std.specs.Option.{unwrap_or}
-use Rattle.edi_syntax.specs.Interchange.{interchange_of, segments_in}
-use Rattle.edi_syntax.specs.Envelope.{header_of}
-use Rattle.partner_core.specs.Answers.{AnswerModel}
-use Rattle.partner_core.specs.Answers as told
-use Rattle.partner_core.specs.Numbered.{with_number}
-use Rattle.office_replies.specs.Events.{Event}
-use Rattle.office_replies.specs.Bodies.{answer_text, waiting_text, clash_text}
-use Rattle.office_replies.specs.Contents.{AnswerContent, answer_with, content_of}
-use Rattle.office_replies.specs.Kinds as kinds
-use Rattle.office_replies.specs.declared.deliver.Fault.{Fault}
-use Rattle.office_replies.specs.declared.deliver.Response.{Response}
-use Rattle.office_replies.specs.declared.deliver.Response.TheVariants as response
-use Rattle.office_replies.specs.declared.deliver.Worst.TheVariants as worst
-use Rattle.office_admission.specs.Parties.{Parties}
-use Rattle.office_admission.specs.Setups.{SetupContent, parties_in}
-use Rattle.office_admission.specs.Admission.{admission}
-use Rattle.office_admission.specs.Accounts.{content_after}
+use Rattle.std.specs.{Prelude.{◌≡◌, ℕ, List, [], Result, Ok, Err, codes}, Option.unwrap_or}
+use Rattle.edi_syntax.specs.{Interchange.{interchange_of, segments_in}, Envelope.header_of}
+use Rattle.partner_core.specs.{Answers.AnswerModel, Numbered.with_number}
+use Rattle.office_replies.specs.{Events.Event, Bodies.{answer_text, waiting_text, clash_text}, Contents.{AnswerContent, answer_with, content_of}}
+use Rattle.office_replies.specs.{declared.deliver.Fault.Fault, declared.deliver.Response.Response}
+use Rattle.office_admission.specs.{Parties.Parties, Setups.{SetupContent, parties_in}, Admission.admission, Accounts.content_after}
 use Rattle.office_admission.specs.Refusals.{refusal_of, MayBeNotNow}
 use Rattle.office_history.specs.Laws.{answer_model_of}
+use Rattle.partner_core.specs.Answers as told
+use Rattle.office_replies.specs.Kinds as kinds
+use Rattle.office_replies.specs.declared.deliver.Response.TheVariants as response
+use Rattle.office_replies.specs.declared.deliver.Worst.TheVariants as worst
 
 -- the answer to an interchange of the partner with a code that is taken, with its reply
 abbrev pub taken_answer : List ℕ → ℕ → List ℕ → AnswerContent

@@ -1,11 +1,9 @@
 -- When what stands in memory is beside the rows of the tables.
-use Rattle.std.specs.Prelude.{◌≡◌, ℕ, ◌+◌, List, length, map, Option, None, Some}
-use Rattle.std.specs.List.{range_with_len}
+use Rattle.std.specs.{Prelude.{◌≡◌, ℕ, ◌+◌, List, length, map, Option, None, Some}, List.range_with_len}
 use Rattle.partner_core.specs.Deliveries.{run}
 use Rattle.terminal_core.specs.State.{TerminalState}
 use Rattle.office_replies.specs.Events.{Event}
-use Rattle.office_rows.specs.Rows.{Rows}
-use Rattle.office_rows.specs.Shown.{AreNexts}
+use Rattle.office_rows.specs.{Rows.Rows, Shown.AreNexts}
 use Rattle.office_admission.specs.Setups.{SetupContent}
 use Rattle.office_history.specs.After.{content_after, deliveries_of, machine_after, machine_with}
 use Rattle.office_desk.specs.declared.beside.Beside.{Beside}

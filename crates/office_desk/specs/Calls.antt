@@ -1,37 +1,20 @@
 -- What one call does to a desk: all that is said of it, in one piece, so that whoever knows a desk only by its traits can
 -- hand it on.
 use Rattle.std.specs.Prelude.{◌≡◌, ℕ, List, Ok, Option, Result, OnOk}
-use Rattle.sqlite.specs.Held.{state}
-use Rattle.sqlite.specs.State.{HasCleanDisk}
+use Rattle.sqlite.specs.{Held.state, State.HasCleanDisk}
 use Rattle.sqlite_trees.specs.declared.store.Store.{Ghosts}
 use Rattle.edi_syntax.specs.Interchange.{interchange_of}
 use Rattle.terminal_core.specs.State.{TerminalState}
-use Rattle.office_replies.specs.Adding.{Adds}
-use Rattle.office_replies.specs.Delivering.{AreAnswered, Delivers, LeadsOn}
-use Rattle.office_replies.specs.Events.{Event}
-use Rattle.office_replies.specs.declared.accounts.AccountAnswer.{AccountAnswer}
+use Rattle.office_replies.specs.{Adding.Adds, Delivering.{AreAnswered, Delivers, LeadsOn}, Events.Event, declared.accounts.AccountAnswer.AccountAnswer}
 use Rattle.office_replies.specs.declared.deliver.Response.{Response}
-use Rattle.office_reports.specs.Looking.{Look, Tells}
-use Rattle.office_reports.specs.declared.query.NotNow.{NotNow}
-use Rattle.office_admission.specs.Parties.{parties_of}
-use Rattle.office_admission.specs.Setups.{SetupContent, setup_content}
-use Rattle.office_admission.specs.Accounts.{account_answer}
-use Rattle.office_admission.specs.Admission.{admission}
+use Rattle.office_reports.specs.{Looking.{Look, Tells}, declared.query.NotNow.NotNow}
+use Rattle.office_admission.specs.{Parties.parties_of, Setups.{SetupContent, setup_content}, Accounts.account_answer, Admission.admission}
 use Rattle.office_admission.specs.Refusals.{RefusedSurely}
-use Rattle.office_rows.specs.Rows.{Rows}
-use Rattle.office_rows.specs.Stored.{HasRows}
-use Rattle.office_rows.specs.Tables.{office_schema}
-use Rattle.office_desk.specs.Accounts.{AddsOver, AnswersAccount, LeavesAdded, LeavesAddedOver, Says}
-use Rattle.office_desk.specs.Answers.{AnswersNext}
-use Rattle.office_desk.specs.Crashes.{Leaves, LeavesAll, LeavesBehind, LeavesNoMore}
-use Rattle.office_desk.specs.Desks.{IsSound, StandsFor, Refuses}
-use Rattle.office_desk.specs.Kept.{AnswersOver, Office}
-use Rattle.office_desk.specs.Leaving.{LeavesOver}
-use Rattle.office_desk.specs.Looking.{DeskShows, IsOpenAt, ShowsUnfitReply}
-use Rattle.office_desk.specs.Noting.{IsNow, NotesCause, NotesFault, NotesLook, NotesStore}
-use Rattle.office_desk.specs.Offices.{DeskHolds}
-use Rattle.office_desk.specs.Order.{AddsInOrder, DeliversInOrder}
-use Rattle.office_desk.specs.declared.desk.Desk.{Desk}
+use Rattle.office_rows.specs.{Rows.Rows, Stored.HasRows, Tables.office_schema}
+use Rattle.office_desk.specs.{Accounts.{AddsOver, AnswersAccount, LeavesAdded, LeavesAddedOver, Says}, Answers.AnswersNext, Desks.{IsSound, StandsFor, Refuses}}
+use Rattle.office_desk.specs.{Crashes.{Leaves, LeavesAll, LeavesBehind, LeavesNoMore}, Kept.{AnswersOver, Office}, Leaving.LeavesOver, Offices.DeskHolds}
+use Rattle.office_desk.specs.{Looking.{DeskShows, IsOpenAt, ShowsUnfitReply}, Noting.{IsNow, NotesCause, NotesFault, NotesLook, NotesStore}}
+use Rattle.office_desk.specs.{Order.{AddsInOrder, DeliversInOrder}, declared.desk.Desk.Desk}
 
 -- A text was delivered, with that response. From whatever events it is answered at its place; over any office's rows by
 -- what is kept; what a crash leaves, from both; the order of arrival is kept; the set-up stays; what is refused is refused so, and

@@ -2,11 +2,11 @@
 use Rattle.std.specs.Prelude.{◌⊎◌, ℕ, ◌≤◌, length, Option, None, Some, string_bytes}
 use Rattle.office_loading.specs.Waiting.{HasHighWaiting}
 use Rattle.office_reports.specs.declared.query.About.{About}
-use Rattle.office_reports.specs.declared.query.About.TheVariants as about
 use Rattle.office_rows.specs.Rows.{Rows}
 use Rattle.office_admission.specs.Setups.{SetupContent}
 use Rattle.office_tables.specs.Answers.{HasUnfitReply, LacksNext}
 use Rattle.office_desk.specs.Reports.{partner_called}
+use Rattle.office_reports.specs.declared.query.About.TheVariants as about
 
 -- ---- over the rows of an office
 

@@ -1,15 +1,11 @@
 -- What a crash leaves.
 use Rattle.std.specs.Prelude.{◌⊎◌, ℕ, List, [], ◌∷◌, ◌++◌}
-use Rattle.sqlite.specs.State.{State}
-use Rattle.sqlite.specs.Tree.{Trees}
-use Rattle.office_replies.specs.Delivering.{with_answered}
-use Rattle.office_replies.specs.Events.{Event, delivered}
-use Rattle.office_replies.specs.declared.deliver.Response.{Response}
-use Rattle.office_replies.specs.declared.deliver.Response.TheVariants as response
-use Rattle.office_rows.specs.Rows.{Rows}
-use Rattle.office_rows.specs.Stored.{StoresRows}
+use Rattle.sqlite.specs.{State.State, Tree.Trees}
+use Rattle.office_replies.specs.{Delivering.with_answered, Events.{Event, delivered}, declared.deliver.Response.Response}
+use Rattle.office_rows.specs.{Rows.Rows, Stored.StoresRows}
 use Rattle.office_admission.specs.Setups.{SetupContent}
 use Rattle.office_history.specs.After.{AreAfter}
+use Rattle.office_replies.specs.declared.deliver.Response.TheVariants as response
 
 -- a store holds the rows after those events, in the tables that it lists
 pub record IsAfter (content : SetupContent) (es : List Event) (db : Trees) : Type 0 where

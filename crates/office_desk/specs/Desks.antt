@@ -1,22 +1,12 @@
 -- Where a desk stands, and what it answers.
 use Rattle.std.specs.Prelude.{◌≡◌, ℕ, List, Err, IsTrue}
-use Rattle.sqlite.specs.Held.{state}
-use Rattle.sqlite.specs.State.{HasCleanDisk}
+use Rattle.sqlite.specs.{Held.state, State.HasCleanDisk}
 use Rattle.sqlite_trees.specs.declared.store.Store.{Ghosts}
-use Rattle.edi_syntax.specs.Interchange.{interchange_of, segments_in}
-use Rattle.edi_syntax.specs.Envelope.{header_of}
-use Rattle.office_replies.specs.Events.{Event}
-use Rattle.office_replies.specs.Contents.{GivesOrNotNow}
-use Rattle.office_replies.specs.declared.deliver.Fault.{Fault}
-use Rattle.office_replies.specs.declared.deliver.Response.{Response}
-use Rattle.office_admission.specs.Parties.{parties_of}
-use Rattle.office_admission.specs.Setups.{SetupContent, setup_content}
-use Rattle.office_admission.specs.Admission.{admission}
-use Rattle.office_admission.specs.Refusals.{refusal_of}
+use Rattle.edi_syntax.specs.{Interchange.{interchange_of, segments_in}, Envelope.header_of}
+use Rattle.office_replies.specs.{Events.Event, Contents.GivesOrNotNow, declared.deliver.Fault.Fault, declared.deliver.Response.Response}
+use Rattle.office_admission.specs.{Parties.parties_of, Setups.{SetupContent, setup_content}, Admission.admission, Refusals.refusal_of}
 use Rattle.office_history.specs.After.{SaysSame, content_after}
-use Rattle.office_desk.specs.Telling.{Holds}
-use Rattle.office_desk.specs.Crashes.{Leaves}
-use Rattle.office_desk.specs.declared.desk.Desk.{Desk}
+use Rattle.office_desk.specs.{Telling.Holds, Crashes.Leaves, declared.desk.Desk.Desk}
 
 -- so far its disk has returned what was written, and its connection is open
 abbrev pub IsSound : {S : Type 0} (g : Ghosts S) → Desk S g → Type 0

@@ -1,23 +1,15 @@
 -- What a delivery finds in the tables and beside them.
 use Rattle.std.specs.Prelude.{ℕ, ◌≤◌, List, length, Option, None, Some, IsTrue}
-use Rattle.sqlite.specs.Effect.{Database}
-use Rattle.sqlite.specs.State.{State}
+use Rattle.sqlite.specs.{Effect.Database, State.State}
 use Rattle.terminal_core.specs.State.{TerminalState}
 use Rattle.office_replies.specs.Events.{Event}
 use Rattle.office_loading.specs.Closed.{ClosedContent}
-use Rattle.office_rows.specs.Rows.{Rows}
-use Rattle.office_rows.specs.Stored.{HasRows}
-use Rattle.office_admission.specs.Given.{IsGiven}
-use Rattle.office_admission.specs.Setups.{SetupContent}
-use Rattle.office_tables.specs.Answers.{HasUnfitReply, IsKept}
-use Rattle.office_tables.specs.Faults.{IsOfStoreOr}
-use Rattle.office_tables.specs.declared.interchanges.Kept.{Kept}
+use Rattle.office_rows.specs.{Rows.Rows, Stored.HasRows}
+use Rattle.office_admission.specs.{Given.IsGiven, Setups.SetupContent}
+use Rattle.office_tables.specs.{Answers.{HasUnfitReply, IsKept}, Faults.IsOfStoreOr, declared.interchanges.Kept.Kept}
 use Rattle.office_tables.specs.declared.table_fault.TableFault.{TableFault}
 use Rattle.office_history.specs.After.{AreAfter}
-use Rattle.office_desk.specs.Beside.{IsAt, IsBeside, IsOrNone}
-use Rattle.office_desk.specs.Offices.{HoldsOffice}
-use Rattle.office_desk.specs.declared.beside.Beside.{Beside}
-use Rattle.office_desk.specs.declared.taking.Found.{Found}
+use Rattle.office_desk.specs.{Beside.{IsAt, IsBeside, IsOrNone}, Offices.HoldsOffice, declared.beside.Beside.Beside, declared.taking.Found.Found}
 
 -- whatever rows the database has, what stands beside them in the end is theirs if what stood there before was: of those
 -- after some events, and of those of an office

@@ -1,37 +1,20 @@
 -- What a desk answers by what it keeps, whether or not events led to its rows.
 use Rattle.std.specs.Prelude.{◌≡◌, ◌⊎◌, ℕ, ◌≤◌, ◌∷◌, List, Option, None, Some, Result, Ok, Err}
-use Rattle.sqlite.specs.Effect.{Database}
-use Rattle.sqlite.specs.Held.{state}
+use Rattle.sqlite.specs.{Effect.Database, Held.state}
 use Rattle.sqlite_trees.specs.declared.store.Store.{Ghosts}
-use Rattle.edi_syntax.specs.Interchange.{interchange_of, segments_in}
-use Rattle.edi_syntax.specs.Envelope.{header_of}
-use Rattle.partner_core.specs.Answers.{AnswerModel, Taken, Waiting, Clash, answer_by}
-use Rattle.partner_core.specs.Deliveries.{Delivery, delivery}
-use Rattle.partner_core.specs.Standings.{standing_of}
-use Rattle.partner_core.specs.declared.runs.Standing.{Standing}
-use Rattle.partner_core.specs.declared.runs.Standing.TheVariants.{Known, Other, Early, Next}
+use Rattle.edi_syntax.specs.{Interchange.{interchange_of, segments_in}, Envelope.header_of}
+use Rattle.partner_core.specs.{Answers.{AnswerModel, Taken, Waiting, Clash, answer_by}, Deliveries.{Delivery, delivery}, Standings.standing_of}
+use Rattle.partner_core.specs.{declared.runs.Standing.Standing, declared.runs.Standing.TheVariants.{Known, Other, Early, Next}}
 use Rattle.terminal_core.specs.State.{TerminalState}
-use Rattle.office_replies.specs.Contents.{content_of}
-use Rattle.office_replies.specs.declared.deliver.Fault.{Fault}
-use Rattle.office_replies.specs.declared.deliver.Response.{Response}
-use Rattle.office_replies.specs.declared.deliver.Response.TheVariants as response
+use Rattle.office_replies.specs.{Contents.content_of, declared.deliver.Fault.Fault, declared.deliver.Response.Response}
 use Rattle.office_loading.specs.Closed.{ClosedContent, closed_content}
-use Rattle.office_rows.specs.Rows.{Rows}
-use Rattle.office_rows.specs.Effects.{with_waiting}
-use Rattle.office_admission.specs.Parties.{parties_of}
-use Rattle.office_admission.specs.Setups.{SetupContent, setup_content}
-use Rattle.office_admission.specs.Admission.{admission}
-use Rattle.office_admission.specs.Refusals.{refusal_of, MayBeNotNow}
-use Rattle.office_tables.specs.Answers.{HasUnfitReply, IsNextOf}
-use Rattle.office_tables.specs.Faults.{IsOfStoreOr}
-use Rattle.office_tables.specs.declared.table_fault.TableFault.{TableFault}
+use Rattle.office_rows.specs.{Rows.Rows, Effects.with_waiting}
+use Rattle.office_admission.specs.{Parties.parties_of, Setups.{SetupContent, setup_content}, Admission.admission, Refusals.{refusal_of, MayBeNotNow}}
+use Rattle.office_tables.specs.{Answers.{HasUnfitReply, IsNextOf}, Faults.IsOfStoreOr, declared.table_fault.TableFault.TableFault}
 use Rattle.office_tables.specs.declared.table_fault.TableFault.TheVariants.{Memory}
-use Rattle.office_history.specs.After.{machine_with, reply_in}
-use Rattle.office_history.specs.Cascade.{TakenContent, AreTakenFrom, text_in, texts_with, with_run}
-use Rattle.office_desk.specs.Answers.{code_of, answer_by_model}
-use Rattle.office_desk.specs.Offices.{DeskHolds, HoldsOffice}
-use Rattle.office_desk.specs.declared.beside.Beside.{Beside}
-use Rattle.office_desk.specs.declared.desk.Desk.{Desk}
+use Rattle.office_history.specs.{After.{machine_with, reply_in}, Cascade.{TakenContent, AreTakenFrom, text_in, texts_with, with_run}}
+use Rattle.office_desk.specs.{Answers.{code_of, answer_by_model}, Offices.{DeskHolds, HoldsOffice}, declared.beside.Beside.Beside, declared.desk.Desk.Desk}
+use Rattle.office_replies.specs.declared.deliver.Response.TheVariants as response
 
 -- the rows of an office, and its terminal
 pub record Office : Type 0 where

@@ -1,18 +1,13 @@
 -- What a crash leaves of an office, whether or not events led to its rows.
 use Rattle.std.specs.Prelude.{◌⊎◌, ℕ, List, Result, Ok, Err}
-use Rattle.sqlite.specs.State.{State}
-use Rattle.sqlite.specs.Tree.{Trees}
-use Rattle.partner_core.specs.Answers.{AnswerModel}
-use Rattle.partner_core.specs.Deliveries.{Delivery, delivery}
-use Rattle.office_replies.specs.declared.deliver.Fault.{Fault}
-use Rattle.office_replies.specs.declared.deliver.Response.{Response}
-use Rattle.office_replies.specs.declared.deliver.Response.TheVariants as response
-use Rattle.office_rows.specs.Rows.{Rows}
-use Rattle.office_rows.specs.Stored.{StoresRows}
+use Rattle.sqlite.specs.{State.State, Tree.Trees}
+use Rattle.partner_core.specs.{Answers.AnswerModel, Deliveries.{Delivery, delivery}}
+use Rattle.office_replies.specs.{declared.deliver.Fault.Fault, declared.deliver.Response.Response}
+use Rattle.office_rows.specs.{Rows.Rows, Stored.StoresRows}
 use Rattle.office_admission.specs.Setups.{SetupContent}
-use Rattle.office_tables.specs.Answers.{IsNextOf}
-use Rattle.office_tables.specs.declared.table_fault.TableFault.{TableFault}
+use Rattle.office_tables.specs.{Answers.IsNextOf, declared.table_fault.TableFault.TableFault}
 use Rattle.office_desk.specs.Kept.{Office, TakesIn, standing_in}
+use Rattle.office_replies.specs.declared.deliver.Response.TheVariants as response
 
 -- a crash leaves only these rows
 abbrev pub LeavesRows : Rows → State → Type 0

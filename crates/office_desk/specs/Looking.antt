@@ -1,20 +1,14 @@
 -- What a desk tells of whatever is looked at: a report, a page of the kept texts, or an archive's report.
 use Rattle.std.specs.Prelude.{◌≡◌, ℕ, List, Option, None}
-use Rattle.sqlite.specs.Effect.{Database}
-use Rattle.sqlite.specs.Held.{state}
-use Rattle.sqlite.specs.State.{State}
+use Rattle.sqlite.specs.{Effect.Database, Held.state, State.State}
 use Rattle.sqlite_trees.specs.declared.store.Store.{Ghosts}
 use Rattle.office_replies.specs.Events.{Event}
 use Rattle.office_admission.specs.Setups.{SetupContent}
-use Rattle.office_rows.specs.Rows.{Rows}
-use Rattle.office_rows.specs.Stored.{HasRows}
-use Rattle.office_rows.specs.Tables.{interchange_table}
+use Rattle.office_rows.specs.{Rows.Rows, Stored.HasRows, Tables.interchange_table}
 use Rattle.office_history.specs.After.{AreAfter}
 use Rattle.office_reports.specs.Looking.{Look, of_archive, report, texts_after}
 use Rattle.office_loading.specs.Pages.{TellsLines, most_page_bytes}
-use Rattle.office_desk.specs.Causes.{AsksUnfitReply}
-use Rattle.office_desk.specs.Reports.{DeskTells, FindsAfter, IsOpenFor}
-use Rattle.office_desk.specs.declared.desk.Desk.{Desk}
+use Rattle.office_desk.specs.{Causes.AsksUnfitReply, Reports.{DeskTells, FindsAfter, IsOpenFor}, declared.desk.Desk.Desk}
 
 -- ---- the kept texts
 

@@ -1,13 +1,10 @@
 -- Why a desk answered NotNow.
 use Rattle.std.specs.Prelude.{◌≡◌, ℕ, List, Option, Some, Result, Ok, Err}
-use Rattle.office_replies.specs.declared.accounts.AccountAnswer.{AccountAnswer}
-use Rattle.office_replies.specs.declared.accounts.AccountAnswer.TheVariants as account
-use Rattle.office_replies.specs.declared.deliver.Response.{Response}
-use Rattle.office_replies.specs.declared.deliver.Response.TheVariants as response
+use Rattle.office_replies.specs.{declared.accounts.AccountAnswer.AccountAnswer, declared.deliver.Response.Response}
 use Rattle.office_reports.specs.declared.query.NotNow.{NotNow as Unreported}
-use Rattle.office_tables.specs.Faults.{IsOfStore, IsOfStoreOr}
-use Rattle.office_tables.specs.declared.table_fault.TableFault.{TableFault}
-use Rattle.office_tables.specs.declared.table_fault.TableFault.TheVariants.{Memory}
+use Rattle.office_tables.specs.{Faults.{IsOfStore, IsOfStoreOr}, declared.table_fault.TableFault.TableFault, declared.table_fault.TableFault.TheVariants.Memory}
+use Rattle.office_replies.specs.declared.accounts.AccountAnswer.TheVariants as account
+use Rattle.office_replies.specs.declared.deliver.Response.TheVariants as response
 
 -- what a call answered is handed on; or the fault that it met is kept, and who asked is told that it isn't now
 abbrev pub Notes : {T : Type 0} → (met : Result T TableFault) → (old : Option TableFault) → Result T Unreported →

@@ -1,22 +1,13 @@
 -- A desk over the rows of an office, whether or not events led to them.
 use Rattle.std.specs.Prelude.{◌≡◌, ◌⊎◌, Err, Option, Some}
-use Rattle.sqlite.specs.Effect.{Database}
-use Rattle.sqlite.specs.Held.{Held, state}
-use Rattle.sqlite.specs.State.{State, HasCleanDisk, IsUnchanged}
+use Rattle.sqlite.specs.{Effect.Database, Held.{Held, state}, State.{State, HasCleanDisk, IsUnchanged}}
 use Rattle.sqlite_trees.specs.declared.store.Store.{Ghosts}
 use Rattle.terminal_core.specs.State.{TerminalState}
-use Rattle.office_loading.specs.Closed.{ClosedContent, closed_content}
-use Rattle.office_rows.specs.Rows.{Rows}
-use Rattle.office_rows.specs.Stored.{HasRows}
-use Rattle.office_rows.specs.Tables.{office_schema}
+use Rattle.office_loading.specs.{Closed.{ClosedContent, closed_content}, Tables.{FailsToLoadOwn, LoadsOwn}}
+use Rattle.office_rows.specs.{Rows.Rows, Stored.HasRows, Tables.office_schema}
 use Rattle.office_admission.specs.Setups.{SetupContent, setup_content}
-use Rattle.office_loading.specs.Tables.{FailsToLoadOwn, LoadsOwn}
-use Rattle.office_tables.specs.Faults.{IsOfStore}
-use Rattle.office_tables.specs.Reading.{Reads}
-use Rattle.office_tables.specs.declared.table_fault.TableFault.{TableFault}
-use Rattle.office_desk.specs.Beside.{IsOrNone}
-use Rattle.office_desk.specs.declared.beside.Beside.{Beside}
-use Rattle.office_desk.specs.declared.desk.Desk.{Desk}
+use Rattle.office_tables.specs.{Faults.IsOfStore, Reading.Reads, declared.table_fault.TableFault.TableFault}
+use Rattle.office_desk.specs.{Beside.IsOrNone, declared.beside.Beside.Beside, declared.desk.Desk.Desk}
 
 -- the database has these rows, which show the office of a store of which that is closed, with that set-up and that
 -- terminal; what stands beside them is this terminal and the rows' numbers, or there is none

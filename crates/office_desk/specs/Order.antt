@@ -1,32 +1,18 @@
 -- Interchanges that stand in the order of arrival: what a call makes of them, and what a crash leaves.
 use Rattle.std.specs.Prelude.{◌⊎◌, ℕ, List, [], ◌∷◌, ◌++◌, Result, Ok, Err, OnErr, OnOk, Option, IsTrue}
-use Rattle.sqlite.specs.Effect.{Database}
-use Rattle.sqlite.specs.Held.{state}
-use Rattle.sqlite.specs.State.{State, HasCleanDisk}
-use Rattle.sqlite.specs.Tree.{Trees}
+use Rattle.sqlite.specs.{Effect.Database, Held.state, State.{State, HasCleanDisk}, Tree.Trees}
 use Rattle.sqlite_trees.specs.declared.store.Store.{Ghosts}
 use Rattle.partner_core.specs.Deliveries.{Delivery}
-use Rattle.office_replies.specs.Adding.{with_added}
-use Rattle.office_replies.specs.Delivering.{with_answered}
-use Rattle.office_replies.specs.Events.{Event, delivered, added}
-use Rattle.office_replies.specs.declared.accounts.AccountAnswer.{AccountAnswer}
-use Rattle.office_replies.specs.declared.accounts.AccountAnswer.TheVariants as account
+use Rattle.office_replies.specs.{Adding.with_added, Delivering.with_answered, Events.{Event, delivered, added}, declared.accounts.AccountAnswer.AccountAnswer}
 use Rattle.office_replies.specs.declared.deliver.Response.{Response}
-use Rattle.office_replies.specs.declared.deliver.Response.TheVariants as response
-use Rattle.office_rows.specs.Rows.{Rows}
-use Rattle.office_rows.specs.Tables.{office_schema}
-use Rattle.office_admission.specs.Setups.{SetupContent}
-use Rattle.office_admission.specs.declared.setup.Setup.{Setup}
-use Rattle.office_admission.specs.Taking.{MachineState, machine_of}
-use Rattle.office_tables.specs.Order.{HasRowsInOrder}
-use Rattle.office_tables.specs.declared.table_fault.TableFault.{TableFault}
+use Rattle.office_rows.specs.{Rows.Rows, Tables.office_schema}
+use Rattle.office_admission.specs.{Setups.SetupContent, declared.setup.Setup.Setup, Taking.{MachineState, machine_of}}
+use Rattle.office_tables.specs.{Order.HasRowsInOrder, declared.table_fault.TableFault.TableFault}
 use Rattle.office_history.specs.Cascade.{TakenContent, AreTakenFrom, texts_with, with_run}
 use Rattle.office_parts.specs.InOrder.{AreAfterInOrder}
-use Rattle.office_desk.specs.Desks.{IsSound, StandsFor}
-use Rattle.office_desk.specs.Taking.{HasNumbered}
-use Rattle.office_desk.specs.Telling.{Comes, Holds}
-use Rattle.office_desk.specs.declared.beside.Beside.{Beside}
-use Rattle.office_desk.specs.declared.desk.Desk.{Desk}
+use Rattle.office_desk.specs.{Desks.{IsSound, StandsFor}, Taking.HasNumbered, Telling.{Comes, Holds}, declared.beside.Beside.Beside, declared.desk.Desk.Desk}
+use Rattle.office_replies.specs.declared.accounts.AccountAnswer.TheVariants as account
+use Rattle.office_replies.specs.declared.deliver.Response.TheVariants as response
 
 -- the database has the rows after those events, the interchanges in the order of arrival, under the rowids 1, 2, 3 and so
 -- on

@@ -1,31 +1,16 @@
 -- A desk's rows stand in the order of arrival, whatever comes; and what they keep, delivered in that order to a new desk,
 -- makes the same office.
 use Rattle.std.specs.Prelude.{◌≡◌, ℕ, ◌<◌, ◌≤◌, List, [], All, drop, length, map, Option, None, Some}
-use Rattle.sqlite.specs.Effect.{Database}
-use Rattle.sqlite.specs.Held.{Held, state}
-use Rattle.sqlite.specs.Order.{column}
-use Rattle.sqlite.specs.declared.types.Value.TheVariants.{Blob}
+use Rattle.sqlite.specs.{Effect.Database, Held.{Held, state}, Order.column, declared.types.Value.TheVariants.Blob}
 use Rattle.sqlite_trees.specs.declared.store.Store.{Ghosts}
-use Rattle.office_replies.specs.Delivering.{AreAnswered, LeadsOn}
-use Rattle.office_replies.specs.Events.{Event}
-use Rattle.office_replies.specs.declared.deliver.Response.{Response}
-use Rattle.office_rows.specs.Opening.{opening_rows}
-use Rattle.office_rows.specs.Stored.{HasRows}
-use Rattle.office_rows.specs.Tables.{interchange_table}
+use Rattle.office_replies.specs.{Delivering.{AreAnswered, LeadsOn}, Events.Event, declared.deliver.Response.Response}
+use Rattle.office_rows.specs.{Opening.opening_rows, Stored.HasRows, Tables.interchange_table, Places.ArePlaced}
 use Rattle.office_admission.specs.Setups.{SetupContent}
-use Rattle.office_history.specs.After.{content_after}
-use Rattle.office_history.specs.Laws.{HasNoMigration}
-use Rattle.office_rows.specs.Places.{ArePlaced}
+use Rattle.office_history.specs.{After.content_after, Laws.HasNoMigration}
 use Rattle.office_parts.specs.Journal.{kept_texts}
 use Rattle.office_loading.specs.Pages.{IsPage, lines_of, most_page_bytes}
-use Rattle.office_desk.specs.Answers.{AnswersNext}
-use Rattle.office_desk.specs.Calls.{Leads, OnlyLooks}
-use Rattle.office_desk.specs.Desks.{IsSound, OpensAt}
-use Rattle.office_desk.specs.Looking.{DeskHands}
-use Rattle.office_desk.specs.Noting.{IsNow}
-use Rattle.office_desk.specs.Offices.{OpensOffice}
-use Rattle.office_desk.specs.Order.{IsInOrder, StandsInOrder}
-use Rattle.office_desk.specs.declared.desk.Desk.{Desk}
+use Rattle.office_desk.specs.{Answers.AnswersNext, Calls.{Leads, OnlyLooks}, Desks.{IsSound, OpensAt}, Looking.DeskHands, Noting.IsNow, Offices.OpensOffice}
+use Rattle.office_desk.specs.{Order.{IsInOrder, StandsInOrder}, declared.desk.Desk.Desk}
 
 -- ---- the order of arrival
 

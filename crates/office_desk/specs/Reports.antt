@@ -1,50 +1,28 @@
 -- What the desk tells: the reports of the rows that it holds.
 use Rattle.std.specs.Prelude.{◌≡◌, ℕ, ◌+◌, ◌-◌, List, [], ◌∷◌, Option, None, Some, IsTrue, decimal, length, option_and_then, option_map, slice_get, string_bytes}
-use Rattle.std.specs.FinMap as finite_map
 use Rattle.std.specs.List.Sorted.{IsPermutation}
-use Rattle.sqlite.specs.Held.{state}
-use Rattle.sqlite.specs.State.{State}
+use Rattle.sqlite.specs.{Held.state, State.State}
 use Rattle.sqlite_trees.specs.declared.store.Store.{Ghosts}
 use Rattle.box6346.specs.declared.box_number.BoxNumber.{BoxNumber}
-use Rattle.edi_messages.specs.declared.codes.PartnerKind.{PartnerKind}
-use Rattle.edi_messages.specs.Owned.{call_content}
-use Rattle.terminal_core.specs.Rows.{VisitContent}
-use Rattle.terminal_core.specs.State.{TerminalState}
+use Rattle.edi_messages.specs.{declared.codes.PartnerKind.PartnerKind, Owned.call_content}
+use Rattle.terminal_core.specs.{Rows.VisitContent, State.TerminalState}
 use Rattle.office_replies.specs.Events.{Event}
-use Rattle.office_rows.specs.Opening.{tables_version}
-use Rattle.office_rows.specs.Rows.{Rows}
-use Rattle.office_admission.specs.Parties.{partner_from}
-use Rattle.office_admission.specs.Setups.{SetupContent, setup_content}
+use Rattle.office_rows.specs.{Opening.tables_version, Rows.Rows}
+use Rattle.office_admission.specs.{Parties.partner_from, Setups.{SetupContent, setup_content}}
 use Rattle.office_tables.specs.Answers.{IsNextOf}
 use Rattle.office_loading.specs.Waiting.{waiting_numbers}
-use Rattle.office_history.specs.After.{AreAfter, content_after, machine_after, parties_in, reply_in}
-use Rattle.office_history.specs.Cascade.{text_in}
-use Rattle.office_reports.specs.Program.{program_version}
-use Rattle.office_reports.specs.declared.query.About.{About}
-use Rattle.office_reports.specs.declared.query.About.TheVariants as about
-use Rattle.office_reports.specs.declared.query.Query.{Query}
-use Rattle.office_reports.specs.declared.query.View.{View}
-use Rattle.office_reports.specs.declared.yard.Standing.{Standing}
-use Rattle.office_reports.specs.Blocks.{AreBlocks, BlocksContent}
-use Rattle.office_reports.specs.Calls.{lists_in}
-use Rattle.office_pages.specs.Start.{StartContent}
-use Rattle.office_reports.specs.Containers.{ContainerContent, container_of}
-use Rattle.office_reports.specs.OpenLines.{open_lines}
-use Rattle.office_reports.specs.Contrls.{contrl_in}
-use Rattle.office_reports.specs.Listed.{AreListed}
-use Rattle.office_reports.specs.Lists.{IsOfLines, list_by}
-use Rattle.office_reports.specs.Metrics.{metrics_text, ready_text}
-use Rattle.office_reports.specs.Partners.{PartnerContent, partners_of, row_of}
-use Rattle.office_reports.specs.Picture.{IsPicture}
-use Rattle.office_reports.specs.Tickets.{ticket_of as told_ticket}
-use Rattle.office_reports.specs.Visits.{visits_of}
-use Rattle.office_reports.specs.Work.{work_by}
+use Rattle.office_history.specs.{After.{AreAfter, content_after, machine_after, parties_in, reply_in}, Cascade.text_in}
+use Rattle.office_reports.specs.{Program.program_version, declared.query.About.About, declared.query.Query.Query, declared.query.View.View, Calls.lists_in}
+use Rattle.office_reports.specs.{declared.yard.Standing.Standing, Blocks.{AreBlocks, BlocksContent}, Containers.{ContainerContent, container_of}, Work.work_by}
+use Rattle.office_reports.specs.{OpenLines.open_lines, Contrls.contrl_in, Listed.AreListed, Lists.{IsOfLines, list_by}, Metrics.{metrics_text, ready_text}}
+use Rattle.office_reports.specs.{Partners.{PartnerContent, partners_of, row_of}, Picture.IsPicture, Tickets.ticket_of as told_ticket, Visits.visits_of}
 use Rattle.office_reports.specs.Yard.{StandsAt}
+use Rattle.office_pages.specs.Start.{StartContent}
 use Rattle.office_report_data.specs.Told.{ReportContent, shown}
+use Rattle.office_desk.specs.{Offices.DeskHolds, Telling.Holds, declared.desk.Desk.Desk}
+use Rattle.std.specs.FinMap as finite_map
+use Rattle.office_reports.specs.declared.query.About.TheVariants as about
 use Rattle.office_report_data.specs.Told as value
-use Rattle.office_desk.specs.Offices.{DeskHolds}
-use Rattle.office_desk.specs.Telling.{Holds}
-use Rattle.office_desk.specs.declared.desk.Desk.{Desk}
 
 -- ---- values and views
 

@@ -1,30 +1,15 @@
 -- What taking a delivery in does to the tables, and to what stands beside them.
 use Rattle.std.specs.Prelude.{◌≡◌, ◌⊎◌, ℕ, ◌≤◌, List, [], ◌∷◌, ◌++◌, Option, None, Result, Ok, Err, IfErr, IfOk, IsTrue, OnErr}
-use Rattle.sqlite.specs.Effect.{Database}
-use Rattle.sqlite.specs.State.{State, HasCleanDisk}
-use Rattle.sqlite.specs.Tree.{Trees}
+use Rattle.sqlite.specs.{Effect.Database, State.{State, HasCleanDisk}, Tree.Trees}
 use Rattle.edi_syntax.specs.Numbers.{last_number}
 use Rattle.partner_core.specs.Deliveries.{Delivery}
-use Rattle.office_replies.specs.Events.{Event, delivered}
-use Rattle.office_replies.specs.declared.deliver.Response.{Response}
+use Rattle.office_replies.specs.{Events.{Event, delivered}, declared.deliver.Response.Response}
 use Rattle.office_loading.specs.Closed.{ClosedContent}
-use Rattle.office_rows.specs.Rows.{Rows}
-use Rattle.office_rows.specs.Stored.{HasRows}
-use Rattle.office_admission.specs.Setups.{SetupContent}
-use Rattle.office_admission.specs.declared.setup.Setup.{Setup}
-use Rattle.office_admission.specs.Outcomes.{IsAdmitted}
-use Rattle.office_tables.specs.Faults.{IsOfStoreOr}
-use Rattle.office_tables.specs.declared.table_fault.TableFault.{TableFault}
-use Rattle.office_admission.specs.Taking.{machine_of}
-use Rattle.office_tables.specs.DeliveryReading.{HasUnfitBehind}
-use Rattle.office_tables.specs.Taking.{IsNumbered}
-use Rattle.office_desk.specs.Crashes.{Leaves, LeavesEither}
-use Rattle.office_desk.specs.Finding.{KeepsBeside}
-use Rattle.office_desk.specs.Kept.{AnswersOrStays, Office}
-use Rattle.office_desk.specs.Leaving.{LeavesRows, LeavesTakenOver}
-use Rattle.office_desk.specs.Offices.{HoldsOffice}
-use Rattle.office_desk.specs.Telling.{Answers, Comes, Holds, IsRunDone, TakesNext}
-use Rattle.office_desk.specs.declared.beside.Beside.{Beside}
+use Rattle.office_rows.specs.{Rows.Rows, Stored.HasRows}
+use Rattle.office_admission.specs.{Setups.SetupContent, declared.setup.Setup.Setup, Outcomes.IsAdmitted, Taking.machine_of}
+use Rattle.office_tables.specs.{Faults.IsOfStoreOr, declared.table_fault.TableFault.TableFault, DeliveryReading.HasUnfitBehind, Taking.IsNumbered}
+use Rattle.office_desk.specs.{Crashes.{Leaves, LeavesEither}, Finding.KeepsBeside, Kept.{AnswersOrStays, Office}, Leaving.{LeavesRows, LeavesTakenOver}}
+use Rattle.office_desk.specs.{Offices.HoldsOffice, Telling.{Answers, Comes, Holds, IsRunDone, TakesNext}, declared.beside.Beside.Beside}
 use Rattle.office_desk.specs.declared.taking.Delivery.{Delivery as Delivered}
 
 -- ---- what comes

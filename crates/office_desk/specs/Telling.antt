@@ -1,27 +1,13 @@
 -- What the desk answers, and what it leaves.
 use Rattle.std.specs.Prelude.{◌≡◌, ℕ, ◌+◌, ◌-◌, List, [], ◌∷◌, ◌++◌, length, slice_set, Option, Some, IsTrue}
-use Rattle.sqlite.specs.Effect.{Database}
-use Rattle.sqlite.specs.State.{State}
-use Rattle.sqlite.specs.Tree.{Trees}
+use Rattle.sqlite.specs.{Effect.Database, State.State, Tree.Trees}
 use Rattle.edi_syntax.specs.Interchange.{interchange_of}
-use Rattle.partner_core.specs.Answers.{Taken}
-use Rattle.partner_core.specs.Deliveries.{Delivery, delivery}
-use Rattle.office_replies.specs.Events.{Event, delivered}
-use Rattle.office_replies.specs.Contents.{content_of}
-use Rattle.office_replies.specs.declared.deliver.Response.{Response}
-use Rattle.office_rows.specs.Rows.{Rows}
-use Rattle.office_rows.specs.Stored.{HasRows, StoresRows}
-use Rattle.office_admission.specs.Given.{IsGiven}
-use Rattle.office_admission.specs.Setups.{SetupContent}
-use Rattle.office_admission.specs.declared.setup.Setup.{Setup}
-use Rattle.office_admission.specs.Taking.{MachineState, machine_of}
-use Rattle.office_history.specs.After.{AreAfter, content_after}
-use Rattle.office_history.specs.Cascade.{TakenContent, AreTakenFrom, texts_with, with_run}
-use Rattle.office_history.specs.Laws.{IsFor, answer_model_of}
-use Rattle.office_desk.specs.Answers.{answer_by_model}
-use Rattle.office_desk.specs.Beside.{IsBeside}
-use Rattle.office_desk.specs.declared.beside.Beside.{Beside}
-use Rattle.office_desk.specs.declared.taking.Delivery.{Delivery as Delivered}
+use Rattle.partner_core.specs.{Answers.Taken, Deliveries.{Delivery, delivery}}
+use Rattle.office_replies.specs.{Events.{Event, delivered}, Contents.content_of, declared.deliver.Response.Response}
+use Rattle.office_rows.specs.{Rows.Rows, Stored.{HasRows, StoresRows}}
+use Rattle.office_admission.specs.{Given.IsGiven, Setups.SetupContent, declared.setup.Setup.Setup, Taking.{MachineState, machine_of}}
+use Rattle.office_history.specs.{After.{AreAfter, content_after}, Cascade.{TakenContent, AreTakenFrom, texts_with, with_run}, Laws.{IsFor, answer_model_of}}
+use Rattle.office_desk.specs.{Answers.answer_by_model, Beside.IsBeside, declared.beside.Beside.Beside, declared.taking.Delivery.Delivery as Delivered}
 
 -- the text is taken, and those that become next by it, and the partner's number is raised by the length of this run;
 -- the response has the reply of the first, and the rows are committed, so that a crash leaves only these

@@ -1,21 +1,12 @@
 ghost use Rattle.std.specs.Prelude.{◌≡◌, ◌<◌, false, length, string_bytes, IfOk, OnOk, OnErr, IsTrue, ◌≤◌, ◌++◌, [], ◌∷◌, Some, IfErr, map, option_map};
-ghost use Rattle.office_tables.specs.DeliveryReading.{OnlyReads};
-ghost use Rattle.office_tables.specs.Writing.{IsWholeInOrder, WritesWhole};
-ghost use Rattle.office_desk.specs.Accounts.{IsLengthened, IsSameOrNone};
-ghost use Rattle.office_desk.specs.Causes.{LacksNumbers, LacksSome};
+ghost use Rattle.office_tables.specs.{DeliveryReading.OnlyReads, Writing.{IsWholeInOrder, WritesWhole}, Faults.IsOfStoreOr, Reading.Reads};
+ghost use Rattle.office_desk.specs.{Accounts.{IsLengthened, IsSameOrNone}, Causes.{LacksNumbers, LacksSome}};
 ghost use Rattle.office_desk.specs.Reports.{AreLookedUp, IsLookedUp, Shows, TellsPartners, TellsNext, TellsPartner, partner_called};
 ghost use Rattle.office_reports.specs.Partners.{partner_content};
 ghost use Rattle.office_replies.specs.AccountAnswers.{account_added_text};
-ghost use Rattle.office_rows.specs.Effects.{with_partner};
-ghost use Rattle.office_rows.specs.Rows.{Rows};
-ghost use Rattle.office_rows.specs.Stored.{HasRows};
-ghost use Rattle.office_admission.specs.Limits.{most_partners};
-ghost use Rattle.office_admission.specs.PartyCodes.{is_party_code};
-ghost use Rattle.office_admission.specs.Setups.{setup_content, setup_with_account, account_contents};
-ghost use Rattle.office_tables.specs.Faults.{IsOfStoreOr};
-ghost use Rattle.office_tables.specs.Reading.{Reads};
-ghost use Rattle.sqlite.specs.Held.{state};
-ghost use Rattle.sqlite.specs.State.{HasCleanDisk, Survives};
+ghost use Rattle.office_rows.specs.{Effects.with_partner, Rows.Rows, Stored.HasRows};
+ghost use Rattle.office_admission.specs.{Limits.most_partners, PartyCodes.is_party_code, Setups.{setup_content, setup_with_account, account_contents}};
+ghost use Rattle.sqlite.specs.{Held.state, State.{HasCleanDisk, Survives}};
 
 use crate::beside::Beside;
 use edi_messages::PartnerKind;

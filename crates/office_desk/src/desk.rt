@@ -2,9 +2,7 @@ ghost use Rattle.std.specs.Prelude.{◌≡◌, ◌≤◌, List, None, Some, fals
 ghost use Rattle.office_loading.specs.Closed.{last_closed};
 ghost use Rattle.office_desk.specs.Answers.{code_of};
 ghost use Rattle.office_replies.specs.Events.{Event};
-ghost use Rattle.office_admission.specs.Given.{IsGiven};
-ghost use Rattle.office_admission.specs.Parties.{parties_of};
-ghost use Rattle.office_admission.specs.Setups.{SetupContent, setup_content};
+ghost use Rattle.office_admission.specs.{Given.IsGiven, Parties.parties_of, Setups.{SetupContent, setup_content}};
 
 use crate::accounts::{AccountStanding, add_new};
 use crate::answers::{note_memory, noted, tell};

@@ -2,18 +2,12 @@
 ghost use Rattle.edi_messages.specs.Owned.{call_content};
 ghost use Rattle.office_admission.specs.Setups.{setup_content};
 ghost use Rattle.office_desk.specs.Reports.{Shows, TellsBlock, TellsBlocks, TellsPicture, TellsYard, container_by, container_told, partner_if_called};
-ghost use Rattle.office_report_data.specs.Told as value;
 ghost use Rattle.office_report_data.specs.Told.{shown};
-ghost use Rattle.office_reports.specs.Calls.{lists_in};
-ghost use Rattle.office_reports.specs.Containers.{container_content};
-ghost use Rattle.office_reports.specs.OpenLines.{open_lines};
-ghost use Rattle.office_reports.specs.Lists.{IsOfLines, list_by};
-ghost use Rattle.office_reports.specs.Picture.{IsPicture};
-ghost use Rattle.office_reports.specs.Visits.{visits_of};
-ghost use Rattle.office_reports.specs.Work.{work_by};
-ghost use Rattle.office_reports.specs.declared.query.View.{View};
-ghost use Rattle.std.specs.FinMap as finite_map;
+ghost use Rattle.office_reports.specs.{Calls.lists_in, Containers.container_content, OpenLines.open_lines, Lists.{IsOfLines, list_by}, Picture.IsPicture};
+ghost use Rattle.office_reports.specs.{Visits.visits_of, Work.work_by, declared.query.View.View};
 ghost use Rattle.std.specs.Prelude.{◌≡◌, IfOk, Some, option_map, string_bytes};
+ghost use Rattle.office_report_data.specs.Told as value;
+ghost use Rattle.std.specs.FinMap as finite_map;
 
 use box6346::BoxNumber;
 use edi_messages::Call;

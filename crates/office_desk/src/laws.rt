@@ -1,9 +1,7 @@
 //! Laws of the definitions: each function has an empty body, and its contract is the law.
 
-ghost use Rattle.office_desk.specs.Alike.{SameSetupsAnswerAlike};
-ghost use Rattle.office_desk.specs.Calls.{DeliveriesAreAnswered, DeliveriesOutlastCrashes};
-ghost use Rattle.office_desk.specs.Rebuilding.{NewStoresAreInOrder, OpenedStandInOrder, LooksStayInOrder, DeliveriesStayInOrder};
-ghost use Rattle.office_desk.specs.Rebuilding.{DesksKeepJournals, DesksHandOutJournals, DesksAreRebuilt};
+ghost use Rattle.office_desk.specs.{Alike.SameSetupsAnswerAlike, Calls.{DeliveriesAreAnswered, DeliveriesOutlastCrashes}};
+ghost use Rattle.office_desk.specs.Rebuilding.{NewStoresAreInOrder, OpenedStandInOrder, LooksStayInOrder, DeliveriesStayInOrder, DesksKeepJournals, DesksHandOutJournals, DesksAreRebuilt};
 
 use sqlite::Alter;
 

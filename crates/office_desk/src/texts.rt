@@ -1,10 +1,7 @@
 ghost use Rattle.office_desk.specs.Looking.{PagesOf};
-ghost use Rattle.office_rows.specs.Rows.{Rows};
-ghost use Rattle.office_rows.specs.Stored.{HasRows};
-ghost use Rattle.office_tables.specs.Faults.{IsOfStore};
-ghost use Rattle.office_tables.specs.Reading.{Reads};
-ghost use Rattle.sqlite.specs.Held.{state};
-ghost use Rattle.sqlite.specs.State.{HasCleanDisk};
+ghost use Rattle.office_rows.specs.{Rows.Rows, Stored.HasRows};
+ghost use Rattle.office_tables.specs.{Faults.IsOfStore, Reading.Reads};
+ghost use Rattle.sqlite.specs.{Held.state, State.HasCleanDisk};
 ghost use Rattle.std.specs.Prelude.{IfErr, IfOk, option_map};
 
 use office_loading::{MOST_PAGE_BYTES, TextsPage, texts_from};

@@ -1,34 +1,18 @@
 -- The set-up that files say is one that set-up files can give.
+use Rattle.std.specs.{List.{filter_map, list_all, list_any, sum_by}, Prelude.slice_get, Option.{option_map, option_map_or}, List.Sorted.IsPermutation}
+use Rattle.std.{specs.{Char.is_ascii_uppercase, Str.bytes_eq}, proofs.lemmas.List.{take_more, take_all, length-map, map-append, take-map, drop-map}}
 use Rattle.std.proofs.Common.{◌≡◌, ℕ, Bool, true, false, ◌&&◌, ◌+◌, ◌-◌, ◌<◌, ◌≤◌, zero, suc, List, [], ◌∷◌, ◌++◌, length, take, drop, map, get_or, Option, Some, None, refl, sym, ap, ap₂, ◌∙◌, arith, All, ◌≢◌, not, ◌||◌, ◌==◌, cond, IsTrue, inl, inr, nat_le, codes, string_bytes}
-use Rattle.std.specs.List.{filter_map, list_all, list_any, sum_by}
-use Rattle.std.proofs.lemmas.List.{take_more, take_all, length-map, map-append, take-map, drop-map}
-use Rattle.std.proofs.lemmas.List.Elements.{filter_map-append, All-nil, All-cons, All-tail, All-append}
-use Rattle.std.proofs.lemmas.List.Folds.{list_all-map}
-use Rattle.std.proofs.lemmas.Option.{same_Some}
-use Rattle.std.specs.Prelude.{slice_get}
-use Rattle.std.specs.Option.{option_map, option_map_or}
-use Rattle.std.specs.List.Sorted.{IsPermutation}
-use Rattle.std.specs.Char.{is_ascii_uppercase}
-use Rattle.std.specs.Str.{bytes_eq}
-use Rattle.std.proofs.lemmas.Bool.{and_parts, not-true, leb-true, cases_eq, ne_eqb, eq-eqb}
-use Rattle.std.proofs.lemmas.Slice.Eq.{bytes_eq-Decides}
-use Rattle.std.proofs.lemmas.List.Sums.{sum_by-cons}
-use Rattle.std.proofs.lemmas.List.Sorted.{All-permutation, sum_by-IsPermutation}
-use Rattle.edi_messages.specs.CodeText.{table_fault}
-use Rattle.edi_messages.specs.declared.codes.PartnerKind.{PartnerKind}
+use Rattle.std.proofs.{lemmas.List.Elements.{filter_map-append, All-nil, All-cons, All-tail, All-append}, lemmas.List.Folds.list_all-map}
+use Rattle.std.proofs.{lemmas.Option.same_Some, lemmas.Bool.{and_parts, not-true, leb-true, cases_eq, ne_eqb, eq-eqb}, lemmas.Slice.Eq.bytes_eq-Decides}
+use Rattle.std.proofs.{lemmas.List.Sums.sum_by-cons, lemmas.List.Sorted.{All-permutation, sum_by-IsPermutation}}
+use Rattle.edi_messages.specs.{CodeText.table_fault, declared.codes.PartnerKind.PartnerKind}
 use Rattle.edi_syntax.specs.Numbers.{number_of}
-use Rattle.yard_core.specs.declared.plan.Block.{Block}
-use Rattle.yard_core.specs.declared.plan.PlanFault.{PlanFault}
-use Rattle.yard_core.specs.declared.plan.PlanFault.TheVariants.{Blocks, Letter, Twice, Size}
+use Rattle.yard_core.specs.{declared.plan.Block.Block, declared.plan.PlanFault.PlanFault, declared.plan.PlanFault.TheVariants.{Blocks, Letter, Twice, Size}}
 use Rattle.yard_core.specs.Plan.{IsPlan, IsFaulty, AreApart, IsSized}
-use Rattle.office_admission.specs.Given.{IsGiven, AreDistinct, is_party_code}
-use Rattle.office_admission.specs.Kinds.{kind_named}
-use Rattle.office_admission.specs.Limits.{most_partners}
-use Rattle.office_admission.specs.Setups.{SetupContent, setup_content}
+use Rattle.office_admission.specs.{Given.{IsGiven, AreDistinct, is_party_code}, Kinds.kind_named, Limits.most_partners, Setups.{SetupContent, setup_content}}
 use Rattle.office_admission.specs.declared.setup.Setup.{Setup}
-use Rattle.office_explain.specs.Entries.{section, Record, NamedValue, entry_of}
+use Rattle.office_explain.specs.{Entries.{section, Record, NamedValue, entry_of}, PartnerFaults.{fault_after, fault_of_first, fault_of_partner}}
 use Rattle.office_explain.specs.Said.{SaysSetup, are_apart, names_of, partner_said, terminal_said, limit_said, limit_in}
-use Rattle.office_explain.specs.PartnerFaults.{fault_after, fault_of_first, fault_of_partner}
 use Rattle.office_explain.specs.declared.partner_faults.PartnerFault.{PartnerFault}
 
 -- ==== Lists: Lists that a loop makes of another.
@@ -37,16 +21,6 @@ pub one_more : {A : Type 0} (xs : List A) (i : ℕ) (d x : A) → i < length xs 
 one_more xs i d x low at = take_more xs i d low ∙ ap (λ z. take i xs ++ z ∷ []) (sym at)
 
 module _ {A B C : Type 0} (g : A → B) (f : B → Option C) where
-  -- each one's answer
-  pub said_more : (xs : List A) (i : ℕ) (d x : A) (cs : List C) (c : C) → i < length xs → x ≡ get_or xs i d → f (g x) ≡ Some c → map f (map g (take i xs)) ≡ map Some cs
-      → map f (map g (take (i + 1) xs)) ≡ map Some (cs ++ c ∷ [])
-  said_more xs i d x cs c low at here before =
-      ap (λ l. map f (map g l)) (one_more xs i d x low at) ∙ ap (map f) (map-append g (take i xs) (x ∷ [])) ∙ map-append f (map g (take i xs)) (g x ∷ [])
-      ∙ ap₂ (λ (a b : List (Option C)). a ++ b) before (ap (λ (o : Option C). o ∷ []) here) ∙ sym (map-append Some cs (c ∷ []))
-
-  pub said_all : (xs : List A) (i : ℕ) (cs : List C) → length xs ≤ i → map f (map g (take i xs)) ≡ map Some cs → map f (map g xs) ≡ map Some cs
-  said_all xs i cs low said = ap (λ l. map f (map g l)) (sym (take_all i xs low)) ∙ said
-
   pub none_said : (xs : List A) (i : ℕ) (d x : A) → i < length xs → x ≡ get_or xs i d → f (g x) ≡ None → (cs : List C) → ¬ (map f (map g xs) ≡ map Some cs)
   none_said [] i d x low at here cs same = absurd (omega arith)
   none_said (y ∷ xs) zero d x low at here [] same = absurd (cc)
@@ -77,9 +51,6 @@ module _ {A B C : Type 0} (g : A → B) (f : B → Option C) where
         append_none : (l : List C) → l ++ [] ≡ l
         append_none [] = refl
         append_none (y ∷ l) = ap (λ r. y ∷ r) (append_none l)
-
-  pub kept_all : (xs : List A) (i : ℕ) (cs : List C) → length xs ≤ i → cs ≡ filter_map f (map g (take i xs)) → cs ≡ filter_map f (map g xs)
-  kept_all xs i cs low kept = kept ∙ ap (λ l. filter_map f (map g l)) (take_all i xs low)
 
 -- ---- the first and the others
 

@@ -1,37 +1,19 @@
 -- Who sent a text that is admitted, by which codes, and which CONTRL tells that it is refused.
-use Rattle.std.proofs.Common.{◌≡◌, ℕ, zero, suc, false, Option, List, [], ◌∷◌, ◌++◌, take, drop, None, Some, refl, ap, subst, ◌∙◌, ◌⊎◌, Bool, true, cond, Result, Ok, Err, sym, inl, inr}
-use Rattle.edi_syntax.specs.Characters.{is_break}
-use Rattle.edi_syntax.specs.Reading.{breaks_len}
-use Rattle.edi_syntax.specs.Advice.{without_breaks}
-use Rattle.edi_syntax.specs.Cuts.{Cutting, pending_bytes, is_whole, is_memory, IsInterchange, IsPending, Faults, Answers, FaultsWithin, Fails}
-use Rattle.edi_syntax.specs.declared.cutter.CutFault.{CutFault}
-use Rattle.edi_syntax.specs.declared.cutter.CutFault.TheVariants.{TooLong, Service as ServiceFault, Segment, Memory}
-use Rattle.edi_syntax.proofs.CutLemmas.{nothing_open}
-use Rattle.edi_syntax.proofs.PositionLemmas.{no_breaks}
-use Rattle.office_explain.specs.Told.{BeginsWithInterchange, IsCutFor, code_to, kind_at}
 use Rattle.std.specs.Str.{bytes_eq}
-use Rattle.edi_messages.specs.ErrorCodes.{message_error}
-use Rattle.edi_messages.specs.Message.{MessageContent}
-use Rattle.edi_messages.specs.declared.code.CodeTable.{CodeTable}
-use Rattle.edi_messages.specs.declared.codes.Codes.{Codes}
-use Rattle.edi_messages.specs.declared.codes.PartnerKind.{PartnerKind}
-use Rattle.edi_messages.specs.declared.message.MessageFault.{MessageFault}
-use Rattle.edi_syntax.specs.Interchange.{segments_in}
+use Rattle.std.proofs.Common.{◌≡◌, ℕ, zero, suc, false, Option, List, [], ◌∷◌, ◌++◌, take, drop, None, Some, refl, ap, subst, ◌∙◌, ◌⊎◌, Bool, true, cond, Result, Ok, Err, sym, inl, inr}
+use Rattle.edi_syntax.specs.{Characters.is_break, Reading.breaks_len, Advice.without_breaks, declared.cutter.CutFault.CutFault, Interchange.segments_in}
+use Rattle.edi_syntax.specs.Cuts.{Cutting, pending_bytes, is_memory, IsInterchange, IsPending, Faults, Answers, FaultsWithin, Fails}
 use Rattle.edi_syntax.specs.Text.{Content}
-use Rattle.edi_syntax.specs.declared.interchange.SyntaxFault.{SyntaxFault}
-use Rattle.edi_syntax.specs.Envelope.{header_of}
-use Rattle.edi_syntax.specs.Faults.{fault_of}
-use Rattle.edi_syntax.specs.Header.{recipient}
-use Rattle.office_admission.specs.Admission.{admission, by_header, by_recipient, number_in, sender_of}
+use Rattle.edi_syntax.specs.{declared.cutter.CutFault.TheVariants.{TooLong, Service as ServiceFault, Segment, Memory}, Envelope.header_of, Faults.fault_of}
+use Rattle.edi_syntax.{specs.{declared.interchange.SyntaxFault.SyntaxFault, Header.recipient}, proofs.{CutLemmas.nothing_open, PositionLemmas.no_breaks}}
+use Rattle.office_explain.specs.{Told.{BeginsWithInterchange, IsCutFor, code_to, kind_at}, Kinds.codes_of, Messages.IsFault}
+use Rattle.edi_messages.specs.{ErrorCodes.message_error, Message.MessageContent, declared.code.CodeTable.CodeTable, declared.codes.Codes.Codes}
+use Rattle.edi_messages.specs.{declared.codes.PartnerKind.PartnerKind, declared.message.MessageFault.MessageFault}
+use Rattle.office_admission.specs.Admission.{by_header, by_recipient, number_in, sender_of}
 use Rattle.office_admission.specs.Outcomes.{IsAdmitted}
 use Rattle.office_admission.specs.Refusals.{HasNoContrl, error_of}
-use Rattle.office_admission.specs.declared.admission.Admitted.{Admitted}
-use Rattle.office_replies.specs.declared.deliver.Fault.{Fault}
-use Rattle.office_replies.specs.declared.deliver.Fault.TheVariants.{WrongRecipient}
-use Rattle.office_admission.specs.Parties.{Parties, parties_of, partner_kinds}
-use Rattle.office_admission.specs.declared.setup.Setup.{Setup}
-use Rattle.office_explain.specs.Kinds.{codes_of}
-use Rattle.office_explain.specs.Messages.{IsFault}
+use Rattle.office_admission.specs.{declared.admission.Admitted.Admitted, Parties.{Parties, parties_of, partner_kinds}, declared.setup.Setup.Setup}
+use Rattle.office_replies.specs.{declared.deliver.Fault.Fault, declared.deliver.Fault.TheVariants.WrongRecipient}
 
 -- ==== CutLemmas: What a cutter gives for a text that begins with no line break, as the first bytes of a stream.
 

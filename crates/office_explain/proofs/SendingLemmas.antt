@@ -1,30 +1,15 @@
 -- A message names no order of a sender's codes exactly if the fault that it is rejected for is of its type, its BGM or its code.
+use Rattle.std.specs.{Prelude.{MatchResult, IfOk, IfErr, is_some, is_none}, List.find, Option.{option_and_then, option_map_or}, Result.result_err}
 use Rattle.std.proofs.Common.{◌≡◌, Bool, true, false, cond, not, [], ◌∷◌, Option, None, Some, Result, Ok, Err, refl, sym, ap, subst, ◌∙◌, ℕ, ◌+◌, ◌-◌, ◌<◌, ◌≤◌, List, ◌++◌, length, take, drop, slice_range, append_assoc, arith}
-use Rattle.std.specs.Prelude.{MatchResult, IfOk, IfErr, is_some, is_none}
-use Rattle.std.specs.List.{find}
-use Rattle.std.specs.Option.{option_and_then, option_map_or}
-use Rattle.std.specs.Result.{result_err}
-use Rattle.edi_syntax.specs.Moments.{CivilMoment}
-use Rattle.edi_syntax.specs.Messages.{Message}
-use Rattle.edi_messages.specs.Faults.{beginning, order_kind_of, purpose_of, applies, fault_of}
-use Rattle.edi_messages.specs.Message.{MessageContent, judged_message, message_of, reading}
-use Rattle.edi_messages.specs.Types.{message_type_of}
-use Rattle.edi_messages.specs.declared.codes.Codes.{Codes}
-use Rattle.edi_messages.specs.declared.message.MessageFault.{MessageFault}
-use Rattle.edi_messages.specs.declared.message.MessageFault.TheVariants.{OtherType, NoBgm, Code, Function, NoTransport, NoEquipment, EquipmentCount, TooMany, Memory}
-use Rattle.edi_messages.proofs.SurveyLemmas.{purpose_there}
-use Rattle.edi_messages.proofs.WalkLemmas.{heading_faultless}
-use Rattle.office_explain.specs.Kinds.{is_of_order, may_send}
 use Rattle.std.proofs.lemmas.List.{take_all, length-drop, length-append, append-nil, drop_all}
-use Rattle.office_explain.specs.Blocks.{AreBlocks, HasOnlyBreaks, IsAllIfCut, IsApart, IsBlock, IsToldFirst}
-use Rattle.office_explain.specs.Told.{Explains}
-use Rattle.office_explain.specs.declared.explaining.Block.{Block}
-use Rattle.office_explain.specs.declared.explaining.Told.{Told}
-use Rattle.office_explain.specs.declared.explaining.Told.TheVariants.{Cut, Refused, Read}
-use Rattle.office_explain.specs.declared.partners.Partners.{Partners}
-use Rattle.office_explain.specs.InOrder.{InOrder}
-
--- ==== SendingLemmas: A message names no order of a sender's codes exactly if the fault that it is rejected for is of its type, its BGM or its code.
+use Rattle.edi_syntax.specs.{Moments.CivilMoment, Messages.Message}
+use Rattle.edi_messages.specs.{Faults.{beginning, order_kind_of, purpose_of, applies, fault_of}, Message.{MessageContent, judged_message, message_of, reading}}
+use Rattle.edi_messages.specs.{Types.message_type_of, declared.codes.Codes.Codes, declared.message.MessageFault.MessageFault}
+use Rattle.edi_messages.specs.declared.message.MessageFault.TheVariants.{OtherType, NoBgm, Code, Function, NoTransport, NoEquipment, EquipmentCount, TooMany, Memory}
+use Rattle.edi_messages.proofs.{SurveyLemmas.purpose_there, WalkLemmas.heading_faultless}
+use Rattle.office_explain.specs.{Kinds.{is_of_order, may_send}, Blocks.{AreBlocks, HasOnlyBreaks, IsAllIfCut, IsApart, IsBlock, IsToldFirst}, Told.Explains}
+use Rattle.office_explain.specs.{declared.explaining.Block.Block, declared.explaining.Told.Told, declared.explaining.Told.TheVariants.{Cut, Refused, Read}}
+use Rattle.office_explain.specs.{declared.partners.Partners.Partners, InOrder.InOrder}
 
 abbrev is_order_fault : Option MessageFault → Bool
 is_order_fault fault = option_map_or is_of_order fault false

@@ -1,13 +1,10 @@
 -- What the records of the set-up files hold.
 use Rattle.std.specs.Prelude.{◌≡◌, ℕ, Bool, true, false, ◌&&◌, ◌||◌, ◌==◌, nat_le, List, [], ◌∷◌, length, Option, None, Some, codes, All, if◌then◌else◌}
-use Rattle.std.specs.Option.{option_and_then, option_map_or}
-use Rattle.std.specs.List.{filter_map, list_all}
-use Rattle.std.specs.Str.{bytes_eq}
-use Rattle.csv.specs.Reading.{AreRecords, default_config, strip_bom}
-use Rattle.csv.specs.Records.{AllText, field_at}
-use Rattle.csv.specs.declared.parser.State.TheVariants as state
+use Rattle.std.specs.{Option.{option_and_then, option_map_or}, List.{filter_map, list_all}, Str.bytes_eq}
+use Rattle.csv.specs.{Reading.{AreRecords, default_config, strip_bom}, Records.{AllText, field_at}}
 use Rattle.edi_syntax.specs.Numbers.{number_of}
 use Rattle.office_explain.specs.declared.records.Entry.{Entry}
+use Rattle.csv.specs.declared.parser.State.TheVariants as state
 
 abbrev pub Text : Type 0
 Text = List ℕ

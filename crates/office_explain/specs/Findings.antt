@@ -1,8 +1,6 @@
 -- Where a fault stands in a text.
 use Rattle.std.specs.Prelude.{◌≡◌, ◌≤◌, ℕ, List, length, Option}
-use Rattle.office_explain.specs.declared.finding.Finding.{Finding}
-use Rattle.office_explain.specs.declared.finding.Subject.{Subject}
-use Rattle.office_explain.specs.declared.segments.Span.{Span}
+use Rattle.office_explain.specs.{declared.finding.Finding.Finding, declared.finding.Subject.Subject, declared.segments.Span.Span}
 
 -- the stretch lies within the text
 abbrev pub IsWithin : List ℕ → Span → Type 0

@@ -1,14 +1,8 @@
 -- Which kind of account may send which messages.
-use Rattle.std.specs.Prelude.{Bool, true, false, List, [], ◌∷◌, Option, is_some, unwrap_or}
-use Rattle.std.specs.List.{find}
-use Rattle.std.specs.Option.{option_and_then}
+use Rattle.std.specs.{Prelude.{Bool, true, false, List, [], ◌∷◌, Option, is_some, unwrap_or}, List.find, Option.option_and_then}
 use Rattle.edi_syntax.specs.Messages.{Message}
-use Rattle.edi_messages.specs.Faults.{order_kind_of}
-use Rattle.edi_messages.specs.declared.code.CodeTable.{CodeTable}
-use Rattle.edi_messages.specs.declared.codes.Codes.{Codes}
-use Rattle.edi_messages.specs.declared.codes.PartnerKind.{PartnerKind}
-use Rattle.edi_messages.specs.declared.codes.PartnerKind.TheVariants.{Gate, Line, Quay, Yard}
-use Rattle.edi_messages.specs.declared.message.MessageFault.{MessageFault}
+use Rattle.edi_messages.specs.{Faults.order_kind_of, declared.code.CodeTable.CodeTable, declared.codes.Codes.Codes, declared.codes.PartnerKind.PartnerKind}
+use Rattle.edi_messages.specs.{declared.codes.PartnerKind.TheVariants.{Gate, Line, Quay, Yard}, declared.message.MessageFault.MessageFault}
 use Rattle.edi_messages.specs.declared.message.MessageFault.TheVariants.{OtherType, NoBgm, Code}
 
 -- Who has these codes may send the message: the message is of a type that the office takes, and its document name (1001)

@@ -1,32 +1,16 @@
 -- What is told of the messages of an interchange that is read, and of their lines.
-use Rattle.std.specs.Prelude.{◌≡◌, ℕ, Bool, true, false, List, None, Some, Result, Ok, Err, MatchResult, Option, unwrap_or}
-use Rattle.std.specs.List.{list_all}
-use Rattle.edi_syntax.specs.Moments.{CivilMoment}
-use Rattle.edi_syntax.specs.Interchange.{segments_in}
-use Rattle.edi_syntax.specs.Text.{Content}
-use Rattle.edi_syntax.specs.Envelope.{header_of, messages_of}
+use Rattle.std.specs.{Prelude.{◌≡◌, ℕ, Bool, true, false, List, None, Some, Result, Ok, Err, MatchResult, Option, unwrap_or}, List.list_all}
+use Rattle.edi_syntax.specs.{Moments.CivilMoment, Interchange.segments_in, Text.Content, Envelope.{header_of, messages_of}, Messages.Message}
 use Rattle.edi_syntax.specs.Header.{preparation, recipient, sender}
-use Rattle.edi_syntax.specs.Messages.{Message}
-use Rattle.edi_messages.specs.ErrorCodes.{message_error}
-use Rattle.edi_messages.specs.Message.{MessageContent, reading}
-use Rattle.edi_messages.specs.Owned.{message_content}
-use Rattle.edi_messages.specs.declared.codes.Codes.{Codes}
-use Rattle.edi_messages.specs.declared.codes.PartnerKind.{PartnerKind}
-use Rattle.edi_messages.specs.declared.line.Line.{Line}
-use Rattle.edi_messages.specs.declared.line.Line.TheVariants.{Order, Refusal}
-use Rattle.edi_messages.specs.declared.message.MessageFault.{MessageFault}
-use Rattle.edi_messages.specs.declared.message.MessageFault.TheVariants.{Memory}
+use Rattle.edi_messages.specs.{ErrorCodes.message_error, Message.{MessageContent, reading}, Owned.message_content, declared.codes.Codes.Codes}
+use Rattle.edi_messages.specs.{declared.codes.PartnerKind.PartnerKind, declared.line.Line.Line, declared.line.Line.TheVariants.{Order, Refusal}}
+use Rattle.edi_messages.specs.{declared.message.MessageFault.MessageFault, declared.message.MessageFault.TheVariants.Memory}
 use Rattle.office_admission.specs.Admission.{number_said}
-use Rattle.office_explain.specs.Findings.{IsFound}
-use Rattle.office_explain.specs.InOrder.{InOrder}
-use Rattle.office_explain.specs.Kinds.{codes_of, kind_wanted}
-use Rattle.office_explain.specs.declared.finding.Subject.TheVariants as subject
-use Rattle.office_explain.specs.declared.partners.Partners.{Partners}
-use Rattle.office_explain.specs.declared.reading.LineNote.{LineNote}
-use Rattle.office_explain.specs.declared.reading.LineNote.TheVariants as note
-use Rattle.office_explain.specs.declared.reading.MessageTold.{MessageTold}
+use Rattle.office_explain.specs.{Findings.IsFound, InOrder.InOrder, Kinds.{codes_of, kind_wanted}, declared.partners.Partners.Partners}
+use Rattle.office_explain.specs.{declared.reading.LineNote.LineNote, declared.reading.MessageTold.MessageTold, declared.reading.Reading.Reading}
 use Rattle.office_explain.specs.declared.reading.MessageTold.TheVariants.{Rejected, Read}
-use Rattle.office_explain.specs.declared.reading.Reading.{Reading}
+use Rattle.office_explain.specs.declared.finding.Subject.TheVariants as subject
+use Rattle.office_explain.specs.declared.reading.LineNote.TheVariants as note
 
 -- ---- no fault
 

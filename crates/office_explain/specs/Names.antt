@@ -1,11 +1,10 @@
 -- The names of the faults of lines, as replies give them, and of what cuts a file.
 use Rattle.std.specs.Prelude.{ℕ, List, codes, Option, None, Some}
 use Rattle.edi_syntax.specs.declared.cutter.CutFault.{CutFault}
-use Rattle.edi_syntax.specs.declared.cutter.CutFault.TheVariants as cut
-use Rattle.edi_messages.specs.declared.line.LineFault.{LineFault}
-use Rattle.edi_messages.specs.declared.line.LineFault.TheVariants.{Form, CheckDigit, Size, Moment, SlotText}
+use Rattle.edi_messages.specs.{declared.line.LineFault.LineFault, declared.line.LineFault.TheVariants.{Form, CheckDigit, Size, Moment, SlotText}}
 use Rattle.office_replies.specs.Names.{fault_name, message_fault_name}
 use Rattle.office_explain.specs.declared.finding.Subject.{Subject}
+use Rattle.edi_syntax.specs.declared.cutter.CutFault.TheVariants as cut
 use Rattle.office_explain.specs.declared.finding.Subject.TheVariants as subject
 
 abbrev pub line_fault_name : LineFault → List ℕ

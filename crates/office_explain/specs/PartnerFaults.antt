@@ -1,14 +1,8 @@
 -- What is wrong with a partner of the set-up files.
-use Rattle.std.specs.Prelude.{◌≡◌, ℕ, not, nat_le, List, [], ◌∷◌, length, take, drop, Option, None, Some, codes, is_some, if◌then◌else◌}
-use Rattle.std.specs.List.{list_any}
-use Rattle.std.specs.Option.{option_map_or}
-use Rattle.std.specs.Str.{bytes_eq}
-use Rattle.office_admission.specs.Given.{is_party_code}
-use Rattle.office_admission.specs.Kinds.{kind_named}
-use Rattle.office_admission.specs.Limits.{most_partners}
-use Rattle.office_explain.specs.Entries.{Text, Record, NamedValue, AreRows, entry_of, section}
-use Rattle.office_explain.specs.Said.{names_of}
-use Rattle.office_explain.specs.Wrong.{AreTexts}
+use Rattle.std.specs.{Prelude.{◌≡◌, ℕ, not, nat_le, List, [], ◌∷◌, length, take, drop, Option, None, Some, codes, is_some, if◌then◌else◌}, List.list_any}
+use Rattle.std.specs.{Option.option_map_or, Str.bytes_eq}
+use Rattle.office_admission.specs.{Given.is_party_code, Kinds.kind_named, Limits.most_partners}
+use Rattle.office_explain.specs.{Entries.{Text, Record, NamedValue, AreRows, entry_of, section}, Said.names_of, Wrong.AreTexts}
 use Rattle.office_explain.specs.declared.partner_faults.PartnerFault.{PartnerFault}
 use Rattle.office_explain.specs.declared.partner_faults.PartnerFault.TheVariants.{Code, Kind, Twice, Number}
 

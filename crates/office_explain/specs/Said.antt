@@ -1,19 +1,11 @@
 -- What a terminal's files say of its set-up, and why they may say none.
 use Rattle.std.specs.Prelude.{◌≡◌, ℕ, Bool, true, not, ◌&&◌, ◌||◌, nat_le, List, [], ◌∷◌, length, map, drop, Option, None, Some, codes, ◌≤◌, if◌then◌else◌}
-use Rattle.std.specs.Option.{option_map, option_map_or, option_and_then}
-use Rattle.std.specs.List.{find, list_all, list_any}
-use Rattle.std.specs.List.Sorted.{IsNonDecreasingBy, IsPermutation}
+use Rattle.std.specs.{Option.{option_map, option_map_or, option_and_then}, List.{find, list_all, list_any}, List.Sorted.{IsNonDecreasingBy, IsPermutation}}
 use Rattle.std.specs.Str.{bytes_eq}
-use Rattle.edi_messages.specs.CodeText.{table_fault}
-use Rattle.edi_messages.specs.Codes.{table_texts}
-use Rattle.edi_messages.specs.declared.codes.PartnerKind.{PartnerKind}
+use Rattle.edi_messages.specs.{CodeText.table_fault, Codes.table_texts, declared.codes.PartnerKind.PartnerKind}
 use Rattle.edi_syntax.specs.Numbers.{number_of}
-use Rattle.yard_core.specs.declared.plan.Block.{Block}
-use Rattle.yard_core.specs.Plan.{IsPlan}
-use Rattle.office_admission.specs.Given.{is_party_code}
-use Rattle.office_admission.specs.Kinds.{kind_named}
-use Rattle.office_admission.specs.Limits.{most_partners, most_visits}
-use Rattle.office_admission.specs.Setups.{SetupContent}
+use Rattle.yard_core.specs.{declared.plan.Block.Block, Plan.IsPlan}
+use Rattle.office_admission.specs.{Given.is_party_code, Kinds.kind_named, Limits.{most_partners, most_visits}, Setups.SetupContent}
 use Rattle.office_explain.specs.Entries.{Text, Record, NamedValue, AreFiles, AreRows, field, section, count_said}
 use Rattle.office_explain.specs.declared.setup_reading.SetupFault.{SetupFault}
 use Rattle.office_explain.specs.declared.setup_reading.SetupFault.TheVariants.{Csv, Terminal, Partner, Code, Limit, Block as BlockFault, Memory}

@@ -1,9 +1,6 @@
 -- How many interchanges of a file fare how: the last line that is printed of a file, and of several what to do with them.
 use Rattle.std.specs.Prelude.{◌≡◌, ◌==◌, ◌++◌, ℕ, Bool, true, false, count_by, not, nat_lt, List, codes, decimal, length, if◌then◌else◌}
-use Rattle.office_explain.specs.Messages.{are_faultless}
-use Rattle.office_explain.specs.Told.{is_faultless}
-use Rattle.office_explain.specs.declared.explaining.Block.{Block}
-use Rattle.office_explain.specs.declared.explaining.Told.{Told}
+use Rattle.office_explain.specs.{Messages.are_faultless, Told.is_faultless, declared.explaining.Block.Block, declared.explaining.Told.Told}
 use Rattle.office_explain.specs.declared.explaining.Told.TheVariants.{Cut, Refused, Read}
 
 abbrev pub is_cut : Told → Bool

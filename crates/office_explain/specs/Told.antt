@@ -1,27 +1,15 @@
 -- What is told of a text: which fault is named of it, where it stands, and which CONTRL tells it.
-use Rattle.std.specs.Prelude.{◌≡◌, ◌<◌, ◌≤◌, ℕ, List, length, take, Bool, true, false, Option, None, Some}
-use Rattle.std.specs.Option.{option_map}
-use Rattle.std.specs.Result.{result_err}
-use Rattle.edi_syntax.specs.Cuts.{IsInterchange, IsPending, Faults}
-use Rattle.edi_syntax.specs.declared.cutter.CutFault.{CutFault}
+use Rattle.std.specs.{Prelude.{◌≡◌, ◌<◌, ◌≤◌, ℕ, List, length, take, Bool, true, false, Option, None, Some}, Option.option_map, Result.result_err}
+use Rattle.edi_syntax.specs.{Cuts.{IsInterchange, IsPending, Faults}, declared.cutter.CutFault.CutFault, Interchange.segments_in, Envelope.header_of}
+use Rattle.edi_syntax.specs.{declared.interchange.SyntaxFault.SyntaxFault, Faults.fault_of}
 use Rattle.edi_messages.specs.declared.codes.PartnerKind.{PartnerKind}
-use Rattle.edi_syntax.specs.Interchange.{segments_in}
-use Rattle.edi_syntax.specs.declared.interchange.SyntaxFault.{SyntaxFault}
-use Rattle.edi_syntax.specs.Envelope.{header_of}
-use Rattle.edi_syntax.specs.Faults.{fault_of}
-use Rattle.office_admission.specs.Admission.{admission, sender_of}
-use Rattle.office_admission.specs.Refusals.{error_of}
-use Rattle.partner_core.specs.Numbered.{with_number}
-use Rattle.office_replies.specs.declared.deliver.Fault.{Fault}
-use Rattle.office_replies.specs.declared.deliver.Fault.TheVariants.{Syntax}
-use Rattle.office_admission.specs.Parties.{Parties, parties_of, partner_kinds}
+use Rattle.office_admission.specs.{Admission.{admission, sender_of}, Refusals.error_of, Parties.{Parties, parties_of, partner_kinds}}
 use Rattle.office_admission.specs.declared.setup.Setup.{Setup}
-use Rattle.office_explain.specs.Findings.{IsFound}
-use Rattle.office_explain.specs.Messages.{IsReadOf, are_faultless}
-use Rattle.office_explain.specs.declared.explaining.Told.{Told}
+use Rattle.partner_core.specs.Numbered.{with_number}
+use Rattle.office_replies.specs.{declared.deliver.Fault.Fault, declared.deliver.Fault.TheVariants.Syntax}
+use Rattle.office_explain.specs.{Findings.IsFound, Messages.{IsReadOf, are_faultless}, declared.explaining.Told.Told, declared.partners.Partners.Partners}
 use Rattle.office_explain.specs.declared.explaining.Told.TheVariants.{Cut, Refused, Read}
 use Rattle.office_explain.specs.declared.finding.Subject.TheVariants as subject
-use Rattle.office_explain.specs.declared.partners.Partners.{Partners}
 
 -- ---- the fault, its code, and the sender's kind
 

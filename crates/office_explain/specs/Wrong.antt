@@ -1,15 +1,11 @@
 -- Which record of the set-up files shows a fault.
-use Rattle.std.specs.Prelude.{◌≡◌, ◌⊎◌, ℕ, Bool, true, false, ◌≤◌, ◌-◌, ◌+◌, ◌++◌, List, [], ◌∷◌, length, take, Option, None, codes, All}
-use Rattle.std.specs.List.{list_any}
+use Rattle.std.specs.{Prelude.{◌≡◌, ◌⊎◌, ℕ, Bool, true, false, ◌≤◌, ◌-◌, ◌+◌, ◌++◌, List, [], ◌∷◌, length, take, Option, None, codes, All}, List.list_any}
 use Rattle.std.specs.Str.{bytes_eq}
 use Rattle.csv.specs.Records.{AllText}
-use Rattle.office_explain.specs.Entries.{Text, Record, AreRows, field, is_partner_file, is_block_file, section}
-use Rattle.office_explain.specs.Said.{AreCodes, AreNoBlocks, AreNoPartners, limit_said, terminal_said}
-use Rattle.office_explain.specs.declared.setup_reading.SetupFault.{SetupFault}
+use Rattle.office_explain.specs.{Entries.{Text, Record, AreRows, field, is_partner_file, is_block_file, section}, declared.setup_reading.SetupFault.SetupFault}
+use Rattle.office_explain.specs.{Said.{AreCodes, AreNoBlocks, AreNoPartners, limit_said, terminal_said}, declared.setup_reading.SetupFile.SetupFile}
 use Rattle.office_explain.specs.declared.setup_reading.SetupFault.TheVariants.{Csv, Terminal, Partner, Code, Limit, Block as BlockFault, Memory}
-use Rattle.office_explain.specs.declared.setup_reading.SetupFile.{SetupFile}
-use Rattle.office_explain.specs.declared.setup_reading.SetupFile.TheVariants.{Partners, Blocks}
-use Rattle.office_explain.specs.declared.wrong_records.WrongRecord.{WrongRecord}
+use Rattle.office_explain.specs.{declared.setup_reading.SetupFile.TheVariants.{Partners, Blocks}, declared.wrong_records.WrongRecord.WrongRecord}
 use Rattle.office_explain.specs.declared.wrong_records.WrongRecord.TheVariants.{OfPartners, OfBlocks}
 
 -- a record is of a kind, by its first field

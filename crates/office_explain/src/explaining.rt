@@ -1,9 +1,7 @@
 //! What is told of the interchanges of a file, one after the other.
 ghost use Rattle.std.specs.Prelude.{◌≡◌, ◌≤◌, IfOk, IfErr, ◌+◌, ◌<◌, IfSome, IfNone, drop, length};
-ghost use Rattle.edi_syntax.specs.Cuts.{IsInterchange};
-ghost use Rattle.edi_syntax.specs.Reading.{breaks_len};
-ghost use Rattle.office_explain.specs.Blocks.{HasOnlyBreaks, IsApart, IsBlock, IsToldFirst};
-ghost use Rattle.office_explain.specs.Told.{BeginsWithInterchange, IsCutFor, Explains};
+ghost use Rattle.edi_syntax.specs.{Cuts.IsInterchange, Reading.breaks_len};
+ghost use Rattle.office_explain.specs.{Blocks.{HasOnlyBreaks, IsApart, IsBlock, IsToldFirst}, Told.{BeginsWithInterchange, IsCutFor, Explains}};
 
 use crate::finding::Finding;
 use crate::interchange_places::{cut_finding, refusal};

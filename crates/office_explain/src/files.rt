@@ -1,12 +1,8 @@
-ghost use Rattle.std.specs.List.{list_any, list_all};
-ghost use Rattle.std.specs.Option.{option_map};
-ghost use Rattle.std.specs.Prelude.{◌≡◌, map, ◌≤◌, ◌↔◌, IsTrue, IfOk, MatchOption, List, ℕ, length, Some, drop};
+ghost use Rattle.std.specs.{List.{list_any, list_all}, Option.option_map, Prelude.{◌≡◌, map, ◌≤◌, ◌↔◌, IsTrue, IfOk, MatchOption, List, ℕ, length, Some, drop}};
 ghost use Rattle.std.specs.Str.{bytes_eq};
 ghost use Rattle.csv.specs.Records.{fields_of};
-ghost use Rattle.edi_messages.specs.Codes.{table_texts};
-ghost use Rattle.edi_messages.specs.declared.codes.PartnerKind.{PartnerKind};
-ghost use Rattle.office_admission.specs.Limits.{most_partners};
-ghost use Rattle.office_admission.specs.Setups.{account_contents};
+ghost use Rattle.edi_messages.specs.{Codes.table_texts, declared.codes.PartnerKind.PartnerKind};
+ghost use Rattle.office_admission.specs.{Limits.most_partners, Setups.account_contents};
 ghost use Rattle.office_explain.specs.Entries.{entry_content};
 ghost use Rattle.office_explain.specs.Said.{terminal_said, limit_in, limit_said, are_apart, names_of, partner_said, ArePartners, AreNoPartners, letter_said, block_said, AreBlocks, AreNoBlocks, is_code_name, value_of, code_texts, AreCodes};
 ghost use Rattle.yard_core.specs.declared.plan.Block.{Block};

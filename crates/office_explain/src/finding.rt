@@ -1,8 +1,7 @@
 //! A fault, with what it is called, its place and what is expected there; and how they are written.
 ghost use Rattle.std.specs.Prelude.{◌≡◌, ◌<◌};
 ghost use Rattle.office_replies.specs.Names.{message_fault_name};
-ghost use Rattle.office_explain.specs.Names.{cut_name, line_fault_name};
-ghost use Rattle.office_explain.specs.Findings.{IsFound};
+ghost use Rattle.office_explain.specs.{Names.{cut_name, line_fault_name}, Findings.IsFound};
 
 use crate::segments::{PlacedSegment, Span};
 use edi_messages::{CodeTable, Codes, LineFault, MessageFault, PartnerKind};

@@ -1,18 +1,10 @@
 //! Whether a text is an interchange that partners may send, and which.
-ghost use Rattle.std.specs.Option.{option_map};
-ghost use Rattle.std.specs.Result.{result_err};
-ghost use Rattle.std.specs.Prelude.{◌≡◌, ◌≤◌, IfOk, IfErr, Some, None, Err, length};
-ghost use Rattle.edi_syntax.specs.Interchange.{segments_in};
-ghost use Rattle.edi_syntax.specs.declared.interchange.SyntaxFault.{SyntaxFault};
-ghost use Rattle.edi_syntax.specs.Envelope.{header_of};
-ghost use Rattle.edi_syntax.specs.Envelopes.{envelope_segments};
+ghost use Rattle.std.specs.{Option.option_map, Result.result_err, Prelude.{◌≡◌, ◌≤◌, IfOk, IfErr, Some, None, Err, length}};
+ghost use Rattle.edi_syntax.specs.{Interchange.segments_in, declared.interchange.SyntaxFault.SyntaxFault, Envelope.header_of, Envelopes.envelope_segments};
 ghost use Rattle.edi_syntax.specs.Faults.{fault_of};
-ghost use Rattle.office_admission.specs.Admission.{admission, sender_of};
-ghost use Rattle.office_admission.specs.Refusals.{error_of};
+ghost use Rattle.office_admission.specs.{Admission.{admission, sender_of}, Refusals.error_of, Limits.most_partners, Parties.{parties_of, partner_kinds}};
 ghost use Rattle.office_explain.specs.Told.{code_named, code_to, fault_named, kind_at, kind_known};
 ghost use Rattle.office_replies.specs.declared.deliver.Fault.{Fault};
-ghost use Rattle.office_admission.specs.Limits.{most_partners};
-ghost use Rattle.office_admission.specs.Parties.{parties_of, partner_kinds};
 
 use crate::finding::Refused;
 use crate::partners::Partners;

@@ -1,8 +1,6 @@
-ghost use Rattle.std.specs.Option.{option_map};
-ghost use Rattle.std.specs.Prelude.{◌≡◌, IfOk, map, codes};
+ghost use Rattle.std.specs.{Option.option_map, Prelude.{◌≡◌, IfOk, map, codes}};
 ghost use Rattle.csv.specs.Records.{fields_of};
-ghost use Rattle.office_explain.specs.Entries.{entry_content, section};
-ghost use Rattle.office_explain.specs.PartnerFaults.{IsPartnerFault, fault_after, fault_of_partner};
+ghost use Rattle.office_explain.specs.{Entries.{entry_content, section}, PartnerFaults.{IsPartnerFault, fault_after, fault_of_partner}};
 
 use crate::files::has_name;
 use crate::records::{Entry, entry_of, read_rows, section};

@@ -1,12 +1,7 @@
 ghost use Rattle.std.specs.Prelude.{◌≡◌, ◌≤◌, IfErr, IfOk, true, false, length, string_bytes};
-ghost use Rattle.edi_syntax.specs.Envelope.{messages_of};
-ghost use Rattle.edi_syntax.specs.Envelopes.{envelope_segments};
-ghost use Rattle.edi_syntax.specs.Frames.{message};
-ghost use Rattle.office_explain.specs.Kinds.{is_of_order, kind_for, kind_wanted, may_send};
-ghost use Rattle.office_explain.specs.Said.{RefuseFiles, SayFiles, no_partners, one_block};
-ghost use Rattle.office_admission.specs.Given.{IsGiven};
-ghost use Rattle.office_admission.specs.Limits.{most_partners};
-ghost use Rattle.office_admission.specs.Setups.{setup_content};
+ghost use Rattle.edi_syntax.specs.{Envelope.messages_of, Envelopes.envelope_segments, Frames.message};
+ghost use Rattle.office_explain.specs.{Kinds.{is_of_order, kind_for, kind_wanted, may_send}, Said.{RefuseFiles, SayFiles, no_partners, one_block}};
+ghost use Rattle.office_admission.specs.{Given.IsGiven, Limits.most_partners, Setups.setup_content};
 
 use crate::{SetupFault, read_setup};
 use edi_messages::{CodeTable, Codes, MessageFault, PartnerKind, read_message};

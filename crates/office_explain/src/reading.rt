@@ -1,17 +1,9 @@
 //! What is read of an interchange that has no fault: its messages and their lines, with the faults of these.
-ghost use Rattle.std.specs.List.{list_all};
-ghost use Rattle.std.specs.Prelude.{◌≡◌, IfOk, unwrap_or};
+ghost use Rattle.std.specs.{List.list_all, Prelude.{◌≡◌, IfOk, unwrap_or}};
 ghost use Rattle.edi_messages.specs.Message.{reading};
-ghost use Rattle.edi_syntax.specs.Moments.{CivilMoment};
-ghost use Rattle.edi_syntax.specs.Segment.{value};
-ghost use Rattle.edi_syntax.specs.Interchange.{segments_in};
-ghost use Rattle.edi_syntax.specs.Envelope.{messages_of};
-ghost use Rattle.edi_syntax.specs.Envelopes.{envelope_segments};
-ghost use Rattle.edi_syntax.specs.Frames.{message, messages_left};
-ghost use Rattle.edi_syntax.specs.Messages.{Message as MessageContent};
-ghost use Rattle.office_explain.specs.InOrder.{InOrder};
-ghost use Rattle.office_explain.specs.Kinds.{kind_wanted};
-ghost use Rattle.office_explain.specs.Messages.{AreNotes, AreToldOf, IsFault, IsNote, IsReadOf, IsToldOf, is_order};
+ghost use Rattle.edi_syntax.specs.{Moments.CivilMoment, Segment.value, Interchange.segments_in, Envelope.messages_of, Envelopes.envelope_segments};
+ghost use Rattle.edi_syntax.specs.{Frames.{message, messages_left}, Messages.Message as MessageContent};
+ghost use Rattle.office_explain.specs.{InOrder.InOrder, Kinds.kind_wanted, Messages.{AreNotes, AreToldOf, IsFault, IsNote, IsReadOf, IsToldOf, is_order}};
 
 use crate::finding::Finding;
 use crate::message_places::{first_moment, group_from, refused_line, rejection};

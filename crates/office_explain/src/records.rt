@@ -1,11 +1,7 @@
-ghost use Rattle.std.specs.List.{list_all, list_any};
-ghost use Rattle.std.specs.Option.{option_map};
-ghost use Rattle.std.specs.Prelude.{◌≡◌, IfOk, IfSome, All, map, MatchOption, codes};
-ghost use Rattle.std.specs.Str.{bytes_eq};
+ghost use Rattle.std.specs.{List.{list_all, list_any}, Option.option_map, Prelude.{◌≡◌, IfOk, IfSome, All, map, MatchOption, codes}, Str.bytes_eq};
 ghost use Rattle.csv.specs.Records.{AllText, fields_of};
 ghost use Rattle.office_explain.specs.Entries.{AreRows, entry_of, entry_content, section, is_partner_header, is_kind_of_record, is_partner_row, is_partner_file, is_block_header, is_block_row, is_block_file, count_said, field};
-ghost use Rattle.office_explain.specs.Wrong.{Decides, Shows, is_of};
-ghost use Rattle.office_explain.specs.declared.setup_reading.SetupFile.TheVariants.{Partners, Blocks};
+ghost use Rattle.office_explain.specs.{Wrong.{Decides, Shows, is_of}, declared.setup_reading.SetupFile.TheVariants.{Partners, Blocks}};
 
 use crate::files::blocks_of;
 use crate::setup_reading::{SetupFault, SetupFile, codes_in, limit_in, partners_in, terminal_in};

@@ -1,14 +1,10 @@
-ghost use Rattle.std.specs.List.Sorted.{IsNonDecreasingBy, IsPermutation};
-ghost use Rattle.std.specs.Option.{option_map};
+ghost use Rattle.std.specs.{List.Sorted.{IsNonDecreasingBy, IsPermutation}, Option.option_map};
 ghost use Rattle.std.specs.Prelude.{◌≡◌, ℕ, List, IfOk, IfErr, MatchOption, map, codes, string_bytes};
 ghost use Rattle.csv.specs.Records.{fields_of};
-ghost use Rattle.edi_messages.specs.Codes.{table_texts};
-ghost use Rattle.edi_messages.specs.declared.codes.PartnerKind.{PartnerKind};
-ghost use Rattle.office_admission.specs.Given.{IsGiven};
-ghost use Rattle.office_admission.specs.Setups.{account_contents, setup_content};
-ghost use Rattle.office_explain.specs.Entries.{AreFiles, section};
+ghost use Rattle.edi_messages.specs.{Codes.table_texts, declared.codes.PartnerKind.PartnerKind};
+ghost use Rattle.office_admission.specs.{Given.IsGiven, Setups.{account_contents, setup_content}};
+ghost use Rattle.office_explain.specs.{Entries.{AreFiles, section}, declared.setup_reading.SetupFault.TheVariants.Memory};
 ghost use Rattle.office_explain.specs.Said.{Applies, ArePartners, AreNoPartners, AreCodes, IsLowest, SaysSetup, SayFiles, RefuseFiles, code_texts, limit_said, terminal_said};
-ghost use Rattle.office_explain.specs.declared.setup_reading.SetupFault.TheVariants.{Memory};
 ghost use Rattle.yard_core.specs.declared.plan.Block.{Block};
 
 use crate::files::{blocks_of, codes_of, limit_of, partners_of, terminal_of};

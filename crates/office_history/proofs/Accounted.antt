@@ -1,77 +1,33 @@
 -- The partners by whose interchanges visits were opened and closed have accounts.
+use Rattle.std.{specs.{Prelude.{slice_index_or, Contains}, Str.bytes_eq, Cmp.Lexicographic.bytes_decides}, proofs.lemmas.Bool.{le-ltb, lt-ltb, eqb-true}}
 use Rattle.std.proofs.Common.{◌≡◌, ℕ, zero, suc, ◌+◌, ◌<◌, ◌≤◌, List, [], ◌∷◌, ◌++◌, length, Bool, true, false, cond, Option, None, Some, Result, Ok, Err, refl, sym, ap, subst, ◌∙◌, arith, inl, inr, map}
-use Rattle.std.specs.Prelude.{slice_index_or, Contains}
-use Rattle.std.specs.Str.{bytes_eq}
-use Rattle.std.specs.Cmp.Lexicographic.{bytes_decides}
-use Rattle.std.proofs.lemmas.Bool.{le-ltb, lt-ltb, eqb-true}
-use Rattle.std.proofs.lemmas.List.{length-map}
-use Rattle.edi_messages.specs.declared.codes.PartnerKind.{PartnerKind}
-use Rattle.edi_syntax.specs.Interchange.{interchange_of, segments_in}
-use Rattle.edi_syntax.specs.declared.interchange.SyntaxFault.{SyntaxFault}
-use Rattle.edi_syntax.specs.Envelope.{header_of, messages_of}
-use Rattle.edi_syntax.specs.Faults.{fault_of}
-use Rattle.edi_syntax.specs.Header.{recipient, preparation}
-use Rattle.partner_core.specs.Deliveries.{Delivery, delivery, first_text, run}
-use Rattle.partner_core.specs.Order.{reply_of, state, order}
-use Rattle.partner_core.specs.Answers.{answer_by, Taken}
-use Rattle.partner_core.specs.Standings.{standing_of, is_same_text}
-use Rattle.partner_core.specs.declared.runs.Standing.{Standing}
-use Rattle.partner_core.specs.declared.runs.Standing.TheVariants.{Known, Other, Early, Next}
-use Rattle.office_admission.specs.Admission.{admission, by_header, by_recipient, sender_of, number_in, is_for}
-use Rattle.office_admission.specs.Accounts.{content_after}
-use Rattle.office_admission.specs.Deliveries.{deliveries_of}
-use Rattle.office_admission.proofs.Adding.{first_admitted, given_after, found_low}
-use Rattle.office_replies.specs.Events.{Event}
-use Rattle.terminal_core.specs.Versions.{newest, spares_empty}
-use Rattle.office_replies.specs.declared.deliver.Fault.{Fault}
-use Rattle.office_replies.specs.declared.deliver.Fault.TheVariants.{WrongRecipient}
-use Rattle.office_admission.specs.Parties.{Parties}
-use Rattle.office_admission.specs.Setups.{SetupContent, parties_in}
-use Rattle.office_admission.specs.Given.{IsGiven}
-use Rattle.office_admission.specs.Taking.{MachineState, clearing_of, clearing_for, list_replaced, line_taken_by, lines_taken_by, verdict_on_by, messages_taken_by, codes_for, source_in, nothing_taken, taken_at_by, taken_of_by, interchange_taken_by}
-use Rattle.office_admission.proofs.Forming.{number_within, terminal_alone}
-use Rattle.office_rows.specs.Rows.{Partner, Rows}
-use Rattle.office_history.specs.After.{opening_of, taking_in, machine_after, accounts_from, reply_in, AreAfter}
-use Rattle.office_history.specs.Cascade.{text_in, TakenContent, texts_with, AreTakenFrom}
-use Rattle.office_history.specs.Laws.{IsFor, answer_model_of, AnswersBy}
-use Rattle.office_history.proofs.Afters.{answered, first_reply}
-use Rattle.office_history.proofs.Places.{sound_in, goes_on, numbered_more, kept_over, placed, in_force}
-use Rattle.std.proofs.lemmas.List.Elements.{Contains-push_cases}
-use Rattle.box6346.specs.declared.box_number.BoxNumber.{BoxNumber}
-use Rattle.box6346.specs.declared.slot.Slot.{Slot}
-use Rattle.edi_syntax.specs.Moments.{CivilMoment}
-use Rattle.edi_messages.specs.declared.codes.Codes.{Codes}
-use Rattle.edi_messages.specs.declared.message.MessageFault.{MessageFault}
-use Rattle.edi_messages.specs.Message.{LineContent as ReadLine, ordered, refused as refused_line, MessageContent}
+use Rattle.std.proofs.{lemmas.List.length-map, lemmas.List.Elements.Contains-push_cases}
+use Rattle.edi_messages.specs.{declared.codes.PartnerKind.PartnerKind, declared.codes.Codes.Codes, declared.message.MessageFault.MessageFault}
+use Rattle.edi_messages.specs.{Message.{LineContent as ReadLine, ordered, refused as refused_line, MessageContent}, Purposes.CallContent}
 use Rattle.edi_messages.specs.Orders.{EntryContent, OrderContent, gate_in, gate_out, move, list_discharge, list_load, discharge, load}
-use Rattle.edi_messages.specs.Purposes.{CallContent}
-use Rattle.edi_syntax.specs.Text.{Content}
-use Rattle.edi_syntax.specs.Messages.{Message}
-use Rattle.partner_core.specs.Numbered.{with_number}
-use Rattle.partner_core.specs.Machine.{Taking}
-use Rattle.yard_core.specs.declared.placements.Placement.{Placement}
-use Rattle.yard_core.specs.Decisions.{Refusal, yard_without, yard_with_move}
-use Rattle.yard_core.specs.YardMap.{YardMap}
-use Rattle.terminal_core.specs.declared.change.Version.{Version}
-use Rattle.terminal_core.specs.declared.visits.Departure.{Departure}
-use Rattle.terminal_core.specs.declared.lines.LineState.{LineState}
-use Rattle.terminal_core.specs.declared.lines.LineState.TheVariants.{Pending, Done as LineIsDone}
-use Rattle.terminal_core.specs.declared.change.Outcome.{Outcome}
-use Rattle.terminal_core.specs.declared.change.Outcome.TheVariants.{Refused}
-use Rattle.terminal_core.specs.declared.change.Reason.TheVariants.{AlreadyIn, NotIn, VisitLimit}
-use Rattle.terminal_core.specs.declared.lines.Side.{Side}
-use Rattle.terminal_core.specs.declared.lines.Side.TheVariants.{Load, Discharge}
-use Rattle.terminal_core.specs.declared.change.Source.{Source}
-use Rattle.terminal_core.specs.declared.visits.Way.{Way}
-use Rattle.terminal_core.specs.declared.visits.Way.TheVariants.{Gate, Ship}
-use Rattle.terminal_core.specs.Rows.{VisitContent}
-use Rattle.terminal_core.specs.State.{TerminalState, LineContent, line_of, is_in, is_open_visit}
+use Rattle.edi_syntax.specs.{Interchange.{interchange_of, segments_in}, declared.interchange.SyntaxFault.SyntaxFault, Envelope.{header_of, messages_of}}
+use Rattle.edi_syntax.specs.{Faults.fault_of, Header.{recipient, preparation}, Moments.CivilMoment, Text.Content, Messages.Message}
+use Rattle.partner_core.specs.{Deliveries.{Delivery, delivery, first_text, run}, Order.{reply_of, state, order}, Answers.{answer_by, Taken}, Machine.Taking}
+use Rattle.partner_core.specs.{Standings.{standing_of, is_same_text}, declared.runs.Standing.Standing, Numbered.with_number}
+use Rattle.partner_core.specs.declared.runs.Standing.TheVariants.{Known, Other, Early, Next}
+use Rattle.office_admission.specs.{Admission.{admission, by_header, by_recipient, sender_of, number_in, is_for}, Accounts.content_after, Parties.Parties}
+use Rattle.office_admission.specs.{Deliveries.deliveries_of, Setups.{SetupContent, parties_in}, Given.IsGiven, Readings.reading_by}
+use Rattle.office_admission.specs.Taking.{MachineState, clearing_of, clearing_for, list_replaced, line_taken_by, lines_taken_by, verdict_on_by, messages_taken_by, codes_for, source_in, nothing_taken, taken_at_by, taken_of_by, interchange_taken_by}
+use Rattle.office_admission.proofs.{Adding.{first_admitted, given_after, found_low}, Forming.{number_within, terminal_alone}}
+use Rattle.office_replies.specs.{Events.Event, declared.deliver.Fault.Fault, declared.deliver.Fault.TheVariants.WrongRecipient}
+use Rattle.terminal_core.specs.{Versions.{newest, spares_empty}, declared.change.Version.Version, declared.visits.Departure.Departure, declared.lines.Side.Side}
+use Rattle.terminal_core.specs.{declared.lines.LineState.LineState, declared.lines.LineState.TheVariants.{Pending, Done as LineIsDone}, declared.visits.Way.Way}
+use Rattle.terminal_core.specs.{declared.change.Outcome.Outcome, declared.change.Outcome.TheVariants.Refused, declared.lines.Side.TheVariants.{Load, Discharge}}
+use Rattle.terminal_core.specs.{declared.change.Reason.TheVariants.{AlreadyIn, NotIn, VisitLimit}, declared.change.Source.Source, Rows.VisitContent}
+use Rattle.terminal_core.specs.{declared.visits.Way.TheVariants.{Gate, Ship}, State.{TerminalState, LineContent, line_of, is_in, is_open_visit}}
 use Rattle.terminal_core.specs.Step.{StepResult, with_refusal, step_by, yard_with_entry, is_full, visit_of, after_entry, after_entry_at, closed_visit, after_departure, after_departure_at, departure_by, after_move_at, after_listing_at, then_line_done_at, by_line, by_state}
-use Rattle.terminal_core.proofs.Changing.{either}
-use Rattle.terminal_core.proofs.Indexed.{mapped_at}
-use Rattle.terminal_core.proofs.Whole.{contained, found_at}
-use Rattle.office_rows.specs.Office.{HasAccounts}
-use Rattle.office_admission.specs.Readings.{reading_by}
+use Rattle.terminal_core.proofs.{Changing.either, Indexed.mapped_at, Whole.{contained, found_at}}
+use Rattle.office_rows.specs.{Rows.{Partner, Rows}, Office.HasAccounts}
+use Rattle.office_history.specs.{After.{opening_of, taking_in, machine_after, accounts_from, reply_in, AreAfter}, Laws.{IsFor, answer_model_of, AnswersBy}}
+use Rattle.office_history.{specs.Cascade.{text_in, TakenContent, texts_with, AreTakenFrom}, proofs.Afters.{answered, first_reply}}
+use Rattle.office_history.proofs.Places.{sound_in, goes_on, numbered_more, kept_over, placed, in_force}
+use Rattle.box6346.specs.{declared.box_number.BoxNumber.BoxNumber, declared.slot.Slot.Slot}
+use Rattle.yard_core.specs.{declared.placements.Placement.Placement, Decisions.{Refusal, yard_without, yard_with_move}, YardMap.YardMap}
 
 -- ==== Telling: What the rows tell: of the numbers, and of the next answer.
 

@@ -1,39 +1,19 @@
 -- The rows after one delivery more.
+use Rattle.std.{specs.{Prelude.{find, ◌&&◌, ◌==◌, if◌then◌else◌}, Option.{option_map, option_and_then, option_or, unwrap_or}}, proofs.lemmas.Option.same_Some}
 use Rattle.std.proofs.Common.{◌≡◌, ◌≢◌, ℕ, suc, ◌+◌, ◌-◌, ◌<◌, ◌≤◌, inl, inr, List, [], ◌∷◌, ◌++◌, length, Bool, true, false, cond, Option, None, Some, is_some, refl, sym, ap, subst, ◌∙◌, arith}
-use Rattle.std.specs.Prelude.{find, ◌&&◌, ◌==◌, if◌then◌else◌}
-use Rattle.std.specs.Option.{option_map, option_and_then, option_or, unwrap_or}
-use Rattle.std.proofs.lemmas.Bool.{and_parts, eq-eqb, eqb-true, ne_eqb, cond-true, cond-false, cases_eq}
-use Rattle.std.proofs.lemmas.Option.{same_Some}
-use Rattle.std.proofs.lemmas.List.{length-map}
+use Rattle.std.proofs.{lemmas.Bool.{and_parts, eq-eqb, eqb-true, ne_eqb, cond-true, cond-false, cases_eq}, lemmas.List.length-map}
 use Rattle.std.proofs.lemmas.List.Folds.{find-append}
 use Rattle.edi_messages.specs.declared.codes.PartnerKind.{PartnerKind}
-use Rattle.partner_core.specs.Deliveries.{Delivery, delivery, run}
-use Rattle.partner_core.specs.Machine.{Taking}
-use Rattle.partner_core.specs.Order.{state, reply_of, numbers_above, numbers_between, reply_among}
-use Rattle.partner_core.specs.Answers.{answer_of, answer_by}
-use Rattle.partner_core.specs.Standings.{standing_of}
-use Rattle.partner_core.specs.Keeping.{Holdings, Keeps, TakesRun}
-use Rattle.partner_core.specs.Cascade.{TakesTexts, for_each_partner}
-use Rattle.partner_core.specs.Growth.{AddsNothing}
-use Rattle.partner_core.proofs.Keepings.{takes_none, answer-kept}
-use Rattle.partner_core.proofs.Orders.{none_of}
+use Rattle.partner_core.specs.{Deliveries.{Delivery, delivery, run}, Machine.Taking, Order.{state, reply_of, numbers_above, numbers_between, reply_among}}
+use Rattle.partner_core.specs.{Answers.{answer_of, answer_by}, Standings.standing_of, Keeping.{Holdings, Keeps, TakesRun}, Growth.AddsNothing}
+use Rattle.partner_core.{specs.Cascade.{TakesTexts, for_each_partner}, proofs.{Keepings.{takes_none, answer-kept}, Orders.none_of}}
 use Rattle.partner_core.proofs.OnceEach.{adds_nothing, adds_text, replied_within}
-use Rattle.terminal_core.specs.Changes.{rows_of}
-use Rattle.terminal_core.specs.State.{IsWhole}
-use Rattle.terminal_core.proofs.Removed.{empty_whole}
-use Rattle.terminal_core.proofs.Applying.{empty_formed}
-use Rattle.terminal_core.specs.declared.change.Version.{Version}
-use Rattle.office_admission.specs.Setups.{SetupContent}
-use Rattle.office_admission.specs.Given.{IsGiven}
-use Rattle.office_admission.specs.Taking.{MachineState, interchange_taken}
-use Rattle.office_admission.specs.TakingLaws.{IsSoundMachine, KeepsSound}
+use Rattle.terminal_core.{specs.{Changes.rows_of, State.IsWhole, declared.change.Version.Version}, proofs.{Removed.empty_whole, Applying.empty_formed}}
+use Rattle.office_admission.specs.{Setups.SetupContent, Given.IsGiven, Taking.{MachineState, interchange_taken}, TakingLaws.{IsSoundMachine, KeepsSound}}
 use Rattle.office_admission.proofs.Forming.{runs_sound}
-use Rattle.office_rows.specs.Rows.{Interchange, Rows}
-use Rattle.office_rows.specs.Effects.{is_pair, with_waiting}
-use Rattle.office_history.specs.After.{opening_of, empty_yard, accounts_from, reply_if_any, reply_in, AreKeptOnce, AreRowsOf}
-use Rattle.office_history.specs.Cascade.{text_in, TakenContent, texts_with, with_run, AreTakenFrom}
-use Rattle.office_history.specs.Laws.{AreRowsByKey}
-use Rattle.office_history.proofs.ByKeys.{none_found, none_mapped, once_more}
+use Rattle.office_rows.specs.{Rows.{Interchange, Rows}, Effects.{is_pair, with_waiting}}
+use Rattle.office_history.specs.{After.{opening_of, empty_yard, accounts_from, reply_if_any, reply_in, AreKeptOnce, AreRowsOf}, Laws.AreRowsByKey}
+use Rattle.office_history.{specs.Cascade.{text_in, TakenContent, texts_with, with_run, AreTakenFrom}, proofs.ByKeys.{none_found, none_mapped, once_more}}
 use Rattle.office_history.proofs.Runs.{RunLeaves, run_leaves}
 
 -- ---- the rows after deliveries of partners

@@ -1,59 +1,28 @@
 -- Set-ups that say the same take interchanges alike, whatever memory holds their codes.
-use Rattle.std.proofs.Common.{◌≡◌, ℕ, List, [], ◌∷◌, map, Bool, true, false, cond, Option, None, Some, is_none, Ok, Err, refl, sym, ap, subst, ◌∙◌}
-use Rattle.std.specs.Prelude.{◌&&◌, ◌||◌, not, nat_le, if◌then◌else◌, codes, decimal}
-use Rattle.std.specs.Option.{option_map, option_and_then, option_map_or}
-use Rattle.std.specs.List.{find}
+use Rattle.std.specs.{Prelude.{◌&&◌, ◌||◌, not, nat_le, if◌then◌else◌, codes, decimal}, Option.{option_map, option_and_then, option_map_or}, List.find}
 use Rattle.std.specs.Str.{bytes_eq}
+use Rattle.std.proofs.Common.{◌≡◌, ℕ, List, [], ◌∷◌, map, Bool, true, false, cond, Option, None, Some, is_none, Ok, Err, refl, sym, ap, subst, ◌∙◌}
 use Rattle.sqlite.specs.Effect.{Database}
-use Rattle.edi_syntax.specs.Moments.{CivilMoment}
-use Rattle.edi_syntax.specs.Text.{Content}
-use Rattle.edi_syntax.specs.Interchange.{interchange_of, segments_in}
-use Rattle.edi_syntax.specs.Envelope.{header_of, messages_of}
+use Rattle.edi_syntax.specs.{Moments.CivilMoment, Text.Content, Interchange.{interchange_of, segments_in}, Envelope.{header_of, messages_of}, Messages.Message}
 use Rattle.edi_syntax.specs.Header.{preparation}
-use Rattle.edi_syntax.specs.Messages.{Message}
-use Rattle.edi_messages.specs.CodeText.{table_fault}
-use Rattle.edi_messages.specs.Codes.{code_text, table_texts, meanings, order_meant}
+use Rattle.edi_messages.specs.{CodeText.table_fault, Codes.{code_text, table_texts, meanings, order_meant}, Types.message_type_of, Purposes.purpose_with}
 use Rattle.edi_messages.specs.Faults.{beginning, is_original, is_replacement, is_list, replaces_list, document_name, order_kind_of, call_in, applies, message_faults}
-use Rattle.edi_messages.specs.Types.{message_type_of}
-use Rattle.edi_messages.specs.Purposes.{purpose_with}
-use Rattle.edi_messages.specs.Message.{message_of, judged_message, reading}
-use Rattle.edi_messages.specs.declared.code.CodeTable.{CodeTable}
-use Rattle.edi_messages.specs.declared.codes.Codes.{Codes}
-use Rattle.edi_messages.specs.declared.message.MessageFault.{MessageFault}
-use Rattle.edi_messages.specs.declared.message.MessageType.{MessageType}
-use Rattle.edi_messages.specs.declared.message.MessageType.TheVariants.{Codeco, Coprar, Coarri}
-use Rattle.edi_messages.specs.declared.order.OrderKind.{OrderKind}
-use Rattle.edi_messages.specs.declared.codes.PartnerKind.{PartnerKind}
+use Rattle.edi_messages.specs.{Message.{message_of, judged_message, reading}, declared.code.CodeTable.CodeTable, declared.codes.Codes.Codes}
+use Rattle.edi_messages.specs.{declared.message.MessageFault.MessageFault, declared.message.MessageType.MessageType, declared.order.OrderKind.OrderKind}
+use Rattle.edi_messages.specs.{declared.message.MessageType.TheVariants.{Codeco, Coprar, Coarri}, declared.codes.PartnerKind.PartnerKind}
 use Rattle.edi_messages.specs.declared.codes.PartnerKind.TheVariants.{Gate, Line, Quay, Yard}
-use Rattle.partner_core.specs.ByPlace.{taken_by_place}
-use Rattle.partner_core.specs.Deliveries.{Delivery, run}
-use Rattle.partner_core.specs.Machine.{Taking}
-use Rattle.partner_core.specs.Numbered.{with_number}
-use Rattle.partner_core.specs.Order.{state, reply_of}
-use Rattle.terminal_core.specs.declared.change.Source.{Source}
-use Rattle.terminal_core.specs.State.{TerminalState}
-use Rattle.terminal_core.specs.Changes.{rows_of}
-use Rattle.terminal_core.specs.Versions.{newest}
-use Rattle.terminal_core.specs.declared.change.Version.{Version}
+use Rattle.partner_core.specs.{ByPlace.taken_by_place, Deliveries.{Delivery, run}, Machine.Taking, Numbered.with_number, Order.{state, reply_of}}
+use Rattle.terminal_core.specs.{declared.change.Source.Source, State.TerminalState, Changes.rows_of, Versions.newest, declared.change.Version.Version}
 use Rattle.terminal_core.specs.declared.change.Version.TheVariants.{First, Second, Third}
-use Rattle.office_admission.specs.Accounts.{content_with, content_after}
-use Rattle.office_admission.specs.Deliveries.{with_delivery, deliveries_of}
-use Rattle.office_admission.specs.Admission.{admission, is_for, number_said}
-use Rattle.office_replies.specs.Events.{Event, delivered, migrated, added}
-use Rattle.office_replies.specs.Messages.{ReportContent}
-use Rattle.office_admission.specs.Given.{IsGiven}
-use Rattle.office_admission.specs.Setups.{SetupContent, parties_in}
-use Rattle.office_admission.specs.TakingLaws.{ChangesTerminalAlone}
+use Rattle.office_admission.specs.{Accounts.{content_with, content_after}, Deliveries.{with_delivery, deliveries_of}, Given.IsGiven}
+use Rattle.office_admission.specs.{Admission.{admission, is_for, number_said}, Setups.{SetupContent, parties_in}, TakingLaws.ChangesTerminalAlone}
 use Rattle.office_admission.specs.Taking.{MachineState, verdict_on_by, report_on, before_message, messages_taken_by, codes_for, source_in, nothing_taken, reply_to, taken_at_by, taken_of_by, interchange_taken_by}
 use Rattle.office_admission.specs.Readings.{unweighed_reading, reading_by}
-use Rattle.office_rows.specs.Rows.{Rows}
-use Rattle.office_rows.specs.Opened.{OpenedRows, Shows}
-use Rattle.office_rows.specs.Stored.{HasRows}
+use Rattle.office_replies.specs.{Events.{Event, delivered, migrated, added}, Messages.ReportContent}
+use Rattle.office_rows.specs.{Rows.Rows, Opened.{OpenedRows, Shows}, Stored.HasRows}
 use Rattle.office_rows.specs.Opening.{setting_row, settings_in, version_text, code_names, settings_named}
-use Rattle.office_history.specs.After.{SaysSame, migration_in, taking_by, taking_in, opening_of, AreRowsOf, AreAfterBy, AreAfter}
-use Rattle.office_history.specs.Laws.{Reopens}
-use Rattle.office_history.proofs.Loads.{ShowsSetupAndTerminal}
-use Rattle.office_history.proofs.Offices.{says_same}
+use Rattle.office_history.specs.{After.{SaysSame, migration_in, taking_by, taking_in, opening_of, AreRowsOf, AreAfterBy, AreAfter}, Laws.Reopens}
+use Rattle.office_history.proofs.{Loads.ShowsSetupAndTerminal, Offices.says_same}
 use Rattle.office_history.proofs.Places.{TakesAlike as RunsAlike, reply_alike, state_alike, alone_in, in_force, moved}
 use Rattle.edi_messages.specs.declared.message.MessageFault.TheVariants as fault
 use Rattle.edi_messages.specs.declared.order.OrderKind.TheVariants as order

@@ -1,35 +1,19 @@
 -- The tables' rows by their keys, as changes go over them.
+use Rattle.std.specs.{Prelude.{find, filter, ◌&&◌, not, ◌==◌, count_by}, Option.option_map, Str.bytes_eq, Map.update, declared.cmp.Ordering.Ordering}
+use Rattle.std.specs.{Ordering.{nat_cmp, eq_by_cmp, is_eq, ordering_then}, declared.cmp.Ordering.TheVariants.{Less, Equal, Greater}, Cmp.eq_by_cmp_equiv}
+use Rattle.std.{specs.Cmp.Lexicographic.{slice_cmp, nat_list_cmp_total, texts_ties}, proofs.{Math.Bool.and-true, lemmas.List.map-append}}
 use Rattle.std.proofs.Common.{◌≡◌, ℕ, ◌+◌, ◌≤◌, List, [], ◌∷◌, ◌++◌, map, Bool, true, false, cond, Option, None, Some, is_some, refl, sym, ap, subst, ◌∙◌, arith}
-use Rattle.std.specs.Prelude.{find, filter, ◌&&◌, not, ◌==◌, count_by}
-use Rattle.std.specs.Option.{option_map}
-use Rattle.std.specs.Str.{bytes_eq}
-use Rattle.std.specs.Map.{update}
-use Rattle.std.specs.Ordering.{nat_cmp, eq_by_cmp, is_eq, ordering_then}
-use Rattle.std.specs.declared.cmp.Ordering.{Ordering}
-use Rattle.std.specs.declared.cmp.Ordering.TheVariants.{Less, Equal, Greater}
-use Rattle.std.specs.Cmp.{eq_by_cmp_equiv}
-use Rattle.std.specs.Cmp.Lexicographic.{slice_cmp, nat_list_cmp_total, texts_ties}
-use Rattle.std.proofs.Math.Bool.{and-true}
-use Rattle.std.proofs.lemmas.List.{map-append}
 use Rattle.std.proofs.lemmas.List.Sums.{length-filter}
-use Rattle.box6346.specs.declared.box_number.BoxNumber.{BoxNumber}
-use Rattle.box6346.specs.declared.slot.Slot.{Slot}
+use Rattle.box6346.specs.{declared.box_number.BoxNumber.BoxNumber, declared.slot.Slot.Slot}
 use Rattle.edi_messages.specs.Purposes.{CallContent}
-use Rattle.terminal_core.specs.declared.lines.LineState.TheVariants.{Pending, Done}
-use Rattle.terminal_core.specs.declared.lines.Side.{Side}
-use Rattle.terminal_core.specs.declared.lines.Side.TheVariants.{Load, Discharge}
+use Rattle.terminal_core.{specs.{declared.lines.LineState.TheVariants.{Pending, Done}, declared.lines.Side.Side}, proofs.Open.{same_bytes, none_counted}}
+use Rattle.terminal_core.specs.{declared.lines.Side.TheVariants.{Load, Discharge}, State.{LineContent, LineKey, Lines, line_key, side_code}}
 use Rattle.terminal_core.specs.Rows.{ChangeContent, visit_opened, visit_closed, placed_at, moved_to, removed_from, listed_on, line_done, unlisted}
-use Rattle.terminal_core.specs.State.{LineContent, LineKey, Lines, line_key, side_code}
 use Rattle.terminal_core.specs.Changes.{Standing, standing_in, standing_elsewhere, TerminalRows, with_line_done, rows_with, rows_with_all, IsApplicable, AreApplicable}
-use Rattle.terminal_core.proofs.Open.{same_bytes, none_counted}
-use Rattle.terminal_core.proofs.Indexed.{counted_more, none_if, one_if}
-use Rattle.terminal_core.proofs.Lined.{order, keys_total, keys_apart, same_key}
-use Rattle.office_rows.specs.Rows.{PlaceContent, ListingContent, Rows}
-use Rattle.office_rows.specs.Effects.{stands_for, is_line, with_change}
+use Rattle.terminal_core.proofs.{Indexed.{counted_more, none_if, one_if}, Lined.{order, keys_total, keys_apart, same_key}}
+use Rattle.office_rows.specs.{Rows.{PlaceContent, ListingContent, Rows}, Effects.{stands_for, is_line, with_change}}
 use Rattle.office_rows.specs.ByKey.{standing_by, line_entry, lines_by, terminal_rows, ArePlacedOnce, AreListedOnce}
-use Rattle.office_history.specs.Cascade.{with_changes}
-use Rattle.office_history.specs.Laws.{AreRowsByKey}
-use Rattle.office_history.proofs.Kept.{count_more}
+use Rattle.office_history.{specs.{Cascade.with_changes, Laws.AreRowsByKey}, proofs.Kept.count_more}
 use Rattle.std.specs.FinMap as finite_map
 
 -- ---- places
@@ -316,9 +300,6 @@ find_mapped p f same (x ∷ xs) = ap (λ b. cond b (Some (f x)) (find p (map f x
 
 with_line : (lines : Lines) (key : LineKey) (o : Option LineContent) (line : LineContent) → o ≡ Some line → with_line_done lines key o ≡ finite_map.insert lines key (as_done line)
 with_line lines key o line e = ap (with_line_done lines key) e
-
-abbrev by_key : TerminalRows → List PlaceContent → List ListingContent → TerminalRows
-by_key terminal places lines = record terminal { places = standing_by places; lines = lines_by lines }
 
 change_agrees : (rows : Rows) (change : ChangeContent) → ArePlacedOnce rows.places → AreListedOnce rows.lines → IsApplicable (terminal_rows rows) change → AreRowsByKey (with_change change rows) (rows_with (terminal_rows rows) change)
 change_agrees rows (visit_opened visit) placed listed fits = record { same = refl; placed_once = placed; listed_once = listed }

@@ -1,66 +1,32 @@
 -- The plan of the yard and the limit of visits, which no delivery changes.
+use Rattle.std.{specs.Prelude.nat_le, proofs.lemmas.List.{map-append, length-map}}
 use Rattle.std.proofs.Common.{◌≡◌, ℕ, ◌+◌, List, [], ◌∷◌, ◌++◌, length, Bool, true, false, cond, Some, Ok, refl, sym, ap, subst, ◌∙◌, arith, ◌&&◌, not, Option, None, is_some, Result, Err}
-use Rattle.std.specs.Prelude.{nat_le}
-use Rattle.std.proofs.lemmas.List.{map-append, length-map}
-use Rattle.edi_messages.specs.declared.codes.PartnerKind.{PartnerKind}
-use Rattle.partner_core.specs.ByPlace.{taken_by_place}
-use Rattle.partner_core.specs.Deliveries.{Delivery, first_text, run}
-use Rattle.partner_core.specs.Machine.{Taking}
-use Rattle.partner_core.specs.Order.{state, order}
-use Rattle.terminal_core.specs.Changes.{rows_of}
-use Rattle.terminal_core.specs.Versions.{newest, spares_empty}
-use Rattle.terminal_core.specs.declared.change.Version.{Version}
-use Rattle.office_replies.specs.Events.{Event, added}
-use Rattle.office_admission.specs.Kinds.{kind_named}
-use Rattle.office_admission.specs.Setups.{SetupContent, parties_in, setup_with_account}
-use Rattle.office_admission.specs.Accounts.{content_after, account_answer, added_as}
-use Rattle.office_admission.specs.Admission.{admission, number_said, is_for}
-use Rattle.office_admission.specs.Deliveries.{deliveries_of}
-use Rattle.office_admission.proofs.Adding.{added_last, parties_grown, content_on, account_adds, first_admitted, no_run_beyond}
-use Rattle.office_admission.specs.Growth.{with_account}
-use Rattle.office_admission.specs.TakingLaws.{ChangesTerminalAlone}
-use Rattle.office_admission.specs.Taking.{MachineState, interchange_taken_by, clearing_of, clearing_for, list_replaced, line_taken_by, lines_taken_by, verdict_on_by, messages_taken_by, codes_for, source_in, nothing_taken, taken_at_by, taken_of_by}
-use Rattle.office_admission.proofs.Takings.{taken_with_account}
-use Rattle.office_rows.specs.Rows.{Rows}
-use Rattle.office_rows.specs.Effects.{with_partner}
-use Rattle.office_history.specs.After.{opening_of, taking_in, accounts_from, AreRowsOf, AreAfter}
-use Rattle.office_history.specs.Laws.{AddsAccount, AccountAddsRow}
-use Rattle.office_history.proofs.Places.{TakesAlike, state_alike, reply_alike, alone_in, in_force, taking_added, moved, kept_over, placed}
-use Rattle.box6346.specs.SizeCode.{length_of}
-use Rattle.box6346.specs.declared.box_number.BoxNumber.{BoxNumber}
-use Rattle.box6346.specs.declared.size_type.Length.{Length}
-use Rattle.box6346.specs.declared.slot.Slot.{Slot}
-use Rattle.edi_syntax.specs.Moments.{CivilMoment}
-use Rattle.edi_messages.specs.declared.codes.Codes.{Codes}
-use Rattle.edi_messages.specs.declared.message.MessageFault.{MessageFault}
-use Rattle.edi_messages.specs.Message.{LineContent as ReadLine, ordered, refused as refused_line, MessageContent}
+use Rattle.edi_messages.specs.{declared.codes.PartnerKind.PartnerKind, declared.codes.Codes.Codes, declared.message.MessageFault.MessageFault}
+use Rattle.edi_messages.specs.{Message.{LineContent as ReadLine, ordered, refused as refused_line, MessageContent}, Purposes.CallContent}
 use Rattle.edi_messages.specs.Orders.{EntryContent, OrderContent, gate_in, gate_out, move, list_discharge, list_load, discharge, load}
-use Rattle.edi_messages.specs.Purposes.{CallContent}
-use Rattle.edi_syntax.specs.Text.{Content}
-use Rattle.edi_syntax.specs.Interchange.{segments_in}
-use Rattle.edi_syntax.specs.Envelope.{header_of, messages_of}
-use Rattle.edi_syntax.specs.Header.{preparation}
-use Rattle.edi_syntax.specs.Messages.{Message}
-use Rattle.partner_core.specs.Numbered.{with_number}
-use Rattle.yard_core.specs.declared.placements.Placement.{Placement}
-use Rattle.yard_core.specs.declared.placements.Stowed.{Stowed}
-use Rattle.yard_core.specs.Decisions.{Refusal, present, is_same_slot, misfit_of, first_fit, blocker_of, unless_buried, with_misfit, with_slot as with_first_slot, yard_with, yard_without, yard_without_at, yard_with_move, yard_with_move_at}
-use Rattle.yard_core.specs.YardMap.{Boxes, YardMap, yard_map, placement, placement_of, stowed}
-use Rattle.terminal_core.specs.declared.visits.Departure.{Departure}
-use Rattle.terminal_core.specs.declared.lines.LineState.{LineState}
-use Rattle.terminal_core.specs.declared.lines.LineState.TheVariants.{Pending, Done as LineIsDone}
-use Rattle.terminal_core.specs.declared.change.Outcome.{Outcome}
-use Rattle.terminal_core.specs.declared.change.Outcome.TheVariants.{Refused}
-use Rattle.terminal_core.specs.declared.change.Reason.TheVariants.{AlreadyIn, NotIn, VisitLimit}
-use Rattle.terminal_core.specs.declared.lines.Side.{Side}
-use Rattle.terminal_core.specs.declared.lines.Side.TheVariants.{Load, Discharge}
-use Rattle.terminal_core.specs.declared.change.Source.{Source}
-use Rattle.terminal_core.specs.declared.visits.Way.{Way}
-use Rattle.terminal_core.specs.declared.visits.Way.TheVariants.{Gate, Ship}
-use Rattle.terminal_core.specs.State.{TerminalState, LineContent, line_of, is_in}
+use Rattle.partner_core.specs.{ByPlace.taken_by_place, Deliveries.{Delivery, first_text, run}, Machine.Taking, Order.{state, order}, Numbered.with_number}
+use Rattle.terminal_core.specs.{Changes.rows_of, Versions.{newest, spares_empty}, declared.change.Version.Version, declared.visits.Departure.Departure}
+use Rattle.terminal_core.specs.{declared.lines.LineState.LineState, declared.lines.LineState.TheVariants.{Pending, Done as LineIsDone}, declared.visits.Way.Way}
+use Rattle.terminal_core.specs.{declared.change.Outcome.Outcome, declared.change.Outcome.TheVariants.Refused, declared.lines.Side.Side}
+use Rattle.terminal_core.specs.{declared.change.Reason.TheVariants.{AlreadyIn, NotIn, VisitLimit}, declared.lines.Side.TheVariants.{Load, Discharge}}
+use Rattle.terminal_core.specs.{declared.change.Source.Source, declared.visits.Way.TheVariants.{Gate, Ship}, State.{TerminalState, LineContent, line_of, is_in}}
 use Rattle.terminal_core.specs.Step.{StepResult, with_refusal, step_by, yard_with_entry, yard_with_entry_in, with_slot, is_full, after_entry, after_entry_at, after_departure, after_departure_at, departure_by, after_move_at, after_listing_at, then_line_done_at, by_line, by_state}
 use Rattle.terminal_core.proofs.Changing.{either}
-use Rattle.office_admission.specs.Readings.{reading_by}
+use Rattle.office_replies.specs.Events.{Event, added}
+use Rattle.office_admission.specs.{Kinds.kind_named, Setups.{SetupContent, parties_in, setup_with_account}, Accounts.{content_after, account_answer, added_as}}
+use Rattle.office_admission.specs.{Admission.{admission, number_said, is_for}, Deliveries.deliveries_of, Growth.with_account, TakingLaws.ChangesTerminalAlone}
+use Rattle.office_admission.specs.Taking.{MachineState, interchange_taken_by, clearing_of, clearing_for, list_replaced, line_taken_by, lines_taken_by, verdict_on_by, messages_taken_by, codes_for, source_in, nothing_taken, taken_at_by, taken_of_by}
+use Rattle.office_admission.{specs.Readings.reading_by, proofs.Adding.{added_last, parties_grown, content_on, account_adds, first_admitted, no_run_beyond}}
+use Rattle.office_admission.proofs.Takings.{taken_with_account}
+use Rattle.office_rows.specs.{Rows.Rows, Effects.with_partner}
+use Rattle.office_history.specs.{After.{opening_of, taking_in, accounts_from, AreRowsOf, AreAfter}, Laws.{AddsAccount, AccountAddsRow}}
+use Rattle.office_history.proofs.Places.{TakesAlike, state_alike, reply_alike, alone_in, in_force, taking_added, moved, kept_over, placed}
+use Rattle.box6346.specs.{SizeCode.length_of, declared.box_number.BoxNumber.BoxNumber, declared.size_type.Length.Length, declared.slot.Slot.Slot}
+use Rattle.edi_syntax.specs.{Moments.CivilMoment, Text.Content, Interchange.segments_in, Envelope.{header_of, messages_of}, Header.preparation}
+use Rattle.edi_syntax.specs.Messages.{Message}
+use Rattle.yard_core.specs.{declared.placements.Placement.Placement, declared.placements.Stowed.Stowed}
+use Rattle.yard_core.specs.Decisions.{Refusal, present, is_same_slot, misfit_of, first_fit, blocker_of, unless_buried, with_misfit, with_slot as with_first_slot, yard_with, yard_without, yard_without_at, yard_with_move, yard_with_move_at}
+use Rattle.yard_core.specs.YardMap.{Boxes, YardMap, yard_map, placement, placement_of, stowed}
 use Rattle.std.specs.FinMap as finite_map
 
 -- ==== Growing: The rows after an account more.

@@ -1,23 +1,12 @@
 -- The interchanges that are kept: of each partner those up to its run, which were taken, and those that wait.
+use Rattle.std.specs.{Prelude.{find, count_by, Contains, slice_index_or}, List.Sorted.IsPermutation, List.{range_with_len, AllByRecursion}}
 use Rattle.std.proofs.Common.{◌≡◌, ℕ, zero, suc, ◌+◌, ◌<◌, ◌≤◌, List, [], ◌∷◌, length, map, Bool, true, false, cond, Option, None, Some, is_some, refl, sym, ap, ap₂, subst, ◌∙◌, arith, ◌⊎◌, ◌-◌, inl, inr, ◌++◌}
-use Rattle.std.specs.Prelude.{find, count_by, Contains, slice_index_or}
-use Rattle.std.specs.List.Sorted.{IsPermutation}
-use Rattle.std.proofs.lemmas.List.Sums.{sum_by-cons}
-use Rattle.std.proofs.lemmas.List.Sorted.{IsPermutation-trans, IsPermutation-sym, Contains-permutation}
-use Rattle.sqlite.specs.Order.{Row}
-use Rattle.sqlite.specs.Table.{Table}
-use Rattle.sqlite.specs.Effect.{Database}
-use Rattle.terminal_core.proofs.Indexed.{found_is, is_found, one_passes}
-use Rattle.terminal_core.proofs.Whole.{contained, found_at}
-use Rattle.office_rows.specs.Stored.{Holds}
-use Rattle.office_rows.specs.Shown.{columns_at, ShowsTable}
-use Rattle.office_rows.proofs.Listed.{unmapped}
-use Rattle.std.specs.List.{range_with_len, AllByRecursion}
-use Rattle.std.proofs.lemmas.Bool.{cases_order}
-use Rattle.edi_messages.specs.declared.codes.PartnerKind.{PartnerKind}
-use Rattle.office_rows.specs.Rows.{Partner}
-use Rattle.office_rows.specs.Opened.{NumberKept}
+use Rattle.std.proofs.{lemmas.List.Sums.sum_by-cons, lemmas.List.Sorted.{IsPermutation-trans, IsPermutation-sym, Contains-permutation}, lemmas.Bool.cases_order}
+use Rattle.sqlite.specs.{Order.Row, Table.Table, Effect.Database}
+use Rattle.terminal_core.proofs.{Indexed.{found_is, is_found, one_passes}, Whole.{contained, found_at}}
+use Rattle.office_rows.{specs.{Stored.Holds, Shown.{columns_at, ShowsTable}, Rows.Partner, Opened.NumberKept}, proofs.Listed.unmapped}
 use Rattle.office_rows.specs.Office.{AreAccounts, AreWaiting, AreKept, taken_numbers}
+use Rattle.edi_messages.specs.declared.codes.PartnerKind.{PartnerKind}
 use Rattle.office_history.specs.After.{accounts_from}
 
 -- ==== Shown: What the queries of all rows show, of rows that a database has.

@@ -1,39 +1,19 @@
 -- The laws of one delivery more, of the rows after deliveries.
+use Rattle.std.specs.{Prelude.is_some, Cmp.Lexicographic.slice_cmp, Ordering.nat_cmp, Option.option_map}
 use Rattle.std.proofs.Common.{Option, ◌≡◌, ℕ, ◌+◌, ◌<◌, List, [], ◌∷◌, ◌++◌, length, None, Some, Err, refl, sym, ap, ◌∙◌, arith}
-use Rattle.std.specs.Prelude.{is_some}
-use Rattle.std.specs.Cmp.Lexicographic.{slice_cmp}
-use Rattle.std.specs.Ordering.{nat_cmp}
-use Rattle.std.specs.Option.{option_map}
 use Rattle.edi_messages.specs.declared.codes.PartnerKind.{PartnerKind}
 use Rattle.edi_syntax.specs.Interchange.{interchange_of}
-use Rattle.partner_core.specs.Deliveries.{Delivery, delivery, run}
-use Rattle.partner_core.specs.Machine.{Taking}
-use Rattle.partner_core.specs.Order.{state, order, reply_of}
+use Rattle.partner_core.{specs.{Deliveries.{Delivery, delivery, run}, Machine.Taking, Order.{state, order, reply_of}}, proofs.Orders.run_of_none}
 use Rattle.partner_core.proofs.OnceEach.{adds_nothing, adds_text, other_run-stays}
-use Rattle.partner_core.proofs.Orders.{run_of_none}
-use Rattle.yard_core.specs.declared.placements.Stowed.{Stowed}
-use Rattle.yard_core.specs.YardMap.{placement_if_any}
-use Rattle.terminal_core.specs.Changes.{standing_in, rows_of}
-use Rattle.yard_core.specs.declared.placements.Placement.{Placement}
-use Rattle.terminal_core.specs.Step.{number_of_visit}
-use Rattle.terminal_core.specs.State.{open_visit}
-use Rattle.terminal_core.specs.Versions.{newest}
-use Rattle.office_admission.specs.Accounts.{content_after}
-use Rattle.office_admission.specs.Admission.{admission}
-use Rattle.office_admission.specs.Deliveries.{deliveries_of}
-use Rattle.office_admission.proofs.Adding.{content_on, given_after}
-use Rattle.office_replies.specs.Events.{Event, delivered}
-use Rattle.office_replies.specs.declared.deliver.Fault.{Fault}
-use Rattle.office_rows.specs.Rows.{Rows}
-use Rattle.office_rows.specs.Effects.{with_waiting}
-use Rattle.office_rows.specs.Opening.{partners_from, opening_rows}
-use Rattle.office_admission.specs.Given.{IsGiven}
-use Rattle.office_admission.specs.Setups.{SetupContent, parties_in}
-use Rattle.office_admission.specs.Taking.{MachineState}
+use Rattle.yard_core.specs.{declared.placements.Stowed.Stowed, YardMap.placement_if_any, declared.placements.Placement.Placement}
+use Rattle.terminal_core.specs.{Changes.{standing_in, rows_of}, Step.number_of_visit, State.open_visit, Versions.newest}
+use Rattle.office_admission.specs.{Accounts.content_after, Admission.admission, Deliveries.deliveries_of, Given.IsGiven, Setups.{SetupContent, parties_in}}
+use Rattle.office_admission.{specs.Taking.MachineState, proofs.Adding.{content_on, given_after}}
+use Rattle.office_replies.specs.{Events.{Event, delivered}, declared.deliver.Fault.Fault}
+use Rattle.office_rows.specs.{Rows.Rows, Effects.with_waiting, Opening.{partners_from, opening_rows}}
 use Rattle.office_history.specs.After.{opening_of, taking_in, machine_after, accounts_from, AreRowsOf, AreAfter}
-use Rattle.office_history.specs.Cascade.{text_in, TakenContent, texts_with, with_run, AreTakenFrom}
+use Rattle.office_history.{specs.Cascade.{text_in, TakenContent, texts_with, with_run, AreTakenFrom}, proofs.Afters.{known_adds, early_keeps, run_more}}
 use Rattle.office_history.specs.Laws.{IsFor, AddsNoRow, AddsWaiting, AddsRun, RefusedAddsNoRow, UsedAddsNoRow, EarlyAddsWaiting, NextAddsRun}
-use Rattle.office_history.proofs.Afters.{known_adds, early_keeps, run_more}
 use Rattle.office_history.proofs.Places.{admitted_more, refused_more, numbered_more, sound_in, goes_on, taking_delivered, moved}
 use Rattle.std.specs.FinMap as finite_map
 

@@ -1,59 +1,25 @@
 -- Whatever one database shows is of one office: one state, and one set-up.
+use Rattle.std.specs.{Prelude.{find, count_by, Contains, IsTrue, codes, decimal}, Option.option_map, List.Sorted.{IsPermutation, IsNonDecreasingBy}}
+use Rattle.std.{specs.{Ordering.eq_by_cmp, Str.bytes_eq}, proofs.{lemmas.Bool.cases_order, lemmas.Fmt.decimal_injective}}
 use Rattle.std.proofs.Common.{◌≡◌, ℕ, suc, ◌+◌, ◌<◌, ◌≤◌, inl, inr, List, [], ◌∷◌, map, Bool, true, false, cond, Option, None, Some, refl, sym, ap, ap₂, subst, ◌∙◌, arith}
-use Rattle.std.specs.Prelude.{find, count_by, Contains, IsTrue, codes, decimal}
-use Rattle.std.specs.Option.{option_map}
-use Rattle.std.specs.List.Sorted.{IsPermutation, IsNonDecreasingBy}
-use Rattle.std.specs.Ordering.{eq_by_cmp}
-use Rattle.std.proofs.lemmas.Bool.{cases_order}
-use Rattle.std.proofs.lemmas.Fmt.{decimal_injective}
 use Rattle.std.proofs.lemmas.List.Sorted.{IsPermutation-map, IsPermutation-sym, IsPermutation-trans, Contains-permutation}
-use Rattle.sqlite.specs.declared.types.Value.{Value}
-use Rattle.sqlite.specs.declared.types.Value.TheVariants.{Text}
-use Rattle.sqlite.specs.Order.{Row, column}
-use Rattle.sqlite.specs.Effect.{Database}
-use Rattle.sqlite.specs.Table.{Table}
-use Rattle.box6346.specs.declared.slot.Slot.{Slot}
-use Rattle.box6346.specs.SlotName.{IsNamed, slot_of, slot_text}
-use Rattle.box6346.proofs.SlotNames.{names_are_read_again_lem}
-use Rattle.edi_syntax.specs.Moments.{CivilMoment, is_moment, moment_of, moment_digits}
-use Rattle.edi_syntax.proofs.DigitLemmas.{read_back}
-use Rattle.edi_messages.specs.declared.codes.PartnerKind.{PartnerKind}
-use Rattle.edi_messages.specs.declared.codes.PartnerKind.TheVariants.{Gate, Line, Quay, Yard}
-use Rattle.edi_messages.specs.Codes.{table_texts}
-use Rattle.yard_core.specs.declared.plan.Block.{Block}
-use Rattle.yard_core.specs.declared.placements.Placement.{Placement}
-use Rattle.yard_core.specs.Plan.{AreApart}
-use Rattle.yard_core.specs.YardMap.{placement_of}
-use Rattle.terminal_core.specs.declared.visits.Departure.{Departure}
-use Rattle.terminal_core.specs.declared.lines.LineState.{LineState}
-use Rattle.terminal_core.specs.declared.lines.LineState.TheVariants.{Pending, Done}
-use Rattle.terminal_core.specs.declared.lines.Side.{Side}
-use Rattle.terminal_core.specs.declared.lines.Side.TheVariants.{Load, Discharge}
-use Rattle.terminal_core.specs.declared.visits.Way.{Way}
-use Rattle.terminal_core.specs.Changes.{Standing, standing_in, standing_of, TerminalRows, rows_of}
-use Rattle.terminal_core.specs.Forms.{IsFormedVisit, IsFormedExit, IsWellFormed}
-use Rattle.terminal_core.specs.Rows.{VisitContent}
-use Rattle.terminal_core.specs.State.{TerminalState, LineKey, AreNumbered, IsWhole, side_code, open_visit}
-use Rattle.terminal_core.specs.Step.{number_of_visit}
-use Rattle.terminal_core.proofs.Open.{same_self}
-use Rattle.terminal_core.proofs.Indexed.{found_is}
-use Rattle.terminal_core.proofs.Formed.{state_of_rows}
-use Rattle.terminal_core.proofs.Lined.{order, keys_total, keys_apart, same_key}
-use Rattle.office_admission.specs.Given.{IsGiven}
-use Rattle.office_admission.specs.Setups.{SetupContent}
-use Rattle.std.specs.Str.{bytes_eq}
-use Rattle.office_rows.specs.Rows.{Partner, PlaceContent, ListingContent, Setting}
+use Rattle.sqlite.specs.{declared.types.Value.Value, declared.types.Value.TheVariants.Text, Order.{Row, column}, Effect.Database, Table.Table}
+use Rattle.box6346.{specs.{declared.slot.Slot.Slot, SlotName.{IsNamed, slot_of, slot_text}}, proofs.SlotNames.names_are_read_again_lem}
+use Rattle.edi_syntax.{specs.Moments.{CivilMoment, is_moment, moment_of, moment_digits}, proofs.DigitLemmas.read_back}
+use Rattle.edi_messages.specs.{declared.codes.PartnerKind.PartnerKind, declared.codes.PartnerKind.TheVariants.{Gate, Line, Quay, Yard}, Codes.table_texts}
+use Rattle.yard_core.specs.{declared.plan.Block.Block, declared.placements.Placement.Placement, Plan.AreApart, YardMap.placement_of}
+use Rattle.terminal_core.specs.{declared.visits.Departure.Departure, declared.lines.LineState.LineState, declared.lines.LineState.TheVariants.{Pending, Done}}
+use Rattle.terminal_core.specs.{declared.lines.Side.Side, declared.lines.Side.TheVariants.{Load, Discharge}, declared.visits.Way.Way, Rows.VisitContent}
+use Rattle.terminal_core.specs.{Changes.{Standing, standing_in, standing_of, TerminalRows, rows_of}, Forms.{IsFormedVisit, IsFormedExit, IsWellFormed}}
+use Rattle.terminal_core.{specs.{State.{TerminalState, LineKey, AreNumbered, IsWhole, side_code, open_visit}, Step.number_of_visit}, proofs.Open.same_self}
+use Rattle.terminal_core.proofs.{Indexed.found_is, Formed.state_of_rows, Lined.{order, keys_total, keys_apart, same_key}}
+use Rattle.office_admission.specs.{Given.IsGiven, Setups.SetupContent}
+use Rattle.office_rows.specs.{Rows.{Partner, PlaceContent, ListingContent, Setting}, Effects.{stands_for, is_line}, Opening.setting_row}
 use Rattle.office_rows.specs.Values.{number_value, kind_code, partner_values, way_code, laden_code, state_code, out_by, out_partner, out_number, out_at, visit_values, place_values, line_values, setting_values, block_values}
-use Rattle.office_rows.specs.Effects.{stands_for, is_line}
-use Rattle.office_rows.specs.ByKey.{standing_by, lines_by, line_entry, ArePlacedOnce, AreListedOnce}
-use Rattle.office_rows.specs.Opening.{setting_row}
-use Rattle.office_rows.specs.Opened.{OpenedRows, Shows}
-use Rattle.office_rows.specs.Shown.{columns_at, ShowsTable}
-use Rattle.office_rows.proofs.Listed.{unmapped}
-use Rattle.office_rows.specs.Office.{settings_by_name, AreAccounts, IsOffice, opened_terminal}
+use Rattle.office_rows.{specs.{ByKey.{standing_by, lines_by, line_entry, ArePlacedOnce, AreListedOnce}, Opened.{OpenedRows, Shows}}, proofs.Listed.unmapped}
+use Rattle.office_rows.specs.{Shown.{columns_at, ShowsTable}, Office.{settings_by_name, AreAccounts, IsOffice, opened_terminal}}
 use Rattle.office_rows.specs.Tables.{partner_table, visit_table, place_table, listing_table, block_table, setting_table as settings_table}
-use Rattle.office_history.specs.After.{SaysSame, accounts_from}
-use Rattle.office_history.proofs.ByKeys.{key_of, said, finds, line_tied, none_found}
+use Rattle.office_history.{specs.After.{SaysSame, accounts_from}, proofs.ByKeys.{key_of, said, finds, line_tied, none_found}}
 use Rattle.office_history.proofs.Kept.{found_same, found_only, Rises, rising_same, same_records}
 use Rattle.std.specs.FinMap as finite_map
 use Rattle.terminal_core.specs.declared.visits.Way.TheVariants as way

@@ -1,53 +1,24 @@
 -- The rows after deliveries are those of an office.
+use Rattle.std.specs.{Prelude.{cond, Contains, codes}, List.Sorted.IsPermutation, Ordering.{nat_cmp, ordering_then}, Cmp.Lexicographic.slice_cmp, Str.bytes_eq}
 use Rattle.std.proofs.Common.{◌≡◌, ℕ, ◌+◌, ◌<◌, ◌≤◌, inl, inr, List, [], ◌∷◌, length, map, Bool, false, is_some, refl, sym, ap, subst, ◌∙◌, arith, Ordering, Equal, Greater, is_lt}
-use Rattle.std.specs.Prelude.{cond, Contains, codes}
-use Rattle.std.specs.List.Sorted.{IsPermutation}
-use Rattle.std.specs.Ordering.{nat_cmp, ordering_then}
-use Rattle.std.specs.Cmp.Lexicographic.{slice_cmp}
-use Rattle.std.proofs.lemmas.Bool.{cases_order}
-use Rattle.std.proofs.lemmas.Bool.Decides.{nat_tests}
-use Rattle.std.proofs.lemmas.List.Sorted.{IsPermutation-refl, sum_by-IsPermutation}
-use Rattle.sqlite.specs.Effect.{Database}
-use Rattle.sqlite.specs.declared.types.Value.TheVariants.{Text}
+use Rattle.std.proofs.{lemmas.Bool.cases_order, lemmas.Bool.Decides.nat_tests, lemmas.List.Sorted.{IsPermutation-refl, sum_by-IsPermutation}}
+use Rattle.sqlite.specs.{Effect.Database, declared.types.Value.TheVariants.Text}
 use Rattle.sqlite_value.specs.Order.{value_cmp}
-use Rattle.partner_core.specs.Deliveries.{Delivery, first_text, run}
-use Rattle.partner_core.proofs.Orders.{some_of, used_within_run, free_after_run}
+use Rattle.partner_core.{specs.{Deliveries.{Delivery, first_text, run}, Machine.Taking, Order.state}, proofs.Orders.{some_of, used_within_run, free_after_run}}
 use Rattle.partner_core.proofs.OnceEach.{within_replied}
-use Rattle.terminal_core.specs.Changes.{TerminalRows, rows_of}
-use Rattle.terminal_core.specs.Forms.{IsWellFormed}
-use Rattle.terminal_core.specs.OneByOne.{GoOneByOne}
-use Rattle.terminal_core.specs.Rows.{VisitContent}
-use Rattle.terminal_core.specs.State.{TerminalState, IsWhole}
+use Rattle.terminal_core.specs.{Changes.{TerminalRows, rows_of}, Forms.IsWellFormed, OneByOne.GoOneByOne, Rows.VisitContent, State.{TerminalState, IsWhole}}
+use Rattle.terminal_core.specs.{Versions.newest, declared.change.Version.Version, declared.change.Version.TheVariants.{First, Second, Third}}
 use Rattle.office_replies.specs.Events.{Event}
-use Rattle.office_admission.specs.Given.{IsGiven}
-use Rattle.office_admission.specs.Setups.{SetupContent}
-use Rattle.office_rows.specs.Rows.{Partner, Interchange, PlaceContent, ListingContent, Setting, Rows}
-use Rattle.office_rows.specs.Values.{number_value, partner_values, interchange_values, visit_values, place_values, line_values, setting_values, block_values}
-use Rattle.office_rows.specs.Stored.{AreRows, HasRows}
-use Rattle.office_rows.specs.Effects.{stands_for, is_line}
-use Rattle.office_rows.specs.Opened.{number_kept, reply_values, OpenedRows, Shows}
-use Rattle.office_rows.specs.Office.{settings_by_name, AreAccounts, AreKept, HasAccounts, IsOffice}
-use Rattle.office_rows.specs.Opening.{version_text, settings_in}
-use Rattle.office_rows.specs.Migrated.{migrated_settings}
-use Rattle.office_rows.specs.Tables.{partner_table, interchange_table, visit_table, place_table, listing_table, block_table, setting_table as settings_table}
-use Rattle.office_admission.specs.Taking.{MachineState}
-use Rattle.partner_core.specs.Machine.{Taking}
-use Rattle.terminal_core.specs.Versions.{newest}
-use Rattle.terminal_core.specs.declared.change.Version.{Version}
-use Rattle.terminal_core.specs.declared.change.Version.TheVariants.{First, Second, Third}
-use Rattle.partner_core.specs.Order.{state}
-use Rattle.std.specs.Str.{bytes_eq}
-use Rattle.office_admission.specs.Accounts.{content_after}
-use Rattle.office_admission.specs.Deliveries.{deliveries_of}
+use Rattle.office_admission.specs.{Given.IsGiven, Setups.SetupContent, Taking.MachineState, Accounts.content_after, Deliveries.deliveries_of}
 use Rattle.office_admission.proofs.Adding.{given_after}
-use Rattle.office_history.proofs.Places.{sound_in}
-use Rattle.office_history.specs.After.{SaysSame, accounts_from, machine_after, opening_of, taking_in, AreAfter, AreAfterBy}
-use Rattle.office_history.specs.Laws.{AreRowsByKey, RowsAreAnOffice, OlderRowsAreAnOffice}
-use Rattle.office_history.proofs.Accounted.{state_accounted, delivered_within}
-use Rattle.office_history.proofs.Afters.{state_sound, unreplied}
-use Rattle.office_history.proofs.Ground.{state_on_ground}
-use Rattle.office_history.proofs.Kept.{accounts_are, Rises}
-use Rattle.office_history.proofs.KeptNumbers.{KeepsNumbers, numbers_kept}
+use Rattle.office_rows.specs.{Rows.{Partner, Interchange, PlaceContent, ListingContent, Setting, Rows}, Stored.{AreRows, HasRows}, Migrated.migrated_settings}
+use Rattle.office_rows.specs.Values.{number_value, partner_values, interchange_values, visit_values, place_values, line_values, setting_values, block_values}
+use Rattle.office_rows.specs.{Effects.{stands_for, is_line}, Opened.{number_kept, reply_values, OpenedRows, Shows}, Opening.{version_text, settings_in}}
+use Rattle.office_rows.specs.Office.{settings_by_name, AreAccounts, AreKept, HasAccounts, IsOffice}
+use Rattle.office_rows.specs.Tables.{partner_table, interchange_table, visit_table, place_table, listing_table, block_table, setting_table as settings_table}
+use Rattle.office_history.{specs.After.{SaysSame, accounts_from, machine_after, opening_of, taking_in, AreAfter, AreAfterBy}, proofs.Places.sound_in}
+use Rattle.office_history.{specs.Laws.{AreRowsByKey, RowsAreAnOffice, OlderRowsAreAnOffice}, proofs.Accounted.{state_accounted, delivered_within}}
+use Rattle.office_history.proofs.{Afters.{state_sound, unreplied}, Ground.state_on_ground, Kept.{accounts_are, Rises}, KeptNumbers.{KeepsNumbers, numbers_kept}}
 use Rattle.office_history.proofs.Loads.{accounts_rise, numbered_rise, letter_key, blocks_rise, any_head, places_same, lines_same, one_terminal, one_setup, ShowsSetupAndTerminal, shown_by_office}
 use Rattle.office_history.proofs.Runs.{InTurn, is_before, number_order, text_order, shows_records, by_keys}
 

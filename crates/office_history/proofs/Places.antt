@@ -1,33 +1,18 @@
 -- The rules by place: what holds of the rules of each version holds of them, and where they stay as they are.
+use Rattle.std.{specs.{Prelude.{nat_le, ◌==◌, ◌&&◌, is_some}, Option.unwrap_or}, proofs.lemmas.List.append-nil}
 use Rattle.std.proofs.Common.{◌≡◌, ℕ, List, [], ◌∷◌, ◌++◌, Bool, true, false, cond, Option, None, Some, Err, refl, sym, ap, subst, ◌∙◌}
-use Rattle.std.specs.Prelude.{nat_le, ◌==◌, ◌&&◌, is_some}
-use Rattle.std.proofs.lemmas.List.{append-nil}
 use Rattle.edi_syntax.specs.Interchange.{interchange_of}
-use Rattle.partner_core.specs.ByPlace.{taken_by_place, AreNumbered}
-use Rattle.partner_core.specs.Deliveries.{Delivery, delivery, run, first_text}
-use Rattle.partner_core.specs.Machine.{Taking}
-use Rattle.partner_core.proofs.ByPlace.{goes_on_by_new}
-use Rattle.partner_core.proofs.Keepings.{keeps_run}
-use Rattle.terminal_core.specs.Versions.{newest}
-use Rattle.terminal_core.specs.declared.change.Version.{Version}
-use Rattle.office_admission.specs.Admission.{admission, number_said}
-use Rattle.office_admission.specs.Deliveries.{with_delivery}
-use Rattle.office_admission.proofs.Adding.{deliveries_on, first_admitted, number_told}
-use Rattle.office_replies.specs.Events.{Event, delivered, migrated, added}
-use Rattle.office_replies.specs.declared.deliver.Fault.{Fault}
-use Rattle.office_admission.specs.Setups.{SetupContent, parties_in}
-use Rattle.office_admission.specs.TakingLaws.{ChangesTerminalAlone, KeepsSound}
-use Rattle.office_admission.specs.Taking.{MachineState, interchange_taken, interchange_taken_by}
-use Rattle.office_admission.proofs.Forming.{by_place_alone, by_place_sound, keeps_sound, terminal_alone}
+use Rattle.partner_core.specs.{ByPlace.{taken_by_place, AreNumbered}, Deliveries.{Delivery, delivery, run, first_text}, Machine.Taking}
+use Rattle.partner_core.{specs.Order.{order, text_under, state_after, reply_among, state, reply_of}, proofs.{ByPlace.goes_on_by_new, Keepings.keeps_run}}
+use Rattle.partner_core.proofs.Orders.{AllUsed, AllUsed-order}
+use Rattle.terminal_core.specs.{Versions.newest, declared.change.Version.Version}
+use Rattle.office_admission.specs.{Admission.{admission, number_said}, Deliveries.with_delivery, Setups.{SetupContent, parties_in}}
+use Rattle.office_admission.specs.{TakingLaws.{ChangesTerminalAlone, KeepsSound}, Taking.{MachineState, interchange_taken, interchange_taken_by}}
+use Rattle.office_admission.proofs.{Adding.{deliveries_on, first_admitted, number_told}, Forming.{by_place_alone, by_place_sound, keeps_sound, terminal_alone}}
+use Rattle.office_replies.specs.{Events.{Event, delivered, migrated, added}, declared.deliver.Fault.Fault}
 use Rattle.office_rows.specs.Rows.{Rows}
 use Rattle.office_history.specs.After.{with_earlier_event, migration_in, taking_by, taking_in, content_after, deliveries_of, opening_of, AreRowsOf}
-use Rattle.office_history.specs.Laws.{IsFor}
-use Rattle.office_history.proofs.Afters.{GoesOn}
-use Rattle.std.specs.Option.{unwrap_or}
-use Rattle.partner_core.specs.Order.{order, text_under, state_after, reply_among, state, reply_of}
-use Rattle.partner_core.proofs.Orders.{AllUsed, AllUsed-order}
-
--- ==== Places: The rules by place: what holds of the rules of each version holds of them, and where they stay as they are.
+use Rattle.office_history.{specs.Laws.IsFor, proofs.Afters.GoesOn}
 
 -- ---- what holds of the rules of each version
 
@@ -78,10 +63,6 @@ taking_delivered version content es sent = ap (taking_by version content) (deliv
 pub taking_added : (version : Version) (content : SetupContent) (es : List Event) (code kind : List ℕ) → taking_in version content (es ++ added code kind ∷ []) ≡ taking_in version content es
 unfolding taking_in
 taking_added version content es code kind = ap (taking_by version content) (added_stays es code kind)
-
-pub no_rules_before : (version : Version) (content : SetupContent) → taking_in version content [] ≡ interchange_taken_by version
-unfolding taking_in
-no_rules_before version content = refl
 
 -- ---- a migration
 

@@ -1,52 +1,24 @@
 -- What taking a run of interchanges makes of the rows.
+use Rattle.std.specs.{Prelude.{find, ◌&&◌, ◌==◌, count_by, if◌then◌else◌, slice_index_or}, Option.{option_map, option_and_then}, List.Sorted.IsSortedBy}
+use Rattle.std.{specs.{Cmp.IsTotalOrder, Cmp.Lexicographic.slice_cmp, Ordering.{on, nat_cmp, int_cmp, ordering_reverse}}, proofs.lemmas.Int.ints}
 use Rattle.std.proofs.Common.{◌≡◌, ◌≢◌, ℕ, ◌+◌, ◌≤◌, List, [], ◌∷◌, length, map, Bool, true, false, cond, Option, None, Some, is_some, refl, sym, ap, subst, ◌∙◌, arith, pos, zero, suc, ◌<◌, ap₂, Ordering, Less, Equal, Greater, is_lt, add-one, IsPermutation}
-use Rattle.std.specs.Prelude.{find, ◌&&◌, ◌==◌, count_by, if◌then◌else◌, slice_index_or}
-use Rattle.std.specs.Option.{option_map, option_and_then}
-use Rattle.std.proofs.lemmas.Bool.{and_parts, eq-eqb, eqb-true, eqb-false, ne_eqb, cond-true, cond-false}
-use Rattle.edi_syntax.specs.Moments.{CivilMoment}
-use Rattle.edi_messages.specs.declared.codes.PartnerKind.{PartnerKind}
-use Rattle.edi_syntax.specs.Text.{Content}
-use Rattle.edi_syntax.specs.Interchange.{segments_in}
-use Rattle.edi_syntax.specs.Envelope.{header_of}
-use Rattle.edi_syntax.specs.Header.{preparation}
-use Rattle.partner_core.specs.Numbered.{with_number}
-use Rattle.partner_core.specs.Cascade.{TakesTexts}
-use Rattle.partner_core.proofs.Keepings.{takes_one_more}
-use Rattle.terminal_core.specs.Rows.{ChangeContent, visit_opened}
-use Rattle.terminal_core.specs.State.{IsWhole}
-use Rattle.terminal_core.specs.Changes.{TerminalRows, rows_of, rows_with_all, AreApplicable}
-use Rattle.terminal_core.proofs.Indexed.{found_is}
-use Rattle.office_admission.specs.Admission.{admission, is_for}
-use Rattle.office_replies.proofs.Ready.{reply_is_some}
-use Rattle.office_admission.specs.Taking.{MachineState, interchange_taken, interchange_changes, nothing_taken, taken_of, taken_at}
-use Rattle.office_admission.proofs.Takings.{interchange_leads}
-use Rattle.office_rows.specs.Rows.{Partner, Interchange, Rows}
-use Rattle.office_rows.specs.Effects.{is_pair, with_change}
-use Rattle.office_history.specs.After.{accounts_from, reply_if_any, reply_in, AreKeptOnce}
-use Rattle.office_history.specs.Cascade.{text_in, TakenContent, with_changes, with_interchange, with_interchanges, AreTakenFrom}
-use Rattle.office_history.specs.Laws.{AreRowsByKey}
-use Rattle.office_history.proofs.ByKeys.{changes_agree, count_mapped, find_mapped}
-use Rattle.std.specs.List.Sorted.{IsSortedBy}
-use Rattle.std.specs.Cmp.{IsTotalOrder}
-use Rattle.std.specs.Cmp.Lexicographic.{slice_cmp}
-use Rattle.std.specs.Ordering.{on, nat_cmp, int_cmp, ordering_reverse}
-use Rattle.std.proofs.lemmas.Int.{ints}
-use Rattle.std.proofs.lemmas.Cmp.{on_total, then_total}
+use Rattle.std.proofs.{lemmas.Bool.{and_parts, eq-eqb, eqb-true, eqb-false, ne_eqb, cond-true, cond-false}, lemmas.Cmp.{on_total, then_total}}
 use Rattle.std.proofs.lemmas.List.Sorted.{IsPermutation-refl, IsPermutation-cons, IsPermutation-sym, IsPermutation-trans, IsPermutation-middle, IsPermutation-map}
-use Rattle.sqlite.specs.declared.types.Value.TheVariants.{Text}
-use Rattle.sqlite.specs.Collation.TheVariants.{Binary}
-use Rattle.sqlite.specs.Order.{Row, column}
-use Rattle.sqlite.specs.Table.{Table}
-use Rattle.sqlite.specs.Effect.{Database}
-use Rattle.sqlite.specs.Query.{key_cmp}
-use Rattle.sqlite_value.specs.Keys.{ascending}
-use Rattle.sqlite_value.specs.Order.{value_cmp}
-use Rattle.sqlite_value.proofs.OrderLemmas.{value_cmp_total, value_cmp-Int, value_cmp-Text}
-use Rattle.office_rows.specs.Values.{number_value}
-use Rattle.office_rows.specs.Stored.{Holds}
+use Rattle.edi_syntax.specs.{Moments.CivilMoment, Text.Content, Interchange.segments_in, Envelope.header_of, Header.preparation}
+use Rattle.edi_messages.specs.declared.codes.PartnerKind.{PartnerKind}
+use Rattle.partner_core.{specs.{Numbered.with_number, Cascade.TakesTexts}, proofs.Keepings.takes_one_more}
+use Rattle.terminal_core.specs.{Rows.{ChangeContent, visit_opened}, State.IsWhole, Changes.{TerminalRows, rows_of, rows_with_all, AreApplicable}}
+use Rattle.terminal_core.proofs.Indexed.{found_is}
+use Rattle.office_admission.{specs.Admission.{admission, is_for}, proofs.Takings.interchange_leads}
+use Rattle.office_admission.specs.Taking.{MachineState, interchange_taken, interchange_changes, nothing_taken, taken_of, taken_at}
+use Rattle.office_replies.proofs.Ready.{reply_is_some}
+use Rattle.office_rows.specs.{Rows.{Partner, Interchange, Rows}, Effects.{is_pair, with_change}, Values.number_value, Stored.Holds}
 use Rattle.office_rows.specs.Shown.{columns_at, ShowsTable}
-
--- ==== Runs: What taking a run of interchanges makes of the rows.
+use Rattle.office_history.specs.{After.{accounts_from, reply_if_any, reply_in, AreKeptOnce}, Laws.AreRowsByKey}
+use Rattle.office_history.specs.Cascade.{text_in, TakenContent, with_changes, with_interchange, with_interchanges, AreTakenFrom}
+use Rattle.office_history.proofs.ByKeys.{changes_agree, count_mapped, find_mapped}
+use Rattle.sqlite.specs.{declared.types.Value.TheVariants.Text, Collation.TheVariants.Binary, Order.{Row, column}, Table.Table, Effect.Database, Query.key_cmp}
+use Rattle.sqlite_value.{specs.{Keys.ascending, Order.value_cmp}, proofs.OrderLemmas.{value_cmp_total, value_cmp-Int, value_cmp-Text}}
 
 -- ---- what changes leave alone
 

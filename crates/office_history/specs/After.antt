@@ -1,29 +1,17 @@
 -- The rows after a list of events.
-use Rattle.std.specs.Prelude.{◌≡◌, ℕ, ◌+◌, ◌≤◌, List, [], ◌∷◌, map, find, count_by, Option, None, Some}
-use Rattle.std.specs.Option.{option_and_then}
-use Rattle.std.specs.FinMap as finite_map
-use Rattle.edi_messages.specs.declared.codes.PartnerKind.{PartnerKind}
-use Rattle.edi_messages.specs.Codes.{table_texts}
+use Rattle.std.specs.{Prelude.{◌≡◌, ℕ, ◌+◌, ◌≤◌, List, [], ◌∷◌, map, find, count_by, Option, None, Some}, Option.option_and_then}
+use Rattle.edi_messages.specs.{declared.codes.PartnerKind.PartnerKind, Codes.table_texts}
 use Rattle.yard_core.specs.YardMap.{YardMap}
-use Rattle.partner_core.specs.ByPlace.{taken_by_place}
-use Rattle.partner_core.specs.Deliveries.{Delivery, first_text, run}
-use Rattle.partner_core.specs.Machine.{Taking}
-use Rattle.partner_core.specs.Order.{state, reply_of}
-use Rattle.terminal_core.specs.State.{TerminalState, empty_state}
-use Rattle.terminal_core.specs.Changes.{rows_of}
-use Rattle.terminal_core.specs.Versions.{newest}
-use Rattle.terminal_core.specs.declared.change.Version.{Version}
-pub use Rattle.office_admission.specs.Setups.{SetupContent, parties_in}
+use Rattle.partner_core.specs.{ByPlace.taken_by_place, Deliveries.{Delivery, first_text, run}, Machine.Taking, Order.{state, reply_of}}
+use Rattle.terminal_core.specs.{State.{TerminalState, empty_state}, Changes.rows_of, Versions.newest, declared.change.Version.Version}
 use Rattle.office_replies.specs.Events.{Event, delivered, migrated, added}
-pub use Rattle.office_admission.specs.Accounts.{content_after}
-use Rattle.office_admission.specs.Admission.{number_said}
-pub use Rattle.office_admission.specs.Deliveries.{deliveries_of}
-use Rattle.office_rows.specs.Rows.{Partner, Interchange, Rows}
-use Rattle.office_rows.specs.Effects.{is_pair}
-use Rattle.office_rows.specs.Opening.{settings_in}
-use Rattle.office_rows.specs.ByKey.{terminal_rows, ArePlacedOnce, AreListedOnce}
-use Rattle.office_admission.specs.Taking.{MachineState, interchange_taken_by}
+use Rattle.office_admission.specs.{Admission.number_said, Taking.{MachineState, interchange_taken_by}}
+use Rattle.office_rows.specs.{Rows.{Partner, Interchange, Rows}, Effects.is_pair, Opening.settings_in, ByKey.{terminal_rows, ArePlacedOnce, AreListedOnce}}
 use Rattle.office_history.specs.Cascade.{text_in}
+use Rattle.std.specs.FinMap as finite_map
+pub use Rattle.office_admission.specs.Setups.{SetupContent, parties_in}
+pub use Rattle.office_admission.specs.Accounts.{content_after}
+pub use Rattle.office_admission.specs.Deliveries.{deliveries_of}
 
 -- ---- the machine of a set-up
 

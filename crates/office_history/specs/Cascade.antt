@@ -1,10 +1,8 @@
 -- What a delivery that is next makes of the rows: its text is kept, and then it and each text that became next by it is
 -- taken.
-use Rattle.std.specs.Prelude.{◌≡◌, ℕ, ◌+◌, ◌==◌, if◌then◌else◌, List, [], ◌∷◌, find, fold, Option, None, Some}
-use Rattle.std.specs.Option.{option_map}
+use Rattle.std.specs.{Prelude.{◌≡◌, ℕ, ◌+◌, ◌==◌, if◌then◌else◌, List, [], ◌∷◌, find, fold, Option, None, Some}, Option.option_map}
 use Rattle.terminal_core.specs.Rows.{ChangeContent}
-use Rattle.office_rows.specs.Rows.{Interchange, Rows}
-use Rattle.office_rows.specs.Effects.{is_pair, with_waiting, with_taken, with_change}
+use Rattle.office_rows.specs.{Rows.{Interchange, Rows}, Effects.{is_pair, with_waiting, with_taken, with_change}}
 use Rattle.office_admission.specs.Taking.{MachineState, interchange_taken, interchange_changes}
 
 -- the text that is kept under a partner's number

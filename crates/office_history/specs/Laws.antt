@@ -1,35 +1,17 @@
 -- What the rows are after events: the laws.
 use Rattle.std.specs.Prelude.{◌≡◌, ℕ, ◌+◌, ◌<◌, ◌≤◌, List, [], ◌∷◌, ◌++◌, length, Contains, None, Some, Ok, Err}
 use Rattle.edi_messages.specs.declared.codes.PartnerKind.{PartnerKind}
-use Rattle.edi_syntax.specs.Interchange.{interchange_of}
-use Rattle.edi_syntax.specs.Numbers.{last_number}
-use Rattle.partner_core.specs.Deliveries.{delivery, run}
-use Rattle.partner_core.specs.Answers.{AnswerModel, answer_of, Taken, Repeat, Waiting, Clash}
-use Rattle.terminal_core.specs.Rows.{ChangeContent}
-use Rattle.terminal_core.specs.Changes.{TerminalRows, rows_with_all, AreApplicable}
-use Rattle.office_admission.specs.Admission.{admission}
-use Rattle.office_admission.specs.Accounts.{content_after, account_answer, added_as}
-use Rattle.office_admission.specs.Deliveries.{deliveries_of}
-use Rattle.office_replies.specs.Events.{Event, delivered, migrated, added}
-use Rattle.office_replies.specs.declared.deliver.Fault.{Fault}
-use Rattle.sqlite.specs.Effect.{Database}
-use Rattle.terminal_core.specs.State.{TerminalState}
-use Rattle.terminal_core.specs.Versions.{newest}
+use Rattle.edi_syntax.specs.{Interchange.interchange_of, Numbers.last_number}
+use Rattle.partner_core.specs.{Deliveries.{delivery, run}, Answers.{AnswerModel, answer_of, Taken, Repeat, Waiting, Clash}}
+use Rattle.terminal_core.specs.{Rows.ChangeContent, Changes.{TerminalRows, rows_with_all, AreApplicable}, State.TerminalState, Versions.newest}
 use Rattle.terminal_core.specs.declared.change.Version.{Version}
-use Rattle.office_rows.specs.Rows.{Partner, Rows}
-use Rattle.office_rows.specs.Stored.{AreRows, HasRows}
-use Rattle.office_rows.specs.Opened.{OpenedRows, Shows}
-use Rattle.office_rows.specs.Office.{IsOffice}
-use Rattle.office_rows.specs.Effects.{with_waiting, with_partner}
-use Rattle.office_rows.specs.Opening.{opening_rows}
-use Rattle.office_rows.specs.Migrated.{migrated_settings, migrated_rows}
+use Rattle.office_admission.specs.{Admission.admission, Accounts.{content_after, account_answer, added_as}, Deliveries.deliveries_of, Kinds.kind_named}
+use Rattle.office_admission.specs.{Setups.{SetupContent, parties_in}, Given.IsGiven, Taking.MachineState, TakingLaws.IsSoundMachine, Growth.with_account}
+use Rattle.office_replies.specs.{Events.{Event, delivered, migrated, added}, declared.deliver.Fault.Fault}
+use Rattle.sqlite.specs.Effect.{Database}
+use Rattle.office_rows.specs.{Rows.{Partner, Rows}, Stored.{AreRows, HasRows}, Opened.{OpenedRows, Shows}, Office.IsOffice, Opening.opening_rows}
+use Rattle.office_rows.specs.{Effects.{with_waiting, with_partner}, Migrated.{migrated_settings, migrated_rows}}
 use Rattle.office_rows.specs.ByKey.{terminal_rows, ArePlacedOnce, AreListedOnce}
-use Rattle.office_admission.specs.Kinds.{kind_named}
-use Rattle.office_admission.specs.Setups.{SetupContent, parties_in}
-use Rattle.office_admission.specs.Given.{IsGiven}
-use Rattle.office_admission.specs.Taking.{MachineState}
-use Rattle.office_admission.specs.TakingLaws.{IsSoundMachine}
-use Rattle.office_admission.specs.Growth.{with_account}
 use Rattle.office_history.specs.Cascade.{text_in, TakenContent, with_changes, texts_with, with_run, AreTakenFrom}
 use Rattle.office_history.specs.After.{opening_of, taking_in, migration_in, machine_after, reply_in, SaysSame, AreAfterBy, AreAfter}
 

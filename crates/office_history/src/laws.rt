@@ -1,9 +1,7 @@
 //! What follows only from the definitions of rows and events. Each function has an empty body, and its contract is
 //! the law: a call brings it into the caller's proof.
 
-ghost use Rattle.office_history.specs.Laws.{ChangesAgree, OpeningIsAfterNone, DeliveriesLeaveSound, NumbersAreWithin, NextFollowsRun};
-ghost use Rattle.office_history.specs.Laws.{RefusedAddsNoRow, UsedAddsNoRow, EarlyAddsWaiting, NextAddsRun, RowsAnswer, LoadingGivesState, LoadingGivesSetup};
-ghost use Rattle.office_history.specs.Laws.{RowsAreAnOffice, OlderRowsAreAnOffice, AccountAddsRow, MigrationGoesOn};
+ghost use Rattle.office_history.specs.Laws.{ChangesAgree, OpeningIsAfterNone, DeliveriesLeaveSound, NumbersAreWithin, NextFollowsRun, RefusedAddsNoRow, UsedAddsNoRow, EarlyAddsWaiting, NextAddsRun, RowsAnswer, LoadingGivesState, LoadingGivesSetup, RowsAreAnOffice, OlderRowsAreAnOffice, AccountAddsRow, MigrationGoesOn};
 
 /// Changes that find the rows that they need make of the tables' rows, by key, what they make of the terminal's.
 pub fn changes_agree()

@@ -1,10 +1,7 @@
 -- A text that is made of two, whatever the case of its letters.
+use Rattle.std.{specs.{Char.to_ascii_lowercase, Str.{str_eq_ignore_ascii_case, str_to_ascii_lowercase}}, proofs.lemmas.Bool.false≢true}
 use Rattle.std.proofs.Common.{◌≡◌, ◌≤◌, ℕ, List, ◌++◌, length, take, drop, Bool, true, false, ◌&&◌, refl, sym, ap, ap₂, ◌∙◌, take-append-drop}
-use Rattle.std.specs.Char.{to_ascii_lowercase}
-use Rattle.std.specs.Str.{str_eq_ignore_ascii_case, str_to_ascii_lowercase}
-use Rattle.std.proofs.lemmas.Bool.{false≢true}
-use Rattle.std.proofs.lemmas.List.{map-append, length-map, length-take-le, take_at, drop_at}
-use Rattle.std.proofs.lemmas.Slice.Eq.{bytes_eq-Decides}
+use Rattle.std.proofs.{lemmas.List.{map-append, length-map, length-take-le, take_at, drop_at}, lemmas.Slice.Eq.bytes_eq-Decides}
 
 abbrev lowered : List ℕ → List ℕ
 lowered text = str_to_ascii_lowercase text

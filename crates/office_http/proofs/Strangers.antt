@@ -1,20 +1,12 @@
 -- What a stranger asks for.
-use Rattle.std.proofs.Common.{◌≡◌, ℕ, List, [], Bool, true, false, ◌&&◌, cond, map, codes, Option, None, Some, Result, Ok, Err, inl, inr, refl, sym, ap, subst, ◌∙◌}
 use Rattle.std.specs.Str.{bytes_eq}
-use Rattle.httparse.specs.Grammar.{RequestHead}
-use Rattle.httparse.specs.Spans.{name_and_value}
-use Rattle.office_http.specs.Fields.{values_of}
-use Rattle.office_http.specs.Requests.{AsksAt, AsksWith, LacksMemory, refused_in, StrangersAreRefused}
-use Rattle.office_http.specs.Routes.{endpoint_of}
+use Rattle.std.proofs.Common.{◌≡◌, ℕ, List, [], Bool, true, false, ◌&&◌, cond, map, codes, Option, None, Some, Result, Err, inl, inr, refl, sym, ap, subst, ◌∙◌}
+use Rattle.httparse.specs.{Grammar.RequestHead, Spans.name_and_value}
+use Rattle.office_http.specs.{Fields.values_of, Requests.{AsksAt, AsksWith, LacksMemory, refused_in, StrangersAreRefused}, Routes.endpoint_of}
 use Rattle.office_http.specs.Sites.{fetch_passes, host_passes, leads_to, origin_passes, site_passes, stranger, TellingNothingPasses, unless_stranger}
-use Rattle.office_http.specs.Targets.{showing_of}
-use Rattle.office_http.specs.declared.routes.Endpoint.{Endpoint}
-use Rattle.office_http.specs.declared.targets.Showing.{Showing}
-use Rattle.office_http.specs.declared.response.Refusal.{Refusal}
-use Rattle.office_http.specs.declared.response.Refusal.TheVariants.{OtherHost, OtherSite}
-use Rattle.office_http.specs.declared.requests.Request.{Request}
-use Rattle.office_http.specs.declared.requests.Request.TheVariants.{Refused}
-use Rattle.office_http.proofs.OneRequest.{heads_are_one}
+use Rattle.office_http.specs.{Targets.showing_of, declared.routes.Endpoint.Endpoint, declared.targets.Showing.Showing, declared.response.Refusal.Refusal}
+use Rattle.office_http.specs.{declared.response.Refusal.TheVariants.{OtherHost, OtherSite}, declared.requests.Request.Request}
+use Rattle.office_http.{specs.declared.requests.Request.TheVariants.Refused, proofs.OneRequest.heads_are_one}
 
 -- ---- why
 

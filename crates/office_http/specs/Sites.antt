@@ -1,17 +1,10 @@
 -- Whose requests a server takes: those that name this machine, or the one name that it is served under; and of what is posted
 -- only what no other site sends (RFC 9110, section 7.2; RFC 6454, section 7; Fetch Metadata, section 2.1; our own).
 use Rattle.std.specs.Prelude.{◌≡◌, ◌⊎◌, ℕ, Bool, true, false, ◌==◌, ◌&&◌, ◌||◌, nat_eq, nat_le, List, [], ◌∷◌, ◌++◌, length, drop, map, codes, Option, None, Some, is_some, Result, Err, if◌then◌else◌}
-use Rattle.std.specs.List.{after_first, before_first, starts_with}
-use Rattle.std.specs.Option.{option_map_or}
-use Rattle.std.specs.Str.{bytes_eq, str_eq_ignore_ascii_case}
-use Rattle.httparse.specs.Grammar.{RequestHead}
-use Rattle.httparse.specs.Spans.{name_and_value}
-use Rattle.edi_syntax.specs.Bytes.{colon}
-use Rattle.edi_syntax.specs.Numbers.{number_of}
-use Rattle.office_http.specs.Fields.{values_of}
-use Rattle.office_http.specs.Routes.{endpoint_of}
-use Rattle.office_http.specs.declared.routes.Endpoint.{Endpoint}
-use Rattle.office_http.specs.declared.response.Refusal.{Refusal}
+use Rattle.std.specs.{List.{after_first, before_first, starts_with}, Option.option_map_or, Str.{bytes_eq, str_eq_ignore_ascii_case}}
+use Rattle.httparse.specs.{Grammar.RequestHead, Spans.name_and_value}
+use Rattle.edi_syntax.specs.{Bytes.colon, Numbers.number_of}
+use Rattle.office_http.specs.{Fields.values_of, Routes.endpoint_of, declared.routes.Endpoint.Endpoint, declared.response.Refusal.Refusal}
 use Rattle.office_http.specs.declared.response.Refusal.TheVariants.{OtherHost, OtherSite}
 
 -- ---- hosts

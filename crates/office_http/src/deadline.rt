@@ -1,6 +1,4 @@
-ghost use Rattle.std.specs.Prelude.{◌≡◌};
-ghost use Rattle.std.specs.Duration.{as_nanos};
-ghost use Rattle.std.specs.Time.{instant_nanos};
+ghost use Rattle.std.specs.{Prelude.◌≡◌, Duration.as_nanos, Time.instant_nanos};
 ghost use Rattle.office_http.specs.Deadlines.{nanos_left};
 
 use std::time::{Duration, Instant};

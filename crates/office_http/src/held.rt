@@ -1,5 +1,4 @@
-ghost use Rattle.std.specs.Prelude.{◌≡◌, ◌≤◌, ◌+◌, max, true, false};
-ghost use Rattle.std.specs.Vec.{vec_capacity};
+ghost use Rattle.std.specs.{Prelude.{◌≡◌, ◌≤◌, ◌+◌, max, true, false}, Vec.vec_capacity};
 ghost use Rattle.office_http.specs.Held.{most_held};
 
 /// How many bytes are held for all connections, at most: of requests that aren't done and of responses that aren't taken.

@@ -1,22 +1,13 @@
-ghost use Rattle.std.specs.Option.{ok_or, option_and_then};
+ghost use Rattle.std.specs.{Option.{ok_or, option_and_then}, Vec.vec_capacity};
 ghost use Rattle.std.specs.Prelude.{◌≡◌, ◌⊎◌, ◌≤◌, ◌+◌, ◌-◌, ◌++◌, length, take, drop, map, IfOk, IfSome, IsTrue, ◌↔◌, Ok, vec_len, string_bytes};
-ghost use Rattle.std.specs.Vec.{vec_capacity};
 ghost use Rattle.edi_syntax.specs.Interchange.{most_bytes};
-ghost use Rattle.httparse.specs.Grammar.{RequestHead};
-ghost use Rattle.httparse.specs.Spans.{header_bytes, IsRequestAt, IsRequestWithin, IsSectionWithin};
-ghost use Rattle.office_http.specs.Deciding.{body_size, EndsWhenDecided, wanted_bytes_after};
-ghost use Rattle.office_http.specs.Fields.{body_length};
-ghost use Rattle.office_http.specs.Heads.{most_request_reads};
-ghost use Rattle.office_http.specs.Ports.{ReadsUpTo};
+ghost use Rattle.httparse.specs.{Grammar.RequestHead, Spans.{header_bytes, IsRequestAt, IsRequestWithin, IsSectionWithin}};
+ghost use Rattle.office_http.specs.{Deciding.{body_size, EndsWhenDecided, wanted_bytes_after}, Fields.body_length, Heads.most_request_reads, Ports.ReadsUpTo};
 ghost use Rattle.office_http.specs.Requests.{Asks, AsksWith, as_page, asked_in, found_by, Gets, IsUnheld, Names, nothing_in, Posts, PostsAccount, PostsBy, PostsExplain, refused_in, sought, texts_asked, view_asked};
-ghost use Rattle.office_http.specs.Routes.{key_in, partner_key_in};
-ghost use Rattle.office_http.specs.declared.targets.Showing.TheVariants.{Find};
-ghost use Rattle.office_http.specs.declared.requests.Request.TheVariants.{Refused};
+ghost use Rattle.office_http.specs.{Routes.{key_in, partner_key_in}, declared.targets.Showing.TheVariants.Find, declared.requests.Request.TheVariants.Refused};
 ghost use Rattle.office_http.specs.declared.response.Refusal.TheVariants.{NotNow};
-ghost use Rattle.office_pages.specs.Typed.{typed, typed_words};
-ghost use Rattle.office_pages.specs.declared.notices.Notice.TheVariants.{NotHere};
-ghost use Rattle.office_reports.specs.AccountKeys.{account_in, sender_in};
-ghost use Rattle.office_reports.specs.Keys.{container, find, query_content, query_of};
+ghost use Rattle.office_pages.specs.{Typed.{typed, typed_words}, declared.notices.Notice.TheVariants.NotHere};
+ghost use Rattle.office_reports.specs.{AccountKeys.{account_in, sender_in}, Keys.{container, find, query_content, query_of}};
 
 use crate::head::{FoundHead, MOST_FIELDS, MOST_HEAD_BYTES, OwnText, content_length, read_head};
 use crate::response::Refusal;

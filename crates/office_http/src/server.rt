@@ -1,7 +1,5 @@
 ghost use Rattle.std.specs.Prelude.{◌≡◌, ◌⊎◌, IfSome, IsOk, IsSome};
-ghost use Rattle.office_http.specs.Served.{AtMost, Serves, calls_of};
-ghost use Rattle.office_http.specs.Steps.{NotesAtMost};
-ghost use Rattle.office_http.specs.declared.seen.Seen.{Seen};
+ghost use Rattle.office_http.specs.{Served.{AtMost, Serves, calls_of}, Steps.NotesAtMost, declared.seen.Seen.Seen};
 
 use crate::gate::Gate;
 use crate::line::Ready;

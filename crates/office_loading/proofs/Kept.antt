@@ -1,29 +1,16 @@
 -- The interchanges that are kept, partner after partner.
+use Rattle.std.{specs.{List.range_with_len, Prelude.slice_get, Option.option_map}, proofs.{lemmas.List.Elements.All-more, lemmas.Bool.cases_order}}
 use Rattle.std.proofs.Common.{◌≡◌, ℕ, ◌+◌, ◌<◌, ◌≤◌, suc, List, [], ◌∷◌, ◌++◌, length, take, drop, map, get_or, sym, ap, ◌∙◌, arith, subst, All, add-one, drop-cons, ◌≢◌, ◌-◌, length-append, Bool, true, false, IsTrue, refl, ◌↔◌, zero, Some, string_bytes, inl, inr, below_more, codes, decimal}
 use Rattle.std.proofs.lemmas.List.{take_more, take_all, length-map, get_or-map, map-append, take-map, drop-map, take-append-drop}
-use Rattle.std.proofs.lemmas.List.Elements.{All-more}
-use Rattle.std.specs.List.{range_with_len}
 use Rattle.std.proofs.lemmas.List.FromFn.{map-range_with_len_more, get_or-map-range_with_len, length-map-range_with_len}
-use Rattle.std.proofs.Math.Seq.{take-append_seam, drop-append_seam}
-use Rattle.edi_messages.specs.declared.codes.PartnerKind.{PartnerKind}
-use Rattle.office_rows.specs.Rows.{Partner, Setting}
-use Rattle.office_rows.specs.Opened.{NumberKept}
-use Rattle.office_rows.specs.Office.{AreWaiting, AreAccounts, settings_with, settings_by_name}
-use Rattle.office_loading.specs.Accounts.{accounts_in}
-use Rattle.office_loading.specs.Checks.{taken_beyond, IsKeptBeyond, AreKeptBeyond}
-use Rattle.office_loading.specs.Contents.{number_content, partner_content, setting_content}
-use Rattle.office_loading.specs.Owned.{AreOwn, BeginsElse}
-use Rattle.office_loading.specs.declared.numbers.NumberRow.{NumberRow}
-use Rattle.office_loading.specs.declared.numbers.PartnerRow.{PartnerRow}
-use Rattle.std.specs.Prelude.{slice_get}
-use Rattle.std.specs.Option.{option_map}
-use Rattle.std.proofs.lemmas.Bool.{cases_order}
-use Rattle.std.proofs.lemmas.Option.{same_Some, slice_get-map}
-use Rattle.office_admission.specs.Given.{AreDistinct}
-use Rattle.edi_messages.specs.Codes.{table_texts}
-use Rattle.office_admission.specs.Setups.{SetupContent}
+use Rattle.std.proofs.{Math.Seq.{take-append_seam, drop-append_seam}, lemmas.Option.{same_Some, slice_get-map}}
+use Rattle.edi_messages.specs.{declared.codes.PartnerKind.PartnerKind, Codes.table_texts}
+use Rattle.office_rows.specs.{Rows.{Partner, Setting}, Opened.NumberKept, Office.{AreWaiting, AreAccounts, settings_with, settings_by_name}}
 use Rattle.office_rows.specs.Opening.{tables_version}
-use Rattle.office_loading.specs.Said.{setting_names, names_of, values_of, code_values}
+use Rattle.office_loading.specs.{Accounts.accounts_in, Checks.{taken_beyond, IsKeptBeyond, AreKeptBeyond}, Owned.{AreOwn, BeginsElse}}
+use Rattle.office_loading.specs.{Contents.{number_content, partner_content, setting_content}, declared.numbers.NumberRow.NumberRow}
+use Rattle.office_loading.specs.{declared.numbers.PartnerRow.PartnerRow, Said.{setting_names, names_of, values_of, code_values}}
+use Rattle.office_admission.specs.{Given.AreDistinct, Setups.SetupContent}
 use Rattle.office_loading.specs.declared.settings.Setting as read
 
 -- ==== Lists: A list from a place on.
@@ -347,17 +334,8 @@ module _ (rows : List Setting) (content : SetupContent) (are : rows ≡ settings
   pub names_so : names_of rows ≡ setting_names
   names_so = ap names_of are
 
-  pub terminal_so : slice_get (values_of rows) 6 ≡ Some content.terminal
-  terminal_so = ap (λ (r : List Setting). slice_get (values_of r) 6) are
-
-  pub version_so : slice_get (values_of rows) 7 ≡ Some tables_version
-  version_so = ap (λ (r : List Setting). slice_get (values_of r) 7) are
-
   pub limit_so : slice_get (values_of rows) 8 ≡ Some (decimal content.visit_limit)
   limit_so = ap (λ (r : List Setting). slice_get (values_of r) 8) are
-
-  pub codes_so : code_values (values_of rows) ≡ table_texts content.codes
-  codes_so = ap (λ (r : List Setting). code_values (values_of r)) are
 
 pub ten_long : (rows : List Setting) → names_of rows ≡ setting_names → length rows ≡ 10
 ten_long rows named = sym (length-map rows (λ (row : Setting). row.name)) ∙ ap length named

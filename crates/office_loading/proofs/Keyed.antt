@@ -1,41 +1,20 @@
 -- The rows of places and lines by their keys, typed or as contents.
+use Rattle.std.specs.{Prelude.{nat_le, not, filter, slice_get, find, count_by, ◌&&◌, ◌==◌}, List.range_with_len, Option.option_map, Str.bytes_eq}
+use Rattle.std.{specs.Cmp.eq_by_cmp_equiv, proofs.{lemmas.Bool.leb-true, Math.Bool.and_comm, lemmas.List.Sums.sum_by-cons, lemmas.Simd.map-map}}
 use Rattle.std.proofs.Common.{◌≡◌, ◌⊎◌, ℕ, ◌+◌, ◌-◌, ◌<◌, ◌≤◌, zero, suc, List, [], ◌∷◌, ◌++◌, length, drop, map, get_or, Bool, true, false, cond, IsTrue, refl, sym, ap, ◌∙◌, arith, subst, inl, inr, ◌↔◌, Option, Some, string_bytes}
-use Rattle.std.specs.Prelude.{nat_le, not, filter, slice_get, find, count_by, ◌&&◌, ◌==◌}
-use Rattle.std.specs.List.{range_with_len}
-use Rattle.std.proofs.lemmas.Bool.{leb-true}
-use Rattle.edi_messages.specs.declared.codes.PartnerKind.{PartnerKind}
-use Rattle.office_rows.specs.Rows.{Partner, PlaceContent, listing_content}
-use Rattle.office_rows.specs.Opened.{NumberKept}
-use Rattle.office_rows.specs.Office.{taken_numbers, AreWaiting, AreKept, AreAccounts}
+use Rattle.std.proofs.lemmas.Option.{same_Some, slice_get_within}
+use Rattle.edi_messages.specs.{declared.codes.PartnerKind.PartnerKind, Purposes.CallContent, Owned.call_content}
+use Rattle.office_rows.specs.{Rows.{Partner, PlaceContent, listing_content}, Opened.NumberKept, Office.{taken_numbers, AreWaiting, AreKept, AreAccounts}}
+use Rattle.office_rows.specs.{Effects.{stands_for, is_line}, ByKey.{standing_by, line_entry, lines_by, ArePlacedOnce, AreListedOnce}}
 use Rattle.office_loading.specs.Checks.{numbers_beyond}
 use Rattle.office_loading.specs.Contents.{number_content, place_content}
-use Rattle.office_loading.specs.OwnOffice.{ComesAfter, IsInOrder, AreInOrder}
-use Rattle.office_loading.specs.declared.numbers.NumberRow.{NumberRow}
-use Rattle.office_loading.proofs.Kept.{next_of}
-use Rattle.std.specs.Option.{option_map}
-use Rattle.std.specs.Str.{bytes_eq}
-use Rattle.std.specs.Cmp.{eq_by_cmp_equiv}
-use Rattle.std.proofs.Math.Bool.{and_comm}
-use Rattle.std.proofs.lemmas.List.Sums.{sum_by-cons}
-use Rattle.std.proofs.lemmas.Simd.{map-map}
-use Rattle.std.proofs.lemmas.Option.{same_Some, slice_get_within}
+use Rattle.office_loading.specs.OwnOffice.{IsInOrder, AreInOrder}
+use Rattle.office_loading.{specs.declared.numbers.NumberRow.NumberRow, proofs.Kept.next_of}
 use Rattle.box6346.specs.declared.box_number.BoxNumber.{BoxNumber}
-use Rattle.edi_messages.specs.Purposes.{CallContent}
-use Rattle.edi_messages.specs.Owned.{call_content}
-use Rattle.terminal_core.specs.declared.lines.Listing.{Listing}
-use Rattle.terminal_core.specs.declared.change.Place.{Place}
-use Rattle.terminal_core.specs.declared.lines.Side.{Side}
-use Rattle.terminal_core.specs.declared.lines.Side.TheVariants.{Load, Discharge}
-use Rattle.terminal_core.specs.declared.visits.Visit.{Visit}
-use Rattle.terminal_core.specs.Rows.{visit_content}
-use Rattle.terminal_core.specs.State.{line_key, side_code}
-use Rattle.terminal_core.specs.Changes.{Standing, standing_in}
-use Rattle.terminal_core.specs.Restoring.{AreOnce}
-use Rattle.terminal_core.proofs.Lined.{keys_total, same_key, line_tied, line_first}
-use Rattle.terminal_core.proofs.Indexed.{counts, one_passes}
+use Rattle.terminal_core.specs.{declared.lines.Listing.Listing, declared.change.Place.Place, declared.lines.Side.Side, declared.visits.Visit.Visit}
+use Rattle.terminal_core.specs.{declared.lines.Side.TheVariants.{Load, Discharge}, Rows.visit_content, State.{line_key, side_code}, Restoring.AreOnce}
+use Rattle.terminal_core.{specs.Changes.{Standing, standing_in}, proofs.{Lined.{keys_total, same_key, line_tied, line_first}, Indexed.{counts, one_passes}}}
 use Rattle.terminal_core.proofs.Whole.{contained}
-use Rattle.office_rows.specs.Effects.{stands_for, is_line}
-use Rattle.office_rows.specs.ByKey.{standing_by, line_entry, lines_by, ArePlacedOnce, AreListedOnce}
 use Rattle.std.specs.FinMap as finite_map
 use Rattle.terminal_core.specs.Listings as typed
 use Rattle.terminal_core.specs.RowForms as forms

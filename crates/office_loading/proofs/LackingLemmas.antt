@@ -1,69 +1,35 @@
 -- The query of the settings, where the table of that name lacks one of the two columns.
+use Rattle.std.{specs.{Str.bytes_eq, List.{AllZip, AllByRecursion}, Prelude.sum_by, Cmp.IsTotalOrder, Ordering.ordering_reverse}, proofs.lemmas.List.take_more}
 use Rattle.std.proofs.Common.{◌≡◌, ◌⊎◌, ℕ, ◌-◌, nat_lt, true, false, List, [], ◌∷◌, slice_get, codes, Option, Some, None, Ok, Err, inl, inr, refl, Bool, ◌&&◌, if◌then◌else◌, IsTrue, sym, ap, subst, ◌∙◌, ◌+◌, ◌<◌, ◌++◌, length, take, get_or, ◌≤◌, cond, ap₂, arith, Ordering, Less, Equal, Greater, is_gt, is_eq, map}
-use Rattle.sqlite_ast.specs.declared.Expr.{Expr}
-use Rattle.sqlite_ast.specs.declared.Expr.TheOpen.{Shown-F}
-use Rattle.sqlite_ast.specs.declared.Shown.{Shown, out-Shown}
-use Rattle.sqlite_ast.specs.declared.Select.{Select, out-Select}
-use Rattle.sqlite_ast.specs.declared.Core.{Core}
-use Rattle.sqlite_ast.specs.declared.Source.{Source, out-Source}
+use Rattle.std.proofs.{lemmas.Slice.Eq.bytes_eq-Decides, lemmas.Cmp.{tied_itself, alike_right}, lemmas.List.Sums.sum_by-cons}
+use Rattle.sqlite_ast.specs.{declared.Expr.Expr, declared.Expr.TheOpen.Shown-F, declared.Shown.{Shown, out-Shown}, declared.Select.{Select, out-Select}}
+use Rattle.sqlite_ast.specs.{declared.Core.Core, declared.Source.{Source, out-Source}}
 use Rattle.sqlite_sql.specs.Term.{Term, col}
-use Rattle.sqlite_schema.specs.declared.schema.Schema.{Schema}
-use Rattle.sqlite_schema.specs.declared.schema.Table.{Table}
-use Rattle.sqlite_schema.specs.declared.schema.Column.{Column}
-use Rattle.sqlite_schema.specs.declared.program.Table.{Table as Let}
+use Rattle.sqlite_schema.specs.{declared.schema.Schema.Schema, declared.schema.Table.Table, declared.schema.Column.Column, declared.program.Table.Table as Let}
 use Rattle.sqlite_schema.specs.Names.{table_named, column_named, place_of, same_name}
-use Rattle.sqlite_resolve.specs.declared.error.CompileError.TheVariants.{NoSuchColumn}
-use Rattle.sqlite_resolve.specs.declared.state.State.{State}
-use Rattle.sqlite_resolve.specs.declared.state.Carried.{Carried}
-use Rattle.sqlite_resolve.specs.declared.scope.Bound.{Bound}
-use Rattle.sqlite_resolve.specs.declared.scope.Output.{Output}
-use Rattle.sqlite_resolve.specs.declared.scope.Level.{Level}
-use Rattle.sqlite_resolve.specs.Lowering.{Checked, fresh, max_budget, take_slot, nothing, spend, begin, finish}
+use Rattle.sqlite_resolve.specs.{declared.error.CompileError.TheVariants.NoSuchColumn, declared.state.State.State, declared.state.Carried.Carried}
+use Rattle.sqlite_resolve.specs.{declared.scope.Bound.Bound, declared.scope.Output.Output, declared.scope.Level.Level, Program.{viewing, single, alone}}
+use Rattle.sqlite_resolve.specs.{Lowering.{Checked, fresh, max_budget, take_slot, nothing, spend, begin, finish}, Expr.{lower, lower_to, node, opened, passes}}
 use Rattle.sqlite_resolve.specs.Scope.{Name, Context, find, column_in, hit, only, in_level, is_among, is_rowid, column, term_of, column_at, declared}
-use Rattle.sqlite_resolve.specs.Body.{table_in, bound, bounds, outputs, shown, heading, is_column, result, body}
-use Rattle.sqlite_resolve.specs.Expr.{lower, lower_to, node, opened, passes}
-use Rattle.sqlite_resolve.specs.Select.{outermost, parts, named as resolved}
-use Rattle.sqlite_resolve.specs.Program.{viewing, single, alone}
+use Rattle.sqlite_resolve.specs.{Body.{table_in, bound, bounds, outputs, shown, heading, is_column, result, body}, Select.{outermost, parts, named as resolved}}
 use Rattle.sqlite_resolve.specs.Compile.{first}
-use Rattle.sqlite.specs.Listing.{understood}
-use Rattle.office_loading.proofs.MissingLemmas.{ParsedAs, page, sourced, compiled_fails, IsOfOne}
-use Rattle.office_loading.proofs.SettingQuery.{IsOfSettings, Names, SelectsSettings}
+use Rattle.sqlite.specs.{Listing.understood, declared.types.Value.Value, declared.types.Value.TheVariants.Text}
+use Rattle.office_loading.specs.{Decoded.{IsSaid, Fails, FailsOne}, Columns.{SaysContainer, SaysSize, SaysMoment}, OwnOffice.{ComesAfter, AreInOrder}}
+use Rattle.office_loading.proofs.{MissingLemmas.{ParsedAs, page, sourced, compiled_fails, IsOfOne}, SettingQuery.{IsOfSettings, Names, SelectsSettings}}
 use Rattle.sqlite_tied.specs.Compute.{everything}
-use Rattle.office_tables.specs.Reading.{OnlyShows}
-use Rattle.office_tables.proofs.WritesLemmas.{is_read, understands_query}
-use Rattle.std.specs.Str.{bytes_eq}
-use Rattle.std.proofs.lemmas.Slice.Eq.{bytes_eq-Decides}
-use Rattle.box6346.specs.ContainerNumber.{number_of}
-use Rattle.box6346.specs.SizeCode.{size_of}
-use Rattle.box6346.specs.declared.box_number.NumberFault.{NumberFault}
-use Rattle.box6346.specs.declared.size_type.SizeFault.{SizeFault}
-use Rattle.edi_syntax.specs.Moments.{CivilMoment, moment_of, moment_digits}
-use Rattle.sqlite.specs.declared.types.Value.{Value}
-use Rattle.sqlite.specs.declared.types.Value.TheVariants.{Text}
-use Rattle.office_loading.specs.Decoded.{IsSaid, Fails, FailsOne}
-use Rattle.office_loading.specs.Columns.{SaysContainer, SaysSize, SaysMoment}
-use Rattle.std.specs.List.{AllZip, AllByRecursion}
-use Rattle.std.proofs.lemmas.List.{take_more}
-use Rattle.office_tables.specs.declared.table_fault.TableFault.{TableFault}
+use Rattle.office_tables.{specs.{Reading.OnlyShows, declared.table_fault.TableFault.TableFault}, proofs.WritesLemmas.{is_read, understands_query}}
 use Rattle.office_tables.specs.declared.table_fault.TableFault.TheVariants.{Store, Damaged, Version, Memory}
-use Rattle.std.specs.Prelude.{sum_by}
-use Rattle.std.specs.Cmp.{IsTotalOrder}
-use Rattle.std.specs.Ordering.{ordering_reverse}
-use Rattle.std.proofs.lemmas.Cmp.{tied_itself, alike_right}
-use Rattle.std.proofs.lemmas.List.Sums.{sum_by-cons}
+use Rattle.box6346.specs.{ContainerNumber.number_of, SizeCode.size_of, declared.box_number.NumberFault.NumberFault, declared.size_type.SizeFault.SizeFault}
+use Rattle.edi_syntax.specs.Moments.{CivilMoment, moment_of, moment_digits}
 use Rattle.sqlite_trees.specs.Tree.{IsAscending}
 use Rattle.sqlite_rules.specs.Lists.{Has}
-use Rattle.office_rows.specs.Rows.{Interchange}
-use Rattle.office_rows.specs.Opened.{NumberKept, number_kept}
-use Rattle.office_loading.specs.OwnOffice.{ComesAfter, AreInOrder}
+use Rattle.office_rows.specs.{Rows.Interchange, Opened.{NumberKept, number_kept}}
 use Rattle.sqlite_ast.specs.declared.Origin.TheVariants as origin
 use Rattle.sqlite_resolve.specs.declared.scope.Found.TheVariants as found
 use Rattle.office_rows.proofs.Reading as texts
 use Rattle.office_rows.proofs.BareReading as bare_texts
 use Rattle.box6346.specs.NumberText as container
 use Rattle.box6346.specs.SizeText as size
-
--- ==== LackingLemmas: The query of the settings, where the table of that name lacks one of the two columns.
 
 module _ (schema : Schema) (at : ℕ) (table : Table) (named : table_named schema (codes "setting") ≡ Some at) (there : slice_get schema.tables at ≡ Some table) where
   abbrev here : Bound

@@ -1,34 +1,19 @@
 -- The rows that were copied are those of the old store, brought to the newest version, and its interchanges stand as there.
-use Rattle.std.proofs.Common.{◌≡◌, ℕ, List, [], ◌∷◌, map, refl, sym, ap, subst, ◌∙◌, take}
-use Rattle.std.specs.List.Sorted.{IsPermutation}
+use Rattle.std.{specs.List.Sorted.IsPermutation, proofs.Common.{◌≡◌, ℕ, List, [], ◌∷◌, map, refl, sym, ap, subst, ◌∙◌, take}}
 use Rattle.std.proofs.lemmas.List.Sorted.{IsPermutation-trans, IsPermutation-map}
-use Rattle.sqlite.specs.Order.{Row}
-use Rattle.sqlite.specs.Table.{Table}
-use Rattle.sqlite.specs.Tree.{Trees}
-use Rattle.sqlite.specs.Effect.{Database}
-use Rattle.sqlite.specs.State.{State, HasCleanDisk}
+use Rattle.sqlite.specs.{Order.Row, Table.Table, Tree.Trees, Effect.Database, State.{State, HasCleanDisk}}
 use Rattle.sqlite_trees.proofs.ListLemmas.{map-map}
 use Rattle.terminal_core.specs.State.{TerminalState}
 use Rattle.office_admission.specs.Setups.{SetupContent}
 use Rattle.office_rows.specs.Tables.{partner_table, interchange_table, visit_table, place_table, listing_table, setting_table, block_table, office_tables, no_schema, office_schema}
-use Rattle.office_rows.specs.Rows.{Interchange, Rows}
+use Rattle.office_rows.specs.{Rows.{Interchange, Rows}, Stored.{Holds, AreRows, HasRows, HasEmpty, columns_of}, Steps.Turns, Shown.{columns_at, ShowsTable}}
 use Rattle.office_rows.specs.Values.{partner_values, interchange_values, visit_values, place_values, line_values, setting_values, block_values}
-use Rattle.office_rows.specs.Stored.{Holds, AreRows, HasRows, HasEmpty, columns_of}
-use Rattle.office_rows.specs.Steps.{Turns}
-use Rattle.office_rows.specs.Shown.{columns_at, ShowsTable}
-use Rattle.office_rows.specs.Opened.{OpenedRows, Shows}
-use Rattle.office_rows.specs.Bare.{HasBareRows, with_weights}
-use Rattle.office_rows.specs.Migrated.{migrated_rows, migrated_settings, migrated_opened}
-use Rattle.office_rows.specs.Office.{IsOffice}
-use Rattle.office_rows.proofs.Creating.{stores}
-use Rattle.office_tables.specs.declared.table_fault.TableFault.{TableFault}
-use Rattle.office_tables.specs.declared.table_fault.TableFault.TheVariants.{Store, Damaged, Version, Memory}
-use Rattle.office_tables.specs.Faults.{IsOfStore}
-use Rattle.office_tables.specs.Order.{HasRowsInOrder}
-use Rattle.office_loading.specs.Older.{FailsToLoadOlder}
+use Rattle.office_rows.specs.{Opened.{OpenedRows, Shows}, Bare.{HasBareRows, with_weights}, Migrated.{migrated_rows, migrated_settings, migrated_opened}}
+use Rattle.office_rows.{specs.Office.IsOffice, proofs.Creating.stores}
+use Rattle.office_tables.specs.{declared.table_fault.TableFault.TableFault, declared.table_fault.TableFault.TheVariants.{Store, Damaged, Version, Memory}}
+use Rattle.office_tables.specs.{Faults.IsOfStore, Order.HasRowsInOrder}
+use Rattle.office_loading.specs.{Older.FailsToLoadOlder, Copies.{AreStanding, copied_rows, MakesCopy}, Migration.{IsCopy, IsMigration, StandAlike}}
 use Rattle.office_loading.proofs.OlderOffice.{renamed_columns, renamed_all}
-use Rattle.office_loading.specs.Copies.{AreStanding, copied_rows, MakesCopy}
-use Rattle.office_loading.specs.Migration.{IsCopy, IsMigration, StandAlike}
 
 module _ {A : Type 0} (table : Table) (values : A → Row) where
   -- records that show the same values are held alike

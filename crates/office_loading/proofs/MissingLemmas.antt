@@ -1,25 +1,16 @@
 -- A query of a table that is not there.
 use Rattle.std.proofs.Common.{◌≡◌, ℕ, negsuc, List, [], ◌∷◌, None, Ok, Err, refl}
-use Rattle.sqlite_ast.specs.declared.Statement.{Statement}
-use Rattle.sqlite_ast.specs.declared.Select.{Select, out-Select}
-use Rattle.sqlite_ast.specs.declared.Core.{Core, out-Core}
-use Rattle.sqlite_ast.specs.declared.Sort.{Sort}
+use Rattle.sqlite_ast.specs.{declared.Statement.Statement, declared.Select.{Select, out-Select}, declared.Core.{Core, out-Core}, declared.Sort.Sort}
 use Rattle.sqlite_ast.specs.declared.Source.{Source, out-Source}
 use Rattle.sqlite_syntax.specs.declared.statement.Parsed.{Parsed}
 use Rattle.sqlite_value.specs.declared.value.Value.TheVariants.{Int}
 use Rattle.sqlite_sql.specs.Term.{Term, lit}
-use Rattle.sqlite_resolve.specs.Terms.{number}
-use Rattle.sqlite_schema.specs.declared.schema.Schema.{Schema}
-use Rattle.sqlite_schema.specs.declared.program.Table.{Table as Let}
-use Rattle.sqlite_resolve.specs.declared.error.CompileError.{CompileError}
-use Rattle.sqlite_resolve.specs.declared.error.CompileError.TheVariants.{NoSuchTable}
-use Rattle.sqlite_schema.specs.Names.{table_named, view_named}
-use Rattle.sqlite_resolve.specs.Lowering.{Checked, and_then, fresh, max_budget, take_slot}
-use Rattle.sqlite_resolve.specs.Scope.{Name}
-use Rattle.sqlite_resolve.specs.Body.{table_in, bound, bounds, body}
+use Rattle.sqlite_resolve.specs.{Terms.number, declared.error.CompileError.CompileError, declared.error.CompileError.TheVariants.NoSuchTable, Scope.Name}
+use Rattle.sqlite_resolve.specs.{Lowering.{Checked, and_then, fresh, max_budget, take_slot}, Body.{table_in, bound, bounds, body}}
 use Rattle.sqlite_resolve.specs.Select.{parts, named, paging, constant_or}
 use Rattle.sqlite_resolve.specs.Program.{source, sources, viewing, single, alone, whole, level, with, query_to, query}
 use Rattle.sqlite_resolve.specs.Compile.{first, read, planned, meaning, returning, command, timed, compiled, with_command}
+use Rattle.sqlite_schema.specs.{declared.schema.Schema.Schema, declared.program.Table.Table as Let, Names.{table_named, view_named}}
 use Rattle.sqlite.specs.Listing.{understood, listing_schema}
 use Rattle.office_tables.proofs.WritesLemmas.{plan_by}
 use Rattle.sqlite_ast.specs.declared.Statement.TheVariants as written

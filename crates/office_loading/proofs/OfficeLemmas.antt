@@ -1,52 +1,28 @@
 -- The rows of an office can be read, and in one way.
+use Rattle.std.specs.{Prelude.IsUtf8, List.{AllByRecursion, list_all}, Ordering.{nat_cmp, ordering_then}, Cmp.Lexicographic.slice_cmp}
 use Rattle.std.proofs.Common.{◌≡◌, ℕ, ◌<◌, ◌^◌, true, List, [], ◌∷◌, map, None, decimal, inl, inr, refl, ◌∙◌, arith, Less, Equal, suc, ◌+◌, ◌≤◌, length, Contains, sym, ap, ap₂, subst}
-use Rattle.std.specs.Prelude.{IsUtf8}
-use Rattle.std.specs.List.{AllByRecursion, list_all}
-use Rattle.std.specs.Ordering.{nat_cmp, ordering_then}
-use Rattle.sqlite_value.specs.Order.{value_cmp}
-use Rattle.std.specs.Cmp.Lexicographic.{slice_cmp}
-use Rattle.std.proofs.lemmas.Bool.{and_parts, cases_Bool}
-use Rattle.std.proofs.lemmas.Bool.Decides.{nat_tests}
-use Rattle.std.proofs.lemmas.Str.{IsUtf8-from_ascii}
-use Rattle.std.proofs.lemmas.Fmt.{IsAscii-decimal}
+use Rattle.std.proofs.{lemmas.Bool.{and_parts, cases_Bool}, lemmas.Bool.Decides.nat_tests, lemmas.Str.IsUtf8-from_ascii, lemmas.Fmt.IsAscii-decimal}
+use Rattle.sqlite_value.{specs.Order.value_cmp, proofs.OrderLemmas.{value_cmp-Text, then-Equal}}
 use Rattle.edi_syntax.specs.Characters.{is_printable, is_tag_byte}
-use Rattle.edi_messages.specs.CodeText.{is_code, table_fault}
-use Rattle.edi_messages.specs.Codes.{table_texts}
-use Rattle.sqlite.specs.declared.types.Value.TheVariants.{Text}
-use Rattle.sqlite_value.proofs.OrderLemmas.{value_cmp-Text, then-Equal}
+use Rattle.edi_messages.specs.{CodeText.{is_code, table_fault}, Codes.table_texts, declared.codes.PartnerKind.PartnerKind}
+use Rattle.sqlite.specs.{declared.types.Value.TheVariants.Text, Effect.Database}
 use Rattle.sqlite_trees.specs.Tree.{IsAscending}
-use Rattle.sqlite_rules.specs.Lists.{Has}
-use Rattle.office_admission.specs.Setups.{SetupContent}
-use Rattle.office_admission.specs.Given.{IsGiven}
-use Rattle.terminal_core.specs.declared.change.Version.{Version}
-use Rattle.terminal_core.specs.declared.change.Version.TheVariants.{First, Second, Third}
-use Rattle.office_rows.specs.Rows.{Setting, Partner, Interchange}
-use Rattle.office_rows.specs.Opening.{version_text, setting_row, tables_version}
-use Rattle.office_rows.specs.Values.{setting_values, partner_values, visit_values, place_values, line_values, block_values}
-use Rattle.office_rows.specs.Office.{settings_by_name, AreAccounts}
-use Rattle.office_loading.specs.Fits.{FitsSetting, FitsPartner, FitsVisit, FitsPlace, FitsLine, FitsBlock}
-use Rattle.office_loading.proofs.LackingLemmas.{rising_ties, all_in, all_from, interchanges_differ}
+use Rattle.sqlite_rules.{specs.Lists.Has, proofs.ListLemmas.{has_contained, contains_had}}
+use Rattle.office_admission.specs.{Setups.SetupContent, Given.IsGiven}
+use Rattle.terminal_core.specs.{declared.change.Version.Version, declared.change.Version.TheVariants.{First, Second, Third}, Forms.IsFormedVisit}
+use Rattle.terminal_core.specs.{Changes.{TerminalRows, standing_of}, Rows.VisitContent, State.{TerminalState, last_from}}
+use Rattle.terminal_core.specs.declared.restoring.RestoreFault.{RestoreFault}
+use Rattle.office_rows.specs.{Rows.{Setting, Partner, Interchange}, Opening.{version_text, setting_row, tables_version}, Office.{settings_by_name, AreAccounts}}
+use Rattle.office_rows.specs.{Values.{setting_values, partner_values, visit_values, place_values, line_values, block_values}, ByKey.{standing_by, lines_by}}
+use Rattle.office_rows.specs.Opened.{number_kept, reply_values, OpenedRows, Shows}
+use Rattle.office_loading.specs.{Fits.{FitsSetting, FitsPartner, FitsVisit, FitsPlace, FitsLine, FitsBlock}, Closed.{ClosedContent, nothing_closed}}
+use Rattle.office_loading.{specs.{OwnOffice.IsOwnOffice, Refusals.RefusesTables}, proofs.LackingLemmas.{rising_ties, all_in, all_from, interchanges_differ}}
+use Rattle.office_loading.specs.Tables.{FitsRows, FailsTables, FailsToLoad, FailsToLoadOwn, Loads, LoadsOwn, ShowsNoOffice, ShowsNoOwnOffice, ShowsUnfit, HasVersion, fault_of_restoring}
 use Rattle.office_loading.proofs.VersionLemmas.{keys_cmp, keys_total, mapped_has, fails_weaker, number_tied, text_tied, one_showing, one_reading}
 use Rattle.office_loading.proofs.RowLemmas.{utf8_from, printable_small, party_text, partners_fit, numbers_fit, blocks_fit, visits_fit, one_partner, one_visit, one_place, one_line, one_setting, one_block, ids_differ, visits_differ, blocks_differ}
+use Rattle.office_loading.proofs.{Offices.{own_office, whole_office}, WaitingQuery.{place_fits, places_differ, line_fits, lines_differ}}
 use Rattle.box6346.specs.declared.box_number.BoxNumber.{BoxNumber}
-use Rattle.edi_messages.specs.declared.codes.PartnerKind.{PartnerKind}
-use Rattle.sqlite.specs.Effect.{Database}
-use Rattle.sqlite_rules.proofs.ListLemmas.{has_contained, contains_had}
-use Rattle.terminal_core.specs.Changes.{TerminalRows, standing_of}
-use Rattle.terminal_core.specs.Forms.{IsFormedVisit}
-use Rattle.terminal_core.specs.Rows.{VisitContent}
-use Rattle.terminal_core.specs.State.{TerminalState, last_from}
-use Rattle.terminal_core.specs.declared.restoring.RestoreFault.{RestoreFault}
-use Rattle.office_rows.specs.ByKey.{standing_by, lines_by}
-use Rattle.office_rows.specs.Opened.{number_kept, reply_values, OpenedRows, Shows}
-use Rattle.office_loading.specs.Closed.{ClosedContent, nothing_closed}
-use Rattle.office_loading.specs.OwnOffice.{IsOwnOffice}
-use Rattle.office_loading.specs.Refusals.{RefusesTables}
-use Rattle.office_loading.proofs.Offices.{own_office, whole_office}
-use Rattle.office_tables.specs.declared.table_fault.TableFault.{TableFault}
-use Rattle.office_tables.specs.Faults.{IsOfStoreOr}
-use Rattle.office_loading.specs.Tables.{FitsRows, FailsTables, FailsToLoad, FailsToLoadOwn, Loads, LoadsOwn, ShowsNoOffice, ShowsNoOwnOffice, ShowsUnfit, HasVersion, fault_of_restoring}
-use Rattle.office_loading.proofs.WaitingQuery.{place_fits, places_differ, line_fits, lines_differ}
+use Rattle.office_tables.specs.{declared.table_fault.TableFault.TableFault, Faults.IsOfStoreOr}
 use Rattle.terminal_core.specs.declared.restoring.RestoreFault.TheVariants as restoring
 use Rattle.office_rows.specs.Tables as table
 

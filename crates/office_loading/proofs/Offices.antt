@@ -1,55 +1,27 @@
 -- What the rows of an office are, part by part.
+use Rattle.std.{specs.{Prelude.{not, nat_le, Contains, ◌&&◌}, List.{list_all, range_with_len}}, proofs.lemmas.Bool.{leb-true, leb-false, le-leb}}
 use Rattle.std.proofs.Common.{◌≡◌, ℕ, ◌+◌, ◌<◌, ◌≤◌, List, [], ◌∷◌, length, drop, map, get_or, Bool, true, false, cond, IsTrue, refl, sym, ap, subst, ◌∙◌, arith, ◌↔◌, None, Some, All, inl, inr, string_bytes, decimal, ◌-◌, ◌++◌}
-use Rattle.std.specs.Prelude.{not, nat_le, Contains, ◌&&◌}
-use Rattle.std.proofs.lemmas.Bool.{leb-true, leb-false, le-leb}
-use Rattle.terminal_core.specs.declared.visits.Visit.{Visit}
-use Rattle.terminal_core.specs.OneByOne.{GoOneByOne}
-use Rattle.terminal_core.specs.Rows.{VisitContent, visit_content}
-use Rattle.terminal_core.specs.State.{AreNumbered, TerminalState, LineContent, Lines, LineKey, line_key}
-use Rattle.office_loading.specs.Checks.{visits_after, AreOwnVisits, taken_beyond, numbers_beyond, AreKeptBeyond}
-use Rattle.office_loading.specs.Formed.{MayFollow, IsSoundVisit, IsSoundLine, AreSoundVisits, AreSoundLines, AreByLetter, AreTerminal, RefusesTerminal}
-use Rattle.office_loading.proofs.Kept.{next_of, accounts_are, each_mapped, limit_so}
-use Rattle.std.specs.List.{list_all, range_with_len}
-use Rattle.std.proofs.lemmas.Fmt.{decimal_injective}
-use Rattle.std.proofs.lemmas.List.{length-map, get_or-map}
-use Rattle.std.proofs.lemmas.List.Elements.{All-map, All-contains, All-cons, All-nil}
-use Rattle.std.proofs.lemmas.List.Sums.{AllPass-from_list_all, list_all-from_AllPass}
-use Rattle.std.proofs.lemmas.Option.{same_Some, slice_get-get_or}
-use Rattle.box6346.specs.SlotName.{IsNamed}
-use Rattle.box6346.specs.declared.box_number.BoxNumber.{BoxNumber}
-use Rattle.box6346.specs.declared.slot.Slot.{Slot}
-use Rattle.edi_messages.specs.Purposes.{CallContent}
-use Rattle.edi_messages.specs.Owned.{call_content}
-use Rattle.edi_messages.specs.declared.codes.PartnerKind.{PartnerKind}
-use Rattle.yard_core.specs.declared.plan.Block.{Block}
-use Rattle.yard_core.specs.Plan.{IsPlan, InPlan}
-use Rattle.yard_core.specs.declared.placements.Placement.{Placement}
-use Rattle.yard_core.specs.YardMap.{placement_of}
-use Rattle.terminal_core.specs.declared.lines.Listing.{Listing}
-use Rattle.terminal_core.specs.declared.restoring.RestoreFault.{RestoreFault}
-use Rattle.terminal_core.specs.declared.restoring.RestoreFault.TheVariants.{Unsound, Memory}
-use Rattle.terminal_core.specs.declared.lines.Side.{Side}
-use Rattle.terminal_core.specs.Forms.{IsFormedLine}
-use Rattle.terminal_core.specs.Listings.{line_content, key_of, lines_of}
-use Rattle.terminal_core.specs.Restoring.{AreRowsOf}
-use Rattle.terminal_core.proofs.Formed.{by_key_lists, lists_by_key}
+use Rattle.std.proofs.{lemmas.Fmt.decimal_injective, lemmas.List.{length-map, get_or-map}, lemmas.List.Elements.{All-map, All-contains, All-cons, All-nil}}
+use Rattle.std.proofs.{lemmas.List.Sums.{AllPass-from_list_all, list_all-from_AllPass}, lemmas.Option.{same_Some, slice_get-get_or}}
+use Rattle.terminal_core.specs.{declared.visits.Visit.Visit, OneByOne.GoOneByOne, Rows.{VisitContent, visit_content}, declared.lines.Listing.Listing}
+use Rattle.terminal_core.specs.{State.{AreNumbered, TerminalState, LineContent, Lines, LineKey, line_key}, declared.restoring.RestoreFault.RestoreFault}
+use Rattle.terminal_core.specs.{declared.restoring.RestoreFault.TheVariants.{Unsound, Memory}, declared.lines.Side.Side, Forms.IsFormedLine}
+use Rattle.terminal_core.{specs.{Listings.{line_content, key_of, lines_of}, Restoring.AreRowsOf}, proofs.{Formed.{by_key_lists, lists_by_key}, Whole.contained}}
 use Rattle.terminal_core.proofs.Lined.{line_first, line_none}
-use Rattle.terminal_core.proofs.Whole.{contained}
-use Rattle.yard_core.proofs.Exact.{numbered}
-use Rattle.office_admission.specs.Setups.{SetupContent}
-use Rattle.office_admission.specs.Given.{is_party_code, AreDistinct}
-use Rattle.office_rows.specs.Office.{AreAccounts, HasAccounts, taken_numbers, AreKept, IsOffice}
+use Rattle.office_loading.specs.Checks.{visits_after, AreOwnVisits, taken_beyond, AreKeptBeyond}
 use Rattle.office_loading.specs.Accounts.{accounts_in, AreWholeAccounts}
-use Rattle.office_loading.specs.Closed.{ClosedContent, nothing_closed}
-use Rattle.office_loading.specs.Contents.{partner_content, number_content, setting_content, opened_rows}
-use Rattle.office_loading.specs.OwnOffice.{AreOwnNumbers, IsOwnOffice, IsClosedBelow, NothingClosedIsAnOffice}
-use Rattle.office_loading.specs.Said.{AreSettings}
-use Rattle.office_loading.specs.Refusals.{RefusesTables}
-use Rattle.office_loading.specs.declared.restoring.OpenedTables.{OpenedTables}
-use Rattle.office_loading.specs.declared.numbers.PartnerRow.{PartnerRow}
+use Rattle.office_loading.specs.Formed.{MayFollow, IsSoundVisit, IsSoundLine, AreSoundVisits, AreSoundLines, AreByLetter, AreTerminal, RefusesTerminal}
+use Rattle.office_loading.specs.{Closed.{ClosedContent, nothing_closed}, Contents.{partner_content, number_content, setting_content, opened_rows}}
+use Rattle.office_loading.specs.{OwnOffice.{AreOwnNumbers, IsOwnOffice, IsClosedBelow, NothingClosedIsAnOffice}, Said.AreSettings, Refusals.RefusesTables}
+use Rattle.office_loading.specs.{declared.restoring.OpenedTables.OpenedTables, declared.numbers.PartnerRow.PartnerRow}
+use Rattle.office_loading.proofs.Kept.{next_of, accounts_are, each_mapped, limit_so}
 use Rattle.office_loading.proofs.Keyed.{placed_once, typed_placed_once, listed_once, typed_listed_once, rows_same, first_or_none, key_is, side_is, line_there, kept_in_order, all_beyond}
-use Rattle.office_rows.specs.Opened.{NumberKept, OpenedRows}
-use Rattle.office_rows.specs.Rows.{Partner}
+use Rattle.box6346.specs.{SlotName.IsNamed, declared.box_number.BoxNumber.BoxNumber, declared.slot.Slot.Slot}
+use Rattle.edi_messages.specs.{Purposes.CallContent, Owned.call_content, declared.codes.PartnerKind.PartnerKind}
+use Rattle.yard_core.specs.{declared.plan.Block.Block, Plan.{IsPlan, InPlan}, declared.placements.Placement.Placement, YardMap.placement_of}
+use Rattle.yard_core.proofs.Exact.{numbered}
+use Rattle.office_admission.specs.{Setups.SetupContent, Given.{is_party_code, AreDistinct}}
+use Rattle.office_rows.specs.{Office.{AreAccounts, HasAccounts, taken_numbers, AreKept, IsOffice}, Opened.{NumberKept, OpenedRows}, Rows.Partner}
 use Rattle.std.specs.FinMap as finite_map
 
 -- ==== OwnVisits: Visits whose numbers rise, and go on one by one after the newest closing.

@@ -1,52 +1,24 @@
 -- The rows of an office of version 1 or 2 can be read, and in one way.
+use Rattle.std.{specs.{List.AllByRecursion, List.Sorted.IsPermutation, Str.bytes_eq}, proofs.lemmas.Slice.Eq.bytes_eq-Decides}
 use Rattle.std.proofs.Common.{◌≡◌, ℕ, Bool, true, false, ◌&&◌, ◌||◌, List, [], ◌∷◌, map, codes, IsUtf8, if◌then◌else◌, ◌==◌, refl, sym, ap, ap₂, subst, ◌∙◌, ◌^◌, Contains}
-use Rattle.std.specs.List.{AllByRecursion}
-use Rattle.std.specs.List.Sorted.{IsPermutation}
-use Rattle.std.specs.Str.{bytes_eq}
-use Rattle.std.proofs.lemmas.Slice.Eq.{bytes_eq-Decides}
 use Rattle.std.proofs.lemmas.List.Sorted.{IsPermutation-map, IsPermutation-sym, Contains-permutation}
 use Rattle.sqlite_exec.proofs.RowsLemmas.{IsSorted-map}
-use Rattle.sqlite.specs.declared.types.Value.{Value}
-use Rattle.sqlite.specs.declared.types.Value.TheVariants.{Null, Int, Real, Text, Blob}
-use Rattle.sqlite.specs.Order.{Row, column}
-use Rattle.sqlite.specs.Tree.{Trees}
+use Rattle.sqlite.specs.{declared.types.Value.Value, declared.types.Value.TheVariants.{Null, Int, Real, Text, Blob}, Order.{Row, column}, Tree.Trees}
 use Rattle.sqlite.specs.Effect.{Database}
 use Rattle.sqlite_trees.proofs.ListLemmas.{map-map}
-use Rattle.terminal_core.specs.State.{TerminalState}
-use Rattle.terminal_core.specs.declared.restoring.RestoreFault.{RestoreFault}
-use Rattle.terminal_core.specs.declared.change.Version.TheVariants.{First, Second, Third}
+use Rattle.terminal_core.specs.{State.TerminalState, declared.restoring.RestoreFault.RestoreFault, declared.change.Version.TheVariants.{First, Second, Third}}
 use Rattle.office_admission.specs.Setups.{SetupContent}
-use Rattle.office_rows.specs.Tables.{setting_table}
-use Rattle.office_rows.specs.Rows.{Setting, Interchange, Rows}
-use Rattle.office_rows.specs.Values.{setting_values, number_value}
-use Rattle.office_rows.specs.Opening.{version_text, tables_version}
-use Rattle.office_rows.specs.Stored.{columns_of}
-use Rattle.office_rows.specs.Shown.{columns_at, ShowsTable}
-use Rattle.office_rows.specs.Opened.{OpenedRows, Shows}
-use Rattle.office_rows.specs.Bare.{with_weights}
-use Rattle.office_rows.specs.Migrated.{migrated_settings, migrated_opened}
-use Rattle.office_rows.specs.Office.{IsOffice}
-use Rattle.office_loading.specs.Closed.{nothing_closed}
-use Rattle.office_loading.specs.Refusals.{RefusesTables}
-use Rattle.office_loading.proofs.Offices.{own_office}
-use Rattle.office_tables.specs.declared.table_fault.TableFault.{TableFault}
-use Rattle.office_loading.specs.Fits.{FitsSetting}
-use Rattle.office_loading.specs.Tables.{FitsRows, ShowsUnfit, fault_of_restoring}
-use Rattle.office_loading.specs.Older.{FailsOlderTables, FailsToLoadOlder, HasOlder, ShowsNoOlder}
-use Rattle.office_loading.proofs.VersionLemmas.{keys_cmp, fails_weaker, mapped_has}
-use Rattle.office_loading.proofs.OfficeLemmas.{version_utf8, office_fits, office_one}
-use Rattle.sqlite_rules.specs.Lists.{Has}
-use Rattle.sqlite_rules.proofs.ListLemmas.{has_contained, contains_had}
-use Rattle.office_rows.proofs.Listed.{unmapped, numbers_same}
-use Rattle.office_tables.specs.declared.table_fault.TableFault.TheVariants.{Store, Damaged, Version, Memory}
+use Rattle.office_rows.specs.{Tables.setting_table, Rows.{Setting, Interchange, Rows}, Values.{setting_values, number_value}, Stored.columns_of}
+use Rattle.office_rows.specs.{Opening.{version_text, tables_version}, Shown.{columns_at, ShowsTable}, Opened.{OpenedRows, Shows}, Bare.with_weights}
+use Rattle.office_rows.{specs.{Migrated.{migrated_settings, migrated_opened}, Office.IsOffice}, proofs.{Listed.{unmapped, numbers_same}, Creating.has_mapped}}
+use Rattle.office_loading.specs.{Closed.nothing_closed, Refusals.RefusesTables, Fits.FitsSetting, Tables.{FitsRows, ShowsUnfit, fault_of_restoring}}
+use Rattle.office_loading.specs.{Older.{FailsOlderTables, FailsToLoadOlder, HasOlder, ShowsNoOlder}, Decoded.{IsSaid, FailsOne}, Columns.SaysNumber}
+use Rattle.office_loading.{specs.Waiting.{HasHighWaiting, waiting_in, waiting_numbers, waiting_values}, proofs.Offices.own_office}
+use Rattle.office_loading.proofs.{VersionLemmas.{keys_cmp, fails_weaker, mapped_has}, OfficeLemmas.{version_utf8, office_fits, office_one}}
+use Rattle.office_tables.specs.{declared.table_fault.TableFault.TableFault, declared.table_fault.TableFault.TheVariants.{Store, Damaged, Version, Memory}}
 use Rattle.office_tables.specs.Faults.{IsOfStoreOr}
-use Rattle.office_loading.specs.Waiting.{HasHighWaiting, waiting_in, waiting_numbers, waiting_values}
-use Rattle.office_loading.specs.Decoded.{IsSaid, FailsOne}
-use Rattle.office_loading.specs.Columns.{SaysNumber}
-use Rattle.office_rows.proofs.Creating.{has_mapped}
+use Rattle.sqlite_rules.{specs.Lists.Has, proofs.ListLemmas.{has_contained, contains_had}}
 use Rattle.terminal_core.specs.declared.restoring.RestoreFault.TheVariants as restoring
-
--- ==== OlderOffice: The rows of an office of version 1 or 2 can be read, and in one way.
 
 abbrev is_older : List ℕ → Bool
 is_older value = bytes_eq value (version_text First) || bytes_eq value (version_text Second)

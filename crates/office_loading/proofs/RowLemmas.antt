@@ -1,87 +1,42 @@
 -- The rows of an office have keys that differ, and say what their columns say.
+use Rattle.std.specs.{Prelude.{nat_le, Vec, IsUtf8}, Ordering.{is_lt, on}, List.Sorted.{IsPermutation, IsSortedBy}, Cmp.IsTotalOrder, Str.IsAscii}
+use Rattle.std.{specs.List.{AllByRecursion, list_all}, proofs.{lemmas.Bool.{cases_Bool, and_parts}, lemmas.Cmp.{on_total, then_total}}}
 use Rattle.std.proofs.Common.{◌≡◌, ℕ, ◌^◌, List, [], ◌∷◌, Bool, map, filter, codes, Some, None, Ok, Err, inl, inr, refl, sym, ap, ap₂, subst, ◌∙◌, false, Ordering, Less, Equal, is_gt, IsSorted, ◌++◌, Result, zero, suc, ◌+◌, ◌-◌, ◌<◌, ◌≤◌, true, ◌||◌, ◌==◌, length, Option, IsTrue, arith, slice_index_or, slice_get}
-use Rattle.std.specs.Prelude.{nat_le, Vec, IsUtf8}
-use Rattle.std.specs.Ordering.{is_lt, on}
-use Rattle.std.specs.List.Sorted.{IsPermutation, IsSortedBy}
-use Rattle.std.proofs.lemmas.Bool.{cases_Bool, and_parts}
-use Rattle.std.proofs.lemmas.List.Sorted.{IsPermutation-map, IsPermutation-sym, Contains-permutation, sum_by-IsPermutation}
-use Rattle.sqlite.specs.declared.types.Value.TheVariants.{Null}
-use Rattle.sqlite.specs.Collation.TheVariants.{Binary}
-use Rattle.sqlite.specs.Order.{Row, column, value_cmp}
-use Rattle.sqlite.specs.Schema.{Schema}
-use Rattle.sqlite.specs.Term.{Term, eval_all}
-use Rattle.sqlite.specs.Query.{Output, key_cmp, Query}
-use Rattle.sqlite.specs.Program.{overlay}
-use Rattle.sqlite.specs.Tree.{Trees, rowid, IsAscending, IsTable}
-use Rattle.sqlite.specs.Listing.{understood, listing_schema}
-use Rattle.sqlite.specs.State.{State, Shown, IsUnchanged, Begins}
-use Rattle.sqlite.proofs.Callers.{IsPlain, command_of, reads_as, begins_shown, EndsIn}
-use Rattle.sqlite_value.specs.Keys.{ascending}
-use Rattle.sqlite_value.specs.declared.keys.Key.{Key}
-use Rattle.sqlite_schema.specs.Names.{table_named, same_name}
-use Rattle.sqlite_resolve.specs.declared.error.CompileError.{CompileError}
-use Rattle.sqlite_resolve.specs.declared.error.CompileError.TheVariants.{NoSuchTable, NoSuchColumn}
-use Rattle.sqlite_syntax.specs.declared.statement.Parsed.{Parsed}
-use Rattle.sqlite_resolve.specs.Lowering.{Checked}
-use Rattle.sqlite_resolve.specs.Compile.{first}
-use Rattle.sqlite_trees.proofs.ListLemmas.{map-map, filter_all, all_of, ascending-map, ascending_weaker}
-use Rattle.office_rows.specs.Stored.{columns_of}
-use Rattle.office_rows.specs.Shown.{columns_at, ShowsTable}
-use Rattle.office_rows.proofs.Listed.{unmapped, sorted_as}
-use Rattle.office_rows.proofs.Reading.{select_setting, select_setting_shown, select_setting_order}
-use Rattle.office_rows.proofs.WriteLemmas.{passes, answer_in_order}
-use Rattle.office_loading.specs.Settings.{HasNoSettings, HasSettings, setting_in}
-use Rattle.office_loading.proofs.MissingLemmas.{ParsedAs, not_understood}
-use Rattle.office_loading.proofs.LackingLemmas.{lacking_fails, setting_one, setting_selects, one_order, rising_ties}
-use Rattle.office_loading.proofs.SettingQuery.{IsOfSettings, SelectsSettings, with_settings, settings_command, RunsSettings, unlisted, understands_settings}
-use Rattle.std.specs.Cmp.{IsTotalOrder}
-use Rattle.std.proofs.lemmas.Cmp.{on_total, then_total}
-use Rattle.sqlite_value.proofs.OrderLemmas.{value_cmp_total}
-use Rattle.sqlite_rules.proofs.ListLemmas.{contains_had, has_contained}
-use Rattle.sqlite_exec.proofs.PartitionLemmas.{ascending_from_sorted}
-use Rattle.sqlite.specs.Clock.{timed}
-use Rattle.sqlite.specs.Command.TheVariants.{Select}
-use Rattle.sqlite_rules.specs.Lists.{Has}
-use Rattle.office_rows.specs.Tables.{office_schema}
-use Rattle.office_rows.specs.Layouts.{Layout, bare, weighed, bare_schema, schema_in}
-use Rattle.office_tables.specs.declared.table_fault.TableFault.{TableFault}
-use Rattle.office_tables.specs.declared.table_fault.TableFault.TheVariants.{Store, Damaged, Version, Memory}
-use Rattle.office_tables.specs.Faults.{IsOfStore}
-use Rattle.office_loading.specs.Decoded.{DecodesAll, ReadsShown}
-use Rattle.std.specs.Str.{IsAscii}
-use Rattle.std.specs.List.{AllByRecursion, list_all}
-use Rattle.std.proofs.lemmas.Bool.Decides.{nat_tests}
+use Rattle.std.proofs.{lemmas.List.Sorted.{IsPermutation-map, IsPermutation-sym, Contains-permutation, sum_by-IsPermutation}, lemmas.Bool.Decides.nat_tests}
 use Rattle.std.proofs.lemmas.Str.{IsUtf8-from_ascii, IsUtf8-nil}
-use Rattle.edi_syntax.specs.Characters.{is_printable}
-use Rattle.edi_messages.specs.Forms.{is_name_if_any}
-use Rattle.edi_messages.specs.Texts.{is_name}
-use Rattle.edi_messages.specs.declared.codes.PartnerKind.{PartnerKind}
-use Rattle.edi_syntax.proofs.DigitLemmas.{read_back}
-use Rattle.box6346.proofs.SlotNames.{names_are_read_again_lem}
-use Rattle.terminal_core.specs.declared.visits.Departure.{Departure}
-use Rattle.terminal_core.specs.declared.change.Source.{Source}
-use Rattle.terminal_core.specs.Forms.{IsSource, IsFormedExit, IsFormedVisit}
-use Rattle.terminal_core.specs.Rows.{VisitContent}
-use Rattle.terminal_core.specs.State.{AreNumbered, last_from, side_code}
-use Rattle.terminal_core.proofs.Open.{last_highest}
-use Rattle.yard_core.specs.declared.plan.Block.{Block}
-use Rattle.yard_core.specs.Plan.{IsSized, AreApart}
-use Rattle.office_admission.specs.Given.{is_party_byte, is_party_code}
-use Rattle.office_rows.specs.Rows.{Partner, PlaceContent, ListingContent, Setting}
-use Rattle.office_rows.specs.Opened.{NumberKept}
-use Rattle.office_rows.specs.Office.{AreAccounts}
-use Rattle.office_loading.specs.OwnOffice.{AreInOrder}
-use Rattle.office_loading.specs.Fits.{FitsPartner, FitsNumber, FitsSource, FitsExit, FitsVisit, FitsBlock, IsSlot, IsMoment, FitsPlace, FitsLine, FitsSetting}
-use Rattle.box6346.specs.SlotName.{slot_of, slot_text}
-use Rattle.box6346.specs.declared.slot.Slot.{Slot}
-use Rattle.edi_syntax.specs.Moments.{CivilMoment, moment_of, moment_digits}
-use Rattle.edi_messages.specs.declared.codes.PartnerKind.TheVariants.{Gate, Line, Quay, Yard}
-use Rattle.terminal_core.specs.declared.lines.LineState.{LineState}
-use Rattle.terminal_core.specs.declared.lines.LineState.TheVariants.{Pending, Done}
-use Rattle.terminal_core.specs.declared.visits.Way.{Way}
+use Rattle.sqlite.specs.{declared.types.Value.TheVariants.Null, Collation.TheVariants.Binary, Order.{Row, column, value_cmp}, Schema.Schema, Program.overlay}
+use Rattle.sqlite.specs.{Term.{Term, eval_all}, Query.{Output, key_cmp, Query}, Tree.{Trees, rowid, IsAscending, IsTable}, Listing.{understood, listing_schema}}
+use Rattle.sqlite.specs.{State.{State, Shown, IsUnchanged, Begins}, Clock.timed, Command.TheVariants.Select}
+use Rattle.sqlite.proofs.Callers.{IsPlain, command_of, reads_as, begins_shown, EndsIn}
+use Rattle.sqlite_value.{specs.{Keys.ascending, declared.keys.Key.Key}, proofs.OrderLemmas.value_cmp_total}
+use Rattle.sqlite_schema.specs.Names.{table_named, same_name}
+use Rattle.sqlite_resolve.specs.{declared.error.CompileError.CompileError, declared.error.CompileError.TheVariants.{NoSuchTable, NoSuchColumn}, Compile.first}
+use Rattle.sqlite_resolve.specs.Lowering.{Checked}
+use Rattle.sqlite_syntax.specs.declared.statement.Parsed.{Parsed}
+use Rattle.sqlite_trees.proofs.ListLemmas.{map-map, filter_all, all_of, ascending-map, ascending_weaker}
+use Rattle.office_rows.specs.{Stored.columns_of, Shown.{columns_at, ShowsTable}, Tables.office_schema, Layouts.{Layout, bare, weighed, bare_schema, schema_in}}
+use Rattle.office_rows.specs.{Rows.{Partner, PlaceContent, ListingContent, Setting}, Opened.NumberKept, Office.AreAccounts}
 use Rattle.office_rows.specs.Values.{kind_code, way_code, laden_code, state_code, partner_values, visit_values, place_values, line_values, setting_values, block_values}
-use Rattle.office_loading.specs.Columns.{exit_values}
+use Rattle.office_rows.proofs.{Listed.{unmapped, sorted_as}, Reading.{select_setting, select_setting_shown, select_setting_order}}
+use Rattle.office_rows.proofs.WriteLemmas.{passes, answer_in_order}
+use Rattle.office_loading.specs.{Settings.{HasNoSettings, HasSettings, setting_in}, Decoded.{DecodesAll, ReadsShown}, OwnOffice.AreInOrder, Columns.exit_values}
+use Rattle.office_loading.specs.Fits.{FitsPartner, FitsNumber, FitsSource, FitsExit, FitsVisit, FitsBlock, IsSlot, IsMoment, FitsPlace, FitsLine, FitsSetting}
+use Rattle.office_loading.proofs.{MissingLemmas.{ParsedAs, not_understood}, LackingLemmas.{lacking_fails, setting_one, setting_selects, one_order, rising_ties}}
+use Rattle.office_loading.proofs.SettingQuery.{IsOfSettings, SelectsSettings, with_settings, settings_command, RunsSettings, unlisted, understands_settings}
 use Rattle.office_loading.proofs.Keyed.{side_is}
+use Rattle.sqlite_rules.{specs.Lists.Has, proofs.ListLemmas.{contains_had, has_contained}}
+use Rattle.sqlite_exec.proofs.PartitionLemmas.{ascending_from_sorted}
+use Rattle.office_tables.specs.{declared.table_fault.TableFault.TableFault, declared.table_fault.TableFault.TheVariants.{Store, Damaged, Version, Memory}}
+use Rattle.office_tables.specs.Faults.{IsOfStore}
+use Rattle.edi_syntax.{specs.{Characters.is_printable, Moments.{CivilMoment, moment_of, moment_digits}}, proofs.DigitLemmas.read_back}
+use Rattle.edi_messages.specs.{Forms.is_name_if_any, Texts.is_name, declared.codes.PartnerKind.PartnerKind}
+use Rattle.edi_messages.specs.declared.codes.PartnerKind.TheVariants.{Gate, Line, Quay, Yard}
+use Rattle.box6346.{specs.{SlotName.{slot_of, slot_text}, declared.slot.Slot.Slot}, proofs.SlotNames.names_are_read_again_lem}
+use Rattle.terminal_core.specs.{declared.visits.Departure.Departure, declared.change.Source.Source, Forms.{IsSource, IsFormedExit, IsFormedVisit}}
+use Rattle.terminal_core.specs.{Rows.VisitContent, State.{AreNumbered, last_from, side_code}, declared.lines.LineState.LineState, declared.visits.Way.Way}
+use Rattle.terminal_core.{specs.declared.lines.LineState.TheVariants.{Pending, Done}, proofs.Open.last_highest}
+use Rattle.yard_core.specs.{declared.plan.Block.Block, Plan.{IsSized, AreApart}}
+use Rattle.office_admission.specs.Given.{is_party_byte, is_party_code}
 use Rattle.office_rows.proofs.Reading as texts
 use Rattle.office_rows.proofs.BareReading as bare_texts
 use Rattle.terminal_core.specs.declared.visits.Way.TheVariants as way

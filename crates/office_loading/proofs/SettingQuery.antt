@@ -1,49 +1,25 @@
 -- The query of the settings, under any schema whose table of that name has the columns name and value first.
 use Rattle.std.proofs.Common.{◌≡◌, ℕ, ◌-◌, negsuc, Bool, true, false, nat_lt, List, [], ◌∷◌, ◌++◌, slice_get, codes, Option, Some, None, Ok, Err, if◌then◌else◌, refl, sym, subst, ◌∙◌}
-use Rattle.sqlite_value.specs.Keys.{ascending}
-use Rattle.sqlite_value.specs.declared.keys.Collation.{Collation}
-use Rattle.sqlite_value.specs.declared.keys.Collation.TheVariants.{Binary}
+use Rattle.sqlite_value.specs.{Keys.ascending, declared.keys.Collation.Collation, declared.keys.Collation.TheVariants.Binary}
 use Rattle.sqlite_value.specs.declared.value.Value.TheVariants.{Null, Int}
-use Rattle.sqlite_ast.specs.declared.Expr.{Expr, out-Expr}
-use Rattle.sqlite_ast.specs.declared.Expr.TheOpen.{Expr-F, Shown-F}
-use Rattle.sqlite_ast.specs.declared.Shown.{Shown, out-Shown}
-use Rattle.sqlite_ast.specs.declared.Select.{Select, out-Select}
-use Rattle.sqlite_ast.specs.declared.Core.{Core, out-Core}
-use Rattle.sqlite_ast.specs.declared.Sort.{Sort, out-Sort}
+use Rattle.sqlite_ast.specs.{declared.Expr.{Expr, out-Expr}, declared.Expr.TheOpen.{Expr-F, Shown-F}, declared.Shown.{Shown, out-Shown}}
+use Rattle.sqlite_ast.specs.{declared.Select.{Select, out-Select}, declared.Core.{Core, out-Core}, declared.Sort.{Sort, out-Sort}, declared.Statement.Statement}
 use Rattle.sqlite_ast.specs.declared.Source.{Source, out-Source}
-use Rattle.sqlite_sql.specs.Term.{Term, lit, col}
-use Rattle.sqlite_schema.specs.declared.schema.Kind.TheVariants.{Text}
-use Rattle.sqlite_schema.specs.declared.schema.Schema.{Schema}
-use Rattle.sqlite_schema.specs.declared.schema.Table.{Table}
-use Rattle.sqlite_schema.specs.declared.schema.Column.{Column}
-use Rattle.sqlite_schema.specs.Names.{table_named, same_name}
-use Rattle.sqlite_resolve.specs.declared.state.State.{State}
-use Rattle.sqlite_resolve.specs.declared.state.Carried.{Carried}
-use Rattle.sqlite_resolve.specs.declared.scope.Bound.{Bound}
-use Rattle.sqlite_resolve.specs.declared.scope.Output.{Output}
-use Rattle.sqlite_resolve.specs.Lowering.{Checked, and_then, fresh, max_budget, take_slot, nothing, alone, spend, begin, finish}
-use Rattle.sqlite_resolve.specs.Scope.{Name, Context, find, column_in, hit, only, in_level, is_among, term_of, column_at, column}
+use Rattle.sqlite_sql.specs.{Term.{Term, lit, col}, Query.Query}
+use Rattle.sqlite_schema.specs.{declared.schema.Kind.TheVariants.Text, declared.schema.Schema.Schema, declared.schema.Table.Table}
+use Rattle.sqlite_schema.specs.{declared.schema.Column.Column, Names.{table_named, same_name}, declared.program.Table.Table as Let}
+use Rattle.sqlite_schema.specs.{declared.command.Command.Command, declared.command.Command.TheVariants.Select as SelectRows}
+use Rattle.sqlite_resolve.specs.{declared.state.State.State, declared.state.Carried.Carried, declared.scope.Bound.Bound, declared.scope.Output.Output}
+use Rattle.sqlite_resolve.specs.{Lowering.{Checked, and_then, fresh, max_budget, take_slot, nothing, alone, spend, begin, finish}, declared.body.Body.Body}
+use Rattle.sqlite_resolve.specs.{Scope.{Name, Context, find, column_in, hit, only, in_level, is_among, term_of, column_at, column}, Terms.number}
 use Rattle.sqlite_resolve.specs.Body.{table_in, bound, bounds, outputs, shown, heading, declared, is_column, result, tests, join, joins, inner_join, shared, matching, body}
-use Rattle.sqlite_resolve.specs.Expr.{lower, lower_to, node, opened, passes}
-use Rattle.sqlite_draft.specs.declared.join.Step.TheVariants.{Inner}
-use Rattle.sqlite_draft.specs.declared.query.Draft.{Draft}
-use Rattle.sqlite_draft.specs.Join.{chain}
-use Rattle.sqlite_resolve.specs.declared.body.Body.{Body}
-use Rattle.sqlite_resolve.specs.declared.select.Clauses.{Clauses}
-use Rattle.sqlite_resolve.specs.Terms.{number}
+use Rattle.sqlite_resolve.specs.{Expr.{lower, lower_to, node, opened, passes}, declared.select.Clauses.Clauses, declared.compiled.Compiled.Compiled}
 use Rattle.sqlite_resolve.specs.Order.{is_numeral, alias_in, written_on, peeled, collation_of, placed, key, keys, sort, sorts}
-use Rattle.sqlite_resolve.specs.Select.{outermost, having, parts, ungrouped, assembled, named as resolved}
+use Rattle.sqlite_resolve.specs.{Select.{outermost, having, parts, ungrouped, assembled, named as resolved}, declared.error.CompileError.TheVariants.Mismatch}
 use Rattle.sqlite_resolve.specs.Program.{viewing, single, alone as alone_of, whole as whole_of, level, with, query_to, query, program}
 use Rattle.sqlite_resolve.specs.Compile.{first, read, planned, meaning, returning, command, timed, compiled, with_command}
-use Rattle.sqlite_ast.specs.declared.Statement.{Statement}
+use Rattle.sqlite_draft.specs.{declared.join.Step.TheVariants.Inner, declared.query.Draft.Draft, Join.chain, Query.query_of}
 use Rattle.sqlite_syntax.specs.declared.statement.Parsed.{Parsed}
-use Rattle.sqlite_schema.specs.declared.program.Table.{Table as Let}
-use Rattle.sqlite_schema.specs.declared.command.Command.{Command}
-use Rattle.sqlite_schema.specs.declared.command.Command.TheVariants.{Select as SelectRows}
-use Rattle.sqlite_resolve.specs.declared.compiled.Compiled.{Compiled}
-use Rattle.sqlite_resolve.specs.declared.error.CompileError.TheVariants.{Mismatch}
-use Rattle.sqlite_sql.specs.Query.{Query}
-use Rattle.sqlite_draft.specs.Query.{query_of}
 use Rattle.sqlite_typing.specs.Types.{accepts_program}
 use Rattle.sqlite.specs.Listing.{understood, reads_listing, misses_table}
 use Rattle.office_tables.proofs.WritesLemmas.{Plan, plan_by}

@@ -1,58 +1,26 @@
 -- The query of all interchanges shows them in the order in which they stand.
+use Rattle.std.{specs.{List.Sorted.IsPermutation, List.{AllByRecursion, AllZip}}, proofs.lemmas.List.Sorted.{length_permutation, Contains-permutation}}
 use Rattle.std.proofs.Common.{◌≡◌, List, [], ◌∷◌, map, Result, Ok, Err, OnOk, refl, sym, subst, ◌∙◌, arith, ℕ, false, true, filter, codes, ap, ap₂, ◌++◌, Contains, inl, inr}
-use Rattle.std.specs.List.Sorted.{IsPermutation}
-use Rattle.std.proofs.lemmas.List.Sorted.{length_permutation, Contains-permutation}
-use Rattle.sqlite.specs.Order.{Row, column}
-use Rattle.sqlite.specs.Effect.{Database}
-use Rattle.sqlite.specs.State.{State, Shown}
-use Rattle.office_rows.specs.Tables.{interchange_table}
-use Rattle.office_rows.specs.Rows.{Rows, Interchange, Setting}
-use Rattle.office_rows.specs.Values.{interchange_values, setting_values}
-use Rattle.office_rows.specs.Stored.{columns_of, HasRows}
-use Rattle.office_rows.specs.Steps.{Steps, Turns}
-use Rattle.office_rows.specs.InPlace.{AreInPlace}
-use Rattle.office_tables.specs.Order.{HasRowsInOrder, KeepsOrder}
-use Rattle.office_tables.specs.Reading.{ReadsIfOpen, OnlyShows}
+use Rattle.sqlite.specs.{Order.{Row, column}, Effect.Database, State.{State, Shown}, declared.types.Value.TheVariants.Null, Tree.{Trees, IsTable}}
+use Rattle.sqlite.specs.{Collation.TheVariants.Binary, Term.{Term, col}, Query.{Query, Output, IsAnswer}, Program.overlay, Command.Command}
+use Rattle.sqlite.{specs.{Command.TheVariants.Select, Listing.{understood, reads_listing}}, proofs.Callers.{IsPlain, command_of, reads_as}}
+use Rattle.office_rows.specs.{Tables.interchange_table, Rows.{Rows, Interchange, Setting}, Values.{interchange_values, setting_values}, Steps.{Steps, Turns}}
+use Rattle.office_rows.specs.{Stored.{columns_of, HasRows}, InPlace.AreInPlace, Layouts.{bare_schema, bare, layout_of}, Bare.with_weights}
+use Rattle.office_rows.{specs.{Opening.{setting_row, settings_in, version_text}, Migrated.migrated_rows}, proofs.WriteLemmas.{rows_of, passes, answer_in_order}}
+use Rattle.office_tables.specs.{Order.{HasRowsInOrder, KeepsOrder}, Reading.{ReadsIfOpen, OnlyShows}, declared.table_fault.TableFault.TableFault}
+use Rattle.office_tables.specs.{declared.table_fault.TableFault.TheVariants.{Store, Damaged, Version as OtherVersion, Memory}, Faults.IsOfStore}
 use Rattle.office_tables.proofs.WritesLemmas.{survives_here, is_read, understands_query}
-use Rattle.std.specs.List.{AllByRecursion, AllZip}
-use Rattle.sqlite.specs.declared.types.Value.TheVariants.{Null}
-use Rattle.sqlite.specs.Tree.{Trees, IsTable}
-use Rattle.sqlite.specs.Collation.TheVariants.{Binary}
-use Rattle.sqlite.specs.Term.{Term, col}
-use Rattle.sqlite.specs.Query.{Query, Output, IsAnswer}
-use Rattle.sqlite.specs.Program.{overlay}
-use Rattle.sqlite.specs.Command.{Command}
-use Rattle.sqlite.specs.Command.TheVariants.{Select}
-use Rattle.sqlite.specs.Listing.{understood, reads_listing}
-use Rattle.sqlite.proofs.Callers.{IsPlain, command_of, reads_as}
-use Rattle.sqlite_value.specs.Keys.{ascending}
-use Rattle.sqlite_value.specs.declared.keys.Key.{Key}
+use Rattle.sqlite_value.specs.{Keys.ascending, declared.keys.Key.Key}
 use Rattle.sqlite_tied.specs.Compute.{everything}
 use Rattle.sqlite_trees.proofs.ListLemmas.{map-map, filter_all}
 use Rattle.sqlite_resolve.specs.Compile.{first}
-use Rattle.office_rows.specs.Layouts.{bare_schema, bare, layout_of}
-use Rattle.office_rows.proofs.WriteLemmas.{rows_of, passes, answer_in_order}
-use Rattle.office_loading.proofs.RowLemmas.{keyed, in_order}
-use Rattle.office_loading.specs.Copies.{ShowsInterchange, AreStanding}
-use Rattle.sqlite_rules.specs.Lists.{Has}
-use Rattle.sqlite_rules.proofs.ListLemmas.{contains_had}
-use Rattle.terminal_core.specs.declared.change.Version.{Version}
-use Rattle.terminal_core.specs.declared.change.Version.TheVariants.{First, Second, Third}
+use Rattle.office_loading.specs.{Copies.{ShowsInterchange, AreStanding}, Tables.Names, Older.{HasOlder, FailsToLoadOlder}, Migration.IsMigration}
+use Rattle.office_loading.{specs.History.{IsOlderAfter, HoldsAfter, StoresAfter}, proofs.RowLemmas.{keyed, in_order}}
+use Rattle.sqlite_rules.{specs.Lists.Has, proofs.ListLemmas.contains_had}
+use Rattle.terminal_core.specs.{declared.change.Version.Version, declared.change.Version.TheVariants.{First, Second, Third}}
 use Rattle.office_replies.specs.Events.{Event, migrated}
 use Rattle.office_admission.specs.Setups.{SetupContent}
-use Rattle.office_rows.specs.Opening.{setting_row, settings_in, version_text}
-use Rattle.office_rows.specs.Bare.{with_weights}
-use Rattle.office_rows.specs.Migrated.{migrated_rows}
-use Rattle.office_tables.specs.declared.table_fault.TableFault.{TableFault}
-use Rattle.office_tables.specs.declared.table_fault.TableFault.TheVariants.{Store, Damaged, Version as OtherVersion, Memory}
-use Rattle.office_tables.specs.Faults.{IsOfStore}
-use Rattle.office_loading.specs.Tables.{Names}
-use Rattle.office_loading.specs.Older.{HasOlder, FailsToLoadOlder}
-use Rattle.office_history.specs.After.{content_after}
-use Rattle.office_history.proofs.KeptNumbers.{migration_goes_on}
-use Rattle.office_history.proofs.Offices.{older_rows_are}
-use Rattle.office_loading.specs.History.{IsOlderAfter, HoldsAfter, StoresAfter}
-use Rattle.office_loading.specs.Migration.{IsMigration}
+use Rattle.office_history.{specs.After.content_after, proofs.{KeptNumbers.migration_goes_on, Offices.older_rows_are}}
 use Rattle.office_rows.specs.Tables as table
 
 -- ==== MoreLemmas: Rows that are written in order, and what follows of a call that went well.

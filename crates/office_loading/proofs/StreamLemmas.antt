@@ -1,25 +1,13 @@
 -- What reading the rows of a query one at a time leaves, and what it has read.
-use Rattle.std.proofs.Common.{◌≡◌, ℕ, List, [], ◌∷◌, ◌++◌, None, Some, Result, Ok, Err, inl, inr, refl, sym, subst}
-use Rattle.std.specs.Prelude.{Vec}
-use Rattle.std.specs.List.{AllZip}
-use Rattle.sqlite.specs.Order.{Row}
-use Rattle.sqlite.specs.Effect.{Database}
-use Rattle.sqlite.specs.Clock.{timed}
-use Rattle.sqlite.specs.Held.{Held, state}
-use Rattle.sqlite.specs.Given.{Returns, HasGiven, HasBegun, Advances}
-use Rattle.sqlite.specs.Listing.{understood, reads_listing, IsSourceOf}
-use Rattle.sqlite.specs.State.{State, IsUnchanged, Shown, ShowsRows, Begins}
+use Rattle.std.{specs.{Prelude.Vec, List.AllZip}, proofs.Common.{◌≡◌, ℕ, List, [], ◌∷◌, ◌++◌, None, Some, Result, Ok, Err, inl, inr, refl, sym, subst}}
+use Rattle.sqlite.specs.{Order.Row, Effect.Database, Clock.timed, Held.{Held, state}, Given.{Returns, HasGiven, HasBegun, Advances}}
+use Rattle.sqlite.specs.{Listing.{understood, reads_listing, IsSourceOf}, State.{State, IsUnchanged, Shown, ShowsRows, Begins}}
 use Rattle.sqlite.proofs.Callers.{given_begin, unchanged_then}
-use Rattle.sqlite_resolve.specs.declared.compiled.Compiled.{Compiled}
-use Rattle.sqlite_resolve.specs.declared.error.CompileError.{CompileError}
-use Rattle.sqlite_rules.specs.Lists.{Has}
-use Rattle.sqlite_rules.proofs.ListLemmas.{contains_had}
-use Rattle.office_tables.specs.declared.table_fault.TableFault.{TableFault}
-use Rattle.office_tables.specs.declared.table_fault.TableFault.TheVariants.{Store, Damaged, Version, Memory}
-use Rattle.office_tables.specs.Faults.{IsOfStoreOr}
-use Rattle.office_tables.specs.Reading.{OnlyShows}
-use Rattle.office_loading.specs.Decoded.{Fails, ShowsUnsaid, ReadsShown}
-use Rattle.office_loading.proofs.LackingLemmas.{zip_push}
+use Rattle.sqlite_resolve.specs.{declared.compiled.Compiled.Compiled, declared.error.CompileError.CompileError}
+use Rattle.sqlite_rules.{specs.Lists.Has, proofs.ListLemmas.contains_had}
+use Rattle.office_tables.specs.{declared.table_fault.TableFault.TableFault, declared.table_fault.TableFault.TheVariants.{Store, Damaged, Version, Memory}}
+use Rattle.office_tables.specs.{Faults.IsOfStoreOr, Reading.OnlyShows}
+use Rattle.office_loading.{specs.Decoded.{Fails, ShowsUnsaid, ReadsShown}, proofs.LackingLemmas.zip_push}
 use Rattle.sqlite_trees.specs.declared.store.Store as store
 
 -- ---- what a query leaves

@@ -1,27 +1,15 @@
 -- A row that a page takes, or leaves.
+use Rattle.std.{specs.{List.list_any, Ordering.is_ge, Io.KnownBytes.Appends}, proofs.{lemmas.List.length-map, lemmas.Bool.Decides.nat_tests}}
 use Rattle.std.proofs.Common.{◌≡◌, ℕ, ◌<◌, ◌≤◌, ◌==◌, ◌||◌, List, [], ◌∷◌, ◌++◌, length, filter, Bool, true, false, Ordering, Less, Equal, Greater, is_gt, refl, ap, ◌∙◌, inl, arith, length-append, eq-eqb, not, Option, Some, None, suc, sym, subst, append-nil, append_assoc}
-use Rattle.std.specs.List.{list_any}
-use Rattle.std.specs.Ordering.{is_ge}
-use Rattle.std.proofs.lemmas.List.{length-map}
-use Rattle.sqlite.specs.declared.types.Value.TheVariants.{Blob}
-use Rattle.sqlite.specs.Order.{Row, column, value_cmp}
-use Rattle.sqlite.specs.Tree.{rowid}
-use Rattle.sqlite_rules.specs.Lists.{Has}
-use Rattle.sqlite_rules.proofs.ListLemmas.{has_filtered, some_from}
+use Rattle.sqlite.specs.{declared.types.Value.TheVariants.Blob, Order.{Row, column, value_cmp}, Tree.rowid}
+use Rattle.sqlite_rules.{specs.Lists.Has, proofs.ListLemmas.{has_filtered, some_from}}
 use Rattle.edi_syntax.specs.Bytes.{line_feed}
 use Rattle.office_rows.specs.Values.{number_value}
-use Rattle.office_tables.specs.Faults.{IsOfStore, IsOfStoreOr}
-use Rattle.office_tables.specs.declared.table_fault.TableFault.{TableFault}
+use Rattle.office_tables.specs.{Faults.{IsOfStore, IsOfStoreOr}, declared.table_fault.TableFault.TableFault}
 use Rattle.office_tables.specs.declared.table_fault.TableFault.TheVariants.{Store, Damaged, Version, Memory}
-use Rattle.office_loading.specs.Texts.{is_after, is_from, has_reached, AreTextsAfter}
-use Rattle.office_loading.specs.Pages.{TellsPage, TakesRow, Adds, has_room, lines_of}
-use Rattle.office_loading.specs.declared.page.TextsPage.{TextsPage}
+use Rattle.office_loading.specs.{Texts.{is_after, is_from, has_reached, AreTextsAfter}, Pages.{TellsPage, TakesRow, Adds, has_room, lines_of}}
+use Rattle.office_loading.specs.{declared.page.TextsPage.TextsPage, Writing.{WritesAll, WritesRow, written_if}}
 use Rattle.office_loading.proofs.TextQuery.{AreRead, page_full, page_whole, more_lines}
-use Rattle.std.specs.Io.KnownBytes.{Appends}
-use Rattle.std.proofs.lemmas.Bool.Decides.{nat_tests}
-use Rattle.office_loading.specs.Writing.{WritesAll, WritesRow, written_if}
-
--- ==== TakenLemmas: A row that a page takes, or leaves.
 
 pub row_taken : (most : ℕ) (row : Row) (old new : TextsPage) (taken : Bool) → taken ≡ true → TakesRow most row old new taken
     → (text : List ℕ) × (column row 0 ≡ Blob text) × (has_room most old.lines.items old.count text ≡ true) × Adds text old new

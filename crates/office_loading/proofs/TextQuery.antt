@@ -1,58 +1,32 @@
 -- What the queries of texts mean, and what they find.
+use Rattle.std.{specs.{List.{AllByRecursion, list_any}, Ordering.{is_gt, is_ge}}, proofs.{lemmas.Bool.{cases_Bool, or_parts}, lemmas.Bool.Decides.nat_tests}}
 use Rattle.std.proofs.Common.{◌≡◌, ◌==◌, ℕ, not, List, [], ◌∷◌, Bool, true, false, map, filter, length, codes, refl, sym, ap, ◌∙◌, IsTrue, Some, inl, inr, suc, arith, ◌≢◌, ◌⊎◌, nat_lt, ◌+◌, ◌<◌, ◌≤◌, ◌++◌, ap₂, append-nil, append_assoc, length-append, None, subst}
-use Rattle.std.specs.List.{AllByRecursion, list_any}
-use Rattle.std.specs.Ordering.{is_gt, is_ge}
-use Rattle.sqlite.specs.declared.types.Value.{Value}
-use Rattle.sqlite.specs.declared.types.Value.TheVariants.{Null, Int, Blob}
-use Rattle.sqlite.specs.Order.{Row, column, value_cmp}
-use Rattle.sqlite.specs.Tree.{Trees, rowid, IsTable}
+use Rattle.std.proofs.{lemmas.List.{length-map, map-append}, lemmas.List.Sorted.{length_permutation, IsPermutation-sym, Contains-permutation}}
+use Rattle.std.proofs.lemmas.List.Concat.{flat_map-append}
+use Rattle.sqlite.specs.{declared.types.Value.Value, declared.types.Value.TheVariants.{Null, Int, Blob}, Order.{Row, column, value_cmp}, Ops.{binary, is_true}}
+use Rattle.sqlite.specs.Tree.{Trees, rowid}
 use Rattle.sqlite.specs.Collation.TheVariants.{Binary}
-use Rattle.sqlite.specs.Ops.{binary, is_true}
-use Rattle.sqlite_sql.specs.declared.ops.BinaryOp.TheVariants.{Compare}
-use Rattle.sqlite_sql.specs.declared.ops.CompareOp.TheVariants.{Gt, Ge}
 use Rattle.sqlite.specs.Term.{Term, col, op2}
 use Rattle.sqlite.specs.Query.{Query, Output, IsAnswer}
 use Rattle.sqlite.specs.Program.{overlay}
-use Rattle.sqlite.specs.Command.{Command}
-use Rattle.sqlite.specs.Command.TheVariants.{Select}
-use Rattle.sqlite.specs.Listing.{understood, reads_listing}
-use Rattle.sqlite.specs.State.{State, Shown, IsUnchanged, Begins}
+use Rattle.sqlite.specs.{Command.Command, Command.TheVariants.Select, Listing.{understood, reads_listing}, State.{State, Shown, IsUnchanged, Begins}}
+use Rattle.sqlite.specs.{Effect.{Database, Reads, ReadsFirst}, Held.{Held, state}, Given.{HasGiven, Advances}}
 use Rattle.sqlite.proofs.Callers.{IsPlain, command_of, reads_as, given_begin, begins_as, unchanged_then}
-use Rattle.office_rows.specs.Rows.{Rows, Interchange}
-use Rattle.office_rows.specs.Stored.{HasRows, Holds, columns_of}
-use Rattle.sqlite_value.specs.Keys.{ascending}
-use Rattle.sqlite_value.specs.declared.keys.Key.{Key}
-use Rattle.sqlite_tied.specs.Compute.{everything}
-use Rattle.std.proofs.lemmas.Bool.{cases_Bool, or_parts}
-use Rattle.std.proofs.lemmas.Bool.Decides.{nat_tests}
-use Rattle.std.proofs.lemmas.List.{length-map, map-append}
-use Rattle.std.proofs.lemmas.List.Sorted.{length_permutation, IsPermutation-sym, Contains-permutation}
-use Rattle.sqlite_trees.specs.View.{IsShaped, is_int}
-use Rattle.sqlite_trees.proofs.ListLemmas.{map-map, all_weaker, ascending-filter, filter_same}
-use Rattle.sqlite_rules.specs.Edit.{id_in}
-use Rattle.sqlite_rules.proofs.TableLemmas.{int_is}
-use Rattle.sqlite_tied.proofs.RuleLemmas.{and_true}
-use Rattle.sqlite_resolve.specs.Compile.{first}
-use Rattle.office_rows.specs.Tables.{office_schema, interchange_table}
-use Rattle.office_tables.specs.Reading.{OnlyShows}
-use Rattle.office_tables.proofs.WritesLemmas.{is_read, understands_query}
-use Rattle.office_rows.specs.Values.{number_value, interchange_values}
-use Rattle.office_loading.specs.Texts.{is_after, is_from, AreTextsAfter, IsText}
-use Rattle.office_loading.proofs.RowLemmas.{keyed, in_order}
-use Rattle.office_rows.proofs.WriteLemmas.{rows_of, passes, answer_is, answer_in_order}
-use Rattle.std.proofs.lemmas.List.Concat.{flat_map-append}
-use Rattle.edi_syntax.specs.Bytes.{line_feed}
-use Rattle.office_loading.specs.Pages.{lines_of, IsPage, has_room}
-use Rattle.sqlite_rules.specs.Lists.{Has}
-use Rattle.sqlite_rules.proofs.ListLemmas.{contains_had, has_contained, has_filtered, has_last, has_front}
+use Rattle.sqlite_sql.specs.{declared.ops.BinaryOp.TheVariants.Compare, declared.ops.CompareOp.TheVariants.{Gt, Ge}}
+use Rattle.office_rows.specs.{Rows.{Rows, Interchange}, Stored.{HasRows, Holds, columns_of}, Tables.{office_schema, interchange_table}}
+use Rattle.office_rows.{specs.Values.{number_value, interchange_values}, proofs.WriteLemmas.{rows_of, passes, answer_is, answer_in_order}}
 use Rattle.office_rows.proofs.Creating.{has_mapped}
-use Rattle.sqlite.specs.Effect.{Database, Reads, ReadsFirst}
-use Rattle.sqlite.specs.Held.{Held, state}
-use Rattle.sqlite.specs.Given.{HasGiven, Advances}
+use Rattle.sqlite_value.specs.{Keys.ascending, declared.keys.Key.Key}
+use Rattle.sqlite_tied.{specs.Compute.everything, proofs.RuleLemmas.and_true}
+use Rattle.sqlite_trees.{specs.View.{IsShaped, is_int}, proofs.ListLemmas.{map-map, all_weaker, ascending-filter, filter_same}}
+use Rattle.sqlite_rules.{specs.{Edit.id_in, Lists.Has}, proofs.TableLemmas.int_is}
+use Rattle.sqlite_rules.proofs.ListLemmas.{contains_had, has_contained, has_filtered, has_last, has_front}
+use Rattle.sqlite_resolve.specs.Compile.{first}
+use Rattle.office_tables.{specs.Reading.OnlyShows, proofs.WritesLemmas.{is_read, understands_query}}
+use Rattle.office_loading.{specs.{Texts.{is_after, is_from, AreTextsAfter, IsText}, Pages.{lines_of, IsPage, has_room}}, proofs.RowLemmas.{keyed, in_order}}
+use Rattle.edi_syntax.specs.Bytes.{line_feed}
 use Rattle.sqlite_trees.specs.declared.store.Shape.TheVariants as shape
 use Rattle.sqlite_trees.specs.declared.store.Store as store
-
--- ==== TextQuery: What the queries of texts mean, and what they find.
 
 -- ---- the texts after a number
 

@@ -1,62 +1,26 @@
 -- The row of the version.
+use Rattle.std.specs.{Cmp.IsTotalOrder, Ordering.{on, nat_cmp, int_cmp, ordering_then}, Prelude.Vec, List.{AllByRecursion, AllZip, list_any}, Str.bytes_eq}
+use Rattle.std.{specs.Cmp.Lexicographic.slice_cmp, proofs.{lemmas.Cmp.{on_total, then_total}, lemmas.Bool.and_parts, lemmas.Slice.Eq.bytes_eq-Decides}}
 use Rattle.std.proofs.Common.{◌≡◌, ℕ, suc, List, [], ◌∷◌, map, refl, sym, subst, subst₂, Ordering, Equal, IsPermutation, IsSorted, Contains, Result, Ok, Err, inl, inr, ap, ap₂, ◌∙◌, true, false, codes, IfErr, pos, arith, Less, Greater, is_eq, ◌^◌, Bool, ◌||◌}
-use Rattle.std.specs.Cmp.{IsTotalOrder}
-use Rattle.std.specs.Ordering.{on, nat_cmp, int_cmp, ordering_then}
-use Rattle.std.proofs.lemmas.Cmp.{on_total, then_total}
 use Rattle.std.proofs.lemmas.List.Sorted.{IsPermutation-sym, IsPermutation-trans, IsPermutation-map, sum_by-IsPermutation, Contains-permutation}
-use Rattle.sqlite.specs.Collation.TheVariants.{Binary}
-use Rattle.sqlite.specs.Order.{Row, column}
-use Rattle.sqlite.specs.Table.{Table}
-use Rattle.sqlite.specs.Effect.{Database}
-use Rattle.sqlite.specs.Query.{key_cmp}
-use Rattle.sqlite_value.specs.Keys.{ascending}
-use Rattle.sqlite_value.proofs.OrderLemmas.{value_cmp_total, value_cmp-Int, value_cmp-Text}
-use Rattle.sqlite_rules.specs.Lists.{Has}
-use Rattle.sqlite_exec.proofs.RowsLemmas.{IsSorted-map}
-use Rattle.sqlite_exec.proofs.PartitionLemmas.{ascending_from_sorted}
-use Rattle.office_rows.specs.Shown.{columns_at, ShowsTable}
-use Rattle.office_loading.proofs.LackingLemmas.{one_order, all_in}
-use Rattle.std.specs.Prelude.{Vec}
-use Rattle.std.specs.List.{AllByRecursion, AllZip, list_any}
-use Rattle.sqlite_rules.proofs.ListLemmas.{has_contained, contains_had, some_has, some_from}
-use Rattle.office_rows.specs.Tables.{interchange_table, setting_table, partner_table}
-use Rattle.office_rows.specs.Rows.{Interchange, Setting, Partner, Rows}
-use Rattle.office_rows.specs.Opened.{NumberKept, number_kept, reply_values, ShowsNumbers, OpenedRows, Shows}
-use Rattle.office_tables.specs.declared.table_fault.TableFault.{TableFault}
-use Rattle.office_tables.specs.declared.table_fault.TableFault.TheVariants.{Store, Damaged, Version, Memory}
-use Rattle.office_tables.specs.Faults.{IsOfStore, IsOfStoreOr}
-use Rattle.office_tables.proofs.WritesLemmas.{of_store_or, of_store_weaker}
-use Rattle.office_loading.specs.Decoded.{IsSaid, FailsOne, DecodesAll, itself}
-use Rattle.office_loading.specs.Columns.{SaysNumbered, is_text, names_version, SaysNumber, is_older}
-use Rattle.office_loading.specs.Fits.{FitsNumber, FitsSetting}
-use Rattle.office_loading.specs.Tables.{FailsTable, ReadsTable, HasVersion, Names, Tells, FailsByVersion, ReadsSettings, ShowsSettings, FailsTables, FailsSettings, ReadsTables, ReadsOthers, ShowsUnfit, FitsRows, with_shown, HasHighNext, ShowsPartners}
+use Rattle.std.proofs.{lemmas.Map.Text.is_eq-slice_cmp, lemmas.Bool.Decides.nat_tests, lemmas.Int.ints}
+use Rattle.sqlite.specs.{Collation.TheVariants.Binary, Order.{Row, column}, Table.Table, Effect.Database, Query.key_cmp, declared.types.Value.Value}
+use Rattle.sqlite.specs.{declared.types.Value.TheVariants.{Null, Int, Real, Text, Blob}, State.{State, HasCleanDisk}, Schema.Schema}
+use Rattle.sqlite_value.{specs.{Keys.ascending, Order.value_cmp}, proofs.OrderLemmas.{value_cmp_total, value_cmp-Int, value_cmp-Text}}
+use Rattle.sqlite_rules.{specs.Lists.Has, proofs.ListLemmas.{has_contained, contains_had, some_has, some_from}}
+use Rattle.sqlite_exec.proofs.{RowsLemmas.IsSorted-map, PartitionLemmas.ascending_from_sorted}
+use Rattle.office_rows.specs.{Shown.{columns_at, ShowsTable}, Tables.{interchange_table, setting_table, partner_table}, Stored.{columns_of, HasRows}}
+use Rattle.office_rows.specs.{Rows.{Interchange, Setting, Partner, Rows}, Opened.{NumberKept, number_kept, reply_values, ShowsNumbers, OpenedRows, Shows}}
+use Rattle.office_rows.specs.{Opening.{setting_row as setting_of, version_text}, Values.{setting_values, number_value, partner_values}}
+use Rattle.office_rows.{specs.{Bare.{weighed_in, with_weights}, Layouts.{Layout, weighed, schema_in, bare}, Migrated.migrated_settings}, proofs.Listed.unmapped}
 use Rattle.office_rows.proofs.Creating.{has_mapped}
-use Rattle.std.proofs.lemmas.Bool.{and_parts}
-use Rattle.std.proofs.lemmas.Slice.Eq.{bytes_eq-Decides}
-use Rattle.sqlite.specs.declared.types.Value.{Value}
-use Rattle.sqlite.specs.declared.types.Value.TheVariants.{Null, Int, Real, Text, Blob}
-use Rattle.office_rows.specs.Opening.{setting_row as setting_of, version_text}
-use Rattle.office_rows.specs.Values.{setting_values, number_value, partner_values}
-use Rattle.office_rows.specs.Stored.{columns_of, HasRows}
-use Rattle.office_loading.specs.Settings.{setting_in}
-use Rattle.sqlite.specs.State.{State, HasCleanDisk}
-use Rattle.sqlite.specs.Schema.{Schema}
-use Rattle.office_rows.specs.Bare.{weighed_in, with_weights}
-use Rattle.office_rows.specs.Layouts.{Layout, weighed, schema_in, bare}
-use Rattle.office_loading.specs.Contents.{opened_rows}
-use Rattle.office_loading.specs.declared.restoring.OpenedTables.{OpenedTables}
-use Rattle.office_tables.specs.Reading.{Reads}
-use Rattle.office_tables.proofs.MadeLemmas.{clean_first}
-use Rattle.std.specs.Str.{bytes_eq}
-use Rattle.std.specs.Cmp.Lexicographic.{slice_cmp}
-use Rattle.std.proofs.lemmas.Map.Text.{is_eq-slice_cmp}
-use Rattle.std.proofs.lemmas.Bool.Decides.{nat_tests}
-use Rattle.std.proofs.lemmas.Int.{ints}
-use Rattle.sqlite_value.specs.Order.{value_cmp}
-use Rattle.office_rows.proofs.Listed.{unmapped}
+use Rattle.office_loading.specs.{Decoded.{IsSaid, FailsOne, DecodesAll, itself}, Columns.{SaysNumbered, is_text, names_version, SaysNumber, is_older}}
+use Rattle.office_loading.specs.{Fits.{FitsNumber, FitsSetting}, Settings.setting_in, Contents.opened_rows, declared.restoring.OpenedTables.OpenedTables}
+use Rattle.office_loading.specs.Tables.{FailsTable, ReadsTable, HasVersion, Names, Tells, FailsByVersion, ReadsSettings, ShowsSettings, FailsTables, FailsSettings, ReadsTables, ReadsOthers, ShowsUnfit, FitsRows, with_shown, HasHighNext, ShowsPartners}
+use Rattle.office_loading.{specs.Older.{HasOlder, NamesOlder, FailsOlderSettings, FailsOlderTables, ReadsOlderTables}, proofs.LackingLemmas.{one_order, all_in}}
+use Rattle.office_tables.specs.{declared.table_fault.TableFault.TableFault, declared.table_fault.TableFault.TheVariants.{Store, Damaged, Version, Memory}}
+use Rattle.office_tables.{specs.{Faults.{IsOfStore, IsOfStoreOr}, Reading.Reads}, proofs.{WritesLemmas.{of_store_or, of_store_weaker}, MadeLemmas.clean_first}}
 use Rattle.terminal_core.specs.declared.change.Version.TheVariants.{First, Second}
-use Rattle.office_rows.specs.Migrated.{migrated_settings}
-use Rattle.office_loading.specs.Older.{HasOlder, NamesOlder, FailsOlderSettings, FailsOlderTables, ReadsOlderTables}
 
 -- ==== ShownLemmas: What a table shows is shown in one order.
 

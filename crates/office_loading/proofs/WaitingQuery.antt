@@ -1,68 +1,29 @@
 -- What the query of the interchanges that wait means, and what it finds.
+use Rattle.std.specs.{List.Sorted.IsPermutation, Option.option_map, Ordering.{nat_cmp, eq_by_cmp}, Cmp.Lexicographic.slice_cmp, Prelude.IsUtf8}
 use Rattle.std.proofs.Common.{◌≡◌, ℕ, pos, ◌&&◌, nat_lt, List, [], ◌∷◌, Bool, true, false, map, codes, refl, ap₂, ◌∙◌, arith, is_gt, int_cmp, Some, ◌<◌, ◌^◌, Option, None, is_some, find, Contains, IsTrue, sym, ap, subst, ◌==◌, cond, inl, inr, Ordering}
-use Rattle.std.specs.List.Sorted.{IsPermutation}
-use Rattle.std.proofs.lemmas.Bool.Decides.{nat_tests}
-use Rattle.std.proofs.lemmas.Int.{ints}
-use Rattle.std.proofs.lemmas.List.Sorted.{IsPermutation-trans}
-use Rattle.sqlite.specs.declared.types.Value.TheVariants.{Null, Int}
-use Rattle.sqlite.specs.Order.{Row, column}
-use Rattle.sqlite.specs.Collation.TheVariants.{Binary}
-use Rattle.sqlite.specs.Ops.{binary, is_true}
-use Rattle.sqlite_sql.specs.declared.ops.BinaryOp.TheVariants.{Compare}
-use Rattle.sqlite_sql.specs.declared.ops.CompareOp.TheVariants.{Eq, Gt}
-use Rattle.sqlite.specs.Term.{Term, col, op2}
-use Rattle.sqlite.specs.Command.TheVariants.{Select}
-use Rattle.sqlite.specs.State.{State, Shown}
-use Rattle.sqlite.specs.Listing.{understood, reads_listing}
+use Rattle.std.proofs.{lemmas.Bool.Decides.nat_tests, lemmas.Int.ints, lemmas.List.Sorted.IsPermutation-trans, lemmas.Slice.Eq.bytes_eq-Decides}
+use Rattle.std.proofs.{lemmas.Bool.and_parts, lemmas.Cmp.eq_by_cmp_equiv, lemmas.Str.IsUtf8-nil}
+use Rattle.sqlite.specs.{declared.types.Value.TheVariants.{Null, Int}, Order.{Row, column}, Collation.TheVariants.Binary, Ops.{binary, is_true}}
+use Rattle.sqlite.specs.{Term.{Term, col, op2}, Command.TheVariants.Select, State.{State, Shown}, Listing.{understood, reads_listing}}
 use Rattle.sqlite.proofs.Callers.{IsPlain, command_of, reads_as}
-use Rattle.sqlite_tied.specs.Compute.{everything}
-use Rattle.sqlite_tied.proofs.RuleLemmas.{and_true}
+use Rattle.sqlite_sql.specs.{declared.ops.BinaryOp.TheVariants.Compare, declared.ops.CompareOp.TheVariants.{Eq, Gt}}
+use Rattle.sqlite_tied.{specs.Compute.everything, proofs.RuleLemmas.and_true}
 use Rattle.sqlite_resolve.specs.Compile.{first}
 use Rattle.sqlite_value.proofs.OrderLemmas.{value_cmp-Int}
-use Rattle.office_rows.specs.Tables.{interchange_table, office_schema}
-use Rattle.office_rows.specs.Rows.{Rows, PlaceContent, ListingContent}
-use Rattle.office_rows.specs.Values.{number_value, interchange_values}
-use Rattle.office_rows.specs.Stored.{HasRows}
-use Rattle.office_rows.proofs.WriteLemmas.{equal_numbers, rows_of, answer_is, holds_read}
-use Rattle.office_rows.proofs.Writing.{equals}
-use Rattle.office_tables.specs.Reading.{OnlyShows}
-use Rattle.office_loading.specs.Waiting.{is_waiting, waiting_in, waiting_values}
-use Rattle.office_tables.proofs.WritesLemmas.{is_read, understands_query}
-use Rattle.std.specs.Option.{option_map}
-use Rattle.std.proofs.lemmas.Slice.Eq.{bytes_eq-Decides}
-use Rattle.std.proofs.lemmas.Bool.{and_parts}
-use Rattle.box6346.specs.NumberText.{is_number}
-use Rattle.box6346.specs.SlotName.{IsNamed}
-use Rattle.box6346.specs.declared.box_number.BoxNumber.{BoxNumber}
-use Rattle.box6346.proofs.SlotNames.{names_are_read_again_lem}
-use Rattle.yard_core.specs.declared.placements.Placement.{Placement}
-use Rattle.yard_core.specs.declared.placements.Stowed.{Stowed}
-use Rattle.yard_core.specs.YardMap.{placement_if_any, placement_of}
-use Rattle.terminal_core.specs.Changes.{Standing, standing_in, standing_of}
-use Rattle.terminal_core.specs.Forms.{IsWellFormed, IsFormedPort}
-use Rattle.terminal_core.specs.Rows.{VisitContent}
-use Rattle.terminal_core.specs.Step.{number_of_visit}
+use Rattle.office_rows.specs.{Tables.{interchange_table, office_schema}, Rows.{Rows, PlaceContent, ListingContent}, Values.{number_value, interchange_values}}
+use Rattle.office_rows.specs.{Stored.HasRows, Effects.{stands_for, is_line}, ByKey.{standing_by, ArePlacedOnce, line_entry, lines_by, AreListedOnce}}
+use Rattle.office_rows.proofs.{WriteLemmas.{equal_numbers, rows_of, answer_is, holds_read}, Writing.equals}
+use Rattle.office_tables.{specs.Reading.OnlyShows, proofs.WritesLemmas.{is_read, understands_query}}
+use Rattle.office_loading.{specs.{Waiting.{is_waiting, waiting_in, waiting_values}, Fits.{FitsPlace, FitsLine}}, proofs.RowLemmas.{name_text, any_name_text}}
+use Rattle.box6346.{specs.{NumberText.is_number, SlotName.IsNamed, declared.box_number.BoxNumber.BoxNumber}, proofs.SlotNames.names_are_read_again_lem}
+use Rattle.yard_core.specs.{declared.placements.Placement.Placement, declared.placements.Stowed.Stowed, YardMap.{placement_if_any, placement_of}}
+use Rattle.terminal_core.specs.{Changes.{Standing, standing_in, standing_of}, Forms.{IsWellFormed, IsFormedPort}, Rows.VisitContent, Step.number_of_visit}
 use Rattle.terminal_core.specs.State.{TerminalState, IsWhole, open_visit, is_open_visit, LineContent, LineKey, line_key, side_code, Lines}
-use Rattle.terminal_core.proofs.Indexed.{some_of, one_passes, is_found, found_is}
-use Rattle.terminal_core.proofs.Whole.{contained, found_at}
-use Rattle.sqlite_rules.specs.Lists.{Has}
-use Rattle.sqlite_rules.proofs.ListLemmas.{contains_had}
-use Rattle.office_rows.specs.Effects.{stands_for, is_line}
-use Rattle.office_rows.specs.ByKey.{standing_by, ArePlacedOnce, line_entry, lines_by, AreListedOnce}
-use Rattle.office_loading.specs.Fits.{FitsPlace, FitsLine}
+use Rattle.terminal_core.{specs.{declared.lines.Side.Side, declared.lines.Side.TheVariants.{Load, Discharge}}, proofs.Whole.{contained, found_at}}
+use Rattle.terminal_core.proofs.{Indexed.{some_of, one_passes, is_found, found_is}, Lined.{keys_total, same_key}}
+use Rattle.sqlite_rules.{specs.Lists.Has, proofs.ListLemmas.contains_had}
 use Rattle.edi_syntax.proofs.SegmentLemmas.{mapped_some}
-use Rattle.std.specs.Ordering.{nat_cmp, eq_by_cmp}
-use Rattle.std.specs.Cmp.Lexicographic.{slice_cmp}
-use Rattle.std.proofs.lemmas.Cmp.{eq_by_cmp_equiv}
-use Rattle.terminal_core.specs.declared.lines.Side.{Side}
-use Rattle.terminal_core.specs.declared.lines.Side.TheVariants.{Load, Discharge}
-use Rattle.terminal_core.proofs.Lined.{keys_total, same_key}
-use Rattle.std.specs.Prelude.{IsUtf8}
-use Rattle.std.proofs.lemmas.Str.{IsUtf8-nil}
-use Rattle.office_loading.proofs.RowLemmas.{name_text, any_name_text}
 use Rattle.std.specs.FinMap as finite_map
-
--- ==== WaitingQuery: What the query of the interchanges that wait means, and what it finds.
 
 abbrev pub select_waiting : List ℕ
 select_waiting = codes "SELECT number FROM interchange WHERE partner = ?1 AND number > ?2"

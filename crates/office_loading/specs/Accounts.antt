@@ -1,12 +1,9 @@
 -- The accounts that rows of partners say: what the code relies on, and no caller has to read.
-use Rattle.std.specs.Prelude.{◌≡◌, ℕ, ◌≤◌, List, length, map, string_bytes, true}
-use Rattle.std.specs.List.{list_all}
+use Rattle.std.specs.{Prelude.{◌≡◌, ℕ, ◌≤◌, List, length, map, string_bytes, true}, List.list_all}
 use Rattle.edi_messages.specs.declared.codes.PartnerKind.{PartnerKind}
-use Rattle.office_admission.specs.Given.{is_party_code, AreDistinct}
-use Rattle.office_admission.specs.Limits.{most_partners}
+use Rattle.office_admission.specs.{Given.{is_party_code, AreDistinct}, Limits.most_partners}
 use Rattle.office_rows.specs.Office.{AreAccounts}
-use Rattle.office_loading.specs.Contents.{partner_content}
-use Rattle.office_loading.specs.declared.numbers.PartnerRow.{PartnerRow}
+use Rattle.office_loading.specs.{Contents.partner_content, declared.numbers.PartnerRow.PartnerRow}
 
 -- the code of each partner, and what it is
 abbrev pub accounts_in : List PartnerRow → List (List ℕ × PartnerKind)

@@ -1,12 +1,7 @@
 -- What interchanges and visits are checked for, where some were put away.
-use Rattle.std.specs.Prelude.{◌≡◌, ℕ, ◌+◌, ◌-◌, Bool, nat_le, not, List, [], ◌∷◌, ◌++◌, map, filter, true}
-use Rattle.std.specs.List.{range_with_len}
-use Rattle.terminal_core.specs.OneByOne.{GoOneByOne}
-use Rattle.terminal_core.specs.Rows.{VisitContent}
-use Rattle.terminal_core.specs.State.{AreNumbered}
-use Rattle.office_rows.specs.Rows.{Partner}
-use Rattle.office_rows.specs.Opened.{NumberKept}
-use Rattle.office_rows.specs.Office.{AreWaiting}
+use Rattle.std.specs.{Prelude.{◌≡◌, ℕ, ◌+◌, ◌-◌, Bool, nat_le, not, List, [], ◌∷◌, ◌++◌, map, filter, true}, List.range_with_len}
+use Rattle.terminal_core.specs.{OneByOne.GoOneByOne, Rows.VisitContent, State.AreNumbered}
+use Rattle.office_rows.specs.{Rows.Partner, Opened.NumberKept, Office.AreWaiting}
 
 -- each number beyond what is closed and below the partner's next was taken
 abbrev pub taken_beyond : (last_closed : ℕ → ℕ) → Partner → List NumberKept

@@ -1,32 +1,17 @@
 -- Which columns and rows say what: what the code relies on, and no caller has to read.
-use Rattle.std.specs.Prelude.{◌≡◌, ℕ, ◌+◌, ◌<◌, Bool, false, ◌&&◌, ◌||◌, List, [], ◌∷◌, Option, IsTrue, IsUtf8, codes}
-use Rattle.std.specs.Str.{bytes_eq}
-use Rattle.box6346.specs.NumberText.{is_number}
-use Rattle.box6346.specs.SizeText.{is_size}
-use Rattle.box6346.specs.SlotName.{slot_text}
-use Rattle.box6346.specs.declared.slot.Slot.{Slot}
+use Rattle.std.specs.{Prelude.{◌≡◌, ℕ, ◌+◌, ◌<◌, Bool, false, ◌&&◌, ◌||◌, List, [], ◌∷◌, Option, IsTrue, IsUtf8, codes}, Str.bytes_eq, List.list_any}
+use Rattle.box6346.specs.{NumberText.is_number, SizeText.is_size, SlotName.slot_text, declared.slot.Slot.Slot}
 use Rattle.edi_syntax.specs.Moments.{CivilMoment, moment_digits}
 use Rattle.edi_messages.specs.declared.codes.PartnerKind.{PartnerKind}
-use Rattle.sqlite.specs.declared.types.Value.{Value}
-use Rattle.sqlite.specs.declared.types.Value.TheVariants.{Text}
-use Rattle.sqlite.specs.Order.{Row, column}
-use Rattle.terminal_core.specs.declared.visits.Arrival.{Arrival}
-use Rattle.terminal_core.specs.declared.visits.Departure.{Departure}
-use Rattle.terminal_core.specs.declared.lines.LineState.{LineState}
-use Rattle.terminal_core.specs.declared.lines.Side.{Side}
-use Rattle.terminal_core.specs.declared.change.Source.{Source}
-use Rattle.terminal_core.specs.declared.visits.Way.{Way}
-use Rattle.terminal_core.specs.Rows.{VisitContent}
-use Rattle.terminal_core.specs.State.{side_code}
-use Rattle.yard_core.specs.declared.plan.Block.{Block}
-use Rattle.office_rows.specs.Rows.{Partner, Interchange, PlaceContent, ListingContent, Setting}
-use Rattle.office_rows.specs.Values.{number_value, kind_code, way_code, laden_code, state_code, out_by, out_partner, out_number, out_at, partner_values, visit_values, place_values, line_values, setting_values, block_values}
-use Rattle.office_rows.specs.Opened.{NumberKept, number_kept, reply_values}
-use Rattle.office_rows.specs.Shown.{columns_at}
-use Rattle.office_loading.specs.Fits.{IsSlot, IsMoment, FitsPartner, FitsNumber, FitsSource, FitsArrival, FitsExit, FitsVisit, FitsPlace, FitsLine, FitsSetting, FitsBlock}
-use Rattle.std.specs.List.{list_any}
+use Rattle.sqlite.specs.{declared.types.Value.Value, declared.types.Value.TheVariants.Text, Order.{Row, column}}
+use Rattle.terminal_core.specs.{declared.visits.Arrival.Arrival, declared.visits.Departure.Departure, declared.lines.LineState.LineState, Rows.VisitContent}
+use Rattle.terminal_core.specs.{declared.lines.Side.Side, declared.change.Source.Source, declared.visits.Way.Way, State.side_code}
 use Rattle.terminal_core.specs.declared.change.Version.TheVariants.{First, Second}
-use Rattle.office_rows.specs.Opening.{version_text}
+use Rattle.yard_core.specs.declared.plan.Block.{Block}
+use Rattle.office_rows.specs.{Rows.{Partner, Interchange, PlaceContent, ListingContent, Setting}, Opened.{NumberKept, number_kept, reply_values}}
+use Rattle.office_rows.specs.Values.{number_value, kind_code, way_code, laden_code, state_code, out_by, out_partner, out_number, out_at, partner_values, visit_values, place_values, line_values, setting_values, block_values}
+use Rattle.office_rows.specs.{Shown.columns_at, Opening.version_text}
+use Rattle.office_loading.specs.Fits.{IsSlot, IsMoment, FitsPartner, FitsNumber, FitsSource, FitsArrival, FitsExit, FitsVisit, FitsPlace, FitsLine, FitsSetting, FitsBlock}
 
 -- ---- columns
 

@@ -1,12 +1,8 @@
 -- What rows that were read say, whatever memory holds them.
 use Rattle.std.specs.Prelude.{map, string_bytes}
-use Rattle.terminal_core.specs.declared.change.Place.{Place}
-use Rattle.terminal_core.specs.Rows.{visit_content}
-use Rattle.office_rows.specs.Rows.{Partner, PlaceContent, Setting, listing_content}
-use Rattle.office_rows.specs.Opened.{NumberKept, OpenedRows}
-use Rattle.office_loading.specs.declared.numbers.NumberRow.{NumberRow}
-use Rattle.office_loading.specs.declared.restoring.OpenedTables.{OpenedTables}
-use Rattle.office_loading.specs.declared.numbers.PartnerRow.{PartnerRow}
+use Rattle.terminal_core.specs.{declared.change.Place.Place, Rows.visit_content}
+use Rattle.office_rows.specs.{Rows.{Partner, PlaceContent, Setting, listing_content}, Opened.{NumberKept, OpenedRows}}
+use Rattle.office_loading.specs.{declared.numbers.NumberRow.NumberRow, declared.restoring.OpenedTables.OpenedTables, declared.numbers.PartnerRow.PartnerRow}
 use Rattle.office_loading.specs.declared.settings.Setting as read
 
 abbrev pub partner_content : PartnerRow → Partner

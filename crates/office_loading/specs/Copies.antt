@@ -1,20 +1,11 @@
 -- What is copied from one store to another.
 use Rattle.std.specs.Prelude.{◌≡◌, List, [], ◌∷◌, map, take, Ok}
-use Rattle.sqlite.specs.Order.{Row, column}
-use Rattle.sqlite.specs.State.{State, HasCleanDisk}
-use Rattle.sqlite.specs.declared.types.Value.TheVariants.{Text, Blob}
+use Rattle.sqlite.specs.{Order.{Row, column}, State.{State, HasCleanDisk}, declared.types.Value.TheVariants.{Text, Blob}}
 use Rattle.sqlite_trees.specs.View.{IsShaped}
+use Rattle.office_rows.specs.{Tables.{interchange_table, office_tables}, Layouts.bare_schema, Rows.{Interchange, Rows}, Stored.{columns_of, HasEmpty}}
+use Rattle.office_rows.specs.{Values.{number_value, interchange_values}, Opened.OpenedRows, Opening.with_interchanges, Steps.Turns}
+use Rattle.office_tables.specs.{Order.HasRowsInOrder, Writes.{Writes, WritesIfOpen}}
 use Rattle.sqlite_trees.specs.declared.store.Shape.TheVariants as shape
-use Rattle.office_rows.specs.Tables.{interchange_table, office_tables}
-use Rattle.office_rows.specs.Layouts.{bare_schema}
-use Rattle.office_rows.specs.Rows.{Interchange, Rows}
-use Rattle.office_rows.specs.Values.{number_value, interchange_values}
-use Rattle.office_rows.specs.Stored.{columns_of, HasEmpty}
-use Rattle.office_rows.specs.Opened.{OpenedRows}
-use Rattle.office_rows.specs.Opening.{with_interchanges}
-use Rattle.office_rows.specs.Steps.{Turns}
-use Rattle.office_tables.specs.Order.{HasRowsInOrder}
-use Rattle.office_tables.specs.Writes.{Writes, WritesIfOpen}
 
 -- ---- interchanges
 

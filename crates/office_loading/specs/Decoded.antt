@@ -1,13 +1,8 @@
 -- What reading a row, or a column, answers: what the code relies on, and no caller has to read.
-use Rattle.std.specs.Prelude.{ℕ, List, [], Contains, Result, Ok, Err, Vec}
-use Rattle.std.specs.List.{AllZip}
-use Rattle.sqlite.specs.Order.{Row}
-use Rattle.sqlite.specs.State.{State, IsUnchanged, Begins, Shown}
-use Rattle.sqlite.specs.declared.error.Error.{Error}
-use Rattle.sqlite.specs.declared.error.Error.TheVariants.{SqliteFailure}
+use Rattle.std.specs.{Prelude.{ℕ, List, [], Contains, Result, Ok, Err, Vec}, List.AllZip}
+use Rattle.sqlite.specs.{Order.Row, State.{State, IsUnchanged, Begins, Shown}, declared.error.Error.Error, declared.error.Error.TheVariants.SqliteFailure}
 use Rattle.sqlite.specs.declared.error.ErrorCode.TheVariants.{OutOfMemory}
-use Rattle.office_tables.specs.declared.table_fault.TableFault.{TableFault}
-use Rattle.office_tables.specs.declared.table_fault.TableFault.TheVariants.{Store, Damaged, Version, Memory}
+use Rattle.office_tables.specs.{declared.table_fault.TableFault.TableFault, declared.table_fault.TableFault.TheVariants.{Store, Damaged, Version, Memory}}
 use Rattle.office_tables.specs.Faults.{IsOfStoreOr}
 
 -- something says what is given

@@ -1,17 +1,10 @@
 -- What the types of a row that is read can hold: what the code relies on, and no caller has to read.
 use Rattle.std.specs.Prelude.{◌≡◌, ◌^◌, ◌<◌, Option, Some, None, IsTrue, IsUtf8}
-use Rattle.box6346.specs.NumberText.{is_number}
-use Rattle.box6346.specs.SizeText.{is_size}
-use Rattle.box6346.specs.SlotName.{slot_of, slot_text}
-use Rattle.box6346.specs.declared.slot.Slot.{Slot}
+use Rattle.box6346.specs.{NumberText.is_number, SizeText.is_size, SlotName.{slot_of, slot_text}, declared.slot.Slot.Slot}
 use Rattle.edi_syntax.specs.Moments.{CivilMoment, moment_of, moment_digits}
-use Rattle.terminal_core.specs.declared.visits.Arrival.{Arrival}
-use Rattle.terminal_core.specs.declared.visits.Departure.{Departure}
-use Rattle.terminal_core.specs.declared.change.Source.{Source}
-use Rattle.terminal_core.specs.Rows.{VisitContent}
+use Rattle.terminal_core.specs.{declared.visits.Arrival.Arrival, declared.visits.Departure.Departure, declared.change.Source.Source, Rows.VisitContent}
 use Rattle.yard_core.specs.declared.plan.Block.{Block}
-use Rattle.office_rows.specs.Rows.{Partner, PlaceContent, ListingContent, Setting}
-use Rattle.office_rows.specs.Opened.{NumberKept}
+use Rattle.office_rows.specs.{Rows.{Partner, PlaceContent, ListingContent, Setting}, Opened.NumberKept}
 
 -- ---- columns
 

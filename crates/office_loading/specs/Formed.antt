@@ -1,22 +1,12 @@
 -- The forms of rows: what the code relies on, and no caller has to read.
-use Rattle.std.specs.Prelude.{◌≡◌, ℕ, ◌+◌, ◌<◌, ◌≤◌, List, map, Option, None, Some, IsTrue, All}
-use Rattle.std.specs.List.Sorted.{IsNonDecreasingBy}
+use Rattle.std.specs.{Prelude.{◌≡◌, ℕ, ◌+◌, ◌<◌, ◌≤◌, List, map, Option, None, Some, IsTrue, All}, List.Sorted.IsNonDecreasingBy}
 use Rattle.box6346.specs.SlotName.{IsNamed}
 use Rattle.yard_core.specs.declared.plan.Block.{Block}
 use Rattle.edi_syntax.specs.Moments.{is_moment}
-use Rattle.terminal_core.specs.declared.visits.Arrival.{Arrival}
-use Rattle.terminal_core.specs.declared.visits.Departure.{Departure}
-use Rattle.terminal_core.specs.declared.change.Source.{Source}
-use Rattle.terminal_core.specs.declared.lines.Listing.{Listing}
-use Rattle.terminal_core.specs.declared.change.Place.{Place}
-use Rattle.terminal_core.specs.declared.restoring.RestoreFault.{RestoreFault}
-use Rattle.terminal_core.specs.declared.restoring.RestoreFault.TheVariants.{Unsound, Memory}
-use Rattle.terminal_core.specs.declared.visits.Visit.{Visit}
-use Rattle.terminal_core.specs.Forms.{IsSource, IsFormedVisit, IsFormedLine}
-use Rattle.terminal_core.specs.Listings.{line_content}
-use Rattle.terminal_core.specs.Restoring.{AreRowsOf}
-use Rattle.terminal_core.specs.Rows.{VisitContent, visit_content}
-use Rattle.terminal_core.specs.State.{TerminalState}
+use Rattle.terminal_core.specs.{declared.visits.Arrival.Arrival, declared.visits.Departure.Departure, declared.change.Source.Source, Listings.line_content}
+use Rattle.terminal_core.specs.{declared.lines.Listing.Listing, declared.change.Place.Place, declared.restoring.RestoreFault.RestoreFault, Restoring.AreRowsOf}
+use Rattle.terminal_core.specs.{declared.restoring.RestoreFault.TheVariants.{Unsound, Memory}, declared.visits.Visit.Visit, Rows.{VisitContent, visit_content}}
+use Rattle.terminal_core.specs.{Forms.{IsSource, IsFormedVisit, IsFormedLine}, State.TerminalState}
 use Rattle.edi_messages.specs.Owned.{call_content}
 use Rattle.office_rows.specs.Office.{HasAccounts}
 use Rattle.office_loading.specs.Checks.{AreOwnVisits}

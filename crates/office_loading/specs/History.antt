@@ -1,18 +1,11 @@
 -- What a migration does to the events of an office.
 use Rattle.std.specs.Prelude.{◌≡◌, List}
-use Rattle.sqlite.specs.Tree.{Trees}
-use Rattle.sqlite.specs.Effect.{Database}
+use Rattle.sqlite.specs.{Tree.Trees, Effect.Database}
 use Rattle.terminal_core.specs.declared.change.Version.{Version}
 use Rattle.office_replies.specs.Events.{Event}
-use Rattle.office_admission.specs.Given.{IsGiven}
-use Rattle.office_admission.specs.Setups.{SetupContent}
-use Rattle.office_rows.specs.Tables.{office_schema}
-use Rattle.office_rows.specs.Layouts.{bare, layout_of}
-use Rattle.office_rows.specs.Rows.{Rows}
-use Rattle.office_rows.specs.Stored.{HasRows}
-use Rattle.office_rows.specs.Bare.{HasBareRows}
-use Rattle.office_history.specs.After.{AreAfterBy, AreAfter}
-use Rattle.office_history.specs.Laws.{HasNoMigration}
+use Rattle.office_admission.specs.{Given.IsGiven, Setups.SetupContent}
+use Rattle.office_rows.specs.{Tables.office_schema, Layouts.{bare, layout_of}, Rows.Rows, Stored.HasRows, Bare.HasBareRows}
+use Rattle.office_history.specs.{After.{AreAfterBy, AreAfter}, Laws.HasNoMigration}
 
 -- the database holds the rows that a store of version 1 or 2 has after those events
 pub record IsOlderAfter (version : Version) (content : SetupContent) (es : List Event) (db : Database) : Type 0 where

@@ -1,22 +1,12 @@
 -- What a migration leaves.
 use Rattle.std.specs.Prelude.{◌≡◌, List, IsTrue, map}
-use Rattle.sqlite.specs.Order.{Row}
-use Rattle.sqlite.specs.State.{State}
-use Rattle.sqlite.specs.Effect.{Database}
-use Rattle.sqlite.specs.Tree.{Trees}
+use Rattle.sqlite.specs.{Order.Row, State.State, Effect.Database, Tree.Trees}
 use Rattle.terminal_core.specs.State.{TerminalState}
 use Rattle.office_admission.specs.Setups.{SetupContent}
-use Rattle.office_rows.specs.Tables.{interchange_table, no_schema, office_schema}
-use Rattle.office_rows.specs.Layouts.{bare_schema}
-use Rattle.office_rows.specs.Rows.{Interchange, Rows}
-use Rattle.office_rows.specs.Opened.{OpenedRows}
-use Rattle.office_rows.specs.Stored.{columns_of, HasRows, StoresRows}
-use Rattle.office_rows.specs.Bare.{HasBareRows}
-use Rattle.office_rows.specs.Migrated.{migrated_rows}
-use Rattle.office_rows.specs.Places.{ArePlaced}
+use Rattle.office_rows.specs.{Tables.{interchange_table, no_schema, office_schema}, Layouts.bare_schema, Rows.{Interchange, Rows}, Opened.OpenedRows}
+use Rattle.office_rows.specs.{Stored.{columns_of, HasRows, StoresRows}, Bare.HasBareRows, Migrated.migrated_rows, Places.ArePlaced}
 use Rattle.office_tables.specs.Order.{HasRowsInOrder}
-use Rattle.office_loading.specs.Older.{LoadsOlder}
-use Rattle.office_loading.specs.Copies.{AreStanding, copied_rows}
+use Rattle.office_loading.specs.{Older.LoadsOlder, Copies.{AreStanding, copied_rows}}
 
 -- what was committed is all there is, and a crash leaves only that
 pub record IsSettled (s : State) : Type 0 where

@@ -1,24 +1,14 @@
 -- What reading the tables of version 1 or 2 answers.
-use Rattle.std.specs.Prelude.{◌≡◌, ◌⊎◌, List, map, Result, Ok, Err, Vec}
-use Rattle.std.specs.List.{AllByRecursion}
-use Rattle.sqlite.specs.Order.{Row}
-use Rattle.sqlite.specs.Effect.{Database}
-use Rattle.terminal_core.specs.State.{TerminalState}
-use Rattle.terminal_core.specs.declared.change.Version.TheVariants.{First, Second}
+use Rattle.std.specs.{Prelude.{◌≡◌, ◌⊎◌, List, map, Result, Ok, Err, Vec}, List.AllByRecursion}
+use Rattle.sqlite.specs.{Order.Row, Effect.Database}
+use Rattle.terminal_core.specs.{State.TerminalState, declared.change.Version.TheVariants.{First, Second}}
 use Rattle.office_admission.specs.Setups.{SetupContent}
-use Rattle.office_rows.specs.Tables as table
-use Rattle.office_rows.specs.Rows.{Setting}
-use Rattle.office_rows.specs.Opening.{version_text}
-use Rattle.office_rows.specs.Opened.{OpenedRows, Shows}
-use Rattle.office_rows.specs.Bare.{with_weights}
-use Rattle.office_rows.specs.Migrated.{migrated_settings, migrated_opened}
+use Rattle.office_rows.specs.{Rows.Setting, Opening.version_text, Opened.{OpenedRows, Shows}, Bare.with_weights, Migrated.{migrated_settings, migrated_opened}}
 use Rattle.office_rows.specs.Office.{IsOffice}
-use Rattle.office_loading.specs.Contents.{opened_rows}
-use Rattle.office_loading.specs.declared.restoring.OpenedTables.{OpenedTables}
-use Rattle.office_tables.specs.declared.table_fault.TableFault.{TableFault}
-use Rattle.office_tables.specs.declared.table_fault.TableFault.TheVariants.{Damaged}
-use Rattle.office_loading.specs.Fits.{FitsSetting}
+use Rattle.office_loading.specs.{Contents.opened_rows, declared.restoring.OpenedTables.OpenedTables, Fits.FitsSetting}
 use Rattle.office_loading.specs.Tables.{Names, FailsByVersion, Tells, FailsTable, ShowsSettings, ShowsUnfit, FitsRows}
+use Rattle.office_tables.specs.{declared.table_fault.TableFault.TableFault, declared.table_fault.TableFault.TheVariants.Damaged}
+use Rattle.office_rows.specs.Tables as table
 
 -- one of these rows of a table of settings names version 1 or 2
 abbrev pub NamesOlder : List Row → Type 0

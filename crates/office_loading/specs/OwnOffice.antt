@@ -2,18 +2,11 @@
 -- what the opened tables of any store are checked for.
 use Rattle.std.specs.Prelude.{◌≡◌, ◌⊎◌, ◌↔◌, ℕ, ◌<◌, ◌≤◌, List, [], ◌∷◌, length, All, Contains}
 use Rattle.edi_syntax.specs.Numbers.{last_number}
-use Rattle.terminal_core.specs.Rows.{VisitContent}
-use Rattle.terminal_core.specs.Changes.{rows_of}
-use Rattle.terminal_core.specs.Forms.{IsWellFormed}
-use Rattle.terminal_core.specs.State.{TerminalState, IsWhole}
-use Rattle.office_admission.specs.Setups.{SetupContent}
-use Rattle.office_admission.specs.Given.{IsGiven}
-use Rattle.office_rows.specs.Rows.{Partner}
-use Rattle.office_rows.specs.Opened.{NumberKept, OpenedRows}
-use Rattle.office_rows.specs.ByKey.{ArePlacedOnce, AreListedOnce}
+use Rattle.terminal_core.specs.{Rows.VisitContent, Changes.rows_of, Forms.IsWellFormed, State.{TerminalState, IsWhole}}
+use Rattle.office_admission.specs.{Setups.SetupContent, Given.IsGiven}
+use Rattle.office_rows.specs.{Rows.Partner, Opened.{NumberKept, OpenedRows}, ByKey.{ArePlacedOnce, AreListedOnce}}
 use Rattle.office_rows.specs.Office.{settings_by_name, AreAccounts, HasAccounts, opened_terminal, IsOffice}
-use Rattle.office_loading.specs.Checks.{numbers_beyond, AreKeptBeyond, AreOwnVisits}
-use Rattle.office_loading.specs.Closed.{ClosedContent, nothing_closed}
+use Rattle.office_loading.specs.{Checks.{numbers_beyond, AreKeptBeyond, AreOwnVisits}, Closed.{ClosedContent, nothing_closed}}
 
 -- ---- the interchanges
 

@@ -1,10 +1,8 @@
 -- A page of texts.
 use Rattle.std.specs.Prelude.{◌≡◌, ◌≢◌, ◌==◌, ◌||◌, ◌⊎◌, ℕ, ◌+◌, ◌<◌, ◌≤◌, nat_lt, Bool, true, false, List, [], ◌∷◌, ◌++◌, length, flat_map, Option, Some, None}
-use Rattle.sqlite.specs.Order.{Row, column}
-use Rattle.sqlite.specs.declared.types.Value.TheVariants.{Blob}
-use Rattle.office_loading.specs.Texts.{AreTextsAfter, has_reached}
+use Rattle.sqlite.specs.{Order.{Row, column}, declared.types.Value.TheVariants.Blob}
+use Rattle.office_loading.specs.{Texts.{AreTextsAfter, has_reached}, declared.page.TextsPage.TextsPage}
 use Rattle.edi_syntax.specs.Bytes.{line_feed}
-use Rattle.office_loading.specs.declared.page.TextsPage.{TextsPage}
 
 -- the most bytes that one page has, unless its first text has more (our own)
 abbrev pub most_page_bytes : ℕ

@@ -1,11 +1,9 @@
 -- Why tables are not those of an office.
-use Rattle.terminal_core.specs.declared.restoring.RestoreFault.{RestoreFault}
-use Rattle.terminal_core.specs.declared.restoring.RestoreFault.TheVariants.{Unsound, Memory}
+use Rattle.terminal_core.specs.{declared.restoring.RestoreFault.RestoreFault, declared.restoring.RestoreFault.TheVariants.{Unsound, Memory}}
 use Rattle.terminal_core.specs.State.{TerminalState}
 use Rattle.office_admission.specs.Setups.{SetupContent}
 use Rattle.office_rows.specs.Opened.{OpenedRows}
-use Rattle.office_loading.specs.Closed.{ClosedContent}
-use Rattle.office_loading.specs.OwnOffice.{IsOwnOffice}
+use Rattle.office_loading.specs.{Closed.ClosedContent, OwnOffice.IsOwnOffice}
 
 -- they are the rows of no set-up and terminal, or memory was refused
 abbrev pub RefusesTables : ClosedContent → OpenedRows → RestoreFault → Type 0

@@ -1,14 +1,9 @@
 -- What the settings say.
 use Rattle.std.specs.Prelude.{◌≡◌, ℕ, ◌≤◌, List, [], ◌∷◌, map, codes, string_bytes, None, IsTrue}
-use Rattle.edi_messages.specs.CodeText.{table_fault}
-use Rattle.edi_messages.specs.Codes.{table_texts}
-use Rattle.terminal_core.specs.declared.restoring.RestoreFault.{RestoreFault}
-use Rattle.terminal_core.specs.declared.restoring.RestoreFault.TheVariants.{Unsound, Memory}
-use Rattle.office_admission.specs.Setups.{SetupContent}
-use Rattle.office_admission.specs.Given.{is_party_code}
-use Rattle.office_admission.specs.Limits.{most_visits}
-use Rattle.office_rows.specs.Rows.{Setting}
-use Rattle.office_rows.specs.Office.{settings_by_name}
+use Rattle.edi_messages.specs.{CodeText.table_fault, Codes.table_texts}
+use Rattle.terminal_core.specs.{declared.restoring.RestoreFault.RestoreFault, declared.restoring.RestoreFault.TheVariants.{Unsound, Memory}}
+use Rattle.office_admission.specs.{Setups.SetupContent, Given.is_party_code, Limits.most_visits}
+use Rattle.office_rows.specs.{Rows.Setting, Office.settings_by_name}
 use Rattle.office_loading.specs.declared.settings.Settings.{Settings}
 
 -- the names of the ten settings, in their order

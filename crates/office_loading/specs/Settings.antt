@@ -1,9 +1,7 @@
 -- What a database has for a table of settings, whatever other tables it has.
 use Rattle.std.specs.Prelude.{◌≡◌, ◌⊎◌, ℕ, List, ◌++◌, Some, None, slice_get, codes}
-use Rattle.sqlite.specs.Schema.{Schema}
-use Rattle.sqlite.specs.Table.{Table}
-use Rattle.sqlite_schema.specs.declared.schema.Column.{Column}
-use Rattle.sqlite_schema.specs.Names.{table_named, view_named, column_named}
+use Rattle.sqlite.specs.{Schema.Schema, Table.Table}
+use Rattle.sqlite_schema.specs.{declared.schema.Column.Column, Names.{table_named, view_named, column_named}}
 use Rattle.office_rows.specs.Tables.{setting_table}
 
 -- neither a table nor a view has the name

@@ -1,34 +1,19 @@
 -- What reading the tables answers.
-use Rattle.std.specs.Prelude.{◌≡◌, ℕ, ◌<◌, ◌^◌, List, [], ◌∷◌, map, Contains, codes, Result, Ok, Err, Vec}
-use Rattle.std.specs.List.{AllByRecursion}
-use Rattle.sqlite.specs.Order.{Row}
-use Rattle.sqlite.specs.Effect.{Database}
-use Rattle.terminal_core.specs.Rows.{VisitContent}
-use Rattle.terminal_core.specs.State.{TerminalState}
-use Rattle.terminal_core.specs.declared.restoring.RestoreFault.{RestoreFault}
-use Rattle.terminal_core.specs.declared.restoring.RestoreFault.TheVariants as restoring
+use Rattle.std.specs.{Prelude.{◌≡◌, ℕ, ◌<◌, ◌^◌, List, [], ◌∷◌, map, Contains, codes, Result, Ok, Err, Vec}, List.AllByRecursion}
+use Rattle.sqlite.specs.{Order.Row, Effect.Database}
+use Rattle.terminal_core.specs.{Rows.VisitContent, State.TerminalState, declared.restoring.RestoreFault.RestoreFault}
 use Rattle.yard_core.specs.declared.plan.Block.{Block}
 use Rattle.office_admission.specs.Setups.{SetupContent}
-use Rattle.office_rows.specs.Tables as table
-use Rattle.office_rows.specs.Rows.{Partner, PlaceContent, ListingContent, Setting}
-use Rattle.office_rows.specs.Values.{partner_values, visit_values, place_values, line_values, setting_values, block_values}
-use Rattle.office_rows.specs.Opening.{setting_row, tables_version}
-use Rattle.office_rows.specs.Layouts.{Layout, bare, weighed}
-use Rattle.office_rows.specs.Bare.{weighed_in}
-use Rattle.office_rows.specs.Stored.{columns_of}
-use Rattle.office_rows.specs.Shown.{ShowsTable}
-use Rattle.office_rows.specs.Opened.{OpenedRows, Shows}
-use Rattle.office_rows.specs.Office.{IsOffice}
-use Rattle.office_loading.specs.Closed.{ClosedContent}
-use Rattle.office_loading.specs.Contents.{opened_rows, setting_content}
-use Rattle.office_loading.specs.OwnOffice.{IsOwnOffice}
-use Rattle.office_loading.specs.declared.restoring.OpenedTables.{OpenedTables}
-use Rattle.office_tables.specs.declared.table_fault.TableFault.{TableFault}
-use Rattle.office_tables.specs.declared.table_fault.TableFault.TheVariants.{Store, Damaged, Version, Memory}
-use Rattle.office_tables.specs.Faults.{IsOfStoreOr}
-use Rattle.office_loading.specs.declared.table_reading.Weights.{Weights}
-use Rattle.office_loading.specs.declared.table_reading.Weights.TheVariants.{Absent, Kept}
+use Rattle.office_rows.specs.{Rows.{Partner, PlaceContent, ListingContent, Setting}, Opening.{setting_row, tables_version}, Layouts.{Layout, bare, weighed}}
+use Rattle.office_rows.specs.{Values.{partner_values, visit_values, place_values, line_values, setting_values, block_values}, Bare.weighed_in, Shown.ShowsTable}
+use Rattle.office_rows.specs.{Stored.columns_of, Opened.{OpenedRows, Shows}, Office.IsOffice}
+use Rattle.office_loading.specs.{Closed.ClosedContent, Contents.{opened_rows, setting_content}, OwnOffice.IsOwnOffice, declared.table_reading.Weights.Weights}
+use Rattle.office_loading.specs.{declared.restoring.OpenedTables.OpenedTables, declared.table_reading.Weights.TheVariants.{Absent, Kept}}
 use Rattle.office_loading.specs.Fits.{FitsPartner, FitsNumber, FitsVisit, FitsPlace, FitsLine, FitsSetting, FitsBlock}
+use Rattle.office_tables.specs.{declared.table_fault.TableFault.TableFault, declared.table_fault.TableFault.TheVariants.{Store, Damaged, Version, Memory}}
+use Rattle.office_tables.specs.Faults.{IsOfStoreOr}
+use Rattle.terminal_core.specs.declared.restoring.RestoreFault.TheVariants as restoring
+use Rattle.office_rows.specs.Tables as table
 
 -- ---- one table
 

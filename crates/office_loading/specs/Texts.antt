@@ -1,10 +1,6 @@
 -- The kept texts in the order in which they came: that of the numbers of their rows.
-use Rattle.std.specs.Prelude.{◌≡◌, ◌==◌, ◌||◌, ℕ, Bool, List, map, filter}
-use Rattle.std.specs.List.{list_any}
-use Rattle.std.specs.Ordering.{is_gt, is_ge}
-use Rattle.sqlite.specs.declared.types.Value.TheVariants.{Blob}
-use Rattle.sqlite.specs.Order.{Row, column, value_cmp}
-use Rattle.sqlite.specs.Tree.{rowid}
+use Rattle.std.specs.{Prelude.{◌≡◌, ◌==◌, ◌||◌, ℕ, Bool, List, map, filter}, List.list_any, Ordering.{is_gt, is_ge}}
+use Rattle.sqlite.specs.{declared.types.Value.TheVariants.Blob, Order.{Row, column, value_cmp}, Tree.rowid}
 use Rattle.office_rows.specs.Values.{number_value}
 
 -- the row's number is above that one

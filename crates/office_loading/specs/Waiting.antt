@@ -1,8 +1,7 @@
 -- Which interchanges wait, and why their numbers can't be read.
 use Rattle.std.specs.Prelude.{ℕ, ◌<◌, ◌^◌, ◌==◌, ◌&&◌, nat_lt, Bool, List, [], ◌∷◌, Contains, map, filter}
 use Rattle.sqlite.specs.Order.{Row}
-use Rattle.office_rows.specs.Rows.{Interchange, Rows}
-use Rattle.office_rows.specs.Values.{number_value}
+use Rattle.office_rows.specs.{Rows.{Interchange, Rows}, Values.number_value}
 
 -- it is kept for that partner, beyond the number that is next
 abbrev pub is_waiting : ℕ → ℕ → Interchange → Bool

@@ -1,12 +1,8 @@
 -- What writing texts leaves of them.
-use Rattle.std.specs.Prelude.{◌≡◌, ◌++◌, ℕ, Bool, true, false, List, [], ◌∷◌, Option}
-use Rattle.std.specs.Io.KnownBytes.{Appends, Keeps}
+use Rattle.std.specs.{Prelude.{◌≡◌, ◌++◌, ℕ, Bool, true, false, List, [], ◌∷◌, Option}, Io.KnownBytes.{Appends, Keeps}}
 use Rattle.edi_syntax.specs.Bytes.{line_feed}
-use Rattle.sqlite.specs.declared.types.Value.TheVariants.{Blob}
-use Rattle.sqlite.specs.Order.{Row, column}
-use Rattle.office_loading.specs.Texts.{AreTextsAfter, has_reached}
-use Rattle.office_loading.specs.Pages.{lines_of}
-use Rattle.office_loading.specs.declared.writing.Written.{Written}
+use Rattle.sqlite.specs.{declared.types.Value.TheVariants.Blob, Order.{Row, column}}
+use Rattle.office_loading.specs.{Texts.{AreTextsAfter, has_reached}, Pages.lines_of, declared.writing.Written.Written}
 use Rattle.office_loading.specs.declared.writing.Written.TheVariants.{Fewer, All, Failed}
 
 -- the texts after a number are written, an LF after each

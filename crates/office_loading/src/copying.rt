@@ -1,10 +1,7 @@
 ghost use Rattle.std.specs.Prelude.{◌≡◌, ℕ, List, IfErr, IsTrue, OnOk};
 ghost use Rattle.office_loading.specs.Copies.{AddsShown, AddsStanding};
-ghost use Rattle.office_tables.specs.Answers.{RepliesAs};
-ghost use Rattle.office_tables.specs.Faults.{IsOfStore};
-ghost use Rattle.office_tables.specs.Reading.{Reads};
-ghost use Rattle.sqlite.specs.Held.{state};
-ghost use Rattle.sqlite.specs.State.{HasCleanDisk, KeepsCommit, Survives};
+ghost use Rattle.office_tables.specs.{Answers.RepliesAs, Faults.IsOfStore, Reading.Reads};
+ghost use Rattle.sqlite.specs.{Held.state, State.{HasCleanDisk, KeepsCommit, Survives}};
 
 use office_tables::{Kept, TableFault, insert_interchange, read_kept};
 use sqlite::{Alter, Connection, Row, Transaction};

@@ -1,17 +1,11 @@
 ghost use Rattle.std.specs.List.{range_with_len, list_all};
 ghost use Rattle.std.specs.Prelude.{◌≡◌, ◌<◌, ◌≤◌, ◌+◌, ◌-◌, ◌^◌, ◌==◌, ◌↔◌, IsTrue, All, map, not, nat_le, length, take, drop, true, false, ℕ, IfOk, Some, slice_get, string_bytes};
 ghost use Rattle.edi_syntax.specs.Numbers.{last_number};
-ghost use Rattle.office_loading.specs.Accounts.{accounts_in, AreWholeAccounts};
-ghost use Rattle.office_loading.specs.Checks.{IsKeptBeyond, AreKeptBeyond, numbers_beyond};
-ghost use Rattle.office_loading.specs.Closed.{last_closed};
-ghost use Rattle.office_loading.specs.Contents.{number_content, partner_content};
-ghost use Rattle.office_loading.specs.OwnOffice.{AreOwnNumbers, AreInOrder, ComesAfter, IsClosedBelow, IsInOrder};
-ghost use Rattle.office_loading.specs.Owned.{AreOwn, BeginsElse};
-ghost use Rattle.office_loading.specs.declared.numbers.PartnerRow.{PartnerRow};
+ghost use Rattle.office_loading.specs.{Accounts.{accounts_in, AreWholeAccounts}, Checks.{IsKeptBeyond, AreKeptBeyond, numbers_beyond}, Closed.last_closed};
+ghost use Rattle.office_loading.specs.{Contents.{number_content, partner_content}, OwnOffice.{AreOwnNumbers, AreInOrder, ComesAfter, IsClosedBelow, IsInOrder}};
+ghost use Rattle.office_loading.specs.{Owned.{AreOwn, BeginsElse}, declared.numbers.PartnerRow.PartnerRow};
 ghost use Rattle.office_rows.specs.Office.{AreWaiting, AreAccounts};
-ghost use Rattle.office_admission.specs.Given.{is_party_code, AreDistinct};
-ghost use Rattle.office_admission.specs.Limits.{most_partners};
-ghost use Rattle.office_admission.specs.Setups.{account_contents};
+ghost use Rattle.office_admission.specs.{Given.{is_party_code, AreDistinct}, Limits.most_partners, Setups.account_contents};
 
 use crate::closed::Closed;
 use crate::settings::are_same;

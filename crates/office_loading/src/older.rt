@@ -1,19 +1,11 @@
-ghost use Rattle.std.specs.List.{list_any};
-ghost use Rattle.std.specs.Prelude.{◌≡◌, IfOk, map, ℕ, IfErr, IsErrAnd};
-ghost use Rattle.office_loading.specs.Contents.{setting_content};
-ghost use Rattle.office_loading.specs.Columns.{is_older, is_text, names_version};
+ghost use Rattle.std.specs.{List.list_any, Prelude.{◌≡◌, IfOk, map, ℕ, IfErr, IsErrAnd}};
+ghost use Rattle.office_loading.specs.{Contents.setting_content, Columns.{is_older, is_text, names_version}, Settings.{HasNoSettings, HasSettings}};
 ghost use Rattle.office_loading.specs.Older.{ReadsOlderTables, LoadsOlder, FailsToLoadOlder, TellsOlder, ReadsOlderSettings};
-ghost use Rattle.office_loading.specs.Settings.{HasNoSettings, HasSettings};
 ghost use Rattle.office_loading.specs.Tables.{ReadsSettings, TellsVersion};
-ghost use Rattle.office_rows.specs.Layouts.{bare_schema, Layout, schema_in};
-ghost use Rattle.office_rows.specs.Migrated.{migrated_setting, migrated_settings};
-ghost use Rattle.office_rows.specs.Tables.{office_schema};
+ghost use Rattle.office_rows.specs.{Layouts.{bare_schema, Layout, schema_in}, Migrated.{migrated_setting, migrated_settings}, Tables.office_schema};
 ghost use Rattle.office_admission.specs.Setups.{setup_content};
-ghost use Rattle.office_tables.specs.Faults.{IsOfStore};
-ghost use Rattle.office_tables.specs.Reading.{Reads};
-ghost use Rattle.sqlite.specs.Held.{state};
-ghost use Rattle.sqlite.specs.Order.{column};
-ghost use Rattle.sqlite.specs.State.{HasCleanDisk};
+ghost use Rattle.office_tables.specs.{Faults.IsOfStore, Reading.Reads};
+ghost use Rattle.sqlite.specs.{Held.state, Order.column, State.HasCleanDisk};
 
 use crate::loading::{fault_of_restoring, restore_whole};
 use crate::rows::read_all;

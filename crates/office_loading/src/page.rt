@@ -1,9 +1,7 @@
 ghost use Rattle.edi_syntax.specs.Bytes.{line_feed};
-ghost use Rattle.office_loading.specs.Pages.{Adds, TakesRow, has_room};
-ghost use Rattle.office_loading.specs.Texts.{IsText};
+ghost use Rattle.office_loading.specs.{Pages.{Adds, TakesRow, has_room}, Texts.IsText};
 ghost use Rattle.office_tables.specs.Faults.{IsOfStoreOr};
-ghost use Rattle.sqlite.specs.declared.types.Value.TheVariants.{Blob};
-ghost use Rattle.sqlite.specs.Order.{column};
+ghost use Rattle.sqlite.specs.{declared.types.Value.TheVariants.Blob, Order.column};
 ghost use Rattle.std.specs.Prelude.{◌≡◌, ◌≤◌, ◌++◌, [], ◌∷◌, length, IfOk, IfErr, OnOk};
 
 use office_tables::TableFault;

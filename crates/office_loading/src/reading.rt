@@ -1,12 +1,8 @@
 ghost use Rattle.office_rows.specs.Stored.{HasRows};
-ghost use Rattle.office_tables.specs.Faults.{IsOfStore, IsOfStoreOr};
-ghost use Rattle.office_tables.specs.Reading.{Reads, ReadsIfOpen};
-ghost use Rattle.office_loading.specs.Pages.{TellsPage, TellsTexts};
-ghost use Rattle.office_loading.specs.Texts.{has_reached, is_from};
-ghost use Rattle.sqlite.specs.Held.{state};
-ghost use Rattle.sqlite.specs.State.{HasCleanDisk};
-ghost use Rattle.std.specs.List.{list_any};
-ghost use Rattle.std.specs.Prelude.{◌≡◌, ⊤, not, length, ◌==◌, IfOk, IfErr};
+ghost use Rattle.office_tables.specs.{Faults.{IsOfStore, IsOfStoreOr}, Reading.{Reads, ReadsIfOpen}};
+ghost use Rattle.office_loading.specs.{Pages.{TellsPage, TellsTexts}, Texts.{has_reached, is_from}};
+ghost use Rattle.sqlite.specs.{Held.state, State.HasCleanDisk};
+ghost use Rattle.std.specs.{List.list_any, Prelude.{◌≡◌, ⊤, not, length, ◌==◌, IfOk, IfErr}};
 
 use crate::page::TextsPage;
 use office_tables::{TableFault, integer};

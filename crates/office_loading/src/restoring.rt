@@ -1,8 +1,5 @@
 ghost use Rattle.std.specs.Prelude.{IfOk, IfErr, length};
-ghost use Rattle.office_loading.specs.Closed.{closed_content};
-ghost use Rattle.office_loading.specs.Contents.{opened_rows};
-ghost use Rattle.office_loading.specs.Formed.{AreTerminal, RefusesTerminal};
-ghost use Rattle.office_loading.specs.OwnOffice.{IsOwnOffice};
+ghost use Rattle.office_loading.specs.{Closed.closed_content, Contents.opened_rows, Formed.{AreTerminal, RefusesTerminal}, OwnOffice.IsOwnOffice};
 ghost use Rattle.office_loading.specs.Refusals.{RefusesTables};
 ghost use Rattle.office_admission.specs.Setups.{setup_content};
 

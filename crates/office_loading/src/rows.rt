@@ -1,17 +1,10 @@
-ghost use Rattle.std.specs.List.Sorted.{IsPermutation};
-ghost use Rattle.std.specs.Prelude.{◌≡◌, OnOk, ◌++◌, [], ◌∷◌, ◌^◌, ⊤, IfOk, IfErr, map};
-ghost use Rattle.office_loading.specs.Contents.{setting_content, partner_content, number_content, place_content};
+ghost use Rattle.std.specs.{List.Sorted.IsPermutation, Prelude.{◌≡◌, OnOk, ◌++◌, [], ◌∷◌, ◌^◌, ⊤, IfOk, IfErr, map}};
+ghost use Rattle.office_loading.specs.{Contents.{setting_content, partner_content, number_content, place_content}, Waiting.{HasHighWaiting, waiting_numbers}};
 ghost use Rattle.office_loading.specs.Columns.{SaysSetting, SaysBlock, SaysPartner, SaysNumbered, SaysVisit, SaysPlace, SaysLine, SaysNumber};
 ghost use Rattle.office_loading.specs.Decoded.{Decodes, DecodesAll, IsSaid, FailsOne};
-ghost use Rattle.office_loading.specs.Waiting.{HasHighWaiting, waiting_numbers};
-ghost use Rattle.office_rows.specs.Rows.{listing_content};
-ghost use Rattle.office_rows.specs.Stored.{HasRows};
-ghost use Rattle.office_rows.specs.Values.{number_value};
-ghost use Rattle.office_tables.specs.Faults.{IsOfStoreOr};
-ghost use Rattle.office_tables.specs.Reading.{Reads};
-ghost use Rattle.sqlite.specs.Held.{state};
-ghost use Rattle.sqlite.specs.Order.{Row as Columns, column};
-ghost use Rattle.sqlite.specs.State.{HasCleanDisk};
+ghost use Rattle.office_rows.specs.{Rows.listing_content, Stored.HasRows, Values.number_value};
+ghost use Rattle.office_tables.specs.{Faults.IsOfStoreOr, Reading.Reads};
+ghost use Rattle.sqlite.specs.{Held.state, Order.{Row as Columns, column}, State.HasCleanDisk};
 ghost use Rattle.terminal_core.specs.Rows.{visit_content};
 
 use crate::columns::{

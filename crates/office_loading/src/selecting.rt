@@ -1,17 +1,9 @@
-ghost use Rattle.std.specs.List.Sorted.{IsPermutation};
-ghost use Rattle.std.specs.Prelude.{◌≡◌, ℕ, IfOk, IfErr, [], ◌∷◌, map};
-ghost use Rattle.office_loading.specs.Settings.{HasNoSettings, HasSettings, setting_in};
-ghost use Rattle.office_loading.specs.Waiting.{waiting_in, waiting_values};
-ghost use Rattle.office_rows.specs.Bare.{weighed_in};
-ghost use Rattle.office_rows.specs.Layouts.{Layout, schema_in};
-ghost use Rattle.office_rows.specs.Rows.{Rows};
-ghost use Rattle.office_rows.specs.Shown.{ShowsTable};
-ghost use Rattle.office_rows.specs.Stored.{HasRows};
+ghost use Rattle.std.specs.{List.Sorted.IsPermutation, Prelude.{◌≡◌, ℕ, IfOk, IfErr, [], ◌∷◌, map}};
+ghost use Rattle.office_loading.specs.{Settings.{HasNoSettings, HasSettings, setting_in}, Waiting.{waiting_in, waiting_values}};
+ghost use Rattle.office_rows.specs.{Bare.weighed_in, Layouts.{Layout, schema_in}, Rows.Rows, Shown.ShowsTable, Stored.HasRows};
 ghost use Rattle.office_rows.specs.Tables.{partner_table, place_table, setting_table, block_table};
-ghost use Rattle.office_tables.specs.Faults.{IsOfStore};
-ghost use Rattle.office_tables.specs.Reading.{OnlyShows, Reads};
-ghost use Rattle.sqlite.specs.Held.{state};
-ghost use Rattle.sqlite.specs.State.{HasCleanDisk, Shown};
+ghost use Rattle.office_tables.specs.{Faults.IsOfStore, Reading.{OnlyShows, Reads}};
+ghost use Rattle.sqlite.specs.{Held.state, State.{HasCleanDisk, Shown}};
 
 use office_tables::{TableFault, integer};
 use sqlite::{Alter, Connection, Row};

@@ -1,20 +1,12 @@
 ghost use Rattle.std.specs.Prelude.{◌≡◌, ◌↔◌, IsTrue, ◌≤◌, [], string_bytes, ◌≢◌, ◌<◌, ℕ, IfOk, IfErr, Some, None, MatchOption, map, length, slice_get, decimal};
-ghost use Rattle.box6346.specs.NumberText.{is_number};
-ghost use Rattle.box6346.specs.SizeText.{is_size};
-ghost use Rattle.box6346.specs.SlotName.{IsNamed};
-ghost use Rattle.edi_messages.specs.CodeText.{table_fault};
-ghost use Rattle.edi_messages.specs.Codes.{table_texts};
-ghost use Rattle.edi_messages.specs.Forms.{is_name_if_any, IsFormedCall};
-ghost use Rattle.edi_messages.specs.Owned.{call_content};
-ghost use Rattle.edi_messages.specs.Texts.{is_name};
+ghost use Rattle.box6346.specs.{NumberText.is_number, SizeText.is_size, SlotName.IsNamed};
+ghost use Rattle.edi_messages.specs.{CodeText.table_fault, Codes.table_texts, Forms.{is_name_if_any, IsFormedCall}, Owned.call_content, Texts.is_name};
 ghost use Rattle.edi_syntax.specs.Moments.{is_moment};
-ghost use Rattle.office_loading.specs.Checks.{AreOwnVisits};
-ghost use Rattle.office_loading.specs.Contents.{setting_content};
+ghost use Rattle.office_loading.specs.{Checks.AreOwnVisits, Contents.setting_content};
 ghost use Rattle.office_loading.specs.Formed.{IsSoundSource, IsSoundArrival, IsSoundDeparture, IsSoundExit, IsSoundVisit, IsSoundLine, AreSoundVisits, AreSoundLines, AreByLetter, MayFollow};
 ghost use Rattle.office_loading.specs.Said.{setting_names, names_of, values_of, code_values, set_up_with, AreSettings, RefusesSettings};
 ghost use Rattle.office_admission.specs.Limits.{most_visits};
-ghost use Rattle.terminal_core.specs.Forms.{IsFormedPort};
-ghost use Rattle.terminal_core.specs.Rows.{visit_content};
+ghost use Rattle.terminal_core.specs.{Forms.IsFormedPort, Rows.visit_content};
 
 use box6346::{BoxNumber, SizeType, Slot};
 use edi_messages::{Call, CodeTable};

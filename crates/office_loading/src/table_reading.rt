@@ -1,17 +1,11 @@
 ghost use Rattle.std.specs.Prelude.{◌≡◌, ⊤, IfErr, [], map};
-ghost use Rattle.office_loading.specs.Contents.{partner_content, number_content, place_content, setting_content};
-ghost use Rattle.office_loading.specs.Decoded.{itself, ReadsShown};
+ghost use Rattle.office_loading.specs.{Contents.{partner_content, number_content, place_content, setting_content}, Decoded.{itself, ReadsShown}};
 ghost use Rattle.office_loading.specs.Fits.{FitsPartner, FitsNumber, FitsVisit, FitsPlace, FitsLine, FitsBlock};
 ghost use Rattle.office_loading.specs.Tables.{layout_with, ReadsOthers, ReadsTable, ShowsPartners, ShowsVisits, ShowsPlaces, ShowsLines, ShowsBlocks};
-ghost use Rattle.office_rows.specs.Bare.{with_weights, weighed_in};
-ghost use Rattle.office_rows.specs.Layouts.{Layout, bare_schema, schema_in};
-ghost use Rattle.office_rows.specs.Opened.{ShowsNumbers};
-ghost use Rattle.office_rows.specs.Rows.{listing_content};
+ghost use Rattle.office_rows.specs.{Bare.{with_weights, weighed_in}, Layouts.{Layout, bare_schema, schema_in}, Opened.ShowsNumbers, Rows.listing_content};
 ghost use Rattle.office_rows.specs.Tables.{office_schema};
-ghost use Rattle.office_tables.specs.Faults.{IsOfStoreOr};
-ghost use Rattle.office_tables.specs.Reading.{Reads, OnlyShows};
-ghost use Rattle.sqlite.specs.Held.{state};
-ghost use Rattle.sqlite.specs.State.{HasCleanDisk};
+ghost use Rattle.office_tables.specs.{Faults.IsOfStoreOr, Reading.{Reads, OnlyShows}};
+ghost use Rattle.sqlite.specs.{Held.state, State.HasCleanDisk};
 ghost use Rattle.terminal_core.specs.Rows.{visit_content};
 
 use crate::rows::{Record, append, read_all};

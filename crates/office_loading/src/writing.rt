@@ -1,12 +1,9 @@
 ghost use Rattle.edi_syntax.specs.Bytes.{line_feed};
 ghost use Rattle.office_rows.specs.Stored.{HasRows};
-ghost use Rattle.office_tables.specs.Faults.{IsOfStore, IsOfStoreOr};
-ghost use Rattle.office_tables.specs.Reading.{Reads};
-ghost use Rattle.office_loading.specs.Texts.{IsText};
-ghost use Rattle.office_loading.specs.Writing.{Flushes, LeavesPort, WritesAll, WritesRow, WritesTexts, written_if};
+ghost use Rattle.office_tables.specs.{Faults.{IsOfStore, IsOfStoreOr}, Reading.Reads};
+ghost use Rattle.office_loading.specs.{Texts.IsText, Writing.{Flushes, LeavesPort, WritesAll, WritesRow, WritesTexts, written_if}};
 ghost use Rattle.office_loading.specs.declared.writing.Written.TheVariants.{All};
-ghost use Rattle.sqlite.specs.Held.{state};
-ghost use Rattle.sqlite.specs.State.{HasCleanDisk};
+ghost use Rattle.sqlite.specs.{Held.state, State.HasCleanDisk};
 ghost use Rattle.std.specs.Prelude.{◌≡◌, ◌++◌, ◌∷◌, [], ⊤, true, IfOk, IfErr, OnErr};
 
 use crate::page::text_of;

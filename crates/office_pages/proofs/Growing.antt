@@ -1,6 +1,5 @@
 -- Texts that grow by parts.
-use Rattle.std.proofs.Common.{◌≡◌, List, ℕ}
-use Rattle.std.specs.Prelude.{Result, Ok, Err, OnOk, is_ok, if◌then◌else◌}
+use Rattle.std.{specs.Prelude.{Result, Ok, Err, OnOk, is_ok, if◌then◌else◌}, proofs.Common.{◌≡◌, List, ℕ}}
 
 -- one part more, if there was memory
 pub if_pushed : {A E : Type 0} (r : Result A E) (text pushed before : List ℕ) → text ≡ (if is_ok r then pushed else before) → OnOk r (text ≡ pushed)

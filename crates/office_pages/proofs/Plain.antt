@@ -1,9 +1,7 @@
 -- Texts of plain characters only stand as they are.
-use Rattle.std.proofs.Common.{◌≡◌, ℕ, List, [], ◌∷◌, ◌++◌, ◌==◌, nat_lt, true, refl, inl, inr}
-use Rattle.std.specs.List.{list_all}
+use Rattle.std.{specs.List.list_all, proofs.Common.{◌≡◌, ℕ, List, [], ◌∷◌, ◌++◌, ◌==◌, nat_lt, true, refl, inl, inr}}
 use Rattle.std.proofs.lemmas.Bool.{and_parts, cases_Bool, false≢true}
-use Rattle.office_reports.specs.Fields.{character_text, field_text}
-use Rattle.office_reports.specs.Markup.{is_plain}
+use Rattle.office_reports.specs.{Fields.{character_text, field_text}, Markup.is_plain}
 
 plain_character : (c : ℕ) → is_plain c ≡ true → character_text c ≡ c ∷ []
 plain_character c bare = elim (cases_Bool (nat_lt c 128)) [

@@ -1,8 +1,6 @@
 -- A side is read again from its key.
 use Rattle.std.proofs.Common.{◌≡◌, [], ◌∷◌, refl}
-use Rattle.terminal_core.specs.declared.lines.Side.{Side}
-use Rattle.terminal_core.specs.declared.lines.Side.TheVariants.{Load, Discharge}
-use Rattle.terminal_core.specs.State.{side_code}
+use Rattle.terminal_core.specs.{declared.lines.Side.Side, declared.lines.Side.TheVariants.{Load, Discharge}, State.side_code}
 use Rattle.office_pages.specs.Marks.{side_of}
 
 pub side_again : (side : Side) → side_of (side_code side ∷ []) ≡ side

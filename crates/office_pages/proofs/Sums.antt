@@ -1,13 +1,7 @@
 -- Sums over lists as the code has them.
-use Rattle.std.proofs.Common.{◌≡◌, ℕ, ◌+◌, List, [], ◌∷◌, length, refl, sum_by}
-use Rattle.std.specs.Borrow.{Bor}
-use Rattle.std.specs.List.{fold}
-use Rattle.std.specs.Map.{values_of}
-use Rattle.std.proofs.lemmas.List.{length-map}
+use Rattle.std.{specs.{Borrow.Bor, List.fold, Map.values_of}, proofs.{Common.{◌≡◌, ℕ, ◌+◌, List, [], ◌∷◌, length, refl, sum_by}, lemmas.List.length-map}}
 use Rattle.terminal_core.specs.State.{LineKey}
-use Rattle.office_reports.specs.Calls.{key_content, lists_content}
-use Rattle.office_reports.specs.Lists.{list_contents, shown_line}
-use Rattle.office_reports.specs.declared.calls.ListCount.{ListCount}
+use Rattle.office_reports.specs.{Calls.{key_content, lists_content}, Lists.{list_contents, shown_line}, declared.calls.ListCount.ListCount}
 use Rattle.office_reports.specs.declared.lists.ListedLine.{ListedLine}
 use Rattle.office_pages.specs.Calls.{done_sum, open_sum}
 

@@ -1,12 +1,8 @@
 -- A text between tags brings none.
-use Rattle.std.proofs.Common.{◌≡◌, ℕ, List, [], ◌∷◌, ◌++◌, ◌==◌, flat_map, sym, ap, ◌∙◌, refl, inl, inr}
-use Rattle.std.proofs.lemmas.Bool.{cases_Bool}
-use Rattle.std.proofs.lemmas.Grind.{flat_map-append}
-use Rattle.office_reports.specs.Fields.{field_text}
-use Rattle.office_reports.specs.Markup.{Place, Between, Tag, SingleQuoted, DoubleQuoted, place_after, place_after_all, tags}
+use Rattle.std.proofs.{Common.{◌≡◌, ℕ, List, [], ◌∷◌, ◌++◌, ◌==◌, flat_map, sym, ap, ◌∙◌, refl, inl, inr}, lemmas.Bool.cases_Bool, lemmas.Grind.flat_map-append}
+use Rattle.office_reports.specs.{Fields.field_text, Markup.{Place, Between, Tag, SingleQuoted, DoubleQuoted, place_after, place_after_all, tags}}
 use Rattle.office_reports.proofs.Markup.{field_is_quiet, quiet_has_none, quiet_stays}
-use Rattle.office_pages.specs.Laws.{TextsBringNoMarkup}
-use Rattle.office_pages.specs.Pieces.{PieceContent, Text, piece_text, pieces_text}
+use Rattle.office_pages.specs.{Laws.TextsBringNoMarkup, Pieces.{PieceContent, Text, piece_text, pieces_text}}
 
 tags_append : (p : Place) (a b : List ℕ) → tags p (a ++ b) ≡ tags p a ++ tags (place_after_all p a) b
 tags_append p [] b = refl

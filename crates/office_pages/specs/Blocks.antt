@@ -1,13 +1,7 @@
 -- The page of the blocks of the yard: how full each is.
-use Rattle.std.specs.Prelude.{ℕ, ◌*◌, false, List, [], ◌∷◌, ◌++◌, codes, length, nat_le, if◌then◌else◌}
-use Rattle.std.specs.List.{flat_map}
-use Rattle.office_reports.specs.Blocks.{BlocksContent, cell_count, used_cells}
-use Rattle.office_reports.specs.declared.blocks.BlockRow.{BlockRow}
-use Rattle.office_reports.specs.declared.blocks.BlockUse.{BlockUse}
-use Rattle.office_pages.specs.Fixed.{foot}
-use Rattle.office_pages.specs.Frame.{page_top}
-use Rattle.office_pages.specs.Marks.{bar}
-use Rattle.office_pages.specs.Pieces.{Count, Letter, LetterPart, Markup, pieces_text}
+use Rattle.std.specs.{Prelude.{ℕ, ◌*◌, false, List, [], ◌∷◌, ◌++◌, codes, length, nat_le, if◌then◌else◌}, List.flat_map}
+use Rattle.office_reports.specs.{Blocks.{BlocksContent, cell_count, used_cells}, declared.blocks.BlockRow.BlockRow, declared.blocks.BlockUse.BlockUse}
+use Rattle.office_pages.specs.{Fixed.foot, Frame.page_top, Marks.bar, Pieces.{Count, Letter, LetterPart, Markup, pieces_text}}
 use Rattle.office_pages.specs.Tables.{section_head, table_head}
 
 -- nine tenths of the cells are used, or more

@@ -1,14 +1,9 @@
 -- The page of the vessels' calls: how far the list of each is.
-use Rattle.std.specs.Prelude.{ℕ, ◌+◌, ◌==◌, true, List, [], ◌∷◌, ◌++◌, codes, length, sum_by, if◌then◌else◌}
-use Rattle.std.specs.List.{flat_map}
-use Rattle.terminal_core.specs.declared.lines.Side.{Side}
-use Rattle.terminal_core.specs.State.{LineKey}
+use Rattle.std.specs.{Prelude.{ℕ, ◌+◌, ◌==◌, true, List, [], ◌∷◌, ◌++◌, codes, length, sum_by, if◌then◌else◌}, List.flat_map}
+use Rattle.terminal_core.specs.{declared.lines.Side.Side, State.LineKey}
 use Rattle.office_reports.specs.declared.calls.ListCount.{ListCount}
-use Rattle.office_pages.specs.Fixed.{foot}
-use Rattle.office_pages.specs.Frame.{page_top}
-use Rattle.office_pages.specs.Marks.{bar, done_kind, side_name, side_of, side_word}
+use Rattle.office_pages.specs.{Fixed.foot, Frame.page_top, Marks.{bar, done_kind, side_name, side_of, side_word}, Tables.table_of}
 use Rattle.office_pages.specs.Pieces.{Count, Markup, Part, Text, pieces_text}
-use Rattle.office_pages.specs.Tables.{table_of}
 
 -- ---- rows
 

@@ -1,17 +1,10 @@
 -- The page of a container: where it is or how it left, which lists want it, and its visits.
 use Rattle.std.specs.Prelude.{ℕ, ◌==◌, false, List, [], ◌∷◌, ◌++◌, length, codes, if◌then◌else◌, Option, None, Some}
-use Rattle.box6346.specs.declared.box_number.BoxNumber.{BoxNumber}
-use Rattle.box6346.specs.declared.slot.Slot.{Slot}
+use Rattle.box6346.specs.{declared.box_number.BoxNumber.BoxNumber, declared.slot.Slot.Slot}
 use Rattle.terminal_core.specs.State.{LineContent, LineKey}
-use Rattle.office_reports.specs.Containers.{ContainerContent, StayContent}
-use Rattle.office_reports.specs.Passages.{PassageContent}
-use Rattle.office_reports.specs.Visits.{VisitsContent}
-use Rattle.office_pages.specs.Fixed.{foot}
-use Rattle.office_pages.specs.Frame.{page_top}
-use Rattle.office_pages.specs.Marks.{load_mark, way_word}
+use Rattle.office_reports.specs.{Containers.{ContainerContent, StayContent}, Passages.PassageContent, Visits.VisitsContent}
+use Rattle.office_pages.specs.{Fixed.foot, Frame.page_top, Marks.{load_mark, way_word}, Visits.visits_section, Wanted.wanted_section}
 use Rattle.office_pages.specs.Pieces.{Container, Kilos, Letter, LetterPart, Markup, MomentText, Number, Reply, SizeText, SlotText, Text, pieces_text}
-use Rattle.office_pages.specs.Visits.{visits_section}
-use Rattle.office_pages.specs.Wanted.{wanted_section}
 
 -- ---- where it is
 

@@ -1,12 +1,8 @@
 -- The CONTRL of a reply on pages, a segment on each line.
 use Rattle.std.specs.Prelude.{ℕ, ◌==◌, ◌&&◌, Bool, false, not, List, [], ◌∷◌, ◌++◌, codes, if◌then◌else◌, Option, None, Some}
-use Rattle.serde_json.specs.Data.{Data}
-use Rattle.serde_json.specs.Read.{read}
+use Rattle.serde_json.specs.{Data.Data, Read.read}
 use Rattle.office_reports.specs.Fields.{field_text}
-use Rattle.office_pages.specs.Fixed.{foot}
-use Rattle.office_pages.specs.Frame.{page_top}
-use Rattle.office_pages.specs.Pieces.{Digits, Markup, Part, Text, pieces_text}
-use Rattle.office_pages.specs.ReplyValues.{text_in}
+use Rattle.office_pages.specs.{Fixed.foot, Frame.page_top, Pieces.{Digits, Markup, Part, Text, pieces_text}, ReplyValues.text_in}
 
 -- an LF after the end of a segment, which no release character stands before
 abbrev pub line_end : (is_released : Bool) → ℕ → List ℕ

@@ -1,11 +1,9 @@
 -- The picture of the yard, with a link from each container to its page (our own).
-use Rattle.std.specs.Prelude.{ℕ, ◌==◌, Bool, List, ◌++◌, codes, is_ok, nat_eq, Option, None, Some, if◌then◌else◌}
-use Rattle.std.specs.List.{join_by, slice_split, starts_with}
+use Rattle.std.specs.{Prelude.{ℕ, ◌==◌, Bool, List, ◌++◌, codes, is_ok, nat_eq, Option, None, Some, if◌then◌else◌}, List.{join_by, slice_split, starts_with}}
 use Rattle.std.specs.Str.{bytes_eq}
 use Rattle.box6346.specs.ContainerNumber.{number_of as box_of}
 use Rattle.office_reports.specs.Fields.{field_text}
-use Rattle.office_pages.specs.Addresses.{container_address}
-use Rattle.office_pages.specs.Words.{lines, word_at, words}
+use Rattle.office_pages.specs.{Addresses.container_address, Words.{lines, word_at, words}}
 
 -- a container has a line of the picture: <g transform='translate(X -Y)'><title>BOX SIZE FULL SLOT</title>..
 abbrev pub draws_container : List ℕ → Bool

@@ -1,19 +1,11 @@
 -- The page of what a text finds: containers in the yard, a partner, and the lists of calls.
 use Rattle.std.specs.Prelude.{ℕ, ◌&&◌, ◌||◌, Bool, false, List, [], ◌∷◌, ◌++◌, codes, count_by, is_none, nat_eq, nat_le, nat_lt, length, if◌then◌else◌, Option, None, Some}
-use Rattle.std.specs.Char.{is_ascii_digit}
-use Rattle.std.specs.List.{ends_with, flat_map, list_all}
-use Rattle.std.specs.Str.{bytes_eq}
-use Rattle.box6346.specs.declared.box_number.BoxNumber.{BoxNumber}
-use Rattle.box6346.specs.declared.size_type.SizeType.{SizeType}
-use Rattle.terminal_core.specs.Rows.{VisitContent}
-use Rattle.terminal_core.specs.State.{LineKey}
+use Rattle.std.specs.{Char.is_ascii_digit, List.{ends_with, flat_map, list_all}, Str.bytes_eq}
+use Rattle.box6346.specs.{declared.box_number.BoxNumber.BoxNumber, declared.size_type.SizeType.SizeType}
+use Rattle.terminal_core.specs.{Rows.VisitContent, State.LineKey}
 use Rattle.office_reports.specs.declared.calls.ListCount.{ListCount}
-use Rattle.office_pages.specs.Calls.{call_columns, call_row}
-use Rattle.office_pages.specs.Fixed.{foot}
-use Rattle.office_pages.specs.Frame.{typed_top}
-use Rattle.office_pages.specs.Marks.{load_mark}
+use Rattle.office_pages.specs.{Calls.{call_columns, call_row}, Fixed.foot, Frame.typed_top, Marks.load_mark, Tables.{section_head, table_of}}
 use Rattle.office_pages.specs.Pieces.{Container, Markup, Part, SizeText, Text, pieces_text}
-use Rattle.office_pages.specs.Tables.{section_head, table_of}
 
 -- ---- containers in the yard
 

@@ -1,9 +1,6 @@
 -- What is the same around every page: its head with style and title, and its header.
-use Rattle.std.specs.Prelude.{ℕ, ◌==◌, Bool, false, List, [], ◌∷◌, ◌++◌, codes, length, if◌then◌else◌}
-use Rattle.std.specs.Str.{bytes_eq}
-use Rattle.office_pages.specs.Fixed.{again}
-use Rattle.office_pages.specs.Pieces.{PieceContent, Markup, Text, pieces_text}
-use Rattle.office_pages.specs.Style.{colours, outline, parts, sheets}
+use Rattle.std.specs.{Prelude.{ℕ, ◌==◌, Bool, false, List, [], ◌∷◌, ◌++◌, codes, length, if◌then◌else◌}, Str.bytes_eq}
+use Rattle.office_pages.specs.{Fixed.again, Pieces.{PieceContent, Markup, Text, pieces_text}, Style.{colours, outline, parts, sheets}}
 
 -- what stands before the style
 unfoldable pub opening : List ℕ

@@ -1,17 +1,10 @@
 -- The page of a vessel's list.
-use Rattle.std.specs.Prelude.{ℕ, true, List, [], ◌∷◌, ◌++◌, codes, count_by, length}
-use Rattle.std.specs.List.{flat_map}
-use Rattle.terminal_core.specs.declared.lines.LineState.{LineState}
-use Rattle.terminal_core.specs.declared.lines.LineState.TheVariants.{Pending, Done}
-use Rattle.terminal_core.specs.declared.lines.Side.{Side}
+use Rattle.std.specs.{Prelude.{ℕ, true, List, [], ◌∷◌, ◌++◌, codes, count_by, length}, List.flat_map}
+use Rattle.terminal_core.specs.{declared.lines.LineState.LineState, declared.lines.LineState.TheVariants.{Pending, Done}, declared.lines.Side.Side}
 use Rattle.terminal_core.specs.State.{LineContent}
 use Rattle.office_reports.specs.Lists.{ListContent, is_done_line}
-use Rattle.office_pages.specs.Fixed.{foot}
-use Rattle.office_pages.specs.Frame.{page_top}
-use Rattle.office_pages.specs.Marks.{side_name, side_word}
-use Rattle.office_pages.specs.Pieces.{Container, Markup, Part, Text, pieces_text}
+use Rattle.office_pages.specs.{Fixed.foot, Frame.page_top, Marks.{side_name, side_word}, Pieces.{Container, Markup, Part, Text, pieces_text}, Work.done_view}
 use Rattle.office_pages.specs.Tables.{section_head, table_of}
-use Rattle.office_pages.specs.Work.{done_view}
 
 -- ---- the head
 

@@ -1,6 +1,5 @@
 -- What the names in a reply mean (our own).
-use Rattle.std.specs.Prelude.{ℕ, List, [], ◌∷◌, codes, if◌then◌else◌}
-use Rattle.std.specs.Str.{bytes_eq}
+use Rattle.std.specs.{Prelude.{ℕ, List, [], ◌∷◌, codes, if◌then◌else◌}, Str.bytes_eq}
 use Rattle.office_pages.specs.declared.meanings.Meaning.{Meaning}
 
 -- ---- the names, and the sentences of docs/PROFILE.md without their marks

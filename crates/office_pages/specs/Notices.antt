@@ -1,9 +1,6 @@
 -- What a page says in place of a report.
 use Rattle.std.specs.Prelude.{ℕ, false, List, [], ◌∷◌, ◌++◌, codes}
-use Rattle.office_pages.specs.Fixed.{foot}
-use Rattle.office_pages.specs.Frame.{page_top}
-use Rattle.office_pages.specs.Pieces.{Container, Markup, pieces_text}
-use Rattle.office_pages.specs.declared.notices.Notice.{Notice}
+use Rattle.office_pages.specs.{Fixed.foot, Frame.page_top, Pieces.{Container, Markup, pieces_text}, declared.notices.Notice.Notice}
 use Rattle.office_pages.specs.declared.notices.Notice.TheVariants as notice
 
 abbrev pub notice_title : Notice → List ℕ

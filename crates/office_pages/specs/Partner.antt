@@ -1,11 +1,7 @@
 -- The page of a partner: what it is, which number is expected of it, and its last interchanges.
-use Rattle.std.specs.Prelude.{ℕ, ◌-◌, ◌==◌, false, List, [], ◌∷◌, ◌++◌, codes, min, if◌then◌else◌, Option, None, Some}
-use Rattle.std.specs.List.{flat_map, range_with_len}
+use Rattle.std.specs.{Prelude.{ℕ, ◌-◌, ◌==◌, false, List, [], ◌∷◌, ◌++◌, codes, min, if◌then◌else◌, Option, None, Some}, List.{flat_map, range_with_len}}
 use Rattle.office_reports.specs.Partners.{PartnerRowContent, WaitingContent}
-use Rattle.office_pages.specs.Fixed.{foot}
-use Rattle.office_pages.specs.Frame.{page_top}
-use Rattle.office_pages.specs.Partners.{kind_word}
-use Rattle.office_pages.specs.Pieces.{Count, Digits, Markup, Reply, Text, pieces_text}
+use Rattle.office_pages.specs.{Fixed.foot, Frame.page_top, Partners.kind_word, Pieces.{Count, Digits, Markup, Reply, Text, pieces_text}}
 
 abbrev pub partner_top : List ℕ → List ℕ
 partner_top code = page_top [] false (Markup (codes "Partner ") ∷ Text code ∷ [])

@@ -1,13 +1,9 @@
 -- The page of the partners: those first whose number is missing.
 use Rattle.std.specs.Prelude.{ℕ, ◌-◌, ◌==◌, true, List, [], ◌∷◌, ◌++◌, codes, count_by, is_none, is_some, if◌then◌else◌, Bool, Option, None, Some}
 use Rattle.std.specs.List.{flat_map}
-use Rattle.edi_messages.specs.declared.codes.PartnerKind.{PartnerKind}
-use Rattle.edi_messages.specs.declared.codes.PartnerKind.TheVariants.{Gate, Line, Quay, Yard}
+use Rattle.edi_messages.specs.{declared.codes.PartnerKind.PartnerKind, declared.codes.PartnerKind.TheVariants.{Gate, Line, Quay, Yard}}
 use Rattle.office_reports.specs.Partners.{PartnerRowContent, PartnersContent, WaitingContent}
-use Rattle.office_pages.specs.Fixed.{foot}
-use Rattle.office_pages.specs.Frame.{page_top}
-use Rattle.office_pages.specs.Pieces.{Count, Digits, Markup, Part, Reply, Text, pieces_text}
-use Rattle.office_pages.specs.Tables.{table_of}
+use Rattle.office_pages.specs.{Fixed.foot, Frame.page_top, Pieces.{Count, Digits, Markup, Part, Reply, Text, pieces_text}, Tables.table_of}
 
 abbrev pub kind_word : PartnerKind → List ℕ
 kind_word Gate = codes "gate"

@@ -1,15 +1,9 @@
 -- What a page is written of: markup, and what the office shows between it.
-use Rattle.std.specs.Prelude.{ℕ, ℤ, ◌%◌, ◌==◌, ◌&&◌, nat_lt, List, [], ◌∷◌, ◌++◌, length, codes, decimal, if◌then◌else◌}
-use Rattle.std.specs.Fmt.{signed_decimal}
-use Rattle.std.specs.List.{flat_map}
-use Rattle.box6346.specs.SlotName.{slot_text}
-use Rattle.box6346.specs.declared.box_number.BoxNumber.{BoxNumber}
-use Rattle.box6346.specs.declared.size_type.SizeType.{SizeType}
-use Rattle.box6346.specs.declared.slot.Slot.{Slot}
+use Rattle.std.specs.{Prelude.{ℕ, ℤ, ◌%◌, ◌==◌, ◌&&◌, nat_lt, List, [], ◌∷◌, ◌++◌, length, codes, decimal, if◌then◌else◌}, Fmt.signed_decimal, List.flat_map}
+use Rattle.box6346.specs.{SlotName.slot_text, declared.box_number.BoxNumber.BoxNumber, declared.size_type.SizeType.SizeType, declared.slot.Slot.Slot}
 use Rattle.edi_syntax.specs.Moments.{CivilMoment, moment_text}
 use Rattle.office_reports.specs.Fields.{field_text}
-use Rattle.office_pages.specs.Addresses.{part}
-use Rattle.office_pages.specs.declared.pieces.Piece.{Piece}
+use Rattle.office_pages.specs.{Addresses.part, declared.pieces.Piece.Piece}
 use Rattle.office_pages.specs.declared.pieces.Piece.TheVariants as piece
 
 pub data PieceContent : Type 0 where

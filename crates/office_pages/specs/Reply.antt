@@ -1,16 +1,9 @@
 -- The page of a reply: whether the interchange waits, or what became of each line of each message, and its CONTRL.
-use Rattle.std.specs.Prelude.{ℕ, ◌==◌, Bool, false, List, [], ◌∷◌, ◌++◌, codes, count_by, length, if◌then◌else◌, Option, None, Some}
-use Rattle.std.specs.List.{flat_map}
+use Rattle.std.specs.{Prelude.{ℕ, ◌==◌, Bool, false, List, [], ◌∷◌, ◌++◌, codes, count_by, length, if◌then◌else◌, Option, None, Some}, List.flat_map}
 use Rattle.std.specs.Str.{bytes_eq}
-use Rattle.serde_json.specs.Data.{Data}
-use Rattle.serde_json.specs.Read.{read}
-use Rattle.office_pages.specs.Contrl.{contrl_section}
-use Rattle.office_pages.specs.Fixed.{foot}
-use Rattle.office_pages.specs.Frame.{page_top}
-use Rattle.office_pages.specs.Meanings.{meaning_of, message_faults, reasons}
-use Rattle.office_pages.specs.Pieces.{Count, Digits, Markup, Part, Text, pieces_text}
-use Rattle.office_pages.specs.ReplyValues.{items_in, number_in, text_in}
-use Rattle.office_pages.specs.Tables.{table_of}
+use Rattle.serde_json.specs.{Data.Data, Read.read}
+use Rattle.office_pages.specs.{Contrl.contrl_section, Fixed.foot, Frame.page_top, Meanings.{meaning_of, message_faults, reasons}, Tables.table_of}
+use Rattle.office_pages.specs.{Pieces.{Count, Digits, Markup, Part, Text, pieces_text}, ReplyValues.{items_in, number_in, text_in}}
 
 -- ---- a line
 

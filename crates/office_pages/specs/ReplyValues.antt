@@ -1,8 +1,6 @@
 -- What stands in the JSON of a reply.
-use Rattle.std.specs.Prelude.{ℕ, List, [], ◌∷◌, Option, None, Some, option_and_then}
-use Rattle.std.specs.Option.{unwrap_or}
-use Rattle.serde_json.specs.Data.{Data, Items, no_items, item}
-use Rattle.serde_json.specs.Find.{as_array, as_number, as_str, as_u64, get}
+use Rattle.std.specs.{Prelude.{ℕ, List, [], ◌∷◌, Option, None, Some, option_and_then}, Option.unwrap_or}
+use Rattle.serde_json.specs.{Data.{Data, Items, no_items, item}, Find.{as_array, as_number, as_str, as_u64, get}}
 
 abbrev pub values_of : Items → List Data
 values_of no_items = []

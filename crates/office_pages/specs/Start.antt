@@ -2,19 +2,10 @@
 use Rattle.std.specs.Prelude.{ℕ, ◌+◌, ◌-◌, ◌*◌, ◌==◌, Bool, true, List, [], ◌∷◌, ◌++◌, ◌&&◌, codes, count_by, length, nat_le, not, if◌then◌else◌, Option, None, Some}
 use Rattle.std.specs.List.{flat_map}
 use Rattle.terminal_core.specs.State.{LineKey}
-use Rattle.office_reports.specs.Blocks.{BlocksContent, blocks_content}
-use Rattle.office_reports.specs.Calls.{lists_content}
-use Rattle.office_reports.specs.Partners.{PartnerRowContent, PartnersContent, WaitingContent, partners_content}
-use Rattle.office_reports.specs.declared.blocks.BlockUse.{BlockUse}
-use Rattle.office_reports.specs.declared.calls.ListCount.{ListCount}
-use Rattle.office_pages.specs.Blocks.{blocks_section}
-use Rattle.office_pages.specs.Calls.{call_columns, call_row}
-use Rattle.office_pages.specs.Fixed.{foot}
-use Rattle.office_pages.specs.Frame.{page_top}
-use Rattle.office_pages.specs.Partners.{is_waiting}
-use Rattle.office_pages.specs.Pieces.{Count, Digits, Markup, Part, Text, pieces_text}
-use Rattle.office_pages.specs.Tables.{table_of}
-use Rattle.office_pages.specs.declared.start.StartReport.{StartReport}
+use Rattle.office_reports.specs.{Blocks.{BlocksContent, blocks_content}, Calls.lists_content, declared.blocks.BlockUse.BlockUse}
+use Rattle.office_reports.specs.{Partners.{PartnerRowContent, PartnersContent, WaitingContent, partners_content}, declared.calls.ListCount.ListCount}
+use Rattle.office_pages.specs.{Blocks.blocks_section, Calls.{call_columns, call_row}, Fixed.foot, Frame.page_top, Partners.is_waiting, Tables.table_of}
+use Rattle.office_pages.specs.{Pieces.{Count, Digits, Markup, Part, Text, pieces_text}, declared.start.StartReport.StartReport}
 
 -- what the start page tells: how many visits are recorded, and how many may be; what is expected of the partners; the
 -- lists of the calls; and the blocks

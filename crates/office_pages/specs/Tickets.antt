@@ -1,15 +1,10 @@
 -- The page of what an interchange did.
-use Rattle.std.specs.Prelude.{ℕ, false, List, [], ◌∷◌, ◌++◌, codes, length, Option, None, Some}
-use Rattle.std.specs.List.{flat_map}
+use Rattle.std.specs.{Prelude.{ℕ, false, List, [], ◌∷◌, ◌++◌, codes, length, Option, None, Some}, List.flat_map}
 use Rattle.edi_syntax.specs.Moments.{CivilMoment}
-use Rattle.terminal_core.specs.declared.visits.Departure.{Departure}
-use Rattle.terminal_core.specs.Rows.{VisitContent}
+use Rattle.terminal_core.specs.{declared.visits.Departure.Departure, Rows.VisitContent}
 use Rattle.office_reports.specs.Tickets.{TicketContent}
-use Rattle.office_pages.specs.Fixed.{foot}
-use Rattle.office_pages.specs.Frame.{page_top}
-use Rattle.office_pages.specs.Marks.{load_mark}
+use Rattle.office_pages.specs.{Fixed.foot, Frame.page_top, Marks.load_mark, Tables.{section_head, table_of}}
 use Rattle.office_pages.specs.Pieces.{Container, Digits, Markup, MomentText, Part, SizeText, SlotText, Text, pieces_text}
-use Rattle.office_pages.specs.Tables.{section_head, table_of}
 
 -- PARTNER NUMBER, with links to the reply, its CONTRL and the partner
 abbrev pub ticket_title : List ℕ → ℕ → List ℕ

@@ -1,15 +1,11 @@
 -- What a person types for a container's number.
 use Rattle.std.specs.Prelude.{ℕ, ◌+◌, ◌==◌, ◌&&◌, ◌||◌, List, length, map, filter, nat_lt, slice_set, take, not, Bool, Option, None, Some, Result, Ok, Err, if◌then◌else◌}
-use Rattle.std.specs.Char.{to_ascii_uppercase}
-use Rattle.std.specs.Str.{is_utf8}
+use Rattle.std.specs.{Char.to_ascii_uppercase, Str.is_utf8}
 use Rattle.percent_encoding.specs.Percent.{percent_decode}
-use Rattle.box6346.specs.ContainerNumber.{number_of}
-use Rattle.box6346.specs.NumberText.{check_digit_of}
-use Rattle.box6346.specs.declared.box_number.BoxNumber.{BoxNumber}
+use Rattle.box6346.specs.{ContainerNumber.number_of, NumberText.check_digit_of, declared.box_number.BoxNumber.BoxNumber}
 use Rattle.box6346.specs.declared.box_number.NumberFault.{NumberFault}
+use Rattle.office_pages.specs.{declared.notices.Notice.Notice, declared.notices.Notice.TheVariants.{Form, CheckDigit}}
 use Rattle.box6346.specs.declared.box_number.NumberFault.TheVariants as fault
-use Rattle.office_pages.specs.declared.notices.Notice.{Notice}
-use Rattle.office_pages.specs.declared.notices.Notice.TheVariants.{Form, CheckDigit}
 
 -- a space, also as a form writes it (+), and a hyphen
 abbrev pub is_left_out : ℕ → Bool

@@ -1,16 +1,11 @@
 -- The page of a container's visits, which stand on the container's own page too.
-use Rattle.std.specs.Prelude.{ℕ, false, List, [], ◌∷◌, ◌++◌, ◌-ℤ◌, length, codes, Option, None, Some}
-use Rattle.std.specs.List.{flat_map}
+use Rattle.std.specs.{Prelude.{ℕ, false, List, [], ◌∷◌, ◌++◌, ◌-ℤ◌, length, codes, Option, None, Some}, List.flat_map}
 use Rattle.box6346.specs.declared.box_number.BoxNumber.{BoxNumber}
 use Rattle.edi_syntax.specs.Moments.{CivilMoment, day_number}
-use Rattle.terminal_core.specs.declared.visits.Departure.{Departure}
-use Rattle.terminal_core.specs.Rows.{VisitContent}
+use Rattle.terminal_core.specs.{declared.visits.Departure.Departure, Rows.VisitContent}
 use Rattle.office_admission.specs.Setups.{SetupContent}
-use Rattle.office_reports.specs.Passages.{PassageContent, arrival_by, passage_by}
-use Rattle.office_reports.specs.Visits.{VisitsContent}
-use Rattle.office_pages.specs.Fixed.{foot}
-use Rattle.office_pages.specs.Frame.{page_top}
-use Rattle.office_pages.specs.Marks.{load_mark, way_word}
+use Rattle.office_reports.specs.{Passages.{PassageContent, arrival_by, passage_by}, Visits.VisitsContent}
+use Rattle.office_pages.specs.{Fixed.foot, Frame.page_top, Marks.{load_mark, way_word}}
 use Rattle.office_pages.specs.Pieces.{Count, Days, Kilos, Markup, MomentText, Number, Reply, SizeText, SlotText, Text, pieces_text}
 
 -- gate or ship, by which interchange, and below it when

@@ -1,13 +1,8 @@
 -- The open lines that name a container, and the page of one that never came.
-use Rattle.std.specs.Prelude.{ℕ, ◌==◌, false, List, [], ◌∷◌, ◌++◌, length, codes, if◌then◌else◌}
-use Rattle.std.specs.List.{flat_map}
+use Rattle.std.specs.{Prelude.{ℕ, ◌==◌, false, List, [], ◌∷◌, ◌++◌, length, codes, if◌then◌else◌}, List.flat_map}
 use Rattle.box6346.specs.declared.box_number.BoxNumber.{BoxNumber}
-use Rattle.terminal_core.specs.declared.lines.Side.{Side}
-use Rattle.terminal_core.specs.State.{LineContent, LineKey}
-use Rattle.office_pages.specs.Fixed.{foot}
-use Rattle.office_pages.specs.Frame.{page_top}
-use Rattle.office_pages.specs.Marks.{side_name, side_of, side_word}
-use Rattle.office_pages.specs.Pieces.{Markup, Number, Part, Text, pieces_text}
+use Rattle.terminal_core.specs.{declared.lines.Side.Side, State.{LineContent, LineKey}}
+use Rattle.office_pages.specs.{Fixed.foot, Frame.page_top, Marks.{side_name, side_of, side_word}, Pieces.{Markup, Number, Part, Text, pieces_text}}
 use Rattle.office_pages.specs.Tables.{table_of}
 
 -- ---- which lists want it

@@ -1,7 +1,5 @@
 -- The lines and words of the picture.
-use Rattle.std.specs.Prelude.{ℕ, ◌==◌, List, [], map, slice_index_or}
-use Rattle.std.specs.Borrow.{Bor}
-use Rattle.std.specs.List.{slice_split}
+use Rattle.std.specs.{Prelude.{ℕ, ◌==◌, List, [], map, slice_index_or}, Borrow.Bor, List.slice_split}
 
 -- they stand between LFs
 abbrev pub lines : List ℕ → List (List ℕ)

@@ -1,18 +1,11 @@
 -- The page of what is left to do of a vessel's list: what is free first.
-use Rattle.std.specs.Prelude.{ℕ, Bool, true, List, [], ◌∷◌, ◌++◌, codes, count_by, if◌then◌else◌, Option, None, Some}
-use Rattle.std.specs.List.{flat_map, list_any}
-use Rattle.std.specs.Ordering.{eq_by_cmp, nat_cmp}
-use Rattle.std.specs.Cmp.Lexicographic.{slice_cmp}
+use Rattle.std.specs.{Prelude.{ℕ, Bool, true, List, [], ◌∷◌, ◌++◌, codes, count_by, if◌then◌else◌, Option, None, Some}, List.{flat_map, list_any}}
+use Rattle.std.specs.{Ordering.{eq_by_cmp, nat_cmp}, Cmp.Lexicographic.slice_cmp}
 use Rattle.box6346.specs.declared.box_number.BoxNumber.{BoxNumber}
-use Rattle.terminal_core.specs.declared.lines.Side.{Side}
-use Rattle.terminal_core.specs.declared.lines.Side.TheVariants.{Load, Discharge}
-use Rattle.office_reports.specs.declared.yard.Standing.{Standing}
-use Rattle.office_reports.specs.Work.{JobContent, WorkContent, in_order, is_absent, is_covered, is_free, is_here}
-use Rattle.office_pages.specs.Fixed.{foot}
-use Rattle.office_pages.specs.Frame.{page_top}
-use Rattle.office_pages.specs.Marks.{bar, done_kind, side_name, side_word}
+use Rattle.terminal_core.specs.{declared.lines.Side.Side, declared.lines.Side.TheVariants.{Load, Discharge}}
+use Rattle.office_reports.specs.{declared.yard.Standing.Standing, Work.{JobContent, WorkContent, in_order, is_absent, is_covered, is_free, is_here}}
+use Rattle.office_pages.specs.{Fixed.foot, Frame.page_top, Marks.{bar, done_kind, side_name, side_word}, Tables.{section_head, table_of}}
 use Rattle.office_pages.specs.Pieces.{Container, Count, Markup, Part, SizeText, SlotText, Text, pieces_text}
-use Rattle.office_pages.specs.Tables.{section_head, table_of}
 
 -- ---- the head
 

@@ -1,14 +1,9 @@
 -- The page of the containers in the yard: of all blocks, or of one.
 use Rattle.std.specs.Prelude.{ℕ, ◌+◌, ◌==◌, Bool, false, List, [], ◌∷◌, ◌++◌, codes, count_by, filter, length, not, if◌then◌else◌, Option, None, Some}
-use Rattle.std.specs.List.{flat_map, range_with_len}
-use Rattle.std.specs.Map.{values_of}
-use Rattle.office_reports.specs.Blocks.{is_in}
-use Rattle.office_reports.specs.declared.yard.Standing.{Standing}
-use Rattle.office_pages.specs.Fixed.{foot}
-use Rattle.office_pages.specs.Frame.{page_top}
-use Rattle.office_pages.specs.Marks.{load_mark}
+use Rattle.std.specs.{List.{flat_map, range_with_len}, Map.values_of}
+use Rattle.office_reports.specs.{Blocks.is_in, declared.yard.Standing.Standing}
+use Rattle.office_pages.specs.{Fixed.foot, Frame.page_top, Marks.load_mark, Tables.{no_rows, table_head}}
 use Rattle.office_pages.specs.Pieces.{Container, Count, Letter, LetterPart, Markup, PieceContent, SizeText, SlotText, pieces_text}
-use Rattle.office_pages.specs.Tables.{no_rows, table_head}
 
 -- those that the page shows
 abbrev pub shown : Option ℕ → List Standing → List Standing

@@ -1,7 +1,6 @@
 //! How many archives were not asked, on a page.
 ghost use Rattle.std.specs.Prelude.{◌≡◌, ◌++◌, ℕ, List, IfOk, OnOk, string_bytes};
-ghost use Rattle.office_pages.specs.Archives.{archives_note, note_line};
-ghost use Rattle.office_pages.specs.Fixed.{foot};
+ghost use Rattle.office_pages.specs.{Archives.{archives_note, note_line}, Fixed.foot};
 
 use crate::layout::foot;
 use crate::pieces::Piece::{Many, Markup};

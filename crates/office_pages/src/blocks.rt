@@ -1,6 +1,5 @@
 //! The page of the blocks of the yard.
-ghost use Rattle.std.specs.List.{flat_map};
-ghost use Rattle.std.specs.Prelude.{◌≡◌, ◌++◌, ◌<◌, ◌^◌, IfOk, OnOk, string_bytes};
+ghost use Rattle.std.specs.{List.flat_map, Prelude.{◌≡◌, ◌++◌, ◌<◌, ◌^◌, IfOk, OnOk, string_bytes}};
 ghost use Rattle.office_reports.specs.Blocks.{blocks_content, cell_count, used_cells};
 ghost use Rattle.office_pages.specs.Blocks.{block_cell, block_columns, block_row, blocks_page, blocks_section, fullness, sum_row, use_cells, used_cell};
 

@@ -1,7 +1,5 @@
 //! The page of the vessels' calls.
-ghost use Rattle.std.specs.List.{flat_map};
-ghost use Rattle.std.specs.Map.{values_of};
-ghost use Rattle.std.specs.Prelude.{◌≡◌, ◌++◌, ◌∷◌, [], codes, length, sum_by, IfOk, OnOk, string_bytes};
+ghost use Rattle.std.specs.{List.flat_map, Map.values_of, Prelude.{◌≡◌, ◌++◌, ◌∷◌, [], codes, length, sum_by, IfOk, OnOk, string_bytes}};
 ghost use Rattle.office_reports.specs.Calls.{lists_content};
 ghost use Rattle.office_pages.specs.Calls.{call_cells, call_columns, call_line, call_row, calls_head, calls_page, calls_section, done_sum, far_cell, list_cell, none_open, open_cell, open_sum, some_open};
 ghost use Rattle.office_pages.specs.Tables.{table_of};

@@ -1,9 +1,6 @@
 //! The page of a container.
-ghost use Rattle.std.specs.Option.{option_map};
-ghost use Rattle.std.specs.Prelude.{◌≡◌, ◌++◌, map, IfOk, OnOk, Some, string_bytes};
-ghost use Rattle.office_reports.specs.Containers.{container_content, stay_content};
-ghost use Rattle.office_reports.specs.Passages.{passage_content};
-ghost use Rattle.office_reports.specs.Visits.{visits_content};
+ghost use Rattle.std.specs.{Option.option_map, Prelude.{◌≡◌, ◌++◌, map, IfOk, OnOk, Some, string_bytes}};
+ghost use Rattle.office_reports.specs.{Containers.{container_content, stay_content}, Passages.passage_content, Visits.visits_content};
 ghost use Rattle.office_pages.specs.Container.{block_fact, booking_fact, booking_line, container_body, container_page, expected_view, facts_view, gross_fact, passage_fact, passage_label, place_by, place_section, place_view, size_fact, stay_facts, wanted_view};
 ghost use Rattle.terminal_core.specs.Listings.{line_entry};
 

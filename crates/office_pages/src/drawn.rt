@@ -1,9 +1,7 @@
 //! The picture of the yard as a page: with a link from each container to its page, and one to the start page.
-ghost use Rattle.std.specs.Option.{option_map};
-ghost use Rattle.std.specs.Prelude.{◌≡◌, ◌++◌, IfOk, OnOk, Some, string_bytes};
-ghost use Rattle.office_pages.specs.Addresses.{container_address};
+ghost use Rattle.std.specs.{Option.option_map, Prelude.{◌≡◌, ◌++◌, IfOk, OnOk, Some, string_bytes}};
+ghost use Rattle.office_pages.specs.{Addresses.container_address, Words.{texts_of, word_at, words}};
 ghost use Rattle.office_pages.specs.Drawn.{around, container_link, drawn_line, drawn_link, draws_container, picture_view, tag_ends};
-ghost use Rattle.office_pages.specs.Words.{texts_of, word_at, words};
 
 use crate::fields::{push_part, push_text};
 use box6346::BoxNumber;

@@ -1,8 +1,6 @@
 //! How the texts of the office stand in a page: so that no markup comes of them, and as parts of addresses.
-ghost use Rattle.std.specs.List.{list_all};
-ghost use Rattle.std.specs.Prelude.{◌≡◌, ◌++◌, OnOk, string_bytes};
-ghost use Rattle.office_reports.specs.Fields.{field_text};
-ghost use Rattle.office_reports.specs.Markup.{is_plain};
+ghost use Rattle.std.specs.{List.list_all, Prelude.{◌≡◌, ◌++◌, OnOk, string_bytes}};
+ghost use Rattle.office_reports.specs.{Fields.field_text, Markup.is_plain};
 ghost use Rattle.office_pages.specs.Addresses.{part};
 
 use office_reports::field_text;

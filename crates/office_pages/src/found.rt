@@ -1,12 +1,9 @@
 //! The page of what a text finds.
-ghost use Rattle.std.specs.Char.{is_ascii_digit};
-ghost use Rattle.std.specs.List.{ends_with, flat_map, list_all};
-ghost use Rattle.std.specs.Option.{option_map};
+ghost use Rattle.std.specs.{Char.is_ascii_digit, List.{ends_with, flat_map, list_all}, Option.option_map};
 ghost use Rattle.std.specs.Prelude.{◌≡◌, ◌++◌, ◌∷◌, [], codes, count_by, map, nat_eq, IfOk, OnOk, string_bytes};
 ghost use Rattle.office_reports.specs.Calls.{lists_content};
-ghost use Rattle.office_pages.specs.Calls.{call_columns};
+ghost use Rattle.office_pages.specs.{Calls.call_columns, Tables.table_of};
 ghost use Rattle.office_pages.specs.Found.{found_columns, found_line, found_list, found_lists, found_page, found_partner, found_row, found_section, found_top, is_booked, is_ending, is_found, is_found_call, is_found_list, partner_line};
-ghost use Rattle.office_pages.specs.Tables.{table_of};
 ghost use Rattle.terminal_core.specs.Rows.{visit_content};
 
 use crate::calls::{call_columns, push_row};

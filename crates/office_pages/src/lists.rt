@@ -1,6 +1,5 @@
 //! The page of a vessel's list.
-ghost use Rattle.std.specs.List.{flat_map};
-ghost use Rattle.std.specs.Prelude.{◌≡◌, ◌++◌, [], codes, count_by, length, IfOk, OnOk, string_bytes};
+ghost use Rattle.std.specs.{List.flat_map, Prelude.{◌≡◌, ◌++◌, [], codes, count_by, length, IfOk, OnOk, string_bytes}};
 ghost use Rattle.office_reports.specs.Lists.{is_done_line, list_content, list_contents, shown_line};
 ghost use Rattle.office_pages.specs.Lists.{list_body, list_columns, list_page, list_row, list_section, list_title, list_top, state_mark};
 ghost use Rattle.office_pages.specs.Tables.{section_head, table_of};

@@ -1,7 +1,6 @@
 //! States as words on colours, and the words of ways and sides.
 ghost use Rattle.std.specs.Prelude.{◌≡◌, ◌++◌, ◌∷◌, [], OnOk, string_bytes};
-ghost use Rattle.office_pages.specs.Marks.{bar, done_kind, load_mark, side_name, side_of, side_word, way_word};
-ghost use Rattle.office_pages.specs.Pieces.{pieces_text};
+ghost use Rattle.office_pages.specs.{Marks.{bar, done_kind, load_mark, side_name, side_of, side_word, way_word}, Pieces.pieces_text};
 
 use crate::pieces::Piece::{Count, Markup, Measure};
 use crate::pieces::push_pieces;

@@ -1,8 +1,6 @@
 //! What a person types for a container's number, and what a page says in place of a report.
-ghost use Rattle.std.specs.Option.{option_map};
-ghost use Rattle.std.specs.Prelude.{◌≡◌, ◌++◌, IfOk, IsTrue, OnOk, map, string_bytes};
-ghost use Rattle.box6346.specs.ContainerNumber.{number_of};
-ghost use Rattle.box6346.specs.NumberText.{has_form};
+ghost use Rattle.std.specs.{Option.option_map, Prelude.{◌≡◌, ◌++◌, IfOk, IsTrue, OnOk, map, string_bytes}};
+ghost use Rattle.box6346.specs.{ContainerNumber.number_of, NumberText.has_form};
 ghost use Rattle.office_pages.specs.Notices.{notice_bytes, notice_title, notice_top, notice_view};
 ghost use Rattle.office_pages.specs.Typed.{corrected, is_left_out, number_in, space_or_same, typed, typed_text, typed_words, with_check_digit};
 

@@ -1,6 +1,5 @@
 //! The page of a partner.
-ghost use Rattle.std.specs.Option.{option_map};
-ghost use Rattle.std.specs.Prelude.{◌≡◌, ◌++◌, IfOk, OnOk, Some, string_bytes};
+ghost use Rattle.std.specs.{Option.option_map, Prelude.{◌≡◌, ◌++◌, IfOk, OnOk, Some, string_bytes}};
 ghost use Rattle.office_reports.specs.Partners.{row_content, waiting_content};
 ghost use Rattle.office_pages.specs.Partner.{expected_fact, last_replies, last_reply, last_section, last_view, partner_heading, partner_page, partner_top};
 

@@ -1,6 +1,5 @@
 //! The page of the partners.
-ghost use Rattle.std.specs.List.{flat_map};
-ghost use Rattle.std.specs.Prelude.{◌≡◌, ◌++◌, codes, count_by, map, IfOk, OnOk, Some, string_bytes};
+ghost use Rattle.std.specs.{List.flat_map, Prelude.{◌≡◌, ◌++◌, codes, count_by, map, IfOk, OnOk, Some, string_bytes}};
 ghost use Rattle.office_reports.specs.Partners.{partners_content, row_content, waiting_content};
 ghost use Rattle.office_pages.specs.Partners.{expected_columns, expected_head, expected_row, expected_section, is_expected, is_waiting, kind_word, missing_cells, next_cells, partner_cells, partners_page, waiting_columns, waiting_head, waiting_row, waiting_section};
 ghost use Rattle.office_pages.specs.Tables.{table_of};

@@ -1,6 +1,5 @@
 //! What a page is written of: markup, and what the office shows between it.
-ghost use Rattle.std.specs.Fmt.{signed_decimal};
-ghost use Rattle.std.specs.Prelude.{◌≡◌, ◌++◌, decimal, map, IfOk, OnOk, string_bytes};
+ghost use Rattle.std.specs.{Fmt.signed_decimal, Prelude.{◌≡◌, ◌++◌, decimal, map, IfOk, OnOk, string_bytes}};
 ghost use Rattle.office_pages.specs.Pieces.{comma_before, container_link, count_text, kilos_text, parted, piece_content, piece_text, pieces_text, reply_address, reply_link, reply_name};
 
 use crate::fields::{push_field, push_part, push_text};

@@ -1,8 +1,6 @@
 //! The page of a reply.
-ghost use Rattle.std.specs.List.{flat_map};
-ghost use Rattle.std.specs.Prelude.{◌≡◌, ◌++◌, map, IfOk, OnOk, string_bytes};
-ghost use Rattle.serde_json.specs.Read.{read};
-ghost use Rattle.serde_json.specs.View.{view};
+ghost use Rattle.std.specs.{List.flat_map, Prelude.{◌≡◌, ◌++◌, map, IfOk, OnOk, string_bytes}};
+ghost use Rattle.serde_json.specs.{Read.read, View.view};
 ghost use Rattle.office_pages.specs.Reply.{accepted_head, accepted_view, dropped_line, dropped_view, fault_view, lines_table, message_view, rejected_view, reply_body, reply_head, reply_page, reply_top, taken_section, taken_view, waiting_page, waiting_section};
 
 use crate::contrl::push_contrl;

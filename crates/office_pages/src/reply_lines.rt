@@ -1,6 +1,5 @@
 //! What became of the lines of a message, in a reply.
-ghost use Rattle.std.specs.List.{flat_map};
-ghost use Rattle.std.specs.Prelude.{◌≡◌, ◌++◌, count_by, map, OnOk, string_bytes};
+ghost use Rattle.std.specs.{List.flat_map, Prelude.{◌≡◌, ◌++◌, count_by, map, OnOk, string_bytes}};
 ghost use Rattle.serde_json.specs.View.{view};
 ghost use Rattle.office_pages.specs.Reply.{blocker_view, container_cell, done_view, is_refused, line_row, no_number, number_link, other_mark, outcome_by, outcome_view, reason_view, refusal_view, slot_text, slot_view};
 

@@ -1,9 +1,7 @@
 //! What stands in the JSON of a reply.
 ghost use Rattle.std.specs.Prelude.{◌≡◌, map};
-ghost use Rattle.serde_json.specs.Find.{as_array};
-ghost use Rattle.serde_json.specs.View.{view};
-ghost use Rattle.office_pages.specs.Reply.{is_accepted, is_refused};
-ghost use Rattle.office_pages.specs.ReplyValues.{items_by, items_in, number_in, text_in};
+ghost use Rattle.serde_json.specs.{Find.as_array, View.view};
+ghost use Rattle.office_pages.specs.{Reply.{is_accepted, is_refused}, ReplyValues.{items_by, items_in, number_in, text_in}};
 
 use serde_json::Value;
 

@@ -1,12 +1,8 @@
 //! The start page.
-ghost use Rattle.std.specs.List.{flat_map};
-ghost use Rattle.std.specs.Prelude.{◌≡◌, ◌++◌, ◌∷◌, ◌-◌, [], codes, count_by, map, IfOk, OnOk, string_bytes};
-ghost use Rattle.office_reports.specs.Calls.{lists_content};
-ghost use Rattle.office_reports.specs.Partners.{row_content, waiting_content};
-ghost use Rattle.office_pages.specs.Partners.{is_waiting};
+ghost use Rattle.std.specs.{List.flat_map, Prelude.{◌≡◌, ◌++◌, ◌∷◌, ◌-◌, [], codes, count_by, map, IfOk, OnOk, string_bytes}};
+ghost use Rattle.office_reports.specs.{Calls.lists_content, Partners.{row_content, waiting_content}};
+ghost use Rattle.office_pages.specs.{Partners.is_waiting, Calls.call_columns, Tables.table_of};
 ghost use Rattle.office_pages.specs.Start.{attention, attention_list, has_open, is_nearly_full, is_quiet, missing, missing_line, nearly_full, office_page, open_head, open_row, open_section, quiet_line, start_body, start_content, start_top, sums, sums_of};
-ghost use Rattle.office_pages.specs.Calls.{call_columns};
-ghost use Rattle.office_pages.specs.Tables.{table_of};
 
 use crate::blocks::push_blocks;
 use crate::calls::{call_columns, list_count, push_row};

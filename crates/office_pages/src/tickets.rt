@@ -1,6 +1,5 @@
 //! The page of what an interchange did.
-ghost use Rattle.std.specs.List.{flat_map};
-ghost use Rattle.std.specs.Prelude.{◌≡◌, ◌++◌, codes, map, IfOk, OnOk, string_bytes};
+ghost use Rattle.std.specs.{List.flat_map, Prelude.{◌≡◌, ◌++◌, codes, map, IfOk, OnOk, string_bytes}};
 ghost use Rattle.office_reports.specs.Tickets.{ticket_content};
 ghost use Rattle.office_pages.specs.Tables.{table_of};
 ghost use Rattle.office_pages.specs.Tickets.{closed_columns, closed_row, closed_table, moment_cell, opened_columns, opened_row, opened_table, ticket_page, ticket_title, ticket_top, visit_cells};

@@ -1,9 +1,7 @@
 //! The page of a container's visits, which stand on the container's own page too.
-ghost use Rattle.std.specs.List.{flat_map};
-ghost use Rattle.std.specs.Prelude.{◌≡◌, ◌++◌, map, IfOk, OnOk, string_bytes};
+ghost use Rattle.std.specs.{List.flat_map, Prelude.{◌≡◌, ◌++◌, map, IfOk, OnOk, string_bytes}};
 ghost use Rattle.office_admission.specs.Setups.{setup_content};
-ghost use Rattle.office_reports.specs.Passages.{passage_content};
-ghost use Rattle.office_reports.specs.Visits.{visits_content};
+ghost use Rattle.office_reports.specs.{Passages.passage_content, Visits.visits_content};
 ghost use Rattle.office_pages.specs.Visits.{exit_cells, left_cells, passage_cell, stay_cells, visit_row, visits_front, visits_head, visits_page, visits_section, visits_title};
 ghost use Rattle.terminal_core.specs.Rows.{visit_content};
 

@@ -1,6 +1,5 @@
 //! The open lines that name a container, and the page of one that is not known.
-ghost use Rattle.std.specs.List.{flat_map};
-ghost use Rattle.std.specs.Prelude.{◌≡◌, ◌++◌, map, IfOk, OnOk, string_bytes};
+ghost use Rattle.std.specs.{List.flat_map, Prelude.{◌≡◌, ◌++◌, map, IfOk, OnOk, string_bytes}};
 ghost use Rattle.office_pages.specs.Wanted.{absent_mark, absent_place, expected_page, wanted_line, wanted_row, wanted_section, wanted_table};
 ghost use Rattle.terminal_core.specs.Listings.{line_entry};
 

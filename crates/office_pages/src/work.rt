@@ -1,8 +1,5 @@
 //! The page of what is left to do of a vessel's list.
-ghost use Rattle.std.specs.BTreeSet.{contains};
-ghost use Rattle.std.specs.Cmp.Lexicographic.{slice_cmp};
-ghost use Rattle.std.specs.List.{flat_map};
-ghost use Rattle.std.specs.Ordering.{nat_cmp};
+ghost use Rattle.std.specs.{BTreeSet.contains, Cmp.Lexicographic.slice_cmp, List.flat_map, Ordering.nat_cmp};
 ghost use Rattle.std.specs.Prelude.{◌≡◌, ◌++◌, codes, map, IfOk, OnOk, string_bytes};
 ghost use Rattle.office_reports.specs.Work.{job_content, work_content};
 ghost use Rattle.office_pages.specs.Tables.{table_of};

@@ -1,8 +1,5 @@
 //! The rows of the page of what is left to do of a vessel's list, and how many there are of each kind.
-ghost use Rattle.std.specs.BTreeSet.{contains};
-ghost use Rattle.std.specs.Cmp.Lexicographic.{slice_cmp};
-ghost use Rattle.std.specs.List.{flat_map};
-ghost use Rattle.std.specs.Ordering.{nat_cmp};
+ghost use Rattle.std.specs.{BTreeSet.contains, Cmp.Lexicographic.slice_cmp, List.flat_map, Ordering.nat_cmp};
 ghost use Rattle.std.specs.Prelude.{◌≡◌, ◌++◌, ℕ, List, count_by, map, IfOk, OnOk, string_bytes};
 ghost use Rattle.office_reports.specs.Work.{is_absent, is_covered, is_free, is_here, job_content};
 ghost use Rattle.office_pages.specs.Work.{absent_columns, absent_row, blocked_row, blocker_note, covered_columns, covered_row, free_row, here_row, is_wanted, standing_columns, standing_row};

@@ -1,10 +1,8 @@
 //! The page of the containers in the yard.
-ghost use Rattle.std.specs.List.{flat_map, range_with_len};
-ghost use Rattle.std.specs.Map.{values_of};
+ghost use Rattle.std.specs.{List.{flat_map, range_with_len}, Map.values_of};
 ghost use Rattle.std.specs.Prelude.{◌≡◌, ◌++◌, ◌+◌, ◌<◌, codes, count_by, false, filter, IfOk, OnOk, string_bytes};
 ghost use Rattle.office_reports.specs.Blocks.{is_in};
-ghost use Rattle.office_pages.specs.Frame.{page_top};
-ghost use Rattle.office_pages.specs.Pieces.{pieces_text};
+ghost use Rattle.office_pages.specs.{Frame.page_top, Pieces.pieces_text};
 ghost use Rattle.office_pages.specs.Yard.{all_link, block_link, block_links, block_name, chosen, is_empty, is_full, is_shown, shown, standing_row, yard_body, yard_columns, yard_heading, yard_page, yard_section, yard_sums, yard_table, yard_title};
 
 use crate::frame::push_top;

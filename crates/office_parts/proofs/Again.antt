@@ -1,29 +1,16 @@
 -- The journal, delivered again.
-use Rattle.std.proofs.Common.{◌≡◌, inl, inr, ℕ, ◌+◌, List, [], ◌∷◌, ◌++◌, length, map, Option, None, Some, refl, sym, ap, subst, ◌∙◌, append_assoc}
-use Rattle.std.specs.Prelude.{take, drop}
-use Rattle.std.specs.List.{AllByRecursion}
-use Rattle.std.proofs.lemmas.List.{append-nil, drop_at}
+use Rattle.std.{specs.{Prelude.{take, drop}, List.AllByRecursion}, proofs.lemmas.List.{append-nil, drop_at}}
+use Rattle.std.proofs.Common.{◌≡◌, inl, inr, ℕ, ◌+◌, List, [], ◌∷◌, ◌++◌, length, map, None, refl, sym, ap, subst, ◌∙◌, append_assoc}
 use Rattle.edi_syntax.specs.Interchange.{interchange_of}
-use Rattle.partner_core.specs.Machine.{Taking}
-use Rattle.partner_core.specs.Deliveries.{Delivery, delivery, first_text}
-use Rattle.partner_core.specs.Order.{state}
-use Rattle.partner_core.specs.Answers.{answer_of}
-use Rattle.partner_core.proofs.Orders.{none_of}
-use Rattle.terminal_core.specs.Changes.{rows_of}
-use Rattle.terminal_core.specs.Versions.{newest}
+use Rattle.partner_core.{specs.{Machine.Taking, Deliveries.{Delivery, delivery, first_text}, Order.state, Answers.answer_of}, proofs.Orders.none_of}
+use Rattle.terminal_core.specs.{Changes.rows_of, Versions.newest}
 use Rattle.office_replies.specs.Events.{Event, delivered, migrated, added}
-use Rattle.office_admission.specs.Setups.{SetupContent}
-use Rattle.office_admission.specs.Accounts.{content_after}
-use Rattle.office_admission.specs.Deliveries.{deliveries_of}
+use Rattle.office_admission.specs.{Setups.SetupContent, Accounts.content_after, Deliveries.deliveries_of, Taking.{MachineState, interchange_taken_by}}
 use Rattle.office_admission.proofs.Adding.{content_on, deliveries_on}
-use Rattle.office_admission.specs.Taking.{MachineState, interchange_taken_by}
 use Rattle.office_rows.specs.Rows.{Rows}
 use Rattle.office_history.specs.After.{opening_of, with_earlier_event, migration_in, taking_by, taking_in, accounts_from, AreRowsOf, AreAfter}
-use Rattle.office_history.specs.Laws.{answer_model_of}
-use Rattle.office_history.proofs.Places.{taking_unmigrated, none_behind}
-use Rattle.office_history.proofs.Accounted.{delivered_within}
-use Rattle.office_parts.specs.Kept.{kept_after, kept}
-use Rattle.office_parts.specs.Journal.{text_of, kept_texts, texts_since, delivered_all, accounts_in, IsEntry}
+use Rattle.office_history.{specs.Laws.answer_model_of, proofs.{Places.{taking_unmigrated, none_behind}, Accounted.delivered_within}}
+use Rattle.office_parts.specs.{Kept.{kept_after, kept}, Journal.{text_of, kept_texts, texts_since, delivered_all, accounts_in, IsEntry}}
 use Rattle.office_parts.specs.Rebuilding.{IsSameOffice, HasSameJournal, JournalDecides, Rebuilding, EachIsNew, Following, CopiesCatchUp}
 use Rattle.office_parts.proofs.Alike.{Alike, run-alike, alike-all, alike-self, alike-back, alike-trans, alike-kept, kept_alike, kept-append, kept_twice, new_among, answered, decides_alike}
 use Rattle.office_parts.proofs.Entries.{all_entries, left_entries, right_entries, texts_on, fronts_were_journals, again_from, again, delivered_content, texts_again, accounts_content, accounts_deliver}

@@ -1,25 +1,15 @@
 -- Lists of deliveries with the same texts kept and the same order come to the same.
+use Rattle.std.{specs.{Prelude.{nat_le, if◌then◌else◌}, Option.{option_or, unwrap_or}, List.AllByRecursion}, proofs.lemmas.List.{append-nil, length-append}}
 use Rattle.std.proofs.Common.{◌≡◌, ◌⊎◌, inl, inr, ℕ, suc, ◌+◌, List, [], ◌∷◌, ◌++◌, length, ◌≤◌, arith, Bool, true, false, cond, Option, None, Some, is_some, refl, sym, ap, subst, ◌∙◌, append_assoc, ◌≢◌, ◌<◌}
-use Rattle.std.specs.Prelude.{nat_le, if◌then◌else◌}
-use Rattle.std.proofs.lemmas.Bool.{cases_Bool, cond-true, cond-false, lt-leb, false_from_ne_true, cases_order}
-use Rattle.std.specs.Option.{option_or, unwrap_or}
-use Rattle.std.specs.List.{AllByRecursion}
-use Rattle.std.proofs.lemmas.List.{append-nil, length-append}
-use Rattle.std.proofs.lemmas.List.Elements.{All-from_recursion}
-use Rattle.partner_core.specs.Machine.{Taking}
-use Rattle.partner_core.specs.Deliveries.{Delivery, first_text, is_under, is_used, run}
-use Rattle.partner_core.specs.Order.{numbers_between, numbers_made_next, order, text_under, state_after, reply_among, state, reply_of}
-use Rattle.partner_core.specs.Answers.{answer_of, is_other, Taken, Repeat, Waiting, Clash}
-use Rattle.partner_core.specs.Growth.{ComesToSame}
-use Rattle.partner_core.proofs.Orders.{used_within_run, free_after_run, beyond_run, run_is, order-append, first-new, none_of}
-use Rattle.partner_core.proofs.OnceEach.{adds_nothing, under_self}
-use Rattle.office_parts.specs.Kept.{kept_after, kept, IsFirst, KeptAdds, KeptAreFirst, DecidesSame, KeptDecides}
+use Rattle.std.proofs.{lemmas.Bool.{cases_Bool, cond-true, cond-false, lt-leb, false_from_ne_true, cases_order}, lemmas.List.Elements.All-from_recursion}
 use Rattle.std.proofs.lemmas.Grind.{flat_map-append}
+use Rattle.partner_core.specs.{Machine.Taking, Deliveries.{Delivery, first_text, is_under, is_used, run}, Growth.ComesToSame}
+use Rattle.partner_core.specs.Order.{numbers_between, numbers_made_next, order, text_under, state_after, reply_among, state, reply_of}
+use Rattle.partner_core.{specs.Answers.{answer_of, is_other, Taken, Repeat, Waiting, Clash}, proofs.OnceEach.{adds_nothing, under_self}}
+use Rattle.partner_core.proofs.Orders.{used_within_run, free_after_run, beyond_run, run_is, order-append, first-new, none_of}
+use Rattle.office_parts.specs.{Kept.{kept_after, kept, IsFirst, KeptAdds, KeptAreFirst, DecidesSame, KeptDecides}, TextPages.TextsHaveOnePage}
 use Rattle.edi_syntax.specs.Bytes.{line_feed}
 use Rattle.office_loading.specs.Pages.{lines_of, IsFull, IsPage}
-use Rattle.office_parts.specs.TextPages.{TextsHaveOnePage}
-
--- ==== Alike: Lists of deliveries with the same texts kept and the same order come to the same.
 
 pub record Alike (ds es : List Delivery) : Type 0 where
   pub firsts : (q j : ℕ) → first_text ds q j ≡ first_text es q j

@@ -1,57 +1,32 @@
 -- What is away stays away.
-use Rattle.std.proofs.Common.{◌≡◌, ℕ, ◌+◌, List, [], ◌∷◌, ◌++◌, map, Bool, true, false, cond, Option, None, Some, refl, sym, ap, subst, ◌∙◌, arith, ◌<◌, ◌≤◌, inl, inr, zero, suc, length}
-use Rattle.std.specs.Prelude.{filter, find, not, ◌&&◌, ◌==◌, slice_get, IsPermutation}
+use Rattle.std.specs.Prelude.{filter, find, not, ◌&&◌, ◌==◌, IsPermutation}
 use Rattle.std.specs.Option.{option_map, option_or}
 use Rattle.std.specs.Str.{bytes_eq}
-use Rattle.std.specs.Cmp.Lexicographic.{bytes_decides}
-use Rattle.std.proofs.lemmas.Bool.{and_parts, eqb-true, eq-eqb, cond-true, cases_eq}
-use Rattle.std.proofs.lemmas.List.{append-nil, length-map}
-use Rattle.std.proofs.lemmas.List.Elements.{filter-append, All-from_recursion, recursion_from_All}
+use Rattle.std.{specs.Cmp.Lexicographic.bytes_decides, proofs.lemmas.Bool.{and_parts, eqb-true, eq-eqb, cond-true, cases_eq}}
+use Rattle.std.proofs.Common.{◌≡◌, ℕ, ◌+◌, List, [], ◌∷◌, ◌++◌, map, Bool, true, false, cond, Option, None, Some, refl, sym, ap, subst, ◌∙◌, arith, ◌<◌, ◌≤◌, inl, inr, length}
+use Rattle.std.proofs.{lemmas.List.{append-nil, length-map}, lemmas.List.Elements.{filter-append, All-from_recursion, recursion_from_All}}
+use Rattle.std.proofs.lemmas.List.Sorted.{IsPermutation-sym, IsPermutation-trans, All-permutation}
 use Rattle.box6346.specs.declared.box_number.BoxNumber.{BoxNumber}
 use Rattle.edi_messages.specs.Purposes.{CallContent}
-use Rattle.terminal_core.specs.declared.lines.LineState.TheVariants.{Pending, Done}
-use Rattle.terminal_core.specs.declared.lines.Side.{Side}
+use Rattle.terminal_core.specs.{declared.lines.LineState.TheVariants.{Pending, Done}, declared.lines.Side.Side, State.{side_code, line_key}, Versions.newest}
 use Rattle.terminal_core.specs.Rows.{ChangeContent, visit_opened, visit_closed, placed_at, moved_to, removed_from, listed_on, line_done, unlisted}
-use Rattle.terminal_core.specs.State.{side_code, line_key}
-use Rattle.terminal_core.specs.Versions.{newest}
 use Rattle.terminal_core.proofs.Lined.{same_key}
-use Rattle.office_rows.specs.Rows.{Interchange, ListingContent, Rows}
-use Rattle.office_rows.specs.Effects.{is_line, is_pair, with_change, with_reply, with_waiting}
-use Rattle.office_admission.specs.Taking.{MachineState, interchange_taken}
+use Rattle.office_rows.specs.{Rows.{Interchange, ListingContent, Rows}, Effects.{is_line, is_pair, with_change, with_reply, with_waiting}}
+use Rattle.office_admission.specs.{Taking.{MachineState, interchange_taken}, Accounts.content_after, Deliveries.deliveries_of, Setups.SetupContent}
+use Rattle.office_admission.proofs.{Forming.runs_alone, Takings.kind_still}
 use Rattle.office_history.specs.Cascade.{text_in, TakenContent, AreTakenFrom, with_changes, with_interchange, with_interchanges, texts_with, with_run}
-use Rattle.office_history.proofs.ByKeys.{find_mapped}
-use Rattle.office_parts.proofs.Orders.{body_there}
-use Rattle.office_parts.specs.OwnLists.{ListName, list_name}
-use Rattle.office_parts.specs.Bringing.{is_list, is_of, lines_of, all_but}
-use Rattle.office_parts.specs.ListLaws.{NameOwnLists}
-use Rattle.office_parts.proofs.BringingLemmas.{twice, same_tests, own_get, own_there}
-use Rattle.office_parts.proofs.ListTakings.{named_same}
-use Rattle.office_parts.proofs.Writings.{IsHere, AllHere, changes_here}
-use Rattle.std.proofs.lemmas.List.Sorted.{IsPermutation-sym, IsPermutation-trans, All-permutation}
+use Rattle.office_history.{specs.After.{machine_after, machine_with, opening_of, taking_in}, proofs.{ByKeys.find_mapped, Afters.{pair_is, text_with}}}
+use Rattle.office_history.proofs.{Ground.account_adds_row, Lawful.{early_adds, now_same}, Places.alone_in, Accounted.text_within}
+use Rattle.office_parts.specs.{OwnLists.{ListName, list_name}, Bringing.{is_list, is_of, lines_of, all_but}, ListLaws.NameOwnLists, Archives.Archive}
+use Rattle.office_parts.specs.{Parts.{Archived, ArePartsAfter}, Away.{ArePutAway, HasDoneLine, lines_away, lists_after}, Done.IsDoneLine}
+use Rattle.office_parts.{specs.{Naming.{AreHere, interchange_lists, lists_named_by}, ListParts.AddsWithoutLists}, proofs.Orders.body_there}
+use Rattle.office_parts.specs.Staying.{NextNamesNoneAway, AwayStaysWithoutRow, AwayStaysWithEarly, AwayStaysWithNext, AwayStaysWithAccount, OthersStayAway, NoLineIsAway, OtherLinesAreThere, ListsThatCameBackHaveLines}
+use Rattle.office_parts.proofs.{BringingLemmas.{twice, same_tests, own_get, own_there}, ListTakings.named_same, Writings.{IsHere, AllHere, changes_here}}
+use Rattle.office_parts.proofs.{Takings.free_in_whole, DoneLemmas.run_stays_done}
 use Rattle.sqlite_trees.proofs.ListLemmas.{IsPermutation-filter}
 use Rattle.edi_syntax.specs.Interchange.{interchange_of}
 use Rattle.partner_core.specs.Deliveries.{run}
-use Rattle.office_admission.specs.Accounts.{content_after}
-use Rattle.office_admission.specs.Deliveries.{deliveries_of}
 use Rattle.office_replies.specs.Events.{Event, added, delivered}
-use Rattle.office_admission.specs.Setups.{SetupContent}
-use Rattle.office_admission.proofs.Forming.{runs_alone}
-use Rattle.office_history.specs.After.{machine_after, machine_with, opening_of, taking_in}
-use Rattle.office_history.proofs.Afters.{pair_is, text_with}
-use Rattle.office_history.proofs.Ground.{account_adds_row}
-use Rattle.office_history.proofs.Lawful.{early_adds, now_same}
-use Rattle.office_history.proofs.Places.{alone_in}
-use Rattle.office_history.proofs.Accounted.{text_within}
-use Rattle.office_parts.specs.Archives.{Archive}
-use Rattle.office_parts.specs.Parts.{Archived, ArePartsAfter}
-use Rattle.office_parts.proofs.Takings.{free_in_whole}
-use Rattle.office_parts.specs.Away.{ArePutAway, HasDoneLine, lines_away, lists_after}
-use Rattle.office_parts.specs.Done.{IsDoneLine}
-use Rattle.office_parts.specs.Naming.{AreHere, interchange_lists, lists_named_by}
-use Rattle.office_parts.specs.ListParts.{AddsWithoutLists}
-use Rattle.office_parts.specs.Staying.{NextNamesNoneAway, AwayStaysWithoutRow, AwayStaysWithEarly, AwayStaysWithNext, AwayStaysWithAccount, OthersStayAway, NoLineIsAway, OtherLinesAreThere, ListsThatCameBackHaveLines}
-use Rattle.office_parts.proofs.DoneLemmas.{run_stays_done}
-use Rattle.office_admission.proofs.Takings.{kind_still}
 use Rattle.std.specs.FinMap as finite_map
 
 -- ==== Untouched: What a run leaves as it is: the lines of the lists that are away, and the texts that are kept.

@@ -1,60 +1,29 @@
 -- A list that is brought back.
+use Rattle.std.specs.{Prelude.{filter, not, ◌&&◌, ◌||◌}, FinMap.Entries.{where_key, is_sorted-where_key, find-where_key, same_entries}, Ordering.eq_by_cmp}
+use Rattle.std.{specs.{Result.MatchResult, List.AllByRecursion}, proofs.lemmas.List.Elements.{filter-append, All-from_recursion, recursion_from_All}}
 use Rattle.std.proofs.Common.{◌≡◌, List, [], ◌∷◌, map, Bool, true, false, cond, Option, None, Some, refl, sym, ap, ◌∙◌, ℕ, ◌++◌, Result, Ok, Err, ap₂, nat_le, is_some, IfOk, ◌≤◌, subst, IsPermutation}
-use Rattle.std.specs.Prelude.{filter, not, ◌&&◌, ◌||◌}
-use Rattle.std.specs.FinMap.Entries.{where_key, is_sorted-where_key, find-where_key, same_entries}
-use Rattle.std.specs.Ordering.{eq_by_cmp}
-use Rattle.box6346.specs.declared.box_number.BoxNumber.{BoxNumber}
-use Rattle.edi_messages.specs.Purposes.{CallContent}
-use Rattle.terminal_core.specs.declared.lines.Side.{Side}
-use Rattle.terminal_core.specs.State.{LineContent, LineKey, Lines, line_key, TerminalState, line_of, is_in, last_number}
-use Rattle.terminal_core.specs.Drop.{is_pending, is_on, container_in, is_open_on, open_containers, without_lines_of, dropped_lines}
-use Rattle.terminal_core.proofs.Lined.{order, keys_total, keys_apart, same_key}
-use Rattle.terminal_core.proofs.Dropping.{both_true, key_on}
-use Rattle.office_parts.specs.OwnLists.{ListName, list_name, list_of, own_lines, without_lists, step_without, is_own_line}
-use Rattle.box6346.specs.declared.slot.Slot.{Slot}
-use Rattle.edi_messages.specs.Orders.{EntryContent, gate_in, gate_out, move, list_discharge, list_load, discharge, load}
-use Rattle.yard_core.specs.YardMap.{YardMap}
-use Rattle.yard_core.specs.Decisions.{Refusal, yard_without, yard_with_move}
-use Rattle.yard_core.specs.declared.placements.Placement.{Placement}
-use Rattle.terminal_core.specs.declared.visits.Departure.{Departure}
-use Rattle.terminal_core.specs.declared.lines.LineState.{LineState}
-use Rattle.terminal_core.specs.declared.lines.LineState.TheVariants.{Pending, Done as LineIsDone}
-use Rattle.terminal_core.specs.declared.change.Outcome.{Outcome}
-use Rattle.terminal_core.specs.declared.change.Outcome.TheVariants.{Done, Gone, Listed, Refused}
-use Rattle.terminal_core.specs.declared.lines.Side.TheVariants.{Load, Discharge}
-use Rattle.terminal_core.specs.declared.change.Source.{Source}
-use Rattle.terminal_core.specs.declared.change.Version.{Version}
-use Rattle.terminal_core.specs.declared.visits.Way.{Way}
-use Rattle.terminal_core.specs.declared.visits.Way.TheVariants.{Gate, Ship}
-use Rattle.terminal_core.specs.Rows.{listed_on, line_done}
-use Rattle.terminal_core.specs.Versions.{spares_empty, newest}
-use Rattle.terminal_core.specs.Step.{StepResult, step_with, yard_with_entry, after_entry, after_entry_at, after_departure, after_departure_at, departure_by, after_move_at, after_listing_at, then_line_done_at, by_line, by_state}
-use Rattle.terminal_core.proofs.Whole.{whole_listed}
-use Rattle.office_parts.specs.ListLaws.{OrdersSpareLists, TerminalsWithoutListsAreSound}
-use Rattle.std.specs.Result.{MatchResult}
-use Rattle.edi_syntax.specs.Moments.{CivilMoment}
-use Rattle.edi_syntax.specs.Text.{Content}
-use Rattle.edi_syntax.specs.Envelope.{header_of, messages_of}
-use Rattle.edi_syntax.specs.Envelopes.{envelope_segments}
-use Rattle.edi_syntax.specs.Header.{preparation}
-use Rattle.edi_messages.specs.ErrorCodes.{message_error}
-use Rattle.edi_messages.specs.Message.{MessageContent}
-use Rattle.edi_messages.specs.declared.codes.Codes.{Codes}
-use Rattle.edi_messages.specs.declared.message.MessageFault.{MessageFault}
-use Rattle.edi_messages.specs.declared.message.MessageFault.TheVariants.{Memory}
-use Rattle.office_admission.specs.Outcomes.{IsAdmitted}
-use Rattle.office_admission.specs.declared.admission.Admitted.{Admitted}
-use Rattle.office_admission.specs.Parties.{partner_kinds}
-use Rattle.office_admission.specs.declared.setup.Setup.{Setup}
-use Rattle.office_parts.specs.Naming.{list_read, lists_in_messages, lists_opened, lists_named_by, interchange_lists}
-use Rattle.std.specs.List.{AllByRecursion}
-use Rattle.std.proofs.lemmas.List.Elements.{filter-append, All-from_recursion, recursion_from_All}
 use Rattle.std.proofs.lemmas.List.Sorted.{IsPermutation-refl, IsPermutation-trans, IsPermutation-append, IsPermutation-filter_both, sum_by-IsPermutation, All-permutation}
-use Rattle.office_rows.specs.Effects.{is_line}
-use Rattle.office_rows.specs.Rows.{ListingContent}
-use Rattle.office_rows.specs.ByKey.{standing_by}
-use Rattle.office_history.proofs.Loads.{lines_same}
+use Rattle.box6346.specs.{declared.box_number.BoxNumber.BoxNumber, declared.slot.Slot.Slot}
+use Rattle.edi_messages.specs.{Purposes.CallContent, Orders.{EntryContent, gate_in, gate_out, move, list_discharge, list_load, discharge, load}}
+use Rattle.edi_messages.specs.{ErrorCodes.message_error, Message.MessageContent, declared.codes.Codes.Codes, declared.message.MessageFault.MessageFault}
+use Rattle.edi_messages.specs.declared.message.MessageFault.TheVariants.{Memory}
+use Rattle.terminal_core.specs.{declared.lines.Side.Side, State.{LineContent, LineKey, Lines, line_key, TerminalState, line_of, is_in, last_number}}
+use Rattle.terminal_core.specs.{Drop.{is_pending, is_on, container_in, is_open_on, open_containers, without_lines_of, dropped_lines}, declared.visits.Way.Way}
+use Rattle.terminal_core.specs.{declared.visits.Departure.Departure, declared.lines.LineState.LineState, declared.change.Outcome.Outcome}
+use Rattle.terminal_core.specs.{declared.lines.LineState.TheVariants.{Pending, Done as LineIsDone}, declared.lines.Side.TheVariants.{Load, Discharge}}
+use Rattle.terminal_core.specs.{declared.change.Outcome.TheVariants.{Done, Gone, Listed, Refused}, declared.change.Source.Source, Rows.{listed_on, line_done}}
+use Rattle.terminal_core.specs.{declared.change.Version.Version, declared.visits.Way.TheVariants.{Gate, Ship}, Versions.{spares_empty, newest}}
+use Rattle.terminal_core.specs.Step.{StepResult, step_with, yard_with_entry, after_entry, after_entry_at, after_departure, after_departure_at, departure_by, after_move_at, after_listing_at, then_line_done_at, by_line, by_state}
+use Rattle.terminal_core.proofs.{Lined.{order, keys_total, keys_apart, same_key}, Dropping.{both_true, key_on}, Whole.whole_listed}
+use Rattle.office_parts.specs.OwnLists.{ListName, list_name, list_of, own_lines, without_lists, step_without, is_own_line}
+use Rattle.office_parts.specs.ListLaws.{OrdersSpareLists, TerminalsWithoutListsAreSound}
+use Rattle.office_parts.specs.Naming.{list_read, lists_in_messages, lists_opened, lists_named_by, interchange_lists}
 use Rattle.office_parts.specs.Bringing.{is_list, all_but, is_of, LinesStandInAnyOrder, ListsAreBroughtBack, MoreListsArePutAway}
+use Rattle.yard_core.specs.{YardMap.YardMap, Decisions.{Refusal, yard_without, yard_with_move}, declared.placements.Placement.Placement}
+use Rattle.edi_syntax.specs.{Moments.CivilMoment, Text.Content, Envelope.{header_of, messages_of}, Envelopes.envelope_segments, Header.preparation}
+use Rattle.office_admission.specs.{Outcomes.IsAdmitted, declared.admission.Admitted.Admitted, Parties.partner_kinds, declared.setup.Setup.Setup}
+use Rattle.office_rows.specs.{Effects.is_line, Rows.ListingContent, ByKey.standing_by}
+use Rattle.office_history.proofs.Loads.{lines_same}
 use Rattle.std.specs.FinMap as finite_map
 
 -- ==== Lines: Lines by their keys, of which those of some lists are left out.

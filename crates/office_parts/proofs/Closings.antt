@@ -1,33 +1,19 @@
 -- A closing moves rows from the store to its archives.
+use Rattle.std.specs.{Prelude.{Contains, find, filter, nat_le, not, ◌&&◌, ◌==◌, count_by}, List.AllByRecursion, Option.{option_or, option_and_then}}
 use Rattle.std.proofs.Common.{◌≡◌, inl, inr, ℕ, ◌+◌, ◌<◌, ◌≤◌, List, [], ◌∷◌, ◌++◌, Bool, true, false, cond, Option, None, Some, is_some, refl, sym, ap, ap₂, subst, ◌∙◌, arith, ◌⊎◌}
-use Rattle.std.specs.Prelude.{Contains, find, filter, nat_le, not, ◌&&◌, ◌==◌, count_by}
-use Rattle.std.specs.List.{AllByRecursion}
-use Rattle.std.specs.Option.{option_or, option_and_then}
-use Rattle.std.proofs.lemmas.Bool.{and_parts, eqb-true, le-leb, leb-true, cases_order}
-use Rattle.std.proofs.lemmas.List.Folds.{find-append}
-use Rattle.partner_core.specs.Machine.{Taking}
-use Rattle.partner_core.proofs.OnceEach.{within_replied}
-use Rattle.terminal_core.specs.Rows.{VisitContent}
-use Rattle.terminal_core.specs.State.{last_number}
-use Rattle.terminal_core.proofs.Indexed.{found_is}
-use Rattle.terminal_core.specs.Versions.{newest}
-use Rattle.office_admission.specs.Deliveries.{deliveries_of}
+use Rattle.std.proofs.{lemmas.Bool.{and_parts, eqb-true, le-leb, leb-true, cases_order}, lemmas.List.Folds.find-append}
+use Rattle.partner_core.{specs.Machine.Taking, proofs.OnceEach.within_replied}
+use Rattle.terminal_core.{specs.{Rows.VisitContent, State.last_number, Versions.newest}, proofs.Indexed.found_is}
+use Rattle.office_admission.specs.{Deliveries.deliveries_of, Setups.SetupContent, Taking.MachineState}
 use Rattle.office_replies.specs.Events.{Event}
-use Rattle.office_admission.specs.Setups.{SetupContent}
-use Rattle.office_admission.specs.Taking.{MachineState}
-use Rattle.office_rows.specs.Rows.{Interchange, Rows, ListingContent}
-use Rattle.office_rows.specs.Effects.{is_pair}
-use Rattle.office_history.specs.After.{opening_of, taking_in, content_after, reply_in}
-use Rattle.office_parts.specs.OwnTerminal.{is_own, own_visits, IsOverOrStays, MayStay}
-use Rattle.office_parts.specs.Parts.{Archived, rows_of_archives, ArePartsAfter}
+use Rattle.office_rows.specs.{Rows.{Interchange, Rows, ListingContent}, Effects.is_pair}
+use Rattle.office_history.specs.{After.{opening_of, taking_in, content_after, reply_in}, Cascade.text_in}
+use Rattle.office_parts.specs.{OwnTerminal.{is_own, own_visits, IsOverOrStays, MayStay}, Parts.{Archived, rows_of_archives, ArePartsAfter}}
 use Rattle.office_parts.specs.Closing.{is_closed, is_beyond, is_put_away, carried, archived_with, whole_with, MayClose}
 use Rattle.office_parts.specs.Laws.{ClosingKeepsParts, AddedArchivesHold, ClosingsAreHeld}
+use Rattle.office_parts.specs.Archives.{Archive, reaches, archive_of, text_by, reply_by, IsInArchive, Hold, HoldsWhatGoes}
 use Rattle.office_parts.proofs.Splits.{or_some, or_assoc, count_both, split_counts, split_finds, found_tested, found_in_half, Has, has_contained, contained_has, has_left, has_right, has_filtered, had_both, had_filtered, has_pushed}
 use Rattle.office_parts.proofs.Orders.{body_there, reply_there, there_if_replied, found_whole, once_here}
-use Rattle.office_history.specs.Cascade.{text_in}
-use Rattle.office_parts.specs.Archives.{Archive, reaches, archive_of, text_by, reply_by, IsInArchive, Hold, HoldsWhatGoes}
-
--- ==== Closings: A closing moves rows from the store to its archives.
 
 -- ---- visits
 

@@ -1,19 +1,11 @@
 -- What an order does if that many visits were: the orders of Step, with a number in the place of the newest visit's.
 use Rattle.std.specs.Prelude.{ℕ, ◌+◌, [], ◌∷◌, ◌++◌, nat_le, Result, Ok, Err, if◌then◌else◌}
 use Rattle.box6346.specs.declared.slot.Slot.{Slot}
-use Rattle.edi_messages.specs.Purposes.{CallContent}
-use Rattle.edi_messages.specs.Orders.{EntryContent, OrderContent, gate_in, gate_out, move, list_discharge, list_load, discharge, load}
-use Rattle.yard_core.specs.YardMap.{YardMap}
-use Rattle.yard_core.specs.Decisions.{Refusal}
-use Rattle.terminal_core.specs.declared.change.Outcome.TheVariants.{Done}
-use Rattle.terminal_core.specs.declared.change.Reason.TheVariants.{AlreadyIn, VisitLimit}
-use Rattle.terminal_core.specs.declared.lines.Side.TheVariants.{Load, Discharge}
-use Rattle.terminal_core.specs.declared.change.Source.{Source}
-use Rattle.terminal_core.specs.declared.change.Version.{Version}
-use Rattle.terminal_core.specs.declared.visits.Way.{Way}
-use Rattle.terminal_core.specs.declared.visits.Way.TheVariants.{Gate, Ship}
-use Rattle.terminal_core.specs.Rows.{visit_opened, placed_at}
-use Rattle.terminal_core.specs.State.{TerminalState, line_of, is_in}
+use Rattle.edi_messages.specs.{Purposes.CallContent, Orders.{EntryContent, OrderContent, gate_in, gate_out, move, list_discharge, list_load, discharge, load}}
+use Rattle.yard_core.specs.{YardMap.YardMap, Decisions.Refusal}
+use Rattle.terminal_core.specs.{declared.change.Outcome.TheVariants.Done, declared.change.Reason.TheVariants.{AlreadyIn, VisitLimit}, declared.visits.Way.Way}
+use Rattle.terminal_core.specs.{declared.lines.Side.TheVariants.{Load, Discharge}, declared.change.Source.Source, declared.change.Version.Version}
+use Rattle.terminal_core.specs.{declared.visits.Way.TheVariants.{Gate, Ship}, Rows.{visit_opened, placed_at}, State.{TerminalState, line_of, is_in}}
 use Rattle.terminal_core.specs.Step.{StepResult, step_with, with_refusal, reason_of, yard_with_entry, opened_visit, step_gate_out, step_load, after_move, after_listing, by_line}
 
 abbrev pub entered_counting : ℕ → TerminalState → Way → Source → EntryContent → Result (YardMap × Slot) Refusal → StepResult

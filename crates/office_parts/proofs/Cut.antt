@@ -1,42 +1,25 @@
 -- A text without fault is one interchange of a stream, and the lines of such texts are cut into these texts.
+use Rattle.std.{specs.{List.{list_all, AllByRecursion}, Prelude.All}, proofs.{lemmas.Bool.{and_parts, eqb-true}, lemmas.Slice.Eq.bytes_eq-Decides}}
 use Rattle.std.proofs.Common.{◌≡◌, ℕ, zero, suc, ◌≤◌, Bool, true, false, cond, not, nat_le, ◌&&◌, nat_eq, List, [], ◌∷◌, ◌++◌, length, take, drop, codes, None, refl, sym, ap, subst, ◌∙◌, inl, inr, arith, append_assoc, Option, Some, Ok}
-use Rattle.std.specs.List.{list_all, AllByRecursion}
-use Rattle.std.proofs.lemmas.Bool.{and_parts, eqb-true}
 use Rattle.std.proofs.lemmas.List.{append-nil, length-append, length-drop, take-append-drop}
-use Rattle.std.proofs.lemmas.Slice.Eq.{bytes_eq-Decides}
-use Rattle.edi_syntax.specs.Characters.{is_break, begins_with_advice}
-use Rattle.edi_syntax.specs.Advice.{advised_characters, may_be_used, service_at, has_bad_advice, behind_advice, without_breaks}
-use Rattle.edi_syntax.specs.Interchange.{segments_in, interchange_of}
-use Rattle.edi_syntax.specs.Text.{Content, has_tag, SegmentText, SegmentsText}
-use Rattle.edi_syntax.specs.Reading.{breaks_len, segments_of, are_segments}
-use Rattle.edi_syntax.specs.declared.characters.Service.{Service}
-use Rattle.edi_syntax.proofs.SegmentsLemmas.{segments_sound, breaks_at, no_break_before, at_end_is}
-use Rattle.edi_syntax.specs.Envelope.{header_of, trailer_of}
-use Rattle.edi_syntax.specs.Faults.{fault_of}
-use Rattle.edi_syntax.specs.Positions.{is_refused, GoesOn, Closes, SegmentsBehindBreaks}
-use Rattle.edi_syntax.specs.Cuts.{past_advice, position_of, is_whole, breaks_advice, IsOpen, IsOpenBefore, IsInterchange}
+use Rattle.std.proofs.lemmas.List.Elements.{recursion_from_All, All-map, All-take, All-drop, All-weaker}
+use Rattle.edi_syntax.specs.{Characters.{is_break, begins_with_advice}, Interchange.{segments_in, interchange_of}, declared.characters.Service.Service}
+use Rattle.edi_syntax.specs.{Advice.{advised_characters, may_be_used, service_at, has_bad_advice, behind_advice, without_breaks}, Faults.fault_of}
+use Rattle.edi_syntax.specs.{Text.{Content, has_tag, SegmentText, SegmentsText}, Reading.{breaks_len, segments_of, are_segments}, Bytes.line_feed}
+use Rattle.edi_syntax.specs.{Envelope.{header_of, trailer_of}, Positions.{is_refused, GoesOn, Closes, SegmentsBehindBreaks}, Streams.{HasNone, AreCuts}}
+use Rattle.edi_syntax.specs.Cuts.{past_advice, position_of, is_whole, IsOpen, IsOpenBefore, IsInterchange}
 use Rattle.edi_syntax.specs.declared.position.Position.{Position}
 use Rattle.edi_syntax.specs.declared.position.Position.TheVariants.{Between, First, Second, Tagged, Inside, Refused}
-use Rattle.edi_syntax.proofs.CutLemmas.{no_fault, nothing_open}
-use Rattle.edi_syntax.proofs.PositionLemmas.{refused_where_nothing_goes_on, closed_where_a_trailer_ends}
+use Rattle.edi_syntax.{specs.declared.interchange.SyntaxFault.SyntaxFault, proofs.SegmentsLemmas.{segments_sound, breaks_at, no_break_before, at_end_is}}
+use Rattle.edi_syntax.proofs.{CutLemmas.{no_fault, nothing_open}, PositionLemmas.{refused_where_nothing_goes_on, closed_where_a_trailer_ends}}
+use Rattle.office_parts.specs.{Cutting.{FaultlessIsInterchange, IsFaultless, LinesAreCut, JournalIsCut}, Kept.kept, Journal.{text_of, kept_texts, IsEntry}}
 use Rattle.office_parts.proofs.Ends.{read_front, HasNoFault, faultless, begins_unbroken, none_at_end, all_breaks, one_goes, segment_unbroken, without_all, unbroken_more, all_go, trailer_last, ends_of}
-use Rattle.office_parts.specs.Cutting.{FaultlessIsInterchange, IsFaultless, LinesAreCut, JournalIsCut}
-use Rattle.std.specs.Prelude.{All}
-use Rattle.std.proofs.lemmas.List.Elements.{recursion_from_All, All-map, All-take, All-drop, All-weaker}
-use Rattle.edi_syntax.specs.Bytes.{line_feed}
-use Rattle.edi_syntax.specs.Streams.{HasNone, AreCuts}
-use Rattle.office_loading.specs.Pages.{lines_of}
-use Rattle.edi_syntax.specs.declared.interchange.SyntaxFault.{SyntaxFault}
-use Rattle.partner_core.specs.Deliveries.{Delivery}
-use Rattle.office_admission.specs.Parties.{Parties}
-use Rattle.office_admission.specs.Admission.{by_header, admission}
-use Rattle.office_admission.specs.Deliveries.{deliveries_of}
-use Rattle.office_replies.specs.Events.{Event}
-use Rattle.office_admission.specs.Setups.{SetupContent, parties_in}
-use Rattle.office_admission.specs.Accounts.{content_after}
-use Rattle.office_parts.specs.Kept.{kept}
-use Rattle.office_parts.specs.Journal.{text_of, kept_texts, IsEntry}
 use Rattle.office_parts.proofs.Entries.{kept_texts_are_entries}
+use Rattle.office_loading.specs.Pages.{lines_of}
+use Rattle.partner_core.specs.Deliveries.{Delivery}
+use Rattle.office_admission.specs.{Parties.Parties, Admission.{by_header, admission}, Deliveries.deliveries_of, Setups.{SetupContent, parties_in}}
+use Rattle.office_admission.specs.Accounts.{content_after}
+use Rattle.office_replies.specs.Events.{Event}
 use Rattle.edi_syntax.specs.Cuts as cuts
 
 closed_is : (p : Position) → cuts.is_closed p ≡ true → p ≡ Between true

@@ -1,44 +1,22 @@
 -- A line that is done stays done.
+use Rattle.std.specs.{Prelude.◌&&◌, Ordering.eq_by_cmp}
 use Rattle.std.proofs.Common.{◌≡◌, ℕ, ◌+◌, List, [], ◌∷◌, Bool, true, false, cond, Option, None, Some, Result, Ok, Err, refl, sym, ap, subst, ◌∙◌, nat_le}
-use Rattle.std.specs.Prelude.{◌&&◌}
-use Rattle.std.specs.Ordering.{eq_by_cmp}
-use Rattle.box6346.specs.declared.box_number.BoxNumber.{BoxNumber}
-use Rattle.box6346.specs.declared.slot.Slot.{Slot}
-use Rattle.edi_syntax.specs.Moments.{CivilMoment}
-use Rattle.edi_syntax.specs.Text.{Content}
-use Rattle.edi_syntax.specs.Interchange.{segments_in}
-use Rattle.edi_syntax.specs.Envelope.{header_of, messages_of}
-use Rattle.edi_syntax.specs.Header.{preparation}
+use Rattle.box6346.specs.{declared.box_number.BoxNumber.BoxNumber, declared.slot.Slot.Slot}
+use Rattle.edi_syntax.specs.{Moments.CivilMoment, Text.Content, Interchange.segments_in, Envelope.{header_of, messages_of}, Header.preparation}
 use Rattle.edi_syntax.specs.Messages.{Message}
-use Rattle.edi_messages.specs.Message.{LineContent as MessageLine, ordered, refused, MessageContent}
-use Rattle.edi_messages.specs.Purposes.{CallContent}
+use Rattle.edi_messages.specs.{Message.{LineContent as MessageLine, ordered, refused, MessageContent}, Purposes.CallContent, declared.codes.Codes.Codes}
 use Rattle.edi_messages.specs.Orders.{EntryContent, OrderContent, gate_in, gate_out, move, list_discharge, list_load, discharge, load}
-use Rattle.edi_messages.specs.declared.codes.Codes.{Codes}
-use Rattle.edi_messages.specs.declared.codes.PartnerKind.{PartnerKind}
-use Rattle.edi_messages.specs.declared.message.MessageFault.{MessageFault}
+use Rattle.edi_messages.specs.{declared.codes.PartnerKind.PartnerKind, declared.message.MessageFault.MessageFault}
 use Rattle.partner_core.specs.Numbered.{with_number}
-use Rattle.yard_core.specs.YardMap.{YardMap}
-use Rattle.yard_core.specs.Decisions.{Refusal, yard_without, yard_with_move}
-use Rattle.yard_core.specs.declared.placements.Placement.{Placement}
-use Rattle.terminal_core.specs.declared.visits.Departure.{Departure}
-use Rattle.terminal_core.specs.declared.lines.LineState.{LineState}
-use Rattle.terminal_core.specs.declared.lines.LineState.TheVariants.{Pending, Done as LineIsDone}
-use Rattle.terminal_core.specs.declared.lines.Side.{Side}
-use Rattle.terminal_core.specs.declared.lines.Side.TheVariants.{Load, Discharge}
-use Rattle.terminal_core.specs.declared.change.Outcome.{Outcome}
-use Rattle.terminal_core.specs.declared.change.Outcome.TheVariants.{Done, Gone, Listed, Refused}
-use Rattle.terminal_core.specs.declared.change.Source.{Source}
-use Rattle.terminal_core.specs.declared.change.Version.{Version}
-use Rattle.terminal_core.specs.declared.visits.Way.{Way}
-use Rattle.terminal_core.specs.declared.visits.Way.TheVariants.{Gate, Ship}
-use Rattle.terminal_core.specs.State.{TerminalState, LineContent, LineKey, Lines, line_key, line_of, is_in, last_number}
-use Rattle.terminal_core.specs.Versions.{newest, spares_empty}
-use Rattle.terminal_core.specs.Drop.{is_on, is_pending, unless_open_on, list_drop}
+use Rattle.yard_core.specs.{YardMap.YardMap, Decisions.{Refusal, yard_without, yard_with_move}, declared.placements.Placement.Placement}
+use Rattle.terminal_core.specs.{declared.visits.Departure.Departure, declared.lines.LineState.LineState, declared.lines.Side.Side, declared.visits.Way.Way}
+use Rattle.terminal_core.specs.{declared.lines.LineState.TheVariants.{Pending, Done as LineIsDone}, declared.lines.Side.TheVariants.{Load, Discharge}}
+use Rattle.terminal_core.specs.{declared.change.Outcome.Outcome, declared.change.Outcome.TheVariants.{Done, Gone, Listed, Refused}}
+use Rattle.terminal_core.specs.{declared.change.Source.Source, declared.change.Version.Version, declared.visits.Way.TheVariants.{Gate, Ship}}
+use Rattle.terminal_core.specs.{State.{TerminalState, LineContent, LineKey, Lines, line_key, line_of, is_in, last_number}, Versions.{newest, spares_empty}}
+use Rattle.terminal_core.{specs.Drop.{is_on, is_pending, unless_open_on, list_drop}, proofs.{Dropping.drop_alone, Lined.{order, keys_total, same_key}}}
 use Rattle.terminal_core.specs.Step.{StepResult, step_by, yard_with_entry, after_entry, after_entry_at, after_departure, after_departure_at, departure_by, after_move_at, after_listing_at, then_line_done_at, by_line, by_state}
-use Rattle.terminal_core.proofs.Dropping.{drop_alone}
-use Rattle.terminal_core.proofs.Lined.{order, keys_total, same_key}
-use Rattle.office_admission.specs.Admission.{admission, is_for}
-use Rattle.office_admission.specs.Readings.{reading_by}
+use Rattle.office_admission.specs.{Admission.{admission, is_for}, Readings.reading_by}
 use Rattle.office_admission.specs.Taking.{MachineState, clearing_of, clearing_for, list_replaced, line_taken_by, lines_taken_by, verdict_on_by, messages_taken_by, codes_for, source_in, taken_at_by, taken_of_by, interchange_taken}
 use Rattle.office_parts.specs.Done.{IsDoneLine, DoneLinesStay, DoneLinesStayInRuns}
 use Rattle.std.specs.FinMap as finite_map

@@ -1,26 +1,17 @@
 -- What a text without fault has, and where it ends.
+use Rattle.std.{specs.{Option.{option_map, option_map_or}, List.list_all, Str.bytes_eq}, proofs.lemmas.Slice.Eq.bytes_eq-Decides}
 use Rattle.std.proofs.Common.{◌≡◌, ◌⊎◌, ℕ, ◌<◌, ◌≤◌, Bool, true, false, cond, not, ◌&&◌, nat_le, List, [], ◌∷◌, ◌++◌, length, take, codes, refl, sym, ap, subst, ◌∙◌, inl, inr, arith, suc, ◌+◌, ◌-◌, nat_eq, drop, Option, None, Some, append_assoc}
 use Rattle.std.proofs.lemmas.Bool.{and_from, cases_Bool, cases_order, le-leb, and_parts, cond-false, ltb-false, eqb-true}
 use Rattle.std.proofs.lemmas.List.{length-append, length-take, append-nil, length-drop, drop_at}
-use Rattle.std.proofs.lemmas.Slice.Eq.{bytes_eq-Decides}
-use Rattle.edi_syntax.specs.Characters.{begins_with_advice, is_tag_byte, is_break}
+use Rattle.edi_syntax.specs.{Characters.{begins_with_advice, is_tag_byte, is_break}, Positions.position_after, declared.characters.Service.Service}
 use Rattle.edi_syntax.specs.Advice.{advised_characters, may_be_used, default_service, service_with, has_advice, service_at, has_bad_advice, without_breaks}
-use Rattle.edi_syntax.specs.Positions.{position_after}
-use Rattle.edi_syntax.specs.Cuts.{is_in_advice, breaks_advice, past_advice, is_closed, IsOpen}
-use Rattle.edi_syntax.proofs.CutLemmas.{in_advice}
-use Rattle.std.specs.Option.{option_map, option_map_or}
-use Rattle.std.specs.List.{list_all}
-use Rattle.std.specs.Str.{bytes_eq}
-use Rattle.edi_syntax.specs.Interchange.{segments_in, is_segment_text, without_breaks_at_end, interchange_of}
-use Rattle.edi_syntax.specs.Text.{Content, no_segment, has_tag, SegmentText, SegmentsText}
-use Rattle.edi_syntax.specs.Reading.{body_len, content_of, breaks_len, next_at, segments_of, are_segments}
-use Rattle.edi_syntax.specs.declared.characters.Service.{Service}
+use Rattle.edi_syntax.specs.{Cuts.{is_in_advice, breaks_advice, past_advice, is_closed, IsOpen}, Text.{Content, no_segment, has_tag, SegmentText, SegmentsText}}
+use Rattle.edi_syntax.specs.{Interchange.{segments_in, is_segment_text, without_breaks_at_end, interchange_of}, Faults.{applies, fault_of}}
+use Rattle.edi_syntax.{specs.Reading.{body_len, content_of, breaks_len, next_at, segments_of, are_segments}, proofs.CutLemmas.in_advice}
 use Rattle.edi_syntax.specs.declared.interchange.SyntaxFault.TheVariants.{TooLong, Service as ServiceFault, Segment, NoEnvelope, Group, Version, Number, Moment, Test, MessageFrame}
-use Rattle.edi_syntax.proofs.SegmentsLemmas.{break_at_end, breaks_only, tag_is_no_break, no_break_before, next_of_segments, next_of_are_segments}
-use Rattle.edi_syntax.proofs.SegmentLemmas.{segment_at, segment_complete}
-use Rattle.edi_syntax.specs.Messages.{begins_message, ends_message, is_inner, are_messages}
+use Rattle.edi_syntax.{specs.Messages.{begins_message, ends_message, is_inner, are_messages}, proofs.SegmentLemmas.{segment_at, segment_complete}}
 use Rattle.edi_syntax.specs.Envelope.{header_of, behind_header, last_of, trailer_of, has_envelope}
-use Rattle.edi_syntax.specs.Faults.{applies, fault_of}
+use Rattle.edi_syntax.proofs.SegmentsLemmas.{break_at_end, breaks_only, tag_is_no_break, no_break_before, next_of_segments, next_of_are_segments}
 
 -- ==== Advised: A front of a text is read as the text is, or ends within its advice.
 

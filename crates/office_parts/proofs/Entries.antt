@@ -1,25 +1,14 @@
 -- What the journal has, and what an event adds to it.
+use Rattle.std.{specs.{Prelude.{drop, take}, List.{list_all, AllByRecursion}}, proofs.lemmas.Bool.{cases_Bool, cond-true, cond-false, cases_order}}
 use Rattle.std.proofs.Common.{◌≡◌, ℕ, suc, Bool, true, false, inl, inr, cond, ◌&&◌, List, [], ◌∷◌, refl, sym, ap, ◌∙◌, ◌+◌, ◌≤◌, ◌++◌, length, map, Result, Ok, Err, Some, subst, arith, append_assoc}
-use Rattle.std.specs.Prelude.{drop, take}
-use Rattle.std.specs.List.{list_all, AllByRecursion}
-use Rattle.std.proofs.lemmas.Bool.{cases_Bool, cond-true, cond-false, cases_order}
-use Rattle.edi_syntax.specs.Characters.{is_break}
-use Rattle.edi_syntax.specs.Reading.{breaks_len}
-use Rattle.edi_syntax.specs.Advice.{without_breaks}
-use Rattle.edi_syntax.specs.Interchange.{without_breaks_at_end, interchange_of}
-use Rattle.std.proofs.lemmas.List.{append-nil, map-append, length-append, length-map, take_at, take_all}
-use Rattle.std.proofs.lemmas.List.Elements.{All-from_recursion}
+use Rattle.std.proofs.{lemmas.List.{append-nil, map-append, length-append, length-map, take_at, take_all}, lemmas.List.Elements.All-from_recursion}
+use Rattle.edi_syntax.specs.{Characters.is_break, Reading.breaks_len, Advice.without_breaks, Interchange.{without_breaks_at_end, interchange_of}}
 use Rattle.partner_core.specs.Deliveries.{Delivery, delivery, first_text, is_under, is_used}
-use Rattle.office_replies.specs.Events.{Event, delivered, migrated, added}
-use Rattle.office_replies.specs.declared.deliver.Fault.{Fault}
-use Rattle.office_admission.specs.Setups.{SetupContent, parties_in}
-use Rattle.office_admission.specs.Accounts.{content_with, content_after}
-use Rattle.office_admission.specs.Admission.{admission}
-use Rattle.office_admission.specs.Deliveries.{with_delivery, deliveries_of}
-use Rattle.office_admission.proofs.Adding.{deliveries_on, account_adds, migration_adds, first_admitted}
-use Rattle.office_parts.specs.Kept.{kept, kept_after, IsFirst}
+use Rattle.office_replies.specs.{Events.{Event, delivered, migrated, added}, declared.deliver.Fault.Fault}
+use Rattle.office_admission.specs.{Setups.{SetupContent, parties_in}, Accounts.{content_with, content_after}, Admission.admission}
+use Rattle.office_admission.{specs.Deliveries.{with_delivery, deliveries_of}, proofs.Adding.{deliveries_on, account_adds, migration_adds, first_admitted}}
+use Rattle.office_parts.{specs.Kept.{kept, kept_after, IsFirst}, proofs.Alike.{kept-append, kept_adds, kept_one, kept_twice, firsts_are_kept}}
 use Rattle.office_parts.specs.Journal.{text_of, kept_texts, delivered_all, accounts_in, IsEntry, KeptTextsAreEntries, JournalGrows, WasJournal, FrontsWereJournals}
-use Rattle.office_parts.proofs.Alike.{kept-append, kept_adds, kept_one, kept_twice, firsts_are_kept}
 
 at_end_none : (b : ℕ) (bytes : List ℕ) → list_all is_break (b ∷ bytes) ≡ true → without_breaks_at_end (b ∷ bytes) ≡ []
 at_end_none b bytes e = cond-true (list_all is_break (b ∷ bytes)) [] (b ∷ without_breaks_at_end bytes) e

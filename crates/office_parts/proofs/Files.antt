@@ -1,37 +1,20 @@
 -- The journal over the files, file by file: what each one adds is what was kept since the day of the one before it.
+use Rattle.std.{specs.{Prelude.{filter, nat_le, not, drop}, List.AllByRecursion}, proofs.lemmas.Bool.{cases_Bool, leb-true, le-leb}}
 use Rattle.std.proofs.Common.{◌≡◌, inl, inr, ℕ, ◌≤◌, List, [], ◌∷◌, ◌++◌, map, Bool, true, false, cond, refl, sym, ap, ◌∙◌, arith, length, Result, Ok, Err, zero-le, subst}
-use Rattle.std.specs.Prelude.{filter, nat_le, not, drop}
-use Rattle.std.specs.List.{AllByRecursion}
-use Rattle.std.proofs.lemmas.Bool.{cases_Bool, leb-true, le-leb}
-use Rattle.partner_core.specs.Deliveries.{Delivery, is_used, run, delivery}
-use Rattle.partner_core.proofs.Orders.{used-kept, used_within_run}
-use Rattle.office_rows.specs.Rows.{Interchange, Rows}
-use Rattle.office_parts.specs.InOrder.{as_delivery}
-use Rattle.office_parts.specs.Kept.{kept_after, kept}
-use Rattle.office_parts.specs.Closing.{is_beyond}
-use Rattle.office_parts.specs.Copies.{is_above, HasInOrder, AreDayCopies, closed_after}
-use Rattle.std.proofs.lemmas.List.{drop_at, length-map, map-append, append-nil, append_assoc}
-use Rattle.std.proofs.lemmas.List.Elements.{filter-append}
-use Rattle.edi_syntax.specs.Interchange.{interchange_of}
-use Rattle.office_admission.specs.Accounts.{content_after, content_with}
-use Rattle.office_admission.specs.Admission.{admission}
-use Rattle.office_admission.specs.Deliveries.{deliveries_of, with_delivery}
-use Rattle.office_admission.proofs.Adding.{content_on, deliveries_on, account_adds}
-use Rattle.office_history.proofs.Accounted.{within}
-use Rattle.office_replies.specs.Events.{Event, delivered, migrated, added}
-use Rattle.office_replies.specs.declared.deliver.Fault.{Fault}
-use Rattle.office_admission.specs.Setups.{SetupContent, parties_in}
-use Rattle.office_parts.specs.Journal.{text_of}
-use Rattle.office_parts.proofs.Alike.{kept-append, kept_after-append}
-use Rattle.office_parts.specs.Archives.{Archive}
-use Rattle.office_parts.specs.ArchiveJournal.{body_of, texts_beyond, texts_added, carried_on, journal_beyond}
+use Rattle.std.proofs.{lemmas.List.{drop_at, length-map, map-append, append-nil, append_assoc}, lemmas.List.Elements.filter-append}
+use Rattle.partner_core.{specs.Deliveries.{Delivery, is_used, run, delivery}, proofs.Orders.{used-kept, used_within_run}}
+use Rattle.office_rows.specs.{Rows.{Interchange, Rows}, Effects.{with_waiting, with_change}}
+use Rattle.office_parts.specs.{InOrder.as_delivery, Kept.{kept_after, kept}, Closing.is_beyond, Copies.{is_above, HasInOrder, AreDayCopies, closed_after}}
+use Rattle.office_parts.specs.{Journal.text_of, Archives.Archive, ArchiveJournal.{body_of, texts_beyond, texts_added, carried_on, journal_beyond}}
 use Rattle.office_parts.specs.ArchiveJournalLaws.{JournalIsOfAllFiles, ClosingStaysInOrder, EventsStayInOrder, CopiesStayInOrder}
-use Rattle.terminal_core.specs.Rows.{ChangeContent, visit_opened, visit_closed, placed_at, moved_to, removed_from, listed_on, line_done, unlisted}
-use Rattle.office_history.specs.Cascade.{TakenContent, with_changes, with_interchange, with_interchanges}
-use Rattle.office_history.specs.Laws.{IsFor}
+use Rattle.office_parts.proofs.{Alike.{kept-append, kept_after-append}, JournalOrders.{admitted_kept, reply_shown}}
+use Rattle.edi_syntax.specs.Interchange.{interchange_of}
+use Rattle.office_admission.specs.{Accounts.{content_after, content_with}, Admission.admission, Deliveries.{deliveries_of, with_delivery}}
+use Rattle.office_admission.{specs.Setups.{SetupContent, parties_in}, proofs.Adding.{content_on, deliveries_on, account_adds}}
+use Rattle.office_history.{specs.{Cascade.{TakenContent, with_changes, with_interchange, with_interchanges}, Laws.IsFor}, proofs.Accounted.within}
 use Rattle.office_history.proofs.Places.{refused_more}
-use Rattle.office_rows.specs.Effects.{with_waiting, with_change}
-use Rattle.office_parts.proofs.JournalOrders.{admitted_kept, reply_shown}
+use Rattle.office_replies.specs.{Events.{Event, delivered, migrated, added}, declared.deliver.Fault.Fault}
+use Rattle.terminal_core.specs.Rows.{ChangeContent, visit_opened, visit_closed, placed_at, moved_to, removed_from, listed_on, line_done, unlisted}
 
 -- ==== Beyond: Interchanges and deliveries beyond what is closed.
 

@@ -1,31 +1,19 @@
 -- Rows whose interchanges stand in the order of arrival, after one event more.
-use Rattle.std.proofs.Common.{◌≡◌, ℕ, Bool, true, false, cond, List, [], ◌∷◌, ◌++◌, map, None, refl, sym, ap, ◌∙◌}
-use Rattle.std.specs.Prelude.{is_some}
+use Rattle.std.{specs.Prelude.is_some, proofs.Common.{◌≡◌, ℕ, Bool, true, false, cond, List, [], ◌∷◌, ◌++◌, map, None, refl, sym, ap, ◌∙◌}}
 use Rattle.std.proofs.lemmas.List.{append-nil, map-append}
 use Rattle.edi_syntax.specs.Interchange.{interchange_of}
 use Rattle.partner_core.specs.Deliveries.{Delivery, delivery, is_used}
 use Rattle.terminal_core.specs.Rows.{ChangeContent, visit_opened, visit_closed, placed_at, moved_to, removed_from, listed_on, line_done, unlisted}
 use Rattle.office_replies.specs.Events.{Event, delivered}
-use Rattle.office_admission.specs.Setups.{SetupContent}
-use Rattle.office_admission.specs.Deliveries.{deliveries_of}
-use Rattle.office_admission.proofs.Adding.{account_adds, migration_adds}
-use Rattle.sqlite.specs.declared.types.Value.TheVariants.{Blob}
-use Rattle.sqlite.specs.Order.{Row, column}
-use Rattle.office_rows.specs.Tables.{interchange_table}
-use Rattle.office_rows.specs.Values.{interchange_values}
-use Rattle.office_rows.specs.Stored.{columns_of}
-use Rattle.office_rows.specs.Rows.{Interchange, Rows}
+use Rattle.office_admission.{specs.{Setups.SetupContent, Deliveries.deliveries_of}, proofs.Adding.{account_adds, migration_adds}}
+use Rattle.sqlite.specs.{declared.types.Value.TheVariants.Blob, Order.{Row, column}}
+use Rattle.office_rows.specs.{Tables.interchange_table, Values.interchange_values, Stored.columns_of, Rows.{Interchange, Rows}}
 use Rattle.office_rows.specs.Effects.{is_pair, with_waiting, with_change}
-use Rattle.office_history.specs.Cascade.{text_in, TakenContent, with_changes, with_interchange, with_interchanges}
-use Rattle.office_history.specs.Laws.{IsFor}
-use Rattle.office_history.proofs.Lawful.{opening_after, refused_adds, used_adds, early_adds, next_adds}
-use Rattle.office_history.proofs.Places.{admitted_more, refused_more}
-use Rattle.office_history.proofs.Ground.{account_adds_row}
-use Rattle.office_history.proofs.KeptNumbers.{migration_goes_on}
-use Rattle.office_parts.specs.Kept.{kept}
-use Rattle.office_parts.specs.Journal.{text_of}
+use Rattle.office_history.specs.{Cascade.{text_in, TakenContent, with_changes, with_interchange, with_interchanges}, Laws.IsFor}
+use Rattle.office_history.proofs.{Lawful.{opening_after, refused_adds, used_adds, early_adds, next_adds}, Places.{admitted_more, refused_more}}
+use Rattle.office_history.proofs.{Ground.account_adds_row, KeptNumbers.migration_goes_on}
+use Rattle.office_parts.{specs.{Kept.kept, Journal.text_of}, proofs.Alike.kept_adds}
 use Rattle.office_parts.specs.InOrder.{as_delivery, AreInOrder, AreAfterInOrder, BodiesAreJournal, StoredIsJournal, OpeningIsInOrder, RefusedStaysInOrder, UsedStaysInOrder, EarlyAddsInOrder, NextAddsInOrder, AccountStaysInOrder, MigrationStaysInOrder}
-use Rattle.office_parts.proofs.Alike.{kept_adds}
 
 -- ---- the journal
 

@@ -1,25 +1,13 @@
 -- Lines of lists that are away are done, so no open line is away.
+use Rattle.std.specs.{Prelude.{filter, not, ◌&&◌, T}, List.AllByRecursion, FinMap.Entries.{below_all, where_key}, Cmp.eq_by_cmp_equiv}
+use Rattle.std.specs.{Ordering.{eq_by_cmp, is_eq, is_lt}, declared.cmp.Ordering.Ordering, declared.cmp.Ordering.TheVariants.{Less, Equal, Greater}}
 use Rattle.std.proofs.Common.{◌≡◌, List, [], ◌∷◌, map, Bool, true, false, cond, Some, refl, sym, ap, ◌∙◌}
-use Rattle.std.specs.Prelude.{filter, not, ◌&&◌, T}
-use Rattle.std.specs.List.{AllByRecursion}
-use Rattle.std.specs.FinMap.Entries.{below_all, where_key}
-use Rattle.std.specs.Cmp.{eq_by_cmp_equiv}
-use Rattle.std.specs.Ordering.{eq_by_cmp, is_eq, is_lt}
-use Rattle.std.specs.declared.cmp.Ordering.{Ordering}
-use Rattle.std.specs.declared.cmp.Ordering.TheVariants.{Less, Equal, Greater}
-use Rattle.terminal_core.specs.declared.lines.LineState.TheVariants.{Done}
-use Rattle.terminal_core.specs.Changes.{TerminalRows}
-use Rattle.terminal_core.specs.Drop.{is_pending}
-use Rattle.terminal_core.specs.State.{LineContent, LineKey, Lines}
+use Rattle.terminal_core.specs.{declared.lines.LineState.TheVariants.Done, Changes.TerminalRows, Drop.is_pending, State.{LineContent, LineKey, Lines}}
 use Rattle.terminal_core.proofs.Lined.{order, keys_total, same_key, tied_self}
-use Rattle.office_rows.specs.ByKey.{line_entry, lines_by}
-use Rattle.office_rows.specs.Rows.{ListingContent}
+use Rattle.office_rows.specs.{ByKey.{line_entry, lines_by}, Rows.ListingContent}
 use Rattle.office_history.specs.After.{machine_after}
-use Rattle.office_parts.proofs.Takings.{own_rows}
-use Rattle.office_parts.specs.Bringing.{is_list, is_of}
-use Rattle.office_parts.specs.Keeping.{AreDoneIfAway, AwayLinesAreDone}
-use Rattle.office_parts.specs.OwnLists.{ListName, list_name, list_of, own_lines}
-use Rattle.office_parts.proofs.BringingLemmas.{own_entries}
+use Rattle.office_parts.specs.{Bringing.{is_list, is_of}, Keeping.{AreDoneIfAway, AwayLinesAreDone}, OwnLists.{ListName, list_name, list_of, own_lines}}
+use Rattle.office_parts.proofs.{Takings.own_rows, BringingLemmas.own_entries}
 use Rattle.std.specs.FinMap as finite_map
 
 abbrev Entry : Type 0

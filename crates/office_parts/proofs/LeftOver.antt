@@ -1,17 +1,11 @@
 -- Interchanges that are closed and still stand in a store.
+use Rattle.std.{specs.Prelude.{find, filter, nat_le, not}, proofs.{lemmas.Bool.{le-leb, leb-true}, lemmas.List.Elements.filter-append}}
 use Rattle.std.proofs.Common.{◌≡◌, ℕ, ◌<◌, ◌≤◌, List, [], ◌∷◌, ◌++◌, map, Bool, true, false, cond, Some, refl, sym, ap, ◌∙◌, arith}
-use Rattle.std.specs.Prelude.{find, filter, nat_le, not}
-use Rattle.std.proofs.lemmas.Bool.{le-leb, leb-true}
-use Rattle.std.proofs.lemmas.List.Elements.{filter-append}
 use Rattle.terminal_core.specs.Rows.{ChangeContent, visit_opened, visit_closed, placed_at, moved_to, removed_from, listed_on, line_done, unlisted}
-use Rattle.office_rows.specs.Effects.{is_pair, with_taken, with_change}
-use Rattle.office_rows.specs.Rows.{Interchange, Rows}
-use Rattle.office_history.specs.Cascade.{TakenContent, with_changes, with_interchange, with_interchanges}
-use Rattle.office_history.proofs.Runs.{pair_of}
-use Rattle.office_parts.specs.Closing.{is_closed, is_beyond}
-use Rattle.office_parts.specs.LeftOver.{rows_beyond, LeftOverTellNothing, LeftOverStayApart, LeftOverMayGo, RaisingCloses}
-use Rattle.office_parts.proofs.Takings.{all_own}
-use Rattle.office_parts.proofs.Orders.{body_there, reply_there}
+use Rattle.office_rows.specs.{Effects.{is_pair, with_taken, with_change}, Rows.{Interchange, Rows}}
+use Rattle.office_history.{specs.Cascade.{TakenContent, with_changes, with_interchange, with_interchanges}, proofs.Runs.pair_of}
+use Rattle.office_parts.specs.{Closing.{is_closed, is_beyond}, LeftOver.{rows_beyond, LeftOverTellNothing, LeftOverStayApart, LeftOverMayGo, RaisingCloses}}
+use Rattle.office_parts.proofs.{Takings.all_own, Orders.{body_there, reply_there}}
 
 -- a number that is beyond is not closed
 pub far_beyond : (last_closed : ℕ → ℕ) (i : Interchange) (b : Bool) → nat_le i.number (last_closed i.partner) ≡ b → last_closed i.partner < i.number → not b ≡ true

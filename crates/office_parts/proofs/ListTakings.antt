@@ -1,36 +1,20 @@
 -- An interchange that names no list that was put away, and a run of them, at the machine without them.
+use Rattle.std.specs.{Prelude.{map, length}, List.flat_map}
 use Rattle.std.proofs.Common.{◌≡◌, ℕ, ◌+◌, List, [], ◌∷◌, ◌++◌, Bool, true, false, cond, Option, None, Some, Result, Ok, Err, refl, sym, ap, ap₂, subst, ◌∙◌, arith}
-use Rattle.std.specs.Prelude.{map, length}
-use Rattle.std.specs.List.{flat_map}
-use Rattle.edi_syntax.specs.Moments.{CivilMoment}
-use Rattle.edi_syntax.specs.Text.{Content}
-use Rattle.edi_syntax.specs.Interchange.{segments_in}
-use Rattle.edi_syntax.specs.Envelope.{header_of, messages_of}
-use Rattle.edi_syntax.specs.Header.{preparation}
+use Rattle.edi_syntax.specs.{Moments.CivilMoment, Text.Content, Interchange.segments_in, Envelope.{header_of, messages_of}, Header.preparation}
 use Rattle.edi_syntax.specs.Messages.{Message}
-use Rattle.edi_messages.specs.Message.{LineContent, ordered, refused, MessageContent}
-use Rattle.edi_messages.specs.Purposes.{CallContent}
-use Rattle.edi_messages.specs.declared.codes.Codes.{Codes}
-use Rattle.edi_messages.specs.declared.codes.PartnerKind.{PartnerKind}
-use Rattle.edi_messages.specs.declared.message.MessageFault.{MessageFault}
+use Rattle.edi_messages.specs.{Message.{LineContent, ordered, refused, MessageContent}, Purposes.CallContent, declared.codes.Codes.Codes}
+use Rattle.edi_messages.specs.{declared.codes.PartnerKind.PartnerKind, declared.message.MessageFault.MessageFault}
 use Rattle.partner_core.specs.Numbered.{with_number}
-use Rattle.terminal_core.specs.declared.lines.Side.{Side}
-use Rattle.terminal_core.specs.declared.change.Source.{Source}
-use Rattle.terminal_core.specs.declared.change.Version.{Version}
-use Rattle.terminal_core.specs.Rows.{unlisted}
-use Rattle.terminal_core.specs.State.{TerminalState}
-use Rattle.terminal_core.specs.Drop.{list_drop, ListDrop}
-use Rattle.terminal_core.specs.Versions.{newest}
-use Rattle.office_admission.specs.Admission.{admission, is_for}
-use Rattle.office_replies.specs.Messages.{accepted}
-use Rattle.office_admission.specs.Readings.{reading_by}
+use Rattle.terminal_core.specs.{declared.lines.Side.Side, declared.change.Source.Source, declared.change.Version.Version, Rows.unlisted, State.TerminalState}
+use Rattle.terminal_core.specs.{Drop.{list_drop, ListDrop}, Versions.newest}
+use Rattle.office_admission.specs.{Admission.{admission, is_for}, Readings.reading_by}
 use Rattle.office_admission.specs.Taking.{MachineState, number_ordered, before_report, clearing_of, clearing_for, ListClearing, list_replaced, line_taken_by, line_changes_by, lines_taken_by, lines_changes_by, verdict_on_by, verdict_changes_by, report_on, before_message, messages_taken_by, messages_changes_by, with_messages, codes_for, source_in, nothing_taken, taken_at_by, taken_of_by, changes_at_by, changes_of_by, interchange_taken}
+use Rattle.office_replies.specs.Messages.{accepted}
 use Rattle.office_history.specs.Cascade.{AreTakenFrom}
-use Rattle.office_parts.specs.OwnLists.{ListName, list_name, without_lists, machine_without}
+use Rattle.office_parts.specs.{OwnLists.{ListName, list_name, without_lists, machine_without}, ListLaws.{InterchangesSpareLists, NameOwnLists, RunsSpareLists}}
 use Rattle.office_parts.specs.Naming.{list_if_any, list_read, lists_in_messages, lists_opened, lists_named_by, interchange_lists, AreHere}
-use Rattle.office_parts.specs.ListLaws.{InterchangesSpareLists, NameOwnLists, RunsSpareLists}
-use Rattle.office_parts.proofs.BringingLemmas.{own_open, own_dropped, orders}
-use Rattle.office_parts.proofs.Reading.{here_parts, lists_in_line, lists_ordered, ordered_here}
+use Rattle.office_parts.proofs.{BringingLemmas.{own_open, own_dropped, orders}, Reading.{here_parts, lists_in_line, lists_ordered, ordered_here}}
 
 module _ (away : ListName → Bool) (version : Version) where
   abbrev kept : TerminalState → TerminalState

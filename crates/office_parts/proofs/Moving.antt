@@ -1,22 +1,14 @@
 -- What one event more makes of a store's own rows, and of the whole.
+use Rattle.std.{specs.{Prelude.{Contains, ◌↔◌, find, ◌==◌}, List.AllByRecursion}, proofs.{lemmas.List.{append_assoc, map-append}, lemmas.Bool.eqb-true}}
 use Rattle.std.proofs.Common.{◌≡◌, ℕ, ◌+◌, ◌<◌, ◌≤◌, inl, inr, List, [], ◌∷◌, ◌++◌, map, Bool, true, false, cond, Option, None, Some, refl, sym, ap, ap₂, subst, ◌∙◌, arith}
-use Rattle.std.specs.Prelude.{Contains, ◌↔◌, find, ◌==◌}
-use Rattle.std.specs.List.{AllByRecursion}
-use Rattle.std.proofs.lemmas.List.{append_assoc, map-append}
-use Rattle.std.proofs.lemmas.Bool.{eqb-true}
 use Rattle.edi_messages.specs.declared.codes.PartnerKind.{PartnerKind}
-use Rattle.terminal_core.specs.declared.visits.Departure.{Departure}
+use Rattle.terminal_core.specs.{declared.visits.Departure.Departure, State.IsWhole, Changes.{TerminalRows, visit_with_departure, rows_of}}
 use Rattle.terminal_core.specs.Rows.{VisitContent, ChangeContent, visit_opened, visit_closed, placed_at, moved_to, removed_from, listed_on, line_done, unlisted}
-use Rattle.terminal_core.specs.State.{IsWhole}
-use Rattle.terminal_core.specs.Changes.{TerminalRows, visit_with_departure, rows_of}
-use Rattle.office_admission.specs.Taking.{MachineState, interchange_taken, interchange_changes}
-use Rattle.office_admission.proofs.Takings.{interchange_leads}
-use Rattle.office_rows.specs.Rows.{Partner, Interchange, Rows}
-use Rattle.office_rows.specs.Effects.{is_pair, with_waiting, with_partner, with_taken, with_change}
+use Rattle.office_admission.{specs.Taking.{MachineState, interchange_taken, interchange_changes}, proofs.Takings.interchange_leads}
+use Rattle.office_rows.specs.{Rows.{Partner, Interchange, Rows}, Effects.{is_pair, with_waiting, with_partner, with_taken, with_change}}
 use Rattle.office_history.specs.Cascade.{TakenContent, with_changes, with_interchange, with_interchanges, AreTakenFrom}
-use Rattle.office_parts.specs.OwnTerminal.{IsOfOwn, MayStay}
+use Rattle.office_parts.specs.{OwnTerminal.{IsOfOwn, MayStay}, Parts.{Archived, AreClosed, AreParts}}
 use Rattle.office_parts.proofs.Splits.{kept_pushed, kept_mapped, as_keeps, changes_spared, Has, has_contained, contained_has, has_left, has_pushed, has_mapped, has_image}
-use Rattle.office_parts.specs.Parts.{Archived, AreClosed, AreParts}
 
 -- ---- a text more, an account more
 

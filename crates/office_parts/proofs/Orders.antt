@@ -1,60 +1,31 @@
 -- An order at the store's own terminal, beside the visits that were put away.
-use Rattle.std.proofs.Common.{◌≡◌, ℕ, ◌+◌, List, [], ◌∷◌, Bool, true, false, cond, Option, None, Some, Result, Ok, Err, refl, sym, ap, ◌∙◌, arith, nat_le, ◌<◌, ◌≤◌, inl, inr, ◌++◌, is_some, subst, ◌⊎◌, zero, suc, length, map, ap₂, Less, Equal, is_lt}
-use Rattle.box6346.specs.declared.box_number.BoxNumber.{BoxNumber}
-use Rattle.box6346.specs.declared.slot.Slot.{Slot}
-use Rattle.edi_messages.specs.Purposes.{CallContent}
-use Rattle.edi_messages.specs.Orders.{EntryContent, OrderContent, gate_in, gate_out, move, list_discharge, list_load, discharge, load}
-use Rattle.yard_core.specs.YardMap.{YardMap}
-use Rattle.yard_core.specs.Decisions.{Refusal, yard_without, yard_with_move}
-use Rattle.yard_core.specs.declared.placements.Placement.{Placement}
-use Rattle.terminal_core.specs.declared.visits.Departure.{Departure}
-use Rattle.terminal_core.specs.declared.lines.LineState.{LineState}
-use Rattle.terminal_core.specs.declared.lines.LineState.TheVariants.{Pending, Done as LineIsDone}
-use Rattle.terminal_core.specs.declared.change.Outcome.{Outcome}
-use Rattle.terminal_core.specs.declared.change.Outcome.TheVariants.{Done, Gone, Listed, Refused}
-use Rattle.terminal_core.specs.declared.change.Reason.TheVariants.{AlreadyIn, VisitLimit}
-use Rattle.terminal_core.specs.declared.lines.Side.{Side}
-use Rattle.terminal_core.specs.declared.lines.Side.TheVariants.{Load, Discharge}
-use Rattle.terminal_core.specs.declared.change.Source.{Source}
-use Rattle.terminal_core.specs.declared.change.Version.{Version}
-use Rattle.terminal_core.specs.declared.visits.Way.{Way}
-use Rattle.terminal_core.specs.declared.visits.Way.TheVariants.{Gate, Ship}
-use Rattle.terminal_core.specs.Rows.{visit_opened, visit_closed, placed_at, removed_from}
-use Rattle.terminal_core.specs.State.{TerminalState, LineContent, line_of, is_in, last_number}
-use Rattle.terminal_core.specs.Versions.{spares_empty, newest}
-use Rattle.terminal_core.specs.Step.{StepResult, step_with, with_refusal, step_by, yard_with_entry, opened_visit, visit_of, after_entry, after_entry_at, after_departure, after_departure_at, departure_by, closed_visit, number_of_visit, after_move_at, after_listing_at, then_line_done_at, by_line, by_state}
-use Rattle.office_parts.proofs.Counting.{entered_counting, entry_counting, step_counting}
-use Rattle.office_parts.specs.OwnTerminal.{own_terminal, own_step, MayStay}
-use Rattle.office_parts.specs.Laws.{OrdersActAlike, NumbersAreTold, ClosedAreWithinRuns, ArchivesAnswer}
-use Rattle.office_parts.proofs.Splits.{closing_keeps, kept_pushed, kept_mapped, open_kept, pushed_stays, mapped_stays, some_is, or_some, count_both, none_at, counted_some}
-use Rattle.std.specs.Prelude.{find, count_by, filter, Contains, slice_index_or}
+use Rattle.std.specs.Prelude.{find, count_by, filter}
 use Rattle.std.specs.Option.{option_map, option_and_then, option_or}
+use Rattle.std.specs.List.{AllByRecursion}
 use Rattle.std.proofs.lemmas.Bool.{cases_order}
 use Rattle.std.proofs.lemmas.List.Folds.{find-append}
+use Rattle.std.proofs.Common.{◌≡◌, ℕ, ◌+◌, List, [], ◌∷◌, Bool, true, false, cond, Option, None, Some, Result, Ok, Err, refl, sym, ap, ◌∙◌, arith, nat_le, ◌<◌, ◌≤◌, inl, inr, ◌++◌, is_some, subst, ◌⊎◌, map}
+use Rattle.box6346.specs.{declared.box_number.BoxNumber.BoxNumber, declared.slot.Slot.Slot}
+use Rattle.edi_messages.specs.{Purposes.CallContent, Orders.{EntryContent, OrderContent, gate_in, gate_out, move, list_discharge, list_load, discharge, load}}
+use Rattle.yard_core.specs.{YardMap.YardMap, Decisions.{Refusal, yard_without, yard_with_move}, declared.placements.Placement.Placement}
+use Rattle.terminal_core.specs.{declared.visits.Departure.Departure, declared.lines.LineState.LineState, declared.change.Outcome.Outcome}
+use Rattle.terminal_core.specs.{declared.lines.LineState.TheVariants.{Pending, Done as LineIsDone}, declared.change.Reason.TheVariants.{AlreadyIn, VisitLimit}}
+use Rattle.terminal_core.specs.{declared.change.Outcome.TheVariants.{Done, Gone, Listed, Refused}, declared.lines.Side.Side, declared.change.Source.Source}
+use Rattle.terminal_core.specs.{declared.lines.Side.TheVariants.{Load, Discharge}, declared.change.Version.Version, declared.visits.Way.Way}
+use Rattle.terminal_core.specs.{declared.visits.Way.TheVariants.{Gate, Ship}, Rows.{visit_opened, visit_closed, placed_at, removed_from}}
+use Rattle.terminal_core.specs.{State.{TerminalState, LineContent, line_of, is_in, last_number}, Versions.{spares_empty, newest}}
+use Rattle.terminal_core.specs.Step.{StepResult, step_with, with_refusal, step_by, yard_with_entry, opened_visit, visit_of, after_entry, after_entry_at, after_departure, after_departure_at, departure_by, closed_visit, number_of_visit, after_move_at, after_listing_at, then_line_done_at, by_line, by_state}
+use Rattle.office_parts.specs.{OwnTerminal.{own_terminal, own_step, MayStay}, Laws.{OrdersActAlike, NumbersAreTold, ClosedAreWithinRuns, ArchivesAnswer}}
+use Rattle.office_parts.specs.{Parts.{Archived, rows_of_archives, AreClosed, AreParts}, Closing.is_beyond}
+use Rattle.office_parts.proofs.Counting.{entered_counting, entry_counting, step_counting}
+use Rattle.office_parts.proofs.Splits.{closing_keeps, kept_pushed, kept_mapped, open_kept, pushed_stays, mapped_stays, some_is, or_some, count_both, none_at, counted_some}
 use Rattle.edi_syntax.specs.Interchange.{interchange_of}
 use Rattle.partner_core.proofs.OnceEach.{replied_within}
-use Rattle.office_admission.specs.Accounts.{content_after}
-use Rattle.office_admission.specs.Deliveries.{deliveries_of}
-use Rattle.office_admission.specs.Setups.{parties_in}
-use Rattle.office_rows.specs.Rows.{Interchange, Rows}
-use Rattle.office_rows.specs.Effects.{is_pair}
-use Rattle.office_history.specs.After.{opening_of, taking_in, reply_if_any, reply_in, AreKeptOnce}
-use Rattle.office_history.specs.Cascade.{text_in}
-use Rattle.office_history.proofs.Accounted.{within, answers}
-use Rattle.office_history.proofs.Lawful.{used_adds}
-use Rattle.office_parts.specs.Parts.{Archived, rows_of_archives, AreClosed, AreParts}
-use Rattle.std.specs.List.{AllByRecursion}
-use Rattle.std.specs.Ordering.{nat_cmp, ordering_then}
-use Rattle.std.proofs.lemmas.Bool.Decides.{nat_tests}
-use Rattle.office_rows.specs.Values.{interchange_values}
-use Rattle.office_rows.specs.Opened.{number_kept}
-use Rattle.office_history.proofs.Kept.{Rise, fewer}
+use Rattle.office_admission.specs.{Accounts.content_after, Deliveries.deliveries_of, Setups.parties_in}
+use Rattle.office_rows.specs.{Rows.{Interchange, Rows}, Effects.is_pair, Values.interchange_values, Opened.number_kept}
+use Rattle.office_history.{specs.{After.{opening_of, taking_in, reply_if_any, reply_in, AreKeptOnce}, Cascade.text_in}, proofs.Accounted.{within, answers}}
+use Rattle.office_history.proofs.{Lawful.used_adds, Kept.{Rise, fewer}, Runs.{is_pair_at, InTurn, is_before}, KeptNumbers.{apart, pair_order}}
 use Rattle.office_loading.specs.Checks.{numbers_beyond}
-use Rattle.office_parts.specs.Closing.{is_beyond}
-use Rattle.office_history.proofs.Runs.{is_pair_at, InTurn, is_before}
-use Rattle.office_history.proofs.KeptNumbers.{apart, pair_order}
-
--- ==== Orders: An order at the store's own terminal, beside the visits that were put away.
 
 -- ---- counting
 

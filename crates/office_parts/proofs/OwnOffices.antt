@@ -1,43 +1,27 @@
 -- Rows of which some were put away: what a database shows of them are a store's own.
-use Rattle.std.proofs.Common.{◌≡◌, suc, ◌⊎◌, ℕ, ◌+◌, ◌<◌, ◌≤◌, inl, inr, List, [], ◌∷◌, length, map, All, Bool, true, false, cond, refl, sym, ap, subst, ◌∙◌, arith, Ordering, Equal, Greater, is_lt}
 use Rattle.std.specs.Prelude.{Contains, codes, count_by, filter, not, nat_le}
 use Rattle.std.specs.List.{AllByRecursion}
 use Rattle.std.specs.List.Sorted.{IsPermutation}
-use Rattle.std.specs.Ordering.{nat_cmp, ordering_then}
-use Rattle.std.specs.Cmp.Lexicographic.{slice_cmp}
 use Rattle.std.proofs.lemmas.Bool.{leb-true, leb-false}
-use Rattle.std.proofs.lemmas.Bool.Decides.{nat_tests}
+use Rattle.std.proofs.Common.{◌≡◌, suc, ◌⊎◌, ℕ, ◌+◌, ◌<◌, ◌≤◌, inl, inr, List, [], ◌∷◌, length, map, All, Bool, true, false, cond, refl, sym, ap, subst, ◌∙◌, arith, Equal}
 use Rattle.std.proofs.lemmas.List.Elements.{All-cons, All-nil}
 use Rattle.std.proofs.lemmas.List.Sorted.{IsPermutation-refl, IsPermutation-sym, Contains-permutation, sum_by-IsPermutation}
 use Rattle.sqlite.specs.Effect.{Database}
 use Rattle.edi_messages.specs.declared.codes.PartnerKind.{PartnerKind}
-use Rattle.terminal_core.specs.Changes.{TerminalRows, rows_of}
-use Rattle.terminal_core.specs.Forms.{IsWellFormed}
-use Rattle.terminal_core.specs.Rows.{VisitContent}
-use Rattle.terminal_core.specs.State.{TerminalState, IsWhole}
-use Rattle.office_admission.specs.Given.{IsGiven}
-use Rattle.office_admission.specs.Setups.{SetupContent}
-use Rattle.office_rows.specs.Rows.{Partner, Interchange, Rows}
+use Rattle.terminal_core.specs.{Changes.{TerminalRows, rows_of}, Forms.IsWellFormed, Rows.VisitContent, State.{TerminalState, IsWhole}}
+use Rattle.office_admission.specs.{Given.IsGiven, Setups.SetupContent}
+use Rattle.office_rows.specs.{Rows.{Partner, Interchange, Rows}, Stored.AreRows, Effects.{stands_for, is_line, is_pair}}
 use Rattle.office_rows.specs.Values.{partner_values, interchange_values, visit_values, place_values, line_values, setting_values, block_values}
-use Rattle.office_rows.specs.Stored.{AreRows}
-use Rattle.office_rows.specs.Effects.{stands_for, is_line, is_pair}
-use Rattle.office_rows.specs.Opened.{NumberKept, number_kept, reply_values, OpenedRows, Shows}
-use Rattle.office_rows.specs.Office.{settings_by_name, AreAccounts, HasAccounts}
+use Rattle.office_rows.specs.{Opened.{NumberKept, number_kept, reply_values, OpenedRows, Shows}, Office.{settings_by_name, AreAccounts, HasAccounts}}
 use Rattle.office_rows.specs.Tables.{partner_table, interchange_table, visit_table, place_table, listing_table, block_table, setting_table as settings_table}
-use Rattle.office_loading.specs.Checks.{numbers_beyond, AreKeptBeyond, AreOwnVisits}
-use Rattle.office_loading.specs.Closed.{ClosedContent}
+use Rattle.office_loading.specs.{Checks.{numbers_beyond, AreKeptBeyond, AreOwnVisits}, Closed.ClosedContent}
 use Rattle.office_loading.specs.OwnOffice.{ComesAfter, AreInOrder, IsClosedBelow, AreOwnNumbers, IsOwnOffice}
-use Rattle.office_history.specs.After.{AreKeptOnce, accounts_from}
-use Rattle.office_history.specs.Laws.{AreRowsByKey}
-use Rattle.office_history.proofs.Kept.{Starts, Rise, Has, accounts_are, Rises, count_more}
+use Rattle.office_history.{specs.{After.{AreKeptOnce, accounts_from}, Laws.AreRowsByKey}, proofs.Kept.{Starts, Rise, Has, accounts_are, Rises, count_more}}
 use Rattle.office_history.proofs.Loads.{accounts_rise, numbered_rise, letter_key, blocks_rise, any_head, places_same, lines_same}
-use Rattle.office_history.proofs.Runs.{InTurn, is_before, shows_records, by_keys}
-use Rattle.office_parts.specs.Closing.{is_beyond}
-use Rattle.office_parts.proofs.Opening.{IsBeyond, IsComplete, all_kept}
-use Rattle.office_parts.proofs.Orders.{in_order, order_filtered, rise_of, beyond_numbered}
-use Rattle.office_parts.proofs.Splits.{Has as HasElement, has_contained, contained_has}
-use Rattle.office_history.proofs.KeptNumbers.{all_numbered, has_at}
+use Rattle.office_history.proofs.{Runs.{InTurn, is_before, shows_records, by_keys}, KeptNumbers.{all_numbered, has_at}}
 use Rattle.office_history.proofs.Offices.{not_before, not_before_byte, rising_in_turn, text_after}
+use Rattle.office_parts.{specs.Closing.is_beyond, proofs.{Opening.{IsBeyond, IsComplete, all_kept}, Splits.{Has as HasElement, has_contained, contained_has}}}
+use Rattle.office_parts.proofs.Orders.{in_order, order_filtered, rise_of, beyond_numbered}
 
 -- ---- keys in order
 

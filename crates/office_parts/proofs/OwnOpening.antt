@@ -1,39 +1,17 @@
 -- The store's tables show a store's own rows, whichever closed interchanges still stand there.
+use Rattle.std.{specs.{Prelude.{Contains, find, filter}, List.Sorted.IsPermutation, Option.option_map}, proofs.lemmas.Bool.cases_order}
 use Rattle.std.proofs.Common.{◌≡◌, [], ◌∷◌, ℕ, ◌<◌, ◌≤◌, inl, inr, List, length, true, Some, is_some, refl, sym, ap, subst, ◌∙◌, arith}
-use Rattle.std.specs.Prelude.{Contains, find, filter}
-use Rattle.std.specs.List.Sorted.{IsPermutation}
-use Rattle.std.specs.Option.{option_map}
-use Rattle.std.proofs.lemmas.Bool.{cases_order}
-use Rattle.partner_core.specs.Deliveries.{Delivery, first_text, run}
-use Rattle.partner_core.proofs.Orders.{some_of, used_within_run}
-use Rattle.terminal_core.specs.Changes.{TerminalRows, rows_of}
-use Rattle.terminal_core.specs.State.{TerminalState}
-use Rattle.terminal_core.specs.Versions.{newest}
-use Rattle.terminal_core.proofs.Indexed.{found_is}
-use Rattle.terminal_core.proofs.Whole.{contained}
-use Rattle.office_admission.proofs.Adding.{given_after}
+use Rattle.partner_core.{specs.Deliveries.{Delivery, first_text, run}, proofs.Orders.{some_of, used_within_run}}
+use Rattle.terminal_core.{specs.{Changes.{TerminalRows, rows_of}, State.TerminalState, Versions.newest}, proofs.{Indexed.found_is, Whole.contained}}
+use Rattle.office_admission.{specs.{Given.IsGiven, Setups.SetupContent}, proofs.Adding.given_after}
 use Rattle.office_replies.specs.Events.{Event}
-use Rattle.office_rows.specs.Effects.{is_pair}
-use Rattle.office_rows.specs.Office.{settings_by_name}
-use Rattle.office_rows.specs.Opening.{settings_in}
-use Rattle.office_rows.specs.Rows.{Interchange, Rows}
+use Rattle.office_rows.specs.{Effects.is_pair, Office.settings_by_name, Opening.settings_in, Rows.{Interchange, Rows}}
 use Rattle.office_rows.specs.ByKey.{terminal_rows, ArePlacedOnce, AreListedOnce}
-use Rattle.office_admission.specs.Given.{IsGiven}
-use Rattle.office_admission.specs.Setups.{SetupContent}
 use Rattle.office_loading.specs.Checks.{AreOwnVisits}
-use Rattle.office_history.specs.After.{AreKeptOnce, content_after, deliveries_of, opening_of, machine_after}
-use Rattle.office_history.specs.Cascade.{text_in}
-use Rattle.office_history.proofs.Accounted.{state_accounted, delivered_within}
-use Rattle.office_history.proofs.Ground.{state_on_ground}
-use Rattle.office_history.proofs.Runs.{is_pair_at, pair_of}
-use Rattle.office_history.proofs.Kept.{found_only}
-use Rattle.office_parts.specs.OwnTerminal.{is_own, own_visits, own_terminal, MayStay}
-use Rattle.office_parts.specs.Parts.{Archived, ArePartsAfter}
-use Rattle.office_parts.specs.Closing.{is_beyond}
-use Rattle.office_parts.specs.LeftOver.{rows_beyond}
-use Rattle.office_parts.specs.Laws.{OwnRowsAreOwnOffice}
-use Rattle.office_parts.proofs.Takings.{visits_same, own_rows}
-use Rattle.office_parts.proofs.Orders.{numbers_told, closed_within}
+use Rattle.office_history.{specs.{After.{AreKeptOnce, content_after, deliveries_of, opening_of, machine_after}, Cascade.text_in}, proofs.Ground.state_on_ground}
+use Rattle.office_history.proofs.{Accounted.{state_accounted, delivered_within}, Runs.{is_pair_at, pair_of}, Kept.found_only}
+use Rattle.office_parts.specs.{OwnTerminal.{is_own, own_visits, own_terminal, MayStay}, Parts.{Archived, ArePartsAfter}, Closing.is_beyond}
+use Rattle.office_parts.{specs.{LeftOver.rows_beyond, Laws.OwnRowsAreOwnOffice}, proofs.{Takings.{visits_same, own_rows}, Orders.{numbers_told, closed_within}}}
 use Rattle.office_parts.proofs.Opening.{sound_after, own_visits_go, is_beyond_closed, body_found}
 use Rattle.office_parts.proofs.OwnOffices.{KeepsOwn, AreOfOwn, beyond_in, in_beyond, own_shown}
 use Rattle.office_parts.proofs.Splits.{has_contained, contained_has, had_filtered, own_sound}

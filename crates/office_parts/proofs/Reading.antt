@@ -1,62 +1,32 @@
 -- The orders of a message are all of the list that it names.
+use Rattle.std.specs.{Option.{option_map_or, option_map, option_and_then}, List.{flat_map, find}, Prelude.{◌&&◌, ◌||◌, not}, Str.bytes_eq}
 use Rattle.std.proofs.Common.{◌≡◌, ℕ, List, [], ◌∷◌, ◌++◌, map, Bool, true, false, cond, Option, None, Some, Result, Ok, Err, refl, sym, subst, ◌<◌, is_none, ap, ◌∙◌}
-use Rattle.std.specs.Option.{option_map_or, option_map, option_and_then}
-use Rattle.std.specs.List.{flat_map, find}
-use Rattle.box6346.specs.declared.box_number.BoxNumber.{BoxNumber}
-use Rattle.box6346.specs.declared.slot.Slot.{Slot}
-use Rattle.edi_syntax.specs.Moments.{CivilMoment}
-use Rattle.edi_syntax.specs.Messages.{Message}
+use Rattle.box6346.specs.{declared.box_number.BoxNumber.BoxNumber, declared.slot.Slot.Slot}
+use Rattle.edi_syntax.specs.{Moments.CivilMoment, Messages.Message, Interchange.segments_in, Envelope.{header_of, messages_of}, Header.preparation}
 use Rattle.edi_messages.specs.Faults.{purpose_of, fault_of, replaces_list, beginning, is_original, is_replacement, is_list, document_name, order_kind_of, call_in, applies, message_faults}
 use Rattle.edi_messages.specs.Message.{LineContent, ordered, refused, line_read, line_of, MessageContent, message_of, judged_message, reading}
 use Rattle.edi_messages.specs.Orders.{EntryContent, OrderContent, gate_in, gate_out, move, list_discharge, list_load, discharge, load, then_read, read_number, read_moment, read_slot, read_entry, order_of, port}
-use Rattle.edi_messages.specs.Parts.{EquipmentGroup}
-use Rattle.edi_messages.specs.Purposes.{CallContent, Purpose, purpose_with}
-use Rattle.edi_messages.specs.declared.codes.Codes.{Codes}
-use Rattle.edi_messages.specs.declared.line.LineFault.{LineFault}
-use Rattle.edi_messages.specs.declared.message.MessageFault.{MessageFault}
-use Rattle.edi_messages.specs.declared.message.MessageFault.TheVariants.{Function, Code}
-use Rattle.terminal_core.specs.declared.change.Version.{Version}
-use Rattle.terminal_core.specs.declared.change.Version.TheVariants.{First, Second, Third}
-use Rattle.terminal_core.specs.declared.lines.Side.TheVariants.{Load, Discharge}
-use Rattle.office_admission.specs.Readings.{is_list_replaced, reading_by, unweighed_order, unweighed_line, unweighed_reading}
-use Rattle.office_admission.specs.Taking.{list_of, list_replaced, side_listed, MachineState}
-use Rattle.office_parts.specs.OwnLists.{ListName, list_name}
-use Rattle.office_parts.specs.Naming.{lists_in_order, side_named, list_if_any, list_read, AreHere, interchange_lists, lists_named_by, lists_opened}
-use Rattle.std.specs.Prelude.{◌&&◌, ◌||◌, not}
-use Rattle.std.specs.Str.{bytes_eq}
-use Rattle.edi_syntax.specs.Interchange.{segments_in}
-use Rattle.edi_syntax.specs.Envelope.{header_of, messages_of}
-use Rattle.edi_syntax.specs.Header.{preparation}
-use Rattle.edi_messages.specs.Codes.{code_text, table_texts, meanings, order_meant}
-use Rattle.edi_messages.specs.Types.{message_type_of}
-use Rattle.edi_messages.specs.declared.code.CodeTable.{CodeTable}
-use Rattle.edi_messages.specs.declared.codes.PartnerKind.{PartnerKind}
-use Rattle.edi_messages.specs.declared.codes.PartnerKind.TheVariants.{Gate, Line, Quay, Yard}
-use Rattle.edi_messages.specs.declared.message.MessageType.{MessageType}
-use Rattle.edi_messages.specs.declared.message.MessageType.TheVariants.{Codeco, Coprar, Coarri}
+use Rattle.edi_messages.specs.{Parts.EquipmentGroup, Purposes.{CallContent, Purpose, purpose_with}, declared.codes.Codes.Codes, Types.message_type_of}
+use Rattle.edi_messages.specs.{declared.line.LineFault.LineFault, declared.message.MessageFault.MessageFault, declared.code.CodeTable.CodeTable}
+use Rattle.edi_messages.specs.{declared.message.MessageFault.TheVariants.{Function, Code}, Codes.{code_text, table_texts, meanings, order_meant}}
+use Rattle.edi_messages.specs.{declared.codes.PartnerKind.PartnerKind, declared.codes.PartnerKind.TheVariants.{Gate, Line, Quay, Yard}}
+use Rattle.edi_messages.specs.{declared.message.MessageType.MessageType, declared.message.MessageType.TheVariants.{Codeco, Coprar, Coarri}}
 use Rattle.edi_messages.specs.declared.order.OrderKind.{OrderKind}
-use Rattle.partner_core.specs.Deliveries.{Delivery, run}
-use Rattle.partner_core.specs.Numbered.{with_number}
-use Rattle.partner_core.specs.Order.{state}
-use Rattle.terminal_core.specs.State.{TerminalState}
-use Rattle.terminal_core.specs.Versions.{newest}
-use Rattle.office_admission.specs.Accounts.{content_after}
-use Rattle.office_admission.specs.Deliveries.{deliveries_of}
+use Rattle.terminal_core.specs.{declared.change.Version.Version, declared.change.Version.TheVariants.{First, Second, Third}, State.TerminalState}
+use Rattle.terminal_core.specs.{declared.lines.Side.TheVariants.{Load, Discharge}, Versions.newest}
+use Rattle.office_admission.specs.{Readings.{is_list_replaced, reading_by, unweighed_order, unweighed_line, unweighed_reading}, Accounts.content_after}
+use Rattle.office_admission.specs.{Taking.{list_of, list_replaced, side_listed, MachineState}, Deliveries.deliveries_of, Setups.SetupContent}
+use Rattle.office_admission.proofs.Forming.{runs_alone}
+use Rattle.office_parts.specs.{OwnLists.{ListName, list_name}, Archives.Archive, Alike.AwayIsAlike, Away.{AreAway, HasDoneLine, lists_after}}
+use Rattle.office_parts.specs.Naming.{lists_in_order, side_named, list_if_any, list_read, AreHere, interchange_lists, lists_named_by, lists_opened}
+use Rattle.partner_core.specs.{Deliveries.{Delivery, run}, Numbered.with_number, Order.state}
 use Rattle.office_replies.specs.Events.{Event}
 use Rattle.office_rows.specs.Rows.{Rows}
-use Rattle.office_admission.specs.Setups.{SetupContent}
-use Rattle.office_admission.proofs.Forming.{runs_alone}
-use Rattle.office_history.specs.After.{machine_after, machine_with, opening_of, taking_in}
+use Rattle.office_history.{specs.After.{machine_after, machine_with, opening_of, taking_in}, proofs.Places.alone_in}
 use Rattle.office_history.proofs.Alike.{codes_after, delivered_with_codes, now_with_codes, opening_like, state_like, taking_with_codes, with_codes}
-use Rattle.office_history.proofs.Places.{alone_in}
-use Rattle.office_parts.specs.Archives.{Archive}
-use Rattle.office_parts.specs.Alike.{AwayIsAlike}
-use Rattle.office_parts.specs.Away.{AreAway, HasDoneLine, lists_after}
 use Rattle.edi_messages.specs.Purposes as purpose
 use Rattle.edi_messages.specs.declared.message.MessageFault.TheVariants as fault
 use Rattle.edi_messages.specs.declared.order.OrderKind.TheVariants as order
-
--- ==== Reading: The orders of a message are all of the list that it names.
 
 pub here_parts : (away : ListName → Bool) (xs ys : List ListName) → AreHere away (xs ++ ys) → AreHere away xs × AreHere away ys
 here_parts away [] ys here = (tt, here)

@@ -1,59 +1,28 @@
 -- Interchanges at the store's own machine, beside the visits that were put away; and a run of them.
+use Rattle.std.specs.{Prelude.◌==◌, List.AllByRecursion, Option.option_map}
 use Rattle.std.proofs.Common.{◌≡◌, ℕ, ◌+◌, ◌<◌, ◌≤◌, List, [], ◌∷◌, ◌++◌, length, true, cond, None, Some, refl, sym, ap, subst, ◌∙◌, arith, Bool, false, Option, Result, Ok, Err, ap₂}
-use Rattle.std.specs.Prelude.{◌==◌}
-use Rattle.std.specs.List.{AllByRecursion}
-use Rattle.edi_syntax.specs.Interchange.{interchange_of, segments_in}
-use Rattle.partner_core.specs.Deliveries.{run}
-use Rattle.terminal_core.specs.Rows.{VisitContent, ChangeContent}
-use Rattle.terminal_core.specs.State.{last_number, TerminalState, IsWhole}
-use Rattle.terminal_core.specs.Changes.{TerminalRows, standing_in, standing_of, rows_of}
-use Rattle.terminal_core.specs.Versions.{newest}
-use Rattle.office_admission.specs.Accounts.{content_after}
-use Rattle.office_admission.specs.Deliveries.{deliveries_of}
-use Rattle.office_admission.proofs.Adding.{given_after}
-use Rattle.office_replies.specs.Events.{Event, delivered}
-use Rattle.office_rows.specs.Effects.{with_waiting}
-use Rattle.office_rows.specs.Rows.{Rows}
-use Rattle.office_admission.specs.Given.{IsGiven}
-use Rattle.office_admission.specs.Setups.{SetupContent}
-use Rattle.office_admission.specs.Taking.{MachineState, number_ordered, before_report, clearing_of, clearing_for, ListClearing, list_replaced, line_taken_by, line_changes_by, lines_taken_by, lines_changes_by, verdict_on_by, verdict_changes_by, report_on, before_message, messages_taken_by, messages_changes_by, with_messages, codes_for, source_in, nothing_taken, taken_at_by, taken_of_by, interchange_taken_by, changes_at_by, changes_of_by, interchange_changes_by, interchange_taken}
-use Rattle.office_history.specs.After.{machine_after, taking_in, AreAfter}
-use Rattle.office_history.specs.Cascade.{text_in, TakenContent, texts_with, with_run, AreTakenFrom}
-use Rattle.office_history.specs.Laws.{IsFor, AddsRun}
-use Rattle.office_history.proofs.Afters.{state_sound}
-use Rattle.office_history.proofs.Ground.{account_adds_row}
-use Rattle.office_history.proofs.Lawful.{early_adds, next_adds}
-use Rattle.office_history.proofs.Places.{sound_in}
-use Rattle.office_parts.specs.OwnTerminal.{own_visits, IsOverOrStays, MayStay, own_terminal, own_machine}
-use Rattle.office_parts.specs.Parts.{Archived, nothing_archived, AreClosed, AreParts, ArePartsAfter}
-use Rattle.office_parts.specs.Archives.{Hold}
-use Rattle.office_parts.specs.Laws.{RowsAreParts, EarlyAddsToParts, AccountAddsToParts, InterchangesAreTakenAlike, NextAddsToParts, OwnRowsGiveOwnTerminal}
-use Rattle.office_parts.proofs.Splits.{has_contained, open_kept, changes_spared}
-use Rattle.office_parts.proofs.Orders.{body_there, found_beyond, closed_within, steps_beside}
-use Rattle.office_parts.proofs.Moving.{differ, waiting_parts, account_parts, runs_parts}
-use Rattle.std.specs.Option.{option_map}
-use Rattle.box6346.specs.declared.box_number.BoxNumber.{BoxNumber}
-use Rattle.edi_syntax.specs.Moments.{CivilMoment}
-use Rattle.edi_syntax.specs.Text.{Content}
-use Rattle.edi_syntax.specs.Envelope.{header_of, messages_of}
+use Rattle.edi_syntax.specs.{Interchange.{interchange_of, segments_in}, Moments.CivilMoment, Text.Content, Envelope.{header_of, messages_of}, Messages.Message}
 use Rattle.edi_syntax.specs.Header.{preparation}
-use Rattle.edi_syntax.specs.Messages.{Message}
-use Rattle.edi_messages.specs.Message.{LineContent, ordered, refused, MessageContent}
-use Rattle.edi_messages.specs.Purposes.{CallContent}
-use Rattle.edi_messages.specs.declared.codes.Codes.{Codes}
-use Rattle.edi_messages.specs.declared.message.MessageFault.{MessageFault}
-use Rattle.edi_messages.specs.declared.codes.PartnerKind.{PartnerKind}
-use Rattle.partner_core.specs.Numbered.{with_number}
-use Rattle.yard_core.specs.YardMap.{placement_of}
-use Rattle.terminal_core.specs.declared.lines.Side.{Side}
-use Rattle.terminal_core.specs.declared.change.Source.{Source}
-use Rattle.terminal_core.specs.declared.change.Version.{Version}
+use Rattle.partner_core.specs.{Deliveries.run, Numbered.with_number}
+use Rattle.terminal_core.specs.{Rows.{VisitContent, ChangeContent}, State.{last_number, TerminalState, IsWhole}, Versions.newest, declared.lines.Side.Side}
+use Rattle.terminal_core.specs.{Changes.{TerminalRows, standing_in, standing_of, rows_of}, declared.change.Source.Source, declared.change.Version.Version}
 use Rattle.terminal_core.specs.Step.{number_of_visit}
-use Rattle.office_admission.specs.Admission.{admission, is_for}
-use Rattle.office_replies.specs.Messages.{accepted}
-use Rattle.office_rows.specs.ByKey.{standing_by, lines_by}
-use Rattle.office_admission.specs.Readings.{reading_by}
+use Rattle.office_admission.specs.{Accounts.content_after, Deliveries.deliveries_of, Given.IsGiven, Setups.SetupContent, Admission.{admission, is_for}}
+use Rattle.office_admission.specs.Taking.{MachineState, number_ordered, before_report, clearing_of, clearing_for, ListClearing, list_replaced, line_taken_by, line_changes_by, lines_taken_by, lines_changes_by, verdict_on_by, verdict_changes_by, report_on, before_message, messages_taken_by, messages_changes_by, with_messages, codes_for, source_in, nothing_taken, taken_at_by, taken_of_by, interchange_taken_by, changes_at_by, changes_of_by, interchange_changes_by, interchange_taken}
+use Rattle.office_admission.{specs.Readings.reading_by, proofs.Adding.given_after}
 use Rattle.office_admission.proofs.Takings.{Leads, line_leads, clearing_leads, verdict_leads, interchange_leads_by}
+use Rattle.office_replies.specs.{Events.{Event, delivered}, Messages.accepted}
+use Rattle.office_rows.specs.{Effects.with_waiting, Rows.Rows, ByKey.{standing_by, lines_by}}
+use Rattle.office_history.specs.{After.{machine_after, taking_in, AreAfter}, Cascade.{text_in, TakenContent, texts_with, with_run, AreTakenFrom}}
+use Rattle.office_history.{specs.Laws.{IsFor, AddsRun}, proofs.{Afters.state_sound, Ground.account_adds_row, Lawful.{early_adds, next_adds}, Places.sound_in}}
+use Rattle.office_parts.specs.{OwnTerminal.{own_visits, IsOverOrStays, MayStay, own_terminal, own_machine}, Archives.Hold}
+use Rattle.office_parts.{specs.Parts.{Archived, nothing_archived, AreClosed, AreParts, ArePartsAfter}, proofs.Splits.{has_contained, open_kept, changes_spared}}
+use Rattle.office_parts.specs.Laws.{RowsAreParts, EarlyAddsToParts, AccountAddsToParts, InterchangesAreTakenAlike, NextAddsToParts, OwnRowsGiveOwnTerminal}
+use Rattle.office_parts.proofs.{Orders.{body_there, found_beyond, closed_within, steps_beside}, Moving.{differ, waiting_parts, account_parts, runs_parts}}
+use Rattle.box6346.specs.declared.box_number.BoxNumber.{BoxNumber}
+use Rattle.edi_messages.specs.{Message.{LineContent, ordered, refused, MessageContent}, Purposes.CallContent, declared.codes.Codes.Codes}
+use Rattle.edi_messages.specs.{declared.message.MessageFault.MessageFault, declared.codes.PartnerKind.PartnerKind}
+use Rattle.yard_core.specs.YardMap.{placement_of}
 
 -- ==== Events: The parts after one event more.
 

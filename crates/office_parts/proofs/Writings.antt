@@ -1,76 +1,39 @@
 -- What interchanges that name no list that was put away write: to the rows without them as to those with them.
+use Rattle.std.specs.{Prelude.{filter, not, Contains, count_by}, List.{flat_map, AllByRecursion}, Ordering.eq_by_cmp}
 use Rattle.std.proofs.Common.{◌≡◌, ℕ, ◌+◌, List, [], ◌∷◌, ◌++◌, map, Bool, true, false, cond, Option, None, Some, Result, Ok, Err, refl, sym, ap, subst, ◌∙◌, nat_le, arith, ◌<◌, ◌≤◌}
-use Rattle.std.specs.Prelude.{filter, not, Contains, count_by}
-use Rattle.std.specs.List.{flat_map, AllByRecursion}
-use Rattle.std.specs.Ordering.{eq_by_cmp}
 use Rattle.std.proofs.lemmas.List.Elements.{filter-append}
-use Rattle.box6346.specs.declared.box_number.BoxNumber.{BoxNumber}
-use Rattle.box6346.specs.declared.slot.Slot.{Slot}
-use Rattle.edi_syntax.specs.Moments.{CivilMoment}
-use Rattle.edi_syntax.specs.Text.{Content}
-use Rattle.edi_syntax.specs.Interchange.{segments_in, interchange_of}
-use Rattle.edi_syntax.specs.Envelope.{header_of, messages_of}
+use Rattle.box6346.specs.{declared.box_number.BoxNumber.BoxNumber, declared.slot.Slot.Slot}
+use Rattle.edi_syntax.specs.{Moments.CivilMoment, Text.Content, Interchange.{segments_in, interchange_of}, Envelope.{header_of, messages_of}, Messages.Message}
 use Rattle.edi_syntax.specs.Header.{preparation}
-use Rattle.edi_syntax.specs.Messages.{Message}
-use Rattle.edi_messages.specs.Message.{LineContent as MessageLine, ordered, refused, MessageContent}
-use Rattle.edi_messages.specs.Purposes.{CallContent}
+use Rattle.edi_messages.specs.{Message.{LineContent as MessageLine, ordered, refused, MessageContent}, Purposes.CallContent, declared.codes.Codes.Codes}
 use Rattle.edi_messages.specs.Orders.{EntryContent, OrderContent, gate_in, gate_out, move, list_discharge, list_load, discharge, load}
-use Rattle.edi_messages.specs.declared.codes.Codes.{Codes}
-use Rattle.edi_messages.specs.declared.codes.PartnerKind.{PartnerKind}
-use Rattle.edi_messages.specs.declared.message.MessageFault.{MessageFault}
-use Rattle.partner_core.specs.Numbered.{with_number}
-use Rattle.yard_core.specs.YardMap.{YardMap}
-use Rattle.yard_core.specs.Decisions.{Refusal, yard_without, yard_with_move}
-use Rattle.yard_core.specs.declared.placements.Placement.{Placement}
-use Rattle.terminal_core.specs.declared.visits.Departure.{Departure}
-use Rattle.terminal_core.specs.declared.lines.LineState.{LineState}
-use Rattle.terminal_core.specs.declared.lines.LineState.TheVariants.{Pending, Done as LineIsDone}
-use Rattle.terminal_core.specs.declared.lines.Side.{Side}
-use Rattle.terminal_core.specs.declared.lines.Side.TheVariants.{Load, Discharge}
-use Rattle.terminal_core.specs.declared.change.Outcome.{Outcome}
-use Rattle.terminal_core.specs.declared.change.Outcome.TheVariants.{Done, Gone, Listed, Refused}
-use Rattle.terminal_core.specs.declared.change.Source.{Source}
-use Rattle.terminal_core.specs.declared.change.Version.{Version}
-use Rattle.terminal_core.specs.declared.visits.Way.{Way}
-use Rattle.terminal_core.specs.declared.visits.Way.TheVariants.{Gate, Ship}
+use Rattle.edi_messages.specs.{declared.codes.PartnerKind.PartnerKind, declared.message.MessageFault.MessageFault}
+use Rattle.partner_core.specs.{Numbered.with_number, Deliveries.run}
+use Rattle.yard_core.specs.{YardMap.YardMap, Decisions.{Refusal, yard_without, yard_with_move}, declared.placements.Placement.Placement}
+use Rattle.terminal_core.specs.{declared.visits.Departure.Departure, declared.lines.LineState.LineState, declared.lines.Side.Side, declared.visits.Way.Way}
+use Rattle.terminal_core.specs.{declared.lines.LineState.TheVariants.{Pending, Done as LineIsDone}, declared.lines.Side.TheVariants.{Load, Discharge}}
+use Rattle.terminal_core.specs.{declared.change.Outcome.Outcome, declared.change.Outcome.TheVariants.{Done, Gone, Listed, Refused}, Changes.TerminalRows}
+use Rattle.terminal_core.specs.{declared.change.Source.Source, declared.change.Version.Version, declared.visits.Way.TheVariants.{Gate, Ship}}
 use Rattle.terminal_core.specs.Rows.{ChangeContent, visit_opened, visit_closed, placed_at, moved_to, removed_from, listed_on, line_done, unlisted}
-use Rattle.terminal_core.specs.State.{TerminalState, LineContent, LineKey, line_of, is_in, last_number}
-use Rattle.terminal_core.specs.Versions.{newest, spares_empty}
-use Rattle.terminal_core.specs.Changes.{TerminalRows}
+use Rattle.terminal_core.specs.{State.{TerminalState, LineContent, LineKey, line_of, is_in, last_number}, Versions.{newest, spares_empty}}
 use Rattle.terminal_core.specs.Step.{StepResult, step_by, yard_with_entry, after_entry, after_entry_at, after_departure_at, departure_by, after_move_at, after_listing_at, then_line_done_at, by_line, by_state, after_departure}
 use Rattle.terminal_core.proofs.Lined.{order, keys_total, keys_apart, same_key}
-use Rattle.office_admission.specs.Admission.{admission, is_for}
-use Rattle.office_rows.specs.Rows.{ListingContent, Rows, Interchange}
-use Rattle.office_rows.specs.Effects.{with_change, is_line}
-use Rattle.office_rows.specs.ByKey.{line_entry, lines_by, terminal_rows, AreListedOnce}
-use Rattle.office_admission.specs.Readings.{reading_by}
+use Rattle.office_admission.specs.{Admission.{admission, is_for}, Readings.reading_by, Given.IsGiven, Setups.SetupContent, Accounts.content_after}
 use Rattle.office_admission.specs.Taking.{MachineState, clearing_of, clearing_for, list_replaced, line_taken_by, line_changes_by, lines_changes_by, verdict_on_by, verdict_changes_by, messages_changes_by, codes_for, source_in, changes_at_by, changes_of_by, interchange_changes_by, interchange_taken}
-use Rattle.office_history.specs.Cascade.{TakenContent, AreTakenFrom, with_changes, with_interchange, with_interchanges, texts_with}
+use Rattle.office_admission.specs.Deliveries.{deliveries_of}
+use Rattle.office_rows.specs.{Rows.{ListingContent, Rows, Interchange}, Effects.{with_change, is_line}}
+use Rattle.office_rows.specs.ByKey.{line_entry, lines_by, terminal_rows, AreListedOnce}
+use Rattle.office_history.{specs.Cascade.{TakenContent, AreTakenFrom, with_changes, with_interchange, with_interchanges, texts_with}, proofs.Kept.count_more}
+use Rattle.office_history.specs.After.{machine_after, AreKeptOnce}
 use Rattle.office_parts.specs.OwnLists.{ListName, list_name, list_of, own_lines, is_own_line, rows_without_lists, machine_without, without_lists}
 use Rattle.office_parts.specs.Naming.{lists_in_order, list_read, list_if_any, lists_in_messages, lists_opened, lists_named_by, interchange_lists, AreHere}
-use Rattle.office_parts.specs.ListLaws.{RowsWithoutListsGiveTerminal, RunsAreWrittenWithout, NameOwnLists}
-use Rattle.office_parts.proofs.BringingLemmas.{own_get, sound}
-use Rattle.office_parts.proofs.Reading.{here_parts, lists_in_line, lists_ordered, ordered_here}
-use Rattle.office_parts.proofs.ListTakings.{named_same, runs}
-use Rattle.office_history.specs.After.{machine_after, AreKeptOnce}
-use Rattle.office_parts.specs.OwnTerminal.{own_machine, own_terminal}
-use Rattle.office_parts.proofs.Takings.{next_adds_to_parts}
-use Rattle.office_parts.specs.ListParts.{NextAddsWithoutLists, OwnRowsWithoutListsAreOwnOffice}
+use Rattle.office_parts.specs.{ListLaws.{RowsWithoutListsGiveTerminal, RunsAreWrittenWithout, NameOwnLists}, OwnTerminal.{own_machine, own_terminal}}
+use Rattle.office_parts.specs.{ListParts.{NextAddsWithoutLists, OwnRowsWithoutListsAreOwnOffice}, LeftOver.rows_beyond, Parts.{Archived, ArePartsAfter}}
+use Rattle.office_parts.proofs.{BringingLemmas.{own_get, sound}, Reading.{here_parts, lists_in_line, lists_ordered, ordered_here}, Takings.next_adds_to_parts}
+use Rattle.office_parts.proofs.{ListTakings.{named_same, runs}, OwnOffices.{AreOfOwn, own_shown}, OwnOpening.are_own}
 use Rattle.office_replies.specs.Events.{Event}
-use Rattle.office_admission.specs.Given.{IsGiven}
-use Rattle.office_admission.specs.Setups.{SetupContent}
-use Rattle.office_admission.specs.Accounts.{content_after}
-use Rattle.office_admission.specs.Deliveries.{deliveries_of}
 use Rattle.office_loading.specs.Closed.{ClosedContent}
-use Rattle.partner_core.specs.Deliveries.{run}
-use Rattle.office_parts.specs.LeftOver.{rows_beyond}
-use Rattle.office_parts.specs.Parts.{Archived, ArePartsAfter}
-use Rattle.office_parts.proofs.OwnOffices.{AreOfOwn, own_shown}
-use Rattle.office_parts.proofs.OwnOpening.{are_own}
-use Rattle.office_history.proofs.Kept.{count_more}
 use Rattle.std.specs.FinMap as finite_map
-
--- ==== Writings: What interchanges that name no list that was put away write: to the rows without them as to those with them.
 
 -- ---- the rows give the terminal
 

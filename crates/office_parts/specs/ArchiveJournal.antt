@@ -2,8 +2,7 @@
 -- begins with the texts that the one before it has beyond what it closes, those that waited then, so these are left out.
 use Rattle.std.specs.Prelude.{ℕ, List, [], ◌∷◌, ◌++◌, map, filter, drop, length}
 use Rattle.office_rows.specs.Rows.{Interchange}
-use Rattle.office_parts.specs.Archives.{Archive}
-use Rattle.office_parts.specs.Closing.{is_beyond}
+use Rattle.office_parts.specs.{Archives.Archive, Closing.is_beyond}
 
 abbrev pub body_of : Interchange → List ℕ
 body_of i = i.body

@@ -2,20 +2,11 @@
 use Rattle.std.specs.Prelude.{◌≡◌, ℕ, ◌≤◌, List, [], ◌∷◌, ◌++◌, filter, true, false, Err}
 use Rattle.edi_syntax.specs.Interchange.{interchange_of}
 use Rattle.partner_core.specs.Deliveries.{is_used, run}
-use Rattle.office_admission.specs.Admission.{admission}
-use Rattle.office_admission.specs.Accounts.{content_after}
-use Rattle.office_admission.specs.Deliveries.{deliveries_of}
-use Rattle.office_history.specs.Cascade.{TakenContent, with_run}
-use Rattle.office_history.specs.Laws.{IsFor}
-use Rattle.office_replies.specs.Events.{Event, delivered, added}
-use Rattle.office_replies.specs.declared.deliver.Fault.{Fault}
-use Rattle.office_rows.specs.Effects.{with_waiting}
-use Rattle.office_rows.specs.Rows.{Interchange, Rows}
-use Rattle.office_admission.specs.Setups.{SetupContent, parties_in}
-use Rattle.office_parts.specs.Journal.{kept_texts}
-use Rattle.office_parts.specs.Archives.{Archive}
-use Rattle.office_parts.specs.Closing.{is_beyond}
-use Rattle.office_parts.specs.Copies.{HasInOrder, AreCopiesInOrder, closed_after}
+use Rattle.office_admission.specs.{Admission.admission, Accounts.content_after, Deliveries.deliveries_of, Setups.{SetupContent, parties_in}}
+use Rattle.office_history.specs.{Cascade.{TakenContent, with_run}, Laws.IsFor}
+use Rattle.office_replies.specs.{Events.{Event, delivered, added}, declared.deliver.Fault.Fault}
+use Rattle.office_rows.specs.{Effects.with_waiting, Rows.{Interchange, Rows}}
+use Rattle.office_parts.specs.{Journal.kept_texts, Archives.Archive, Closing.is_beyond, Copies.{HasInOrder, AreCopiesInOrder, closed_after}}
 use Rattle.office_parts.specs.ArchiveJournal.{journal_of}
 
 -- The journal over the files is the journal of the events, byte for byte, as if nothing had been put away.

@@ -1,10 +1,8 @@
 -- The archives of a store, one by one: which of them is asked for a number, and what a copy has to hold before rows go.
-use Rattle.std.specs.Prelude.{◌≡◌, ℕ, ◌<◌, ◌≤◌, false, Bool, nat_le, List, Contains, find, Option, None}
-use Rattle.std.specs.Option.{option_and_then}
+use Rattle.std.specs.{Prelude.{◌≡◌, ℕ, ◌<◌, ◌≤◌, false, Bool, nat_le, List, Contains, find, Option, None}, Option.option_and_then}
 use Rattle.terminal_core.specs.Rows.{VisitContent}
 use Rattle.office_rows.specs.Rows.{ListingContent, Rows}
-use Rattle.office_history.specs.Cascade.{text_in}
-use Rattle.office_history.specs.After.{reply_in}
+use Rattle.office_history.specs.{Cascade.text_in, After.reply_in}
 use Rattle.office_parts.specs.Parts.{Archived, rows_of_archives}
 
 -- an archive: a copy of a store's rows, the last number of each partner that was closed by it, and of each list that was put

@@ -1,25 +1,14 @@
 -- The lists that were put away, the archives with which they were, and what is known of both after some events.
-use Rattle.std.specs.Prelude.{◌≡◌, ℕ, ◌<◌, Bool, true, List, [], ◌∷◌, IsPermutation, Option, None, Some}
-use Rattle.std.specs.List.{AllByRecursion}
-use Rattle.std.specs.Option.{option_or}
+use Rattle.std.specs.{Prelude.{◌≡◌, ℕ, ◌<◌, Bool, true, List, [], ◌∷◌, IsPermutation, Option, None, Some}, List.AllByRecursion, Option.option_or}
 use Rattle.box6346.specs.declared.box_number.BoxNumber.{BoxNumber}
 use Rattle.edi_messages.specs.Purposes.{CallContent}
 use Rattle.partner_core.specs.Deliveries.{run}
-use Rattle.terminal_core.specs.declared.lines.LineState.TheVariants.{Done}
-use Rattle.terminal_core.specs.declared.lines.Side.{Side}
-use Rattle.terminal_core.specs.State.{Lines, line_key}
-use Rattle.terminal_core.specs.Versions.{newest}
-use Rattle.office_admission.specs.Deliveries.{deliveries_of}
-use Rattle.office_history.specs.After.{machine_after}
-use Rattle.office_history.specs.Cascade.{text_in}
-use Rattle.office_parts.specs.Archives.{Archive}
+use Rattle.terminal_core.specs.{declared.lines.LineState.TheVariants.Done, declared.lines.Side.Side, State.{Lines, line_key}, Versions.newest}
+use Rattle.office_admission.specs.{Deliveries.deliveries_of, Setups.SetupContent}
+use Rattle.office_history.specs.{After.machine_after, Cascade.text_in}
+use Rattle.office_parts.specs.{Archives.Archive, Bringing.lines_of, Done.IsDoneLine, Naming.{AreHere, interchange_lists}, OwnLists.{ListName, list_name}}
 use Rattle.office_replies.specs.Events.{Event}
 use Rattle.office_rows.specs.Rows.{ListingContent, Rows}
-use Rattle.office_admission.specs.Setups.{SetupContent}
-use Rattle.office_parts.specs.Bringing.{lines_of}
-use Rattle.office_parts.specs.Done.{IsDoneLine}
-use Rattle.office_parts.specs.Naming.{AreHere, interchange_lists}
-use Rattle.office_parts.specs.OwnLists.{ListName, list_name}
 
 -- the lines of a list as they were put away last, if they ever were
 abbrev pub lines_away : List Archive → ListName → Option (List ListingContent)

@@ -1,14 +1,10 @@
 -- A list is brought back: its lines stand in the store again, after those that stand there.
-use Rattle.std.specs.Prelude.{◌≡◌, Bool, true, not, ◌&&◌, ◌||◌, List, filter, IsPermutation}
-use Rattle.std.specs.Ordering.{nat_cmp, eq_by_cmp}
-use Rattle.std.specs.Cmp.Lexicographic.{slice_cmp}
+use Rattle.std.specs.{Prelude.{◌≡◌, Bool, true, not, ◌&&◌, ◌||◌, List, filter, IsPermutation}, Ordering.{nat_cmp, eq_by_cmp}, Cmp.Lexicographic.slice_cmp}
 use Rattle.office_history.specs.After.{AreAfter}
-use Rattle.office_parts.specs.Parts.{Archived, ArePartsAfter}
+use Rattle.office_parts.specs.{Parts.{Archived, ArePartsAfter}, OwnLists.{ListName, list_name, rows_without_lists}}
 use Rattle.office_replies.specs.Events.{Event}
-use Rattle.office_rows.specs.Opening.{with_lines}
-use Rattle.office_rows.specs.Rows.{ListingContent, Rows}
+use Rattle.office_rows.specs.{Opening.with_lines, Rows.{ListingContent, Rows}}
 use Rattle.office_admission.specs.Setups.{SetupContent}
-use Rattle.office_parts.specs.OwnLists.{ListName, list_name, rows_without_lists}
 
 abbrev pub is_list : ListName → ListName → Bool
 is_list list other = eq_by_cmp (slice_cmp (slice_cmp nat_cmp)) list other

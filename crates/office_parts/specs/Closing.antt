@@ -2,12 +2,10 @@
 use Rattle.std.specs.Prelude.{ℕ, ◌≤◌, Bool, nat_le, not, ◌&&◌, ◌++◌, List, filter}
 use Rattle.partner_core.specs.Deliveries.{run}
 use Rattle.terminal_core.specs.Rows.{VisitContent}
-use Rattle.office_admission.specs.Deliveries.{deliveries_of}
+use Rattle.office_admission.specs.{Deliveries.deliveries_of, Setups.SetupContent}
 use Rattle.office_replies.specs.Events.{Event}
 use Rattle.office_rows.specs.Rows.{Interchange, Rows}
-use Rattle.office_admission.specs.Setups.{SetupContent}
-use Rattle.office_parts.specs.OwnTerminal.{own_visits, MayStay}
-use Rattle.office_parts.specs.Parts.{Archived}
+use Rattle.office_parts.specs.{OwnTerminal.{own_visits, MayStay}, Parts.Archived}
 
 -- its number is at most its partner's last one that is closed
 abbrev pub is_closed : (last_closed : ℕ → ℕ) → Interchange → Bool

@@ -1,14 +1,10 @@
 -- Files that have what they keep in the order of arrival: the store, and its archives as copies of it of earlier days.
 use Rattle.std.specs.Prelude.{◌≡◌, ℕ, ◌≤◌, List, [], ◌∷◌, ◌++◌, map, filter, nat_le, not, Bool}
 use Rattle.partner_core.specs.Deliveries.{Delivery, run}
-use Rattle.office_admission.specs.Deliveries.{deliveries_of}
+use Rattle.office_admission.specs.{Deliveries.deliveries_of, Setups.SetupContent}
 use Rattle.office_replies.specs.Events.{Event}
 use Rattle.office_rows.specs.Rows.{Interchange}
-use Rattle.office_admission.specs.Setups.{SetupContent}
-use Rattle.office_parts.specs.InOrder.{as_delivery}
-use Rattle.office_parts.specs.Kept.{kept}
-use Rattle.office_parts.specs.Archives.{Archive}
-use Rattle.office_parts.specs.Closing.{is_beyond}
+use Rattle.office_parts.specs.{InOrder.as_delivery, Kept.kept, Archives.Archive, Closing.is_beyond}
 
 -- the delivery's number is above its partner's last one that is closed
 abbrev pub is_above : (last_closed : ℕ → ℕ) → Delivery → Bool

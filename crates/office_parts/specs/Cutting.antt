@@ -1,9 +1,6 @@
 -- The journal as a stream: the lines of its texts are cut into just these texts.
 use Rattle.std.specs.Prelude.{◌≡◌, ℕ, List, [], All, take, drop, None}
-use Rattle.edi_syntax.specs.Interchange.{interchange_of}
-use Rattle.edi_syntax.specs.Faults.{fault_of}
-use Rattle.edi_syntax.specs.Cuts.{IsInterchange}
-use Rattle.edi_syntax.specs.Streams.{AreCuts}
+use Rattle.edi_syntax.specs.{Interchange.interchange_of, Faults.fault_of, Cuts.IsInterchange, Streams.AreCuts}
 use Rattle.office_replies.specs.Events.{Event}
 use Rattle.office_admission.specs.Setups.{SetupContent}
 use Rattle.office_parts.specs.Journal.{kept_texts}

@@ -1,11 +1,9 @@
 -- A line that is done stays done.
 use Rattle.std.specs.Prelude.{◌≡◌, ℕ, List, Option, Some}
-use Rattle.std.specs.FinMap as finite_map
-use Rattle.terminal_core.specs.declared.change.Version.{Version}
-use Rattle.terminal_core.specs.declared.lines.LineState.TheVariants.{Done}
-use Rattle.terminal_core.specs.State.{LineContent, LineKey, Lines}
+use Rattle.terminal_core.specs.{declared.change.Version.Version, declared.lines.LineState.TheVariants.Done, State.{LineContent, LineKey, Lines}}
 use Rattle.office_history.specs.Cascade.{TakenContent, AreTakenFrom}
 use Rattle.office_admission.specs.Taking.{MachineState, interchange_taken_by}
+use Rattle.std.specs.FinMap as finite_map
 
 -- the line with this key stands, and is done
 pub record IsDoneLine (lines : Lines) (key : LineKey) : Type 0 where

@@ -4,30 +4,15 @@ use Rattle.edi_messages.specs.declared.codes.PartnerKind.{PartnerKind}
 use Rattle.edi_syntax.specs.Interchange.{interchange_of}
 use Rattle.partner_core.specs.Deliveries.{Delivery, delivery, run}
 use Rattle.terminal_core.specs.declared.change.Version.{Version}
-use Rattle.office_replies.specs.Events.{Event, delivered, migrated, added}
-use Rattle.office_replies.specs.declared.deliver.Fault.{Fault}
-use Rattle.office_admission.specs.Given.{IsGiven}
-use Rattle.office_admission.specs.Kinds.{kind_named}
-use Rattle.office_admission.specs.Setups.{SetupContent, parties_in}
-use Rattle.office_admission.specs.Accounts.{content_after, account_answer, added_as}
-use Rattle.office_admission.specs.Admission.{admission}
-use Rattle.office_admission.specs.Deliveries.{deliveries_of}
-use Rattle.office_admission.specs.Taking.{MachineState}
-use Rattle.sqlite.specs.declared.types.Value.TheVariants.{Blob}
-use Rattle.sqlite.specs.Order.{Row, column}
-use Rattle.office_rows.specs.Tables.{interchange_table}
-use Rattle.office_rows.specs.Values.{interchange_values}
-use Rattle.office_rows.specs.Rows.{Interchange, Rows}
-use Rattle.office_rows.specs.Effects.{with_waiting, with_partner}
-use Rattle.office_rows.specs.Opening.{opening_rows}
-use Rattle.office_rows.specs.Migrated.{migrated_rows}
-use Rattle.office_history.specs.Cascade.{text_in, TakenContent, texts_with, with_run, AreTakenFrom}
-use Rattle.office_history.specs.After.{machine_after, AreAfterBy, AreAfter}
+use Rattle.office_replies.specs.{Events.{Event, delivered, migrated, added}, declared.deliver.Fault.Fault}
+use Rattle.office_admission.specs.{Given.IsGiven, Kinds.kind_named, Setups.{SetupContent, parties_in}, Accounts.{content_after, account_answer, added_as}}
+use Rattle.office_admission.specs.{Admission.admission, Deliveries.deliveries_of, Taking.MachineState}
+use Rattle.sqlite.specs.{declared.types.Value.TheVariants.Blob, Order.{Row, column}}
+use Rattle.office_rows.specs.{Tables.interchange_table, Values.interchange_values, Rows.{Interchange, Rows}, Effects.{with_waiting, with_partner}}
+use Rattle.office_rows.specs.{Opening.opening_rows, Migrated.migrated_rows, Places.ArePlaced, InPlace.AreInPlace}
+use Rattle.office_history.specs.{Cascade.{text_in, TakenContent, texts_with, with_run, AreTakenFrom}, After.{machine_after, AreAfterBy, AreAfter}}
 use Rattle.office_history.specs.Laws.{IsFor, HasNoMigration}
-use Rattle.office_rows.specs.Places.{ArePlaced}
-use Rattle.office_rows.specs.InPlace.{AreInPlace}
-use Rattle.office_parts.specs.Kept.{kept}
-use Rattle.office_parts.specs.Journal.{kept_texts}
+use Rattle.office_parts.specs.{Kept.kept, Journal.kept_texts}
 
 -- an interchange of the rows, as the delivery of its text
 abbrev pub as_delivery : Interchange → Delivery

@@ -3,12 +3,8 @@ use Rattle.std.specs.Prelude.{◌≡◌, ℕ, List, [], ◌∷◌, ◌++◌, All
 use Rattle.edi_syntax.specs.Interchange.{interchange_of}
 use Rattle.partner_core.specs.Deliveries.{Delivery, is_used}
 use Rattle.terminal_core.specs.declared.change.Version.{Version}
-use Rattle.office_replies.specs.Events.{Event, delivered, migrated, added}
-use Rattle.office_replies.specs.declared.deliver.Fault.{Fault}
-use Rattle.office_admission.specs.Setups.{SetupContent, parties_in}
-use Rattle.office_admission.specs.Accounts.{content_after}
-use Rattle.office_admission.specs.Admission.{admission}
-use Rattle.office_admission.specs.Deliveries.{deliveries_of}
+use Rattle.office_replies.specs.{Events.{Event, delivered, migrated, added}, declared.deliver.Fault.Fault}
+use Rattle.office_admission.specs.{Setups.{SetupContent, parties_in}, Accounts.content_after, Admission.admission, Deliveries.deliveries_of}
 use Rattle.office_parts.specs.Kept.{kept, IsFirst}
 
 abbrev pub text_of : Delivery → List ℕ

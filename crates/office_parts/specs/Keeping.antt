@@ -1,16 +1,12 @@
 -- The lines of the lists that are away are done.
 use Rattle.std.specs.Prelude.{◌≡◌, Bool, true, List, Some}
-use Rattle.std.specs.FinMap as finite_map
-use Rattle.terminal_core.specs.declared.lines.LineState.TheVariants.{Done}
-use Rattle.terminal_core.specs.State.{LineContent, LineKey, Lines}
+use Rattle.terminal_core.specs.{declared.lines.LineState.TheVariants.Done, State.{LineContent, LineKey, Lines}}
 use Rattle.office_history.specs.After.{machine_after}
-use Rattle.office_parts.specs.Archives.{Archive}
-use Rattle.office_parts.specs.Parts.{Archived, ArePartsAfter}
+use Rattle.office_parts.specs.{Archives.Archive, Parts.{Archived, ArePartsAfter}, Away.AreAway, OwnLists.{ListName, list_of}}
 use Rattle.office_replies.specs.Events.{Event}
 use Rattle.office_rows.specs.Rows.{Rows}
 use Rattle.office_admission.specs.Setups.{SetupContent}
-use Rattle.office_parts.specs.Away.{AreAway}
-use Rattle.office_parts.specs.OwnLists.{ListName, list_of}
+use Rattle.std.specs.FinMap as finite_map
 
 -- of these lines, each of a list that is away is done
 abbrev pub AreDoneIfAway : (away : ListName → Bool) → Lines → Type 0

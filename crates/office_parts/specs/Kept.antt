@@ -1,9 +1,6 @@
 -- What an office keeps of what is delivered: the first delivery under each number, in the order of arrival.
 use Rattle.std.specs.Prelude.{◌≡◌, ℕ, List, [], ◌∷◌, ◌++◌, All, Some, if◌then◌else◌}
-use Rattle.partner_core.specs.Machine.{Taking}
-use Rattle.partner_core.specs.Deliveries.{Delivery, first_text, is_used}
-use Rattle.partner_core.specs.Answers.{answer_of}
-use Rattle.partner_core.specs.Growth.{ComesToSame}
+use Rattle.partner_core.specs.{Machine.Taking, Deliveries.{Delivery, first_text, is_used}, Answers.answer_of, Growth.ComesToSame}
 
 -- of deliveries that come after others, those under a number that was free when they came
 abbrev pub kept_after : List Delivery → List Delivery → List Delivery

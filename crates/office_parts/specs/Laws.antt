@@ -1,43 +1,23 @@
 -- The laws of a store and its archives.
-use Rattle.std.specs.Prelude.{◌≡◌, ℕ, ◌+◌, ◌<◌, ◌≤◌, Bool, true, List, [], ◌∷◌, ◌++◌, length, Contains, Option, None, Some}
-use Rattle.std.specs.List.{AllByRecursion}
+use Rattle.std.specs.{Prelude.{◌≡◌, ℕ, ◌+◌, ◌<◌, ◌≤◌, Bool, true, List, [], ◌∷◌, ◌++◌, length, Contains, Option, None, Some}, List.AllByRecursion}
 use Rattle.sqlite.specs.Effect.{Database}
-use Rattle.edi_messages.specs.Orders.{OrderContent}
-use Rattle.edi_messages.specs.declared.codes.PartnerKind.{PartnerKind}
+use Rattle.edi_messages.specs.{Orders.OrderContent, declared.codes.PartnerKind.PartnerKind}
 use Rattle.edi_syntax.specs.Interchange.{interchange_of}
-use Rattle.partner_core.specs.Deliveries.{first_text, run}
-use Rattle.partner_core.specs.Answers.{Repeat, Clash}
-use Rattle.partner_core.specs.Order.{reply_of}
-use Rattle.terminal_core.specs.declared.change.Source.{Source}
-use Rattle.terminal_core.specs.declared.change.Version.{Version}
-use Rattle.terminal_core.specs.Changes.{TerminalRows, rows_of, rows_with_all, AreApplicable}
-use Rattle.terminal_core.specs.Forms.{IsWellFormed}
-use Rattle.terminal_core.specs.Rows.{VisitContent, ChangeContent}
-use Rattle.terminal_core.specs.State.{TerminalState, IsWhole, last_number}
-use Rattle.terminal_core.specs.Step.{step_by}
+use Rattle.partner_core.specs.{Deliveries.{first_text, run}, Answers.{Repeat, Clash}, Order.reply_of}
+use Rattle.terminal_core.specs.{declared.change.Source.Source, declared.change.Version.Version, Changes.{TerminalRows, rows_of, rows_with_all, AreApplicable}}
+use Rattle.terminal_core.specs.{Forms.IsWellFormed, Rows.{VisitContent, ChangeContent}, State.{TerminalState, IsWhole, last_number}, Step.step_by}
 use Rattle.terminal_core.specs.Versions.{newest}
-use Rattle.office_admission.specs.Accounts.{content_after, account_answer, added_as}
-use Rattle.office_admission.specs.Deliveries.{deliveries_of}
+use Rattle.office_admission.specs.{Accounts.{content_after, account_answer, added_as}, Deliveries.deliveries_of, Given.IsGiven, Kinds.kind_named}
+use Rattle.office_admission.specs.{Setups.SetupContent, Taking.{MachineState, interchange_taken_by, interchange_changes_by}}
 use Rattle.office_replies.specs.Events.{Event, delivered, added}
-use Rattle.office_rows.specs.ByKey.{terminal_rows}
-use Rattle.office_rows.specs.Effects.{with_waiting, with_partner}
-use Rattle.office_rows.specs.Opened.{NumberKept, ShowsNumbers, OpenedRows, Shows}
+use Rattle.office_rows.specs.{ByKey.terminal_rows, Effects.{with_waiting, with_partner}, Opened.{NumberKept, ShowsNumbers, OpenedRows, Shows}, Stored.HasRows}
 use Rattle.office_rows.specs.Rows.{Interchange, ListingContent, Rows}
-use Rattle.office_rows.specs.Stored.{HasRows}
-use Rattle.office_admission.specs.Given.{IsGiven}
-use Rattle.office_admission.specs.Kinds.{kind_named}
-use Rattle.office_admission.specs.Setups.{SetupContent}
-use Rattle.office_admission.specs.Taking.{MachineState, interchange_taken_by, interchange_changes_by}
-use Rattle.office_history.specs.After.{opening_of, taking_in, machine_after, reply_in, AreAfter, AreKeptOnce}
+use Rattle.office_history.specs.{After.{opening_of, taking_in, machine_after, reply_in, AreAfter, AreKeptOnce}, Laws.{IsFor, answer_model_of, AddsRun}}
 use Rattle.office_history.specs.Cascade.{text_in, TakenContent, texts_with, with_run, AreTakenFrom}
-use Rattle.office_history.specs.Laws.{IsFor, answer_model_of, AddsRun}
-use Rattle.office_parts.specs.OwnTerminal.{own_terminal, own_step, own_machine, MayStay, IsOfOwn}
-use Rattle.office_parts.specs.Parts.{Archived, nothing_archived, rows_of_archives, ArePartsAfter}
-use Rattle.office_parts.specs.Closing.{carried, archived_with, whole_with, MayClose}
-use Rattle.office_parts.specs.Archives.{Archive, text_by, reply_by, Hold, HoldsWhatGoes}
-use Rattle.office_loading.specs.Checks.{numbers_beyond, AreKeptBeyond, AreOwnVisits}
-use Rattle.office_loading.specs.OwnOffice.{IsOwnOffice}
+use Rattle.office_parts.specs.{OwnTerminal.{own_terminal, own_step, own_machine, MayStay, IsOfOwn}, Closing.{carried, archived_with, whole_with, MayClose}}
+use Rattle.office_parts.specs.{Parts.{Archived, nothing_archived, rows_of_archives, ArePartsAfter}, Archives.{Archive, text_by, reply_by, Hold, HoldsWhatGoes}}
 use Rattle.office_parts.specs.LeftOver.{rows_beyond}
+use Rattle.office_loading.specs.{Checks.{numbers_beyond, AreKeptBeyond, AreOwnVisits}, OwnOffice.IsOwnOffice}
 
 -- ---- the terminal
 

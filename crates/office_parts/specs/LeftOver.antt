@@ -1,10 +1,8 @@
 -- Interchanges that are closed and still stand in a store: they are no part of it. So numbers may be closed in one place
 -- before their rows are deleted in another, and whatever stops in between does no harm.
 use Rattle.std.specs.Prelude.{◌≡◌, ℕ, ◌<◌, ◌≤◌, not, true, Bool, List, filter}
-use Rattle.office_rows.specs.Effects.{with_waiting}
-use Rattle.office_rows.specs.Rows.{Interchange, Rows}
-use Rattle.office_history.specs.After.{reply_in}
-use Rattle.office_history.specs.Cascade.{text_in, TakenContent, with_run}
+use Rattle.office_rows.specs.{Effects.with_waiting, Rows.{Interchange, Rows}}
+use Rattle.office_history.specs.{After.reply_in, Cascade.{text_in, TakenContent, with_run}}
 use Rattle.office_parts.specs.Closing.{is_closed, is_beyond, carried}
 
 -- the rows without the interchanges that are closed

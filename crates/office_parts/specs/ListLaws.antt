@@ -1,15 +1,9 @@
 -- What holds beside lists that were put away, for interchanges that name none of them.
 use Rattle.std.specs.Prelude.{◌≡◌, ℕ, ◌≤◌, Bool, List, Option, Some}
-use Rattle.terminal_core.specs.State.{TerminalState, IsWhole}
-use Rattle.terminal_core.specs.Forms.{IsWellFormed}
-use Rattle.terminal_core.specs.Changes.{rows_of}
-use Rattle.terminal_core.specs.Versions.{newest}
-use Rattle.terminal_core.specs.Step.{step_by}
-use Rattle.terminal_core.specs.declared.change.Source.{Source}
-use Rattle.terminal_core.specs.declared.change.Version.{Version}
+use Rattle.terminal_core.specs.{State.{TerminalState, IsWhole}, Forms.IsWellFormed, Changes.rows_of, Versions.newest, Step.step_by}
+use Rattle.terminal_core.specs.{declared.change.Source.Source, declared.change.Version.Version}
 use Rattle.edi_messages.specs.Orders.{OrderContent}
-use Rattle.office_rows.specs.Rows.{Rows}
-use Rattle.office_rows.specs.ByKey.{terminal_rows}
+use Rattle.office_rows.specs.{Rows.Rows, ByKey.terminal_rows}
 use Rattle.office_admission.specs.Taking.{MachineState, interchange_taken_by, interchange_changes_by}
 use Rattle.office_history.specs.Cascade.{TakenContent, AreTakenFrom, with_run}
 use Rattle.office_parts.specs.OwnLists.{ListName, without_lists, step_without, machine_without, rows_without_lists}

@@ -3,24 +3,13 @@ use Rattle.std.specs.Prelude.{◌≡◌, ℕ, ◌+◌, ◌<◌, Bool, true, List
 use Rattle.sqlite.specs.Effect.{Database}
 use Rattle.edi_syntax.specs.Interchange.{interchange_of}
 use Rattle.partner_core.specs.Deliveries.{run}
-use Rattle.office_admission.specs.Accounts.{content_after}
-use Rattle.office_admission.specs.Deliveries.{deliveries_of}
+use Rattle.office_admission.specs.{Accounts.content_after, Deliveries.deliveries_of, Given.IsGiven, Setups.SetupContent, Taking.MachineState}
 use Rattle.office_replies.specs.Events.{Event, delivered}
-use Rattle.office_rows.specs.Opened.{OpenedRows, Shows}
-use Rattle.office_rows.specs.Rows.{Interchange, Rows}
-use Rattle.office_rows.specs.Stored.{HasRows}
-use Rattle.office_admission.specs.Given.{IsGiven}
-use Rattle.office_admission.specs.Setups.{SetupContent}
-use Rattle.office_admission.specs.Taking.{MachineState}
+use Rattle.office_rows.specs.{Opened.{OpenedRows, Shows}, Rows.{Interchange, Rows}, Stored.HasRows}
 use Rattle.office_loading.specs.OwnOffice.{IsOwnOffice}
-use Rattle.office_history.specs.After.{machine_after, AreKeptOnce}
-use Rattle.office_history.specs.Cascade.{text_in, TakenContent, texts_with, with_run, AreTakenFrom}
-use Rattle.office_history.specs.Laws.{IsFor, AddsRun}
-use Rattle.office_parts.specs.LeftOver.{rows_beyond}
-use Rattle.office_parts.specs.OwnTerminal.{own_terminal, own_machine}
-use Rattle.office_parts.specs.Parts.{Archived, ArePartsAfter}
+use Rattle.office_history.specs.{After.{machine_after, AreKeptOnce}, Cascade.{text_in, TakenContent, texts_with, with_run, AreTakenFrom}, Laws.{IsFor, AddsRun}}
+use Rattle.office_parts.specs.{LeftOver.rows_beyond, OwnTerminal.{own_terminal, own_machine}, Parts.{Archived, ArePartsAfter}, ListLaws.NameOwnLists}
 use Rattle.office_parts.specs.OwnLists.{ListName, without_lists, machine_without, rows_without_lists}
-use Rattle.office_parts.specs.ListLaws.{NameOwnLists}
 
 -- It is taken with the lists that were put away as without them. What was taken is written to the rows without them;
 -- with them these are parts of the whole after the delivery, and beside them stands the store's own machine without them.

@@ -1,8 +1,7 @@
 -- Named lists as the code has them.
 use Rattle.std.specs.Prelude.{List, [], ◌∷◌, Option, None, Some}
 use Rattle.edi_messages.specs.Owned.{call_content}
-use Rattle.office_parts.specs.OwnLists.{ListName, list_name}
-use Rattle.office_parts.specs.declared.naming.NamedList.{NamedList}
+use Rattle.office_parts.specs.{OwnLists.{ListName, list_name}, declared.naming.NamedList.NamedList}
 
 abbrev pub named_list_content : NamedList → ListName
 named_list_content list = list_name (call_content list.call) list.side

@@ -1,28 +1,15 @@
 -- The lists that an interchange names: those that it adds lines to, loads or discharges by, or replaces.
-use Rattle.std.specs.Prelude.{◌≡◌, ℕ, Bool, false, List, [], ◌∷◌, Option, None, Some, Result, Ok, Err}
-use Rattle.std.specs.List.{flat_map, AllByRecursion}
-use Rattle.edi_syntax.specs.Moments.{CivilMoment}
-use Rattle.edi_syntax.specs.Interchange.{segments_in}
-use Rattle.edi_syntax.specs.Envelope.{header_of, messages_of}
-use Rattle.edi_syntax.specs.Header.{preparation}
-use Rattle.edi_syntax.specs.Messages.{Message}
-use Rattle.edi_messages.specs.Message.{MessageContent}
-use Rattle.edi_messages.specs.Purposes.{CallContent}
-use Rattle.edi_messages.specs.Orders.{OrderContent, gate_in, gate_out, move, list_discharge, list_load, discharge, load}
-use Rattle.edi_messages.specs.declared.code.CodeTable.{CodeTable}
-use Rattle.edi_messages.specs.declared.codes.Codes.{Codes}
-use Rattle.edi_messages.specs.declared.codes.PartnerKind.{PartnerKind}
-use Rattle.edi_messages.specs.declared.message.MessageFault.{MessageFault}
-use Rattle.edi_messages.specs.declared.order.OrderKind.{OrderKind}
+use Rattle.std.specs.{Prelude.{◌≡◌, ℕ, Bool, false, List, [], ◌∷◌, Option, None, Some, Result, Ok, Err}, List.{flat_map, AllByRecursion}}
+use Rattle.edi_syntax.specs.{Moments.CivilMoment, Interchange.segments_in, Envelope.{header_of, messages_of}, Header.preparation, Messages.Message}
+use Rattle.edi_messages.specs.{Message.MessageContent, Purposes.CallContent, declared.code.CodeTable.CodeTable, declared.codes.Codes.Codes}
+use Rattle.edi_messages.specs.{Orders.{OrderContent, gate_in, gate_out, move, list_discharge, list_load, discharge, load}, declared.order.OrderKind.OrderKind}
+use Rattle.edi_messages.specs.{declared.codes.PartnerKind.PartnerKind, declared.message.MessageFault.MessageFault}
 use Rattle.edi_messages.specs.declared.order.OrderKind.TheVariants.{ListDischarge, ListLoad}
-use Rattle.edi_messages.specs.declared.order.OrderKind.TheVariants as kind
 use Rattle.partner_core.specs.Numbered.{with_number}
-use Rattle.terminal_core.specs.declared.change.Version.{Version}
-use Rattle.terminal_core.specs.declared.lines.Side.{Side}
-use Rattle.terminal_core.specs.declared.lines.Side.TheVariants.{Load, Discharge}
-use Rattle.office_admission.specs.Readings.{reading_by}
-use Rattle.office_admission.specs.Taking.{list_of}
+use Rattle.terminal_core.specs.{declared.change.Version.Version, declared.lines.Side.Side, declared.lines.Side.TheVariants.{Load, Discharge}}
+use Rattle.office_admission.specs.{Readings.reading_by, Taking.list_of}
 use Rattle.office_parts.specs.OwnLists.{ListName, list_name}
+use Rattle.edi_messages.specs.declared.order.OrderKind.TheVariants as kind
 
 -- an order at the gate or in the yard names none
 abbrev pub lists_in_order : OrderContent → List ListName

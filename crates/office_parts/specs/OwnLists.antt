@@ -1,12 +1,10 @@
 -- The terminal of a store of which lists were put away: what it has of its own lists.
 use Rattle.std.specs.Prelude.{ℕ, Bool, not, List, [], ◌∷◌, filter}
-use Rattle.std.specs.FinMap as finite_map
 use Rattle.edi_messages.specs.Purposes.{CallContent}
-use Rattle.terminal_core.specs.declared.lines.Side.{Side}
-use Rattle.terminal_core.specs.State.{TerminalState, LineKey, Lines, side_code}
-use Rattle.terminal_core.specs.Step.{StepResult, step_with}
+use Rattle.terminal_core.specs.{declared.lines.Side.Side, State.{TerminalState, LineKey, Lines, side_code}, Step.{StepResult, step_with}}
 use Rattle.office_rows.specs.Rows.{ListingContent, Rows}
 use Rattle.office_admission.specs.Taking.{MachineState}
+use Rattle.std.specs.FinMap as finite_map
 
 -- a list goes by its vessel, its voyage and its side
 abbrev pub ListName : Type 0

@@ -1,9 +1,7 @@
 -- The terminal of a store of which visits were put away: what it has of its own, beside what archives hold.
-use Rattle.std.specs.Prelude.{◌≡◌, ℕ, ◌<◌, Bool, true, false, List, filter, is_some}
-use Rattle.std.specs.List.{AllByRecursion}
+use Rattle.std.specs.{Prelude.{◌≡◌, ℕ, ◌<◌, Bool, true, false, List, filter, is_some}, List.AllByRecursion}
 use Rattle.terminal_core.specs.Rows.{VisitContent, ChangeContent, visit_opened, visit_closed, placed_at, moved_to, removed_from, listed_on, line_done, unlisted}
-use Rattle.terminal_core.specs.State.{TerminalState, last_number}
-use Rattle.terminal_core.specs.Step.{StepResult, step_with}
+use Rattle.terminal_core.specs.{State.{TerminalState, last_number}, Step.{StepResult, step_with}}
 use Rattle.office_admission.specs.Taking.{MachineState}
 
 -- the number of the visit stays in the store

@@ -2,8 +2,7 @@
 use Rattle.std.specs.Prelude.{◌≡◌, ◌↔◌, ℕ, ◌<◌, ◌≤◌, ◌++◌, Bool, true, false, List, [], Contains, find, is_some, None}
 use Rattle.terminal_core.specs.Rows.{VisitContent}
 use Rattle.office_replies.specs.Events.{Event}
-use Rattle.office_rows.specs.Rows.{Interchange, Rows, no_rows}
-use Rattle.office_rows.specs.Effects.{is_pair}
+use Rattle.office_rows.specs.{Rows.{Interchange, Rows, no_rows}, Effects.is_pair}
 use Rattle.office_admission.specs.Setups.{SetupContent}
 use Rattle.office_history.specs.After.{reply_in, AreAfter}
 use Rattle.office_parts.specs.OwnTerminal.{own_visits, MayStay}

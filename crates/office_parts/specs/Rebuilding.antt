@@ -1,16 +1,11 @@
 -- An office that is made again, or followed, by its journal.
 use Rattle.std.specs.Prelude.{◌≡◌, ◌⊎◌, ℕ, ◌+◌, ◌≤◌, Option, map, List, ◌∷◌, ◌++◌, length, take}
-use Rattle.partner_core.specs.Answers.{AnswerModel, Taken, Waiting}
-use Rattle.partner_core.specs.Deliveries.{Delivery, run}
+use Rattle.partner_core.specs.{Answers.{AnswerModel, Taken, Waiting}, Deliveries.{Delivery, run}}
 use Rattle.office_replies.specs.Events.{Event}
-use Rattle.office_admission.specs.Setups.{SetupContent}
-use Rattle.office_admission.specs.Accounts.{content_after}
-use Rattle.office_admission.specs.Deliveries.{deliveries_of}
+use Rattle.office_admission.specs.{Setups.SetupContent, Accounts.content_after, Deliveries.deliveries_of}
 use Rattle.office_rows.specs.Rows.{Rows}
-use Rattle.office_history.specs.After.{machine_after, AreAfter}
-use Rattle.office_history.specs.Laws.{HasNoMigration, answer_model_of}
-use Rattle.office_parts.specs.Kept.{kept}
-use Rattle.office_parts.specs.Journal.{text_of, kept_texts, texts_since, delivered_all, accounts_in}
+use Rattle.office_history.specs.{After.{machine_after, AreAfter}, Laws.{HasNoMigration, answer_model_of}}
+use Rattle.office_parts.specs.{Kept.kept, Journal.{text_of, kept_texts, texts_since, delivered_all, accounts_in}}
 
 -- Two offices, each of a set-up and events: the same rows, machine and answers.
 pub record IsSameOffice (one : SetupContent) (es : List Event) (other : SetupContent) (fs : List Event) : Type 0 where

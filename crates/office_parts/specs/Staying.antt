@@ -1,32 +1,18 @@
 -- What is away stays away through all events that name none of it, until it is brought back.
 use Rattle.std.specs.Prelude.{◌≡◌, ℕ, ◌+◌, ◌<◌, Bool, true, false, List, [], ◌∷◌, ◌++◌, None, Some}
 use Rattle.box6346.specs.declared.box_number.BoxNumber.{BoxNumber}
-use Rattle.edi_messages.specs.Purposes.{CallContent}
-use Rattle.edi_messages.specs.declared.codes.PartnerKind.{PartnerKind}
+use Rattle.edi_messages.specs.{Purposes.CallContent, declared.codes.PartnerKind.PartnerKind}
 use Rattle.edi_syntax.specs.Interchange.{interchange_of}
 use Rattle.partner_core.specs.Deliveries.{run}
-use Rattle.terminal_core.specs.State.{LineContent, TerminalState, line_of}
-use Rattle.terminal_core.specs.declared.lines.Side.{Side}
-use Rattle.office_admission.specs.Accounts.{account_answer, added_as, content_after}
-use Rattle.office_admission.specs.Deliveries.{deliveries_of}
-use Rattle.office_history.specs.After.{machine_after}
-use Rattle.office_history.specs.Cascade.{TakenContent, text_in, texts_with, with_run}
-use Rattle.office_history.specs.Laws.{AddsNoRow, IsFor}
-use Rattle.office_parts.specs.Archives.{Archive}
-use Rattle.office_parts.specs.OwnTerminal.{own_terminal}
-use Rattle.office_parts.specs.Parts.{Archived, ArePartsAfter}
-use Rattle.office_replies.specs.Events.{Event, added, delivered}
-use Rattle.office_rows.specs.Effects.{with_partner, with_waiting}
-use Rattle.office_rows.specs.Rows.{ListingContent, Rows}
-use Rattle.office_admission.specs.Kinds.{kind_named}
-use Rattle.office_admission.specs.Setups.{SetupContent}
+use Rattle.terminal_core.specs.{State.{LineContent, TerminalState, line_of}, declared.lines.Side.Side}
+use Rattle.office_admission.specs.{Accounts.{account_answer, added_as, content_after}, Deliveries.deliveries_of, Kinds.kind_named, Setups.SetupContent}
 use Rattle.office_admission.specs.Taking.{MachineState}
-use Rattle.office_parts.specs.Away.{AreAway, lines_away, lists_after}
-use Rattle.office_parts.specs.Bringing.{BringsBack, all_but}
-use Rattle.office_parts.specs.ListLaws.{NameOwnLists}
-use Rattle.office_parts.specs.Naming.{AreHere}
-use Rattle.office_parts.specs.OwnLists.{ListName, list_name, without_lists}
+use Rattle.office_history.specs.{After.machine_after, Cascade.{TakenContent, text_in, texts_with, with_run}, Laws.{AddsNoRow, IsFor}}
+use Rattle.office_parts.specs.{Archives.Archive, OwnTerminal.own_terminal, Parts.{Archived, ArePartsAfter}, Away.{AreAway, lines_away, lists_after}}
+use Rattle.office_parts.specs.{Bringing.{BringsBack, all_but}, ListLaws.NameOwnLists, Naming.AreHere, OwnLists.{ListName, list_name, without_lists}}
 use Rattle.office_parts.specs.ListParts.{AddsWithoutLists}
+use Rattle.office_replies.specs.Events.{Event, added, delivered}
+use Rattle.office_rows.specs.{Effects.{with_partner, with_waiting}, Rows.{ListingContent, Rows}}
 
 -- ---- deliveries
 

@@ -1,8 +1,7 @@
 //! Laws of the lists that are away from a store: each function has an empty body, and its contract is the law.
 
-ghost use Rattle.office_parts.specs.Alike.{AwayIsAlike};
+ghost use Rattle.office_parts.specs.{Alike.AwayIsAlike, Keeping.AwayLinesAreDone};
 ghost use Rattle.office_parts.specs.Staying.{NextNamesNoneAway, AwayStaysWithoutRow, AwayStaysWithEarly, AwayStaysWithNext, AwayStaysWithAccount, OthersStayAway, NoLineIsAway, OtherLinesAreThere, ListsThatCameBackHaveLines};
-ghost use Rattle.office_parts.specs.Keeping.{AwayLinesAreDone};
 
 /// A text that is next, if it names no list that is away, and each that becomes next by it.
 pub fn next_names_none_away()

@@ -4,18 +4,15 @@
 //! The laws of the journal. Each function has an empty body, and its contract is the law: a call brings it into the
 //! caller's proof.
 ghost use Rattle.office_parts.specs.Laws.{OrdersActAlike, OwnTerminalsAreSound, ChangesAreOfOwn, InterchangesAreTakenAlike, NumbersAreTold, ClosedAreWithinRuns, ArchivesAnswer, NewVisitsAreNew, OwnRowsGiveOwnTerminal, RowsAreParts, EarlyAddsToParts, NextAddsToParts, AccountAddsToParts, ClosingKeepsParts, AddedArchivesHold, ClosingsAreHeld, OwnAreBeyond, OwnNumbersAreKept, OwnVisitsGoOn, OwnRowsAreOwnOffice};
-ghost use Rattle.office_parts.specs.LeftOver.{LeftOverTellNothing, LeftOverStayApart, LeftOverMayGo, RaisingCloses};
+ghost use Rattle.office_parts.specs.{LeftOver.{LeftOverTellNothing, LeftOverStayApart, LeftOverMayGo, RaisingCloses}, TextPages.TextsHaveOnePage};
 ghost use Rattle.office_parts.specs.ListLaws.{OrdersSpareLists, TerminalsWithoutListsAreSound, InterchangesSpareLists, RunsSpareLists, RowsWithoutListsGiveTerminal, RunsAreWrittenWithout};
-ghost use Rattle.office_parts.specs.Done.{DoneLinesStay, DoneLinesStayInRuns};
-ghost use Rattle.office_parts.specs.ListParts.{NextAddsWithoutLists, OwnRowsWithoutListsAreOwnOffice};
-ghost use Rattle.office_parts.specs.Bringing.{LinesStandInAnyOrder, ListsAreBroughtBack, MoreListsArePutAway};
-ghost use Rattle.partner_core.specs.Machine.{Taking};
-ghost use Rattle.office_parts.specs.Kept.{KeptAdds, KeptAreFirst, KeptDecides};
+ghost use Rattle.office_parts.specs.{Done.{DoneLinesStay, DoneLinesStayInRuns}, ListParts.{NextAddsWithoutLists, OwnRowsWithoutListsAreOwnOffice}};
+ghost use Rattle.office_parts.specs.{Bringing.{LinesStandInAnyOrder, ListsAreBroughtBack, MoreListsArePutAway}, Kept.{KeptAdds, KeptAreFirst, KeptDecides}};
 ghost use Rattle.office_parts.specs.Journal.{KeptTextsAreEntries, JournalGrows, FrontsWereJournals};
 ghost use Rattle.office_parts.specs.Rebuilding.{JournalDecides, Rebuilding, EachIsNew, Following, CopiesCatchUp};
 ghost use Rattle.office_parts.specs.InOrder.{BodiesAreJournal, StoredIsJournal, OpeningIsInOrder, RefusedStaysInOrder, UsedStaysInOrder, EarlyAddsInOrder, NextAddsInOrder, AccountStaysInOrder, MigrationStaysInOrder};
-ghost use Rattle.office_parts.specs.TextPages.{TextsHaveOnePage};
 ghost use Rattle.office_parts.specs.Cutting.{FaultlessIsInterchange, LinesAreCut, JournalIsCut};
+ghost use Rattle.partner_core.specs.Machine.{Taking};
 
 use partner_core::Machine;
 

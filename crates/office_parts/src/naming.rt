@@ -1,14 +1,8 @@
-ghost use Rattle.std.specs.Option.{option_map};
-ghost use Rattle.std.specs.Prelude.{◌≡◌, ℕ, List, ◌++◌, IfOk, OnOk, Ok, None, is_some, map, true};
-ghost use Rattle.edi_messages.specs.ErrorCodes.{message_error};
-ghost use Rattle.edi_messages.specs.Message.{reading};
-ghost use Rattle.edi_messages.specs.Owned.{message_content};
-ghost use Rattle.edi_syntax.specs.Envelope.{header_of, messages_of};
-ghost use Rattle.edi_syntax.specs.Frames.{message, messages_left};
-ghost use Rattle.office_admission.specs.Outcomes.{IsAdmitted};
-ghost use Rattle.office_parts.specs.Named.{named_list_content, names_if_any};
-ghost use Rattle.office_parts.specs.Naming.{side_named, list_read, lists_in_messages, interchange_lists};
-ghost use Rattle.office_admission.specs.Parties.{partner_kinds};
+ghost use Rattle.std.specs.{Option.option_map, Prelude.{◌≡◌, ℕ, List, ◌++◌, IfOk, OnOk, Ok, None, is_some, map, true}};
+ghost use Rattle.edi_messages.specs.{ErrorCodes.message_error, Message.reading, Owned.message_content};
+ghost use Rattle.edi_syntax.specs.{Envelope.{header_of, messages_of}, Frames.{message, messages_left}};
+ghost use Rattle.office_admission.specs.{Outcomes.IsAdmitted, Parties.partner_kinds};
+ghost use Rattle.office_parts.specs.{Named.{named_list_content, names_if_any}, Naming.{side_named, list_read, lists_in_messages, interchange_lists}};
 ghost use Rattle.terminal_core.specs.Versions.{newest};
 
 use edi_messages::{Call, Codes, Message, MessageFault, OrderKind, Rejection, read_message};

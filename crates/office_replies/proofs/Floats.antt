@@ -1,22 +1,15 @@
 -- A reply has no float, so its text is known.
 use Rattle.std.proofs.Common.{◌≡◌, ℕ, List, append_assoc, ◌+◌, [], ◌∷◌, false, Option, Some, None, refl, map, suc, length, option_map, codes, ap, arith}
-use Rattle.serde_json.specs.Data.{Data, Members, no_members}
-use Rattle.serde_json.specs.Written.{compact_text, has_float, items_have_float, members_have_float}
-use Rattle.serde_json.proofs.OnLiterals.{serde_json_on_literals}
-use Rattle.office_replies.specs.Bodies.{joined_head, answer_text, answer_data}
-use Rattle.serde_json.specs.View.{items_of}
-use Rattle.terminal_core.specs.declared.change.Outcome.{Outcome}
-use Rattle.terminal_core.specs.declared.change.Outcome.TheVariants.{Done, Gone, Listed, Refused}
+use Rattle.serde_json.specs.{Data.{Data, Members, no_members}, Written.{compact_text, has_float, items_have_float, members_have_float}, View.items_of}
+use Rattle.serde_json.{specs.Events.{items_len, members_len}, proofs.OnLiterals.serde_json_on_literals}
+use Rattle.office_replies.specs.{Bodies.{joined_head, answer_text, answer_data}, declared.message_report.LineReport.LineReport}
+use Rattle.office_replies.specs.{Members.{refused_members, optional_member}, Lines.{written_line, refusal_members, outcome_members, lines_from}}
+use Rattle.office_replies.specs.Messages.{VerdictContent, accepted, rejected, ReportContent, verdict_data, report_data, reply_data, report_content}
+use Rattle.office_replies.specs.{declared.message_report.LineMembers.LineMembers, declared.message_report.MessageReport.MessageReport}
+use Rattle.office_replies.specs.Sent.{optional_count, slot_members, number_members, box_members, members_told}
+use Rattle.terminal_core.specs.{declared.change.Outcome.Outcome, declared.change.Outcome.TheVariants.{Done, Gone, Listed, Refused}}
 use Rattle.terminal_core.specs.declared.change.Reason.{Reason}
 use Rattle.terminal_core.specs.declared.change.Reason.TheVariants.{Form, CheckDigit, Size, Moment, SlotText, AlreadyIn, NotIn, AlreadyListed, NotListed, ListLineDone, Buried, NoSlot, SlotKind, Taken, OnAir, OnEmpty, NoRoom, VisitLimit}
-use Rattle.office_replies.specs.declared.message_report.LineReport.{LineReport}
-use Rattle.office_replies.specs.Members.{refused_members, optional_member}
-use Rattle.office_replies.specs.Lines.{written_line, refusal_members, outcome_members, lines_from}
-use Rattle.office_replies.specs.Messages.{VerdictContent, accepted, rejected, ReportContent, verdict_data, report_data, reply_data, report_content}
-use Rattle.serde_json.specs.Events.{items_len, members_len}
-use Rattle.office_replies.specs.declared.message_report.LineMembers.{LineMembers}
-use Rattle.office_replies.specs.declared.message_report.MessageReport.{MessageReport}
-use Rattle.office_replies.specs.Sent.{optional_count, slot_members, number_members, box_members, members_told}
 
 -- ==== Joined: A reply joined into an answer as text is the JSON of the whole.
 

@@ -2,13 +2,9 @@
 use Rattle.std.proofs.Common.{◌≡◌, ◌≢◌, ℕ, ◌<◌, nat_lt, List, [], ◌∷◌, ◌++◌, length, take, Option, None, Some, refl, sym, ap, subst, ◌∙◌, inl, inr, arith}
 use Rattle.std.proofs.lemmas.Bool.{true≢false, cases_Bool, ltb-true, ltb-false}
 use Rattle.std.proofs.lemmas.List.{take_at, take-take, append-nil, append_cancel_left, length-append}
-use Rattle.edi_syntax.specs.Advice.{without_breaks}
-use Rattle.edi_syntax.specs.Cuts.{fault_of, IsOpen, IsOpenBefore, IsInterchange, IsPending, Faults}
-use Rattle.edi_syntax.specs.declared.cutter.CutFault.{CutFault}
-use Rattle.edi_syntax.specs.declared.cutter.CutFault.TheVariants.{TooLong, Service, Segment, Memory}
-use Rattle.edi_syntax.proofs.CutLemmas.{first_is_one}
-use Rattle.office_replies.specs.Streams.{IsCutBy, EndsAs, Cuts, CutsAreOne}
-use Rattle.office_replies.specs.declared.stream.StreamEnd.{StreamEnd}
+use Rattle.edi_syntax.specs.{Advice.without_breaks, Cuts.{fault_of, IsOpen, IsOpenBefore, IsInterchange, IsPending, Faults}, declared.cutter.CutFault.CutFault}
+use Rattle.edi_syntax.{specs.declared.cutter.CutFault.TheVariants.{TooLong, Service, Segment, Memory}, proofs.CutLemmas.first_is_one}
+use Rattle.office_replies.specs.{Streams.{IsCutBy, EndsAs, Cuts, CutsAreOne}, declared.stream.StreamEnd.StreamEnd}
 use Rattle.office_replies.specs.declared.stream.StreamEnd.TheVariants.{Whole, Open, Cut}
 use Rattle.office_replies.proofs.PartLemmas.{some_bytes, some_faulty, no_fault_there, no_front}
 

@@ -1,30 +1,13 @@
 -- Parts that are gathered, and written in pieces.
+use Rattle.std.specs.{Io.KnownBytes.{Appends, Keeps}, declared.io.ErrorKind.TheVariants.Interrupted, IoError.error_kind, declared.io.Error.Error, Borrow.Bor}
+use Rattle.std.{specs.List.concat, proofs.{KnownBytes.{Appends-trans, Appends-kept, Appends-nil}, lemmas.Bool.{cases_Bool, false≢true}}}
 use Rattle.std.proofs.Common.{◌≡◌, ℕ, List, [], ◌∷◌, ◌++◌, refl, sym, ap, subst, ◌∙◌, take, drop, Option, Result, Ok, Err, OnOk, OnErr, append_assoc, append-nil, true, false, None, Some, inl, inr, arith, ◌+◌, ◌<◌, ◌≤◌, Bool, IsTrue, get_or, length, length-append}
-use Rattle.office_replies.specs.declared.deliver.Response.{Response}
-use Rattle.office_replies.specs.declared.deliver.Worst.{Worst}
-use Rattle.office_replies.specs.declared.deliver.Worst.TheVariants.{Fine, Refused, NotNow}
-use Rattle.office_replies.specs.Responses.{worst_of, worse_of}
-use Rattle.office_replies.specs.Delivering.{LeadsOn}
-use Rattle.office_replies.specs.StreamLines.{worst_of_all}
-use Rattle.std.specs.Io.KnownBytes.{Appends, Keeps}
-use Rattle.std.proofs.KnownBytes.{Appends-trans, Appends-kept, Appends-nil}
-use Rattle.std.proofs.lemmas.List.{take-append-drop, drop-drop, take_more, take_all}
-use Rattle.office_replies.specs.Fronts.{AppendsFront}
-use Rattle.std.proofs.lemmas.Bool.{cases_Bool, false≢true}
-use Rattle.edi_syntax.specs.Advice.{without_breaks}
-use Rattle.edi_syntax.specs.Characters.{is_break}
-use Rattle.edi_syntax.specs.Cuts.{is_whole, fault_of, IsInterchange, IsPending, Faults}
-use Rattle.edi_syntax.specs.Positions.{position_after}
-use Rattle.edi_syntax.specs.declared.cutter.CutFault.{CutFault}
-use Rattle.edi_syntax.specs.Streams.{CutsFrom}
-use Rattle.office_replies.specs.Pieces.{LeavesOver}
-use Rattle.std.specs.declared.io.ErrorKind.TheVariants.{Interrupted}
-use Rattle.std.specs.IoError.{error_kind}
-use Rattle.std.specs.declared.io.Error.{Error}
+use Rattle.std.proofs.{lemmas.List.{take-append-drop, drop-drop, take_more, take_all}, lemmas.Grind.flat_map-append}
+use Rattle.office_replies.specs.{declared.deliver.Response.Response, declared.deliver.Worst.Worst, declared.deliver.Worst.TheVariants.{Fine, Refused, NotNow}}
+use Rattle.office_replies.specs.{Responses.{worst_of, worse_of}, Delivering.LeadsOn, StreamLines.worst_of_all, Fronts.AppendsFront, Pieces.LeavesOver}
 use Rattle.office_replies.specs.Writes.{left_of, GoesOn, WritesOn, joined_parts, WritesOut, WritesEach, WritesPieces}
-use Rattle.std.specs.Borrow.{Bor}
-use Rattle.std.specs.List.{concat}
-use Rattle.std.proofs.lemmas.Grind.{flat_map-append}
+use Rattle.edi_syntax.specs.{Advice.without_breaks, Characters.is_break, Cuts.{is_whole, fault_of, IsInterchange, IsPending, Faults}, Positions.position_after}
+use Rattle.edi_syntax.specs.{declared.cutter.CutFault.CutFault, Streams.CutsFrom}
 
 -- ==== Answering: One answer more.
 

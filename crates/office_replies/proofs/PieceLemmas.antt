@@ -1,20 +1,11 @@
 -- A piece of a stream, one interchange after the other.
+use Rattle.std.{specs.Io.KnownBytes.Appends, proofs.{KnownBytes.{Appends-trans, Appends-nil}, lemmas.Grind.flat_map-append, lemmas.List.append-nil}}
 use Rattle.std.proofs.Common.{◌≡◌, ℕ, List, [], ◌∷◌, ◌++◌, take, drop, Option, None, Some, true, false, refl, sym, ap, subst, ◌∙◌}
-use Rattle.std.specs.Io.KnownBytes.{Appends}
-use Rattle.std.proofs.KnownBytes.{Appends-trans, Appends-nil}
-use Rattle.std.proofs.lemmas.Grind.{flat_map-append}
-use Rattle.std.proofs.lemmas.List.{append-nil}
-use Rattle.edi_syntax.specs.Advice.{without_breaks}
+use Rattle.edi_syntax.specs.{Advice.without_breaks, declared.cutter.CutFault.CutFault, declared.cutter.CutFault.TheVariants.{TooLong, Service, Segment, Memory}}
 use Rattle.edi_syntax.specs.Cuts.{Cutting, is_whole, IsInterchange, IsPending, Answers, Fails, Faults, pending_bytes, interchange, HasNoFault}
-use Rattle.edi_syntax.specs.declared.cutter.CutFault.{CutFault}
-use Rattle.edi_syntax.specs.declared.cutter.CutFault.TheVariants.{TooLong, Service, Segment, Memory}
-use Rattle.office_replies.specs.declared.deliver.Response.{Response}
-use Rattle.office_replies.specs.declared.deliver.Worst.{Worst}
-use Rattle.office_replies.specs.Responses.{body_of, worst_of, worse_of}
-use Rattle.office_replies.specs.Delivering.{LeadsOn}
-use Rattle.office_replies.specs.StreamLines.{line, response_lines, worst_of_all}
 use Rattle.edi_syntax.specs.Streams.{CutsFrom}
-use Rattle.office_replies.specs.Streams.{IsCutBy, GoesOnAnyhow, LineCutShort}
+use Rattle.office_replies.specs.{declared.deliver.Response.Response, declared.deliver.Worst.Worst, Responses.{body_of, worst_of, worse_of}, Delivering.LeadsOn}
+use Rattle.office_replies.specs.{StreamLines.{line, response_lines, worst_of_all}, Streams.{IsCutBy, GoesOnAnyhow, LineCutShort}}
 use Rattle.office_replies.specs.Pieces.{AnsweredOne, DeliveredOne, EndsPiece, PieceAnswered}
 use Rattle.office_replies.proofs.PartLemmas.{in_two, leads_more, worse_of-Fine, worse_of-assoc, worst_of_more, cuts_more, cuts_weaker, some_bytes, some_faulty, stripped_more}
 

@@ -1,25 +1,13 @@
 -- The place of a stream, piece by piece.
+use Rattle.std.{specs.Io.KnownBytes.Consumes, proofs.{KnownBytes.{Consumes-nil, Consumes-trans}, lemmas.Bool.cases_Bool}}
 use Rattle.std.proofs.Common.{◌≡◌, ◌≢◌, ◌⊎◌, ℕ, ◌+◌, ◌-◌, ◌^◌, ◌≤◌, min, Bool, true, false, List, [], ◌∷◌, ◌++◌, length, take, drop, Option, None, Some, inl, inr, refl, sym, ap, subst, ◌∙◌, append_assoc, append-nil, arith}
-use Rattle.std.specs.Io.KnownBytes.{Consumes}
-use Rattle.std.proofs.KnownBytes.{Consumes-nil, Consumes-trans}
-use Rattle.std.proofs.lemmas.Bool.{cases_Bool}
 use Rattle.std.proofs.lemmas.List.{length-append, length-drop, length-take-le}
-use Rattle.edi_syntax.specs.Advice.{without_breaks}
-use Rattle.edi_syntax.specs.Characters.{is_break}
-use Rattle.edi_syntax.specs.Reading.{breaks_len}
-use Rattle.edi_syntax.specs.Cuts.{is_nil, IsPending}
-use Rattle.edi_syntax.specs.Streams.{CutsFrom}
+use Rattle.edi_syntax.specs.{Advice.without_breaks, Characters.is_break, Reading.breaks_len, Cuts.{is_nil, IsPending}, Streams.CutsFrom}
 use Rattle.edi_syntax.specs.declared.cutter.CutFault.{CutFault}
-use Rattle.office_replies.specs.Pieces.{EndsPiece, LeavesOver}
+use Rattle.office_replies.specs.{Pieces.{EndsPiece, LeavesOver}, Streams.EndsAs, declared.line.Cut.Cut as StreamCut, declared.line.Place.Place}
 use Rattle.office_replies.specs.Places.{capped_count, with_piece, with_passed, with_whole, cut_by, cut_behind, IsOver, CutsAt, Follows, StopsAt, PassesPiece}
-use Rattle.office_replies.specs.Streams.{EndsAs}
-use Rattle.office_replies.specs.declared.line.Cut.{Cut as StreamCut}
-use Rattle.office_replies.specs.declared.line.Place.{Place}
-use Rattle.office_replies.specs.declared.stream.StreamEnd.{StreamEnd}
-use Rattle.office_replies.specs.declared.stream.StreamEnd.TheVariants.{Whole, Open, Cut}
-use Rattle.office_replies.proofs.PartLemmas.{cuts_join, cuts_weaker, nothing_pending, stripped_some, stripped_twice}
-use Rattle.office_replies.proofs.PieceLemmas.{Used}
-use Rattle.office_replies.proofs.StreamLemmas.{nil_is}
+use Rattle.office_replies.{specs.{declared.stream.StreamEnd.StreamEnd, declared.stream.StreamEnd.TheVariants.{Whole, Open, Cut}}, proofs.PieceLemmas.Used}
+use Rattle.office_replies.proofs.{PartLemmas.{cuts_join, cuts_weaker, nothing_pending, stripped_some, stripped_twice}, StreamLemmas.nil_is}
 
 -- ---- numbers
 
@@ -47,12 +35,6 @@ left_stripped q bytes [] left =
     let twice : without_breaks (without_breaks bytes ++ []) ≡ without_breaks (bytes ++ []) = stripped_twice bytes [] in
     ap without_breaks (sym left.0 ∙ sym (append-nil (without_breaks bytes))) ∙ twice ∙ ap without_breaks (append-nil bytes) ∙ left.0
 left_stripped q bytes (text ∷ texts) (behind, is, cut, left) = left_stripped q behind texts left
-
--- what is left over is no longer than all
-left_within : (q bytes : List ℕ) (texts : List (List ℕ)) → CutsFrom (LeavesOver q) bytes texts → length q ≤ length bytes
-left_within q bytes [] left = omega (arith, ap length left.0, stripped_length bytes)
-left_within q bytes (text ∷ texts) (behind, is, cut, left) =
-    omega (arith, left_within q behind texts left, ap length cut, length-append text behind, stripped_length bytes)
 
 -- ---- before a piece
 

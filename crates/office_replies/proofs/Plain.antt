@@ -1,10 +1,6 @@
 -- A text that JSON writes as it is.
-use Rattle.std.proofs.Common.{◌≡◌, ℕ, ◌<◌, List, length, get_or, Bool, true, false, refl, sym, ◌∙◌}
-use Rattle.std.specs.List.{list_all}
-use Rattle.std.proofs.lemmas.List.Folds.{list_all_at}
-use Rattle.json.specs.Run.{is_plain}
-use Rattle.json.specs.Print.{escape}
-use Rattle.json.proofs.Printed.Plain.{escape_on_plain}
+use Rattle.std.{specs.List.list_all, proofs.{Common.{◌≡◌, ℕ, ◌<◌, List, length, get_or, Bool, true, false, refl, sym, ◌∙◌}, lemmas.List.Folds.list_all_at}}
+use Rattle.json.{specs.{Run.is_plain, Print.escape}, proofs.Printed.Plain.escape_on_plain}
 
 plain_at : (xs : List ℕ) → list_all is_plain xs ≡ true → (k : ℕ) → k < length xs → (plain : Bool) → is_plain (get_or xs k 0) ≡ plain → plain ≡ true
 plain_at xs all k low true e = refl

@@ -1,15 +1,9 @@
 -- A body that stands ready as text is the JSON of its value.
 use Rattle.std.proofs.Common.{◌≡◌, ◌≢◌, ℕ, List, ◌∷◌, [], refl}
-use Rattle.serde_json.specs.Written.{compact_text}
-use Rattle.serde_json.proofs.OnLiterals.{serde_json_on_literals}
-use Rattle.office_replies.specs.declared.deliver.Fault.{Fault}
-use Rattle.office_replies.specs.declared.deliver.Response.TheVariants.{Refused, NotNow}
-use Rattle.office_replies.specs.declared.accounts.AccountFault.{AccountFault}
-use Rattle.office_replies.specs.AccountAnswers.{account_refusal_text, account_refusal_data}
-use Rattle.office_replies.specs.Bodies.{not_now_data}
-use Rattle.office_replies.specs.Refusals.{refusal_text, refusal_data}
-use Rattle.office_replies.specs.Responses.{body_of}
-use Rattle.office_replies.specs.Messages.{ReportContent, reply_content_text}
+use Rattle.serde_json.{specs.Written.compact_text, proofs.OnLiterals.serde_json_on_literals}
+use Rattle.office_replies.specs.{declared.deliver.Fault.Fault, declared.deliver.Response.TheVariants.{Refused, NotNow}, Bodies.not_now_data, Responses.body_of}
+use Rattle.office_replies.specs.{declared.accounts.AccountFault.AccountFault, AccountAnswers.{account_refusal_text, account_refusal_data}}
+use Rattle.office_replies.specs.{Refusals.{refusal_text, refusal_data}, Messages.{ReportContent, reply_content_text}}
 use Rattle.edi_syntax.specs.declared.interchange.SyntaxFault.TheVariants as syntax
 use Rattle.office_replies.specs.declared.deliver.Fault.TheVariants as fault
 use Rattle.office_replies.specs.declared.accounts.AccountFault.TheVariants as account

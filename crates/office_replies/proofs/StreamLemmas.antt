@@ -1,28 +1,14 @@
 -- A stream, piece by piece.
+use Rattle.std.{specs.Io.KnownBytes.{Appends, Consumes, Keeps, IsAtEnd}, proofs.{lemmas.Grind.flat_map-append, lemmas.List.append-nil, lemmas.Bool.eqb-true}}
 use Rattle.std.proofs.Common.{◌≡◌, ℕ, List, [], ◌∷◌, ◌++◌, Option, None, Some, Result, Ok, Err, IfOk, IfErr, IsErrAnd, OnOk, Bool, true, false, cond, ◌≢◌, ◌⊎◌, inl, inr, take, arith, length, append_assoc, refl, sym, ap, subst, ◌∙◌}
-use Rattle.std.specs.Io.KnownBytes.{Appends, Consumes, Keeps, IsAtEnd}
 use Rattle.std.proofs.KnownBytes.{Appends-trans, Consumes-trans, Consumes-kept, Consumes-nil, Appends-nil, Keeps-refl}
-use Rattle.std.proofs.lemmas.Grind.{flat_map-append}
-use Rattle.std.proofs.lemmas.List.{append-nil}
-use Rattle.std.proofs.lemmas.Bool.{eqb-true}
-use Rattle.edi_syntax.specs.Cuts.{Cutting, pending_bytes, is_whole, is_nil, IsPending}
-use Rattle.edi_syntax.specs.declared.cutter.CutFault.{CutFault}
-use Rattle.office_replies.specs.declared.deliver.Response.{Response}
-use Rattle.office_replies.specs.declared.deliver.Worst.{Worst}
-use Rattle.office_replies.specs.declared.deliver.Worst.TheVariants.{Fine}
-use Rattle.office_replies.specs.Responses.{worse_of}
-use Rattle.office_replies.specs.Delivering.{LeadsOn}
-use Rattle.office_replies.specs.Fronts.{AppendsFront}
-use Rattle.office_replies.specs.StreamLines.{response_lines, worst_of_all, end_text, end_worst}
-use Rattle.edi_syntax.specs.Streams.{CutsFrom}
+use Rattle.edi_syntax.specs.{Cuts.{Cutting, pending_bytes, is_whole, is_nil, IsPending}, declared.cutter.CutFault.CutFault, Streams.CutsFrom}
+use Rattle.office_replies.specs.{declared.deliver.Response.Response, declared.deliver.Worst.Worst, declared.deliver.Worst.TheVariants.Fine, Responses.worse_of}
+use Rattle.office_replies.specs.{Delivering.LeadsOn, Fronts.AppendsFront, StreamLines.{response_lines, worst_of_all, end_text, end_worst}}
 use Rattle.office_replies.specs.Streams.{EndsAs, ReadsTo, GoesOnAnyhow, PortBytes, Streamed, Began, LineCutShort, EndCutShort, Delivered, Streams, port_bytes}
-use Rattle.office_replies.specs.Pieces.{EndsPiece, LeavesOver, PieceAnswered}
-use Rattle.office_replies.specs.declared.stream.StreamFault.{StreamFault}
-use Rattle.office_replies.specs.declared.stream.StreamFault.TheVariants.{Read, Write, Turns}
-use Rattle.office_replies.specs.declared.stream.StreamEnd.{StreamEnd}
-use Rattle.office_replies.specs.declared.stream.StreamEnd.TheVariants.{Whole, Open, Cut}
-use Rattle.office_replies.proofs.PartLemmas.{leads_both, worst_of_both, cuts_join, cuts_weaker, nothing_pending}
-use Rattle.office_replies.proofs.PieceLemmas.{piece_ends}
+use Rattle.office_replies.specs.{Pieces.{EndsPiece, LeavesOver, PieceAnswered}, declared.stream.StreamFault.StreamFault, declared.stream.StreamEnd.StreamEnd}
+use Rattle.office_replies.specs.{declared.stream.StreamFault.TheVariants.{Read, Write, Turns}, declared.stream.StreamEnd.TheVariants.{Whole, Open, Cut}}
+use Rattle.office_replies.proofs.{PartLemmas.{leads_both, worst_of_both, cuts_join, cuts_weaker, nothing_pending}, PieceLemmas.piece_ends}
 
 -- The interchanges of what was read were answered by their lines, and less than one is pending.
 pub record Sofar {D : Type 0} (Call : D → List ℕ → Response → D → Type 0) (old : D)

@@ -1,14 +1,9 @@
 -- Answers to accounts that are to be added: their status, their body, and how bad they are.
 use Rattle.std.specs.Prelude.{ℕ, List, codes, string_bytes}
-use Rattle.serde_json.specs.Data.{Data, number, unsigned, object, member, no_members}
-use Rattle.serde_json.specs.Written.{compact_text}
-use Rattle.office_replies.specs.Members.{text_member}
-use Rattle.office_replies.specs.Refusals.{named_refusal}
-use Rattle.office_replies.specs.declared.accounts.AccountAnswer.{AccountAnswer}
-use Rattle.office_replies.specs.declared.accounts.AccountAnswer.TheVariants.{Added, Known, Refused, NotNow}
-use Rattle.office_replies.specs.declared.accounts.AccountFault.{AccountFault}
+use Rattle.serde_json.specs.{Data.{Data, number, unsigned, object, member, no_members}, Written.compact_text}
+use Rattle.office_replies.specs.{Members.text_member, Refusals.named_refusal, declared.accounts.AccountAnswer.AccountAnswer, declared.deliver.Worst.Worst}
+use Rattle.office_replies.specs.{declared.accounts.AccountAnswer.TheVariants.{Added, Known, Refused, NotNow}, declared.accounts.AccountFault.AccountFault}
 use Rattle.office_replies.specs.declared.accounts.AccountFault.TheVariants as fault
-use Rattle.office_replies.specs.declared.deliver.Worst.{Worst}
 use Rattle.office_replies.specs.declared.deliver.Worst.TheVariants as worst
 
 abbrev pub account_fault_name : AccountFault → List ℕ

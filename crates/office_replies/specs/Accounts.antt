@@ -1,11 +1,7 @@
 -- An account that is asked for, and the line that answers it.
-use Rattle.std.specs.Prelude.{◌≡◌, ℕ, List, Option}
-use Rattle.std.specs.Io.KnownBytes.{Appends}
-use Rattle.office_replies.specs.AccountAnswers.{account_body, account_worst}
-use Rattle.office_replies.specs.declared.accounts.AccountAnswer.{AccountAnswer}
-use Rattle.office_replies.specs.declared.deliver.Worst.{Worst}
-use Rattle.office_replies.specs.Fronts.{AppendsFront}
-use Rattle.office_replies.specs.StreamLines.{line}
+use Rattle.std.specs.{Prelude.{◌≡◌, ℕ, List, Option}, Io.KnownBytes.Appends}
+use Rattle.office_replies.specs.{AccountAnswers.{account_body, account_worst}, declared.accounts.AccountAnswer.AccountAnswer, declared.deliver.Worst.Worst}
+use Rattle.office_replies.specs.{Fronts.AppendsFront, StreamLines.line}
 
 -- it was answered, and its line written
 pub record AnsweredAccount (Done : AccountAnswer → Type 0) (worst : Worst) (written written' : Option (List ℕ))

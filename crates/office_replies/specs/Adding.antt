@@ -1,8 +1,6 @@
 -- Accounts that are added, one event each.
 use Rattle.std.specs.Prelude.{ℕ, List, [], ◌∷◌, ◌++◌}
-use Rattle.office_replies.specs.Events.{Event, added}
-use Rattle.office_replies.specs.declared.accounts.AccountAnswer.{AccountAnswer}
-use Rattle.office_replies.specs.declared.accounts.AccountAnswer.TheVariants.{Added}
+use Rattle.office_replies.specs.{Events.{Event, added}, declared.accounts.AccountAnswer.AccountAnswer, declared.accounts.AccountAnswer.TheVariants.Added}
 
 -- the events after a code, a kind and their answer: only an account that was added is one
 abbrev pub with_added : List Event → List ℕ → List ℕ → AccountAnswer → List Event

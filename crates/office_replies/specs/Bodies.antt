@@ -1,8 +1,7 @@
 -- The bodies that answer a delivery.
 use Rattle.std.specs.Prelude.{ℕ, List, ◌++◌, codes, decimal}
 use Rattle.json.specs.Print.{quoted}
-use Rattle.serde_json.specs.Data.{Data, number, unsigned, object, member, no_members}
-use Rattle.serde_json.specs.Written.{compact_text}
+use Rattle.serde_json.specs.{Data.{Data, number, unsigned, object, member, no_members}, Written.compact_text}
 use Rattle.office_replies.specs.Members.{text_member}
 
 abbrev pub answer_data : List ℕ → ℕ → List ℕ → Data → Data

@@ -1,10 +1,8 @@
 -- What an answer says: its kind, its status of HTTP, its body, and how bad it is.
 use Rattle.std.specs.Prelude.{◌≡◌, ℕ, List}
-use Rattle.office_replies.specs.Kinds.{AnswerKind, kind_of}
-use Rattle.office_replies.specs.Responses.{status_of, body_of, worst_of}
-use Rattle.office_replies.specs.declared.deliver.Response.{Response}
-use Rattle.office_replies.specs.declared.deliver.Response.TheVariants as response
+use Rattle.office_replies.specs.{Kinds.{AnswerKind, kind_of}, Responses.{status_of, body_of, worst_of}, declared.deliver.Response.Response}
 use Rattle.office_replies.specs.declared.deliver.Worst.{Worst}
+use Rattle.office_replies.specs.declared.deliver.Response.TheVariants as response
 
 pub record AnswerContent : Type 0 where
   pub kind : AnswerKind

@@ -1,8 +1,6 @@
 -- Deliveries one after the other.
 use Rattle.std.specs.Prelude.{◌≡◌, ℕ, List, [], ◌∷◌, ◌++◌}
-use Rattle.office_replies.specs.Events.{Event, delivered}
-use Rattle.office_replies.specs.declared.deliver.Response.{Response}
-use Rattle.office_replies.specs.declared.deliver.Response.TheVariants.{NotNow}
+use Rattle.office_replies.specs.{Events.{Event, delivered}, declared.deliver.Response.Response, declared.deliver.Response.TheVariants.NotNow}
 
 -- the events after a text and its response: one that was answered NotNow is none
 abbrev pub with_answered : List Event → List ℕ → Response → List Event

@@ -1,6 +1,5 @@
 -- What a failed write leaves of a text.
-use Rattle.std.specs.Prelude.{◌≡◌, ℕ, List, ◌++◌, Option}
-use Rattle.std.specs.Io.KnownBytes.{Appends}
+use Rattle.std.specs.{Prelude.{◌≡◌, ℕ, List, ◌++◌, Option}, Io.KnownBytes.Appends}
 
 -- a text begins so
 abbrev pub IsFront : List ℕ → List ℕ → Type 0

@@ -1,6 +1,5 @@
 -- The kinds of answers.
-use Rattle.office_replies.specs.declared.deliver.Fault.{Fault}
-use Rattle.office_replies.specs.declared.deliver.Response.{Response}
+use Rattle.office_replies.specs.{declared.deliver.Fault.Fault, declared.deliver.Response.Response}
 use Rattle.office_replies.specs.declared.deliver.Response.TheVariants as response
 
 -- taken now, or before; waiting; a clash; refused for a fault; not now

@@ -1,16 +1,10 @@
 -- The JSON of a line of a message.
-use Rattle.std.specs.Prelude.{ℕ, ◌+◌, List, [], ◌∷◌, Option, None, Some, encode_utf8_all}
-use Rattle.std.specs.Option.{option_map}
+use Rattle.std.specs.{Prelude.{ℕ, ◌+◌, List, [], ◌∷◌, Option, None, Some, encode_utf8_all, codes}, Option.option_map}
 use Rattle.serde_json.specs.Data.{Data, object, Members}
 use Rattle.box6346.specs.SlotName.{slot_text}
-use Rattle.terminal_core.specs.declared.change.Outcome.{Outcome}
-use Rattle.terminal_core.specs.declared.change.Outcome.TheVariants.{Done, Gone, Listed, Refused}
-use Rattle.terminal_core.specs.declared.change.Reason.{Reason}
-use Rattle.terminal_core.specs.declared.change.Reason.TheVariants.{Buried}
-use Rattle.std.specs.Prelude.{codes}
-use Rattle.office_replies.specs.Names.{reason_name}
-use Rattle.office_replies.specs.Members.{settled_members, refused_members}
-use Rattle.office_replies.specs.declared.message_report.LineReport.{LineReport}
+use Rattle.terminal_core.specs.{declared.change.Outcome.Outcome, declared.change.Outcome.TheVariants.{Done, Gone, Listed, Refused}}
+use Rattle.terminal_core.specs.{declared.change.Reason.Reason, declared.change.Reason.TheVariants.Buried}
+use Rattle.office_replies.specs.{Names.reason_name, Members.{settled_members, refused_members}, declared.message_report.LineReport.LineReport}
 
 -- bytes as text, each as the character of its number: ASCII stays as it is
 abbrev pub written_line : List ℕ → List ℕ

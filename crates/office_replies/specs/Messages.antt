@@ -1,16 +1,10 @@
 -- The JSON of a reply: the text that is kept of an interchange.
 use Rattle.std.specs.Prelude.{ℕ, List, Option, None, Some, map, string_bytes, codes}
-use Rattle.serde_json.specs.Data.{Data, array, object, number, unsigned, Members, member, no_members}
-use Rattle.serde_json.specs.View.{items_of}
-use Rattle.serde_json.specs.Written.{compact_text}
+use Rattle.serde_json.specs.{Data.{Data, array, object, number, unsigned, Members, member, no_members}, View.items_of, Written.compact_text}
 use Rattle.edi_messages.specs.declared.message.MessageFault.{MessageFault}
-use Rattle.office_replies.specs.declared.message_report.LineReport.{LineReport}
-use Rattle.office_replies.specs.declared.message_report.MessageReport.{MessageReport}
-use Rattle.office_replies.specs.declared.message_report.MessageVerdict.{MessageVerdict}
+use Rattle.office_replies.specs.{declared.message_report.LineReport.LineReport, declared.message_report.MessageReport.MessageReport, Names.message_fault_name}
+use Rattle.office_replies.specs.{declared.message_report.MessageVerdict.MessageVerdict, Members.text_member, Lines.lines_from}
 use Rattle.office_replies.specs.declared.message_report.MessageVerdict.TheVariants as verdict
-use Rattle.office_replies.specs.Names.{message_fault_name}
-use Rattle.office_replies.specs.Members.{text_member}
-use Rattle.office_replies.specs.Lines.{lines_from}
 
 -- what became of a message's lines, after how many lines were dropped, if it replaced a list; or why it gave no orders,
 -- with the code of the error (0085)

@@ -3,10 +3,10 @@ use Rattle.std.specs.Prelude.{ℕ, List, codes}
 use Rattle.terminal_core.specs.declared.change.Reason.{Reason}
 use Rattle.terminal_core.specs.declared.change.Reason.TheVariants.{Form, CheckDigit, Size, Moment, SlotText, AlreadyIn, NotIn, AlreadyListed, NotListed, ListLineDone, Buried, NoSlot, SlotKind, Taken, OnAir, OnEmpty, NoRoom, VisitLimit}
 use Rattle.edi_syntax.specs.declared.interchange.SyntaxFault.{SyntaxFault}
-use Rattle.edi_syntax.specs.declared.interchange.SyntaxFault.TheVariants as syntax
 use Rattle.office_replies.specs.declared.deliver.Fault.{Fault}
-use Rattle.office_replies.specs.declared.deliver.Fault.TheVariants as fault
 use Rattle.edi_messages.specs.declared.message.MessageFault.{MessageFault}
+use Rattle.edi_syntax.specs.declared.interchange.SyntaxFault.TheVariants as syntax
+use Rattle.office_replies.specs.declared.deliver.Fault.TheVariants as fault
 use Rattle.edi_messages.specs.declared.message.MessageFault.TheVariants as message
 
 abbrev pub reason_name : Reason → List ℕ

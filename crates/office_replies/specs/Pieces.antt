@@ -1,16 +1,8 @@
 -- What is done with a piece of a stream: what the code relies on, and no caller has to read.
-use Rattle.std.specs.Prelude.{◌≡◌, ℕ, List, Option, None, Some}
-use Rattle.std.specs.Io.KnownBytes.{Appends}
-use Rattle.edi_syntax.specs.Cuts.{IsPending}
-use Rattle.edi_syntax.specs.declared.cutter.CutFault.{CutFault}
-use Rattle.office_replies.specs.declared.deliver.Response.{Response}
-use Rattle.office_replies.specs.declared.deliver.Worst.{Worst}
-use Rattle.office_replies.specs.Responses.{body_of, worst_of, worse_of}
-use Rattle.office_replies.specs.declared.stream.StreamEnd.TheVariants.{Cut}
-use Rattle.office_replies.specs.Delivering.{LeadsOn}
-use Rattle.office_replies.specs.Fronts.{AppendsFront}
-use Rattle.office_replies.specs.StreamLines.{line, response_lines, worst_of_all}
-use Rattle.edi_syntax.specs.Streams.{CutsFrom}
+use Rattle.std.specs.{Prelude.{◌≡◌, ℕ, List, Option, None, Some}, Io.KnownBytes.Appends}
+use Rattle.edi_syntax.specs.{Cuts.IsPending, declared.cutter.CutFault.CutFault, Streams.CutsFrom}
+use Rattle.office_replies.specs.{declared.deliver.Response.Response, declared.deliver.Worst.Worst, Responses.{body_of, worst_of, worse_of}, Delivering.LeadsOn}
+use Rattle.office_replies.specs.{declared.stream.StreamEnd.TheVariants.Cut, Fronts.AppendsFront, StreamLines.{line, response_lines, worst_of_all}}
 use Rattle.office_replies.specs.Streams.{EndsAs}
 
 -- one interchange was delivered, and its line written

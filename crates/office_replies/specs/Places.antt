@@ -1,15 +1,8 @@
 -- Where a stream stands, and where it is cut. Counts go as far as 64 bits.
-use Rattle.std.specs.Prelude.{◌≡◌, ◌≢◌, ℕ, ◌+◌, ◌-◌, ◌^◌, min, Bool, List, [], Option, None, Some, length, if◌then◌else◌}
-use Rattle.std.specs.Io.KnownBytes.{Consumes}
-use Rattle.edi_syntax.specs.Reading.{breaks_len}
-use Rattle.edi_syntax.specs.Streams.{CutsFrom}
-use Rattle.edi_syntax.specs.declared.cutter.CutFault.{CutFault}
-use Rattle.office_replies.specs.Pieces.{LeavesOver}
-use Rattle.office_replies.specs.Streams.{EndsAs}
-use Rattle.office_replies.specs.declared.line.Cut.{Cut as StreamCut}
-use Rattle.office_replies.specs.declared.line.Place.{Place}
-use Rattle.office_replies.specs.declared.stream.StreamEnd.{StreamEnd}
-use Rattle.office_replies.specs.declared.stream.StreamEnd.TheVariants.{Whole, Open, Cut}
+use Rattle.std.specs.{Prelude.{◌≡◌, ◌≢◌, ℕ, ◌+◌, ◌-◌, ◌^◌, min, Bool, List, [], Option, None, Some, length, if◌then◌else◌}, Io.KnownBytes.Consumes}
+use Rattle.edi_syntax.specs.{Reading.breaks_len, Streams.CutsFrom, declared.cutter.CutFault.CutFault}
+use Rattle.office_replies.specs.{Pieces.LeavesOver, Streams.EndsAs, declared.line.Cut.Cut as StreamCut, declared.line.Place.Place}
+use Rattle.office_replies.specs.{declared.stream.StreamEnd.StreamEnd, declared.stream.StreamEnd.TheVariants.{Whole, Open, Cut}}
 
 abbrev pub capped_count : ℕ → ℕ
 capped_count n = min n (2 ^ 64 - 1)

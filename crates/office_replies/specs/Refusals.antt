@@ -1,9 +1,7 @@
 -- The bodies of refusals that carry no CONTRL.
 use Rattle.std.specs.Prelude.{ℕ, List, ◌++◌, codes}
 use Rattle.serde_json.specs.Data.{Data, object, no_members}
-use Rattle.office_replies.specs.Names.{fault_name}
-use Rattle.office_replies.specs.Members.{text_member}
-use Rattle.office_replies.specs.declared.deliver.Fault.{Fault}
+use Rattle.office_replies.specs.{Names.fault_name, Members.text_member, declared.deliver.Fault.Fault}
 
 abbrev pub named_refusal : List ℕ → List ℕ
 named_refusal name = codes "{\"answer\":\"refused\",\"fault\":\"" ++ name ++ codes "\"}"

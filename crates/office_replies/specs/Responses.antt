@@ -1,13 +1,10 @@
 -- Answers to deliveries: their status, their body, and how bad they are.
 use Rattle.std.specs.Prelude.{ℕ, List, codes, string_bytes}
 use Rattle.edi_syntax.specs.declared.interchange.SyntaxFault.{SyntaxFault}
-use Rattle.edi_syntax.specs.declared.interchange.SyntaxFault.TheVariants as syntax
-use Rattle.office_replies.specs.Refusals.{refusal_text}
-use Rattle.office_replies.specs.declared.deliver.Fault.{Fault}
-use Rattle.office_replies.specs.declared.deliver.Fault.TheVariants as fault
-use Rattle.office_replies.specs.declared.deliver.Response.{Response}
+use Rattle.office_replies.specs.{Refusals.refusal_text, declared.deliver.Fault.Fault, declared.deliver.Response.Response, declared.deliver.Worst.Worst}
 use Rattle.office_replies.specs.declared.deliver.Response.TheVariants.{Taken, Repeat, Waiting, Clash, Refused, RefusedWithContrl, NotNow}
-use Rattle.office_replies.specs.declared.deliver.Worst.{Worst}
+use Rattle.edi_syntax.specs.declared.interchange.SyntaxFault.TheVariants as syntax
+use Rattle.office_replies.specs.declared.deliver.Fault.TheVariants as fault
 use Rattle.office_replies.specs.declared.deliver.Worst.TheVariants as worst
 
 -- 413 for a text that is too long, 400 for every other fault

@@ -1,10 +1,8 @@
 -- What is sent of the JSON of a reply, member by member: what the code relies on, and no caller has to read.
 use Rattle.std.specs.Prelude.{ℕ, List, Option, None, Some, codes, option_map}
 use Rattle.serde.specs.Event.{Log}
-use Rattle.serde_json.specs.Data.{number, unsigned, Members, member, no_members}
-use Rattle.serde_json.specs.Events.{SendsMembers}
-use Rattle.office_replies.specs.declared.message_report.LineMembers.{LineMembers}
-use Rattle.office_replies.specs.Members.{text_member, optional_member}
+use Rattle.serde_json.specs.{Data.{number, unsigned, Members, member, no_members}, Events.SendsMembers}
+use Rattle.office_replies.specs.{declared.message_report.LineMembers.LineMembers, Members.{text_member, optional_member}}
 
 -- whatever members end an object well from here end it well, after those that were sent, from the start
 abbrev pub SendsFirst : (Members → Members) → Log → Log → Type 0

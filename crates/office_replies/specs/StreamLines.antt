@@ -1,13 +1,8 @@
 -- The lines that a stream is answered by.
 use Rattle.std.specs.Prelude.{ℕ, List, [], ◌∷◌, ◌++◌, codes, flat_map}
-use Rattle.edi_syntax.specs.Bytes.{line_feed}
-use Rattle.edi_syntax.specs.declared.cutter.CutFault.{CutFault}
-use Rattle.edi_syntax.specs.declared.cutter.CutFault.TheVariants.{TooLong, Service, Segment, Memory}
-use Rattle.office_replies.specs.declared.deliver.Response.{Response}
-use Rattle.office_replies.specs.declared.deliver.Worst.{Worst}
-use Rattle.office_replies.specs.declared.deliver.Worst.TheVariants.{Fine, Refused, NotNow}
-use Rattle.office_replies.specs.Responses.{body_of, worst_of, worse_of}
-use Rattle.office_replies.specs.declared.stream.StreamEnd.{StreamEnd}
+use Rattle.edi_syntax.specs.{Bytes.line_feed, declared.cutter.CutFault.CutFault, declared.cutter.CutFault.TheVariants.{TooLong, Service, Segment, Memory}}
+use Rattle.office_replies.specs.{declared.deliver.Response.Response, declared.deliver.Worst.Worst, declared.deliver.Worst.TheVariants.{Fine, Refused, NotNow}}
+use Rattle.office_replies.specs.{Responses.{body_of, worst_of, worse_of}, declared.stream.StreamEnd.StreamEnd}
 use Rattle.office_replies.specs.declared.stream.StreamEnd.TheVariants.{Whole, Open, Cut}
 
 -- a text and LF

@@ -1,18 +1,10 @@
 -- A stream as the interchanges that are cut out of it, and what is done with them.
-use Rattle.std.specs.Prelude.{◌≡◌, ◌≢◌, ◌⊎◌, ℕ, List, [], ◌∷◌, ◌++◌, Option, Result, Ok, Err}
-use Rattle.std.specs.Io.KnownBytes.{Consumes, Appends, IsAtEnd}
-use Rattle.edi_syntax.specs.Cuts.{IsPending, Faults, HasNoFault}
-use Rattle.edi_syntax.specs.Streams.{CutsFrom}
-use Rattle.edi_syntax.specs.declared.cutter.CutFault.{CutFault}
+use Rattle.std.specs.{Prelude.{◌≡◌, ◌≢◌, ◌⊎◌, ℕ, List, [], ◌∷◌, ◌++◌, Option, Result, Ok, Err}, Io.KnownBytes.{Consumes, Appends, IsAtEnd}}
+use Rattle.edi_syntax.specs.{Cuts.{IsPending, Faults, HasNoFault}, Streams.CutsFrom, declared.cutter.CutFault.CutFault}
 use Rattle.edi_syntax.specs.declared.cutter.CutFault.TheVariants.{TooLong, Service, Segment, Memory}
-use Rattle.office_replies.specs.declared.deliver.Response.{Response}
-use Rattle.office_replies.specs.declared.deliver.Worst.{Worst}
-use Rattle.office_replies.specs.Responses.{body_of, worse_of}
-use Rattle.office_replies.specs.Fronts.{IsFront}
-use Rattle.office_replies.specs.StreamLines.{line, end_text, end_worst, response_lines, worst_of_all}
-use Rattle.office_replies.specs.declared.stream.StreamEnd.{StreamEnd}
-use Rattle.office_replies.specs.declared.stream.StreamEnd.TheVariants.{Whole, Open, Cut}
-use Rattle.office_replies.specs.declared.stream.StreamFault.{StreamFault}
+use Rattle.office_replies.specs.{declared.deliver.Response.Response, declared.deliver.Worst.Worst, Responses.{body_of, worse_of}, Fronts.IsFront}
+use Rattle.office_replies.specs.{StreamLines.{line, end_text, end_worst, response_lines, worst_of_all}, declared.stream.StreamEnd.StreamEnd}
+use Rattle.office_replies.specs.{declared.stream.StreamEnd.TheVariants.{Whole, Open, Cut}, declared.stream.StreamFault.StreamFault}
 use Rattle.office_replies.specs.declared.stream.StreamFault.TheVariants.{Read, Write, Turns}
 
 -- ---- cutting

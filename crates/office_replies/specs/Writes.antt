@@ -1,10 +1,6 @@
 -- The writes that are made of a writer: `takes old bytes result new` is one of them.
-use Rattle.std.specs.Prelude.{flat_map, ◌≡◌, ◌≢◌, ℕ, ◌-◌, ◌^◌, ◌<◌, ◌⊎◌, List, [], ◌∷◌, ◌++◌, length, drop, Result, Ok, Err}
-use Rattle.std.specs.List.{concat}
-use Rattle.std.specs.Borrow.{Bor}
-use Rattle.std.specs.declared.io.Error.{Error}
-use Rattle.std.specs.declared.io.ErrorKind.TheVariants.{Interrupted, WriteZero}
-use Rattle.std.specs.IoError.{error_kind}
+use Rattle.std.specs.{Prelude.{flat_map, ◌≡◌, ◌≢◌, ℕ, ◌-◌, ◌^◌, ◌<◌, ◌⊎◌, List, [], ◌∷◌, ◌++◌, length, drop, Result, Ok, Err}, List.concat, Borrow.Bor}
+use Rattle.std.specs.{declared.io.Error.Error, declared.io.ErrorKind.TheVariants.{Interrupted, WriteZero}, IoError.error_kind}
 
 -- what a write leaves of the bytes that it was given
 abbrev pub left_of : List ℕ → Result ℕ Error → List ℕ

@@ -1,6 +1,5 @@
 ghost use Rattle.std.specs.Prelude.{ℕ, List, ◌≡◌, IfOk, string_bytes};
-ghost use Rattle.office_replies.specs.AccountAnswers.{account_data, account_added_text, account_known_text};
-ghost use Rattle.office_replies.specs.declared.accounts.AccountAnswer.{AccountAnswer};
+ghost use Rattle.office_replies.specs.{AccountAnswers.{account_data, account_added_text, account_known_text}, declared.accounts.AccountAnswer.AccountAnswer};
 ghost use Rattle.serde_json.specs.View.{view};
 
 use crate::deliver::{Deliver, Worst};

@@ -1,18 +1,9 @@
-ghost use Rattle.std.specs.Prelude.{◌≡◌, ◌++◌, IfNone, IfOk, IfSome, string_bytes, encode_utf8_all, OnOk, map};
-ghost use Rattle.std.specs.Str.{IsAscii};
-ghost use Rattle.json.specs.Print.{quoted};
-ghost use Rattle.json.specs.Run.{is_plain};
-ghost use Rattle.std.specs.List.{list_all};
+ghost use Rattle.std.specs.{Prelude.{◌≡◌, ◌++◌, IfNone, IfOk, IfSome, string_bytes, encode_utf8_all, OnOk, map}, Str.IsAscii, List.list_all};
+ghost use Rattle.json.specs.{Print.quoted, Run.is_plain};
 ghost use Rattle.office_replies.specs.Bodies.{answer_data, answer_text, waiting_data, waiting_text, clash_data, clash_text, refused_data, refused_text};
-ghost use Rattle.office_replies.specs.Members.{text_member};
-ghost use Rattle.office_replies.specs.Messages.{reply_text, report_content, reply_data};
-ghost use Rattle.office_replies.specs.Names.{syntax_name};
+ghost use Rattle.office_replies.specs.{Members.text_member, Messages.{reply_text, report_content, reply_data}, Names.syntax_name, Sent.SendsFirst};
 ghost use Rattle.office_replies.specs.Refusals.{refusal_text, named_refusal};
-ghost use Rattle.office_replies.specs.Sent.{SendsFirst};
-ghost use Rattle.serde_json.specs.Data.{member, number, unsigned, Data};
-ghost use Rattle.serde_json.specs.Events.{SendsValue};
-ghost use Rattle.serde_json.specs.View.{view};
-ghost use Rattle.serde_json.specs.Written.{compact_text};
+ghost use Rattle.serde_json.specs.{Data.{member, number, unsigned, Data}, Events.SendsValue, View.view, Written.compact_text};
 
 use crate::deliver::Fault;
 use crate::message_report::{MessageReport, send_messages};

@@ -1,7 +1,5 @@
 ghost use Rattle.std.specs.Prelude.{◌≡◌, ℕ, List};
-ghost use Rattle.office_replies.specs.Names.{syntax_name};
-ghost use Rattle.office_replies.specs.Responses.{syntax_status};
-ghost use Rattle.office_replies.specs.declared.deliver.Response.{Response};
+ghost use Rattle.office_replies.specs.{Names.syntax_name, Responses.syntax_status, declared.deliver.Response.Response};
 
 use crate::body::refusal_body;
 use edi_syntax::SyntaxFault;

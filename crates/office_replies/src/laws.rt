@@ -5,14 +5,9 @@
 //! kept.
 ghost use Rattle.std.specs.Prelude.{◌≡◌, ◌≢◌, ℕ, List, []};
 ghost use Rattle.serde_json.specs.Written.{compact_text};
-ghost use Rattle.office_replies.specs.declared.deliver.Fault.{Fault};
-ghost use Rattle.office_replies.specs.declared.accounts.AccountFault.{AccountFault};
-ghost use Rattle.office_replies.specs.AccountAnswers.{account_body, account_refusal_data};
-ghost use Rattle.office_replies.specs.Bodies.{not_now_data};
-ghost use Rattle.office_replies.specs.Messages.{ReportContent, reply_content_text};
+ghost use Rattle.office_replies.specs.{declared.deliver.Fault.Fault, declared.accounts.AccountFault.AccountFault, Bodies.not_now_data, Responses.body_of};
+ghost use Rattle.office_replies.specs.{AccountAnswers.{account_body, account_refusal_data}, Messages.{ReportContent, reply_content_text}, Streams.CutsAreOne};
 ghost use Rattle.office_replies.specs.Refusals.{refusal_text, refusal_data};
-ghost use Rattle.office_replies.specs.Responses.{body_of};
-ghost use Rattle.office_replies.specs.Streams.{CutsAreOne};
 ghost use Rattle.office_replies.specs.declared.deliver.Response.TheVariants as response;
 ghost use Rattle.office_replies.specs.declared.accounts.AccountAnswer.TheVariants as account;
 

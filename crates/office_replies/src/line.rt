@@ -1,11 +1,7 @@
-ghost use Rattle.std.specs.Io.KnownBytes.{Appends};
-ghost use Rattle.std.specs.Prelude.{◌≡◌, true, OnOk, OnErr, ◌≤◌, false, length};
+ghost use Rattle.std.specs.{Io.KnownBytes.Appends, Prelude.{◌≡◌, true, OnOk, OnErr, ◌≤◌, false, length}};
 ghost use Rattle.edi_syntax.specs.Reading.{breaks_len};
-ghost use Rattle.office_replies.specs.Responses.{body_of};
-ghost use Rattle.office_replies.specs.Fronts.{AppendsFront};
-ghost use Rattle.office_replies.specs.StreamLines.{line, end_text, end_worst};
-ghost use Rattle.office_replies.specs.Places.{cut_by, cut_for, with_passed, with_piece, with_whole};
-ghost use Rattle.office_replies.specs.Writes.{WritesOut, WritesPieces, joined_parts};
+ghost use Rattle.office_replies.specs.{Responses.body_of, Fronts.AppendsFront, StreamLines.{line, end_text, end_worst}};
+ghost use Rattle.office_replies.specs.{Places.{cut_by, cut_for, with_passed, with_piece, with_whole}, Writes.{WritesOut, WritesPieces, joined_parts}};
 
 use crate::port::{Gathered, Port, Sink};
 use crate::stream::StreamEnd;

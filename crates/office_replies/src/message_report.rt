@@ -1,13 +1,8 @@
-ghost use Rattle.std.specs.Option.{option_map};
-ghost use Rattle.std.specs.Prelude.{◌≡◌, ◌+◌, ◌≤◌, ◌<◌, ◌^◌, OnOk, length, map, encode_utf8_all};
-ghost use Rattle.office_replies.specs.Lines.{lines_from, line_data, outcome_members, refusal_members};
-ghost use Rattle.office_replies.specs.Members.{refused_members, settled_members, optional_member};
+ghost use Rattle.std.specs.{Option.option_map, Prelude.{◌≡◌, ◌+◌, ◌≤◌, ◌<◌, ◌^◌, OnOk, length, map, encode_utf8_all}};
+ghost use Rattle.office_replies.specs.{Lines.{lines_from, line_data, outcome_members, refusal_members}, Names.{reason_name, message_fault_name}};
+ghost use Rattle.office_replies.specs.{Members.{refused_members, settled_members, optional_member}, Sent.{SendsFirst, optional_count, members_told}};
 ghost use Rattle.office_replies.specs.Messages.{accepted_members, common_members, message_data, messages_data, rejected_members};
-ghost use Rattle.office_replies.specs.Names.{reason_name, message_fault_name};
-ghost use Rattle.office_replies.specs.Sent.{SendsFirst, optional_count, members_told};
-ghost use Rattle.serde_json.specs.Data.{array, object};
-ghost use Rattle.serde_json.specs.Events.{SendsMembers, SendsValue, members_len};
-ghost use Rattle.serde_json.specs.View.{items_of};
+ghost use Rattle.serde_json.specs.{Data.{array, object}, Events.{SendsMembers, SendsValue, members_len}, View.items_of};
 
 use crate::body::{as_ascii, send_number, send_text};
 use box6346::BoxNumber;

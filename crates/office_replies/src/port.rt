@@ -1,11 +1,8 @@
-ghost use Rattle.std.specs.Io.{ReadsAtMost, WritesAtMost};
-ghost use Rattle.std.specs.Io.KnownBytes.{ReadConsumes, WriteAppends, Keeps, Appends};
-ghost use Rattle.std.specs.IoError.{error_kind};
+ghost use Rattle.std.specs.{Io.{ReadsAtMost, WritesAtMost}, Io.KnownBytes.{ReadConsumes, WriteAppends, Keeps, Appends}, IoError.error_kind};
 ghost use Rattle.std.specs.Prelude.{◌≡◌, ◌≤◌, ◌+◌, ◌++◌, ◌↔◌, [], length, IsTrue, ℕ, ◌-◌, ◌^◌, ◌==◌, min, take, true, false, IfOk, OnOk, OnErr};
 ghost use Rattle.std.specs.declared.io.ErrorKind.TheVariants.{Interrupted};
 ghost use Rattle.arrayvec.specs.ArrayVec.{array_vec_len};
-ghost use Rattle.office_replies.specs.Fronts.{AppendsFront};
-ghost use Rattle.office_replies.specs.Writes.{WritesOut};
+ghost use Rattle.office_replies.specs.{Fronts.AppendsFront, Writes.WritesOut};
 
 use arrayvec::ArrayVec;
 use std::io::{Error, ErrorKind, Read, Result, Write};

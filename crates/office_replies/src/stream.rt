@@ -1,15 +1,9 @@
 ghost use Rattle.std.specs.Io.KnownBytes.{Appends};
 ghost use Rattle.std.specs.Prelude.{◌≡◌, ◌≢◌, ◌+◌, ◌-◌, ◌^◌, ◌≤◌, ◌<◌, min, true, false, IfOk, IfErr, OnOk, OnErr, ◌++◌, ℕ, List, None};
 ghost use Rattle.edi_syntax.specs.Cuts.{pending_bytes};
-ghost use Rattle.office_replies.specs.AccountAnswers.{account_body};
-ghost use Rattle.office_replies.specs.Delivering.{LeadsOn};
-ghost use Rattle.office_replies.specs.Responses.{worse_of, body_of};
-ghost use Rattle.office_replies.specs.Accounts.{AccountCutShort, AnsweredAccount};
-ghost use Rattle.office_replies.specs.Faults.{MatchFault};
-ghost use Rattle.office_replies.specs.Fronts.{AppendsFront};
-ghost use Rattle.office_replies.specs.StreamLines.{end_text, end_worst, line};
-ghost use Rattle.office_replies.specs.Pieces.{AnsweredOne, DeliveredOne, EndsPiece, PieceAnswered};
-ghost use Rattle.office_replies.specs.Places.{CutsAt, cut_by, Follows, PassesPiece};
+ghost use Rattle.office_replies.specs.{AccountAnswers.account_body, Delivering.LeadsOn, Responses.{worse_of, body_of}, Faults.MatchFault, Fronts.AppendsFront};
+ghost use Rattle.office_replies.specs.{Accounts.{AccountCutShort, AnsweredAccount}, StreamLines.{end_text, end_worst, line}};
+ghost use Rattle.office_replies.specs.{Pieces.{AnsweredOne, DeliveredOne, EndsPiece, PieceAnswered}, Places.{CutsAt, cut_by, Follows, PassesPiece}};
 ghost use Rattle.office_replies.specs.Streams.{Streams, port_bytes, LineCutShort};
 
 use crate::line::{Cut, Place, end_worst, write_end, write_line, write_response};

@@ -1,30 +1,15 @@
 -- A report has no float, so its text is known.
-use Rattle.std.proofs.Common.{◌≡◌, ℕ, ℤ, pos, negsuc, List, [], ◌∷◌, Bool, true, false, cond, Option, Some, None, map, refl}
-use Rattle.std.specs.Prelude.{◌==◌}
-use Rattle.serde_json.specs.Data.{Data, null, number, unsigned}
-use Rattle.serde_json.specs.Find.{of_integer}
-use Rattle.serde_json.specs.View.{items_of}
-use Rattle.serde_json.specs.Written.{has_float, items_have_float}
+use Rattle.std.{specs.Prelude.◌==◌, proofs.Common.{◌≡◌, ℕ, ℤ, pos, negsuc, List, [], ◌∷◌, Bool, true, false, cond, Option, Some, None, map, refl}}
+use Rattle.serde_json.specs.{Data.{Data, null, number, unsigned}, Find.of_integer, View.items_of, Written.{has_float, items_have_float}}
 use Rattle.edi_syntax.specs.Moments.{CivilMoment}
-use Rattle.terminal_core.specs.declared.visits.Departure.{Departure}
-use Rattle.terminal_core.specs.Rows.{VisitContent}
-use Rattle.terminal_core.specs.State.{LineContent, LineKey}
+use Rattle.terminal_core.specs.{declared.visits.Departure.Departure, Rows.VisitContent, State.{LineContent, LineKey}}
 use Rattle.office_admission.specs.Setups.{SetupContent}
-use Rattle.office_reports.specs.declared.blocks.BlockRow.{BlockRow}
-use Rattle.office_reports.specs.declared.yard.Standing.{Standing}
-use Rattle.office_reports.specs.Containers.{ContainerContent, StayContent}
-use Rattle.office_reports.specs.Partners.{PartnerRowContent}
-use Rattle.office_reports.specs.Passages.{departure_by}
-use Rattle.office_reports.specs.Work.{JobContent}
-use Rattle.office_report_data.specs.Blocks.{block_data}
-use Rattle.office_report_data.specs.Containers.{container_data, line_data, passage_data, stay_data}
-use Rattle.office_report_data.specs.Lists.{listed_data}
-use Rattle.office_report_data.specs.Partners.{partner_data, waiting_data}
-use Rattle.office_report_data.specs.Tickets.{closed_data, exit_data, opened_data}
-use Rattle.office_report_data.specs.Visits.{days_data, visit_data}
-use Rattle.office_report_data.specs.Words.{container_or_null, number_or_null, or_null, text_or_null}
+use Rattle.office_reports.specs.{declared.blocks.BlockRow.BlockRow, declared.yard.Standing.Standing, Containers.{ContainerContent, StayContent}}
+use Rattle.office_reports.specs.{Partners.PartnerRowContent, Passages.departure_by, Work.JobContent}
+use Rattle.office_report_data.specs.{Blocks.block_data, Containers.{container_data, line_data, passage_data, stay_data}, Lists.listed_data, Yard.standing_data}
+use Rattle.office_report_data.specs.{Partners.{partner_data, waiting_data}, Tickets.{closed_data, exit_data, opened_data}, Visits.{days_data, visit_data}}
+use Rattle.office_report_data.specs.Words.{number_or_null, or_null, text_or_null}
 use Rattle.office_report_data.specs.Work.{job_data, size_or_null, slot_or_null}
-use Rattle.office_report_data.specs.Yard.{standing_data}
 
 -- ---- what may be null
 

@@ -1,14 +1,10 @@
 -- A front, rows and a back are the JSON of the whole.
 use Rattle.std.proofs.Common.{◌≡◌, ◌∙◌, ap, ℕ, List, ◌∷◌, ◌++◌, append_assoc, codes, decimal, false}
 use Rattle.json.specs.Print.{quoted}
-use Rattle.serde_json.specs.Data.{Items, array, object, member, no_members, number, unsigned, string}
-use Rattle.serde_json.specs.Written.{compact_text, items_text, members_text}
+use Rattle.serde_json.specs.{Data.{Items, array, object, member, no_members, number, unsigned, string}, Written.{compact_text, items_text, members_text}}
 use Rattle.serde_json.proofs.OnLiterals.{serde_json_on_literals}
-use Rattle.office_report_data.specs.Archives.{ToldContent, archives_data, archives_front, members_of, told_data}
-use Rattle.office_report_data.specs.Rows.{list_back, object_back, rows_front}
-use Rattle.office_report_data.specs.Tickets.{closed_front, opened_front, ticket_back}
-use Rattle.office_report_data.specs.Visits.{visits_front}
-use Rattle.office_report_data.specs.Work.{lines_member, work_front}
+use Rattle.office_report_data.specs.{Archives.{ToldContent, archives_data, archives_front, members_of, told_data}, Rows.{list_back, object_back, rows_front}}
+use Rattle.office_report_data.specs.{Tickets.{closed_front, opened_front, ticket_back}, Visits.visits_front, Work.{lines_member, work_front}}
 
 of_three : (start a b c : List ℕ) → (start ++ a ++ b ++ c) ≡ start ++ (a ++ b ++ c)
 of_three start a b c = simp append_assoc

@@ -1,6 +1,5 @@
 -- How many archives were not asked, in JSON.
-use Rattle.std.specs.Prelude.{ℕ, zero, suc, List, ◌++◌, codes, decimal, Option, None, Some}
-use Rattle.std.specs.Option.{option_map}
+use Rattle.std.specs.{Prelude.{ℕ, zero, suc, List, ◌++◌, codes, decimal, Option, None, Some}, Option.option_map}
 use Rattle.serde_json.specs.Data.{Data, Members, member, no_members, number, object, unsigned}
 
 -- what a report tells: an object of a first member and others

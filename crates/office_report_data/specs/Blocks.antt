@@ -1,10 +1,8 @@
 -- The report on the blocks of the yard as JSON and as CSV.
 use Rattle.std.specs.Prelude.{ℕ, List, [], ◌∷◌, codes, decimal, encode_utf8_all}
 use Rattle.serde_json.specs.Data.{Data, string, number, unsigned, object, member, no_members}
-use Rattle.office_reports.specs.Blocks.{BlocksContent, cell_count, used_cells}
-use Rattle.office_reports.specs.declared.blocks.BlockRow.{BlockRow}
-use Rattle.office_report_data.specs.Rows.{rows_object}
-use Rattle.office_report_data.specs.Tables.{table_text}
+use Rattle.office_reports.specs.{Blocks.{BlocksContent, cell_count, used_cells}, declared.blocks.BlockRow.BlockRow}
+use Rattle.office_report_data.specs.{Rows.rows_object, Tables.table_text}
 
 -- the letter of a block as text
 abbrev pub letter_text : ℕ → List ℕ

@@ -3,10 +3,7 @@ use Rattle.std.specs.Prelude.{ℕ, List, [], ◌∷◌, codes, decimal}
 use Rattle.serde_json.specs.Data.{Data, null, string, number, unsigned, object, member, no_members}
 use Rattle.terminal_core.specs.State.{LineKey}
 use Rattle.office_reports.specs.declared.calls.ListCount.{ListCount}
-use Rattle.office_report_data.specs.Archives.{ToldContent, told_data}
-use Rattle.office_report_data.specs.Rows.{rows_data}
-use Rattle.office_report_data.specs.Tables.{table_text}
-use Rattle.office_report_data.specs.Words.{side_word}
+use Rattle.office_report_data.specs.{Archives.{ToldContent, told_data}, Rows.rows_data, Tables.table_text, Words.side_word}
 
 abbrev pub call_data : LineKey × ListCount → Data
 call_data ((vessel ∷ voyage ∷ side ∷ []), count) =

@@ -3,11 +3,8 @@ use Rattle.std.specs.Prelude.{ℕ, List, [], ◌∷◌, codes}
 use Rattle.serde_json.specs.Data.{Data, null, string, number, unsigned, object, member, no_members}
 use Rattle.edi_syntax.specs.Moments.{moment_text}
 use Rattle.terminal_core.specs.State.{LineContent, LineKey}
-use Rattle.office_reports.specs.Containers.{ContainerContent, StayContent}
-use Rattle.office_reports.specs.Names.{slot_name}
-use Rattle.office_reports.specs.Passages.{PassageContent}
-use Rattle.office_report_data.specs.Archives.{ToldContent, told_data}
-use Rattle.office_report_data.specs.Rows.{rows_data}
+use Rattle.office_reports.specs.{Containers.{ContainerContent, StayContent}, Names.slot_name, Passages.PassageContent}
+use Rattle.office_report_data.specs.{Archives.{ToldContent, told_data}, Rows.rows_data}
 use Rattle.office_report_data.specs.Words.{container_or_null, load_word, number_or_null, or_null, side_word, text_or_null, way_word}
 
 -- an open line that names the container

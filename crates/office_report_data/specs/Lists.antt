@@ -3,9 +3,7 @@ use Rattle.std.specs.Prelude.{ℕ, List, [], ◌∷◌, codes}
 use Rattle.serde_json.specs.Data.{Data, string, object, member, no_members}
 use Rattle.terminal_core.specs.State.{LineContent, side_code}
 use Rattle.office_reports.specs.Lists.{ListContent}
-use Rattle.office_report_data.specs.Rows.{rows_data}
-use Rattle.office_report_data.specs.Tables.{table_text}
-use Rattle.office_report_data.specs.Words.{side_word, state_word, text_or_null}
+use Rattle.office_report_data.specs.{Rows.rows_data, Tables.table_text, Words.{side_word, state_word, text_or_null}}
 
 -- a line, under its container
 abbrev pub listed_data : List ℕ × LineContent → Data

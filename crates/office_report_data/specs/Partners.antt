@@ -2,9 +2,7 @@
 use Rattle.std.specs.Prelude.{ℕ, List, [], ◌∷◌, codes, decimal}
 use Rattle.serde_json.specs.Data.{Data, string, number, unsigned, object, member, no_members}
 use Rattle.office_reports.specs.Partners.{PartnerRowContent, PartnersContent, WaitingContent}
-use Rattle.office_report_data.specs.Rows.{rows_object}
-use Rattle.office_report_data.specs.Tables.{table_text}
-use Rattle.office_report_data.specs.Words.{field_of, kind_word, or_null}
+use Rattle.office_report_data.specs.{Rows.rows_object, Tables.table_text, Words.{field_of, kind_word, or_null}}
 
 abbrev pub waiting_data : WaitingContent → Data
 waiting_data waiting =

@@ -1,8 +1,7 @@
 -- How a list of rows is JSON: a front, the rows one at a time, and a back.
 use Rattle.std.specs.Prelude.{ℕ, List, ◌++◌, codes, map}
 use Rattle.json.specs.Print.{quoted}
-use Rattle.serde_json.specs.Data.{Data, array, object, member, no_members}
-use Rattle.serde_json.specs.View.{items_of}
+use Rattle.serde_json.specs.{Data.{Data, array, object, member, no_members}, View.items_of}
 
 abbrev pub rows_data : {X : Type 0} → (X → Data) → List X → Data
 rows_data row rows = array (items_of (map row rows))

@@ -1,7 +1,5 @@
 -- How rows are comma-separated values: records (RFC 4180) with LF at the end of each.
-use Rattle.std.specs.Prelude.{◌≡◌, ℕ, List, ◌++◌, Vec, false}
-use Rattle.std.specs.List.{flat_map}
-use Rattle.std.specs.declared.alloc.Global.{Global}
+use Rattle.std.specs.{Prelude.{◌≡◌, ℕ, List, ◌++◌, Vec, false}, List.flat_map, declared.alloc.Global.Global}
 use Rattle.csv.specs.Writing.{default_writer, row_text, writer_setup, writer_under, writer_pending, fields_written, has_written}
 use Rattle.csv.specs.declared.writer.Writer.{Writer}
 

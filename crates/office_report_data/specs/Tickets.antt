@@ -3,12 +3,9 @@ use Rattle.std.specs.Prelude.{ℕ, List, ◌++◌, codes, decimal, Option}
 use Rattle.json.specs.Print.{quoted}
 use Rattle.serde_json.specs.Data.{Data, string, number, unsigned, object, member, no_members}
 use Rattle.edi_syntax.specs.Moments.{moment_text}
-use Rattle.terminal_core.specs.declared.visits.Departure.{Departure}
-use Rattle.terminal_core.specs.Rows.{VisitContent}
-use Rattle.office_reports.specs.Names.{slot_name}
-use Rattle.office_reports.specs.Tickets.{TicketContent}
-use Rattle.office_report_data.specs.Rows.{rows_data}
-use Rattle.office_report_data.specs.Words.{load_word, or_null}
+use Rattle.terminal_core.specs.{declared.visits.Departure.Departure, Rows.VisitContent}
+use Rattle.office_reports.specs.{Names.slot_name, Tickets.TicketContent}
+use Rattle.office_report_data.specs.{Rows.rows_data, Words.{load_word, or_null}}
 
 -- a visit that the interchange opened: what came, when, and where it was put
 abbrev pub opened_data : VisitContent → Data

@@ -2,47 +2,18 @@
 use Rattle.std.specs.Prelude.{ℕ, List, Option, None, Some, codes}
 use Rattle.box6346.specs.declared.box_number.BoxNumber.{BoxNumber}
 use Rattle.serde_json.specs.Written.{compact_text}
-use Rattle.terminal_core.specs.Rows.{VisitContent}
-use Rattle.terminal_core.specs.State.{LineContent, LineKey}
+use Rattle.terminal_core.specs.{Rows.VisitContent, State.{LineContent, LineKey}}
 use Rattle.office_replies.specs.Bodies.{answer_text, waiting_text}
-use Rattle.office_reports.specs.Blocks.{BlocksContent, blocks_text}
-use Rattle.office_reports.specs.Calls.{lists_text}
-use Rattle.office_reports.specs.Containers.{ContainerContent, container_text}
-use Rattle.office_reports.specs.Lists.{ListContent, list_text}
-use Rattle.office_reports.specs.Partners.{PartnerRowContent, PartnersContent, row_line, rows_text}
-use Rattle.office_reports.specs.Tickets.{TicketContent, told_text}
-use Rattle.office_reports.specs.Visits.{VisitsContent, rows_text as visits_text}
-use Rattle.office_reports.specs.Work.{WorkContent, work_text}
-use Rattle.office_reports.specs.Yard.{yard_text}
-use Rattle.office_reports.specs.declared.calls.ListCount.{ListCount}
-use Rattle.office_reports.specs.declared.query.View.{View}
-use Rattle.office_reports.specs.declared.query.View.TheVariants.{Text, Json, Csv, Page}
-use Rattle.office_reports.specs.declared.yard.Standing.{Standing}
-use Rattle.office_pages.specs.Blocks.{blocks_page}
-use Rattle.office_pages.specs.Calls.{calls_page}
-use Rattle.office_pages.specs.Container.{container_page}
-use Rattle.office_pages.specs.Contrl.{contrl_page}
-use Rattle.office_pages.specs.Drawn.{picture_view}
-use Rattle.office_pages.specs.Found.{found_page}
-use Rattle.office_pages.specs.Lists.{list_page}
-use Rattle.office_pages.specs.Partner.{partner_page}
-use Rattle.office_pages.specs.Partners.{partners_page}
-use Rattle.office_pages.specs.Reply.{reply_page, waiting_page}
-use Rattle.office_pages.specs.Start.{StartContent, office_page}
-use Rattle.office_pages.specs.Tickets.{ticket_page}
-use Rattle.office_pages.specs.Visits.{visits_page}
-use Rattle.office_pages.specs.Wanted.{expected_page}
-use Rattle.office_pages.specs.Work.{work_page}
-use Rattle.office_pages.specs.Yard.{yard_page}
-use Rattle.office_report_data.specs.Blocks.{blocks_data, blocks_table}
-use Rattle.office_report_data.specs.Calls.{calls_data, calls_table}
-use Rattle.office_report_data.specs.Containers.{container_data}
-use Rattle.office_report_data.specs.Lists.{list_data, list_table}
-use Rattle.office_report_data.specs.Partners.{partner_data, partners_data, partners_table}
-use Rattle.office_report_data.specs.Tickets.{ticket_data}
-use Rattle.office_report_data.specs.Visits.{visits_data, visits_table}
-use Rattle.office_report_data.specs.Work.{work_data, work_table}
-use Rattle.office_report_data.specs.Yard.{yard_data, yard_table}
+use Rattle.office_reports.specs.{Blocks.{BlocksContent, blocks_text}, Calls.lists_text, Containers.{ContainerContent, container_text}, Yard.yard_text}
+use Rattle.office_reports.specs.{Lists.{ListContent, list_text}, Partners.{PartnerRowContent, PartnersContent, row_line, rows_text}, declared.query.View.View}
+use Rattle.office_reports.specs.{Tickets.{TicketContent, told_text}, Visits.{VisitsContent, rows_text as visits_text}, Work.{WorkContent, work_text}}
+use Rattle.office_reports.specs.{declared.calls.ListCount.ListCount, declared.query.View.TheVariants.{Text, Json, Csv, Page}, declared.yard.Standing.Standing}
+use Rattle.office_pages.specs.{Blocks.blocks_page, Calls.calls_page, Container.container_page, Contrl.contrl_page, Drawn.picture_view, Found.found_page}
+use Rattle.office_pages.specs.{Lists.list_page, Partner.partner_page, Partners.partners_page, Reply.{reply_page, waiting_page}, Tickets.ticket_page}
+use Rattle.office_pages.specs.{Start.{StartContent, office_page}, Visits.visits_page, Wanted.expected_page, Work.work_page, Yard.yard_page}
+use Rattle.office_report_data.specs.{Blocks.{blocks_data, blocks_table}, Calls.{calls_data, calls_table}, Containers.container_data, Tickets.ticket_data}
+use Rattle.office_report_data.specs.{Lists.{list_data, list_table}, Partners.{partner_data, partners_data, partners_table}, Visits.{visits_data, visits_table}}
+use Rattle.office_report_data.specs.{Work.{work_data, work_table}, Yard.{yard_data, yard_table}}
 
 -- the value of a report, or a text that is the same however it is shown: a number, health and the metrics
 pub data ReportContent : Type 0 where

@@ -1,20 +1,12 @@
 -- The report on a container's visits as JSON and as CSV.
-use Rattle.std.specs.Prelude.{ℕ, ◌-ℤ◌, List, [], ◌∷◌, ◌++◌, codes, decimal, string_bytes, Option, None, Some}
-use Rattle.std.specs.Fmt.{signed_decimal}
+use Rattle.std.specs.{Prelude.{ℕ, ◌-ℤ◌, List, [], ◌∷◌, ◌++◌, codes, decimal, string_bytes, Option, None, Some}, Fmt.signed_decimal}
 use Rattle.json.specs.Print.{quoted}
-use Rattle.serde_json.specs.Data.{Data, string, number, unsigned, object, member, no_members}
-use Rattle.serde_json.specs.Find.{of_integer}
+use Rattle.serde_json.specs.{Data.{Data, string, number, unsigned, object, member, no_members}, Find.of_integer}
 use Rattle.edi_syntax.specs.Moments.{CivilMoment, day_number, moment_text}
-use Rattle.terminal_core.specs.declared.visits.Departure.{Departure}
-use Rattle.terminal_core.specs.Rows.{VisitContent}
+use Rattle.terminal_core.specs.{declared.visits.Departure.Departure, Rows.VisitContent}
 use Rattle.office_admission.specs.Setups.{SetupContent}
-use Rattle.office_reports.specs.Names.{slot_name}
-use Rattle.office_reports.specs.Passages.{PassageContent, arrival_by, departure_by}
-use Rattle.office_reports.specs.Visits.{VisitsContent}
-use Rattle.office_report_data.specs.Archives.{ToldContent, told_data}
-use Rattle.office_report_data.specs.Containers.{passage_data}
-use Rattle.office_report_data.specs.Rows.{rows_data}
-use Rattle.office_report_data.specs.Tables.{table_text}
+use Rattle.office_reports.specs.{Names.slot_name, Passages.{PassageContent, arrival_by, departure_by}, Visits.VisitsContent}
+use Rattle.office_report_data.specs.{Archives.{ToldContent, told_data}, Containers.passage_data, Rows.rows_data, Tables.table_text}
 use Rattle.office_report_data.specs.declared.visits.PassageFields.{PassageFields}
 use Rattle.office_report_data.specs.Words.{load_word, field_of, number_field, number_or_null, or_null, text_or_null, way_word}
 

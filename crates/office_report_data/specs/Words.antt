@@ -1,16 +1,11 @@
 -- What values say in JSON and CSV: words in small letters, and nothing for what there is not.
-use Rattle.std.specs.Prelude.{ℕ, ◌==◌, Bool, List, [], ◌∷◌, codes, decimal, Option, None, Some, if◌then◌else◌}
-use Rattle.std.specs.Str.{bytes_eq}
+use Rattle.std.specs.{Prelude.{ℕ, ◌==◌, Bool, List, [], ◌∷◌, codes, decimal, Option, None, Some, if◌then◌else◌}, Str.bytes_eq}
 use Rattle.serde_json.specs.Data.{Data, null, string, number, unsigned}
 use Rattle.box6346.specs.declared.box_number.BoxNumber.{BoxNumber}
 use Rattle.edi_messages.specs.declared.codes.PartnerKind.{PartnerKind}
+use Rattle.terminal_core.specs.{declared.lines.LineState.LineState, declared.lines.LineState.TheVariants.{Pending, Done}, declared.lines.Side.TheVariants.Load}
+use Rattle.terminal_core.specs.{declared.visits.Way.Way, declared.visits.Way.TheVariants.{Gate, Ship}, State.side_code}
 use Rattle.edi_messages.specs.declared.codes.PartnerKind.TheVariants as kind
-use Rattle.terminal_core.specs.declared.lines.LineState.{LineState}
-use Rattle.terminal_core.specs.declared.lines.LineState.TheVariants.{Pending, Done}
-use Rattle.terminal_core.specs.declared.lines.Side.TheVariants.{Load}
-use Rattle.terminal_core.specs.declared.visits.Way.{Way}
-use Rattle.terminal_core.specs.declared.visits.Way.TheVariants.{Gate, Ship}
-use Rattle.terminal_core.specs.State.{side_code}
 
 -- ---- words
 

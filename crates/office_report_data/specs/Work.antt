@@ -2,12 +2,8 @@
 use Rattle.std.specs.Prelude.{ℕ, List, [], ◌∷◌, ◌++◌, codes, decimal, Option}
 use Rattle.serde_json.specs.Data.{Data, string, number, unsigned, object, member, no_members}
 use Rattle.terminal_core.specs.State.{side_code}
-use Rattle.office_reports.specs.Names.{slot_name}
-use Rattle.office_reports.specs.Work.{JobContent, WorkContent, in_order}
-use Rattle.office_reports.specs.declared.yard.Standing.{Standing}
-use Rattle.office_report_data.specs.Rows.{rows_data}
-use Rattle.office_report_data.specs.Tables.{table_text}
-use Rattle.office_report_data.specs.Words.{container_field, container_or_null, field_of, or_null, side_word, text_or_null}
+use Rattle.office_reports.specs.{Names.slot_name, Work.{JobContent, WorkContent, in_order}, declared.yard.Standing.Standing}
+use Rattle.office_report_data.specs.{Rows.rows_data, Tables.table_text, Words.{container_field, container_or_null, field_of, or_null, side_word, text_or_null}}
 
 -- where it is, and what, if it is in the yard
 

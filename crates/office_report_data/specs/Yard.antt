@@ -1,14 +1,9 @@
 -- The report on the yard as JSON and as CSV.
-use Rattle.std.specs.Prelude.{ℕ, List, [], ◌∷◌, ◌++◌, codes, encode_utf8_all}
-use Rattle.std.specs.List.{flat_map}
-use Rattle.std.specs.Map.{values_of}
+use Rattle.std.specs.{Prelude.{ℕ, List, [], ◌∷◌, ◌++◌, codes, encode_utf8_all}, List.flat_map, Map.values_of}
 use Rattle.serde_json.specs.Data.{Data, string, object, member, no_members}
 use Rattle.box6346.specs.SlotName.{slot_text}
-use Rattle.office_reports.specs.Names.{slot_name}
-use Rattle.office_reports.specs.declared.yard.Standing.{Standing}
-use Rattle.office_report_data.specs.Rows.{rows_object}
-use Rattle.office_report_data.specs.Tables.{record_text}
-use Rattle.office_report_data.specs.Words.{load_word}
+use Rattle.office_reports.specs.{Names.slot_name, declared.yard.Standing.Standing}
+use Rattle.office_report_data.specs.{Rows.rows_object, Tables.record_text, Words.load_word}
 
 abbrev pub standing_data : Standing → Data
 standing_data standing =

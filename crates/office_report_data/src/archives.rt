@@ -1,9 +1,7 @@
 //! How many archives were not asked, in JSON.
 ghost use Rattle.office_report_data.specs.Archives.{ToldContent, archives_data, archives_front, members_of, told_data, with_archives};
-ghost use Rattle.serde_json.specs.Data.{no_members};
-ghost use Rattle.serde_json.specs.Written.{compact_text};
-ghost use Rattle.std.specs.Option.{option_map};
-ghost use Rattle.std.specs.Prelude.{◌≡◌, ◌++◌, Option, codes, string_bytes, IfOk};
+ghost use Rattle.serde_json.specs.{Data.no_members, Written.compact_text};
+ghost use Rattle.std.specs.{Option.option_map, Prelude.{◌≡◌, ◌++◌, Option, codes, string_bytes, IfOk}};
 
 use crate::rows::push_back;
 use std::alloc::{AllocError, Global};

@@ -2,10 +2,8 @@
 ghost use Rattle.office_report_data.specs.Blocks.{block_data, block_fields, blocks_data, blocks_header, blocks_table, letter_text};
 ghost use Rattle.office_report_data.specs.Tables.{HasGiven, IsBetweenRecords, record_text, written_rows};
 ghost use Rattle.office_reports.specs.Blocks.{blocks_content, used_cells};
-ghost use Rattle.serde_json.specs.View.{items_of, view};
-ghost use Rattle.serde_json.specs.Written.{compact_text, items_text};
-ghost use Rattle.std.specs.List.{flat_map};
-ghost use Rattle.std.specs.Prelude.{◌≡◌, ◌++◌, false, map, string_bytes, IfOk, IfSome, OnOk};
+ghost use Rattle.serde_json.specs.{View.{items_of, view}, Written.{compact_text, items_text}};
+ghost use Rattle.std.specs.{List.flat_map, Prelude.{◌≡◌, ◌++◌, false, map, string_bytes, IfOk, IfSome, OnOk}};
 
 use crate::rows::{push_back, push_row, rows_front};
 use crate::tables::{push_record, table_text, table_under};

@@ -1,13 +1,8 @@
 //! The report on a container as JSON.
-ghost use Rattle.office_report_data.specs.Containers.{container_data, line_data, passage_data, stay_data};
-ghost use Rattle.office_report_data.specs.Rows.{rows_data};
-ghost use Rattle.office_report_data.specs.Words.{or_null};
-ghost use Rattle.office_reports.specs.Containers.{container_content, stay_content};
-ghost use Rattle.office_reports.specs.Passages.{passage_content};
-ghost use Rattle.serde_json.specs.View.{view};
-ghost use Rattle.serde_json.specs.Written.{compact_text};
-ghost use Rattle.std.specs.Option.{option_map};
-ghost use Rattle.std.specs.Prelude.{◌≡◌, map, string_bytes, IfOk};
+ghost use Rattle.office_report_data.specs.{Containers.{container_data, line_data, passage_data, stay_data}, Rows.rows_data, Words.or_null};
+ghost use Rattle.office_reports.specs.{Containers.{container_content, stay_content}, Passages.passage_content};
+ghost use Rattle.serde_json.specs.{View.view, Written.compact_text};
+ghost use Rattle.std.specs.{Option.option_map, Prelude.{◌≡◌, map, string_bytes, IfOk}};
 ghost use Rattle.terminal_core.specs.Listings.{line_entry};
 
 use crate::words::{

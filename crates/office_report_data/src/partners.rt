@@ -1,13 +1,9 @@
 //! The report on the partners as JSON and as CSV.
 ghost use Rattle.office_report_data.specs.Partners.{partner_data, partner_fields, partners_data, partners_header, partners_table, waiting_data};
-ghost use Rattle.office_report_data.specs.Tables.{HasGiven, IsBetweenRecords, record_text, written_rows};
-ghost use Rattle.office_report_data.specs.Words.{field_of, kind_word, or_null};
+ghost use Rattle.office_report_data.specs.{Tables.{HasGiven, IsBetweenRecords, record_text, written_rows}, Words.{field_of, kind_word, or_null}};
 ghost use Rattle.office_reports.specs.Partners.{partners_content, row_content, waiting_content};
-ghost use Rattle.serde_json.specs.View.{items_of, view};
-ghost use Rattle.serde_json.specs.Written.{compact_text, items_text};
-ghost use Rattle.std.specs.List.{flat_map};
-ghost use Rattle.std.specs.Option.{option_map};
-ghost use Rattle.std.specs.Prelude.{◌≡◌, ◌++◌, ◌∷◌, [], decimal, false, map, string_bytes, IfOk, OnOk};
+ghost use Rattle.serde_json.specs.{View.{items_of, view}, Written.{compact_text, items_text}};
+ghost use Rattle.std.specs.{List.flat_map, Option.option_map, Prelude.{◌≡◌, ◌++◌, ◌∷◌, [], decimal, false, map, string_bytes, IfOk, OnOk}};
 
 use crate::rows::{push_back, push_row, rows_front};
 use crate::tables::{push_record, table_text, table_under};

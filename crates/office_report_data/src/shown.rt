@@ -1,16 +1,9 @@
 //! Reports as they are to be shown: as text, as JSON, as CSV or as a page. What has no CSV is shown as text.
-ghost use Rattle.office_report_data.specs.Told as value;
 ghost use Rattle.office_report_data.specs.Told.{shown};
-ghost use Rattle.office_reports.specs.Contrls.{contrl_in};
-ghost use Rattle.office_reports.specs.Blocks.{blocks_content};
-ghost use Rattle.office_reports.specs.Calls.{lists_content};
-ghost use Rattle.office_reports.specs.Lists.{list_content};
-ghost use Rattle.office_reports.specs.Partners.{partners_content, row_content};
-ghost use Rattle.office_reports.specs.Tickets.{ticket_content};
-ghost use Rattle.office_reports.specs.Visits.{visits_content};
-ghost use Rattle.office_reports.specs.Work.{work_content};
-ghost use Rattle.std.specs.Option.{option_map};
-ghost use Rattle.std.specs.Prelude.{◌≡◌, string_bytes, IfOk};
+ghost use Rattle.office_reports.specs.{Contrls.contrl_in, Blocks.blocks_content, Calls.lists_content, Lists.list_content, Tickets.ticket_content};
+ghost use Rattle.office_reports.specs.{Partners.{partners_content, row_content}, Visits.visits_content, Work.work_content};
+ghost use Rattle.std.specs.{Option.option_map, Prelude.{◌≡◌, string_bytes, IfOk}};
+ghost use Rattle.office_report_data.specs.Told as value;
 
 use crate::blocks::{blocks_csv, blocks_json};
 use crate::calls::{calls_csv, calls_json};

@@ -1,8 +1,7 @@
 //! The ticket of an interchange as JSON.
 ghost use Rattle.office_report_data.specs.Tickets.{closed_data, closed_front, exit_data, opened_data, opened_front, ticket_back, ticket_data};
 ghost use Rattle.office_reports.specs.Tickets.{ticket_content};
-ghost use Rattle.serde_json.specs.View.{items_of, view};
-ghost use Rattle.serde_json.specs.Written.{compact_text, items_text};
+ghost use Rattle.serde_json.specs.{View.{items_of, view}, Written.{compact_text, items_text}};
 ghost use Rattle.std.specs.Prelude.{◌≡◌, ◌++◌, false, map, string_bytes, IfOk, OnOk};
 ghost use Rattle.terminal_core.specs.Rows.{visit_content};
 

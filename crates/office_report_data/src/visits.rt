@@ -1,16 +1,10 @@
 //! The report on a container's visits as JSON and as CSV.
 ghost use Rattle.office_admission.specs.Setups.{setup_content};
-ghost use Rattle.office_report_data.specs.Containers.{passage_data};
-ghost use Rattle.office_report_data.specs.Tables.{HasGiven, IsBetweenRecords, record_text, written_rows};
+ghost use Rattle.office_report_data.specs.{Containers.passage_data, Tables.{HasGiven, IsBetweenRecords, record_text, written_rows}, Words.or_null};
 ghost use Rattle.office_report_data.specs.Visits.{days_data, days_field, fields_content, passage_fields, visit_data, visit_fields, visits_data, visits_front, visits_header, visits_table};
-ghost use Rattle.office_report_data.specs.Words.{or_null};
-ghost use Rattle.office_reports.specs.Passages.{arrival_by, departure_by, passage_content};
-ghost use Rattle.office_reports.specs.Visits.{visits_content};
-ghost use Rattle.serde_json.specs.View.{items_of, view};
-ghost use Rattle.serde_json.specs.Written.{compact_text, items_text};
-ghost use Rattle.std.specs.List.{flat_map};
-ghost use Rattle.std.specs.Option.{option_map};
-ghost use Rattle.std.specs.Prelude.{◌≡◌, ◌++◌, Some, false, map, string_bytes, IfOk, OnOk};
+ghost use Rattle.office_reports.specs.{Passages.{arrival_by, departure_by, passage_content}, Visits.visits_content};
+ghost use Rattle.serde_json.specs.{View.{items_of, view}, Written.{compact_text, items_text}};
+ghost use Rattle.std.specs.{List.flat_map, Option.option_map, Prelude.{◌≡◌, ◌++◌, Some, false, map, string_bytes, IfOk, OnOk}};
 ghost use Rattle.terminal_core.specs.Rows.{visit_content};
 
 use crate::containers::{passage_or_null, passage_value};

@@ -2,10 +2,8 @@
 ghost use Rattle.office_report_data.specs.Tables.{HasGiven, IsBetweenRecords, record_text, written_rows};
 ghost use Rattle.office_report_data.specs.Work.{job_data, job_fields, lines_member, size_field, size_or_null, slot_field, slot_or_null, work_data, work_front, work_header, work_table};
 ghost use Rattle.office_reports.specs.Work.{job_content, work_content};
-ghost use Rattle.serde_json.specs.View.{items_of, view};
-ghost use Rattle.serde_json.specs.Written.{compact_text, items_text};
-ghost use Rattle.std.specs.List.{flat_map};
-ghost use Rattle.std.specs.Prelude.{◌≡◌, ◌++◌, false, map, string_bytes, IfOk, OnOk};
+ghost use Rattle.serde_json.specs.{View.{items_of, view}, Written.{compact_text, items_text}};
+ghost use Rattle.std.specs.{List.flat_map, Prelude.{◌≡◌, ◌++◌, false, map, string_bytes, IfOk, OnOk}};
 
 use crate::rows::{push_list_back, push_row, push_three};
 use crate::tables::{push_record, table_text, table_under};

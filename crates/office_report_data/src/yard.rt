@@ -1,12 +1,8 @@
 //! The report on the yard as JSON and as CSV.
-ghost use Rattle.office_report_data.specs.Rows.{rows_data};
-ghost use Rattle.office_report_data.specs.Yard.{standing_data, standing_record, yard_data, yard_table};
+ghost use Rattle.office_report_data.specs.{Rows.rows_data, Yard.{standing_data, standing_record, yard_data, yard_table}};
 ghost use Rattle.office_report_data.specs.Tables.{HasGiven, IsBetweenRecords, written_rows};
-ghost use Rattle.serde_json.specs.View.{items_of, view};
-ghost use Rattle.serde_json.specs.Written.{compact_text, items_text};
-ghost use Rattle.std.specs.List.{flat_map};
-ghost use Rattle.std.specs.Map.{values_of};
-ghost use Rattle.std.specs.Prelude.{◌≡◌, ◌++◌, false, map, string_bytes, IfOk, OnOk};
+ghost use Rattle.serde_json.specs.{View.{items_of, view}, Written.{compact_text, items_text}};
+ghost use Rattle.std.specs.{List.flat_map, Map.values_of, Prelude.{◌≡◌, ◌++◌, false, map, string_bytes, IfOk, OnOk}};
 
 use crate::rows::{push_back, push_row, rows_front};
 use crate::tables::{push_record, table_bytes, table_under};

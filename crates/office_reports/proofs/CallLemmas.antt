@@ -1,45 +1,20 @@
 -- The lists that have lines, by one line more.
+use Rattle.std.specs.{Prelude.{◌&&◌, ◌||◌, T, filter}, Borrow.Bor, BTreeMap.{insert_entry, is_at}, List.{list_any, prefix_len, insert}, Map.lookup}
+use Rattle.std.specs.{Option.unwrap_or, Ordering.{nat_cmp, eq_by_cmp, is_eq, match_ordering, ordering_then, is_lt, is_gt}, Cmp.Lexicographic.slice_cmp}
+use Rattle.std.specs.{declared.cmp.Ordering.Ordering, declared.cmp.Ordering.TheVariants.{Less, Equal, Greater}, Cmp.IsTotalOrder}
+use Rattle.std.{specs.FinMap.Entries.{by_order, find, put, is_sorted, below_all}, proofs.lemmas.List.{map-append, take_more, take_all, length-map, length-take}}
 use Rattle.std.proofs.Common.{◌≡◌, ℕ, ◌+◌, ◌<◌, ◌≤◌, List, [], ◌∷◌, ◌++◌, length, map, take, Bool, true, false, cond, Option, None, Some, refl, sym, ap, ◌∙◌, arith, get_or, count_by, max, zero, suc, subst}
-use Rattle.std.specs.Prelude.{◌&&◌, ◌||◌, T, filter}
-use Rattle.std.specs.Borrow.{Bor}
-use Rattle.std.specs.BTreeMap.{insert_entry, is_at}
-use Rattle.std.specs.List.{list_any, prefix_len, insert}
-use Rattle.std.specs.Map.{lookup}
-use Rattle.std.specs.Option.{unwrap_or}
-use Rattle.std.specs.Ordering.{nat_cmp, eq_by_cmp, is_eq, match_ordering, ordering_then, is_lt, is_gt}
-use Rattle.std.specs.Cmp.Lexicographic.{slice_cmp}
-use Rattle.std.specs.declared.cmp.Ordering.{Ordering}
-use Rattle.std.specs.declared.cmp.Ordering.TheVariants.{Less, Equal, Greater}
-use Rattle.std.proofs.lemmas.List.{map-append, take_more, take_all, length-map, length-take}
-use Rattle.std.proofs.lemmas.List.Folds.{list_any-append}
-use Rattle.std.proofs.lemmas.List.Sums.{sum_by-cons, count_by-le-length}
-use Rattle.std.proofs.lemmas.Option.{none-some}
+use Rattle.std.proofs.{lemmas.List.Folds.list_any-append, lemmas.List.Sums.{sum_by-cons, count_by-le-length}, lemmas.Option.none-some}
 use Rattle.edi_messages.specs.Owned.{call_content}
-use Rattle.terminal_core.specs.declared.lines.LineState.{LineState}
-use Rattle.terminal_core.specs.declared.lines.LineState.TheVariants.{Pending, Done}
-use Rattle.terminal_core.specs.declared.lines.Listing.{Listing}
-use Rattle.terminal_core.specs.Drop.{is_pending}
-use Rattle.terminal_core.specs.Listings.{key_of, line_content, line_entry, lines_of, is_line}
-use Rattle.terminal_core.specs.Restoring.{AreOnce}
-use Rattle.terminal_core.specs.State.{LineContent, LineKey}
-use Rattle.terminal_core.proofs.Lined.{order, keys_total, keys_apart, same_key, line_tied, tied_self, found_none}
+use Rattle.terminal_core.specs.{declared.lines.LineState.LineState, declared.lines.LineState.TheVariants.{Pending, Done}, declared.lines.Listing.Listing}
+use Rattle.terminal_core.specs.{Drop.is_pending, Listings.{key_of, line_content, line_entry, lines_of, is_line}, Restoring.AreOnce}
+use Rattle.terminal_core.{specs.State.{LineContent, LineKey}, proofs.Lined.{order, keys_total, keys_apart, same_key, line_tied, tied_self, found_none}}
 use Rattle.terminal_core.proofs.Indexed.{counts, counted_more, one_if}
-use Rattle.office_reports.specs.Lists.{is_done, list_contents, shown_line}
-use Rattle.office_reports.specs.Calls.{count_on, count_with, is_on, key_content, list_of, lists_content, lists_in}
-use Rattle.office_reports.specs.declared.calls.ListCount.{ListCount}
-use Rattle.office_reports.proofs.Listing.{none_there}
-use Rattle.office_reports.specs.declared.yard.Standing.{Standing}
-use Rattle.office_reports.specs.Blocks.{highest_tier}
-use Rattle.office_reports.specs.Work.{job_content, placed_contents}
-use Rattle.office_reports.specs.declared.work.Job.{Job}
-use Rattle.office_reports.specs.declared.lists.ListedLine.{ListedLine}
-use Rattle.std.specs.FinMap.Entries.{by_order, find, put, is_sorted, below_all}
-use Rattle.std.specs.Cmp.{IsTotalOrder}
-use Rattle.office_reports.proofs.Standings.{both}
+use Rattle.office_reports.specs.{Lists.{is_done, list_contents, shown_line}, Calls.{count_on, count_with, is_on, key_content, list_of, lists_content, lists_in}}
+use Rattle.office_reports.specs.{declared.calls.ListCount.ListCount, declared.yard.Standing.Standing, Blocks.highest_tier, Work.{job_content, placed_contents}}
+use Rattle.office_reports.{specs.{declared.work.Job.Job, declared.lists.ListedLine.ListedLine}, proofs.{Listing.none_there, Standings.both}}
 use Rattle.std.specs.FinMap as finite_map
 use Rattle.std.specs.FinMap.Entries as entries
-
--- ==== CallLemmas: The lists that have lines, by one line more.
 
 abbrev Entry : Type 0
 Entry = LineKey × LineContent

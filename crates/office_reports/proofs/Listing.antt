@@ -1,33 +1,16 @@
 -- The lines of a call's list, by their containers.
+use Rattle.std.specs.{Prelude.{◌&&◌, string_bytes}, BTreeMap.{BTreeMap, get, is_at}, Map.{lookup, keys_of}, Ordering.{nat_cmp, eq_by_cmp}, Str.bytes_eq}
+use Rattle.std.{specs.{Cmp.Lexicographic.{slice_cmp, texts_ties}, List.Sorted.IsStrictlySortedBy}, proofs.Math.Bool.{and-false, and-true}}
 use Rattle.std.proofs.Common.{◌≡◌, ℕ, ◌+◌, ◌<◌, ◌≤◌, List, [], ◌∷◌, ◌++◌, length, map, take, Bool, true, false, cond, Option, None, Some, refl, sym, ap, ◌∙◌, arith, subst, get_or, option_map, count_by, slice_get, filter, not, ◌-◌}
-use Rattle.std.specs.Prelude.{◌&&◌, string_bytes}
-use Rattle.std.specs.BTreeMap.{BTreeMap, get, is_at}
-use Rattle.std.specs.Map.{lookup, keys_of}
-use Rattle.std.specs.Ordering.{nat_cmp, eq_by_cmp}
-use Rattle.std.specs.Cmp.Lexicographic.{slice_cmp, texts_ties}
-use Rattle.std.specs.List.Sorted.{IsStrictlySortedBy}
-use Rattle.std.specs.Str.{bytes_eq}
-use Rattle.std.proofs.Math.Bool.{and-false, and-true}
-use Rattle.std.proofs.lemmas.Cmp.{nat_list_cmp_total, eq_by_cmp_equiv}
-use Rattle.std.proofs.lemmas.List.{map-append, take_more, take_all, length-map}
-use Rattle.std.proofs.lemmas.List.Sums.{length-filter}
-use Rattle.std.proofs.lemmas.List.Filters.{length-filter_both}
-use Rattle.std.proofs.lemmas.Map.Keys.{IsDistinct-from_sorted}
+use Rattle.std.proofs.{lemmas.Cmp.{nat_list_cmp_total, eq_by_cmp_equiv}, lemmas.List.{map-append, take_more, take_all, length-map}}
+use Rattle.std.proofs.{lemmas.List.Sums.length-filter, lemmas.List.Filters.length-filter_both, lemmas.Map.Keys.IsDistinct-from_sorted}
 use Rattle.std.proofs.lemmas.Map.Views.{Contains-from_lookup, lookup-from_Contains}
 use Rattle.edi_messages.specs.Purposes.{CallContent}
 use Rattle.box6346.specs.declared.box_number.BoxNumber.{BoxNumber}
-use Rattle.terminal_core.specs.declared.lines.Listing.{Listing}
-use Rattle.terminal_core.specs.declared.lines.Side.{Side}
-use Rattle.terminal_core.specs.State.{TerminalState, LineContent, LineKey, line_key, line_of}
-use Rattle.terminal_core.specs.Listings.{key_of, line_content, line_entry, lines_of, is_line, is_side}
-use Rattle.terminal_core.specs.Restoring.{AreOnce}
-use Rattle.terminal_core.proofs.Lined.{order, keys_total, same_key, line_tied, found_none}
-use Rattle.terminal_core.proofs.Indexed.{none_before_one, some_counted}
-use Rattle.terminal_core.proofs.Open.{same_self}
-use Rattle.terminal_core.proofs.Whole.{contained}
-use Rattle.office_reports.specs.declared.lists.ListedLine.{ListedLine}
-use Rattle.office_reports.specs.Listed.{AreListed}
-use Rattle.office_reports.specs.Lists.{HasLine, is_on, is_done_line, shown_line, list_contents}
+use Rattle.terminal_core.specs.{declared.lines.Listing.Listing, declared.lines.Side.Side, State.{TerminalState, LineContent, LineKey, line_key, line_of}}
+use Rattle.terminal_core.{specs.{Listings.{key_of, line_content, line_entry, lines_of, is_line, is_side}, Restoring.AreOnce}, proofs.Open.same_self}
+use Rattle.terminal_core.proofs.{Lined.{order, keys_total, same_key, line_tied, found_none}, Indexed.{none_before_one, some_counted}, Whole.contained}
+use Rattle.office_reports.specs.{declared.lists.ListedLine.ListedLine, Listed.AreListed, Lists.{HasLine, is_on, is_done_line, shown_line, list_contents}}
 use Rattle.office_reports.proofs.Standings.{same_text}
 use Rattle.std.specs.FinMap as finite_map
 use Rattle.std.specs.FinMap.Entries as entries

@@ -1,11 +1,7 @@
 -- Texts that bring no markup: digits, and fields.
+use Rattle.std.{specs.{List.{range_with_len, list_all}, Prelude.decimal, Fmt.{digit_glyph, digits_onto, digits}}, proofs.lemmas.List.append-nil}
 use Rattle.std.proofs.Common.{◌≡◌, ℕ, zero, suc, ◌+◌, List, ◌++◌, flat_map, sym, ap, ◌∙◌, append_assoc, arith, ◌/◌, ◌%◌, ◌==◌, nat_lt, Bool, true, false, not, ◌&&◌, [], ◌∷◌, codes, refl, subst, inl, inr}
-use Rattle.std.specs.List.{range_with_len, list_all}
-use Rattle.std.proofs.lemmas.List.{append-nil}
-use Rattle.std.specs.Prelude.{decimal}
-use Rattle.std.specs.Fmt.{digit_glyph, digits_onto, digits}
-use Rattle.std.proofs.lemmas.Bool.{and_parts, and_from, cases_Bool, eqb-true, ne_eqb, lt-ltb}
-use Rattle.std.proofs.lemmas.List.Folds.{list_all-append}
+use Rattle.std.proofs.{lemmas.Bool.{and_parts, and_from, cases_Bool, eqb-true, ne_eqb, lt-ltb}, lemmas.List.Folds.list_all-append}
 use Rattle.office_reports.specs.Fields.{character_text, field_text}
 use Rattle.office_reports.specs.Markup.{Place, Between, Tag, SingleQuoted, DoubleQuoted, place_after, place_after_all, tags, is_plain, Refers, amp, lt, gt, quot, apos, numbered, Shows, nothing, plain, reference}
 

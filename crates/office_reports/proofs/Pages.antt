@@ -1,17 +1,10 @@
 -- Pages with other fields have the same tags.
+use Rattle.std.{specs.{Prelude.decimal, List.{list_all, range_with_len}}, proofs.lemmas.Bool.{cases_Bool, true≢false, false≢true}}
 use Rattle.std.proofs.Common.{◌≡◌, ℕ, ◌+◌, ◌*◌, ◌%◌, ◌==◌, nat_lt, Bool, true, false, ◌&&◌, not, List, [], ◌∷◌, ◌++◌, codes, length, filter, take, drop, refl, sym, ap, ◌∙◌, inl, inr, flat_map, if◌then◌else◌}
-use Rattle.std.specs.Prelude.{decimal}
-use Rattle.std.specs.List.{list_all, range_with_len}
-use Rattle.std.proofs.lemmas.Bool.{cases_Bool, true≢false, false≢true}
-use Rattle.box6346.specs.SlotName.{slot_text}
-use Rattle.box6346.specs.declared.slot.Slot.{Slot}
+use Rattle.box6346.specs.{SlotName.slot_text, declared.slot.Slot.Slot}
 use Rattle.yard_core.specs.declared.plan.Block.{Block}
-use Rattle.office_reports.specs.declared.yard.Standing.{Standing}
-use Rattle.office_reports.specs.Names.{load_name}
-use Rattle.office_reports.specs.Fields.{field_text, joined_pieces}
-use Rattle.office_reports.specs.Fixed.{head, shapes, legend}
-use Rattle.office_reports.specs.PictureLaws.{drawn_containers}
-use Rattle.office_reports.specs.Markup.{Place, Between, Tag, SingleQuoted, DoubleQuoted, place_after, place_after_all, tags}
+use Rattle.office_reports.specs.{declared.yard.Standing.Standing, Names.load_name, Fields.{field_text, joined_pieces}, Fixed.{head, shapes, legend}}
+use Rattle.office_reports.specs.{PictureLaws.drawn_containers, Markup.{Place, Between, Tag, SingleQuoted, DoubleQuoted, place_after, place_after_all, tags}}
 use Rattle.office_reports.specs.Picture.{page_head, page_text}
 use Rattle.office_reports.specs.Views.{is_forty, shape_name, title_text, shape_view, lettering, container_view, is_in_row, view_in_row, row_head, row_view, part_count, part_width, part_view, bay_label, bay_labels, tier_label, tier_labels, cells_view, labels, grid, used_cells, block_head, block_view, block_link, index}
 use Rattle.office_reports.proofs.Markup.{is_quiet, quiet_stays, quiet_has_none, decimal_is_quiet, both_quiet, field_is_quiet}

@@ -1,19 +1,11 @@
 -- The parts of a key.
+use Rattle.std.{specs.{List.onto_first, Str.IsUtf8}, proofs.{lemmas.Bool.{ne_eqb, cases_Bool, and_parts, leb-true}, lemmas.List.Elements.All-from_get_or}}
 use Rattle.std.proofs.Common.{◌≡◌, ℕ, List, [], ◌∷◌, ◌++◌, Option, None, Some, option_map, append_assoc, refl, sym, ap, ◌∙◌, ◌≢◌, ◌<◌, ◌==◌, false, length, get_or, inl, inr, ◌≤◌, true, nat_le, arith, ◌^◌}
-use Rattle.office_reports.specs.Escapes.{decoded_part, with_first_byte}
-use Rattle.std.specs.List.{onto_first}
-use Rattle.std.proofs.lemmas.Bool.{ne_eqb, cases_Bool, and_parts, leb-true}
-use Rattle.std.proofs.lemmas.List.Elements.{All-from_get_or}
-use Rattle.std.proofs.lemmas.List.Splits.{slice_split_none, slice_split_at, slice_split-cons_yes, slice_split-cons_no}
-use Rattle.office_reports.specs.Keys.{key_parts, one_part, two_parts, three_parts}
-use Rattle.std.specs.Str.{IsUtf8}
-use Rattle.std.proofs.lemmas.List.Sums.{AllPass-from_list_all}
-use Rattle.std.proofs.lemmas.Str.{IsUtf8-from_ascii}
-use Rattle.std.proofs.lemmas.Str.Ascii.{IsAscii-from_reads}
+use Rattle.std.proofs.{lemmas.List.Splits.{slice_split_none, slice_split_at, slice_split-cons_yes, slice_split-cons_no}, lemmas.List.Sums.AllPass-from_list_all}
+use Rattle.std.proofs.{lemmas.Str.IsUtf8-from_ascii, lemmas.Str.Ascii.IsAscii-from_reads, Math.Nat.pow-le-pow_right}
+use Rattle.office_reports.specs.{Escapes.{decoded_part, with_first_byte}, Keys.{key_parts, one_part, two_parts, three_parts}}
 use Rattle.edi_syntax.specs.Characters.{is_printable}
-use Rattle.edi_messages.specs.Texts.{is_name}
-use Rattle.edi_messages.proofs.SurveyLemmas.{name_printable}
-use Rattle.std.proofs.Math.Nat.{pow-le-pow_right}
+use Rattle.edi_messages.{specs.Texts.is_name, proofs.SurveyLemmas.name_printable}
 
 -- ==== Decoding: Bytes that are decoded, and those that are left.
 
@@ -28,9 +20,6 @@ one_before front byte (Some more) = ap Some (sym (append_assoc front (byte ∷ [
 pub one_more : (text front rest rest' : List ℕ) (byte : ℕ) → decoded_part text ≡ behind front (decoded_part rest) → decoded_part rest ≡ with_first_byte (decoded_part rest') byte →
     decoded_part text ≡ behind (front ++ byte ∷ []) (decoded_part rest')
 one_more text front rest rest' byte before is = before ∙ ap (behind front) is ∙ one_before front byte (decoded_part rest')
-
-pub none_left : (text front rest : List ℕ) → decoded_part text ≡ behind front (decoded_part rest) → decoded_part rest ≡ None → None ≡ decoded_part text
-none_left text front rest before is = sym (before ∙ ap (behind front) is)
 
 -- ==== Parting: The parts of a key.
 

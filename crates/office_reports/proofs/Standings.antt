@@ -1,57 +1,26 @@
 -- The containers in a yard, by the texts of their slots.
+use Rattle.std.specs.{Prelude.{◌&&◌, ◌==◌, slice_index, encode_utf8_all, ◌||◌, not, is_some, decimal}, Char.{is_ascii_uppercase, is_ascii_digit}, Cmp.Equal-is}
+use Rattle.std.specs.{List.{list_all, list_any, AllByRecursion, join_by}, Str.{IsAscii, bytes_eq}, BTreeMap.{BTreeMap, get, is_at}, Map.{lookup, keys_of}}
+use Rattle.std.specs.{Ordering.{nat_cmp, is_eq, eq_by_cmp, is_lt}, Cmp.Lexicographic.slice_cmp, List.Sorted.IsStrictlySortedBy}
+use Rattle.std.{specs.declared.cmp.Ordering.TheVariants.Less, proofs.{lemmas.Bool.{and_parts, eqb-true, le-leb}, lemmas.Bool.Decides.{nat_tests, leb_tells}}}
 use Rattle.std.proofs.Common.{◌≡◌, ℕ, ◌+◌, ◌-◌, ◌/◌, ◌%◌, ◌<◌, List, [], ◌∷◌, length, take, drop, Bool, true, ◌∙◌, arith, subst, IsTrue, inl, inr, ◌++◌, map, false, cond, None, Some, refl, sym, ap, codes, Bor, ◌≤◌, Option, is_none, nat_le, Contains, option_map, find, count_by, ◌⊎◌, get_or, T, zero, suc, string_bytes, slice_get, slice_index_or, flat_map, filter}
-use Rattle.std.specs.Prelude.{◌&&◌, ◌==◌, slice_index, encode_utf8_all, ◌||◌, not, is_some, decimal}
-use Rattle.std.specs.Char.{is_ascii_uppercase, is_ascii_digit}
-use Rattle.std.specs.List.{list_all, list_any, AllByRecursion, join_by}
-use Rattle.std.specs.Str.{IsAscii, bytes_eq}
 use Rattle.std.proofs.lemmas.List.{get_or-take, get_or-drop, map-append, take_more, take_all, take-append-drop, append-nil, flat_map_more}
-use Rattle.std.proofs.lemmas.Bool.{and_parts, eqb-true, le-leb}
-use Rattle.std.proofs.lemmas.Bool.Decides.{nat_tests, leb_tells}
-use Rattle.std.proofs.lemmas.Str.Ascii.{IsAscii-from_reads, IsAscii-cons, IsAscii-nil, encodes-IsAscii}
-use Rattle.box6346.specs.SlotName.{IsNamed, slot_text, slot_of}
-use Rattle.box6346.specs.declared.slot.Slot.{Slot}
-use Rattle.box6346.specs.declared.box_number.BoxNumber.{BoxNumber}
-use Rattle.edi_syntax.specs.Moments.{CivilMoment}
-use Rattle.terminal_core.specs.declared.visits.Visit.{Visit}
-use Rattle.terminal_core.specs.Rows.{VisitContent, visit_content}
-use Rattle.terminal_core.specs.State.{TerminalState, is_visit_of, AreOpenOf, is_open_visit, open_visit, IsWhole}
-use Rattle.office_admission.specs.Setups.{SetupContent, account_contents, setup_content}
-use Rattle.terminal_core.specs.declared.change.Source.{Source}
-use Rattle.office_reports.specs.Names.{line}
-use Rattle.office_reports.specs.Tickets.{closed_line, entry_lines, exit_line, exit_lines, exit_moment_by, is_closed_by, is_nothing, is_opened_by, is_source, is_told_by, ticket_of, ticket_text, told_text}
-use Rattle.office_reports.specs.Passages.{code_of}
-use Rattle.office_reports.specs.Visits.{rows_text, visit_report, visits_by, visits_of, visits_text}
-use Rattle.std.specs.BTreeMap.{BTreeMap, get, is_at}
-use Rattle.std.specs.Map.{lookup, keys_of}
-use Rattle.std.specs.Ordering.{nat_cmp, is_eq, eq_by_cmp, is_lt}
-use Rattle.std.proofs.lemmas.Cmp.{nat_list_cmp_total, tied_itself, eq_by_cmp_equiv}
-use Rattle.std.specs.Cmp.{Equal-is}
-use Rattle.std.specs.Cmp.Lexicographic.{slice_cmp}
-use Rattle.std.specs.List.Sorted.{IsStrictlySortedBy}
-use Rattle.std.proofs.lemmas.Option.{same_Some, none-some}
-use Rattle.std.proofs.lemmas.Map.Lookups.{exact_bytes}
+use Rattle.std.proofs.{lemmas.Str.Ascii.{IsAscii-from_reads, IsAscii-cons, IsAscii-nil, encodes-IsAscii}, lemmas.Option.{same_Some, none-some}}
+use Rattle.std.proofs.{lemmas.Cmp.{nat_list_cmp_total, tied_itself, eq_by_cmp_equiv}, lemmas.Map.Lookups.exact_bytes, lemmas.List.Sums.length-filter}
 use Rattle.std.proofs.lemmas.List.Elements.{Contains-push_cases, Contains-append_left, Contains-append_right}
-use Rattle.std.proofs.lemmas.Map.Keys.{IsDistinct-from_sorted, sorted_head, sorted_tail}
-use Rattle.std.proofs.lemmas.Map.Views.{Contains-from_lookup, lookup-from_Contains}
-use Rattle.std.proofs.lemmas.List.Sums.{length-filter}
-use Rattle.box6346.proofs.SlotNames.{names_are_read_again_lem}
-use Rattle.box6346.specs.declared.size_type.Length.{Length}
-use Rattle.box6346.specs.declared.size_type.Length.TheVariants.{Twenty, Forty}
-use Rattle.yard_core.specs.declared.plan.Block.{Block}
-use Rattle.yard_core.specs.declared.placements.Placement.{Placement}
-use Rattle.yard_core.specs.Plan.{IsPlan, InPlan}
+use Rattle.std.proofs.{lemmas.Map.Keys.{IsDistinct-from_sorted, sorted_head, sorted_tail}, lemmas.Map.Views.{Contains-from_lookup, lookup-from_Contains}}
+use Rattle.box6346.specs.{SlotName.{IsNamed, slot_text, slot_of}, declared.slot.Slot.Slot, declared.box_number.BoxNumber.BoxNumber}
+use Rattle.box6346.{specs.{declared.size_type.Length.Length, declared.size_type.Length.TheVariants.{Twenty, Forty}}, proofs.SlotNames.names_are_read_again_lem}
+use Rattle.edi_syntax.specs.Moments.{CivilMoment}
+use Rattle.terminal_core.specs.{declared.visits.Visit.Visit, Rows.{VisitContent, visit_content}, declared.change.Source.Source}
+use Rattle.terminal_core.specs.{State.{TerminalState, is_visit_of, AreOpenOf, is_open_visit, open_visit, IsWhole}, declared.visits.Departure.Departure}
+use Rattle.terminal_core.proofs.{Open.{same_self, same_bytes}, Whole.{contained, found_at}, Indexed.{some_of, is_found, found_is, one_passes}}
+use Rattle.office_admission.specs.{Setups.{SetupContent, account_contents, setup_content}, declared.setup.Account.Account, declared.setup.Setup.Setup}
+use Rattle.office_reports.specs.{Names.line, Passages.code_of, Visits.{rows_text, visit_report, visits_by, visits_of, visits_text}, Listed.AreListed}
+use Rattle.office_reports.specs.Tickets.{closed_line, entry_lines, exit_line, exit_lines, exit_moment_by, is_closed_by, is_nothing, is_opened_by, is_source, is_told_by, ticket_of, ticket_text, told_text}
+use Rattle.office_reports.specs.{declared.yard.Standing.Standing, Yard.{shown_standing, slot_in, StandsAt, standing_if_here, standing_of}}
+use Rattle.yard_core.{specs.{declared.plan.Block.Block, declared.placements.Placement.Placement, Plan.{IsPlan, InPlan}}, proofs.Exact.numbered}
 use Rattle.yard_core.specs.YardMap.{placement_of, in_bay, CoversAt, IsKind}
-use Rattle.yard_core.proofs.Exact.{numbered}
-use Rattle.terminal_core.specs.declared.visits.Departure.{Departure}
-use Rattle.terminal_core.proofs.Open.{same_self, same_bytes}
-use Rattle.terminal_core.proofs.Whole.{contained, found_at}
-use Rattle.terminal_core.proofs.Indexed.{some_of, is_found, found_is, one_passes}
-use Rattle.office_reports.specs.declared.yard.Standing.{Standing}
-use Rattle.office_reports.specs.Listed.{AreListed}
-use Rattle.office_reports.specs.Yard.{shown_standing, slot_in, StandsAt, standing_if_here, standing_of}
-use Rattle.std.specs.declared.cmp.Ordering.TheVariants.{Less}
-use Rattle.office_admission.specs.declared.setup.Account.{Account}
-use Rattle.office_admission.specs.declared.setup.Setup.{Setup}
 use Rattle.box6346.specs.NumberText as number
 use Rattle.box6346.specs.SizeText as size
 use Rattle.std.specs.FinMap.Entries as entries

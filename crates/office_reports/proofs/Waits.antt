@@ -1,22 +1,15 @@
 -- The order of the numbers that wait doesn't count.
+use Rattle.std.{specs.{List.{prefix_len, insert, AllZip, Contains}, List.Sorted.IsPermutation}, proofs.lemmas.List.{map-append, take_more, take_all}}
 use Rattle.std.proofs.Common.{◌≡◌, ℕ, ◌+◌, ◌<◌, ◌≤◌, List, [], ◌∷◌, ◌++◌, length, map, take, Bool, true, false, cond, None, Some, refl, sym, ap, ◌∙◌, arith, get_or, count_by, filter, ◌⊎◌, inl, inr, zero, suc, slice_index_or, min, max, fold, nat_le}
-use Rattle.std.specs.List.{prefix_len, insert, AllZip, Contains}
-use Rattle.std.proofs.lemmas.List.{map-append, take_more, take_all}
+use Rattle.std.proofs.{lemmas.Bool.{cases_Bool, leb-true, leb-false}, lemmas.List.Sorted.{IsPermutation-sym, Contains-permutation, length_permutation}}
 use Rattle.box6346.specs.declared.box_number.BoxNumber.{BoxNumber}
 use Rattle.edi_messages.specs.Owned.{call_content}
-use Rattle.terminal_core.specs.declared.lines.Listing.{Listing}
-use Rattle.terminal_core.specs.Listings.{key_of, line_content, line_entry, lines_of, is_line}
-use Rattle.terminal_core.specs.Restoring.{AreOnce}
-use Rattle.terminal_core.specs.State.{LineContent, LineKey, Lines}
-use Rattle.terminal_core.proofs.Lined.{order, keys_total, keys_apart, line_tied, tied_self, found_none}
+use Rattle.terminal_core.specs.{declared.lines.Listing.Listing, Listings.{key_of, line_content, line_entry, lines_of, is_line}, Restoring.AreOnce}
+use Rattle.terminal_core.{specs.State.{LineContent, LineKey, Lines}, proofs.Lined.{order, keys_total, keys_apart, line_tied, tied_self, found_none}}
 use Rattle.terminal_core.proofs.Indexed.{none_before_one}
-use Rattle.office_reports.proofs.Listing.{none_there}
-use Rattle.office_reports.specs.OpenLines.{is_behind, is_open_for, open_lines}
-use Rattle.office_reports.proofs.CallLemmas.{put_there, still_none, put_kept, prefix_mapped, insert_mapped}
-use Rattle.std.specs.List.Sorted.{IsPermutation}
-use Rattle.std.proofs.lemmas.Bool.{cases_Bool, leb-true, leb-false}
-use Rattle.std.proofs.lemmas.List.Sorted.{IsPermutation-sym, Contains-permutation, length_permutation}
+use Rattle.office_reports.{specs.OpenLines.{is_behind, is_open_for, open_lines}, proofs.Listing.none_there}
 use Rattle.office_reports.specs.Partners.{PartnerContent, AreAlike, partners_text, row_of, rows_text, waiting_count, waiting_of}
+use Rattle.office_reports.proofs.CallLemmas.{put_there, still_none, put_kept, prefix_mapped, insert_mapped}
 use Rattle.std.specs.FinMap as finite_map
 
 -- ==== OpenLineLemmas: One row more, and the open lines that name a container.

@@ -1,9 +1,6 @@
 -- The keys under which accounts are added, and interchanges of one partner delivered.
-use Rattle.std.specs.Prelude.{ℕ, List, Option, option_map, unwrap_or}
-use Rattle.std.specs.Option.{option_and_then}
-use Rattle.office_reports.specs.Escapes.{decoded_part}
-use Rattle.office_reports.specs.Keys.{name_in, key_parts, two_parts}
-use Rattle.office_reports.specs.declared.keys.AccountKey.{AccountKey}
+use Rattle.std.specs.{Prelude.{ℕ, List, Option, option_map, unwrap_or}, Option.option_and_then}
+use Rattle.office_reports.specs.{Escapes.decoded_part, Keys.{name_in, key_parts, two_parts}, declared.keys.AccountKey.AccountKey}
 
 -- The bytes that a part stands for. One that can't be decoded stands for itself: its `%` is in no code and in no kind.
 abbrev pub part_bytes : List ℕ → List ℕ

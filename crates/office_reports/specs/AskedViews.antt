@@ -1,9 +1,7 @@
 -- As what reports are shown (our own).
 use Rattle.std.specs.Prelude.{Bool, true, false}
-use Rattle.office_reports.specs.declared.query.ReportKind.{ReportKind}
+use Rattle.office_reports.specs.{declared.query.ReportKind.ReportKind, declared.query.View.View, declared.query.View.TheVariants.{Text, Json, Csv, Page}}
 use Rattle.office_reports.specs.declared.query.ReportKind.TheVariants as kind
-use Rattle.office_reports.specs.declared.query.View.{View}
-use Rattle.office_reports.specs.declared.query.View.TheVariants.{Text, Json, Csv, Page}
 
 -- not pictures, CONTRLs, health and metrics, nor what is only a page
 abbrev pub has_json : ReportKind → Bool

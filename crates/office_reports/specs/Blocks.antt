@@ -1,17 +1,10 @@
 -- The report on the blocks of a yard (our own).
 use Rattle.std.specs.Prelude.{◌≡◌, ℕ, ◌+◌, ◌*◌, ◌%◌, ◌==◌, Bool, List, [], ◌∷◌, ◌++◌, length, filter, map, count_by, sum_by, max, codes, decimal, encode_utf8_all, is_some}
-use Rattle.std.specs.List.{flat_map}
-use Rattle.std.specs.Map.{values_of}
+use Rattle.std.specs.{List.flat_map, Map.values_of}
 use Rattle.yard_core.specs.declared.plan.Block.{Block}
 use Rattle.terminal_core.specs.State.{TerminalState}
-use Rattle.office_reports.specs.declared.blocks.BlockRow.{BlockRow}
-use Rattle.office_reports.specs.declared.blocks.BlockUse.{BlockUse}
-use Rattle.office_reports.specs.declared.blocks.BlocksReport.{BlocksReport}
-use Rattle.office_reports.specs.declared.yard.Standing.{Standing}
-use Rattle.office_reports.specs.Listed.{AreListed}
-use Rattle.office_reports.specs.Names.{line, phrase}
-use Rattle.office_reports.specs.Yard.{StandsAt}
-use Rattle.office_reports.specs.Containers.{blocker_in}
+use Rattle.office_reports.specs.{declared.blocks.BlockRow.BlockRow, declared.blocks.BlockUse.BlockUse, declared.blocks.BlocksReport.BlocksReport, Yard.StandsAt}
+use Rattle.office_reports.specs.{declared.yard.Standing.Standing, Listed.AreListed, Names.{line, phrase}, Containers.blocker_in}
 
 abbrev pub is_in : ℕ → Standing → Bool
 is_in letter standing = standing.slot.block == letter

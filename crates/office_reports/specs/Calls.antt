@@ -1,18 +1,10 @@
 -- The report on the vessels' calls: how far the list of each is (our own).
-use Rattle.std.specs.Prelude.{ℕ, ◌+◌, Bool, List, [], ◌∷◌, ◌++◌, ◌&&◌, map, count_by, codes, decimal}
-use Rattle.std.specs.Borrow.{Bor}
-use Rattle.std.specs.List.{flat_map}
-use Rattle.std.specs.FinMap as finite_map
+use Rattle.std.specs.{Prelude.{ℕ, ◌+◌, Bool, List, [], ◌∷◌, ◌++◌, ◌&&◌, map, count_by, codes, decimal}, Borrow.Bor, List.flat_map, Cmp.Lexicographic.slice_cmp}
 use Rattle.std.specs.Ordering.{nat_cmp, eq_by_cmp}
-use Rattle.std.specs.Cmp.Lexicographic.{slice_cmp}
-use Rattle.terminal_core.specs.declared.lines.LineState.{LineState}
-use Rattle.terminal_core.specs.declared.lines.LineState.TheVariants.{Pending, Done}
-use Rattle.terminal_core.specs.Drop.{is_pending}
+use Rattle.terminal_core.specs.{declared.lines.LineState.LineState, declared.lines.LineState.TheVariants.{Pending, Done}, Drop.is_pending}
 use Rattle.terminal_core.specs.State.{LineContent, LineKey, Lines}
-use Rattle.office_reports.specs.Lists.{is_done}
-use Rattle.office_reports.specs.Names.{line}
-use Rattle.office_reports.specs.OpenLines.{side_name}
-use Rattle.office_reports.specs.declared.calls.ListCount.{ListCount}
+use Rattle.office_reports.specs.{Lists.is_done, Names.line, OpenLines.side_name, declared.calls.ListCount.ListCount}
+use Rattle.std.specs.FinMap as finite_map
 
 -- a list goes by its vessel, its voyage and its side
 abbrev pub list_of : LineKey → LineKey

@@ -1,21 +1,11 @@
 -- Where a container is (our own).
-use Rattle.std.specs.Prelude.{ℕ, Bool, List, [], ◌∷◌, ◌++◌, codes, decimal, map, Option, None, Some}
-use Rattle.std.specs.List.{flat_map}
-use Rattle.std.specs.Option.{option_map}
-use Rattle.box6346.specs.declared.box_number.BoxNumber.{BoxNumber}
-use Rattle.box6346.specs.declared.size_type.SizeType.{SizeType}
-use Rattle.box6346.specs.declared.slot.Slot.{Slot}
-use Rattle.yard_core.specs.Decisions.{blocker_on}
-use Rattle.yard_core.specs.YardMap.{placement_of}
-use Rattle.terminal_core.specs.Listings.{line_entry}
-use Rattle.terminal_core.specs.Rows.{VisitContent}
-use Rattle.terminal_core.specs.State.{LineContent, LineKey, TerminalState, last_visit, open_visit}
+use Rattle.std.specs.{Prelude.{ℕ, Bool, List, [], ◌∷◌, ◌++◌, codes, decimal, map, Option, None, Some}, List.flat_map, Option.option_map}
+use Rattle.box6346.specs.{declared.box_number.BoxNumber.BoxNumber, declared.size_type.SizeType.SizeType, declared.slot.Slot.Slot}
+use Rattle.yard_core.specs.{Decisions.blocker_on, YardMap.placement_of}
+use Rattle.terminal_core.specs.{Listings.line_entry, Rows.VisitContent, State.{LineContent, LineKey, TerminalState, last_visit, open_visit}}
 use Rattle.office_admission.specs.Setups.{SetupContent}
-use Rattle.office_reports.specs.declared.containers.ContainerReport.{ContainerReport}
-use Rattle.office_reports.specs.declared.containers.Stay.{Stay}
-use Rattle.office_reports.specs.Names.{load_name, slot_name, phrase, line}
-use Rattle.office_reports.specs.Passages.{PassageContent, arrival_by, departure_by, passage_content, passage_words, stay_line}
-use Rattle.office_reports.specs.Yard.{slot_in}
+use Rattle.office_reports.specs.{declared.containers.ContainerReport.ContainerReport, declared.containers.Stay.Stay, Names.{load_name, slot_name, phrase, line}}
+use Rattle.office_reports.specs.{Passages.{PassageContent, arrival_by, departure_by, passage_content, passage_words, stay_line}, Yard.slot_in}
 use Rattle.office_reports.specs.OpenLines.{open_line, open_lines}
 
 -- ---- what the report tells

@@ -1,8 +1,6 @@
 -- The CONTRL of a reply (our own).
 use Rattle.std.specs.Prelude.{ℕ, List, ◌++◌, codes, Option, option_map, option_and_then}
-use Rattle.serde_json.specs.Data.{Data}
-use Rattle.serde_json.specs.Find.{get, as_str}
-use Rattle.serde_json.specs.Read.{read}
+use Rattle.serde_json.specs.{Data.Data, Find.{get, as_str}, Read.read}
 
 -- the text of a reply's member, if the reply has one
 abbrev pub contrl_of : Data → Option (List ℕ)

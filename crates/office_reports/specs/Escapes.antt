@@ -1,6 +1,5 @@
 -- What the parts of a path stand for (RFC 3986, section 2.1).
-use Rattle.std.specs.Prelude.{ℕ, ◌+◌, ◌*◌, ◌&&◌, ◌==◌, nat_lt, List, [], ◌∷◌, Option, None, Some, option_map, if◌then◌else◌}
-use Rattle.std.specs.Option.{option_and_then}
+use Rattle.std.specs.{Prelude.{ℕ, ◌+◌, ◌*◌, ◌&&◌, ◌==◌, nat_lt, List, [], ◌∷◌, Option, None, Some, option_map, if◌then◌else◌}, Option.option_and_then}
 use Rattle.std.specs.Char.{digit_value}
 
 -- the byte that two hexadecimal digits write

@@ -1,6 +1,5 @@
 -- How the bytes of a field are written in the page, so that no markup comes of them.
-use Rattle.std.specs.Prelude.{ℕ, List, [], ◌∷◌, ◌++◌, ◌==◌, nat_lt, if◌then◌else◌, codes, decimal}
-use Rattle.std.specs.List.{flat_map}
+use Rattle.std.specs.{Prelude.{ℕ, List, [], ◌∷◌, ◌++◌, ◌==◌, nat_lt, if◌then◌else◌, codes, decimal}, List.flat_map}
 
 -- & < > " ' by their names, and a byte from 0x80 by its number
 abbrev pub character_text : ℕ → List ℕ

@@ -1,26 +1,14 @@
 -- The keys by which reports are asked for.
 use Rattle.std.specs.Prelude.{ℕ, ◌==◌, ◌&&◌, nat_le, List, [], ◌∷◌, length, codes, slice_index, Option, None, Some, option_map, string_bytes, Result, Ok, Err, if◌then◌else◌}
-use Rattle.std.specs.Char.{is_ascii_uppercase}
-use Rattle.std.specs.Option.{option_and_then}
-use Rattle.std.specs.List.{slice_split}
-use Rattle.std.specs.Str.{bytes_eq}
-use Rattle.box6346.specs.ContainerNumber.{number_of as box_of}
-use Rattle.box6346.specs.declared.box_number.BoxNumber.{BoxNumber}
-use Rattle.box6346.specs.declared.box_number.NumberFault.{NumberFault}
-use Rattle.edi_messages.specs.Texts.{is_name}
-use Rattle.edi_messages.specs.declared.call.Call.{Call}
-use Rattle.edi_syntax.specs.Bytes.{digit_zero}
-use Rattle.edi_syntax.specs.Numbers.{number_of, as_control_number, last_number}
-use Rattle.terminal_core.specs.declared.lines.Side.{Side}
-use Rattle.terminal_core.specs.declared.lines.Side.TheVariants.{Load, Discharge}
-use Rattle.office_reports.specs.Escapes.{decoded_part}
-use Rattle.office_reports.specs.AskedViews.{has_view}
-use Rattle.office_reports.specs.declared.query.About.{About}
-use Rattle.office_reports.specs.declared.query.About.TheVariants as about
-use Rattle.office_reports.specs.declared.query.Query.{Query}
+use Rattle.std.specs.{Char.is_ascii_uppercase, Option.option_and_then, List.slice_split, Str.bytes_eq}
+use Rattle.box6346.specs.{ContainerNumber.number_of as box_of, declared.box_number.BoxNumber.BoxNumber, declared.box_number.NumberFault.NumberFault}
+use Rattle.edi_messages.specs.{Texts.is_name, declared.call.Call.Call}
+use Rattle.edi_syntax.specs.{Bytes.digit_zero, Numbers.{number_of, as_control_number, last_number}}
+use Rattle.terminal_core.specs.{declared.lines.Side.Side, declared.lines.Side.TheVariants.{Load, Discharge}}
+use Rattle.office_reports.specs.{Escapes.decoded_part, AskedViews.has_view, declared.query.About.About, declared.query.Query.Query, declared.query.View.View}
 use Rattle.office_reports.specs.declared.query.ReportKind.{ReportKind}
+use Rattle.office_reports.specs.declared.query.About.TheVariants as about
 use Rattle.office_reports.specs.declared.query.ReportKind.TheVariants as kind
-use Rattle.office_reports.specs.declared.query.View.{View}
 
 -- what is asked about, with its texts as bytes
 pub data AboutContent : Type 0 where

@@ -1,13 +1,9 @@
 -- What the definitions of the reports mean together.
 use Rattle.std.specs.Prelude.{◌≡◌, ℕ, List, Option}
-use Rattle.box6346.specs.SlotName.{IsNamed, slot_text}
-use Rattle.box6346.specs.declared.slot.Slot.{Slot}
+use Rattle.box6346.specs.{SlotName.{IsNamed, slot_text}, declared.slot.Slot.Slot}
 use Rattle.edi_messages.specs.Purposes.{CallContent}
-use Rattle.terminal_core.specs.declared.lines.Side.{Side}
-use Rattle.terminal_core.specs.State.{TerminalState}
-use Rattle.office_reports.specs.Names.{slot_name}
-use Rattle.office_reports.specs.Yard.{IsYardReport}
-use Rattle.office_reports.specs.Lists.{IsListReport}
+use Rattle.terminal_core.specs.{declared.lines.Side.Side, State.TerminalState}
+use Rattle.office_reports.specs.{Names.slot_name, Yard.IsYardReport, Lists.IsListReport}
 
 -- two reports on one yard are one text
 abbrev pub YardReportsAreOne : Type 0

@@ -1,9 +1,5 @@
 -- What is listed by texts.
-use Rattle.std.specs.Prelude.{ℕ, List, Contains}
-use Rattle.std.specs.List.Sorted.{IsStrictlySortedBy}
-use Rattle.std.specs.Map.{keys_of}
-use Rattle.std.specs.Ordering.{nat_cmp}
-use Rattle.std.specs.Cmp.Lexicographic.{slice_cmp}
+use Rattle.std.specs.{Prelude.{ℕ, List, Contains}, List.Sorted.IsStrictlySortedBy, Map.keys_of, Ordering.nat_cmp, Cmp.Lexicographic.slice_cmp}
 
 -- The list has each thing that goes under a text, and nothing else, in the order of the texts, of which none stands
 -- twice.

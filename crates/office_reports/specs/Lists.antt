@@ -1,22 +1,12 @@
 -- The report on a vessel's list (our own).
 use Rattle.std.specs.Prelude.{◌≡◌, ℕ, Bool, true, false, List, [], ◌∷◌, ◌++◌, not, count_by, map, ◌&&◌, string_bytes, codes, decimal, Option, None, Some}
-use Rattle.std.specs.List.{flat_map}
-use Rattle.std.specs.Option.{option_map}
-use Rattle.std.specs.Str.{bytes_eq}
+use Rattle.std.specs.{List.flat_map, Option.option_map, Str.bytes_eq}
 use Rattle.box6346.specs.declared.box_number.BoxNumber.{BoxNumber}
-use Rattle.edi_messages.specs.Owned.{call_content}
-use Rattle.edi_messages.specs.Purposes.{CallContent}
-use Rattle.terminal_core.specs.declared.lines.LineState.{LineState}
-use Rattle.terminal_core.specs.declared.lines.LineState.TheVariants.{Pending, Done}
-use Rattle.terminal_core.specs.declared.lines.Side.{Side}
-use Rattle.terminal_core.specs.declared.lines.Side.TheVariants.{Load, Discharge}
-use Rattle.terminal_core.specs.declared.lines.Listing.{Listing}
-use Rattle.terminal_core.specs.Listings.{is_side}
+use Rattle.edi_messages.specs.{Owned.call_content, Purposes.CallContent}
+use Rattle.terminal_core.specs.{declared.lines.LineState.LineState, declared.lines.LineState.TheVariants.{Pending, Done}, declared.lines.Side.Side}
+use Rattle.terminal_core.specs.{declared.lines.Side.TheVariants.{Load, Discharge}, declared.lines.Listing.Listing, Listings.is_side}
 use Rattle.terminal_core.specs.State.{TerminalState, LineContent, line_of}
-use Rattle.office_reports.specs.declared.lists.ListReport.{ListReport}
-use Rattle.office_reports.specs.declared.lists.ListedLine.{ListedLine}
-use Rattle.office_reports.specs.Listed.{AreListed}
-use Rattle.office_reports.specs.Names.{line}
+use Rattle.office_reports.specs.{declared.lists.ListReport.ListReport, declared.lists.ListedLine.ListedLine, Listed.AreListed, Names.line}
 
 -- the line that a container has on a call's list
 abbrev pub HasLine : TerminalState → CallContent → Side → BoxNumber → LineContent → Type 0

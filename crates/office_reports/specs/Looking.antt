@@ -1,7 +1,6 @@
 -- What is looked at, and what came of a look.
 use Rattle.std.specs.Prelude.{ℕ, List, Option, Result, Ok, Err}
-use Rattle.office_reports.specs.declared.query.NotNow.{NotNow}
-use Rattle.office_reports.specs.declared.query.Query.{Query}
+use Rattle.office_reports.specs.{declared.query.NotNow.NotNow, declared.query.Query.Query}
 
 -- the report of a query, the kept texts after so many of them, or what the archive at a place tells at a query
 pub data Look : Type 0 where

@@ -1,19 +1,11 @@
 -- What the definitions of the reports mean together.
-use Rattle.std.specs.Prelude.{◌≡◌, ℕ, List, Option}
-use Rattle.std.specs.Option.{option_map}
-use Rattle.std.specs.List.{AllZip}
+use Rattle.std.specs.{Prelude.{◌≡◌, ℕ, List, Option}, Option.option_map, List.AllZip}
 use Rattle.box6346.specs.declared.box_number.BoxNumber.{BoxNumber}
 use Rattle.edi_messages.specs.Purposes.{CallContent}
-use Rattle.terminal_core.specs.declared.change.Source.{Source}
-use Rattle.terminal_core.specs.declared.lines.Side.{Side}
-use Rattle.terminal_core.specs.Rows.{VisitContent}
-use Rattle.terminal_core.specs.State.{TerminalState}
+use Rattle.terminal_core.specs.{declared.change.Source.Source, declared.lines.Side.Side, Rows.VisitContent, State.TerminalState}
 use Rattle.office_admission.specs.Setups.{SetupContent}
-use Rattle.office_reports.specs.Blocks.{IsBlocksReport}
-use Rattle.office_reports.specs.Partners.{PartnerContent, AreAlike, partners_text}
-use Rattle.office_reports.specs.Tickets.{ticket_of, ticket_text, told_text}
-use Rattle.office_reports.specs.Visits.{rows_text, visit_report, visits_of}
-use Rattle.office_reports.specs.Work.{IsWorkReport}
+use Rattle.office_reports.specs.{Blocks.IsBlocksReport, Partners.{PartnerContent, AreAlike, partners_text}, Tickets.{ticket_of, ticket_text, told_text}}
+use Rattle.office_reports.specs.{Visits.{rows_text, visit_report, visits_of}, Work.IsWorkReport}
 
 -- two reports on the work that is left of a list are one answer
 abbrev pub WorkReportsAreOne : Type 0

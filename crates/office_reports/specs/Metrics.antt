@@ -1,12 +1,8 @@
 -- What watches over the office is told: whether it can be asked, and how much there is of what (our own), in the format
 -- that Prometheus reads (text, version 0.0.4).
-use Rattle.std.specs.Prelude.{ℕ, Bool, true, false, List, [], ◌∷◌, ◌++◌, length, count_by, sum_by, codes, decimal, is_none}
-use Rattle.std.specs.List.{flat_map}
-use Rattle.terminal_core.specs.Rows.{VisitContent}
-use Rattle.terminal_core.specs.State.{TerminalState}
-use Rattle.office_reports.specs.Names.{line}
-use Rattle.office_reports.specs.Partners.{PartnerContent, waiting_count}
-use Rattle.office_reports.specs.declared.metrics.Gauge.{Gauge}
+use Rattle.std.specs.{Prelude.{ℕ, Bool, true, false, List, [], ◌∷◌, ◌++◌, length, count_by, sum_by, codes, decimal, is_none}, List.flat_map}
+use Rattle.terminal_core.specs.{Rows.VisitContent, State.TerminalState}
+use Rattle.office_reports.specs.{Names.line, Partners.{PartnerContent, waiting_count}, declared.metrics.Gauge.Gauge}
 
 -- ---- whether it can be asked
 

@@ -1,8 +1,6 @@
 -- How reports write lines, slots and loads.
-use Rattle.std.specs.Prelude.{ℕ, Bool, List, ◌++◌, if◌then◌else◌, codes, encode_utf8_all}
-use Rattle.std.specs.List.{join_by}
-use Rattle.box6346.specs.SlotName.{slot_text}
-use Rattle.box6346.specs.declared.slot.Slot.{Slot}
+use Rattle.std.specs.{Prelude.{ℕ, Bool, List, ◌++◌, if◌then◌else◌, codes, encode_utf8_all}, List.join_by}
+use Rattle.box6346.specs.{SlotName.slot_text, declared.slot.Slot.Slot}
 
 -- the text of a slot, each byte as the character of its number: that of a slot with a name is its name
 abbrev pub slot_name : Slot → List ℕ

@@ -1,16 +1,11 @@
 -- The open lines of the vessels' lists that name a container (our own).
-use Rattle.std.specs.Prelude.{ℕ, Bool, List, [], ◌∷◌, ◌++◌, ◌&&◌, filter, if◌then◌else◌}
-use Rattle.std.specs.List.{flat_map}
-use Rattle.std.specs.FinMap as finite_map
-use Rattle.std.specs.Ordering.{nat_cmp, is_gt}
+use Rattle.std.specs.{Prelude.{ℕ, Bool, List, [], ◌∷◌, ◌++◌, ◌&&◌, filter, if◌then◌else◌}, List.flat_map, Ordering.{nat_cmp, is_gt}, Str.bytes_eq}
 use Rattle.std.specs.Cmp.Lexicographic.{slice_cmp}
-use Rattle.std.specs.Str.{bytes_eq}
 use Rattle.box6346.specs.declared.box_number.BoxNumber.{BoxNumber}
-use Rattle.terminal_core.specs.declared.lines.Side.TheVariants.{Load, Discharge}
-use Rattle.terminal_core.specs.Drop.{container_in, is_pending}
+use Rattle.terminal_core.specs.{declared.lines.Side.TheVariants.{Load, Discharge}, Drop.{container_in, is_pending}}
 use Rattle.terminal_core.specs.State.{LineContent, LineKey, Lines, side_code}
-use Rattle.office_reports.specs.Lists.{list_name, port_words}
-use Rattle.office_reports.specs.Names.{line}
+use Rattle.office_reports.specs.{Lists.{list_name, port_words}, Names.line}
+use Rattle.std.specs.FinMap as finite_map
 
 -- the line is open, and names the container
 abbrev pub is_open_for : BoxNumber → LineKey × LineContent → Bool

@@ -1,15 +1,9 @@
 -- The report on the partners (our own).
-use Rattle.std.specs.Prelude.{◌≡◌, ℕ, min, max, List, [], ◌∷◌, ◌++◌, length, sum_by, map, codes, decimal, string_bytes, Option, None, Some}
-use Rattle.std.specs.List.{flat_map, fold}
-use Rattle.std.specs.Option.{option_map}
-use Rattle.std.specs.List.Sorted.{IsPermutation}
-use Rattle.edi_messages.specs.declared.codes.PartnerKind.{PartnerKind}
-use Rattle.edi_messages.specs.declared.codes.PartnerKind.TheVariants.{Gate, Line, Quay, Yard}
-use Rattle.office_reports.specs.Names.{line}
-use Rattle.office_reports.specs.declared.partners.Partner.{Partner}
-use Rattle.office_reports.specs.declared.partners.PartnerRow.{PartnerRow}
+use Rattle.std.specs.{Prelude.{◌≡◌, ℕ, min, max, List, [], ◌∷◌, ◌++◌, length, sum_by, map, codes, decimal, string_bytes, Option, None, Some}, Option.option_map}
+use Rattle.std.specs.{List.{flat_map, fold}, List.Sorted.IsPermutation}
+use Rattle.edi_messages.specs.{declared.codes.PartnerKind.PartnerKind, declared.codes.PartnerKind.TheVariants.{Gate, Line, Quay, Yard}}
+use Rattle.office_reports.specs.{Names.line, declared.partners.Partner.Partner, declared.partners.PartnerRow.PartnerRow, declared.partners.Waiting.Waiting}
 use Rattle.office_reports.specs.declared.partners.PartnersReport.{PartnersReport}
-use Rattle.office_reports.specs.declared.partners.Waiting.{Waiting}
 
 -- a partner's code and what it is, the number that its next interchange has, and the numbers that wait for that one
 pub record PartnerContent : Type 0 where

@@ -1,14 +1,10 @@
 -- How a container comes or leaves (our own).
 use Rattle.std.specs.Prelude.{ℕ, zero, suc, List, [], ◌∷◌, ◌++◌, ◌==◌, codes, decimal, if◌then◌else◌, map, slice_index_or, Option, None, Some}
 use Rattle.edi_syntax.specs.Moments.{CivilMoment, moment_text}
-use Rattle.terminal_core.specs.declared.change.Source.{Source}
-use Rattle.terminal_core.specs.declared.visits.Departure.{Departure}
-use Rattle.terminal_core.specs.declared.visits.Way.{Way}
+use Rattle.terminal_core.specs.{declared.change.Source.Source, declared.visits.Departure.Departure, declared.visits.Way.Way, Rows.VisitContent}
 use Rattle.terminal_core.specs.declared.visits.Way.TheVariants.{Gate, Ship}
-use Rattle.terminal_core.specs.Rows.{VisitContent}
 use Rattle.office_admission.specs.Setups.{SetupContent}
-use Rattle.office_reports.specs.Names.{line}
-use Rattle.office_reports.specs.declared.passages.Passage.{Passage}
+use Rattle.office_reports.specs.{Names.line, declared.passages.Passage.Passage}
 
 -- by which way, by which interchange of whom, and when
 pub record PassageContent : Type 0 where

@@ -1,15 +1,9 @@
 -- The picture of the yard: a page of HTML (our own).
-use Rattle.std.specs.Prelude.{◌≡◌, ℕ, List, [], ◌∷◌, ◌++◌, not, length, filter, codes, decimal}
-use Rattle.std.specs.List.{flat_map}
-use Rattle.std.specs.Map.{values_of}
+use Rattle.std.specs.{Prelude.{◌≡◌, ℕ, List, [], ◌∷◌, ◌++◌, not, length, filter, codes, decimal}, List.flat_map, Map.values_of}
 use Rattle.yard_core.specs.declared.plan.Block.{Block}
 use Rattle.terminal_core.specs.State.{TerminalState}
-use Rattle.office_reports.specs.declared.yard.Standing.{Standing}
-use Rattle.office_reports.specs.Listed.{AreListed}
-use Rattle.office_reports.specs.Yard.{StandsAt}
-use Rattle.office_reports.specs.Fields.{field_text, joined_pieces}
-use Rattle.office_reports.specs.Fixed.{head, shapes, legend}
-use Rattle.office_reports.specs.Views.{block_view, index}
+use Rattle.office_reports.specs.{declared.yard.Standing.Standing, Listed.AreListed, Yard.StandsAt, Fields.{field_text, joined_pieces}}
+use Rattle.office_reports.specs.{Fixed.{head, shapes, legend}, Views.{block_view, index}}
 
 -- the terminal's name, and how many containers there are, full and empty
 unfoldable pub page_head : List ℕ → List Standing → List ℕ

@@ -3,9 +3,7 @@ use Rattle.std.specs.Prelude.{◌≡◌, ℕ, Bool, List, map}
 use Rattle.box6346.specs.declared.slot.Slot.{Slot}
 use Rattle.yard_core.specs.declared.plan.Block.{Block}
 use Rattle.terminal_core.specs.State.{TerminalState}
-use Rattle.office_reports.specs.declared.yard.Standing.{Standing}
-use Rattle.office_reports.specs.Fields.{field_text}
-use Rattle.office_reports.specs.Markup.{Place, Between, place_after_all, tags, Shows}
+use Rattle.office_reports.specs.{declared.yard.Standing.Standing, Fields.field_text, Markup.{Place, Between, place_after_all, tags, Shows}}
 use Rattle.office_reports.specs.Picture.{IsPicture, page_text}
 
 -- two pictures of one yard are one page

@@ -1,13 +1,9 @@
 -- The ticket of an interchange (our own).
 use Rattle.std.specs.Prelude.{ℕ, Bool, true, false, List, [], ◌∷◌, ◌++◌, filter, map, if◌then◌else◌, ◌==◌, ◌&&◌, ◌||◌, codes, decimal, is_some, Option, None, Some}
-use Rattle.std.specs.List.{flat_map, list_any}
-use Rattle.std.specs.Option.{option_map}
+use Rattle.std.specs.{List.{flat_map, list_any}, Option.option_map}
 use Rattle.edi_syntax.specs.Moments.{CivilMoment, moment_text}
-use Rattle.terminal_core.specs.declared.visits.Departure.{Departure}
-use Rattle.terminal_core.specs.declared.change.Source.{Source}
-use Rattle.terminal_core.specs.Rows.{VisitContent, visit_content}
-use Rattle.office_reports.specs.declared.tickets.TicketReport.{TicketReport}
-use Rattle.office_reports.specs.Names.{load_name, slot_name, line}
+use Rattle.terminal_core.specs.{declared.visits.Departure.Departure, declared.change.Source.Source, Rows.{VisitContent, visit_content}}
+use Rattle.office_reports.specs.{declared.tickets.TicketReport.TicketReport, Names.{load_name, slot_name, line}}
 
 abbrev pub is_source : Source → Source → Bool
 is_source a b = a.partner == b.partner && a.number == b.number

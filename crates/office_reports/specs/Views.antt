@@ -4,9 +4,7 @@ use Rattle.std.specs.Prelude.{ℕ, Bool, List, [], ◌∷◌, ◌+◌, ◌*◌, 
 use Rattle.std.specs.List.{flat_map, range_with_len}
 use Rattle.box6346.specs.SlotName.{slot_text}
 use Rattle.yard_core.specs.declared.plan.Block.{Block}
-use Rattle.office_reports.specs.declared.yard.Standing.{Standing}
-use Rattle.office_reports.specs.Names.{load_name}
-use Rattle.office_reports.specs.Fields.{field_text, joined_pieces}
+use Rattle.office_reports.specs.{declared.yard.Standing.Standing, Names.load_name, Fields.{field_text, joined_pieces}}
 
 -- ---- a container
 

@@ -1,15 +1,11 @@
 -- The report on a container's visits (our own).
-use Rattle.std.specs.Prelude.{ℕ, List, [], ◌∷◌, ◌++◌, filter, map, if◌then◌else◌, codes, decimal, ◌-ℤ◌, Option, None, Some}
-use Rattle.std.specs.Fmt.{signed_decimal}
+use Rattle.std.specs.{Prelude.{ℕ, List, [], ◌∷◌, ◌++◌, filter, map, if◌then◌else◌, codes, decimal, ◌-ℤ◌, Option, None, Some}, Fmt.signed_decimal}
 use Rattle.std.specs.List.{flat_map, list_any}
 use Rattle.box6346.specs.declared.box_number.BoxNumber.{BoxNumber}
 use Rattle.edi_syntax.specs.Moments.{CivilMoment, day_number}
-use Rattle.terminal_core.specs.declared.visits.Departure.{Departure}
-use Rattle.terminal_core.specs.Rows.{VisitContent, visit_content}
-use Rattle.terminal_core.specs.State.{TerminalState, is_visit_of}
+use Rattle.terminal_core.specs.{declared.visits.Departure.Departure, Rows.{VisitContent, visit_content}, State.{TerminalState, is_visit_of}}
 use Rattle.office_admission.specs.Setups.{SetupContent, setup_content}
-use Rattle.office_reports.specs.declared.visits.VisitsReport.{VisitsReport}
-use Rattle.office_reports.specs.Names.{load_name, slot_name, phrase, line}
+use Rattle.office_reports.specs.{declared.visits.VisitsReport.VisitsReport, Names.{load_name, slot_name, phrase, line}}
 use Rattle.office_reports.specs.Passages.{arrival_by, passage_by, passage_words, stay_line}
 
 -- ---- what the report tells

@@ -1,28 +1,12 @@
 -- What is left to do of a vessel's list (our own).
 use Rattle.std.specs.Prelude.{◌≡◌, ℕ, ◌-◌, Bool, List, [], ◌∷◌, ◌++◌, ◌&&◌, map, filter, count_by, length, codes, decimal, is_none, is_some, string_bytes, Option, None, Some}
-use Rattle.std.specs.Borrow.{Bor}
-use Rattle.std.specs.List.{flat_map}
-use Rattle.std.specs.Option.{option_map}
-use Rattle.std.specs.Map.{values_of}
-use Rattle.std.specs.BTreeMap.{insert_entry}
-use Rattle.std.specs.Ordering.{nat_cmp}
-use Rattle.std.specs.Cmp.Lexicographic.{slice_cmp}
-use Rattle.box6346.specs.declared.box_number.BoxNumber.{BoxNumber}
-use Rattle.box6346.specs.declared.slot.Slot.{Slot}
-use Rattle.edi_messages.specs.Owned.{call_content}
-use Rattle.edi_messages.specs.Purposes.{CallContent}
-use Rattle.terminal_core.specs.declared.lines.Side.{Side}
-use Rattle.terminal_core.specs.declared.lines.Side.TheVariants.{Load, Discharge}
-use Rattle.terminal_core.specs.Drop.{is_pending}
-use Rattle.terminal_core.specs.Rows.{VisitContent}
+use Rattle.std.specs.{Borrow.Bor, List.flat_map, Option.option_map, Map.values_of, BTreeMap.insert_entry, Ordering.nat_cmp, Cmp.Lexicographic.slice_cmp}
+use Rattle.box6346.specs.{declared.box_number.BoxNumber.BoxNumber, declared.slot.Slot.Slot}
+use Rattle.edi_messages.specs.{Owned.call_content, Purposes.CallContent}
+use Rattle.terminal_core.specs.{declared.lines.Side.Side, declared.lines.Side.TheVariants.{Load, Discharge}, Drop.is_pending, Rows.VisitContent}
 use Rattle.terminal_core.specs.State.{TerminalState, LineContent, open_visit}
-use Rattle.office_reports.specs.declared.yard.Standing.{Standing}
-use Rattle.office_reports.specs.Listed.{AreListed}
-use Rattle.office_reports.specs.Lists.{HasLine, is_done_line, list_head, port_words}
-use Rattle.office_reports.specs.Names.{slot_name, line, phrase}
-use Rattle.office_reports.specs.Yard.{slot_in}
-use Rattle.office_reports.specs.Containers.{above_words, blocker_in}
-use Rattle.office_reports.specs.declared.work.Job.{Job}
+use Rattle.office_reports.specs.{declared.yard.Standing.Standing, Listed.AreListed, Lists.{HasLine, is_done_line, list_head, port_words}, Yard.slot_in}
+use Rattle.office_reports.specs.{Names.{slot_name, line, phrase}, Containers.{above_words, blocker_in}, declared.work.Job.Job}
 use Rattle.office_reports.specs.declared.work.WorkReport.{WorkReport}
 
 -- ---- what the report tells

@@ -1,18 +1,9 @@
 -- The report on the yard (our own).
-use Rattle.std.specs.Prelude.{◌≡◌, ℕ, List, [], ◌∷◌, ◌++◌, length, codes, decimal, Option, None, Some}
-use Rattle.std.specs.Option.{option_map}
-use Rattle.std.specs.List.{flat_map}
-use Rattle.std.specs.Map.{values_of}
-use Rattle.box6346.specs.SlotName.{slot_text}
-use Rattle.box6346.specs.declared.box_number.BoxNumber.{BoxNumber}
-use Rattle.box6346.specs.declared.slot.Slot.{Slot}
+use Rattle.std.specs.{Prelude.{◌≡◌, ℕ, List, [], ◌∷◌, ◌++◌, length, codes, decimal, Option, None, Some}, Option.option_map, List.flat_map, Map.values_of}
+use Rattle.box6346.specs.{SlotName.slot_text, declared.box_number.BoxNumber.BoxNumber, declared.slot.Slot.Slot}
 use Rattle.yard_core.specs.YardMap.{placement_of}
-use Rattle.terminal_core.specs.declared.visits.Departure.{Departure}
-use Rattle.terminal_core.specs.Rows.{VisitContent}
-use Rattle.terminal_core.specs.State.{TerminalState, open_visit}
-use Rattle.office_reports.specs.declared.yard.Standing.{Standing}
-use Rattle.office_reports.specs.Listed.{AreListed}
-use Rattle.office_reports.specs.Names.{load_name, slot_name, line}
+use Rattle.terminal_core.specs.{declared.visits.Departure.Departure, Rows.VisitContent, State.{TerminalState, open_visit}}
+use Rattle.office_reports.specs.{declared.yard.Standing.Standing, Listed.AreListed, Names.{load_name, slot_name, line}}
 
 -- what is shown of a container, by its visit and where it stands
 abbrev pub shown_standing : VisitContent → Slot → Standing

@@ -1,7 +1,5 @@
 //! How full the yard is.
-ghost use Rattle.std.specs.List.{flat_map};
-ghost use Rattle.std.specs.Map.{values_of};
-ghost use Rattle.std.specs.Prelude.{◌≡◌, ◌++◌, ◌<◌, ◌^◌, filter, map, count_by, sum_by, max, IfOk, OnOk, string_bytes};
+ghost use Rattle.std.specs.{List.flat_map, Map.values_of, Prelude.{◌≡◌, ◌++◌, ◌<◌, ◌^◌, filter, map, count_by, sum_by, max, IfOk, OnOk, string_bytes}};
 ghost use Rattle.office_reports.specs.Blocks.{AreBlocks, IsBlocksReport, block_line, blocks_content, blocks_end, blocks_text, cell_count, highest_tier, is_forty, is_in, is_twenty, is_under, row_of, size_words, use_of, use_words};
 ghost use Rattle.office_reports.specs.Names.{phrase};
 ghost use Rattle.yard_core.specs.Plan.{IsPlan};

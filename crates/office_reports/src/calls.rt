@@ -1,12 +1,9 @@
 //! How far the vessels' lists are.
-ghost use Rattle.std.specs.FinMap as finite_map;
-ghost use Rattle.std.specs.List.{flat_map};
-ghost use Rattle.std.specs.Prelude.{◌≡◌, ◌++◌, ◌∷◌, ◌<◌, ◌+◌, ◌^◌, [], codes, IfOk, OnOk, string_bytes};
-ghost use Rattle.office_reports.specs.Calls.{call_line, calls_text, count_with, key_content, list_of, lists_content, lists_in, lists_text};
+ghost use Rattle.std.specs.{List.flat_map, Prelude.{◌≡◌, ◌++◌, ◌∷◌, ◌<◌, ◌+◌, ◌^◌, [], codes, IfOk, OnOk, string_bytes}};
+ghost use Rattle.office_reports.specs.{Calls.{call_line, calls_text, count_with, key_content, list_of, lists_content, lists_in, lists_text}, Names.line};
 ghost use Rattle.office_reports.specs.OpenLines.{side_name};
-ghost use Rattle.office_reports.specs.Names.{line};
-ghost use Rattle.terminal_core.specs.Listings.{key_of, lines_of};
-ghost use Rattle.terminal_core.specs.Restoring.{AreOnce};
+ghost use Rattle.terminal_core.specs.{Listings.{key_of, lines_of}, Restoring.AreOnce};
+ghost use Rattle.std.specs.FinMap as finite_map;
 
 use crate::containers::side_code;
 use crate::list_name;

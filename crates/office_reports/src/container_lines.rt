@@ -1,13 +1,8 @@
 //! The report on a container as text.
-ghost use Rattle.std.specs.List.{flat_map};
-ghost use Rattle.std.specs.Option.{option_map};
-ghost use Rattle.std.specs.Prelude.{◌≡◌, ◌++◌, ◌∷◌, codes, map, string_bytes, IfOk, OnOk};
+ghost use Rattle.std.specs.{List.flat_map, Option.option_map, Prelude.{◌≡◌, ◌++◌, ◌∷◌, codes, map, string_bytes, IfOk, OnOk}};
 ghost use Rattle.office_admission.specs.Setups.{setup_content};
 ghost use Rattle.office_reports.specs.Containers.{above_words, container_content, container_head, container_report, container_text, gone_line, standing_line, stay_content, visit_words};
-ghost use Rattle.office_reports.specs.Lists.{port_words};
-ghost use Rattle.office_reports.specs.Names.{line, phrase, slot_name};
-ghost use Rattle.office_reports.specs.OpenLines.{open_line};
-ghost use Rattle.office_reports.specs.Passages.{passage_content};
+ghost use Rattle.office_reports.specs.{Lists.port_words, Names.{line, phrase, slot_name}, OpenLines.open_line, Passages.passage_content};
 ghost use Rattle.terminal_core.specs.Listings.{line_entry};
 
 use crate::containers::{ContainerReport, Stay, container_of};

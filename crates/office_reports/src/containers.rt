@@ -1,15 +1,9 @@
 //! Where a container is: what the report on it tells.
-ghost use Rattle.std.specs.List.{prefix_len};
-ghost use Rattle.std.specs.Option.{option_map};
-ghost use Rattle.std.specs.Prelude.{◌≡◌, ◌≤◌, IfOk, Some, length, map};
+ghost use Rattle.std.specs.{List.prefix_len, Option.option_map, Prelude.{◌≡◌, ◌≤◌, IfOk, Some, length, map}};
 ghost use Rattle.office_admission.specs.Setups.{setup_content};
 ghost use Rattle.office_reports.specs.Containers.{blocker_in, by_visit, container_content, container_of, gone_by, stay_by, stay_content};
-ghost use Rattle.office_reports.specs.OpenLines.{is_behind, is_open_for, open_lines};
-ghost use Rattle.office_reports.specs.Passages.{arrival_by, departure_by, passage_content};
-ghost use Rattle.terminal_core.specs.Listings.{key_of, line_entry, lines_of};
-ghost use Rattle.terminal_core.specs.Restoring.{AreOnce};
-ghost use Rattle.terminal_core.specs.Rows.{visit_content};
-ghost use Rattle.terminal_core.specs.State.{last_visit, side_code};
+ghost use Rattle.office_reports.specs.{OpenLines.{is_behind, is_open_for, open_lines}, Passages.{arrival_by, departure_by, passage_content}};
+ghost use Rattle.terminal_core.specs.{Listings.{key_of, line_entry, lines_of}, Restoring.AreOnce, Rows.visit_content, State.{last_visit, side_code}};
 
 use crate::passages::{Passage, passage_of};
 use box6346::{BoxNumber, SizeType, Slot};

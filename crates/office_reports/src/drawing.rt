@@ -1,9 +1,6 @@
 //! How many containers there are, and how many cells they use.
-ghost use Rattle.std.specs.Map.{values_of};
-ghost use Rattle.std.specs.Prelude.{◌≡◌, ◌++◌, IfOk, OnOk, string_bytes, ◌<◌, ◌^◌, ◌*◌, ◌&&◌, filter, length, not};
-ghost use Rattle.office_reports.specs.Picture.{IsPicture, page_head, page_text};
-ghost use Rattle.office_reports.specs.Views.{is_forty, is_in_block, used_cells};
-ghost use Rattle.office_reports.specs.Names.{load_name};
+ghost use Rattle.std.specs.{Map.values_of, Prelude.{◌≡◌, ◌++◌, IfOk, OnOk, string_bytes, ◌<◌, ◌^◌, ◌*◌, ◌&&◌, filter, length, not}};
+ghost use Rattle.office_reports.specs.{Picture.{IsPicture, page_head, page_text}, Views.{is_forty, is_in_block, used_cells}, Names.load_name};
 
 use crate::fixed::{Field, field_text, head, legend, push_all, shapes};
 use crate::grids::{push_blocks, push_index};

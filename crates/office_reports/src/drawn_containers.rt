@@ -1,5 +1,4 @@
-ghost use Rattle.std.specs.Prelude.{◌≡◌, ◌++◌, ◌==◌, ◌&&◌, OnOk, string_bytes};
-ghost use Rattle.std.specs.List.{flat_map};
+ghost use Rattle.std.specs.{Prelude.{◌≡◌, ◌++◌, ◌==◌, ◌&&◌, OnOk, string_bytes}, List.flat_map};
 ghost use Rattle.office_reports.specs.Views.{container_view, is_in_row, lettering, shape_name, shape_view, view_in_row};
 
 use crate::Standing;

@@ -1,7 +1,6 @@
 //! The parts of the page that are the same for every yard.
 ghost use Rattle.std.specs.Prelude.{◌≡◌, ◌++◌, map, IfOk, OnOk, string_bytes};
-ghost use Rattle.office_reports.specs.Fields.{field_text, joined_pieces};
-ghost use Rattle.office_reports.specs.Fixed.{head, shapes, legend};
+ghost use Rattle.office_reports.specs.{Fields.{field_text, joined_pieces}, Fixed.{head, shapes, legend}};
 
 use std::alloc::{AllocError, Global};
 use std::fmt;

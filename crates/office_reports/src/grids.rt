@@ -1,6 +1,5 @@
 //! Where the parts of a view stand: a cell is 64 wide and 40 high.
-ghost use Rattle.std.specs.List.{flat_map, range_with_len};
-ghost use Rattle.std.specs.Prelude.{◌≡◌, ◌++◌, OnOk, string_bytes, ◌+◌, ◌*◌, ◌/◌, min};
+ghost use Rattle.std.specs.{List.{flat_map, range_with_len}, Prelude.{◌≡◌, ◌++◌, OnOk, string_bytes, ◌+◌, ◌*◌, ◌/◌, min}};
 ghost use Rattle.office_reports.specs.Views.{bay_label, bay_labels, cells_view, grid, labels, tier_label, tier_labels, row_head, row_view, part_count, part_view, block_head, block_link, block_view, index};
 
 use crate::Standing;

@@ -1,9 +1,7 @@
 ghost use Rattle.std.specs.Prelude.{◌≡◌, ◌==◌, IfOk, option_map, string_bytes, ◌≤◌, ◌≢◌, ◌<◌, ◌∷◌, List, ℕ, [], length, slice_index, None, MatchOption};
-ghost use Rattle.edi_syntax.specs.Bytes.{digit_zero};
+ghost use Rattle.edi_syntax.specs.{Bytes.digit_zero, Numbers.number_of};
 ghost use Rattle.edi_messages.specs.Texts.{is_name};
-ghost use Rattle.edi_syntax.specs.Numbers.{number_of};
-ghost use Rattle.office_reports.specs.AccountKeys.{account_in, account_named, part_bytes, sender_in};
-ghost use Rattle.office_reports.specs.Escapes.{byte_of, decoded_part, with_first_byte};
+ghost use Rattle.office_reports.specs.{AccountKeys.{account_in, account_named, part_bytes, sender_in}, Escapes.{byte_of, decoded_part, with_first_byte}};
 ghost use Rattle.office_reports.specs.Keys.{about_content, about_of, query_content, container_of, if_empty, interchange_of, list_named, list_of, partner_of, query_of, box_in, control_number_of, name_in, name_of, number_in, passed_of, side_in, side_of, letter_of, one_part, key_parts, three_parts, two_parts};
 
 use crate::query::{About, Query, ReportKind, View, has_view};

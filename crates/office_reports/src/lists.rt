@@ -1,11 +1,8 @@
 //! A call's list on one side.
-ghost use Rattle.std.specs.List.{flat_map};
-ghost use Rattle.std.specs.Option.{option_map};
-ghost use Rattle.std.specs.Prelude.{◌≡◌, ◌++◌, ◌∷◌, [], count_by, IfOk, OnOk, string_bytes};
+ghost use Rattle.std.specs.{List.flat_map, Option.option_map, Prelude.{◌≡◌, ◌++◌, ◌∷◌, [], count_by, IfOk, OnOk, string_bytes}};
 ghost use Rattle.edi_messages.specs.Owned.{call_content};
-ghost use Rattle.office_reports.specs.Listed.{AreListed};
+ghost use Rattle.office_reports.specs.{Listed.AreListed, Names.line};
 ghost use Rattle.office_reports.specs.Lists.{HasLine, IsListReport, IsOfLines, is_done_line, is_on, list_by, list_content, list_contents, list_end, list_head, list_line, list_name, list_text, shown_line, state_name};
-ghost use Rattle.office_reports.specs.Names.{line};
 ghost use Rattle.terminal_core.specs.Listings.{line_content};
 
 use crate::texts::{number_text, push_line};

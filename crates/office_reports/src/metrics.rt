@@ -1,6 +1,5 @@
 //! What those who watch over the office are shown: the metrics.
-ghost use Rattle.std.specs.List.{flat_map};
-ghost use Rattle.std.specs.Prelude.{◌≡◌, ◌++◌, count_by, map, IfOk, OnOk, string_bytes};
+ghost use Rattle.std.specs.{List.flat_map, Prelude.{◌≡◌, ◌++◌, count_by, map, IfOk, OnOk, string_bytes}};
 ghost use Rattle.office_reports.specs.Metrics.{gauge_content, gauge_head, gauge_text, gauges, is_here, is_waited_for, metrics_text, ready_text, versions_text};
 ghost use Rattle.office_reports.specs.Partners.{partner_content};
 ghost use Rattle.terminal_core.specs.Rows.{visit_content};

@@ -1,9 +1,7 @@
 //! Which number is expected of each partner, and what waits for it.
-ghost use Rattle.std.specs.List.{flat_map, fold};
-ghost use Rattle.std.specs.Option.{option_map};
+ghost use Rattle.std.specs.{List.{flat_map, fold}, Option.option_map};
 ghost use Rattle.std.specs.Prelude.{◌≡◌, ◌++◌, ◌∷◌, [], None, Some, codes, decimal, map, max, min, sum_by, IfOk, OnOk, string_bytes};
-ghost use Rattle.office_reports.specs.Contrls.{contrl_in, contrl_of};
-ghost use Rattle.office_reports.specs.Names.{line};
+ghost use Rattle.office_reports.specs.{Contrls.{contrl_in, contrl_of}, Names.line};
 ghost use Rattle.office_reports.specs.Partners.{kind_name, partner_content, partner_line, partners_content, partners_end, partners_of, partners_text, row_content, row_line, row_of, rows_text, waiting_content, waiting_count, waiting_of, waiting_words};
 ghost use Rattle.serde_json.specs.View.{view};
 

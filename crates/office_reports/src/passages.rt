@@ -1,8 +1,7 @@
 //! How a container comes or leaves.
 ghost use Rattle.std.specs.Prelude.{◌≡◌, ◌++◌, ◌∷◌, [], IfOk, OnOk, string_bytes};
 ghost use Rattle.office_admission.specs.Setups.{setup_content};
-ghost use Rattle.office_reports.specs.Names.{phrase};
-ghost use Rattle.office_reports.specs.Passages.{code_of, passage_by, passage_content, passage_words, stay_line, way_name};
+ghost use Rattle.office_reports.specs.{Names.phrase, Passages.{code_of, passage_by, passage_content, passage_words, stay_line, way_name}};
 
 use crate::texts::{moment_text, phrase, push_line};
 use edi_syntax::Moment;

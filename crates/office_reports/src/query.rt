@@ -1,10 +1,6 @@
-ghost use Rattle.std.specs.Option.{option_map};
-ghost use Rattle.std.specs.Prelude.{ℕ, List, Option, Result, string_bytes, ◌≡◌};
-ghost use Rattle.std.specs.Result.{result_map_both};
-ghost use Rattle.office_reports.specs.AskedViews.{has_csv, has_json, has_page, has_text, has_view};
-ghost use Rattle.office_reports.specs.Looking.{Look, of_archive, report, texts_after};
-ghost use Rattle.office_reports.specs.Program.{program_version};
-ghost use Rattle.office_reports.specs.declared.query.NotNow.{NotNow};
+ghost use Rattle.std.specs.{Option.option_map, Prelude.{ℕ, List, Option, Result, string_bytes, ◌≡◌}, Result.result_map_both};
+ghost use Rattle.office_reports.specs.{AskedViews.{has_csv, has_json, has_page, has_text, has_view}, Looking.{Look, of_archive, report, texts_after}};
+ghost use Rattle.office_reports.specs.{Program.program_version, declared.query.NotNow.NotNow};
 
 use box6346::BoxNumber;
 use edi_messages::Call;

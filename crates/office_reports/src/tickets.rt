@@ -1,6 +1,5 @@
 //! What an interchange did.
-ghost use Rattle.std.specs.List.{flat_map};
-ghost use Rattle.std.specs.Prelude.{◌≡◌, ◌++◌, ◌∷◌, [], codes, decimal, filter, map, IfOk, OnOk, string_bytes};
+ghost use Rattle.std.specs.{List.flat_map, Prelude.{◌≡◌, ◌++◌, ◌∷◌, [], codes, decimal, filter, map, IfOk, OnOk, string_bytes}};
 ghost use Rattle.office_reports.specs.Names.{line};
 ghost use Rattle.office_reports.specs.Tickets.{closed_line, entry_line, exit_moment_by, is_closed_by, is_nothing, is_opened_by, ticket_content, ticket_of, ticket_text, told_lines, told_text};
 ghost use Rattle.terminal_core.specs.Rows.{visit_content};

@@ -1,13 +1,9 @@
 //! The visits of a container.
-ghost use Rattle.std.specs.List.{flat_map};
-ghost use Rattle.std.specs.Option.{option_map};
-ghost use Rattle.std.specs.Prelude.{◌≡◌, ◌++◌, filter, map, IfOk, OnOk, string_bytes};
+ghost use Rattle.std.specs.{List.flat_map, Option.option_map, Prelude.{◌≡◌, ◌++◌, filter, map, IfOk, OnOk, string_bytes}};
 ghost use Rattle.office_admission.specs.Setups.{setup_content};
-ghost use Rattle.office_reports.specs.Names.{phrase};
-ghost use Rattle.office_reports.specs.Passages.{passage_by, passage_words};
+ghost use Rattle.office_reports.specs.{Names.phrase, Passages.{passage_by, passage_words}};
 ghost use Rattle.office_reports.specs.Visits.{arrival_words, departure_words, rows_text, visit_line, visit_report, visits_content, visits_of};
-ghost use Rattle.terminal_core.specs.Rows.{visit_content};
-ghost use Rattle.terminal_core.specs.State.{is_visit_of};
+ghost use Rattle.terminal_core.specs.{Rows.visit_content, State.is_visit_of};
 
 use crate::passages::{passage_of, passage_text, push_stay};
 use crate::texts::{load_name, number_text, phrase, push_line, size_text, slot_text};

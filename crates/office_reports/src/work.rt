@@ -1,7 +1,5 @@
 //! What is left to do of a call's list.
-ghost use Rattle.std.specs.Map.{values_of};
-ghost use Rattle.std.specs.Option.{option_map};
-ghost use Rattle.std.specs.Prelude.{◌≡◌, ◌++◌, [], filter, length, map, IfOk, OnOk};
+ghost use Rattle.std.specs.{Map.values_of, Option.option_map, Prelude.{◌≡◌, ◌++◌, [], filter, length, map, IfOk, OnOk}};
 ghost use Rattle.edi_messages.specs.Owned.{call_content};
 ghost use Rattle.office_reports.specs.Lists.{IsOfLines, list_contents, shown_line};
 ghost use Rattle.office_reports.specs.Work.{in_order, is_absent, job_content, job_of, jobs_of, placed_contents, standing_in, with_job, with_jobs, work_by, work_content, work_place};

@@ -1,10 +1,7 @@
 //! What is left to do of a call's list, as text.
-ghost use Rattle.std.specs.List.{flat_map};
-ghost use Rattle.std.specs.Option.{option_map};
-ghost use Rattle.std.specs.Prelude.{◌≡◌, ◌++◌, ◌∷◌, [], codes, map, IfOk, OnOk, string_bytes, None, Some, count_by};
+ghost use Rattle.std.specs.{List.flat_map, Option.option_map, Prelude.{◌≡◌, ◌++◌, ◌∷◌, [], codes, map, IfOk, OnOk, string_bytes, None, Some, count_by}};
 ghost use Rattle.edi_messages.specs.Owned.{call_content};
-ghost use Rattle.office_reports.specs.Lists.{port_words};
-ghost use Rattle.office_reports.specs.Names.{line, phrase, slot_name};
+ghost use Rattle.office_reports.specs.{Lists.port_words, Names.{line, phrase, slot_name}};
 ghost use Rattle.office_reports.specs.Work.{IsWorkReport, discharge_line, is_absent, is_covered, is_free, is_here, job_content, job_line, jobs_end, jobs_text, load_line, work_content, work_text};
 ghost use Rattle.terminal_core.specs.declared.lines.Side.TheVariants.{Load, Discharge};
 

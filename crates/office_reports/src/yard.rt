@@ -1,9 +1,6 @@
 //! The containers in the yard.
-ghost use Rattle.std.specs.List.{flat_map};
-ghost use Rattle.std.specs.Map.{values_of};
-ghost use Rattle.std.specs.Prelude.{◌≡◌, ◌++◌, IfOk, OnOk, string_bytes};
-ghost use Rattle.office_reports.specs.Listed.{AreListed};
-ghost use Rattle.office_reports.specs.Yard.{StandsAt, IsYardReport, standing_of, standing_line, yard_text};
+ghost use Rattle.std.specs.{List.flat_map, Map.values_of, Prelude.{◌≡◌, ◌++◌, IfOk, OnOk, string_bytes}};
+ghost use Rattle.office_reports.specs.{Listed.AreListed, Yard.{StandsAt, IsYardReport, standing_of, standing_line, yard_text}};
 ghost use Rattle.terminal_core.specs.Rows.{visit_content};
 
 use crate::texts::{load_name, number_text, push_line, size_text, slot_text};

@@ -1,39 +1,18 @@
 -- What each statement that writes interchanges makes of their order.
+use Rattle.std.{specs.List.AllByRecursion, proofs.{lemmas.Bool.cases_Bool, lemmas.List.map-append, lemmas.List.Sorted.IsPermutation-map}}
 use Rattle.std.proofs.Common.{◌≡◌, inl, inr, ℕ, ◌+◌, ◌<◌, pos, List, [], ◌∷◌, ◌++◌, length, map, filter, drop, Bool, true, false, ◌&&◌, cond, Ok, refl, sym, ap, ap₂, subst, ◌∙◌, arith, Less, IsPermutation, IsTrue}
-use Rattle.std.specs.List.{AllByRecursion}
-use Rattle.std.proofs.lemmas.Bool.{cases_Bool}
-use Rattle.std.proofs.lemmas.List.{map-append}
-use Rattle.std.proofs.lemmas.List.Sorted.{IsPermutation-map}
-use Rattle.sqlite.specs.declared.types.Value.TheVariants.{Null, Int, Text, Blob}
-use Rattle.sqlite.specs.Order.{Row, column}
-use Rattle.sqlite.specs.Table.{Table}
-use Rattle.sqlite.specs.Tree.{Trees}
-use Rattle.sqlite.specs.Listing.{understood}
-use Rattle.sqlite.specs.Source.TheVariants.{Values}
-use Rattle.sqlite.specs.Command.TheVariants.{Insert, Update}
-use Rattle.sqlite.specs.State.{State, Executes}
-use Rattle.sqlite.proofs.Callers.{statement_of, runs_as}
+use Rattle.sqlite.specs.{declared.types.Value.TheVariants.{Null, Int, Text, Blob}, Order.{Row, column}, Table.Table, Tree.Trees, Listing.understood}
+use Rattle.sqlite.{specs.{Source.TheVariants.Values, Command.TheVariants.{Insert, Update}, State.{State, Executes}}, proofs.Callers.{statement_of, runs_as}}
 use Rattle.sqlite_value.specs.Order.{value_cmp}
 use Rattle.sqlite_schema.specs.declared.schema.Keys.TheVariants.{Enforced}
-use Rattle.sqlite_trees.specs.Tree.{IsTable, rowid}
-use Rattle.sqlite_trees.specs.View.{is_int, IsShaped}
-use Rattle.sqlite_trees.proofs.ListLemmas.{map-map}
-use Rattle.sqlite_rules.specs.Cast.{cast, cast_row}
-use Rattle.sqlite_rules.specs.Calls.{ids_of}
-use Rattle.sqlite_rules.specs.declared.error.Rowids.TheVariants.{Chosen, Given}
+use Rattle.sqlite_trees.{specs.{Tree.{IsTable, rowid}, View.{is_int, IsShaped}}, proofs.ListLemmas.map-map}
+use Rattle.sqlite_rules.specs.{Cast.{cast, cast_row}, Calls.ids_of, declared.error.Rowids.TheVariants.{Chosen, Given}}
 use Rattle.sqlite_rules.specs.Edit.{edit_of, Applies, without_all, put_all, id_in}
-use Rattle.office_rows.specs.Tables.{interchange_table, office_schema}
-use Rattle.office_rows.specs.Rows.{Interchange, Rows}
-use Rattle.office_rows.specs.Values.{number_value, interchange_values}
-use Rattle.office_rows.specs.Effects.{is_pair, with_waiting, with_reply}
-use Rattle.office_rows.specs.Stored.{columns_of, HasRows}
-use Rattle.office_rows.proofs.Creating.{updated, put_all_shaped, without_all_shaped}
-use Rattle.office_rows.proofs.WriteLemmas.{cast_null, cast_int, equal_numbers, passes, inserts, updates, rows_of, given_numbered}
-use Rattle.office_rows.specs.Places.{ArePlaced}
+use Rattle.office_rows.specs.{Tables.{interchange_table, office_schema}, Rows.{Interchange, Rows}, Values.{number_value, interchange_values}, Places.ArePlaced}
+use Rattle.office_rows.{specs.{Effects.{is_pair, with_waiting, with_reply}, Stored.{columns_of, HasRows}}, proofs.Placed.{less, insert_adds_last}}
 use Rattle.office_rows.specs.InPlace.{AreInPlace, InterchangesAreInPlace, AddsInPlace, says, is_row_of, replied, RepliesInPlace, OthersKeepPlaces}
-use Rattle.office_rows.proofs.Placed.{less, insert_adds_last}
-use Rattle.office_rows.proofs.Ordered.{rows_have_one_order}
-use Rattle.office_rows.proofs.Listed.{and_true}
+use Rattle.office_rows.proofs.{Creating.{updated, put_all_shaped, without_all_shaped}, Ordered.rows_have_one_order, Listed.and_true}
+use Rattle.office_rows.proofs.WriteLemmas.{cast_null, cast_int, equal_numbers, passes, inserts, updates, rows_of, given_numbered}
 use Rattle.sqlite.specs.Kind.TheVariants as kind
 use Rattle.sqlite_trees.specs.declared.store.Shape.TheVariants as shape
 use Rattle.office_rows.proofs.Writing as texts

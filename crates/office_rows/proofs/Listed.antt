@@ -1,42 +1,19 @@
 -- What each query of all rows of a table shows.
+use Rattle.std.{specs.{List.Sorted.{IsPermutation, IsSortedBy}, List.swap, Ordering.{is_lt, on, nat_cmp, int_cmp}}, proofs.lemmas.List.{length-map, map-set}}
 use Rattle.std.proofs.Common.{◌≡◌, ℕ, ◌==◌, ◌&&◌, List, [], ◌∷◌, Bool, true, false, map, filter, refl, ap₂, ◌∙◌, zero, suc, ◌+◌, ◌<◌, IsSorted, length, set, slice_index_or, sym, ap, subst, arith, pos}
-use Rattle.std.specs.List.Sorted.{IsPermutation, IsSortedBy}
 use Rattle.std.proofs.lemmas.List.Sorted.{IsPermutation-trans, IsPermutation-refl, IsPermutation-map, IsPermutation-swap, IsPermutation-keeps}
-use Rattle.sqlite.specs.declared.types.Value.TheVariants.{Null}
-use Rattle.sqlite.specs.Order.{Row, column}
-use Rattle.sqlite.specs.Collation.TheVariants.{Binary}
-use Rattle.sqlite.specs.Ops.{binary, is_true}
-use Rattle.sqlite_sql.specs.declared.ops.BinaryOp.TheVariants.{Compare}
-use Rattle.sqlite_sql.specs.declared.ops.CompareOp.TheVariants.{Eq}
-use Rattle.sqlite.specs.Command.TheVariants.{Select}
-use Rattle.sqlite.specs.State.{State, Shown}
-use Rattle.sqlite.specs.Listing.{understood, reads_listing}
-use Rattle.sqlite.proofs.Callers.{IsPlain, command_of, reads_as}
+use Rattle.std.proofs.{lemmas.Int.ints, lemmas.Bool.Decides.nat_tests}
+use Rattle.sqlite.specs.{declared.types.Value.TheVariants.Null, Order.{Row, column}, Collation.TheVariants.Binary, Ops.{binary, is_true}, State.{State, Shown}}
+use Rattle.sqlite.specs.{Command.TheVariants.Select, Listing.{understood, reads_listing}, Table.Table, Term.{Term, eval_all}, Query.{Output, key_cmp}}
+use Rattle.sqlite.{specs.{Program.overlay, Tree.Trees, Effect.Database, Schema.Schema}, proofs.Callers.{IsPlain, command_of, reads_as}}
+use Rattle.sqlite_sql.specs.{declared.ops.BinaryOp.TheVariants.Compare, declared.ops.CompareOp.TheVariants.Eq}
 use Rattle.office_rows.specs.Tables.{partner_table, interchange_table, office_schema, visit_table, place_table, listing_table, setting_table, block_table}
-use Rattle.office_rows.specs.Rows.{Interchange, Rows, Partner}
-use Rattle.office_rows.specs.Values.{number_value, partner_values, interchange_values, kept_values, next_values}
-use Rattle.office_rows.specs.Stored.{Holds, HasRows, columns_of}
-use Rattle.office_rows.specs.Layouts.{Layout, bare, weighed, schema_in, bare_schema}
-use Rattle.office_rows.specs.Effects.{is_pair}
+use Rattle.office_rows.specs.{Rows.{Interchange, Rows, Partner}, Values.{number_value, partner_values, interchange_values, kept_values, next_values}}
+use Rattle.office_rows.specs.{Stored.{Holds, HasRows, columns_of}, Layouts.{Layout, bare, weighed, schema_in, bare_schema}, Effects.is_pair}
+use Rattle.office_rows.specs.{Bare.{weighed_row, with_weights, weighed_in}, Shown.{columns_at, ShowsTable, AreNexts}}
 use Rattle.office_rows.proofs.WriteLemmas.{equal_numbers, rows_of, answer_is, holds_read, passes, answer_in_order}
-use Rattle.std.specs.List.{swap}
-use Rattle.std.specs.Ordering.{is_lt, on, nat_cmp, int_cmp}
-use Rattle.std.proofs.lemmas.List.{length-map, map-set}
-use Rattle.sqlite.specs.Table.{Table}
-use Rattle.sqlite.specs.Term.{Term, eval_all}
-use Rattle.sqlite.specs.Query.{Output, key_cmp}
-use Rattle.sqlite.specs.Program.{overlay}
-use Rattle.sqlite.specs.Tree.{Trees}
-use Rattle.sqlite.specs.Effect.{Database}
 use Rattle.sqlite_trees.proofs.ListLemmas.{map-map, filter_all, all_of}
-use Rattle.sqlite_value.specs.Keys.{ascending}
-use Rattle.sqlite_value.specs.declared.keys.Key.{Key}
-use Rattle.office_rows.specs.Bare.{weighed_row, with_weights, weighed_in}
-use Rattle.office_rows.specs.Shown.{columns_at, ShowsTable, AreNexts}
-use Rattle.sqlite.specs.Schema.{Schema}
-use Rattle.std.proofs.lemmas.Int.{ints}
-use Rattle.std.proofs.lemmas.Bool.Decides.{nat_tests}
-use Rattle.sqlite_value.proofs.OrderLemmas.{value_cmp-Int, then-Equal}
+use Rattle.sqlite_value.{specs.{Keys.ascending, declared.keys.Key.Key}, proofs.OrderLemmas.{value_cmp-Int, then-Equal}}
 use Rattle.office_rows.proofs.Reading as texts
 use Rattle.office_rows.proofs.BareReading as bare_texts
 
@@ -68,9 +45,6 @@ finds_pair old new answer layout is interchanges held p n h =
     (answer_is params texts.select_kept_tests 2 texts.select_kept_shown old.now.trees answer refl (read.answer Null))
 
 module _ (old new : State) (rows : Rows) (answer : List Row) (has : HasRows rows old.now) where
-  pub finds_kept : (p n : ℕ) → Shown texts.select_kept (number_value p ∷ number_value n ∷ []) old new answer → IsPermutation (map kept_values (filter (is_pair p n) rows.interchanges)) answer
-  finds_kept p n h = finds_pair old new answer weighed has.schema rows.interchanges has.rows_are.interchanges p n h
-
   pub finds_next : (id : ℕ) → Shown texts.select_next (number_value id ∷ []) old new answer → IsPermutation (map next_values (filter (λ p. p.id == id) rows.partners)) answer
   finds_next id h =
       let params = number_value id ∷ [] in

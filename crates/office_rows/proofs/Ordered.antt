@@ -1,13 +1,9 @@
 -- Rows whose rowids rise stand in one order.
+use Rattle.std.{specs.List.AllByRecursion, proofs.{lemmas.Cmp.tied_itself, lemmas.List.Elements.{recursion_from_All, All-from_recursion}}}
 use Rattle.std.proofs.Common.{◌≡◌, ◌⊎◌, inl, inr, true, false, List, [], ◌∷◌, filter, refl, sym, ap, subst, ◌∙◌, arith, Ordering, Less, is_lt, IsPermutation}
-use Rattle.std.specs.List.{AllByRecursion}
-use Rattle.std.proofs.lemmas.Cmp.{tied_itself}
-use Rattle.std.proofs.lemmas.List.Elements.{recursion_from_All, All-from_recursion}
 use Rattle.std.proofs.lemmas.List.Sorted.{length_permutation, All-permutation, IsPermutation-sym}
-use Rattle.sqlite_value.specs.Order.{Row, value_cmp}
-use Rattle.sqlite_value.proofs.OrderLemmas.{value_cmp_total}
-use Rattle.sqlite_trees.specs.Tree.{rowid}
-use Rattle.sqlite_trees.proofs.ListLemmas.{all_weaker, filter_all, IsPermutation-filter}
+use Rattle.sqlite_value.{specs.Order.{Row, value_cmp}, proofs.OrderLemmas.value_cmp_total}
+use Rattle.sqlite_trees.{specs.Tree.rowid, proofs.ListLemmas.{all_weaker, filter_all, IsPermutation-filter}}
 use Rattle.office_rows.specs.Places.{RowsHaveOneOrder}
 
 order : Row → Row → Ordering

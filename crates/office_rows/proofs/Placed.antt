@@ -1,15 +1,9 @@
 -- Rows in the order of their places.
+use Rattle.std.{specs.{Prelude.drop, Ordering.match_ordering, declared.cmp.Ordering.TheVariants.Less}, proofs.lemmas.Bool.lt-ltb}
 use Rattle.std.proofs.Common.{◌≡◌, ℕ, suc, ◌+◌, ◌<◌, pos, ◌+ℤ◌, List, [], ◌∷◌, ◌++◌, length, cond, fold, refl, sym, ap, ◌∙◌, arith, int_cmp}
-use Rattle.std.specs.Prelude.{drop}
-use Rattle.std.proofs.lemmas.Bool.{lt-ltb}
-use Rattle.std.specs.Ordering.{match_ordering}
-use Rattle.std.specs.declared.cmp.Ordering.TheVariants.{Less}
-use Rattle.sqlite_value.specs.declared.value.Value.TheVariants.{Null, Int}
-use Rattle.sqlite_value.specs.Order.{Row, value_cmp}
-use Rattle.sqlite_value.proofs.OrderLemmas.{value_cmp-Int}
+use Rattle.sqlite_value.{specs.{declared.value.Value.TheVariants.{Null, Int}, Order.{Row, value_cmp}}, proofs.OrderLemmas.value_cmp-Int}
 use Rattle.sqlite_trees.specs.Tree.{rowid, put_row}
-use Rattle.sqlite_rules.specs.declared.error.Rowids.TheVariants.{Chosen}
-use Rattle.sqlite_rules.specs.Edit.{id_in, next_rowid, is_chosen, at_least, with_rowid}
+use Rattle.sqlite_rules.specs.{declared.error.Rowids.TheVariants.Chosen, Edit.{id_in, next_rowid, is_chosen, at_least, with_rowid}}
 use Rattle.office_rows.specs.Places.{ArePlaced, AddsLast}
 
 pub less : (m n : ℕ) → m < n → value_cmp (Int (pos m)) (Int (pos n)) ≡ Less

@@ -1,30 +1,15 @@
 -- What the texts mean that read.
-use Rattle.std.proofs.Common.{◌≡◌, ℕ, List, [], ◌∷◌, codes, false, refl, None, Ok, ap, sym, subst, ◌∙◌}
-use Rattle.sqlite.specs.Term.{Term, col}
-use Rattle.sqlite.specs.Collation.TheVariants.{Binary}
-use Rattle.sqlite.specs.Command.TheVariants.{Select, CreateTable}
-use Rattle.sqlite_tied.specs.Compute.{everything}
-use Rattle.sqlite.specs.Listing.{understood, reads_listing}
+use Rattle.std.proofs.{Common.{◌≡◌, ℕ, List, [], ◌∷◌, codes, false, refl, None, Ok, ap, sym, subst, ◌∙◌}, lemmas.List.Sorted.IsPermutation-refl}
+use Rattle.sqlite.specs.{Term.{Term, col}, Collation.TheVariants.Binary, Command.TheVariants.{Select, CreateTable}, Listing.{understood, reads_listing}}
+use Rattle.sqlite.specs.{Order.Row, Table.Table, Effect.Database, Does.{Tally, lacks_sequence}, State.{State, Executes, Writes}}
 use Rattle.sqlite.proofs.Callers.{IsPlain, command_of, runs_as}
-use Rattle.sqlite_value.specs.Keys.{ascending}
-use Rattle.sqlite_value.specs.declared.keys.Key.{Key}
-use Rattle.office_rows.proofs.WriteLemmas.{rows_of, listed_by, went, same_value}
-use Rattle.office_rows.proofs.Writing.{equals}
+use Rattle.sqlite_tied.specs.Compute.{everything}
+use Rattle.sqlite_value.specs.{Keys.ascending, declared.keys.Key.Key}
 use Rattle.office_rows.specs.Tables.{office_schema, partner_table, interchange_table, visit_table, place_table, listing_table, setting_table, block_table, schema_of, office_tables}
-use Rattle.std.proofs.lemmas.List.Sorted.{IsPermutation-refl}
-use Rattle.sqlite.specs.Order.{Row}
-use Rattle.sqlite.specs.Table.{Table}
-use Rattle.sqlite.specs.Effect.{Database}
-use Rattle.sqlite.specs.Does.{Tally, lacks_sequence}
-use Rattle.sqlite.specs.State.{State, Executes, Writes}
-use Rattle.sqlite_catalog.specs.Change.{created, next_tree, KeepsRows}
-use Rattle.sqlite_catalog.specs.Listing.{Lists}
+use Rattle.office_rows.{specs.{Rows.no_rows, Stored.{Holds, HasRows, HasEmpty}}, proofs.{WriteLemmas.{rows_of, listed_by, went, same_value}, Writing.equals}}
+use Rattle.sqlite_catalog.specs.{Change.{created, next_tree, KeepsRows}, Listing.Lists}
 use Rattle.sqlite_trees.specs.Objects.{catalog_tree}
-use Rattle.office_rows.specs.Rows.{no_rows}
-use Rattle.office_rows.specs.Stored.{Holds, HasRows, HasEmpty}
 use Rattle.office_rows.proofs.Creating as texts
-
--- ==== Reading: What the texts mean that read.
 
 abbrev pub select_partner : List ℕ
 select_partner = codes "SELECT id, code, kind, next FROM partner ORDER BY id"

@@ -1,26 +1,16 @@
 -- What the texts mean that write.
 use Rattle.std.proofs.Common.{ℕ, ℤ, List, arith, ◌≡◌, pos, [], ◌∷◌, codes, refl}
-use Rattle.sqlite.specs.Order.{Row}
-use Rattle.sqlite.specs.Effect.{Database}
-use Rattle.sqlite_rules.specs.declared.error.Rowids.{Rowids}
-use Rattle.sqlite_rules.specs.Edit.{edit_of}
+use Rattle.sqlite.specs.{Order.Row, Effect.Database, declared.types.Value.TheVariants.{Null, Int, Text}, Term.{Term, lit, col, op2}, Source.TheVariants.Values}
+use Rattle.sqlite.{specs.{Collation.TheVariants.Binary, Command.TheVariants.{Insert, Update, Delete}, Listing.understood}, proofs.Callers.{IsPlain, command_of}}
+use Rattle.sqlite_rules.specs.{declared.error.Rowids.Rowids, Edit.edit_of}
 use Rattle.yard_core.specs.declared.plan.Block.{Block}
 use Rattle.terminal_core.specs.Rows.{VisitContent}
 use Rattle.office_rows.specs.Tables.{partner_table, interchange_table, visit_table, place_table, listing_table, setting_table, block_table, office_schema}
-use Rattle.office_rows.specs.Rows.{Partner, Interchange, PlaceContent, ListingContent, Setting, Rows}
+use Rattle.office_rows.specs.{Rows.{Partner, Interchange, PlaceContent, ListingContent, Setting, Rows}, Stored.{Holds, HasRows}}
 use Rattle.office_rows.specs.Values.{partner_values, interchange_values, visit_values, place_values, line_values, setting_values, block_values}
-use Rattle.office_rows.specs.Stored.{Holds, HasRows}
 use Rattle.office_rows.proofs.WriteLemmas.{Edits, rows_of}
-use Rattle.sqlite.specs.declared.types.Value.TheVariants.{Null, Int, Text}
-use Rattle.sqlite.specs.Term.{Term, lit, col, op2}
-use Rattle.sqlite_sql.specs.declared.ops.BinaryOp.TheVariants.{Compare}
-use Rattle.sqlite_sql.specs.declared.ops.CompareOp.TheVariants.{Eq}
-use Rattle.sqlite.specs.Collation.TheVariants.{Binary}
-use Rattle.sqlite.specs.Source.TheVariants.{Values}
-use Rattle.sqlite.specs.Command.TheVariants.{Insert, Update, Delete}
+use Rattle.sqlite_sql.specs.{declared.ops.BinaryOp.TheVariants.Compare, declared.ops.CompareOp.TheVariants.Eq}
 use Rattle.sqlite_tied.specs.Compute.{everything}
-use Rattle.sqlite.specs.Listing.{understood}
-use Rattle.sqlite.proofs.Callers.{IsPlain, command_of}
 
 -- ==== TableLemmas: A write to one table leaves the rows of the others.
 

@@ -1,34 +1,19 @@
 -- What each statement that writes makes of the rows.
 use Rattle.std.proofs.Common.{◌≡◌, ℕ, List, [], ◌∷◌, ◌++◌, Bool, true, false, ◌&&◌, ◌==◌, not, cond, Ok, Some, map, filter, drop, refl, ap₂, ◌∙◌}
-use Rattle.box6346.specs.declared.box_number.BoxNumber.{BoxNumber}
-use Rattle.box6346.specs.declared.slot.Slot.{Slot}
-use Rattle.box6346.specs.SlotName.{slot_text}
+use Rattle.box6346.specs.{declared.box_number.BoxNumber.BoxNumber, declared.slot.Slot.Slot, SlotName.slot_text}
 use Rattle.edi_syntax.specs.Moments.{moment_digits}
 use Rattle.edi_messages.specs.Purposes.{CallContent}
 use Rattle.yard_core.specs.declared.plan.Block.{Block}
-use Rattle.terminal_core.specs.declared.visits.Departure.{Departure}
-use Rattle.terminal_core.specs.declared.lines.LineState.TheVariants.{Done}
-use Rattle.terminal_core.specs.declared.lines.Side.{Side}
+use Rattle.terminal_core.specs.{declared.visits.Departure.Departure, declared.lines.LineState.TheVariants.Done, declared.lines.Side.Side, State.side_code}
 use Rattle.terminal_core.specs.Rows.{VisitContent, visit_closed, moved_to, removed_from, line_done, unlisted}
-use Rattle.terminal_core.specs.State.{side_code}
-use Rattle.sqlite.specs.declared.types.Value.TheVariants.{Null, Text, Blob}
-use Rattle.sqlite.specs.Order.{Row, column}
-use Rattle.sqlite.specs.Collation.TheVariants.{Binary}
-use Rattle.sqlite.specs.Ops.{binary, is_true}
-use Rattle.sqlite_sql.specs.declared.ops.BinaryOp.TheVariants.{Compare}
-use Rattle.sqlite_sql.specs.declared.ops.CompareOp.TheVariants.{Eq}
-use Rattle.sqlite.specs.Listing.{understood}
-use Rattle.sqlite.specs.Source.TheVariants.{Values}
-use Rattle.sqlite.specs.Command.TheVariants.{Insert, Update, Delete}
-use Rattle.sqlite.specs.State.{State, Executes}
+use Rattle.sqlite.specs.{declared.types.Value.TheVariants.{Null, Text, Blob}, Order.{Row, column}, Collation.TheVariants.Binary, Ops.{binary, is_true}}
+use Rattle.sqlite.specs.{Listing.understood, Source.TheVariants.Values, Command.TheVariants.{Insert, Update, Delete}, State.{State, Executes}}
 use Rattle.sqlite.proofs.Callers.{statement_of, runs_as}
-use Rattle.sqlite_rules.specs.Cast.{cast}
-use Rattle.sqlite_rules.specs.Calls.{ids_of}
-use Rattle.sqlite_rules.specs.declared.error.Rowids.TheVariants.{Chosen, Given}
+use Rattle.sqlite_sql.specs.{declared.ops.BinaryOp.TheVariants.Compare, declared.ops.CompareOp.TheVariants.Eq}
+use Rattle.sqlite_rules.specs.{Cast.cast, Calls.ids_of, declared.error.Rowids.TheVariants.{Chosen, Given}}
 use Rattle.office_rows.specs.Tables.{partner_table, interchange_table, visit_table, place_table, listing_table, setting_table, block_table, office_schema}
-use Rattle.office_rows.specs.Rows.{Partner, Interchange, PlaceContent, ListingContent, Setting, Rows}
+use Rattle.office_rows.specs.{Rows.{Partner, Interchange, PlaceContent, ListingContent, Setting, Rows}, Stored.HasRows}
 use Rattle.office_rows.specs.Values.{number_value, way_code, partner_values, interchange_values, visit_values, place_values, line_values, setting_values, block_values}
-use Rattle.office_rows.specs.Stored.{HasRows}
 use Rattle.office_rows.specs.Effects.{is_pair, stands_for, is_line, with_waiting, with_reply, with_next, with_change}
 use Rattle.office_rows.proofs.WriteLemmas.{cast_null, cast_int, equal_numbers, equal_texts, inserts, updates, deletes, rows_of, holds_inserted, holds_updated, holds_deleted}
 use Rattle.office_rows.proofs.Writing.{only_partners, only_interchanges, only_visits, only_places, only_lines, only_settings, only_blocks}

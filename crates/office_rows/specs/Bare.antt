@@ -1,15 +1,9 @@
 -- How a database of version 1 or 2, whose visits have no weight, holds the rows.
-use Rattle.std.specs.Prelude.{◌≡◌, ◌==◌, [], ◌∷◌, ◌++◌, map, if◌then◌else◌}
-use Rattle.std.specs.List.{range_with_len}
-use Rattle.sqlite.specs.Order.{Row, column}
-use Rattle.sqlite.specs.Tree.{Trees}
-use Rattle.sqlite.specs.Effect.{Database}
+use Rattle.std.specs.{Prelude.{◌≡◌, ◌==◌, [], ◌∷◌, ◌++◌, map, if◌then◌else◌}, List.range_with_len}
+use Rattle.sqlite.specs.{Order.{Row, column}, Tree.Trees, Effect.Database}
 use Rattle.sqlite_trees.specs.Objects.{catalog_tree}
 use Rattle.sqlite_catalog.specs.Listing.{Lists}
-use Rattle.office_rows.specs.Layouts.{Layout, bare, weighed, bare_schema}
-use Rattle.office_rows.specs.Rows.{Rows}
-use Rattle.office_rows.specs.Values.{number_value}
-use Rattle.office_rows.specs.Stored.{AreRows}
+use Rattle.office_rows.specs.{Layouts.{Layout, bare, weighed, bare_schema}, Rows.Rows, Values.number_value, Stored.AreRows}
 
 -- ---- rows without weights
 

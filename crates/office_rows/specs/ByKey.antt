@@ -1,15 +1,10 @@
 -- The rows of visits, places and lines by their keys, as the terminal's own rows.
-use Rattle.std.specs.Prelude.{◌≤◌, List, find, Option, count_by}
-use Rattle.std.specs.Option.{option_map}
-use Rattle.std.specs.FinMap as finite_map
+use Rattle.std.specs.{Prelude.{◌≤◌, List, find, Option, count_by, map}, Option.option_map}
 use Rattle.box6346.specs.declared.box_number.BoxNumber.{BoxNumber}
 use Rattle.edi_messages.specs.Purposes.{CallContent}
-use Rattle.terminal_core.specs.declared.lines.Side.{Side}
-use Rattle.terminal_core.specs.Changes.{Standing, standing_in, TerminalRows}
-use Rattle.terminal_core.specs.State.{LineContent, LineKey, Lines, line_key}
-use Rattle.office_rows.specs.Rows.{PlaceContent, ListingContent, Rows}
-use Rattle.office_rows.specs.Effects.{stands_for, is_line}
-use Rattle.std.specs.Prelude.{map}
+use Rattle.terminal_core.specs.{declared.lines.Side.Side, Changes.{Standing, standing_in, TerminalRows}, State.{LineContent, LineKey, Lines, line_key}}
+use Rattle.office_rows.specs.{Rows.{PlaceContent, ListingContent, Rows}, Effects.{stands_for, is_line}}
+use Rattle.std.specs.FinMap as finite_map
 
 -- where a container stands by the places: of two the first counts
 abbrev pub standing_by : List PlaceContent → BoxNumber → Option Standing

@@ -1,14 +1,9 @@
 -- What the calls that write make of the rows.
-use Rattle.std.specs.Prelude.{ℕ, ◌+◌, ◌==◌, ◌&&◌, not, Bool, List, [], ◌∷◌, ◌++◌, map, filter, if◌then◌else◌}
-use Rattle.std.specs.Str.{bytes_eq}
+use Rattle.std.specs.{Prelude.{ℕ, ◌+◌, ◌==◌, ◌&&◌, not, Bool, List, [], ◌∷◌, ◌++◌, map, filter, if◌then◌else◌}, Str.bytes_eq}
 use Rattle.box6346.specs.declared.box_number.BoxNumber.{BoxNumber}
-use Rattle.edi_messages.specs.declared.codes.PartnerKind.{PartnerKind}
-use Rattle.edi_messages.specs.Purposes.{CallContent}
-use Rattle.terminal_core.specs.declared.lines.LineState.TheVariants.{Pending, Done}
-use Rattle.terminal_core.specs.declared.lines.Side.{Side}
+use Rattle.edi_messages.specs.{declared.codes.PartnerKind.PartnerKind, Purposes.CallContent}
+use Rattle.terminal_core.specs.{declared.lines.LineState.TheVariants.{Pending, Done}, declared.lines.Side.Side, State.side_code, Changes.visit_with_departure}
 use Rattle.terminal_core.specs.Rows.{ChangeContent, visit_opened, visit_closed, placed_at, moved_to, removed_from, listed_on, line_done, unlisted}
-use Rattle.terminal_core.specs.State.{side_code}
-use Rattle.terminal_core.specs.Changes.{visit_with_departure}
 use Rattle.office_rows.specs.Rows.{Partner, Interchange, PlaceContent, ListingContent, Rows}
 
 -- ---- interchanges

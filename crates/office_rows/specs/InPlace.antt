@@ -1,24 +1,12 @@
 -- How a table has its records in the order in which they were inserted.
-use Rattle.std.specs.Prelude.{◌≡◌, ◌≢◌, ℕ, Bool, ◌&&◌, List, [], ◌∷◌, ◌++◌, map, filter}
-use Rattle.std.specs.List.Sorted.{IsPermutation}
-use Rattle.sqlite.specs.Collation.TheVariants.{Binary}
-use Rattle.sqlite.specs.declared.types.Value.TheVariants.{Null, Text}
-use Rattle.sqlite.specs.Ops.{binary, is_true}
-use Rattle.sqlite.specs.Order.{Row, column}
-use Rattle.sqlite.specs.Table.{Table}
+use Rattle.std.specs.{Prelude.{◌≡◌, ◌≢◌, ℕ, Bool, ◌&&◌, List, [], ◌∷◌, ◌++◌, map, filter}, List.Sorted.IsPermutation}
+use Rattle.sqlite.specs.{Collation.TheVariants.Binary, declared.types.Value.TheVariants.{Null, Text}, Ops.{binary, is_true}, Order.{Row, column}, Table.Table}
 use Rattle.sqlite.specs.Tree.{Trees}
-use Rattle.sqlite_sql.specs.declared.ops.BinaryOp.TheVariants.{Compare}
-use Rattle.sqlite_sql.specs.declared.ops.CompareOp.TheVariants.{Eq}
+use Rattle.sqlite_sql.specs.{declared.ops.BinaryOp.TheVariants.Compare, declared.ops.CompareOp.TheVariants.Eq}
 use Rattle.sqlite_schema.specs.declared.schema.Keys.TheVariants.{Enforced}
-use Rattle.sqlite_rules.specs.Calls.{ids_of}
-use Rattle.sqlite_rules.specs.declared.error.Rowids.TheVariants.{Chosen, Given}
-use Rattle.sqlite_rules.specs.Edit.{Edit, edit_of, Applies}
-use Rattle.office_rows.specs.Tables.{interchange_table, office_schema}
-use Rattle.office_rows.specs.Rows.{Interchange, Rows}
-use Rattle.office_rows.specs.Values.{number_value, interchange_values}
-use Rattle.office_rows.specs.Effects.{with_reply}
-use Rattle.office_rows.specs.Stored.{columns_of}
-use Rattle.office_rows.specs.Places.{ArePlaced}
+use Rattle.sqlite_rules.specs.{Calls.ids_of, declared.error.Rowids.TheVariants.{Chosen, Given}, Edit.{Edit, edit_of, Applies}}
+use Rattle.office_rows.specs.{Tables.{interchange_table, office_schema}, Rows.{Interchange, Rows}, Values.{number_value, interchange_values}, Stored.columns_of}
+use Rattle.office_rows.specs.{Effects.with_reply, Places.ArePlaced}
 
 -- the tree has these records, in this order, under the rowids 1, 2, 3 and so on
 pub record AreInPlace {A : Type 0} (table : Table) (values : A → Row) (records : List A) (stored : List Row)

@@ -1,9 +1,7 @@
 -- The tables of versions 1 and 2, whose visits have no weight, beside those of the newest.
 use Rattle.std.specs.Prelude.{◌≡◌, [], ◌∷◌, take}
-use Rattle.sqlite.specs.Table.{Table}
-use Rattle.sqlite.specs.Schema.{Schema}
-use Rattle.terminal_core.specs.declared.change.Version.{Version}
-use Rattle.terminal_core.specs.declared.change.Version.TheVariants.{First, Second, Third}
+use Rattle.sqlite.specs.{Table.Table, Schema.Schema}
+use Rattle.terminal_core.specs.{declared.change.Version.Version, declared.change.Version.TheVariants.{First, Second, Third}}
 use Rattle.office_rows.specs.Tables.{partner_table, interchange_table, visit_table, place_table, listing_table, setting_table, block_table, schema_of, office_schema}
 
 -- whether a visit has a column for its weight

@@ -1,10 +1,7 @@
 -- What a migration makes of the rows of an older version.
-use Rattle.std.specs.Prelude.{List, codes, map, if◌then◌else◌, ◌&&◌, ◌||◌}
-use Rattle.std.specs.Str.{bytes_eq}
+use Rattle.std.specs.{Prelude.{List, codes, map, if◌then◌else◌, ◌&&◌, ◌||◌}, Str.bytes_eq}
 use Rattle.terminal_core.specs.declared.change.Version.TheVariants.{First, Second}
-use Rattle.office_rows.specs.Rows.{Setting, Rows}
-use Rattle.office_rows.specs.Opening.{version_text, tables_version}
-use Rattle.office_rows.specs.Opened.{OpenedRows}
+use Rattle.office_rows.specs.{Rows.{Setting, Rows}, Opening.{version_text, tables_version}, Opened.OpenedRows}
 
 -- the setting that names an older version names the newest; any other stays
 abbrev pub migrated_setting : Setting → Setting

@@ -2,19 +2,11 @@
 use Rattle.std.specs.Prelude.{◌≡◌, ℕ, ◌+◌, ◌-◌, ◌<◌, ◌≤◌, true, false, List, [], ◌∷◌, ◌++◌, length, map, Contains, Option, None, Some, codes, decimal}
 use Rattle.std.specs.List.{range_with_len}
 use Rattle.edi_syntax.specs.Numbers.{last_number}
-use Rattle.edi_messages.specs.declared.codes.PartnerKind.{PartnerKind}
-use Rattle.edi_messages.specs.Codes.{table_texts}
-use Rattle.terminal_core.specs.declared.visits.Departure.{Departure}
-use Rattle.terminal_core.specs.Rows.{VisitContent}
-use Rattle.terminal_core.specs.Changes.{TerminalRows, rows_of}
-use Rattle.terminal_core.specs.Forms.{IsWellFormed}
-use Rattle.terminal_core.specs.OneByOne.{GoOneByOne}
-use Rattle.terminal_core.specs.State.{TerminalState, IsWhole}
-use Rattle.office_admission.specs.Setups.{SetupContent}
-use Rattle.office_admission.specs.Given.{IsGiven}
-use Rattle.office_rows.specs.Rows.{Partner, Setting}
-use Rattle.office_rows.specs.Opening.{setting_row, tables_version}
-use Rattle.office_rows.specs.Opened.{NumberKept, OpenedRows}
+use Rattle.edi_messages.specs.{declared.codes.PartnerKind.PartnerKind, Codes.table_texts}
+use Rattle.terminal_core.specs.{declared.visits.Departure.Departure, Rows.VisitContent, Changes.{TerminalRows, rows_of}, Forms.IsWellFormed}
+use Rattle.terminal_core.specs.{OneByOne.GoOneByOne, State.{TerminalState, IsWhole}}
+use Rattle.office_admission.specs.{Setups.SetupContent, Given.IsGiven}
+use Rattle.office_rows.specs.{Rows.{Partner, Setting}, Opening.{setting_row, tables_version}, Opened.{NumberKept, OpenedRows}}
 use Rattle.office_rows.specs.ByKey.{standing_by, lines_by, ArePlacedOnce, AreListedOnce}
 
 -- ---- the set-up

@@ -1,14 +1,11 @@
 -- The rows of all tables as the queries of all rows show them.
 use Rattle.std.specs.Prelude.{◌≡◌, ℕ, ◌==◌, not, Bool, List, [], ◌∷◌, length, map}
-use Rattle.sqlite.specs.declared.types.Value.TheVariants.{Text}
-use Rattle.sqlite.specs.Order.{Row}
-use Rattle.sqlite.specs.Effect.{Database}
+use Rattle.sqlite.specs.{declared.types.Value.TheVariants.Text, Order.Row, Effect.Database}
 use Rattle.terminal_core.specs.Rows.{VisitContent}
 use Rattle.yard_core.specs.declared.plan.Block.{Block}
-use Rattle.office_rows.specs.Tables.{partner_table, interchange_table, visit_table, place_table, listing_table, setting_table, block_table}
+use Rattle.office_rows.specs.{Tables.{partner_table, interchange_table, visit_table, place_table, listing_table, setting_table, block_table}, Shown.ShowsTable}
 use Rattle.office_rows.specs.Rows.{Partner, Interchange, PlaceContent, ListingContent, Setting}
 use Rattle.office_rows.specs.Values.{number_value, partner_values, visit_values, place_values, line_values, setting_values, block_values}
-use Rattle.office_rows.specs.Shown.{ShowsTable}
 
 -- an interchange that is kept, without its texts: whether it was taken, so that it has a reply
 pub record NumberKept : Type 0 where

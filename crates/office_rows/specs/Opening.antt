@@ -1,17 +1,10 @@
 -- The rows of a set-up before anything was delivered.
 use Rattle.std.specs.Prelude.{ℕ, ◌+◌, List, [], ◌∷◌, ◌++◌, codes, decimal}
-use Rattle.edi_messages.specs.declared.codes.PartnerKind.{PartnerKind}
-use Rattle.edi_messages.specs.declared.code.CodeTable.{CodeTable}
-use Rattle.edi_messages.specs.Codes.{table_texts}
-use Rattle.edi_messages.specs.Purposes.{CallContent}
+use Rattle.edi_messages.specs.{declared.codes.PartnerKind.PartnerKind, declared.code.CodeTable.CodeTable, Codes.table_texts, Purposes.CallContent}
 use Rattle.box6346.specs.declared.box_number.BoxNumber.{BoxNumber}
-use Rattle.terminal_core.specs.declared.lines.LineState.{LineState}
-use Rattle.terminal_core.specs.declared.lines.Side.{Side}
+use Rattle.terminal_core.specs.{declared.lines.LineState.LineState, declared.lines.Side.Side, declared.change.Version.Version, Versions.newest}
+use Rattle.terminal_core.specs.{declared.change.Version.TheVariants.{First, Second, Third}, Rows.VisitContent}
 use Rattle.yard_core.specs.declared.plan.Block.{Block}
-use Rattle.terminal_core.specs.declared.change.Version.{Version}
-use Rattle.terminal_core.specs.declared.change.Version.TheVariants.{First, Second, Third}
-use Rattle.terminal_core.specs.Versions.{newest}
-use Rattle.terminal_core.specs.Rows.{VisitContent}
 use Rattle.office_admission.specs.Setups.{SetupContent}
 use Rattle.office_rows.specs.Rows.{Partner, Interchange, PlaceContent, ListingContent, Setting, Rows, no_rows}
 

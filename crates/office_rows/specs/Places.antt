@@ -1,11 +1,8 @@
 -- A table whose rowids are 1, 2, 3 and so on, in the order in which its rows were inserted.
-use Rattle.std.specs.Prelude.{◌≡◌, ℕ, ◌+◌, pos, List, [], ◌∷◌, ◌++◌, length, drop}
-use Rattle.std.specs.List.Sorted.{IsPermutation}
-use Rattle.sqlite_value.specs.declared.value.Value.TheVariants.{Null, Int}
-use Rattle.sqlite_value.specs.Order.{Row}
+use Rattle.std.specs.{Prelude.{◌≡◌, ℕ, ◌+◌, pos, List, [], ◌∷◌, ◌++◌, length, drop}, List.Sorted.IsPermutation}
+use Rattle.sqlite_value.specs.{declared.value.Value.TheVariants.{Null, Int}, Order.Row}
 use Rattle.sqlite_trees.specs.Tree.{IsTable, rowid, put_row}
-use Rattle.sqlite_rules.specs.declared.error.Rowids.TheVariants.{Chosen}
-use Rattle.sqlite_rules.specs.Edit.{with_rowid}
+use Rattle.sqlite_rules.specs.{declared.error.Rowids.TheVariants.Chosen, Edit.with_rowid}
 
 -- the rowids count on from that number
 abbrev pub ArePlaced : ℕ → List Row → Type 0

@@ -1,15 +1,9 @@
 -- The rows of the office's tables, as what they say.
 use Rattle.std.specs.Prelude.{ℕ, List, [], string_bytes}
-use Rattle.box6346.specs.declared.box_number.BoxNumber.{BoxNumber}
-use Rattle.box6346.specs.declared.slot.Slot.{Slot}
-use Rattle.edi_messages.specs.declared.codes.PartnerKind.{PartnerKind}
-use Rattle.edi_messages.specs.Purposes.{CallContent}
-use Rattle.edi_messages.specs.Owned.{call_content}
+use Rattle.box6346.specs.{declared.box_number.BoxNumber.BoxNumber, declared.slot.Slot.Slot}
+use Rattle.edi_messages.specs.{declared.codes.PartnerKind.PartnerKind, Purposes.CallContent, Owned.call_content}
 use Rattle.yard_core.specs.declared.plan.Block.{Block}
-use Rattle.terminal_core.specs.declared.lines.LineState.{LineState}
-use Rattle.terminal_core.specs.declared.lines.Side.{Side}
-use Rattle.terminal_core.specs.declared.lines.Listing.{Listing}
-use Rattle.terminal_core.specs.Rows.{VisitContent}
+use Rattle.terminal_core.specs.{declared.lines.LineState.LineState, declared.lines.Side.Side, declared.lines.Listing.Listing, Rows.VisitContent}
 
 -- an account, and the number that its partner's next interchange has
 pub record Partner : Type 0 where

@@ -1,15 +1,8 @@
 -- What a query of all rows of a table shows.
-use Rattle.std.specs.Prelude.{◌≡◌, ℕ, List, map, IsSorted}
-use Rattle.std.specs.List.Sorted.{IsPermutation}
-use Rattle.std.specs.Ordering.{on, nat_cmp}
-use Rattle.sqlite.specs.Collation.TheVariants.{Binary}
-use Rattle.sqlite.specs.Order.{Row, column}
-use Rattle.sqlite.specs.Table.{Table}
-use Rattle.sqlite.specs.Effect.{Database}
-use Rattle.sqlite.specs.Query.{key_cmp}
+use Rattle.std.specs.{Prelude.{◌≡◌, ℕ, List, map, IsSorted}, List.Sorted.IsPermutation, Ordering.{on, nat_cmp}}
+use Rattle.sqlite.specs.{Collation.TheVariants.Binary, Order.{Row, column}, Table.Table, Effect.Database, Query.key_cmp}
 use Rattle.sqlite_value.specs.Keys.{ascending}
-use Rattle.office_rows.specs.Rows.{Partner, Rows}
-use Rattle.office_rows.specs.Stored.{columns_of}
+use Rattle.office_rows.specs.{Rows.{Partner, Rows}, Stored.columns_of}
 
 -- these columns of a row
 abbrev pub columns_at : List ℕ → Row → Row

@@ -1,9 +1,7 @@
 -- What a call does inside a transaction.
 use Rattle.std.specs.Prelude.{◌≡◌, IsTrue}
-use Rattle.sqlite.specs.Effect.{Database}
-use Rattle.sqlite.specs.State.{State}
-use Rattle.office_rows.specs.Rows.{Rows}
-use Rattle.office_rows.specs.Stored.{HasRows}
+use Rattle.sqlite.specs.{Effect.Database, State.State}
+use Rattle.office_rows.specs.{Rows.Rows, Stored.HasRows}
 
 -- the rows become these, in the transaction that goes on
 pub record Steps (change : Rows → Rows) (old new : State) : Type 0 where

@@ -1,19 +1,12 @@
 -- How a database holds the rows.
-use Rattle.std.specs.Prelude.{◌≡◌, List, [], length, map}
-use Rattle.std.specs.List.{range_with_len, AllByRecursion}
-use Rattle.std.specs.List.Sorted.{IsPermutation}
-use Rattle.sqlite.specs.Order.{Row, column}
-use Rattle.sqlite.specs.Table.{Table}
-use Rattle.sqlite.specs.Tree.{Trees}
-use Rattle.sqlite.specs.Effect.{Database}
+use Rattle.std.specs.{Prelude.{◌≡◌, List, [], length, map}, List.{range_with_len, AllByRecursion}, List.Sorted.IsPermutation}
+use Rattle.sqlite.specs.{Order.{Row, column}, Table.Table, Tree.Trees, Effect.Database}
 use Rattle.sqlite_schema.specs.Names.{place_of}
-use Rattle.sqlite_trees.specs.declared.store.Shape.TheVariants as shape
-use Rattle.sqlite_trees.specs.Objects.{catalog_tree}
-use Rattle.sqlite_trees.specs.View.{IsShaped}
+use Rattle.sqlite_trees.specs.{Objects.catalog_tree, View.IsShaped}
 use Rattle.sqlite_catalog.specs.Listing.{Lists}
 use Rattle.office_rows.specs.Tables.{partner_table, interchange_table, visit_table, place_table, listing_table, setting_table, block_table, schema_of, office_schema}
-use Rattle.office_rows.specs.Rows.{Rows}
-use Rattle.office_rows.specs.Values.{partner_values, interchange_values, visit_values, place_values, line_values, setting_values, block_values}
+use Rattle.office_rows.specs.{Rows.Rows, Values.{partner_values, interchange_values, visit_values, place_values, line_values, setting_values, block_values}}
+use Rattle.sqlite_trees.specs.declared.store.Shape.TheVariants as shape
 
 -- the values of a stored row's columns, as SQL shows them
 abbrev pub columns_of : Table → Row → Row

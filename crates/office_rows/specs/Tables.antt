@@ -1,14 +1,9 @@
 -- The tables of the office as SQL declares them.
 use Rattle.std.specs.Prelude.{true, false, [], ◌∷◌, Some, None, codes, List, ℕ, fold}
-use Rattle.sqlite.specs.Collation.TheVariants.{Binary}
-use Rattle.sqlite_value.specs.Keys.{plain}
-use Rattle.sqlite.specs.declared.types.Value.TheVariants.{Null}
-use Rattle.sqlite.specs.Table.{Table}
-use Rattle.sqlite.specs.Schema.{Schema}
-use Rattle.sqlite_schema.specs.declared.schema.Column.{Column}
-use Rattle.sqlite_schema.specs.declared.schema.Action.TheVariants.{NoAction}
-use Rattle.sqlite.specs.Kind.{Kind}
+use Rattle.sqlite.specs.{Collation.TheVariants.Binary, declared.types.Value.TheVariants.Null, Table.Table, Schema.Schema, Kind.Kind}
 use Rattle.sqlite.specs.Kind.TheVariants.{Integer, Text, Blob}
+use Rattle.sqlite_value.specs.Keys.{plain}
+use Rattle.sqlite_schema.specs.{declared.schema.Column.Column, declared.schema.Action.TheVariants.NoAction}
 use Rattle.sqlite_catalog.specs.Change.{created}
 
 -- a column of a STRICT table, which has to have a value

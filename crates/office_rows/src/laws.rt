@@ -1,7 +1,6 @@
 //! The laws of rowids. Each function has an empty body, and its contract is the law.
 
-ghost use Rattle.office_rows.specs.Places.{InsertAddsLast, RowsHaveOneOrder};
-ghost use Rattle.office_rows.specs.InPlace.{AddsInPlace, RepliesInPlace, OthersKeepPlaces};
+ghost use Rattle.office_rows.specs.{Places.{InsertAddsLast, RowsHaveOneOrder}, InPlace.{AddsInPlace, RepliesInPlace, OthersKeepPlaces}};
 
 /// A row that is inserted without a rowid is the last, under the next number.
 pub fn insert_adds_last()

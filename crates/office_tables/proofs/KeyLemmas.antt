@@ -1,27 +1,13 @@
 -- A row that a statement inserts has a key of its own.
+use Rattle.std.{specs.{List.list_any, Ordering.{is_eq, is_ne}}, proofs.lemmas.Bool.{cases_Bool, and_parts, and_from, not-true, both_ways}}
 use Rattle.std.proofs.Common.{◌≡◌, List, [], ◌∷◌, Bool, true, false, inl, inr, Ordering, Less, Equal, Greater, refl, sym}
-use Rattle.std.specs.List.{list_any}
-use Rattle.std.specs.Ordering.{is_eq, is_ne}
-use Rattle.std.proofs.lemmas.Bool.{cases_Bool, and_parts, and_from, not-true, both_ways}
-use Rattle.sqlite_value.specs.declared.value.Value.{Value}
-use Rattle.sqlite_value.specs.declared.value.Value.TheVariants.{Null, Int, Real, Text, Blob}
-use Rattle.sqlite_value.specs.Order.{Row, value_cmp}
-use Rattle.sqlite_trees.specs.Tree.{Trees, rowid}
-use Rattle.sqlite_trees.specs.View.{IsShaped, is_int}
+use Rattle.sqlite_value.specs.{declared.value.Value.Value, declared.value.Value.TheVariants.{Null, Int, Real, Text, Blob}, Order.{Row, value_cmp}}
+use Rattle.sqlite_trees.specs.{Tree.{Trees, rowid}, View.{IsShaped, is_int}}
 use Rattle.sqlite_sql.specs.Ops.{binary, is_null}
-use Rattle.sqlite_schema.specs.declared.schema.Constraint.TheVariants.{Unique}
-use Rattle.sqlite_schema.specs.declared.schema.Keys.TheVariants.{Enforced}
-use Rattle.sqlite_schema.specs.declared.schema.Index.{Index}
-use Rattle.sqlite_schema.specs.declared.schema.Table.{Table}
-use Rattle.sqlite_schema.specs.declared.schema.Schema.{Schema}
-use Rattle.sqlite_schema.specs.Rules.{agree, differ, clashes, guards, passes}
-use Rattle.sqlite_rules.specs.Lists.{Has}
-use Rattle.sqlite_rules.specs.Cast.{cast_row}
-use Rattle.sqlite_rules.specs.declared.error.Rowids.TheVariants.{Chosen}
-use Rattle.sqlite_rules.specs.Edit.{with_rowid, is_taken, edit_of, Applies}
-use Rattle.sqlite_rules.proofs.ListLemmas.{all_has, test_has, some_has, some_from}
-use Rattle.sqlite_rules.proofs.RuleLemmas.{keeps_at}
-use Rattle.sqlite_rules.proofs.TableLemmas.{put_all_keeps, put_all_adds}
+use Rattle.sqlite_schema.specs.{declared.schema.Constraint.TheVariants.Unique, declared.schema.Keys.TheVariants.Enforced, declared.schema.Index.Index}
+use Rattle.sqlite_schema.specs.{declared.schema.Table.Table, declared.schema.Schema.Schema, Rules.{agree, differ, clashes, guards, passes}}
+use Rattle.sqlite_rules.specs.{Lists.Has, Cast.cast_row, declared.error.Rowids.TheVariants.Chosen, Edit.{with_rowid, is_taken, edit_of, Applies}}
+use Rattle.sqlite_rules.proofs.{ListLemmas.{all_has, test_has, some_has, some_from}, RuleLemmas.keeps_at, TableLemmas.{put_all_keeps, put_all_adds}}
 use Rattle.sqlite_trees.specs.declared.store.Shape.TheVariants as shape
 
 never_null : (v : Value) → is_int v ≡ true → is_null v ≡ false

@@ -1,49 +1,26 @@
 -- A text that makes a table, run on a database of any schema: the table was not there.
+use Rattle.std.{specs.{List.{AllByRecursion, position_from}, Option.option_or}, proofs.lemmas.Bool.{cases_Bool, or_parts, or_from}}
 use Rattle.std.proofs.Common.{◌≡◌, ℕ, ◌+◌, Bool, true, false, not, ◌==◌, length, ◌&&◌, if◌then◌else◌, List, [], ◌∷◌, ◌++◌, slice_range, Option, None, is_some, Result, Ok, Err, OnOk, inl, inr, refl, sym, ap, subst, ◌∙◌, IsTrue, take, arith, IsErr}
-use Rattle.std.specs.List.{AllByRecursion, position_from}
-use Rattle.std.proofs.lemmas.Bool.{cases_Bool, or_parts, or_from}
-use Rattle.sqlite_ast.specs.declared.Statement.{Statement}
-use Rattle.sqlite_ast.specs.declared.CreateTable.{CreateTable as Definition}
+use Rattle.sqlite_ast.specs.{declared.Statement.Statement, declared.CreateTable.CreateTable as Definition}
 use Rattle.sqlite_syntax.specs.declared.statement.Parsed.{Parsed}
-use Rattle.sqlite_schema.specs.declared.schema.Schema.{Schema}
-use Rattle.sqlite_schema.specs.declared.schema.Table.{Table}
-use Rattle.sqlite_schema.specs.declared.command.Command.{Command}
-use Rattle.sqlite_schema.specs.declared.command.Command.TheVariants.{CreateTable, Nothing}
-use Rattle.sqlite_resolve.specs.declared.compiled.Compiled.{Compiled}
-use Rattle.sqlite_resolve.specs.declared.error.CompileError.{CompileError}
+use Rattle.sqlite_schema.specs.{declared.schema.Schema.Schema, declared.schema.Table.Table, declared.command.Command.Command}
+use Rattle.sqlite_schema.specs.{declared.command.Command.TheVariants.{CreateTable, Nothing}, Names.{table_named, index_named, view_named}}
+use Rattle.sqlite_resolve.specs.{declared.compiled.Compiled.Compiled, declared.error.CompileError.CompileError, Lowering.{Checked, and_then}, Scope.Name}
 use Rattle.sqlite_resolve.specs.declared.error.CompileError.TheVariants.{Exists, Misuse, Unsupported}
-use Rattle.sqlite_resolve.specs.Lowering.{Checked, and_then}
-use Rattle.sqlite_resolve.specs.Scope.{Name}
 use Rattle.sqlite_resolve.specs.Compile.{first, planned, create_table, creates, is_attached, is_reserved, compiled, with_command, table_defined_by}
-use Rattle.std.specs.Option.{option_or}
-use Rattle.sqlite_schema.specs.Names.{table_named, index_named, view_named}
 use Rattle.sqlite_catalog.specs.Change.{created, is_used}
-use Rattle.sqlite.specs.Listing.{understood, reads_listing, listing_schema, if_select, is_select}
-use Rattle.sqlite.specs.Does.{Tally, lacks_sequence}
-use Rattle.sqlite.specs.Effect.{Database}
+use Rattle.sqlite.specs.{Listing.{understood, reads_listing, listing_schema, if_select, is_select}, Does.{Tally, lacks_sequence}, Effect.Database, Order.Row}
 use Rattle.sqlite.specs.State.{State, Executes, ExecutesIn, Writes, text_of, HasCleanDisk, Shows, Survives, IsUnchanged, KeepsCommit, Shown, ShowsRows, FailsToQuery, FailsToShow, IsNotRun, CommitsShowing}
-use Rattle.sqlite.proofs.Callers.{IsPlain, command_of, statement_of, runs_as, unchanged_then}
-use Rattle.office_rows.proofs.WriteLemmas.{went, same_value}
-use Rattle.office_tables.specs.Opened.{MakesTables}
-use Rattle.office_tables.proofs.WritesLemmas.{and_then_ok, Plan, plan_by, as_planned}
-use Rattle.office_rows.proofs.Creating.{turns_on, turns_then, steps_turn, keep_then, quiet_then, on_ok, stops_keep}
-use Rattle.office_rows.specs.Rows.{Rows}
-use Rattle.office_rows.specs.Stored.{HasEmpty, HasRows}
-use Rattle.office_rows.specs.Tables.{office_tables}
-use Rattle.office_tables.specs.declared.table_fault.TableFault.{TableFault}
-use Rattle.office_tables.specs.Writes.{Creates, MakesOffice, WritesIfOpen}
-use Rattle.sqlite_tied.specs.Compute.{everything}
-use Rattle.sqlite.specs.Order.{Row}
-use Rattle.sqlite.specs.Tree.{Trees}
-use Rattle.sqlite.specs.Clock.{timed}
-use Rattle.sqlite.specs.declared.error.Error.{Error}
+use Rattle.sqlite.{specs.{Tree.Trees, Clock.timed, declared.error.Error.Error}, proofs.Callers.{IsPlain, command_of, statement_of, runs_as, unchanged_then}}
 use Rattle.sqlite.proofs.StateLemmas.{survives_weaker}
-use Rattle.office_tables.specs.Reading.{Reads, ReadsIfOpen, OnlyShows}
+use Rattle.office_rows.{specs.{Rows.Rows, Stored.{HasEmpty, HasRows}, Tables.office_tables}, proofs.WriteLemmas.{went, same_value}}
+use Rattle.office_rows.proofs.Creating.{turns_on, turns_then, steps_turn, keep_then, quiet_then, on_ok, stops_keep}
+use Rattle.office_tables.specs.{Opened.MakesTables, declared.table_fault.TableFault.TableFault, Writes.{Creates, MakesOffice, WritesIfOpen}}
+use Rattle.office_tables.{specs.Reading.{Reads, ReadsIfOpen, OnlyShows}, proofs.WritesLemmas.{and_then_ok, Plan, plan_by, as_planned}}
+use Rattle.sqlite_tied.specs.Compute.{everything}
 use Rattle.sqlite_ast.specs.declared.Statement.TheVariants as written
 use Rattle.sqlite_resolve.specs.Define as define
 use Rattle.office_rows.proofs.Creating as texts
-
--- ==== MadeLemmas: A text that makes a table, run on a database of any schema: the table was not there.
 
 -- ---- the text
 

@@ -1,45 +1,20 @@
 -- An interchange that is inserted is the only one of its partner and number.
+use Rattle.std.{specs.List.list_any, proofs.{lemmas.Bool.or_parts, lemmas.List.map-append, lemmas.List.Sorted.list_any-IsPermutation}}
 use Rattle.std.proofs.Common.{◌≡◌, ℕ, ◌&&◌, ◌||◌, List, [], ◌∷◌, ◌++◌, Bool, true, false, if◌then◌else◌, Result, Ok, Err, OnOk, map, inl, inr, refl, sym, ap, ap₂, eq-eqb, ◌∙◌, ◌≢◌, Some, slice_get, subst, arith}
-use Rattle.std.specs.List.{list_any}
-use Rattle.std.proofs.lemmas.Bool.{or_parts}
-use Rattle.std.proofs.lemmas.List.{map-append}
-use Rattle.std.proofs.lemmas.List.Sorted.{list_any-IsPermutation}
-use Rattle.sqlite.specs.declared.types.Value.TheVariants.{Null}
-use Rattle.sqlite.specs.Collation.TheVariants.{Binary}
-use Rattle.sqlite.specs.Order.{Row, column}
-use Rattle.sqlite.specs.Listing.{understood}
-use Rattle.sqlite.specs.Source.TheVariants.{Values}
-use Rattle.sqlite.specs.Command.TheVariants.{Insert, Update, Delete}
-use Rattle.sqlite.specs.State.{State, Executes}
+use Rattle.sqlite.specs.{declared.types.Value.TheVariants.Null, Collation.TheVariants.Binary, Order.{Row, column}, Listing.understood, State.{State, Executes}}
+use Rattle.sqlite.specs.{Source.TheVariants.Values, Command.TheVariants.{Insert, Update, Delete}, Term.Term, Table.Table, Tree.Trees, Program.overlay}
 use Rattle.sqlite.proofs.Callers.{statement_of, runs_as, IsPlain, command_of}
 use Rattle.sqlite_value.specs.Keys.{first_key}
-use Rattle.sqlite_schema.specs.declared.schema.Index.{Index}
-use Rattle.sqlite_schema.specs.Rules.{equal}
+use Rattle.sqlite_schema.specs.{declared.schema.Index.Index, Rules.equal}
 use Rattle.sqlite_catalog.specs.Listing.{automatic}
-use Rattle.sqlite_rules.specs.Cast.{cast_row}
-use Rattle.sqlite_rules.specs.declared.error.Rowids.TheVariants.{Chosen}
-use Rattle.sqlite_rules.specs.Edit.{with_rowid, Edit}
+use Rattle.sqlite_rules.specs.{Cast.cast_row, declared.error.Rowids.TheVariants.Chosen, Edit.{with_rowid, Edit}}
 use Rattle.sqlite_tied.proofs.RuleLemmas.{and_true}
 use Rattle.office_rows.specs.Tables.{interchange_table, office_schema, partner_table, visit_table, place_table, listing_table, setting_table, block_table}
-use Rattle.office_rows.specs.Rows.{Interchange, Rows}
-use Rattle.office_rows.specs.Values.{number_value, interchange_values}
-use Rattle.office_rows.specs.Steps.{Steps}
-use Rattle.office_rows.specs.Stored.{HasRows, columns_of}
-use Rattle.office_rows.specs.Effects.{is_pair}
-use Rattle.office_rows.specs.Opening.{with_interchanges, interchange_row as interchange_of}
-use Rattle.office_rows.proofs.WriteLemmas.{cast_null, cast_int, equal_numbers, inserts, Edits, rows_of, updates, deletes}
-use Rattle.office_tables.specs.Kept.{with_kept_reply}
-use Rattle.office_tables.specs.Order.{KeepsOrder}
-use Rattle.office_tables.proofs.KeyLemmas.{new_key}
-use Rattle.sqlite.specs.Term.{Term}
-use Rattle.sqlite.specs.Table.{Table}
-use Rattle.sqlite.specs.Tree.{Trees}
-use Rattle.sqlite.specs.Program.{overlay}
-use Rattle.office_rows.specs.InPlace.{AreInPlace, InterchangesAreInPlace}
-use Rattle.office_rows.proofs.InPlace.{others_keep_places}
+use Rattle.office_rows.specs.{Rows.{Interchange, Rows}, Values.{number_value, interchange_values}, Steps.Steps, Stored.{HasRows, columns_of}, Effects.is_pair}
+use Rattle.office_rows.specs.{Opening.{with_interchanges, interchange_row as interchange_of}, InPlace.{AreInPlace, InterchangesAreInPlace}}
+use Rattle.office_rows.proofs.{WriteLemmas.{cast_null, cast_int, equal_numbers, inserts, Edits, rows_of, updates, deletes}, InPlace.others_keep_places}
+use Rattle.office_tables.{specs.{Kept.with_kept_reply, Order.KeepsOrder}, proofs.KeyLemmas.new_key}
 use Rattle.office_rows.proofs.Writing as texts
-
--- ==== PairLemmas: An interchange that is inserted is the only one of its partner and number.
 
 any_map : {X Y : Type 0} (p : Y → Bool) (f : X → Y) (xs : List X) → list_any p (map f xs) ≡ list_any (λ x. p (f x)) xs
 any_map p f [] = refl

@@ -1,45 +1,21 @@
 -- Writing a list in turn, and committing what was written.
+use Rattle.std.{specs.Option.option_map, proofs.{lemmas.Bool.ne_eqb, lemmas.List.{append-nil, append_assoc, map-append}, lemmas.List.Sums.fold_push}}
 use Rattle.std.proofs.Common.{◌≡◌, inl, ℕ, [], find, Contains, None, Some, Result, Ok, Err, IsErr, IsTrue, OnOk, refl, sym, ap, subst, ◌∙◌, arith, ◌+◌, ◌==◌, ◌≤◌, ◌<◌, false, if◌then◌else◌, eq-eqb, List, ◌∷◌, ◌++◌, Option, true, IfErr, OnErr, map, fold}
-use Rattle.std.specs.Option.{option_map}
-use Rattle.sqlite_rules.specs.Lists.{Has}
-use Rattle.sqlite_rules.proofs.ListLemmas.{contains_had, has_contained, has_filtered, has_kept}
-use Rattle.sqlite.specs.State.{State, HasCleanDisk, IsUnchanged, Survives, Shows}
+use Rattle.sqlite_rules.{specs.Lists.Has, proofs.ListLemmas.{contains_had, has_contained, has_filtered, has_kept}}
+use Rattle.sqlite.{specs.{State.{State, HasCleanDisk, IsUnchanged, Survives, Shows}, Held.{Held, state}, Tree.Trees}, proofs.StateLemmas.survives_then}
 use Rattle.sqlite.proofs.Callers.{unchanged_then, survives_begin}
-use Rattle.terminal_core.proofs.Indexed.{found_is, some_or_none}
-use Rattle.terminal_core.proofs.Whole.{contained}
-use Rattle.office_rows.specs.Rows.{Interchange, Rows}
-use Rattle.office_rows.specs.Effects.{is_pair, with_waiting, with_reply, with_next, with_change}
+use Rattle.terminal_core.{specs.{Rows.{ChangeContent, visit_opened}, State.TerminalState}, proofs.{Indexed.{found_is, some_or_none}, Whole.contained}}
+use Rattle.office_rows.specs.{Rows.{Interchange, Rows}, Effects.{is_pair, with_waiting, with_reply, with_next, with_change}, Steps.Steps}
 use Rattle.office_rows.proofs.Creating.{keep_then, on_ok, quiet_then, steps_then, steps_same, stores}
-use Rattle.office_tables.specs.Answers.{IsKept, pair_of}
-use Rattle.office_tables.specs.Reading.{Reads}
-use Rattle.office_tables.specs.declared.interchanges.Kept.{Kept}
-use Rattle.office_tables.specs.declared.table_fault.TableFault.{TableFault}
-use Rattle.office_tables.proofs.MadeLemmas.{clean_first, if_open_on, if_open_stopped}
-use Rattle.office_history.specs.Cascade.{text_in, TakenContent, AreTakenFrom, texts_with, with_changes, with_interchange, with_interchanges, with_run}
-use Rattle.office_history.specs.After.{AreKeptOnce}
-use Rattle.office_history.proofs.Kept.{found_only}
-use Rattle.office_tables.specs.DeliveryReading.{IsSame, OnlyReads}
-use Rattle.std.proofs.lemmas.Bool.{ne_eqb}
-use Rattle.std.proofs.lemmas.List.{append-nil, append_assoc, map-append}
-use Rattle.office_admission.specs.Taking.{MachineState, machine_of, interchange_taken, interchange_changes}
-use Rattle.terminal_core.specs.Rows.{ChangeContent, visit_opened}
-use Rattle.terminal_core.specs.State.{TerminalState}
-use Rattle.office_admission.specs.declared.setup.Setup.{Setup}
-use Rattle.office_tables.specs.Taken.{taken_content, taken_contents}
-use Rattle.office_tables.specs.Taking.{IsTaken}
-use Rattle.office_tables.specs.declared.running.Taken.{Taken}
-use Rattle.std.proofs.lemmas.List.Sums.{fold_push}
-use Rattle.sqlite.specs.Held.{Held, state}
-use Rattle.sqlite.specs.Tree.{Trees}
-use Rattle.sqlite.proofs.StateLemmas.{survives_then}
-use Rattle.sqlite_trees.specs.declared.store.Store.{Ghosts}
-use Rattle.office_rows.specs.Steps.{Steps}
-use Rattle.office_tables.specs.Faults.{IsOfStore}
-use Rattle.office_tables.specs.Kept.{with_kept_reply}
-use Rattle.office_tables.specs.Order.{HasRowsInOrder, KeepsOrder}
-use Rattle.office_tables.specs.Writes.{Writes, WritesIfOpen}
+use Rattle.office_tables.specs.{Answers.{IsKept, pair_of}, Reading.Reads, declared.interchanges.Kept.Kept, declared.table_fault.TableFault.TableFault}
+use Rattle.office_tables.specs.{DeliveryReading.{IsSame, OnlyReads}, Taken.{taken_content, taken_contents}, Taking.IsTaken, declared.running.Taken.Taken}
+use Rattle.office_tables.specs.{Faults.IsOfStore, Kept.with_kept_reply, Order.{HasRowsInOrder, KeepsOrder}, Writes.{Writes, WritesIfOpen}}
+use Rattle.office_tables.{specs.Writing.{Commits, IsUndone, IsWhole, IsWholeInOrder, WritesWhole}, proofs.MadeLemmas.{clean_first, if_open_on, if_open_stopped}}
 use Rattle.office_tables.proofs.WritesLemmas.{order_then, order_same, writes_then, writes_then_if_open, writes_same}
-use Rattle.office_tables.specs.Writing.{Commits, IsUndone, IsWhole, IsWholeInOrder, WritesWhole}
+use Rattle.office_history.specs.Cascade.{text_in, TakenContent, AreTakenFrom, texts_with, with_changes, with_interchange, with_interchanges, with_run}
+use Rattle.office_history.{specs.After.AreKeptOnce, proofs.Kept.found_only}
+use Rattle.office_admission.specs.{Taking.{MachineState, machine_of, interchange_taken, interchange_changes}, declared.setup.Setup.Setup}
+use Rattle.sqlite_trees.specs.declared.store.Store.{Ghosts}
 
 -- ==== ReadLemmas: Reading one after the other, and what is found.
 

@@ -1,37 +1,21 @@
 -- Calls that write in a transaction, one after the other.
 use Rattle.std.proofs.Common.{◌≡◌, ap, ◌∙◌, take, ℕ, ◌+◌, Bool, true, false, List, Option, None, Ok, Err, inl, inr, refl, sym, subst, ◌<◌, ◌++◌, [], ◌∷◌, IsTrue, Result, OnOk, get_or, length, map, arith}
-use Rattle.sqlite.specs.Effect.{Database}
-use Rattle.sqlite.specs.State.{State, HasCleanDisk, Shows, Survives}
-use Rattle.sqlite.specs.Tree.{Trees}
+use Rattle.std.proofs.{lemmas.Bool.cases_Bool, lemmas.List.{map-append, take_more}}
+use Rattle.sqlite.specs.{Effect.Database, State.{State, HasCleanDisk, Shows, Survives}, Tree.Trees}
+use Rattle.sqlite.specs.Listing.{understood, reads_listing, listing_schema, if_select, is_select}
 use Rattle.office_admission.specs.Setups.{SetupContent}
-use Rattle.office_rows.specs.Tables.{office_tables, no_schema}
-use Rattle.office_rows.specs.Stored.{HasRows, HasEmpty}
-use Rattle.office_rows.specs.Steps.{Turns, Steps}
-use Rattle.office_rows.specs.Opening.{opening_rows}
+use Rattle.office_rows.specs.{Tables.{office_tables, no_schema}, Stored.{HasRows, HasEmpty}, Steps.{Turns, Steps}, Opening.opening_rows, Rows.Rows}
+use Rattle.office_rows.{specs.InPlace.InterchangesAreInPlace, proofs.WriteLemmas.same_value}
 use Rattle.office_rows.proofs.Creating.{stores, steps_on, steps_here, steps_then, steps_same, keep_then, quiet_then, on_ok}
-use Rattle.office_tables.specs.Opened.{IsOpening}
-use Rattle.office_tables.specs.declared.table_fault.TableFault.{TableFault}
-use Rattle.office_tables.specs.declared.table_fault.TableFault.TheVariants.{Store, Damaged, Version, Memory}
-use Rattle.office_tables.specs.Faults.{IsOfStore, IsOfStoreOr}
-use Rattle.std.proofs.lemmas.Bool.{cases_Bool}
+use Rattle.office_tables.specs.{Opened.IsOpening, declared.table_fault.TableFault.TableFault, Faults.{IsOfStore, IsOfStoreOr}, Reading.OnlyShows}
+use Rattle.office_tables.specs.{declared.table_fault.TableFault.TheVariants.{Store, Damaged, Version, Memory}, Order.{HasRowsInOrder, KeepsOrder}}
+use Rattle.office_tables.specs.Writes.{Writes, WritesIfOpen}
 use Rattle.sqlite_ast.specs.declared.Statement.{Statement}
 use Rattle.sqlite_syntax.specs.declared.statement.Parsed.{Parsed}
-use Rattle.sqlite_schema.specs.declared.schema.Schema.{Schema}
-use Rattle.sqlite_schema.specs.declared.command.Command.{Command}
-use Rattle.sqlite_schema.specs.declared.command.Returning.{Returning}
-use Rattle.sqlite_resolve.specs.declared.compiled.Compiled.{Compiled}
-use Rattle.sqlite_resolve.specs.Lowering.{Checked, and_then}
-use Rattle.sqlite_resolve.specs.Scope.{Name}
+use Rattle.sqlite_schema.specs.{declared.schema.Schema.Schema, declared.command.Command.Command, declared.command.Returning.Returning}
+use Rattle.sqlite_resolve.specs.{declared.compiled.Compiled.Compiled, Lowering.{Checked, and_then}, Scope.Name}
 use Rattle.sqlite_resolve.specs.Compile.{first, planned, meaning, returning, command, timed, compiled, with_command, timed_by, returning_by, command_by, small}
-use Rattle.sqlite.specs.Listing.{understood, reads_listing, listing_schema, if_select, is_select}
-use Rattle.office_rows.proofs.WriteLemmas.{same_value}
-use Rattle.office_tables.specs.Reading.{OnlyShows}
 use Rattle.sqlite_tied.specs.Compute.{everything}
-use Rattle.std.proofs.lemmas.List.{map-append, take_more}
-use Rattle.office_rows.specs.Rows.{Rows}
-use Rattle.office_rows.specs.InPlace.{InterchangesAreInPlace}
-use Rattle.office_tables.specs.Order.{HasRowsInOrder, KeepsOrder}
-use Rattle.office_tables.specs.Writes.{Writes, WritesIfOpen}
 use Rattle.sqlite_ast.specs.declared.Statement.TheVariants as written
 use Rattle.office_rows.proofs.Reading as texts
 

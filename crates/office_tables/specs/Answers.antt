@@ -1,7 +1,6 @@
 -- What the calls that read answer.
 use Rattle.std.specs.Prelude.{◌≡◌, ◌≢◌, ◌==◌, ◌<◌, ◌^◌, ◌⊎◌, ℕ, Bool, List, [], filter, Contains, Option, Some, None, String, string_bytes, IsUtf8}
-use Rattle.office_rows.specs.Rows.{Partner, Interchange, Rows}
-use Rattle.office_rows.specs.Effects.{is_pair}
+use Rattle.office_rows.specs.{Rows.{Partner, Interchange, Rows}, Effects.is_pair}
 use Rattle.office_tables.specs.declared.interchanges.Kept.{Kept}
 
 -- the interchanges of a partner under a number

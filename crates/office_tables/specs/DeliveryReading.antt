@@ -2,9 +2,7 @@
 use Rattle.std.specs.Prelude.{◌≡◌, ℕ, ◌<◌, OnOk, Result}
 use Rattle.sqlite.specs.State.{State, HasCleanDisk}
 use Rattle.office_rows.specs.Rows.{Rows}
-use Rattle.office_tables.specs.Answers.{HasUnfitReply}
-use Rattle.office_tables.specs.Reading.{ReadsIfOpen}
-use Rattle.office_tables.specs.declared.table_fault.TableFault.{TableFault}
+use Rattle.office_tables.specs.{Answers.HasUnfitReply, Reading.ReadsIfOpen, declared.table_fault.TableFault.TableFault}
 
 -- the rows are the same
 pub record IsSame (old new : State) : Type 0 where

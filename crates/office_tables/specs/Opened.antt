@@ -1,15 +1,9 @@
 -- What making the tables commits.
-use Rattle.std.specs.Prelude.{◌≡◌, ℕ, false, List, IsTrue}
-use Rattle.std.specs.List.{AllByRecursion}
-use Rattle.sqlite.specs.Table.{Table}
-use Rattle.sqlite.specs.Schema.{Schema}
+use Rattle.std.specs.{Prelude.{◌≡◌, ℕ, false, List, IsTrue}, List.AllByRecursion}
+use Rattle.sqlite.specs.{Table.Table, Schema.Schema, State.State, Tree.Trees}
 use Rattle.sqlite_catalog.specs.Change.{is_used}
-use Rattle.sqlite.specs.State.{State}
-use Rattle.sqlite.specs.Tree.{Trees}
 use Rattle.office_admission.specs.Setups.{SetupContent}
-use Rattle.office_rows.specs.Tables.{no_schema}
-use Rattle.office_rows.specs.Stored.{HasRows, StoresRows}
-use Rattle.office_rows.specs.Opening.{opening_rows}
+use Rattle.office_rows.specs.{Tables.no_schema, Stored.{HasRows, StoresRows}, Opening.opening_rows}
 
 -- an empty database has the rows of the set-up, committed, and a crash leaves only these
 pub record Opens (setup : SetupContent) (old new : State) : Type 0 where

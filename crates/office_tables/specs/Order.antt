@@ -1,9 +1,6 @@
 -- In which order the interchanges stand.
-use Rattle.sqlite.specs.Effect.{Database}
-use Rattle.sqlite.specs.State.{State}
-use Rattle.office_rows.specs.Rows.{Rows}
-use Rattle.office_rows.specs.Stored.{HasRows}
-use Rattle.office_rows.specs.InPlace.{InterchangesAreInPlace}
+use Rattle.sqlite.specs.{Effect.Database, State.State}
+use Rattle.office_rows.specs.{Rows.Rows, Stored.HasRows, InPlace.InterchangesAreInPlace}
 
 -- the database has these rows, and its interchanges stand in just this order, under the rowids 1, 2, 3 and so on
 pub record HasRowsInOrder (rows : Rows) (db : Database) : Type 0 where

@@ -1,8 +1,6 @@
 -- What a call that only reads does to its connection.
 use Rattle.std.specs.Prelude.{◌≡◌, ℕ, List, None, Result, Ok, OnOk, IsTrue, false}
-use Rattle.sqlite.specs.Listing.{understood}
-use Rattle.sqlite.specs.Schema.{Schema}
-use Rattle.sqlite.specs.State.{State, HasCleanDisk, IsUnchanged, KeepsCommit, Survives}
+use Rattle.sqlite.specs.{Listing.understood, Schema.Schema, State.{State, HasCleanDisk, IsUnchanged, KeepsCommit, Survives}}
 use Rattle.sqlite_resolve.specs.declared.compiled.Compiled.{Compiled}
 use Rattle.office_tables.specs.declared.table_fault.TableFault.{TableFault}
 

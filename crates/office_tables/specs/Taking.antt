@@ -2,8 +2,7 @@
 use Rattle.std.specs.Prelude.{◌≡◌, ℕ, List, None}
 use Rattle.office_rows.specs.Rows.{Rows}
 use Rattle.office_admission.specs.Taking.{MachineState, interchange_taken, interchange_changes}
-use Rattle.office_history.specs.Cascade.{TakenContent, text_in}
-use Rattle.office_history.specs.After.{AreKeptOnce}
+use Rattle.office_history.specs.{Cascade.{TakenContent, text_in}, After.AreKeptOnce}
 
 -- the partner's text is taken under that number, with that reply and those changes, and leaves that machine
 pub record IsTaken (partner number : ℕ) (text : List ℕ) (old : MachineState) (taken : TakenContent)

@@ -1,16 +1,8 @@
 -- What a call that writes does to the transaction that it is in.
 use Rattle.std.specs.Prelude.{Result, OnOk, IfErr, IsTrue, List, take}
-use Rattle.sqlite.specs.Effect.{Database}
-use Rattle.sqlite.specs.State.{State, HasCleanDisk, KeepsCommit, Survives}
-use Rattle.sqlite.specs.Table.{Table}
-use Rattle.office_rows.specs.Rows.{Rows}
-use Rattle.office_rows.specs.Steps.{Steps, Turns}
-use Rattle.office_rows.specs.Stored.{HasEmpty, HasRows}
-use Rattle.office_rows.specs.Tables.{office_tables}
-use Rattle.office_tables.specs.declared.table_fault.TableFault.{TableFault}
-use Rattle.office_tables.specs.Faults.{IsOfStore}
-use Rattle.office_tables.specs.Opened.{AreMissing, MakesTables}
-use Rattle.office_tables.specs.Order.{KeepsOrder}
+use Rattle.sqlite.specs.{Effect.Database, State.{State, HasCleanDisk, KeepsCommit, Survives}, Table.Table}
+use Rattle.office_rows.specs.{Rows.Rows, Steps.{Steps, Turns}, Stored.{HasEmpty, HasRows}, Tables.office_tables}
+use Rattle.office_tables.specs.{declared.table_fault.TableFault.TableFault, Faults.IsOfStore, Opened.{AreMissing, MakesTables}, Order.KeepsOrder}
 
 -- where it went well the rows are these, in order if they were before; whatever it answers, nothing is committed and a
 -- crash leaves what it left before; and it fails only as the store does, or memory

@@ -1,13 +1,8 @@
 -- What writing a delivery commits.
 use Rattle.std.specs.Prelude.{◌≡◌, false, Result, IfErr, IsTrue, OnErr, OnOk}
-use Rattle.sqlite.specs.State.{State, HasCleanDisk, Survives}
-use Rattle.sqlite.specs.Tree.{Trees}
-use Rattle.office_rows.specs.Rows.{Rows}
-use Rattle.office_rows.specs.Stored.{HasRows, StoresRows}
-use Rattle.office_rows.specs.Tables.{office_schema}
-use Rattle.office_tables.specs.Faults.{IsOfStore}
-use Rattle.office_tables.specs.Order.{HasRowsInOrder}
-use Rattle.office_tables.specs.declared.table_fault.TableFault.{TableFault}
+use Rattle.sqlite.specs.{State.{State, HasCleanDisk, Survives}, Tree.Trees}
+use Rattle.office_rows.specs.{Rows.Rows, Stored.{HasRows, StoresRows}, Tables.office_schema}
+use Rattle.office_tables.specs.{Faults.IsOfStore, Order.HasRowsInOrder, declared.table_fault.TableFault.TableFault}
 
 -- the change is committed: the rows are these, in order if they were before, and a crash leaves only these
 pub record Commits (change : Rows → Rows) (old new : State) : Type 0 where

@@ -1,15 +1,9 @@
 ghost use Rattle.std.specs.Prelude.{◌≡◌, [], ◌∷◌, take, ◌≤◌, false, length, OnOk, OnErr, IfErr, IsTrue};
-ghost use Rattle.office_rows.specs.Opening.{opening_rows};
-ghost use Rattle.office_rows.specs.Rows.{no_rows};
-ghost use Rattle.office_rows.specs.Stored.{HasRows, HasEmpty};
+ghost use Rattle.office_rows.specs.{Opening.opening_rows, Rows.no_rows, Stored.{HasRows, HasEmpty}};
 ghost use Rattle.office_rows.specs.Tables.{office_tables, partner_table, interchange_table, visit_table, place_table, listing_table, setting_table, block_table};
-ghost use Rattle.office_admission.specs.Limits.{most_partners};
-ghost use Rattle.office_admission.specs.Setups.{setup_content};
-ghost use Rattle.office_tables.specs.Faults.{IsOfStore};
-ghost use Rattle.office_tables.specs.Opened.{Opens, IsOpening, AreMissing};
-ghost use Rattle.office_tables.specs.Writes.{Creates, MakesOffice};
-ghost use Rattle.sqlite.specs.Held.{state};
-ghost use Rattle.sqlite.specs.State.{HasCleanDisk, Survives};
+ghost use Rattle.office_admission.specs.{Limits.most_partners, Setups.setup_content};
+ghost use Rattle.office_tables.specs.{Faults.IsOfStore, Opened.{Opens, IsOpening, AreMissing}, Writes.{Creates, MakesOffice}};
+ghost use Rattle.sqlite.specs.{Held.state, State.{HasCleanDisk, Survives}};
 
 use crate::settings::{insert_blocks, insert_partners, insert_settings};
 use crate::table_fault::TableFault;

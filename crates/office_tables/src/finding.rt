@@ -1,20 +1,9 @@
-ghost use Rattle.std.specs.Prelude.{◌≡◌, ◌≢◌, ◌<◌, ◌^◌, ⊤, IfOk, IfErr, IsUtf8, List, map, filter};
-ghost use Rattle.std.specs.List.Sorted.{IsPermutation};
-ghost use Rattle.sqlite.specs.declared.types.Value.TheVariants.{Text, Blob};
-ghost use Rattle.sqlite.specs.Order.{column};
-ghost use Rattle.sqlite.specs.Held.{state};
-ghost use Rattle.sqlite.specs.State.{HasCleanDisk};
-ghost use Rattle.office_rows.specs.Effects.{is_pair};
-ghost use Rattle.office_rows.specs.Layouts.{IsOfficeSchema};
-ghost use Rattle.office_rows.specs.Stored.{HasRows, Holds};
-ghost use Rattle.office_rows.specs.Tables.{interchange_table};
-ghost use Rattle.sqlite.specs.declared.error.Error.TheVariants.{SqliteFailure};
-ghost use Rattle.sqlite.specs.declared.error.ErrorCode.TheVariants.{OutOfMemory};
-ghost use Rattle.office_rows.specs.Rows.{Interchange, Partner};
+ghost use Rattle.std.specs.{Prelude.{◌≡◌, ◌≢◌, ◌<◌, ◌^◌, ⊤, IfOk, IfErr, IsUtf8, List, map, filter}, List.Sorted.IsPermutation};
+ghost use Rattle.sqlite.specs.{declared.types.Value.TheVariants.{Text, Blob}, Order.column, Held.state, State.HasCleanDisk};
+ghost use Rattle.sqlite.specs.{declared.error.Error.TheVariants.SqliteFailure, declared.error.ErrorCode.TheVariants.OutOfMemory};
+ghost use Rattle.office_rows.specs.{Effects.is_pair, Layouts.IsOfficeSchema, Stored.{HasRows, Holds}, Tables.interchange_table, Rows.{Interchange, Partner}};
 ghost use Rattle.office_rows.specs.Values.{number_value, interchange_values, kept_values, next_values};
-ghost use Rattle.office_tables.specs.Answers.{IsKept, IsNextOf, RepliesAs, HasUnfitReply, LacksNext, has_id};
-ghost use Rattle.office_tables.specs.Faults.{IsOfStore, IsOfStoreOr};
-ghost use Rattle.office_tables.specs.Reading.{Reads};
+ghost use Rattle.office_tables.specs.{Answers.{IsKept, IsNextOf, RepliesAs, HasUnfitReply, LacksNext, has_id}, Faults.{IsOfStore, IsOfStoreOr}, Reading.Reads};
 
 use crate::interchanges::Kept;
 use crate::table_fault::TableFault;

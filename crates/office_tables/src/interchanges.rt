@@ -1,13 +1,7 @@
-ghost use Rattle.std.specs.List.{list_any};
-ghost use Rattle.std.specs.Prelude.{◌≡◌, [], ◌∷◌, false, OnOk, IsTrue};
-ghost use Rattle.office_rows.specs.Effects.{is_pair, with_waiting, with_reply};
-ghost use Rattle.office_rows.specs.Opening.{interchange_row, with_interchanges};
-ghost use Rattle.office_rows.specs.Rows.{Rows};
-ghost use Rattle.office_rows.specs.Stored.{HasRows};
-ghost use Rattle.office_tables.specs.Kept.{with_kept_reply};
-ghost use Rattle.office_tables.specs.Writes.{Writes};
-ghost use Rattle.sqlite.specs.Held.{state};
-ghost use Rattle.sqlite.specs.State.{HasCleanDisk};
+ghost use Rattle.std.specs.{List.list_any, Prelude.{◌≡◌, [], ◌∷◌, false, OnOk, IsTrue}};
+ghost use Rattle.office_rows.specs.{Effects.{is_pair, with_waiting, with_reply}, Opening.{interchange_row, with_interchanges}, Rows.Rows, Stored.HasRows};
+ghost use Rattle.office_tables.specs.{Kept.with_kept_reply, Writes.Writes};
+ghost use Rattle.sqlite.specs.{Held.state, State.HasCleanDisk};
 
 use crate::table_fault::TableFault;
 use crate::terminal::{characters, integer};

@@ -1,11 +1,7 @@
 ghost use Rattle.std.specs.Prelude.{◌≡◌, ◌≤◌, [], ◌∷◌, false, length, map, OnOk, OnErr, IfErr, IsTrue};
-ghost use Rattle.office_tables.specs.Writing.{IsUndone, IsWholeInOrder, WritesWhole};
-ghost use Rattle.office_rows.specs.Opening.{with_lines};
-ghost use Rattle.office_rows.specs.Rows.{listing_content};
-ghost use Rattle.office_tables.specs.Faults.{IsOfStore};
-ghost use Rattle.office_tables.specs.Writes.{Writes, WritesIfOpen};
-ghost use Rattle.sqlite.specs.Held.{state};
-ghost use Rattle.sqlite.specs.State.{HasCleanDisk, Shows, Survives};
+ghost use Rattle.office_tables.specs.{Writing.{IsUndone, IsWholeInOrder, WritesWhole}, Faults.IsOfStore, Writes.{Writes, WritesIfOpen}};
+ghost use Rattle.office_rows.specs.{Opening.with_lines, Rows.listing_content};
+ghost use Rattle.sqlite.specs.{Held.state, State.{HasCleanDisk, Shows, Survives}};
 
 use crate::{TableFault, insert_listing};
 use sqlite::{Alter, Connection, Transaction};

@@ -1,18 +1,10 @@
-ghost use Rattle.std.specs.Option.{option_map};
-ghost use Rattle.std.specs.Prelude.{◌≡◌, ℕ, List, ◌+◌, ◌++◌, [], ◌∷◌, ◌<◌, ◌≤◌, All, IfOk, IfErr, IfSome, OnOk, length};
-ghost use Rattle.office_admission.specs.Outcomes.{IsAdmitted};
-ghost use Rattle.office_tables.specs.DeliveryReading.{HasUnfitBehind, OnlyReads};
-ghost use Rattle.office_tables.specs.Taken.{taken_contents, taken_content};
-ghost use Rattle.office_tables.specs.Taking.{IsNumbered, IsTaken};
+ghost use Rattle.std.specs.{Option.option_map, Prelude.{◌≡◌, ℕ, List, ◌+◌, ◌++◌, [], ◌∷◌, ◌<◌, ◌≤◌, All, IfOk, IfErr, IfSome, OnOk, length}};
+ghost use Rattle.office_admission.specs.{Outcomes.IsAdmitted, Limits.most_partners, Taking.machine_of};
+ghost use Rattle.office_tables.specs.{DeliveryReading.{HasUnfitBehind, OnlyReads}, Taken.{taken_contents, taken_content}, Taking.{IsNumbered, IsTaken}};
+ghost use Rattle.office_tables.specs.{Answers.HasUnfitReply, Faults.IsOfStoreOr};
 ghost use Rattle.office_history.specs.Cascade.{AreTakenFrom, text_in, texts_with};
-ghost use Rattle.office_rows.specs.Rows.{Rows};
-ghost use Rattle.office_rows.specs.Stored.{HasRows};
-ghost use Rattle.office_admission.specs.Limits.{most_partners};
-ghost use Rattle.office_tables.specs.Answers.{HasUnfitReply};
-ghost use Rattle.office_tables.specs.Faults.{IsOfStoreOr};
-ghost use Rattle.office_admission.specs.Taking.{machine_of};
-ghost use Rattle.sqlite.specs.Held.{state};
-ghost use Rattle.sqlite.specs.State.{HasCleanDisk};
+ghost use Rattle.office_rows.specs.{Rows.Rows, Stored.HasRows};
+ghost use Rattle.sqlite.specs.{Held.state, State.HasCleanDisk};
 
 use crate::{Kept, TableFault, kept};
 use office_admission::{Admitted, Setup, Tally, admit_for, take};

@@ -1,8 +1,7 @@
 ghost use Rattle.std.specs.Prelude.{◌≡◌, ◌<◌, ◌≤◌, ◌+◌, [], ◌∷◌, length, slice_get, Some, codes, decimal};
 ghost use Rattle.office_rows.specs.Effects.{with_next, with_partner};
 ghost use Rattle.office_rows.specs.Opening.{code_names, code_settings, setting_row, settings_of, with_settings, with_blocks, partners_from, with_partners};
-ghost use Rattle.office_admission.specs.Limits.{most_partners};
-ghost use Rattle.office_admission.specs.Setups.{setup_content, account_contents};
+ghost use Rattle.office_admission.specs.{Limits.most_partners, Setups.{setup_content, account_contents}};
 ghost use Rattle.office_tables.specs.Writes.{Writes, WritesIfOpen};
 ghost use Rattle.sqlite.specs.Held.{state};
 

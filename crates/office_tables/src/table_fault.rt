@@ -1,6 +1,5 @@
 ghost use Rattle.std.specs.Prelude.{◌≡◌};
-ghost use Rattle.office_tables.specs.Faults.{fault_of, IsOfStore};
-ghost use Rattle.office_tables.specs.declared.table_fault.TableFault.TheVariants.{Memory};
+ghost use Rattle.office_tables.specs.{Faults.{fault_of, IsOfStore}, declared.table_fault.TableFault.TheVariants.Memory};
 
 use sqlite::{Error, ErrorCode};
 use std::alloc::AllocError;

@@ -1,12 +1,10 @@
 ghost use Rattle.std.specs.Prelude.{◌≡◌, pos, [], ◌∷◌};
 ghost use Rattle.edi_messages.specs.Owned.{call_content};
-ghost use Rattle.office_rows.specs.Effects.{with_change};
-ghost use Rattle.office_rows.specs.Opening.{listing_row, with_lines};
+ghost use Rattle.office_rows.specs.{Effects.with_change, Opening.{listing_row, with_lines}};
 ghost use Rattle.office_rows.specs.Values.{kind_code, way_code, laden_code, state_code, out_by, out_partner, out_number, out_at};
 ghost use Rattle.office_tables.specs.Writes.{Writes};
 ghost use Rattle.sqlite.specs.Held.{state};
-ghost use Rattle.sqlite_value.specs.Value.{owned};
-ghost use Rattle.sqlite_value.specs.declared.value.Value.TheVariants.{Int, Text};
+ghost use Rattle.sqlite_value.specs.{Value.owned, declared.value.Value.TheVariants.{Int, Text}};
 ghost use Rattle.terminal_core.specs.Rows.{visit_content, visit_opened, visit_closed, placed_at, moved_to, removed_from, listed_on, line_done, unlisted};
 ghost use Rattle.terminal_core.specs.State.{side_code};
 

@@ -1,12 +1,9 @@
 ghost use Rattle.std.specs.Prelude.{◌≡◌, ◌<◌, All, map, false, OnOk, OnErr, IfErr, IsTrue};
-ghost use Rattle.office_tables.specs.Taken.{taken_content, taken_contents};
-ghost use Rattle.office_tables.specs.Writing.{IsUndone, IsWholeInOrder, WritesWhole};
+ghost use Rattle.office_tables.specs.{Taken.{taken_content, taken_contents}, Writing.{IsUndone, IsWholeInOrder, WritesWhole}, Faults.IsOfStore};
+ghost use Rattle.office_tables.specs.Writes.{Writes, WritesIfOpen};
 ghost use Rattle.office_history.specs.Cascade.{with_changes, with_interchange, with_interchanges, with_run};
 ghost use Rattle.office_rows.specs.Effects.{with_waiting, with_partner};
-ghost use Rattle.office_tables.specs.Faults.{IsOfStore};
-ghost use Rattle.office_tables.specs.Writes.{Writes, WritesIfOpen};
-ghost use Rattle.sqlite.specs.Held.{state};
-ghost use Rattle.sqlite.specs.State.{HasCleanDisk, IsRolledBack, Shows, Survives};
+ghost use Rattle.sqlite.specs.{Held.state, State.{HasCleanDisk, IsRolledBack, Shows, Survives}};
 ghost use Rattle.terminal_core.specs.Rows.{change_content};
 
 use crate::changes::{apply, mark_taken};

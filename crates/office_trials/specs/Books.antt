@@ -1,10 +1,7 @@
 -- What is written into a book.
-use Rattle.std.specs.Prelude.{◌≡◌, ℕ, List, Option}
-use Rattle.std.specs.Io.KnownBytes.{Appends}
-use Rattle.office_replies.specs.declared.deliver.Fault.TheVariants.{UnknownSender}
-use Rattle.office_replies.specs.declared.deliver.Response.{Response}
+use Rattle.std.specs.{Prelude.{◌≡◌, ℕ, List, Option}, Io.KnownBytes.Appends}
+use Rattle.office_replies.specs.{declared.deliver.Fault.TheVariants.UnknownSender, declared.deliver.Response.Response, Fronts.AppendsFront}
 use Rattle.office_replies.specs.declared.deliver.Response.TheVariants.{Refused, NotNow}
-use Rattle.office_replies.specs.Fronts.{AppendsFront}
 
 -- a text that is refused was written after what the book held; of one that is answered NotNow a front was
 abbrev pub Enters : Option (List ℕ) → List ℕ → Response → Option (List ℕ) → Type 0

@@ -1,18 +1,12 @@
 -- Two ways of taking that agree on what is taken come to the same.
+use Rattle.std.{specs.{Prelude.{Option, Some, ◌==◌, is_some}, Option.{option_or, unwrap_or}}, proofs.lemmas.List.append-nil}
 use Rattle.std.proofs.Common.{◌≡◌, ℕ, zero, suc, ◌+◌, ◌-◌, ◌<◌, ◌≤◌, true, false, cond, ◌&&◌, inl, inr, List, [], ◌∷◌, ◌++◌, refl, sym, ◌∙◌, ap, subst, arith, append_assoc, nat_le}
-use Rattle.std.specs.Prelude.{Option, Some, ◌==◌, is_some}
-use Rattle.std.specs.Option.{option_or, unwrap_or}
 use Rattle.std.proofs.lemmas.Bool.{cond-true, cond-false, le-leb, leb-true, cases_Bool}
-use Rattle.std.proofs.lemmas.List.{append-nil}
-use Rattle.partner_core.specs.Machine.{Taking}
-use Rattle.partner_core.specs.Deliveries.{Delivery, first_text, is_under, is_used, run}
+use Rattle.partner_core.specs.{Machine.Taking, Deliveries.{Delivery, first_text, is_under, is_used, run}, Cascade.{TakesTexts, for_each_partner}}
 use Rattle.partner_core.specs.Order.{numbers_above, numbers_made_next, order_after, order, text_under, state_after, reply_among, state, reply_of}
-use Rattle.partner_core.specs.Cascade.{TakesTexts, for_each_partner}
-use Rattle.partner_core.specs.Keeping.{Holdings, Keeps, TakesRun}
+use Rattle.partner_core.specs.{Keeping.{Holdings, Keeps, TakesRun}, ByPlace.{taken_by_place, AreNumbered, FoldsByPlace, RulesByPlace, GoesOnByNew}}
 use Rattle.partner_core.proofs.Orders.{some_of, used_within_run, free_after_run, AllUsed-order, state_after-append, reply_among-append, state_after-texts, reply_among-texts, run_grows}
-use Rattle.partner_core.proofs.OnceEach.{first-added}
-use Rattle.partner_core.proofs.Keepings.{keeps_run}
-use Rattle.partner_core.specs.ByPlace.{taken_by_place, AreNumbered, FoldsByPlace, RulesByPlace, GoesOnByNew}
+use Rattle.partner_core.proofs.{OnceEach.first-added, Keepings.keeps_run}
 
 -- ---- two ways of taking
 
@@ -76,9 +70,6 @@ order_after-append before (d ∷ ds) es =
 -- ---- rules by place
 
 module _ {S : Type 0} (number_of : List ℕ → ℕ) (before : List Delivery) (old new : Taking S) where
-  by_place : Taking S
-  by_place = taken_by_place number_of before old new
-
   by_old : (p k : ℕ) (text : List ℕ) (s : S) → number_of text ≡ k → k ≤ run before p → taken_by_place number_of before old new s p text ≡ old s p text
   by_old p k text s is low =
       let l : number_of text ≤ run before p = omega arith in

@@ -1,17 +1,14 @@
 -- Order has each partner's run once each, in number order.
-use Rattle.std.proofs.Common.{◌≡◌, ◌≢◌, ℕ, ◌+◌, ◌-◌, ◌<◌, ◌≤◌, inl, inr, Bool, true, false, cond, List, [], ◌∷◌, ◌++◌, refl, sym, ◌∙◌, ap, arith, zero, suc, ◌&&◌, ◌||◌, append_assoc}
-use Rattle.std.specs.Prelude.{Option, None, Some, ◌==◌, is_some, All, AllPairs, filter}
-use Rattle.std.proofs.lemmas.List.{append-nil}
-use Rattle.std.proofs.lemmas.Bool.{cases_Bool, cases_order, cond-false, cond-true, eqb-true, eq-eqb, ne_eqb, and_parts, and_from, and_left, and_right, false_from_ne_true, cases_eq, or_cases, or_left, or_right}
+use Rattle.std.specs.Prelude.{None, Some, ◌==◌, is_some, All, AllPairs, filter}
 use Rattle.std.specs.Option.{option_or}
-use Rattle.partner_core.specs.Machine.{Taking}
-use Rattle.partner_core.specs.Deliveries.{Delivery, first_text, is_under, is_used, run}
-use Rattle.partner_core.specs.Order.{numbers_above, numbers_made_next, order, text_under, state_after, reply_among, state, reply_of, is_of, order_after}
-use Rattle.partner_core.specs.Growth.{AddsNothing, AddsText, AddsRun, EndsRun}
-use Rattle.partner_core.proofs.Orders.{first-used, first-new, used-kept, none_of, used_within_run, free_after_run, run_reaches, run_is, option_or-none, order-append, state-append, reply_of-append, run_grows, run_of_none, numbers_above-join}
 use Rattle.std.specs.List.{list_any}
-use Rattle.std.proofs.lemmas.List.Elements.{All-nil, All-cons, All-append, All-weaker, filter-append}
-use Rattle.std.proofs.lemmas.List.Kept.{AllPairs-cons}
+use Rattle.std.proofs.lemmas.List.{append-nil}
+use Rattle.std.proofs.Common.{◌≡◌, ◌≢◌, ℕ, ◌+◌, ◌-◌, ◌<◌, ◌≤◌, inl, inr, Bool, true, false, cond, List, [], ◌∷◌, ◌++◌, refl, sym, ◌∙◌, ap, arith, zero, suc, ◌&&◌, ◌||◌, append_assoc}
+use Rattle.std.proofs.lemmas.Bool.{cases_Bool, cases_order, cond-false, cond-true, eqb-true, eq-eqb, ne_eqb, and_parts, and_from, and_left, and_right, false_from_ne_true, cases_eq, or_cases, or_left, or_right}
+use Rattle.std.proofs.{lemmas.List.Elements.{All-nil, All-cons, All-append, All-weaker, filter-append}, lemmas.List.Kept.AllPairs-cons}
+use Rattle.partner_core.specs.{Machine.Taking, Deliveries.{Delivery, first_text, is_under, is_used, run}, Growth.{AddsNothing, AddsText, AddsRun, EndsRun}}
+use Rattle.partner_core.specs.Order.{numbers_above, numbers_made_next, order, text_under, state_after, reply_among, state, reply_of, is_of, order_after}
+use Rattle.partner_core.proofs.Orders.{first-used, first-new, used-kept, none_of, used_within_run, free_after_run, run_reaches, run_is, option_or-none, order-append, state-append, reply_of-append, run_grows, run_of_none, numbers_above-join}
 
 -- ==== Growths: What a delivery adds, by how it stands to those before it.
 
@@ -114,9 +111,6 @@ numbers_made_next-nothing : (ds : List Delivery) (d : Delivery) → run (ds ++ d
 numbers_made_next-nothing ds d h =
     let none : run ds d.partner - run ds d.partner ≡ 0 = omega arith in
     numbers_made_next-to ds d (run ds d.partner) h ∙ ap (numbers_above d.partner (run ds d.partner)) none
-
-cond_none : {A : Type 0} (b : Bool) (x : A) (o : Option A) → b ≡ true → cond b (Some x) o ≡ None → ⊥
-cond_none b x o h e = cc
 
 module _ {S : Type 0} (taken : Taking S) (opening : S) (ds : List Delivery) (d : Delivery) where
   order-stays : run (ds ++ d ∷ []) d.partner ≡ run ds d.partner → order (ds ++ d ∷ []) ≡ order ds

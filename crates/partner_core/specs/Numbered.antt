@@ -1,11 +1,6 @@
 -- What one partner's numbers stand for: its texts in a map, its replies in a list from the number 1 on.
-use Rattle.std.specs.Prelude.{◌≡◌, ℕ, zero, suc, ◌≤◌, true, List, Option, None, is_some, slice_get}
-use Rattle.std.specs.Option.{option_map}
-use Rattle.std.specs.declared.vec.Vec.{Vec}
-use Rattle.std.specs.declared.string.String.{String}
-use Rattle.std.specs.String.{string_bytes}
-use Rattle.std.specs.BTreeMap.{BTreeMap, get}
-use Rattle.std.specs.Ordering.{nat_cmp}
+use Rattle.std.specs.{Prelude.{◌≡◌, ℕ, zero, suc, ◌≤◌, true, List, Option, None, is_some, slice_get}, Option.option_map, declared.vec.Vec.Vec, Ordering.nat_cmp}
+use Rattle.std.specs.{declared.string.String.String, String.string_bytes, BTreeMap.{BTreeMap, get}}
 
 -- the element with a number, from 1
 abbrev pub with_number : {A : Type 0} → List A → ℕ → Option A

@@ -5,20 +5,11 @@
 //! before it. Those from `stands_as_kept` on speak of what is kept after a list of deliveries,
 //! wherever it is kept: `Runs` goes by them, and so can tables.
 
-ghost use Rattle.std.specs.Prelude.{◌≡◌, ◌≢◌, ◌↔◌, ℕ, ◌+◌, ◌≤◌, List, [], ◌∷◌, ◌++◌, None};
-ghost use Rattle.std.specs.Prelude.{IsTrue, IsSome, AllPairs, filter};
-ghost use Rattle.partner_core.specs.declared.runs.Standing.TheVariants.{Known, Other};
-ghost use Rattle.partner_core.specs.declared.runs.Standing.TheVariants.{Early, Next};
-ghost use Rattle.partner_core.specs.Deliveries.{Delivery, first_text, run};
-ghost use Rattle.partner_core.specs.Order.{is_of, numbers_above, order, reply_of};
-ghost use Rattle.partner_core.specs.Standings.{is_same_text, standing_at};
-ghost use Rattle.partner_core.specs.Growth.{AddsNothing, AddsText, AddsRun, EndsRun, IsNextNumber};
-ghost use Rattle.partner_core.specs.Growth.{IsAllOf, HasSameFirsts, ComesToSame};
-ghost use Rattle.partner_core.specs.Keeping.{StandsAsKept, KeepsOn, KeepsOneMore, KeepsRun};
-ghost use Rattle.partner_core.specs.Keeping.{AnswersAsKept};
-ghost use Rattle.partner_core.specs.Cascade.{TakesNone, TakesOneMore};
-ghost use Rattle.partner_core.specs.Machine.{Taking};
-ghost use Rattle.partner_core.specs.ByPlace.{RulesByPlace, GoesOnByNew};
+ghost use Rattle.std.specs.Prelude.{◌≡◌, ◌≢◌, ◌↔◌, ℕ, ◌+◌, ◌≤◌, List, [], ◌∷◌, ◌++◌, None, IsTrue, IsSome, AllPairs, filter};
+ghost use Rattle.partner_core.specs.{declared.runs.Standing.TheVariants.{Known, Other, Early, Next}, Deliveries.{Delivery, first_text, run}, Machine.Taking};
+ghost use Rattle.partner_core.specs.{Order.{is_of, numbers_above, order, reply_of}, Standings.{is_same_text, standing_at}, Cascade.{TakesNone, TakesOneMore}};
+ghost use Rattle.partner_core.specs.Growth.{AddsNothing, AddsText, AddsRun, EndsRun, IsNextNumber, IsAllOf, HasSameFirsts, ComesToSame};
+ghost use Rattle.partner_core.specs.{Keeping.{StandsAsKept, KeepsOn, KeepsOneMore, KeepsRun, AnswersAsKept}, ByPlace.{RulesByPlace, GoesOnByNew}};
 
 use crate::Machine;
 

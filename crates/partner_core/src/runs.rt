@@ -1,14 +1,8 @@
 //! Taking the kept texts of one partner, each as it becomes next.
-ghost use Rattle.std.specs.Option.{option_copied};
+ghost use Rattle.std.specs.{Option.option_copied, String.string_bytes};
 ghost use Rattle.std.specs.Prelude.{◌≡◌, IfOk, OnOk, OnErr, ℕ, ◌≤◌, is_none, IsTrue, ◌+◌, ◌<◌, List, [], IsOk, None, Some, is_some, take, vec_len};
-ghost use Rattle.std.specs.String.{string_bytes};
-ghost use Rattle.partner_core.specs.Cascade.{TakesTexts};
-ghost use Rattle.partner_core.specs.Deliveries.{Delivery, delivery, run};
-ghost use Rattle.partner_core.specs.Machine.{Taking};
-ghost use Rattle.partner_core.specs.Numbered.{text_in, reply_in, HasNumbersTo};
-ghost use Rattle.partner_core.specs.Order.{reply_of, state};
-ghost use Rattle.partner_core.specs.Runs.{StandsAt, Answers, NeedsNoMemory, partner_count};
-ghost use Rattle.partner_core.specs.Standings.{standing_of};
+ghost use Rattle.partner_core.specs.{Cascade.TakesTexts, Deliveries.{Delivery, delivery, run}, Machine.Taking, Numbered.{text_in, reply_in, HasNumbersTo}};
+ghost use Rattle.partner_core.specs.{Order.{reply_of, state}, Runs.{StandsAt, Answers, NeedsNoMemory, partner_count}, Standings.standing_of};
 
 use crate::ledger::Ledger;
 use crate::numbers::{InterchangeNumber, LAST_NUMBER, MOST_PARTNERS, PartnerId};

@@ -1,56 +1,27 @@
 -- What the changes of a step find.
-use Rattle.std.proofs.Common.{◌≡◌, ℕ, ◌+◌, ◌≤◌, ◌<◌, List, [], ◌∷◌, ◌++◌, length, Bool, true, false, cond, Option, None, Some, Result, Ok, Err, is_some, is_none, refl, sym, ap, ◌∙◌, arith, subst, map, IsTrue, inl, inr, nat_le}
-use Rattle.std.specs.Prelude.{find, filter, ◌&&◌, ◌==◌}
-use Rattle.std.proofs.lemmas.Bool.{eq-eqb, ne_eqb, and_parts, le-leb}
-use Rattle.box6346.specs.SizeCode.{length_of}
-use Rattle.box6346.specs.declared.box_number.BoxNumber.{BoxNumber}
-use Rattle.box6346.specs.declared.slot.Slot.{Slot}
+use Rattle.std.specs.{Prelude.{find, filter, ◌&&◌, ◌==◌}, Char.is_ascii_uppercase, Str.bytes_eq, Ordering.eq_by_cmp}
+use Rattle.std.proofs.Common.{◌≡◌, ℕ, ◌+◌, ◌≤◌, ◌<◌, List, [], ◌∷◌, ◌++◌, Bool, true, false, cond, Option, None, Some, Result, Ok, Err, is_some, is_none, refl, sym, ap, ◌∙◌, arith, subst, map, IsTrue, inl, inr, nat_le}
+use Rattle.std.proofs.{lemmas.Bool.{eq-eqb, ne_eqb, and_parts, le-leb}, lemmas.Option.{same_Some, none-some}, lemmas.List.Elements.Contains-push_cases}
+use Rattle.box6346.specs.{SizeCode.length_of, declared.box_number.BoxNumber.BoxNumber, declared.slot.Slot.Slot, SlotName.IsNamed}
 use Rattle.edi_syntax.specs.Moments.{CivilMoment}
-use Rattle.edi_messages.specs.Purposes.{CallContent}
-use Rattle.edi_messages.specs.Orders.{EntryContent, OrderContent, gate_in, gate_out, move, list_discharge, list_load, discharge, load}
-use Rattle.yard_core.specs.YardMap.{YardMap, placement, placement_of, Boxes, placement_if_any}
-use Rattle.yard_core.specs.Decisions.{Refusal, yard_without, yard_with_move, misfit_of}
-use Rattle.yard_core.specs.declared.placements.Placement.{Placement}
-use Rattle.terminal_core.specs.declared.visits.Departure.{Departure}
-use Rattle.terminal_core.specs.declared.lines.LineState.{LineState}
-use Rattle.terminal_core.specs.declared.lines.LineState.TheVariants.{Pending, Done as LineIsDone}
-use Rattle.terminal_core.specs.declared.change.Outcome.{Outcome}
-use Rattle.terminal_core.specs.declared.change.Outcome.TheVariants.{Done, Gone, Listed, Refused}
-use Rattle.terminal_core.specs.declared.change.Reason.TheVariants.{AlreadyIn, NotIn, VisitLimit}
-use Rattle.terminal_core.specs.declared.lines.Side.{Side}
-use Rattle.terminal_core.specs.declared.lines.Side.TheVariants.{Load, Discharge}
-use Rattle.terminal_core.specs.declared.change.Source.{Source}
-use Rattle.terminal_core.specs.declared.change.Version.{Version}
-use Rattle.terminal_core.specs.declared.visits.Way.{Way}
-use Rattle.terminal_core.specs.declared.visits.Way.TheVariants.{Gate, Ship}
+use Rattle.edi_messages.specs.{Purposes.CallContent, Orders.{EntryContent, OrderContent, gate_in, gate_out, move, list_discharge, list_load, discharge, load}}
+use Rattle.edi_messages.specs.Forms.{IsFormedEntry, IsFormedListing, IsFormedOrder}
+use Rattle.yard_core.specs.{YardMap.{YardMap, placement, placement_of, Boxes, placement_if_any}, Decisions.{Refusal, yard_without, yard_with_move, misfit_of}}
+use Rattle.yard_core.specs.{declared.placements.Placement.Placement, declared.plan.Block.Block, declared.placements.Stowed.Stowed, Plan.IsPlan}
+use Rattle.yard_core.{specs.FitsAndFree.IsOpen, proofs.Exact.numbered}
+use Rattle.terminal_core.specs.{declared.visits.Departure.Departure, declared.lines.LineState.LineState, declared.change.Outcome.Outcome, Versions.spares_empty}
+use Rattle.terminal_core.specs.{declared.lines.LineState.TheVariants.{Pending, Done as LineIsDone}, declared.lines.Side.Side, declared.change.Source.Source}
+use Rattle.terminal_core.specs.{declared.change.Outcome.TheVariants.{Done, Gone, Listed, Refused}, declared.lines.Side.TheVariants.{Load, Discharge}}
+use Rattle.terminal_core.specs.{declared.change.Reason.TheVariants.{AlreadyIn, NotIn, VisitLimit}, declared.change.Version.Version, declared.visits.Way.Way}
+use Rattle.terminal_core.specs.{declared.visits.Way.TheVariants.{Gate, Ship}, Forms.{IsSource, IsFormedDeparture, IsFormedVisit, IsFormedLine, IsWellFormed}}
 use Rattle.terminal_core.specs.Rows.{VisitContent, ChangeContent, line_done, visit_opened, visit_closed, placed_at, moved_to, removed_from, listed_on, unlisted}
 use Rattle.terminal_core.specs.State.{last_from, last_number, TerminalState, LineContent, Lines, line_key, line_of, is_in, is_open_visit, open_visit, AreNumbered, IsWhole, empty_state}
-use Rattle.terminal_core.specs.Versions.{spares_empty}
 use Rattle.terminal_core.specs.Step.{StepResult, with_refusal, step_by, yard_with_entry, is_full, after_entry, after_entry_at, number_of_visit, after_departure, after_departure_at, departure_by, after_move_at, after_listing_at, then_line_done_at, by_line, by_state, visit_of, closed_visit}
 use Rattle.terminal_core.specs.Changes.{TerminalRows, rows_of, rows_with, rows_with_all, is_numbered, IsOneOpenVisit, IsApplicable, AreApplicable, visit_with_departure}
-use Rattle.terminal_core.proofs.Open.{there_placed, last_highest, in_placed_map, in_removed_map, open_of, moved_as, kept_number}
-use Rattle.terminal_core.proofs.Indexed.{find_skips, find_meets, mapped_at}
+use Rattle.terminal_core.{specs.OneByOne.GoOneByOne, proofs.Open.{there_placed, last_highest, in_placed_map, in_removed_map, open_of, moved_as, kept_number}}
+use Rattle.terminal_core.proofs.{Indexed.{find_skips, find_meets, mapped_at}, Lined.{order, keys_total, same_key}, Whole.{contained, found_at}, Noted.key_parts}
 use Rattle.terminal_core.proofs.Changing.{new_place, new_slot, Comes, comes, brought, goes, shifts, numbered_from, found, turned_entered, turned_departed, entered_keeps, departed_keeps, either, placed_by, Turns, KeepsLines, turned_step}
-use Rattle.std.specs.Char.{is_ascii_uppercase}
-use Rattle.std.specs.Str.{bytes_eq}
-use Rattle.std.specs.Ordering.{eq_by_cmp}
-use Rattle.std.proofs.lemmas.Option.{same_Some, none-some}
-use Rattle.std.proofs.lemmas.List.Elements.{Contains-push_cases}
-use Rattle.box6346.specs.SlotName.{IsNamed}
-use Rattle.edi_messages.specs.Forms.{IsFormedEntry, IsFormedListing, IsFormedOrder}
-use Rattle.yard_core.specs.declared.plan.Block.{Block}
-use Rattle.yard_core.specs.declared.placements.Stowed.{Stowed}
-use Rattle.yard_core.specs.Plan.{IsPlan}
-use Rattle.yard_core.specs.FitsAndFree.{IsOpen}
-use Rattle.yard_core.proofs.Exact.{numbered}
-use Rattle.terminal_core.specs.Forms.{IsSource, IsFormedDeparture, IsFormedVisit, IsFormedLine, IsWellFormed}
-use Rattle.terminal_core.proofs.Lined.{order, keys_total, same_key}
-use Rattle.terminal_core.proofs.Whole.{contained, found_at}
-use Rattle.terminal_core.proofs.Noted.{key_parts}
-use Rattle.terminal_core.specs.OneByOne.{GoOneByOne}
 use Rattle.std.specs.FinMap as finite_map
-
--- ==== Applying: What the changes of a step find.
 
 -- ---- numbers
 

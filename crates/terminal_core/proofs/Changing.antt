@@ -1,49 +1,24 @@
 -- What the changes of a step make of the rows.
+use Rattle.std.{specs.{Prelude.{find, filter, ◌&&◌, not, ◌==◌}, Option.option_map, Str.bytes_eq, Map.update}, proofs.lemmas.Bool.{eq-eqb, ne_eqb}}
 use Rattle.std.proofs.Common.{◌≡◌, ℕ, ◌+◌, ◌≤◌, ◌<◌, List, [], ◌∷◌, ◌++◌, length, map, Bool, true, false, cond, Option, None, Some, Result, Ok, Err, is_some, is_none, refl, sym, ap, ◌∙◌, arith, ◌≢◌, ◌-◌, ◌%◌, inl}
-use Rattle.std.specs.Prelude.{find, filter, ◌&&◌, not, ◌==◌}
-use Rattle.std.proofs.lemmas.Bool.{eq-eqb, ne_eqb}
-use Rattle.std.specs.Option.{option_map}
-use Rattle.std.specs.Str.{bytes_eq}
-use Rattle.std.specs.Map.{update}
-use Rattle.box6346.specs.SizeCode.{length_of}
-use Rattle.box6346.specs.declared.box_number.BoxNumber.{BoxNumber}
-use Rattle.box6346.specs.declared.size_type.Length.{Length}
-use Rattle.box6346.specs.declared.slot.Slot.{Slot}
+use Rattle.box6346.specs.{SizeCode.length_of, declared.box_number.BoxNumber.BoxNumber, declared.size_type.Length.Length, declared.slot.Slot.Slot}
+use Rattle.box6346.specs.declared.size_type.Length.TheVariants.{Twenty, Forty}
 use Rattle.edi_syntax.specs.Moments.{CivilMoment}
-use Rattle.edi_messages.specs.Purposes.{CallContent}
-use Rattle.edi_messages.specs.Orders.{EntryContent, OrderContent, gate_in, gate_out, move, list_discharge, list_load, discharge, load}
-use Rattle.yard_core.specs.declared.plan.Block.{Block}
-use Rattle.yard_core.specs.YardMap.{Boxes, YardMap, yard_map, placement, placement_of, placement_if_any, stowed, in_bay, CoversAt, IsKind}
+use Rattle.edi_messages.specs.{Purposes.CallContent, Orders.{EntryContent, OrderContent, gate_in, gate_out, move, list_discharge, list_load, discharge, load}}
+use Rattle.yard_core.specs.{declared.plan.Block.Block, declared.placements.Placement.Placement, declared.placements.Stowed.Stowed, Plan.IsPlan}
+use Rattle.yard_core.specs.{YardMap.{Boxes, YardMap, yard_map, placement, placement_of, placement_if_any, stowed, in_bay, CoversAt, IsKind}, FitsAndFree.IsOpen}
 use Rattle.yard_core.specs.Decisions.{Refusal, present, yard_without, yard_without_at, yard_with_move, yard_with_move_at, unless_buried, with_misfit, with_slot as with_first_slot, misfit_of, first_fit, every_slot, blocker_of, is_same_slot}
-use Rattle.yard_core.specs.declared.placements.Placement.{Placement}
-use Rattle.yard_core.specs.declared.placements.Stowed.{Stowed}
-use Rattle.terminal_core.specs.declared.visits.Departure.{Departure}
-use Rattle.terminal_core.specs.declared.lines.LineState.{LineState}
-use Rattle.terminal_core.specs.declared.lines.LineState.TheVariants.{Pending, Done as LineIsDone}
-use Rattle.terminal_core.specs.declared.change.Outcome.{Outcome}
-use Rattle.terminal_core.specs.declared.change.Outcome.TheVariants.{Done, Gone, Listed, Refused}
-use Rattle.terminal_core.specs.declared.change.Reason.TheVariants.{AlreadyIn, NotIn, VisitLimit}
-use Rattle.terminal_core.specs.declared.lines.Side.{Side}
-use Rattle.terminal_core.specs.declared.lines.Side.TheVariants.{Load, Discharge}
-use Rattle.terminal_core.specs.declared.change.Source.{Source}
-use Rattle.terminal_core.specs.declared.change.Version.{Version}
-use Rattle.terminal_core.specs.declared.visits.Way.{Way}
-use Rattle.terminal_core.specs.declared.visits.Way.TheVariants.{Gate, Ship}
-use Rattle.terminal_core.specs.Rows.{VisitContent, ChangeContent, line_done}
+use Rattle.terminal_core.specs.{declared.visits.Departure.Departure, declared.lines.LineState.LineState, declared.change.Outcome.Outcome, Versions.spares_empty}
+use Rattle.terminal_core.specs.{declared.lines.LineState.TheVariants.{Pending, Done as LineIsDone}, declared.lines.Side.Side, declared.change.Source.Source}
+use Rattle.terminal_core.specs.{declared.change.Outcome.TheVariants.{Done, Gone, Listed, Refused}, declared.lines.Side.TheVariants.{Load, Discharge}}
+use Rattle.terminal_core.specs.{declared.change.Reason.TheVariants.{AlreadyIn, NotIn, VisitLimit}, declared.change.Version.Version, declared.visits.Way.Way}
+use Rattle.terminal_core.{specs.{declared.visits.Way.TheVariants.{Gate, Ship}, Rows.{VisitContent, ChangeContent, line_done}}, proofs.Whole.below_last}
 use Rattle.terminal_core.specs.State.{last_number, TerminalState, LineContent, Lines, line_key, line_of, is_in, is_open_visit, open_visit, AreNumbered, IsWhole}
-use Rattle.terminal_core.specs.Versions.{spares_empty}
 use Rattle.terminal_core.specs.Step.{StepResult, with_refusal, step_by, yard_with_entry, yard_with_entry_in, with_slot, is_full, visit_of, after_entry, after_entry_at, closed_visit, close_visit, number_of_visit, after_departure, after_departure_at, departure_by, after_move_at, after_listing_at, then_line_done_at, by_line, by_state}
 use Rattle.terminal_core.specs.Changes.{Standing, TerminalRows, standing_in, standing_of, rows_of, visit_with_departure, standing_elsewhere, with_line_done, rows_with, rows_with_all, IsNewPlace, IsNewSlot}
 use Rattle.terminal_core.proofs.Open.{same_bytes, in_placed_map, in_removed_map, there_placed, moved_as, and_true, closed_open, find_last, find_new, open_of}
 use Rattle.terminal_core.proofs.Indexed.{found_is, count_keeps, count_skips, find_skips, find_meets, some_of, none_there}
-use Rattle.std.proofs.lemmas.Option.{slice_get_within}
-use Rattle.box6346.specs.declared.size_type.Length.TheVariants.{Twenty, Forty}
-use Rattle.yard_core.specs.Plan.{IsPlan}
-use Rattle.yard_core.specs.FitsAndFree.{IsOpen}
-use Rattle.terminal_core.proofs.Whole.{below_last}
 use Rattle.std.specs.FinMap as finite_map
-
--- ==== Changing: What the changes of a step make of the rows.
 
 -- ---- what the yard decides
 

@@ -1,35 +1,18 @@
 -- What dropping leaves.
-use Rattle.std.proofs.lemmas.List.{take_more}
+use Rattle.std.specs.{Prelude.{filter, ◌&&◌, T, slice_get}, FinMap.Entries.below_all, Ordering.{eq_by_cmp, is_eq, is_lt}, declared.cmp.Ordering.Ordering}
+use Rattle.std.specs.{declared.cmp.Ordering.TheVariants.{Less, Equal, Greater}, Cmp.eq_by_cmp_equiv, Str.bytes_eq, Cmp.Lexicographic.same_text}
+use Rattle.std.{specs.{Map.{lookup, values_of}, Option.option_and_then}, proofs.{lemmas.List.take_more, lemmas.Option.{none-some, same_Some}}}
 use Rattle.std.proofs.Common.{◌≡◌, ◌<◌, ◌++◌, length, take, get_or, ℕ, ◌+◌, List, [], ◌∷◌, map, Bool, true, false, cond, Option, None, Some, refl, sym, ap, subst, ◌∙◌, ◌⊎◌, zero, suc, inl, inr, Contains, is_none, arith}
-use Rattle.std.specs.Prelude.{filter, ◌&&◌, T, slice_get}
-use Rattle.std.specs.FinMap.Entries.{below_all}
-use Rattle.std.specs.Ordering.{eq_by_cmp, is_eq, is_lt}
-use Rattle.std.specs.declared.cmp.Ordering.{Ordering}
-use Rattle.std.specs.declared.cmp.Ordering.TheVariants.{Less, Equal, Greater}
-use Rattle.std.specs.Cmp.{eq_by_cmp_equiv}
-use Rattle.std.specs.Str.{bytes_eq}
-use Rattle.std.specs.Cmp.Lexicographic.{same_text}
+use Rattle.std.proofs.lemmas.List.Elements.{Contains-push_cases, Contains-append_left, Contains-append_right}
 use Rattle.box6346.specs.declared.box_number.BoxNumber.{BoxNumber}
 use Rattle.edi_messages.specs.Purposes.{CallContent}
-use Rattle.terminal_core.specs.declared.lines.Side.{Side}
-use Rattle.terminal_core.specs.declared.lines.LineState.{LineState}
-use Rattle.terminal_core.specs.declared.lines.LineState.TheVariants.{Pending, Done}
-use Rattle.terminal_core.specs.Rows.{unlisted, VisitContent}
+use Rattle.terminal_core.specs.{declared.lines.Side.Side, declared.lines.LineState.LineState, declared.lines.LineState.TheVariants.{Pending, Done}}
+use Rattle.terminal_core.specs.{Rows.{unlisted, VisitContent}, Changes.{TerminalRows, rows_of, rows_with_all, AreApplicable}, Forms.IsWellFormed}
 use Rattle.terminal_core.specs.State.{TerminalState, LineContent, LineKey, Lines, line_key, line_of, side_code, IsWhole, AreOpenOf, is_open_visit}
-use Rattle.terminal_core.specs.Changes.{TerminalRows, rows_of, rows_with_all, AreApplicable}
-use Rattle.terminal_core.specs.Forms.{IsWellFormed}
 use Rattle.terminal_core.specs.Drop.{is_pending, is_on, container_in, is_open_on, open_containers, without_lines_of, dropped_lines, list_drop, unless_open_on}
-use Rattle.terminal_core.proofs.Lined.{order, keys_total, same_key, tied_self}
-use Rattle.terminal_core.proofs.Whole.{whole_listed, contained, found_at}
-use Rattle.std.specs.Map.{lookup, values_of}
-use Rattle.std.specs.Option.{option_and_then}
-use Rattle.std.proofs.lemmas.Option.{none-some, same_Some}
-use Rattle.std.proofs.lemmas.List.Elements.{Contains-push_cases, Contains-append_left, Contains-append_right}
-use Rattle.terminal_core.specs.Index.{AreIndexed, if_open}
+use Rattle.terminal_core.{specs.Index.{AreIndexed, if_open}, proofs.{Lined.{order, keys_total, same_key, tied_self}, Whole.{whole_listed, contained, found_at}}}
 use Rattle.terminal_core.proofs.Open.{same_self}
 use Rattle.std.specs.FinMap as finite_map
-
--- ==== Dropping: What dropping leaves.
 
 -- ---- keys
 
@@ -161,11 +144,6 @@ drop_applicable state call side = applies call side (finite_map.entries state.li
 abbrev is_gone : CallContent → Side → LineKey → List Entry → Bool
 is_gone call side key [] = false
 is_gone call side key (e ∷ es) = cond (is_open_on call side e) (cond (eq_by_cmp order key e.0) true (is_gone call side key es)) (is_gone call side key es)
-
-again : {A : Type 0} (a b : Bool) (o : Option A) → cond a None (cond b None o) ≡ cond b None (cond a None o)
-again true true o = refl
-again true false o = refl
-again false b o = refl
 
 none_again : {A : Type 0} (a b : Bool) (o : Option A) → cond b None (cond a None o) ≡ cond (cond a true b) None o
 none_again true true o = refl

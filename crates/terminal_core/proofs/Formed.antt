@@ -1,31 +1,15 @@
 -- The rows of a state as lists, and by their keys.
-use Rattle.std.proofs.Common.{◌≡◌, ℕ, ◌≤◌, List, map, Bool, true, false, Option, None, Some, is_some, refl, sym, ap, ◌∙◌, arith}
-use Rattle.std.specs.Prelude.{Contains, find, count_by, filter, length}
-use Rattle.std.specs.Option.{option_map}
-use Rattle.std.specs.Str.{bytes_eq}
-use Rattle.std.specs.Cmp.Lexicographic.{nat_list_cmp_total}
-use Rattle.std.proofs.lemmas.Option.{none-some}
-use Rattle.box6346.specs.declared.box_number.BoxNumber.{BoxNumber}
-use Rattle.yard_core.specs.declared.plan.Block.{Block}
-use Rattle.yard_core.specs.declared.placements.Placement.{Placement}
-use Rattle.yard_core.specs.declared.placements.Stowed.{Stowed}
-use Rattle.yard_core.specs.YardMap.{placement_of, placement_if_any}
-use Rattle.yard_core.proofs.Cells.{found_placed}
-use Rattle.terminal_core.specs.declared.lines.Listing.{Listing}
-use Rattle.terminal_core.specs.declared.change.Place.{Place}
-use Rattle.terminal_core.specs.declared.visits.Visit.{Visit}
-use Rattle.terminal_core.specs.Rows.{visit_content}
-use Rattle.terminal_core.specs.State.{TerminalState, is_open_visit, open_visit, stowed_by, IsWhole}
-use Rattle.terminal_core.specs.Step.{number_of_visit}
-use Rattle.terminal_core.specs.Listings.{lines_of}
-use Rattle.terminal_core.specs.Restoring.{Stands, ArePlacesOf, AreOnce, AreRowsOf}
-use Rattle.terminal_core.specs.Changes.{standing_in, standing_of, TerminalRows, rows_of}
-use Rattle.terminal_core.specs.RowForms.{standing_by, rows_by_key, ArePlacedOnce}
-use Rattle.terminal_core.proofs.Open.{same_bytes, same_self}
-use Rattle.terminal_core.proofs.Whole.{contained, found_at}
-use Rattle.terminal_core.proofs.Indexed.{found_is, is_found, some_of, one_passes, some_or_none}
-use Rattle.terminal_core.proofs.Changing.{placed_by, stands_of}
+use Rattle.std.specs.{Prelude.{Contains, find, count_by, filter, length}, Option.option_map, Str.bytes_eq, Cmp.Lexicographic.nat_list_cmp_total}
+use Rattle.std.proofs.{Common.{◌≡◌, ℕ, ◌≤◌, List, map, Bool, true, false, Option, None, Some, is_some, refl, sym, ap, ◌∙◌, arith}, lemmas.Option.none-some}
 use Rattle.std.proofs.lemmas.List.Sums.{length-filter}
+use Rattle.box6346.specs.declared.box_number.BoxNumber.{BoxNumber}
+use Rattle.yard_core.{specs.{declared.plan.Block.Block, declared.placements.Placement.Placement, declared.placements.Stowed.Stowed}, proofs.Cells.found_placed}
+use Rattle.yard_core.specs.YardMap.{placement_of, placement_if_any}
+use Rattle.terminal_core.specs.{declared.lines.Listing.Listing, declared.change.Place.Place, declared.visits.Visit.Visit, Rows.visit_content, Listings.lines_of}
+use Rattle.terminal_core.specs.{State.{TerminalState, is_open_visit, open_visit, stowed_by, IsWhole}, Step.number_of_visit}
+use Rattle.terminal_core.specs.{Restoring.{Stands, ArePlacesOf, AreOnce, AreRowsOf}, Changes.{standing_in, standing_of, TerminalRows, rows_of}}
+use Rattle.terminal_core.{specs.RowForms.{standing_by, rows_by_key, ArePlacedOnce}, proofs.{Open.{same_bytes, same_self}, Whole.{contained, found_at}}}
+use Rattle.terminal_core.proofs.{Indexed.{found_is, is_found, some_of, one_passes, some_or_none}, Changing.{placed_by, stands_of}}
 use Rattle.std.specs.FinMap as finite_map
 
 abbrev at_place : BoxNumber → Place → Bool

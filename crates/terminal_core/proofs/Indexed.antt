@@ -1,28 +1,16 @@
 -- The places of open visits, by their containers.
+use Rattle.std.specs.{Prelude.{slice_get, Contains, find, count_by, IsOk, OnOk, slice_set, filter, ◌&&◌, not}, List.{AllZip, each_same}, Array.AllZipBelow}
+use Rattle.std.{specs.{Str.bytes_eq, Map.lookup, Cmp.eq_by_cmp_equiv, Cmp.Lexicographic.nat_list_cmp_total}, proofs.lemmas.Bool.and_parts}
 use Rattle.std.proofs.Common.{◌≡◌, ℕ, ◌+◌, ◌<◌, ◌≤◌, zero, suc, List, [], ◌∷◌, ◌++◌, length, take, Bool, true, false, cond, Option, None, Some, is_some, refl, sym, ap, ◌∙◌, arith, get_or, map, Result, Ok, Err, is_none, subst, ◌⊎◌, inl, inr, ◌-◌}
-use Rattle.std.specs.Prelude.{slice_get, Contains, find, count_by, IsOk, OnOk, slice_set, filter, ◌&&◌, not}
 use Rattle.std.proofs.lemmas.Option.{same_Some, none-some, slice_get-get_or, slice_get_within}
 use Rattle.std.proofs.lemmas.List.Sums.{sum_by-cons, sum_by_push, sum_by_more_le, get_or-le-sum_by}
-use Rattle.terminal_core.proofs.Whole.{contained, found_at, closes, finds, row_at}
-use Rattle.std.specs.List.{AllZip, each_same}
-use Rattle.std.specs.Array.{AllZipBelow}
-use Rattle.std.specs.Str.{bytes_eq}
-use Rattle.std.specs.Map.{lookup}
-use Rattle.std.proofs.lemmas.Bool.{and_parts}
 use Rattle.std.proofs.lemmas.List.{take_more, map-append, length-map, length-take-le}
-use Rattle.box6346.specs.declared.box_number.BoxNumber.{BoxNumber}
-use Rattle.terminal_core.specs.declared.visits.Departure.{Departure}
-use Rattle.terminal_core.specs.declared.visits.Visit.{Visit}
-use Rattle.terminal_core.specs.Rows.{VisitContent, visit_content}
-use Rattle.terminal_core.specs.State.{is_open_visit}
-use Rattle.terminal_core.specs.Step.{closed_visit, number_of_visit}
-use Rattle.terminal_core.specs.Calls.{HasOneVisit}
-use Rattle.terminal_core.specs.Index.{AreIndexed}
+use Rattle.terminal_core.specs.{declared.visits.Departure.Departure, declared.visits.Visit.Visit, Rows.{VisitContent, visit_content}, State.is_open_visit}
+use Rattle.terminal_core.specs.{Step.{closed_visit, number_of_visit}, Calls.HasOneVisit, Index.AreIndexed, Counts.is_closed}
+use Rattle.terminal_core.proofs.Whole.{contained, found_at, closes, finds, row_at}
 use Rattle.terminal_core.proofs.Open.{same_bytes, same_self, closed_open, tied, in_removed, and_true, and_turned}
-use Rattle.std.specs.Cmp.{eq_by_cmp_equiv}
-use Rattle.std.specs.Cmp.Lexicographic.{nat_list_cmp_total}
+use Rattle.box6346.specs.declared.box_number.BoxNumber.{BoxNumber}
 use Rattle.yard_core.specs.YardMap.{Box, Boxes}
-use Rattle.terminal_core.specs.Counts.{is_closed}
 use Rattle.std.specs.FinMap as finite_map
 
 -- ==== Counted: How many of a list pass a test.

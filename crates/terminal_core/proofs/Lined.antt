@@ -1,64 +1,37 @@
 -- The lines of rows: where one is found, one more, and one that is done.
-use Rattle.std.proofs.Common.{◌≡◌, ℕ, ◌+◌, ◌≤◌, ◌<◌, List, [], ◌∷◌, ◌++◌, true, false, cond, Option, None, Some, Result, Ok, refl, sym, ap, subst, ◌∙◌, append-nil, append_assoc, zero, suc, length, map, Bool, arith, get_or, take, nat_lt, slice_index_or}
 use Rattle.std.specs.Option.{option_map}
-use Rattle.std.proofs.lemmas.Bool.{lt-leb, le-leb, leb-true, leb-false, ltb-true, ltb-false}
-use Rattle.box6346.specs.declared.box_number.BoxNumber.{BoxNumber}
-use Rattle.box6346.specs.declared.slot.Slot.{Slot}
+use Rattle.std.specs.Prelude.{slice_get, slice_set, ◌&&◌, string_bytes, count_by, find}
+use Rattle.std.specs.declared.cmp.Ordering.{Ordering}
+use Rattle.std.specs.Map.{lookup}
+use Rattle.std.specs.{Ordering.{nat_cmp, eq_by_cmp, is_eq, ordering_then}, declared.cmp.Ordering.TheVariants.{Less, Equal, Greater}, Str.bytes_eq}
+use Rattle.std.{specs.{Cmp.{IsTotalOrder, eq_by_cmp_equiv}, Cmp.Lexicographic.{slice_cmp, nat_list_cmp_total, texts_ties}}, proofs.lemmas.Cmp.lists_total}
+use Rattle.std.proofs.Common.{◌≡◌, ℕ, ◌+◌, ◌≤◌, ◌<◌, List, [], ◌∷◌, ◌++◌, true, false, cond, Option, None, Some, Result, Ok, refl, sym, ap, subst, ◌∙◌, append-nil, append_assoc, zero, suc, length, map, Bool, arith, get_or, take, nat_lt, slice_index_or}
+use Rattle.std.proofs.lemmas.Bool.{lt-leb, ltb-true, ltb-false}
+use Rattle.std.proofs.lemmas.Option.{slice_get-get_or, slice_get_within, same_Some}
+use Rattle.std.proofs.lemmas.List.{map-append, take_more}
+use Rattle.box6346.specs.{declared.box_number.BoxNumber.BoxNumber, declared.slot.Slot.Slot}
 use Rattle.edi_syntax.specs.Moments.{CivilMoment}
-use Rattle.edi_messages.specs.Purposes.{CallContent}
-use Rattle.edi_messages.specs.Orders.{EntryContent}
-use Rattle.yard_core.specs.YardMap.{YardMap}
-use Rattle.yard_core.specs.Decisions.{Refusal}
-use Rattle.yard_core.specs.Calls.{Removes, Shifts, RefusesRemove, RefusesShift}
-use Rattle.yard_core.specs.Exact.{IsYard}
-use Rattle.yard_core.specs.declared.placements.Placement.{Placement}
-use Rattle.yard_core.specs.declared.placements.Stowed.{Stowed}
-use Rattle.yard_core.specs.declared.yard.YardFault.{YardFault}
+use Rattle.edi_messages.specs.{Purposes.CallContent, Orders.EntryContent, Owned.call_content}
+use Rattle.yard_core.specs.{YardMap.YardMap, Decisions.Refusal, Calls.{Removes, Shifts, RefusesRemove, RefusesShift}, Exact.IsYard}
+use Rattle.yard_core.specs.{declared.placements.Placement.Placement, declared.placements.Stowed.Stowed, declared.yard.YardFault.YardFault}
 use Rattle.yard_core.proofs.Exact.{remove_is_decided_lem, shift_is_decided_lem}
-use Rattle.terminal_core.specs.declared.change.Outcome.{Outcome}
-use Rattle.terminal_core.specs.declared.change.Outcome.TheVariants.{Done, Gone, Listed, Refused}
-use Rattle.terminal_core.specs.declared.change.Reason.{Reason}
-use Rattle.terminal_core.specs.declared.change.Reason.TheVariants.{AlreadyIn, NotIn, VisitLimit}
-use Rattle.terminal_core.specs.declared.lines.LineState.{LineState}
-use Rattle.terminal_core.specs.declared.lines.LineState.TheVariants.{Pending, Done as LineIsDone}
-use Rattle.terminal_core.specs.declared.lines.Side.{Side}
-use Rattle.terminal_core.specs.declared.lines.Side.TheVariants.{Load, Discharge}
-use Rattle.terminal_core.specs.declared.change.Source.{Source}
-use Rattle.terminal_core.specs.declared.visits.Way.{Way}
-use Rattle.terminal_core.specs.declared.visits.Way.TheVariants.{Ship}
+use Rattle.terminal_core.specs.{declared.change.Outcome.Outcome, declared.change.Outcome.TheVariants.{Done, Gone, Listed, Refused}, declared.lines.Side.Side}
+use Rattle.terminal_core.specs.{declared.change.Reason.Reason, declared.change.Reason.TheVariants.{AlreadyIn, NotIn, VisitLimit}, declared.change.Source.Source}
+use Rattle.terminal_core.specs.{declared.lines.LineState.LineState, declared.lines.LineState.TheVariants.{Pending, Done as LineIsDone}, declared.visits.Way.Way}
+use Rattle.terminal_core.specs.{declared.lines.Side.TheVariants.{Load, Discharge}, declared.visits.Way.TheVariants.Ship, Versions.newest, Restoring.AreOnce}
 use Rattle.terminal_core.specs.Rows.{VisitContent, ChangeContent, visit_opened, visit_closed, placed_at, moved_to, removed_from, line_done, visit_content}
 use Rattle.terminal_core.specs.State.{last_number, TerminalState, LineContent, Lines, is_in, line_key, line_of, IsWhole, open_visit, LineKey, side_code, is_open_visit}
-use Rattle.terminal_core.specs.Versions.{newest}
 use Rattle.terminal_core.specs.Step.{StepResult, step_with, with_refusal, is_full, after_entry, after_entry_at, visit_of, yard_with_entry, after_departure, after_departure_at, departure_by, close_visit, number_of_visit, after_move, after_move_at, with_line, step_discharge, step_load, then_line_done, then_line_done_at, by_line, by_state}
-use Rattle.terminal_core.specs.Calls.{Follows, IsReasonFor, Settles, is_refused}
-use Rattle.std.specs.Prelude.{slice_get, slice_set, nat_le, ◌&&◌, string_bytes, count_by, find}
-use Rattle.std.proofs.lemmas.Option.{slice_get-get_or, slice_get_within, same_Some}
-use Rattle.std.specs.Ordering.{nat_cmp, eq_by_cmp, is_eq, ordering_then}
-use Rattle.std.specs.declared.cmp.Ordering.{Ordering}
-use Rattle.std.specs.declared.cmp.Ordering.TheVariants.{Less, Equal, Greater}
-use Rattle.std.specs.Cmp.{IsTotalOrder, eq_by_cmp_equiv}
-use Rattle.std.specs.Cmp.Lexicographic.{slice_cmp, nat_list_cmp_total, texts_ties}
-use Rattle.std.proofs.lemmas.Cmp.{lists_total}
-use Rattle.std.proofs.lemmas.List.{map-append, take_more}
-use Rattle.std.specs.Str.{bytes_eq}
-use Rattle.terminal_core.specs.declared.lines.Listing.{Listing}
-use Rattle.terminal_core.specs.Listings.{key_of, line_content, line_entry, lines_of, is_line, is_side, NoneBefore, IsFirstAt}
-use Rattle.edi_messages.specs.Owned.{call_content}
-use Rattle.terminal_core.specs.Restoring.{AreOnce}
+use Rattle.terminal_core.specs.{Calls.{Follows, IsReasonFor, Settles, is_refused}, declared.lines.Listing.Listing, declared.visits.Visit.Visit}
+use Rattle.terminal_core.specs.{Listings.{key_of, line_content, line_entry, lines_of, is_line, is_side, NoneBefore, IsFirstAt}, Index.AreIndexed}
 use Rattle.terminal_core.proofs.Whole.{contained, row_at}
 use Rattle.terminal_core.proofs.Indexed.{counts, counted_more, some_counted, none_before_one, none_counted, one_if, none_if, is_found, found_is, some_of, some_or_none}
-use Rattle.std.specs.Map.{lookup}
-use Rattle.terminal_core.specs.declared.visits.Visit.{Visit}
-use Rattle.terminal_core.specs.Index.{AreIndexed}
 use Rattle.std.specs.FinMap as finite_map
 
 -- ==== Steps: What was done is what the order does.
 
 pub follows : (a b : StepResult) (now : TerminalState) (answer : Outcome) (old new : List ChangeContent) → a ≡ b → Follows b now answer old new → Follows a now answer old new
 follows a b now answer old new e f = record { state = f.state ∙ sym (ap (λ s. s.state) e); outcome = f.outcome ∙ sym (ap (λ s. s.outcome) e); changes = f.changes ∙ sym (ap (λ s. old ++ s.changes) e) }
-
-pub nothing_done : (state : TerminalState) (reason : Reason) (changes : List ChangeContent) → Follows (with_refusal state reason) state (Refused reason) changes changes
-nothing_done state reason changes = record { state = refl; outcome = refl; changes = sym (append-nil changes) }
 
 -- the yard stayed
 yard_stays : (state : TerminalState) (y : YardMap) (reason : Reason) (changes : List ChangeContent) → y ≡ state.yard → Follows (with_refusal state reason) (record state { yard = y }) (Refused reason) changes changes
@@ -68,9 +41,6 @@ yard_stays state y reason changes e = record { state = ap (λ (v : YardMap). rec
 
 not_full : (state : TerminalState) → last_number state.visits < state.limit → is_full state ≡ false
 not_full state room = lt-leb state.limit (last_number state.visits) room
-
-full : (state : TerminalState) → state.limit ≤ last_number state.visits → is_full state ≡ true
-full state none = le-leb state.limit (last_number state.visits) none
 
 entered_is : (state : TerminalState) (way : Way) (source : Source) (entry : EntryContent) (r : Result (YardMap × Slot) Refusal) → last_number state.visits < state.limit → yard_with_entry newest state.yard entry ≡ r
     → after_entry newest state way source entry ≡ after_entry_at state way source entry r
@@ -320,20 +290,6 @@ pub line_added : (rows : List Listing) (line : Listing) → finite_map.get (line
 line_added rows line none =
     ap finite_map.from_entries (map-append line_entry rows (line ∷ []))
     ∙ finite_map.from_entries_push keys_total keys_apart (map line_entry rows) (key_of line) (line_content line) (sym (finite_map.get-from_entries keys_total (map line_entry rows) (key_of line)) ∙ none)
-
--- one place further
-pub none_before : (call : CallContent) (side : Side) (container : BoxNumber) (rows : List Listing) (place : ℕ) (row : Listing) → slice_get rows place ≡ Some row → is_line call side container row ≡ false
-    → NoneBefore call side container rows place → NoneBefore call side container rows (place + 1)
-none_before call side container rows place row at isnt none k other low there =
-    elim (nat_le place k) as (λ w. nat_le place k ≡ w → is_line call side container other ≡ false) [
-      | true ↦ λ e.
-          let far : place ≤ k = leb-true place k e in
-          let same : place ≡ k = omega arith in
-          let met : Some row ≡ Some other = sym at ∙ ap (slice_get rows) same ∙ there in
-          let is : row ≡ other = cc in
-          sym (ap (is_line call side container) is) ∙ isnt
-      | false ↦ λ e. let near : k < place = leb-false place k e in none k other near there
-    ] refl
 
 -- ---- what the calls on lists do
 

@@ -1,44 +1,21 @@
 -- Open visits among those that stand.
+use Rattle.std.specs.{Prelude.{◌&&◌, ◌||◌, not, find, filter}, Ordering.{nat_cmp, eq_by_cmp}, Cmp.eq_by_cmp_equiv, Str.bytes_eq, Option.option_map}
+use Rattle.std.{specs.Cmp.Lexicographic.{slice_cmp, nat_list_cmp_total, texts_ties}, proofs.{lemmas.Bool.and_parts, lemmas.Option.{same_Some, none-some}}}
 use Rattle.std.proofs.Common.{◌≡◌, ◌≤◌, List, Bool, true, false, cond, Option, None, Some, is_some, refl, sym, ap, subst, ◌∙◌, arith, ℕ, ◌+◌, ◌<◌, [], ◌∷◌, ◌++◌, length, map, is_none, append_assoc}
-use Rattle.std.specs.Prelude.{◌&&◌, ◌||◌, not, find, filter}
-use Rattle.std.specs.Ordering.{nat_cmp, eq_by_cmp}
-use Rattle.std.specs.Cmp.{eq_by_cmp_equiv}
-use Rattle.std.specs.Cmp.Lexicographic.{slice_cmp, nat_list_cmp_total, texts_ties}
-use Rattle.std.specs.Str.{bytes_eq}
-use Rattle.box6346.specs.declared.slot.Slot.{Slot}
-use Rattle.yard_core.specs.declared.plan.Block.{Block}
-use Rattle.yard_core.specs.Decisions.{Refusal, misfit_of, yard_with, yard_with_first_fit}
-use Rattle.yard_core.specs.FitsAndFree.{Stands, IsOpen}
-use Rattle.yard_core.specs.Plan.{IsPlan, InPlan}
-use Rattle.yard_core.specs.YardMap.{Box, Boxes, placement_if_any, placement_of, Covers, YardMap, placement, stowed}
-use Rattle.yard_core.specs.declared.placements.Placement.{Placement}
-use Rattle.yard_core.specs.declared.placements.Stowed.{Stowed}
-use Rattle.yard_core.proofs.Cells.{same_box, get-inserted, found_placed, block_at, covered_tier}
-use Rattle.yard_core.proofs.Deciding.{Judges, misfit_judges}
-use Rattle.std.proofs.lemmas.Bool.{and_parts}
-use Rattle.box6346.specs.declared.box_number.BoxNumber.{BoxNumber}
-use Rattle.terminal_core.specs.declared.visits.Departure.{Departure}
-use Rattle.terminal_core.specs.Rows.{VisitContent, visit_content, change_content, visit_opened, placed_at}
-use Rattle.terminal_core.specs.State.{is_open_visit, AreNumbered, last_from, TerminalState, is_in, open_visit, stowed_by, IsAsTold, IsWhole, last_number}
-use Rattle.terminal_core.specs.Step.{closed_visit, yard_with_entry_in, with_slot, opened_visit}
-use Rattle.std.specs.Option.{option_map}
-use Rattle.std.proofs.lemmas.Option.{same_Some, none-some}
-use Rattle.box6346.specs.SizeCode.{length_of}
-use Rattle.box6346.specs.declared.size_type.SizeType.{SizeType}
-use Rattle.box6346.specs.declared.size_type.Length.{Length}
-use Rattle.edi_messages.specs.Orders.{EntryContent}
-use Rattle.yard_core.specs.Calls.{Places, PlacesFirst, RefusesPlace, RefusesFirst}
-use Rattle.yard_core.specs.Exact.{IsYard}
-use Rattle.yard_core.specs.declared.yard.YardFault.{YardFault}
-use Rattle.yard_core.proofs.Exact.{place_is_decided_lem, place_first_is_decided_lem}
-use Rattle.terminal_core.specs.declared.change.Reason.{Reason}
-use Rattle.terminal_core.specs.Versions.{newest}
-use Rattle.terminal_core.specs.Calls.{IsReasonFor, Settles, IsUnsettled}
 use Rattle.std.proofs.lemmas.List.{map-append}
-use Rattle.terminal_core.specs.declared.change.Change.{Change}
-use Rattle.terminal_core.specs.declared.change.Source.{Source}
-use Rattle.terminal_core.specs.declared.visits.Visit.{Visit}
-use Rattle.terminal_core.specs.declared.visits.Way.{Way}
+use Rattle.box6346.specs.{declared.slot.Slot.Slot, declared.box_number.BoxNumber.BoxNumber, SizeCode.length_of, declared.size_type.SizeType.SizeType}
+use Rattle.box6346.specs.declared.size_type.Length.{Length}
+use Rattle.yard_core.specs.{declared.plan.Block.Block, Decisions.{Refusal, misfit_of, yard_with, yard_with_first_fit}, FitsAndFree.{Stands, IsOpen}}
+use Rattle.yard_core.specs.{Plan.{IsPlan, InPlan}, YardMap.{Box, Boxes, placement_if_any, placement_of, Covers, YardMap, placement, stowed}, Exact.IsYard}
+use Rattle.yard_core.specs.{declared.placements.Placement.Placement, declared.placements.Stowed.Stowed, Calls.{Places, PlacesFirst, RefusesPlace, RefusesFirst}}
+use Rattle.yard_core.{specs.declared.yard.YardFault.YardFault, proofs.Cells.{same_box, get-inserted, found_placed, block_at, covered_tier}}
+use Rattle.yard_core.proofs.{Deciding.{Judges, misfit_judges}, Exact.{place_is_decided_lem, place_first_is_decided_lem}}
+use Rattle.terminal_core.specs.{declared.visits.Departure.Departure, Rows.{VisitContent, visit_content, change_content, visit_opened, placed_at}}
+use Rattle.terminal_core.specs.State.{is_open_visit, AreNumbered, last_from, TerminalState, is_in, open_visit, stowed_by, IsAsTold, IsWhole, last_number}
+use Rattle.terminal_core.specs.{Step.{closed_visit, yard_with_entry_in, with_slot, opened_visit}, declared.change.Reason.Reason, Versions.newest}
+use Rattle.terminal_core.specs.{Calls.{IsReasonFor, Settles, IsUnsettled}, declared.change.Change.Change, declared.change.Source.Source}
+use Rattle.terminal_core.specs.{declared.visits.Visit.Visit, declared.visits.Way.Way}
+use Rattle.edi_messages.specs.Orders.{EntryContent}
 use Rattle.std.specs.FinMap as finite_map
 use Rattle.terminal_core.specs.declared.change.Change.TheVariants as change
 

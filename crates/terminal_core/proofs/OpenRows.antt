@@ -1,28 +1,15 @@
 -- The open lines of a list, as rows have them.
+use Rattle.std.specs.{Prelude.{filter, ◌&&◌, ◌||◌, T, IsSorted, count_by, string_bytes}, List.list_any, Option.option_map_or, Str.bytes_eq}
+use Rattle.std.specs.{FinMap.Entries.below_all, Ordering.{nat_cmp, eq_by_cmp, is_eq, is_lt, ordering_reverse}, declared.cmp.Ordering.Ordering}
+use Rattle.std.specs.{declared.cmp.Ordering.TheVariants.{Less, Equal, Greater}, Cmp.{eq_by_cmp_equiv, IsStrictWeakOrder}, List.Sorted.IsPermutation as IsMoved}
+use Rattle.std.{specs.Cmp.Lexicographic.{slice_cmp, nat_list_cmp_total, texts_ties}, proofs.lemmas.List.Sums.sum_by-cons}
 use Rattle.std.proofs.Common.{◌≡◌, ℕ, suc, ◌+◌, ◌<◌, ◌≤◌, List, [], ◌∷◌, length, map, get_or, Bool, true, false, cond, Option, Some, refl, sym, ap, ◌∙◌, arith}
-use Rattle.std.specs.Prelude.{filter, ◌&&◌, ◌||◌, T, IsSorted, count_by, string_bytes}
-use Rattle.std.specs.List.{list_any}
-use Rattle.std.specs.Option.{option_map_or}
-use Rattle.std.specs.Str.{bytes_eq}
-use Rattle.std.specs.FinMap.Entries.{below_all}
-use Rattle.std.specs.Ordering.{nat_cmp, eq_by_cmp, is_eq, is_lt, ordering_reverse}
-use Rattle.std.specs.declared.cmp.Ordering.{Ordering}
-use Rattle.std.specs.declared.cmp.Ordering.TheVariants.{Less, Equal, Greater}
-use Rattle.std.specs.Cmp.{eq_by_cmp_equiv, IsStrictWeakOrder}
-use Rattle.std.specs.Cmp.Lexicographic.{slice_cmp, nat_list_cmp_total, texts_ties}
-use Rattle.std.specs.List.Sorted.{IsPermutation as IsMoved}
-use Rattle.std.proofs.lemmas.List.Sums.{sum_by-cons}
 use Rattle.std.proofs.lemmas.List.Sorted.{sum_by-IsPermutation, list_any-IsPermutation, sorted_far}
 use Rattle.box6346.specs.declared.box_number.BoxNumber.{BoxNumber}
 use Rattle.edi_messages.specs.Purposes.{CallContent}
-use Rattle.terminal_core.specs.declared.lines.Listing.{Listing}
-use Rattle.terminal_core.specs.declared.lines.Side.{Side}
-use Rattle.terminal_core.specs.State.{LineContent, Lines, line_key}
-use Rattle.terminal_core.specs.Listings.{line_content, line_entry, lines_of, is_line, is_side, key_of}
-use Rattle.terminal_core.specs.Drop.{is_pending, is_open_row, open_rows_of, open_containers}
-use Rattle.terminal_core.specs.Restoring.{AreOnce}
-use Rattle.terminal_core.proofs.Lined.{order, keys_total, line_tied}
-use Rattle.terminal_core.proofs.Rising.{one_list, open_are}
+use Rattle.terminal_core.specs.{declared.lines.Listing.Listing, declared.lines.Side.Side, State.{LineContent, Lines, line_key}, Restoring.AreOnce}
+use Rattle.terminal_core.{specs.Listings.{line_content, line_entry, lines_of, is_line, is_side, key_of}, proofs.Lined.{order, keys_total, line_tied}}
+use Rattle.terminal_core.{specs.Drop.{is_pending, is_open_row, open_rows_of, open_containers}, proofs.Rising.{one_list, open_are}}
 use Rattle.std.specs.FinMap as finite_map
 
 abbrev by_text : List ℕ → List ℕ → Ordering
@@ -46,9 +33,6 @@ none_any p (x ∷ xs) e = by (p x) refl (none_any p xs)
 module _ (call : CallContent) (side : Side) (b : BoxNumber) where
   pub pending_of : Option LineContent → Bool
   pending_of o = option_map_or (λ (l : LineContent). is_pending l.state) o false
-
-  on_row : Listing → Bool
-  on_row row = is_side row.side side && (bytes_eq (string_bytes row.call.voyage) call.voyage && bytes_eq (string_bytes row.call.vessel) call.vessel)
 
   parts : (x s v w p : Bool) → ((x && (s && (v && (w && p)))) ≡ ((((x && s) && v) && w) && p))
   parts true true true true p = refl

@@ -1,46 +1,24 @@
 -- Places that are taken one after another, in the order of their tiers.
+use Rattle.std.specs.{Prelude.{Contains, count_by, slice_get, find, filter, ◌&&◌}, List.Sorted.{IsPermutation, IsNonDecreasingBy}, Str.bytes_eq}
+use Rattle.std.{specs.Cmp.Lexicographic.nat_list_cmp_total, proofs.{lemmas.Bool.{cases_lt, and_parts}, lemmas.Option.{none-some, same_Some}}}
 use Rattle.std.proofs.Common.{◌≡◌, ◌≢◌, ℕ, ◌+◌, ◌-◌, ◌<◌, ◌≤◌, List, [], ◌∷◌, ◌++◌, length, take, true, false, cond, Option, None, Some, is_some, refl, sym, ap, ◌∙◌, arith, subst, get_or, All, inl, inr, map, is_none}
-use Rattle.std.specs.Prelude.{Contains, count_by, slice_get, find, filter, ◌&&◌}
-use Rattle.std.specs.List.Sorted.{IsPermutation, IsNonDecreasingBy}
-use Rattle.std.specs.Str.{bytes_eq}
-use Rattle.std.proofs.lemmas.Bool.{cases_lt, and_parts}
-use Rattle.std.proofs.lemmas.Option.{none-some, same_Some}
-use Rattle.std.proofs.lemmas.List.{take_more, get_or-take, get_or_default, length-take-le}
+use Rattle.std.proofs.{lemmas.List.{take_more, get_or-take, get_or_default, length-take-le}, lemmas.List.Sums.length-filter}
 use Rattle.std.proofs.lemmas.List.Elements.{Contains-append_left, Contains-push, Contains-push_cases}
 use Rattle.std.proofs.lemmas.List.Sorted.{IsPermutation-sym, Contains-permutation, sum_by-IsPermutation}
-use Rattle.box6346.specs.declared.size_type.Length.{Length}
-use Rattle.box6346.specs.declared.size_type.Length.TheVariants.{Twenty, Forty}
-use Rattle.box6346.specs.declared.slot.Slot.{Slot}
+use Rattle.box6346.specs.{declared.size_type.Length.Length, declared.size_type.Length.TheVariants.{Twenty, Forty}, declared.slot.Slot.Slot}
 use Rattle.box6346.specs.declared.box_number.BoxNumber.{BoxNumber}
-use Rattle.yard_core.specs.declared.plan.Block.{Block}
-use Rattle.yard_core.specs.declared.placements.Placement.{Placement}
-use Rattle.yard_core.specs.declared.placements.Stowed.{Stowed}
-use Rattle.yard_core.specs.declared.yard.YardFault.{YardFault}
-use Rattle.yard_core.specs.Plan.{IsSized, IsPlan}
-use Rattle.yard_core.specs.YardMap.{Box, Boxes, YardMap, placement, placement_of, placement_if_any, in_bay, below}
-use Rattle.yard_core.specs.SoundYard.{HasBox, IsCarried, IsSound}
-use Rattle.yard_core.specs.FitsAndFree.{IsOpen}
-use Rattle.yard_core.specs.Calls.{RefusesPutBack}
+use Rattle.yard_core.specs.{declared.plan.Block.Block, declared.placements.Placement.Placement, declared.placements.Stowed.Stowed, Plan.{IsSized, IsPlan}}
+use Rattle.yard_core.specs.{declared.yard.YardFault.YardFault, YardMap.{Box, Boxes, YardMap, placement, placement_of, placement_if_any, in_bay, below}}
+use Rattle.yard_core.{specs.{SoundYard.{HasBox, IsCarried, IsSound}, FitsAndFree.IsOpen, Calls.RefusesPutBack}, proofs.Placings.misfits_not_open}
 use Rattle.yard_core.proofs.Cells.{box_cases, get-inserted, get-others, found_placed, block_at}
-use Rattle.yard_core.proofs.Placings.{misfits_not_open}
-use Rattle.terminal_core.specs.declared.restoring.RestoreFault.{RestoreFault}
-use Rattle.terminal_core.specs.declared.restoring.RestoreFault.TheVariants.{Unsound, Memory}
-use Rattle.terminal_core.specs.declared.change.Place.{Place}
-use Rattle.terminal_core.specs.Rows.{VisitContent, visit_content}
-use Rattle.terminal_core.specs.State.{stowed_by, AreNumbered, TerminalState, Lines, is_open_visit, last_number, IsWhole}
+use Rattle.terminal_core.specs.{declared.restoring.RestoreFault.RestoreFault, declared.restoring.RestoreFault.TheVariants.{Unsound, Memory}, Listings.lines_of}
+use Rattle.terminal_core.specs.{declared.change.Place.Place, Rows.{VisitContent, visit_content}, declared.lines.Listing.Listing, declared.visits.Visit.Visit}
+use Rattle.terminal_core.{specs.State.{stowed_by, AreNumbered, TerminalState, Lines, is_open_visit, last_number, IsWhole}, proofs.Open.{same_bytes, same_self}}
 use Rattle.terminal_core.specs.Restoring.{Names, Stands, ArePlacesOf, IsPut, RefusesPut, RefusesPlaces, cause_of, AreNamed, AreOnce, AreRowsOf, IsYardOf, RefusesYard, without_lines}
-use Rattle.terminal_core.proofs.Open.{same_bytes, same_self}
 use Rattle.terminal_core.proofs.Whole.{contained, one_named, found_at, same_index, whole_listed}
 use Rattle.terminal_core.proofs.Indexed.{counted_more, some_counted, none_before_one, none_counted, counts, one_if, none_if, some_or_none, same_tests, some_of, one_passes, at_most_one, is_found, found_is}
-use Rattle.std.specs.Cmp.Lexicographic.{nat_list_cmp_total}
-use Rattle.std.proofs.lemmas.List.Sums.{length-filter}
-use Rattle.terminal_core.specs.declared.lines.Listing.{Listing}
-use Rattle.terminal_core.specs.declared.visits.Visit.{Visit}
-use Rattle.terminal_core.specs.Listings.{lines_of}
 use Rattle.std.specs.FinMap as finite_map
 use Rattle.yard_core.specs.declared.yard.YardFault.TheVariants as yard
-
--- ==== Placing: Places that are taken one after another, in the order of their tiers.
 
 -- ---- a yard that lacks only boxes as high as this one, or higher
 

@@ -1,53 +1,27 @@
 -- The lines of rows of which one is taken away, and where they are said to stand.
+use Rattle.std.{specs.{Prelude.{◌&&◌, not, slice_get, ◌==◌}, Ordering.eq_by_cmp}, proofs.lemmas.Bool.{le-leb, eqb-true, eqb-false, cases_eq, cases_order}}
 use Rattle.std.proofs.Common.{◌≡◌, ℕ, ◌<◌, List, length, replicate, ◌*◌, Bool, true, false, cond, [], Option, None, Some, is_some, Result, Ok, Err, refl, sym, ap, ◌∙◌, arith, subst, nat_le, ◌≢◌, ◌+◌, ◌-◌, zero, suc, ◌∷◌, map, get_or, inl, inr}
-use Rattle.std.specs.Prelude.{◌&&◌, not, slice_get, ◌==◌}
-use Rattle.std.proofs.lemmas.Bool.{le-leb, eqb-true, eqb-false, cases_eq, cases_order}
 use Rattle.std.proofs.lemmas.Option.{same_Some, none-some, slice_get_within, get_or_from_slice_get, slice_get-get_or}
-use Rattle.box6346.specs.SizeCode.{length_of}
-use Rattle.box6346.specs.declared.box_number.BoxNumber.{BoxNumber}
-use Rattle.box6346.specs.declared.size_type.Length.{Length}
-use Rattle.box6346.specs.declared.slot.Slot.{Slot}
+use Rattle.box6346.specs.{SizeCode.length_of, declared.box_number.BoxNumber.BoxNumber, declared.size_type.Length.Length, declared.slot.Slot.Slot}
 use Rattle.edi_syntax.specs.Moments.{CivilMoment}
-use Rattle.edi_messages.specs.Purposes.{CallContent}
-use Rattle.edi_messages.specs.Orders.{EntryContent, OrderContent, gate_in, gate_out, move, list_discharge, list_load, discharge, load}
-use Rattle.yard_core.specs.declared.plan.Block.{Block}
-use Rattle.yard_core.specs.declared.placements.Placement.{Placement}
-use Rattle.yard_core.specs.declared.placements.Stowed.{Stowed}
-use Rattle.yard_core.specs.Calls.{PutsBack}
-use Rattle.yard_core.specs.Decisions.{Refusal, present, misfit_of, first_fit, blocker_of, unless_buried, with_misfit, with_slot as with_first_slot, yard_without, yard_without_at, yard_with_move, yard_with_move_at, is_same_slot}
-use Rattle.yard_core.specs.FitsAndFree.{Stands, IsFree}
-use Rattle.yard_core.specs.Plan.{IsPlan}
-use Rattle.yard_core.specs.SoundYard.{IsSound}
-use Rattle.yard_core.specs.YardMap.{Boxes, YardMap, yard_map, placement, placement_of, placement_if_any, stowed}
-use Rattle.yard_core.proofs.Cells.{Drops-remove, insert-remove, get-removed, IsSound-dropped}
-use Rattle.yard_core.proofs.Deciding.{Blocks, blocker_tells}
-use Rattle.yard_core.proofs.Placings.{stands_open, kept_empty}
-use Rattle.terminal_core.specs.declared.visits.Departure.{Departure}
-use Rattle.terminal_core.specs.declared.lines.LineState.{LineState}
-use Rattle.terminal_core.specs.declared.lines.LineState.TheVariants.{Pending, Done as LineIsDone}
-use Rattle.terminal_core.specs.declared.change.Outcome.{Outcome}
-use Rattle.terminal_core.specs.declared.change.Outcome.TheVariants.{Done, Gone, Listed, Refused}
-use Rattle.terminal_core.specs.declared.change.Reason.TheVariants.{AlreadyIn, NotIn, VisitLimit}
-use Rattle.terminal_core.specs.declared.lines.Side.{Side}
-use Rattle.terminal_core.specs.declared.lines.Side.TheVariants.{Load, Discharge}
-use Rattle.terminal_core.specs.declared.change.Source.{Source}
-use Rattle.terminal_core.specs.declared.change.Version.{Version}
-use Rattle.terminal_core.specs.declared.visits.Way.{Way}
-use Rattle.terminal_core.specs.declared.visits.Way.TheVariants.{Gate, Ship}
-use Rattle.terminal_core.specs.State.{last_number, TerminalState, LineContent, line_of, is_in, empty_state, IsWhole, LineKey, Lines, line_key}
-use Rattle.terminal_core.specs.Versions.{spares_empty}
-use Rattle.terminal_core.specs.Step.{StepResult, with_refusal, step_by, yard_with_entry, yard_with_entry_in, with_slot, is_full, visit_of, after_entry, after_entry_at, after_departure, after_departure_at, departure_by, after_move_at, after_listing_at, then_line_done_at, by_line, by_state}
-use Rattle.terminal_core.proofs.Open.{open_of, moved_as}
-use Rattle.terminal_core.proofs.Changing.{Comes, comes, brought, goes, shifts, either}
-use Rattle.terminal_core.proofs.Indexed.{none_there}
-use Rattle.terminal_core.proofs.Whole.{whole_empty, whole_listed, whole_entered, whole_departed, whole_moved}
-use Rattle.std.specs.Ordering.{eq_by_cmp}
+use Rattle.edi_messages.specs.{Purposes.CallContent, Orders.{EntryContent, OrderContent, gate_in, gate_out, move, list_discharge, list_load, discharge, load}}
 use Rattle.edi_messages.specs.Owned.{call_content}
-use Rattle.terminal_core.specs.declared.lines.Listing.{Listing}
-use Rattle.terminal_core.specs.Listings.{key_of, line_content, line_entry, lines_of, IsFirstAt}
-use Rattle.terminal_core.specs.LineIndexes.{AllIndexes, index_in, is_same_line, NotesIndex, AreNoted, IsWithout}
+use Rattle.yard_core.specs.{declared.plan.Block.Block, declared.placements.Placement.Placement, declared.placements.Stowed.Stowed, Calls.PutsBack, Plan.IsPlan}
+use Rattle.yard_core.specs.Decisions.{Refusal, present, misfit_of, first_fit, blocker_of, unless_buried, with_misfit, with_slot as with_first_slot, yard_without, yard_without_at, yard_with_move, yard_with_move_at, is_same_slot}
+use Rattle.yard_core.{specs.{FitsAndFree.{Stands, IsFree}, SoundYard.IsSound}, proofs.Cells.{Drops-remove, insert-remove, get-removed, IsSound-dropped}}
+use Rattle.yard_core.{specs.YardMap.{Boxes, YardMap, yard_map, placement, placement_of, placement_if_any, stowed}, proofs.Deciding.{Blocks, blocker_tells}}
+use Rattle.yard_core.proofs.Placings.{stands_open, kept_empty}
+use Rattle.terminal_core.specs.{declared.visits.Departure.Departure, declared.lines.LineState.LineState, declared.change.Outcome.Outcome, Versions.spares_empty}
+use Rattle.terminal_core.specs.{declared.lines.LineState.TheVariants.{Pending, Done as LineIsDone}, declared.lines.Side.Side, declared.change.Source.Source}
+use Rattle.terminal_core.specs.{declared.change.Outcome.TheVariants.{Done, Gone, Listed, Refused}, declared.lines.Side.TheVariants.{Load, Discharge}}
+use Rattle.terminal_core.specs.{declared.change.Reason.TheVariants.{AlreadyIn, NotIn, VisitLimit}, declared.change.Version.Version, declared.visits.Way.Way}
+use Rattle.terminal_core.{specs.{declared.visits.Way.TheVariants.{Gate, Ship}, declared.lines.Listing.Listing}, proofs.Open.{open_of, moved_as}}
+use Rattle.terminal_core.specs.State.{last_number, TerminalState, LineContent, line_of, is_in, empty_state, IsWhole, LineKey, Lines, line_key}
+use Rattle.terminal_core.specs.Step.{StepResult, with_refusal, step_by, yard_with_entry, yard_with_entry_in, with_slot, is_full, visit_of, after_entry, after_entry_at, after_departure, after_departure_at, departure_by, after_move_at, after_listing_at, then_line_done_at, by_line, by_state}
+use Rattle.terminal_core.{specs.Listings.{key_of, line_content, line_entry, lines_of, IsFirstAt}, proofs.Changing.{Comes, comes, brought, goes, shifts, either}}
+use Rattle.terminal_core.{specs.LineIndexes.{AllIndexes, index_in, is_same_line, NotesIndex, AreNoted, IsWithout}, proofs.Indexed.none_there}
+use Rattle.terminal_core.proofs.{Whole.{whole_empty, whole_listed, whole_entered, whole_departed, whole_moved}, Noted.{index_by_key, one_key, one_line}}
 use Rattle.terminal_core.proofs.Lined.{order, keys_total, keys_apart, same_key, tied_self, line_tied}
-use Rattle.terminal_core.proofs.Noted.{index_by_key, one_key, one_line}
 use Rattle.std.specs.FinMap as finite_map
 
 -- ==== Keeping: A state with nothing in it is whole, and a step leaves a whole state.

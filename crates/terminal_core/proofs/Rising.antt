@@ -1,22 +1,12 @@
 -- The open containers of a list rise, and are the only ones that do and are open.
+use Rattle.std.specs.{Prelude.{filter, ◌&&◌, ◌||◌, T}, List.list_any, Option.option_map_or, Str.bytes_eq, FinMap.Entries.{below_all, same_entries}}
+use Rattle.std.specs.{Ordering.{nat_cmp, eq_by_cmp, is_eq, is_lt, ordering_then}, declared.cmp.Ordering.Ordering, Cmp.tied_itself}
+use Rattle.std.specs.{declared.cmp.Ordering.TheVariants.{Less, Equal, Greater}, Cmp.Lexicographic.{slice_cmp, nat_list_cmp_total, texts_ties}}
 use Rattle.std.proofs.Common.{◌≡◌, ℕ, List, [], ◌∷◌, map, Bool, true, false, cond, Option, None, Some, refl, sym, ap, subst, ◌∙◌}
-use Rattle.std.specs.Prelude.{filter, ◌&&◌, ◌||◌, T}
-use Rattle.std.specs.List.{list_any}
-use Rattle.std.specs.Option.{option_map_or}
-use Rattle.std.specs.Str.{bytes_eq}
-use Rattle.std.specs.FinMap.Entries.{below_all, same_entries}
-use Rattle.std.specs.Ordering.{nat_cmp, eq_by_cmp, is_eq, is_lt, ordering_then}
-use Rattle.std.specs.declared.cmp.Ordering.{Ordering}
-use Rattle.std.specs.declared.cmp.Ordering.TheVariants.{Less, Equal, Greater}
-use Rattle.std.specs.Cmp.{tied_itself}
-use Rattle.std.specs.Cmp.Lexicographic.{slice_cmp, nat_list_cmp_total, texts_ties}
 use Rattle.box6346.specs.declared.box_number.BoxNumber.{BoxNumber}
 use Rattle.edi_messages.specs.Purposes.{CallContent}
-use Rattle.terminal_core.specs.declared.lines.Side.{Side}
-use Rattle.terminal_core.specs.State.{LineContent, LineKey, Lines, line_key, side_code}
-use Rattle.terminal_core.specs.Drop.{is_pending, is_on, container_in, is_open_on, open_containers, AreOpenContainers}
-use Rattle.terminal_core.proofs.Lined.{order, same_key}
-use Rattle.terminal_core.proofs.Dropping.{both_true, key_on}
+use Rattle.terminal_core.{specs.{declared.lines.Side.Side, State.{LineContent, LineKey, Lines, line_key, side_code}}, proofs.Lined.{order, same_key}}
+use Rattle.terminal_core.{specs.Drop.{is_pending, is_on, container_in, is_open_on, open_containers, AreOpenContainers}, proofs.Dropping.{both_true, key_on}}
 use Rattle.std.specs.FinMap as finite_map
 
 abbrev by_text : List ℕ → List ℕ → Ordering

@@ -1,21 +1,11 @@
 -- What the calls on a terminal do and answer.
 use Rattle.std.specs.Prelude.{◌≡◌, ◌≤◌, Bool, true, false, List, ◌++◌, Ok, Err, find, filter, length, is_some}
-use Rattle.box6346.specs.SizeCode.{length_of}
-use Rattle.box6346.specs.declared.box_number.BoxNumber.{BoxNumber}
-use Rattle.box6346.specs.declared.slot.Slot.{Slot}
+use Rattle.box6346.specs.{SizeCode.length_of, declared.box_number.BoxNumber.BoxNumber, declared.slot.Slot.Slot}
 use Rattle.edi_messages.specs.Orders.{EntryContent}
-use Rattle.yard_core.specs.declared.plan.Block.{Block}
-use Rattle.yard_core.specs.Plan.{InPlan}
-use Rattle.yard_core.specs.YardMap.{YardMap, placement, stowed}
-use Rattle.yard_core.specs.Calls.{Places}
-use Rattle.yard_core.specs.declared.yard.YardFault.{YardFault}
+use Rattle.yard_core.specs.{declared.plan.Block.Block, Plan.InPlan, YardMap.{YardMap, placement, stowed}, Calls.Places, declared.yard.YardFault.YardFault}
 use Rattle.yard_core.specs.Decisions.{Refusal, fault_of}
-use Rattle.terminal_core.specs.declared.change.Outcome.{Outcome}
-use Rattle.terminal_core.specs.declared.change.Outcome.TheVariants.{Done, Gone, Listed, Refused}
-use Rattle.terminal_core.specs.declared.change.Reason.{Reason}
-use Rattle.terminal_core.specs.Rows.{VisitContent, ChangeContent}
-use Rattle.terminal_core.specs.State.{TerminalState, is_open_visit}
-use Rattle.terminal_core.specs.Versions.{newest}
+use Rattle.terminal_core.specs.{declared.change.Outcome.Outcome, declared.change.Outcome.TheVariants.{Done, Gone, Listed, Refused}, Versions.newest}
+use Rattle.terminal_core.specs.{declared.change.Reason.Reason, Rows.{VisitContent, ChangeContent}, State.{TerminalState, is_open_visit}}
 use Rattle.terminal_core.specs.Step.{StepResult, yard_with_entry, reason_of}
 
 -- the state, the answer and the changes that were added are those of a step

@@ -1,20 +1,14 @@
 -- The rows of a terminal's three lists, and what a change does to them.
 use Rattle.std.specs.Prelude.{◌≡◌, ◌≢◌, ℕ, ◌+◌, Bool, true, ◌==◌, List, [], ◌∷◌, ◌++◌, map, filter, Option, None, Some, is_some, ◌↔◌, if◌then◌else◌}
-use Rattle.std.specs.Option.{option_map}
-use Rattle.std.specs.Str.{bytes_eq}
-use Rattle.std.specs.Map.{update}
-use Rattle.std.specs.FinMap as finite_map
-use Rattle.box6346.specs.declared.box_number.BoxNumber.{BoxNumber}
-use Rattle.box6346.specs.declared.slot.Slot.{Slot}
+use Rattle.std.specs.{Option.option_map, Str.bytes_eq, Map.update}
+use Rattle.box6346.specs.{declared.box_number.BoxNumber.BoxNumber, declared.slot.Slot.Slot}
 use Rattle.edi_messages.specs.Orders.{OrderContent}
 use Rattle.yard_core.specs.YardMap.{placement_of}
-use Rattle.terminal_core.specs.declared.visits.Departure.{Departure}
-use Rattle.terminal_core.specs.declared.lines.LineState.TheVariants.{Pending, Done as LineIsDone}
-use Rattle.terminal_core.specs.declared.change.Source.{Source}
-use Rattle.terminal_core.specs.declared.change.Version.{Version}
+use Rattle.terminal_core.specs.{declared.visits.Departure.Departure, declared.lines.LineState.TheVariants.{Pending, Done as LineIsDone}}
+use Rattle.terminal_core.specs.{declared.change.Source.Source, declared.change.Version.Version, Step.{number_of_visit, step_by}}
 use Rattle.terminal_core.specs.Rows.{VisitContent, ChangeContent, visit_opened, visit_closed, placed_at, moved_to, removed_from, listed_on, line_done, unlisted}
 use Rattle.terminal_core.specs.State.{TerminalState, LineContent, LineKey, Lines, last_number, line_key, open_visit, IsWhole}
-use Rattle.terminal_core.specs.Step.{number_of_visit, step_by}
+use Rattle.std.specs.FinMap as finite_map
 
 -- ---- rows
 

@@ -1,18 +1,13 @@
 -- The state as a value of models.
-use Rattle.std.specs.Prelude.{ℕ, Bool, List, Option, refl}
-use Rattle.std.specs.Coded.{Coded, code_by, coded×, coded_list, coded_option, coded_bool, coded_ℕ}
-use Rattle.std.specs.FinMap as finite_map
-use Rattle.box6346.specs.declared.box_number.BoxNumber.{BoxNumber}
-use Rattle.box6346.specs.declared.size_type.SizeType.{SizeType}
+use Rattle.std.specs.{Prelude.{ℕ, Bool, List, Option, refl}, Coded.{Coded, code_by, coded×, coded_list, coded_option, coded_bool, coded_ℕ}}
+use Rattle.box6346.specs.{declared.box_number.BoxNumber.BoxNumber, declared.size_type.SizeType.SizeType}
 use Rattle.yard_core.specs.YardMap.{YardMap, yard_code}
-use Rattle.terminal_core.specs.declared.visits.Arrival.{Arrival}
-use Rattle.terminal_core.specs.declared.visits.Departure.{Departure}
-use Rattle.terminal_core.specs.declared.lines.LineState.{LineState}
+use Rattle.terminal_core.specs.{declared.visits.Arrival.Arrival, declared.visits.Departure.Departure, declared.lines.LineState.LineState, Rows.VisitContent}
+use Rattle.terminal_core.specs.State.{LineContent, Lines, TerminalState}
+use Rattle.std.specs.FinMap as finite_map
 use Rattle.terminal_core.specs.contracts.visits.Arrival as arrivals
 use Rattle.terminal_core.specs.contracts.visits.Departure as departures
 use Rattle.terminal_core.specs.contracts.lines.LineState as line_states
-use Rattle.terminal_core.specs.Rows.{VisitContent}
-use Rattle.terminal_core.specs.State.{LineContent, Lines, TerminalState}
 
 abbrev pub VisitParts : Type 0
 VisitParts = ℕ × (BoxNumber × (SizeType × (Bool × (List ℕ × (Arrival × (Option Departure × ℕ))))))

@@ -1,8 +1,7 @@
 -- How many containers came, went and stand.
 use Rattle.std.specs.Prelude.{◌≡◌, ◌+◌, Bool, length, filter, is_some}
+use Rattle.terminal_core.specs.{Rows.VisitContent, State.{TerminalState, IsWhole}}
 use Rattle.std.specs.FinMap as finite_map
-use Rattle.terminal_core.specs.Rows.{VisitContent}
-use Rattle.terminal_core.specs.State.{TerminalState, IsWhole}
 
 -- the container went
 abbrev pub is_closed : VisitContent → Bool

@@ -1,22 +1,13 @@
 -- Dropping the open lines of a call's list.
 use Rattle.std.specs.Prelude.{◌≡◌, ℕ, Bool, true, false, ◌&&◌, ◌++◌, List, [], ◌∷◌, map, length, filter, Option, None, Some, if◌then◌else◌, IsTrue, string_bytes}
-use Rattle.std.specs.Option.{option_map_or}
-use Rattle.std.specs.List.{list_any}
-use Rattle.std.specs.Str.{bytes_eq}
-use Rattle.std.specs.Ordering.{nat_cmp}
-use Rattle.std.specs.Cmp.Lexicographic.{slice_cmp}
-use Rattle.std.specs.FinMap as finite_map
+use Rattle.std.specs.{Option.option_map_or, List.list_any, Str.bytes_eq, Ordering.nat_cmp, Cmp.Lexicographic.slice_cmp}
 use Rattle.box6346.specs.declared.box_number.BoxNumber.{BoxNumber}
 use Rattle.edi_messages.specs.Purposes.{CallContent}
-use Rattle.terminal_core.specs.declared.lines.LineState.{LineState}
-use Rattle.terminal_core.specs.declared.lines.LineState.TheVariants.{Pending, Done}
-use Rattle.terminal_core.specs.declared.lines.Listing.{Listing}
-use Rattle.terminal_core.specs.declared.lines.Side.{Side}
-use Rattle.terminal_core.specs.Listings.{is_side}
-use Rattle.terminal_core.specs.Rows.{ChangeContent, unlisted}
+use Rattle.terminal_core.specs.{declared.lines.LineState.LineState, declared.lines.LineState.TheVariants.{Pending, Done}, declared.lines.Listing.Listing}
+use Rattle.terminal_core.specs.{declared.lines.Side.Side, Listings.is_side, Rows.{ChangeContent, unlisted}, Forms.IsWellFormed}
 use Rattle.terminal_core.specs.State.{TerminalState, LineContent, LineKey, Lines, line_key, side_code, IsWhole}
-use Rattle.terminal_core.specs.Forms.{IsWellFormed}
 use Rattle.terminal_core.specs.Changes.{rows_of, rows_with_all, AreApplicable}
+use Rattle.std.specs.FinMap as finite_map
 
 abbrev pub is_pending : LineState → Bool
 is_pending Pending = true

@@ -1,25 +1,13 @@
 -- The forms of what a terminal holds.
 use Rattle.std.specs.Prelude.{◌≡◌, ℕ, ◌≤◌, List, [], Option, None, Some, IsTrue, Contains}
-use Rattle.std.specs.FinMap as finite_map
-use Rattle.box6346.specs.NumberText.{is_number}
-use Rattle.box6346.specs.SizeText.{is_size}
-use Rattle.box6346.specs.SlotName.{IsNamed}
-use Rattle.box6346.specs.declared.box_number.BoxNumber.{BoxNumber}
-use Rattle.edi_syntax.specs.Moments.{is_moment}
-use Rattle.edi_syntax.specs.Numbers.{last_number}
-use Rattle.edi_messages.specs.Purposes.{CallContent}
-use Rattle.edi_messages.specs.Forms.{is_name_if_any, IsFormedCall, IsFormedOrder}
-use Rattle.edi_messages.specs.Orders.{OrderContent}
-use Rattle.yard_core.specs.YardMap.{YardMap, placement_of}
-use Rattle.yard_core.specs.declared.placements.Placement.{Placement}
-use Rattle.terminal_core.specs.declared.visits.Departure.{Departure}
-use Rattle.terminal_core.specs.declared.lines.Side.{Side}
-use Rattle.terminal_core.specs.declared.lines.Side.TheVariants.{Load, Discharge}
-use Rattle.terminal_core.specs.declared.change.Source.{Source}
-use Rattle.terminal_core.specs.declared.change.Version.{Version}
-use Rattle.terminal_core.specs.Rows.{VisitContent}
+use Rattle.box6346.specs.{NumberText.is_number, SizeText.is_size, SlotName.IsNamed, declared.box_number.BoxNumber.BoxNumber}
+use Rattle.edi_syntax.specs.{Moments.is_moment, Numbers.last_number}
+use Rattle.edi_messages.specs.{Purposes.CallContent, Forms.{is_name_if_any, IsFormedCall, IsFormedOrder}, Orders.OrderContent}
+use Rattle.yard_core.specs.{YardMap.{YardMap, placement_of}, declared.placements.Placement.Placement}
+use Rattle.terminal_core.specs.{declared.visits.Departure.Departure, declared.lines.Side.Side, declared.lines.Side.TheVariants.{Load, Discharge}, Step.step_by}
+use Rattle.terminal_core.specs.{declared.change.Source.Source, declared.change.Version.Version, Rows.VisitContent}
 use Rattle.terminal_core.specs.State.{TerminalState, LineContent, line_of, empty_state, IsWhole}
-use Rattle.terminal_core.specs.Step.{step_by}
+use Rattle.std.specs.FinMap as finite_map
 
 -- ---- numbers
 

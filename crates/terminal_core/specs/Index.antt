@@ -1,14 +1,8 @@
 -- Where a terminal keeps what it looks up: what the code relies on, and no caller has to read.
-use Rattle.std.specs.Prelude.{◌≡◌, ℕ, ◌<◌, List, Option, None, Some, true, is_none, find, reverse, slice_get, if◌then◌else◌}
-use Rattle.std.specs.Coded.{Coded, code_by, coded×, coded_list, coded_ℕ}
-use Rattle.std.specs.Map.{lookup}
-use Rattle.std.specs.Option.{option_map}
-use Rattle.std.specs.Str.{bytes_eq}
-use Rattle.std.specs.Prelude.{refl}
+use Rattle.std.specs.{Prelude.{◌≡◌, ℕ, ◌<◌, List, Option, None, Some, true, is_none, find, reverse, slice_get, if◌then◌else◌, refl}, Map.lookup, Str.bytes_eq}
+use Rattle.std.specs.{Coded.{Coded, code_by, coded×, coded_list, coded_ℕ}, Option.option_map}
 use Rattle.box6346.specs.declared.box_number.BoxNumber.{BoxNumber}
-use Rattle.terminal_core.specs.Rows.{VisitContent}
-use Rattle.terminal_core.specs.State.{is_open_visit, is_visit_of}
-use Rattle.terminal_core.specs.Codes.{visit_code}
+use Rattle.terminal_core.specs.{Rows.VisitContent, State.{is_open_visit, is_visit_of}, Codes.visit_code}
 
 -- each container's open visit is found by the index of its row
 abbrev pub AreIndexed : List VisitContent → List (BoxNumber × ℕ) → Type 0

@@ -1,13 +1,9 @@
 -- The lines of the vessels' lists as rows.
-use Rattle.std.specs.Prelude.{◌≡◌, ℕ, ◌<◌, List, map, Bool, true, false, ◌&&◌, ◌==◌, Some, slice_get, string_bytes}
-use Rattle.std.specs.FinMap as finite_map
-use Rattle.std.specs.Str.{bytes_eq}
+use Rattle.std.specs.{Prelude.{◌≡◌, ℕ, ◌<◌, List, map, Bool, true, false, ◌&&◌, ◌==◌, Some, slice_get, string_bytes}, Str.bytes_eq}
 use Rattle.box6346.specs.declared.box_number.BoxNumber.{BoxNumber}
-use Rattle.edi_messages.specs.Purposes.{CallContent}
-use Rattle.edi_messages.specs.Owned.{call_content}
-use Rattle.terminal_core.specs.declared.lines.Listing.{Listing}
-use Rattle.terminal_core.specs.declared.lines.Side.{Side}
-use Rattle.terminal_core.specs.State.{LineContent, LineKey, Lines, line_key, side_code}
+use Rattle.edi_messages.specs.{Purposes.CallContent, Owned.call_content}
+use Rattle.terminal_core.specs.{declared.lines.Listing.Listing, declared.lines.Side.Side, State.{LineContent, LineKey, Lines, line_key, side_code}}
+use Rattle.std.specs.FinMap as finite_map
 
 abbrev pub key_of : Listing → LineKey
 key_of row = line_key (call_content row.call) row.side row.container

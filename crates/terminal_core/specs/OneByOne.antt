@@ -1,12 +1,8 @@
 -- The numbers of visits go on one by one from 1 as long as none is left out.
 use Rattle.std.specs.Prelude.{◌≡◌, ℕ, ◌+◌, List, [], ◌∷◌}
 use Rattle.edi_messages.specs.Orders.{OrderContent}
-use Rattle.terminal_core.specs.declared.change.Source.{Source}
-use Rattle.terminal_core.specs.declared.change.Version.{Version}
-use Rattle.terminal_core.specs.Changes.{TerminalRows, rows_with_all, AreApplicable}
-use Rattle.terminal_core.specs.Rows.{VisitContent, ChangeContent}
-use Rattle.terminal_core.specs.State.{TerminalState, IsWhole}
-use Rattle.terminal_core.specs.Step.{step_by}
+use Rattle.terminal_core.specs.{declared.change.Source.Source, declared.change.Version.Version, Changes.{TerminalRows, rows_with_all, AreApplicable}}
+use Rattle.terminal_core.specs.{Rows.{VisitContent, ChangeContent}, State.{TerminalState, IsWhole}, Step.step_by}
 
 -- visits are numbered from that number on, one by one as they stand
 abbrev pub GoOneByOne : ℕ → List VisitContent → Type 0

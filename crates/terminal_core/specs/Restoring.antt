@@ -1,25 +1,14 @@
 -- Which rows are those of a state.
-use Rattle.std.specs.Prelude.{◌≡◌, ◌≢◌, ℕ, ◌<◌, ◌≤◌, List, length, slice_index, true, map, Some, Contains, count_by, is_none}
-use Rattle.std.specs.FinMap as finite_map
-use Rattle.std.specs.Str.{bytes_eq}
+use Rattle.std.specs.{Prelude.{◌≡◌, ◌≢◌, ℕ, ◌<◌, ◌≤◌, List, length, slice_index, true, map, Some, Contains, count_by, is_none}, Str.bytes_eq}
 use Rattle.box6346.specs.declared.box_number.BoxNumber.{BoxNumber}
 use Rattle.edi_messages.specs.Purposes.{CallContent}
-use Rattle.yard_core.specs.declared.plan.Block.{Block}
-use Rattle.yard_core.specs.declared.placements.Stowed.{Stowed}
-use Rattle.yard_core.specs.declared.yard.YardFault.{YardFault}
+use Rattle.yard_core.specs.{declared.plan.Block.Block, declared.placements.Stowed.Stowed, declared.yard.YardFault.YardFault, Calls.{PutsBack, RefusesPutBack}}
+use Rattle.yard_core.specs.{SoundYard.IsSound, YardMap.{Boxes, YardMap, placement_of}}
+use Rattle.terminal_core.specs.{declared.lines.Listing.Listing, declared.restoring.RestoreFault.RestoreFault, declared.lines.Side.Side}
+use Rattle.terminal_core.specs.{declared.restoring.RestoreFault.TheVariants.{Unsound, Memory}, declared.change.Place.Place, declared.visits.Visit.Visit}
+use Rattle.terminal_core.specs.{Rows.{VisitContent, visit_content}, State.{TerminalState, is_open_visit, stowed_by, IsWhole}, Listings.{is_line, lines_of}}
+use Rattle.std.specs.FinMap as finite_map
 use Rattle.yard_core.specs.declared.yard.YardFault.TheVariants as yard
-use Rattle.yard_core.specs.Calls.{PutsBack, RefusesPutBack}
-use Rattle.yard_core.specs.SoundYard.{IsSound}
-use Rattle.yard_core.specs.YardMap.{Boxes, YardMap, placement_of}
-use Rattle.terminal_core.specs.declared.lines.Listing.{Listing}
-use Rattle.terminal_core.specs.declared.restoring.RestoreFault.{RestoreFault}
-use Rattle.terminal_core.specs.declared.restoring.RestoreFault.TheVariants.{Unsound, Memory}
-use Rattle.terminal_core.specs.declared.lines.Side.{Side}
-use Rattle.terminal_core.specs.declared.change.Place.{Place}
-use Rattle.terminal_core.specs.declared.visits.Visit.{Visit}
-use Rattle.terminal_core.specs.Rows.{VisitContent, visit_content}
-use Rattle.terminal_core.specs.State.{TerminalState, is_open_visit, stowed_by, IsWhole}
-use Rattle.terminal_core.specs.Listings.{is_line, lines_of}
 
 -- the visit has the number that the place names, and is its container's open one
 pub record Names (visits : List VisitContent) (place : Place) (visit : VisitContent) : Type 0 where

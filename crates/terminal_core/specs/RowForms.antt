@@ -1,17 +1,9 @@
 -- The rows of a state as lists, and by their keys.
-use Rattle.std.specs.Prelude.{◌≡◌, ℕ, ◌≤◌, List, map, find, Option, count_by}
-use Rattle.std.specs.Option.{option_map}
-use Rattle.std.specs.Str.{bytes_eq}
+use Rattle.std.specs.{Prelude.{◌≡◌, ℕ, ◌≤◌, List, map, find, Option, count_by}, Option.option_map, Str.bytes_eq}
 use Rattle.box6346.specs.declared.box_number.BoxNumber.{BoxNumber}
 use Rattle.yard_core.specs.declared.plan.Block.{Block}
-use Rattle.terminal_core.specs.declared.lines.Listing.{Listing}
-use Rattle.terminal_core.specs.declared.change.Place.{Place}
-use Rattle.terminal_core.specs.declared.visits.Visit.{Visit}
-use Rattle.terminal_core.specs.Rows.{visit_content}
-use Rattle.terminal_core.specs.State.{TerminalState, IsWhole}
-use Rattle.terminal_core.specs.Listings.{lines_of}
-use Rattle.terminal_core.specs.Restoring.{AreOnce, AreRowsOf}
-use Rattle.terminal_core.specs.Changes.{Standing, standing_in, TerminalRows, rows_of}
+use Rattle.terminal_core.specs.{declared.lines.Listing.Listing, declared.change.Place.Place, declared.visits.Visit.Visit, Rows.visit_content, Listings.lines_of}
+use Rattle.terminal_core.specs.{State.{TerminalState, IsWhole}, Restoring.{AreOnce, AreRowsOf}, Changes.{Standing, standing_in, TerminalRows, rows_of}}
 
 -- where a container stands by places: of two the first counts
 abbrev pub standing_by : List Place → BoxNumber → Option Standing

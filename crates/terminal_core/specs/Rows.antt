@@ -1,14 +1,8 @@
 -- The rows of the terminal's lists, and what an order does to them.
 use Rattle.std.specs.Prelude.{ℕ, Bool, List, Option, string_bytes}
-use Rattle.box6346.specs.declared.box_number.BoxNumber.{BoxNumber}
-use Rattle.box6346.specs.declared.size_type.SizeType.{SizeType}
-use Rattle.box6346.specs.declared.slot.Slot.{Slot}
-use Rattle.edi_messages.specs.Purposes.{CallContent}
-use Rattle.edi_messages.specs.Owned.{call_content}
-use Rattle.terminal_core.specs.declared.visits.Arrival.{Arrival}
-use Rattle.terminal_core.specs.declared.visits.Departure.{Departure}
-use Rattle.terminal_core.specs.declared.lines.Side.{Side}
-use Rattle.terminal_core.specs.declared.visits.Visit.{Visit}
+use Rattle.box6346.specs.{declared.box_number.BoxNumber.BoxNumber, declared.size_type.SizeType.SizeType, declared.slot.Slot.Slot}
+use Rattle.edi_messages.specs.{Purposes.CallContent, Owned.call_content}
+use Rattle.terminal_core.specs.{declared.visits.Arrival.Arrival, declared.visits.Departure.Departure, declared.lines.Side.Side, declared.visits.Visit.Visit}
 use Rattle.terminal_core.specs.declared.change.Change.{Change}
 use Rattle.terminal_core.specs.declared.change.Change.TheVariants as change
 

@@ -1,21 +1,12 @@
 -- What a terminal holds: its yard, every visit, and the lines of the vessels' lists.
 use Rattle.std.specs.Prelude.{◌≡◌, ℕ, ◌<◌, ◌≤◌, Bool, true, List, [], ◌∷◌, length, filter, find, reverse, Contains, Option, Some, is_none, is_some, ◌&&◌}
-use Rattle.std.specs.Str.{bytes_eq}
-use Rattle.std.specs.Ordering.{nat_cmp}
-use Rattle.std.specs.Cmp.Lexicographic.{slice_cmp}
-use Rattle.std.specs.FinMap as finite_map
-use Rattle.box6346.specs.SizeCode.{length_of}
-use Rattle.box6346.specs.declared.box_number.BoxNumber.{BoxNumber}
-use Rattle.box6346.specs.declared.slot.Slot.{Slot}
+use Rattle.std.specs.{Str.bytes_eq, Ordering.nat_cmp, Cmp.Lexicographic.slice_cmp}
+use Rattle.box6346.specs.{SizeCode.length_of, declared.box_number.BoxNumber.BoxNumber, declared.slot.Slot.Slot}
 use Rattle.edi_messages.specs.Purposes.{CallContent}
-use Rattle.yard_core.specs.YardMap.{YardMap, placement, placement_of, stowed}
-use Rattle.yard_core.specs.declared.placements.Stowed.{Stowed}
-use Rattle.yard_core.specs.SoundYard.{IsSound}
-use Rattle.yard_core.specs.Plan.{IsPlan}
-use Rattle.terminal_core.specs.declared.lines.LineState.{LineState}
-use Rattle.terminal_core.specs.declared.lines.Side.{Side}
-use Rattle.terminal_core.specs.declared.lines.Side.TheVariants.{Load, Discharge}
+use Rattle.yard_core.specs.{YardMap.{YardMap, placement, placement_of, stowed}, declared.placements.Stowed.Stowed, SoundYard.IsSound, Plan.IsPlan}
+use Rattle.terminal_core.specs.{declared.lines.LineState.LineState, declared.lines.Side.Side, declared.lines.Side.TheVariants.{Load, Discharge}}
 use Rattle.terminal_core.specs.Rows.{VisitContent}
+use Rattle.std.specs.FinMap as finite_map
 
 -- ---- lists
 

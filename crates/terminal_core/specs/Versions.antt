@@ -1,7 +1,6 @@
 -- The rules of each version of the office. Those of the newest are in force.
 use Rattle.std.specs.Prelude.{Bool, true, false}
-use Rattle.terminal_core.specs.declared.change.Version.{Version}
-use Rattle.terminal_core.specs.declared.change.Version.TheVariants.{First, Second, Third}
+use Rattle.terminal_core.specs.{declared.change.Version.Version, declared.change.Version.TheVariants.{First, Second, Third}}
 
 abbrev pub newest : Version
 newest = Third

@@ -1,13 +1,9 @@
 -- A terminal is whole from the first on, and stays whole.
 use Rattle.std.specs.Prelude.{◌≡◌, ℕ}
-use Rattle.std.specs.FinMap as finite_map
 use Rattle.edi_messages.specs.Orders.{OrderContent}
-use Rattle.yard_core.specs.Plan.{IsPlan}
-use Rattle.yard_core.specs.YardMap.{YardMap}
-use Rattle.terminal_core.specs.declared.change.Source.{Source}
-use Rattle.terminal_core.specs.declared.change.Version.{Version}
-use Rattle.terminal_core.specs.State.{TerminalState, empty_state, IsWhole}
-use Rattle.terminal_core.specs.Step.{step_by}
+use Rattle.yard_core.specs.{Plan.IsPlan, YardMap.YardMap}
+use Rattle.terminal_core.specs.{declared.change.Source.Source, declared.change.Version.Version, State.{TerminalState, empty_state, IsWhole}, Step.step_by}
+use Rattle.std.specs.FinMap as finite_map
 
 -- a terminal with nothing in it is whole
 abbrev pub EmptyIsWhole : Type 0

@@ -1,11 +1,7 @@
-ghost use Rattle.std.proofs.Common.{rules};
-ghost use Rattle.std.specs.Cmp.Rules.{comparing};
-ghost use Rattle.std.specs.Prelude.{◌≡◌, ◌==◌, ◌&&◌, ◌≢◌, IfOk, OnErr, MatchResult};
+ghost use Rattle.std.{specs.{Cmp.Rules.comparing, Prelude.{◌≡◌, ◌==◌, ◌&&◌, ◌≢◌, IfOk, OnErr, MatchResult}}, proofs.Common.rules};
 ghost use Rattle.edi_messages.specs.Owned.{entry_content};
 ghost use Rattle.terminal_core.specs.Calls.{IsReasonFor, Settles, IsUnsettled};
-ghost use Rattle.yard_core.specs.Plan.{IsPlan};
-ghost use Rattle.yard_core.specs.SoundYard.{IsSound};
-ghost use Rattle.yard_core.specs.YardMap.{placement_of};
+ghost use Rattle.yard_core.specs.{Plan.IsPlan, SoundYard.IsSound, YardMap.placement_of};
 
 use crate::lines::Side;
 use crate::visits::{Departure, Visit};

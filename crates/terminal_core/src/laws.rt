@@ -1,12 +1,9 @@
 //! What follows only from the definitions of a terminal's states and steps.
 
-ghost use Rattle.terminal_core.specs.Counts.{EntriesLessExitsStand};
-ghost use Rattle.terminal_core.specs.Changes.{ChangesTurnRows, ChangesAreApplicable, ChangesAreAppended, AreApplicableAppended};
+ghost use Rattle.terminal_core.specs.{Counts.EntriesLessExitsStand, Changes.{ChangesTurnRows, ChangesAreApplicable, ChangesAreAppended, AreApplicableAppended}};
 ghost use Rattle.terminal_core.specs.Drop.{DropsOpenAlone, DropTurnsRows, DropIsApplicable, DropKeepsWhole, DropKeepsForms};
-ghost use Rattle.terminal_core.specs.Forms.{EmptyIsWellFormed, StepsKeepForms};
-ghost use Rattle.terminal_core.specs.OneByOne.{ChangesGoOneByOne, StepsGoOneByOne};
-ghost use Rattle.terminal_core.specs.RowForms.{ListsAreRowsByKey, RowsByKeyAreLists, RowsGiveState, ListsGiveState};
-ghost use Rattle.terminal_core.specs.Wholeness.{EmptyIsWhole, StepsKeepWhole};
+ghost use Rattle.terminal_core.specs.{Forms.{EmptyIsWellFormed, StepsKeepForms}, OneByOne.{ChangesGoOneByOne, StepsGoOneByOne}};
+ghost use Rattle.terminal_core.specs.{RowForms.{ListsAreRowsByKey, RowsByKeyAreLists, RowsGiveState, ListsGiveState}, Wholeness.{EmptyIsWhole, StepsKeepWhole}};
 
 /// As many containers are in the yard as came and did not go.
 pub fn entries_less_exits()

@@ -1,9 +1,7 @@
 ghost use Rattle.std.specs.Prelude.{◌≡◌, ◌+◌, [], map, take, IfOk, IsSome, OnOk, OnErr};
 ghost use Rattle.edi_messages.specs.Owned.{call_content};
-ghost use Rattle.terminal_core.specs.LineIndexes.{indexes_of, index_in, SameIndexes, NotesIndex};
-ghost use Rattle.terminal_core.specs.Listings.{key_of, line_content, line_entry};
-ghost use Rattle.terminal_core.specs.Rows.{change_content, listed_on, line_done, unlisted};
-ghost use Rattle.terminal_core.specs.State.{line_key, side_code};
+ghost use Rattle.terminal_core.specs.{LineIndexes.{indexes_of, index_in, SameIndexes, NotesIndex}, Listings.{key_of, line_content, line_entry}};
+ghost use Rattle.terminal_core.specs.{Rows.{change_content, listed_on, line_done, unlisted}, State.{line_key, side_code}};
 
 use crate::change::Change;
 use box6346::BoxNumber;

@@ -1,12 +1,9 @@
-ghost use Rattle.std.specs.Prelude.{◌≡◌, ◌<◌, length, IfOk, OnOk, OnErr, MatchOption, MatchResult, None, Some};
-ghost use Rattle.std.specs.Option.{option_map};
-ghost use Rattle.std.specs.FinMap as finite_map;
+ghost use Rattle.std.specs.{Prelude.{◌≡◌, ◌<◌, length, IfOk, OnOk, OnErr, MatchOption, MatchResult, None, Some}, Option.option_map};
 ghost use Rattle.edi_messages.specs.Owned.{call_content};
-ghost use Rattle.terminal_core.specs.State.{LineContent, line_key};
-ghost use Rattle.terminal_core.specs.Listings.{key_of, line_content, lines_of, is_line, is_side, NoneBefore, IsFirstAt};
-ghost use Rattle.terminal_core.specs.Drop.{is_pending, is_open_row, open_containers, open_rows_of, without_lines_of};
-ghost use Rattle.terminal_core.specs.LineIndexes.{AreNoted, IsWithout};
+ghost use Rattle.terminal_core.specs.{State.{LineContent, line_key}, Listings.{key_of, line_content, lines_of, is_line, is_side, NoneBefore, IsFirstAt}};
+ghost use Rattle.terminal_core.specs.{Drop.{is_pending, is_open_row, open_containers, open_rows_of, without_lines_of}, LineIndexes.{AreNoted, IsWithout}};
 ghost use Rattle.terminal_core.specs.Restoring.{AreOnce, RefusesLines};
+ghost use Rattle.std.specs.FinMap as finite_map;
 
 use crate::lines::{LineIndexes, LineState, Listing, Side, copied_lines, note, noted, renote};
 use crate::restoring::{RestoreFault, append};

@@ -1,13 +1,8 @@
-ghost use Rattle.std.specs.List.{list_any};
-ghost use Rattle.std.specs.List.Sorted.{IsPermutation, IsNonDecreasingBy};
+ghost use Rattle.std.specs.{List.list_any, List.Sorted.{IsPermutation, IsNonDecreasingBy}};
 ghost use Rattle.std.specs.Prelude.{◌≡◌, ◌+◌, ◌<◌, ◌≤◌, [], ◌∷◌, ◌++◌, vec_len, vec_capacity, ◌≢◌, ◌==◌, ℕ, ◌↔◌, IsTrue, IfOk, IfErr, OnOk, MatchOption, MatchResult, map, length, is_none, slice_get, slice_index, slice_index_or, true, false, Some};
 ghost use Rattle.terminal_core.specs.Restoring.{cause_of, Names, AreNamed, IsPut, RefusesPut, IsYardOf, RefusesYard, RefusesPlaces, ArePlacesOf, AreRising, numbers_of};
-ghost use Rattle.terminal_core.specs.Rows.{VisitContent, visit_content};
-ghost use Rattle.terminal_core.specs.State.{AreNumbered, last_number};
-ghost use Rattle.terminal_core.specs.declared.restoring.RestoreFault.TheVariants.{Memory};
-ghost use Rattle.yard_core.specs.Plan.{IsPlan};
-ghost use Rattle.yard_core.specs.SoundYard.{IsSound};
-ghost use Rattle.yard_core.specs.YardMap.{placement_of};
+ghost use Rattle.terminal_core.specs.{Rows.{VisitContent, visit_content}, State.{AreNumbered, last_number}, declared.restoring.RestoreFault.TheVariants.Memory};
+ghost use Rattle.yard_core.specs.{Plan.IsPlan, SoundYard.IsSound, YardMap.placement_of};
 
 use crate::change::Place;
 use crate::visits::{Visit, is_open, last_of};

@@ -1,14 +1,10 @@
-ghost use Rattle.std.specs.Prelude.{◌≡◌, map, IfOk, IfErr, OnErr};
-ghost use Rattle.std.specs.FinMap as finite_map;
-ghost use Rattle.std.specs.Option.{option_map};
-ghost use Rattle.yard_core.specs.Decisions.{blocker_on};
-ghost use Rattle.yard_core.specs.YardMap.{placement_of};
+ghost use Rattle.std.specs.{Prelude.{◌≡◌, map, IfOk, IfErr, OnErr}, Option.option_map};
+ghost use Rattle.yard_core.specs.{Decisions.blocker_on, YardMap.placement_of};
 ghost use Rattle.edi_messages.specs.Owned.{call_content};
-ghost use Rattle.terminal_core.specs.Rows.{visit_content, change_content};
+ghost use Rattle.terminal_core.specs.{Rows.{visit_content, change_content}, Drop.{list_drop, Drops}, Listings.lines_of};
 ghost use Rattle.terminal_core.specs.State.{AreOpenOf, TerminalState, empty_state, last_visit, line_of, open_visit, IsWhole};
-ghost use Rattle.terminal_core.specs.Drop.{list_drop, Drops};
-ghost use Rattle.terminal_core.specs.Listings.{lines_of};
 ghost use Rattle.terminal_core.specs.Restoring.{AreOnce, AreRowsOf, RefusesRows};
+ghost use Rattle.std.specs.FinMap as finite_map;
 
 use crate::change::{Change, Place};
 use crate::lines::{LineState, Listing, Side, lines_unlisted};

@@ -2,10 +2,8 @@ ghost use Rattle.std.specs.Option.{option_and_then, option_map};
 ghost use Rattle.std.specs.Prelude.{◌≡◌, ◌++◌, ◌∷◌, [], ◌≤◌, ◌<◌, ◌-◌, ◌^◌, map, find, filter, reverse, length, is_some, IfOk, OnOk, OnErr, None, true, false, string_bytes, slice_get, vec_len, vec_capacity};
 ghost use Rattle.box6346.specs.declared.box_number.BoxNumber.{BoxNumber};
 ghost use Rattle.edi_messages.specs.Owned.{entry_content};
-ghost use Rattle.terminal_core.specs.Calls.{HasOneVisit};
-ghost use Rattle.terminal_core.specs.Index.{AreIndexed, AreLastIndexed, HasRoom, if_open};
-ghost use Rattle.terminal_core.specs.Rows.{visit_content, change_content, visit_closed};
-ghost use Rattle.terminal_core.specs.State.{AreOpenOf, is_open_visit, is_visit_of, last_number};
+ghost use Rattle.terminal_core.specs.{Calls.HasOneVisit, Index.{AreIndexed, AreLastIndexed, HasRoom, if_open}};
+ghost use Rattle.terminal_core.specs.{Rows.{visit_content, change_content, visit_closed}, State.{AreOpenOf, is_open_visit, is_visit_of, last_number}};
 ghost use Rattle.terminal_core.specs.Step.{closed_visit, number_of_visit, opened_visit, departure_by};
 
 use crate::change::{Change, Source};

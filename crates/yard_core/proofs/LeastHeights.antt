@@ -1,35 +1,17 @@
 -- The least heights of the blocks' columns, and that no slot below them is open.
+use Rattle.std.{specs.{Option.{IsSomeAnd, option_map}, Char.is_ascii_uppercase, Prelude.{find, flat_map}, List.range_with_len}, proofs.Math.Nat.eq-or-lt_of_le}
 use Rattle.std.proofs.Common.{◌≡◌, ◌≢◌, ◌⊎◌, inl, inr, ℕ, ◌+◌, ◌-◌, ◌*◌, ◌/◌, ◌<◌, ◌≤◌, ◌==◌, ◌&&◌, true, List, [], ◌∷◌, ◌++◌, length, take, drop, map, replicate, refl, sym, ap, subst, ◌∙◌, Option, Some, None, arith, slice_get, get_or, set, get_or-set_same, get_or-set_other, All, Bool, false, not, IsTrue, zero, suc, cond}
-use Rattle.std.specs.Option.{IsSomeAnd, option_map}
-use Rattle.std.proofs.lemmas.Bool.Decides.{nat_tests, eqb_tells}
+use Rattle.std.proofs.{lemmas.Bool.Decides.{nat_tests, eqb_tells}, lemmas.List.Elements.{All-from_get_or, All-get_or, All-map, All-set}}
 use Rattle.std.proofs.lemmas.List.{length-append, get_or-take, get_or-drop, length-take-le, length-drop, length-replicate, length-map, length-set}
-use Rattle.std.proofs.lemmas.List.Elements.{All-from_get_or, All-get_or, All-map, All-set}
-use Rattle.std.proofs.lemmas.Option.{get_or_from_slice_get, slice_get_within, slice_get_read, slice_get-map, none-some, same_Some}
-use Rattle.box6346.specs.declared.size_type.Length.{Length}
-use Rattle.box6346.specs.declared.size_type.Length.TheVariants.{Twenty, Forty}
-use Rattle.box6346.specs.declared.slot.Slot.{Slot}
-use Rattle.yard_core.specs.declared.plan.Block.{Block}
-use Rattle.yard_core.specs.declared.columns.LeastHeight.{LeastHeight}
-use Rattle.yard_core.specs.declared.placements.Placement.{Placement}
-use Rattle.yard_core.specs.Plan.{block_of, InBlock, IsSized, AreLettered, AreApart}
-use Rattle.yard_core.specs.YardMap.{Box, placement}
-use Rattle.yard_core.specs.FitsAndFree.{IsOpen}
-use Rattle.yard_core.specs.Search.{IsInBlock}
-use Rattle.yard_core.specs.Columns.{column_at, column_of, near_of, first_cell, IsKept}
-use Rattle.yard_core.specs.LeastHeights.{AreAtLeast, AreLeastHeights, ground_height}
-use Rattle.yard_core.proofs.Cells.{place, bounds, column_below, first_in_column, first_in_plan}
-use Rattle.yard_core.proofs.Decides.{IsReady-open}
-use Rattle.std.specs.Char.{is_ascii_uppercase}
-use Rattle.std.proofs.lemmas.List.Folds.{find_at}
+use Rattle.std.proofs.{lemmas.Option.{get_or_from_slice_get, slice_get_within, slice_get_read, slice_get-map, none-some, same_Some}, lemmas.List.Folds.find_at}
 use Rattle.std.proofs.lemmas.List.Sums.{position_or_len_is, prefix_len_passes, prefix_len_stops, prefix_len-le-length}
 use Rattle.std.proofs.lemmas.Bool.{eq-eqb, eqb-true, cases_Bool}
-use Rattle.std.specs.Prelude.{find, flat_map}
-use Rattle.std.specs.List.{range_with_len}
-use Rattle.std.proofs.Math.Nat.{eq-or-lt_of_le}
-use Rattle.yard_core.specs.FirstFit.{IsBefore}
-use Rattle.yard_core.specs.Decisions.{slot_at, slots_in_bay, slots_in_block, slots_in_tier, every_slot}
-
--- ==== LeastHeights: The least heights of the blocks' columns, and that no slot below them is open.
+use Rattle.box6346.specs.{declared.size_type.Length.Length, declared.size_type.Length.TheVariants.{Twenty, Forty}, declared.slot.Slot.Slot}
+use Rattle.yard_core.specs.{declared.plan.Block.Block, declared.columns.LeastHeight.LeastHeight, declared.placements.Placement.Placement, FitsAndFree.IsOpen}
+use Rattle.yard_core.specs.{Plan.{block_of, InBlock, IsSized, AreLettered, AreApart}, YardMap.{Box, placement}, Search.IsInBlock, FirstFit.IsBefore}
+use Rattle.yard_core.specs.{Columns.{column_at, column_of, near_of, first_cell, IsKept}, LeastHeights.{AreAtLeast, AreLeastHeights, ground_height}}
+use Rattle.yard_core.{specs.Decisions.{slot_at, slots_in_bay, slots_in_block, slots_in_tier, every_slot}, proofs.Decides.IsReady-open}
+use Rattle.yard_core.proofs.Cells.{place, bounds, column_below, first_in_column, first_in_plan}
 
 on_ground : (plan : List Block) (position : ℕ) (h : LeastHeight) → slice_get (map ground_height plan) position ≡ Some h → h.height ≡ 0
 on_ground plan position h here =

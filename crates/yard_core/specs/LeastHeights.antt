@@ -1,10 +1,6 @@
 -- The least heights of the blocks' columns: what the code relies on, and no caller has to read.
 use Rattle.std.specs.Prelude.{◌≡◌, ℕ, ◌+◌, ◌*◌, ◌<◌, ◌≤◌, List, Some, All, length, slice_get}
-use Rattle.yard_core.specs.declared.plan.Block.{Block}
-use Rattle.yard_core.specs.declared.columns.LeastHeight.{LeastHeight}
-use Rattle.yard_core.specs.Plan.{IsSized}
-use Rattle.yard_core.specs.YardMap.{Box}
-use Rattle.yard_core.specs.Columns.{column_at}
+use Rattle.yard_core.specs.{declared.plan.Block.Block, declared.columns.LeastHeight.LeastHeight, Plan.IsSized, YardMap.Box, Columns.column_at}
 
 -- no column of the block's bays and rows is below the height; its columns begin at the first
 abbrev pub AreAtLeast : List (List Box) → ℕ → Block → ℕ → Type 0

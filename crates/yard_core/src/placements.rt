@@ -1,9 +1,5 @@
-ghost use Rattle.std.specs.HashMap.{get, Updates};
-ghost use Rattle.std.specs.Prelude.{◌≡◌, Some, IsSome, OnOk, OnErr, IfOk, ◌↔◌, ◌*◌, ◌<◌, ◌≤◌, IsTrue, All, length};
-ghost use Rattle.std.specs.Str.{bytes_eq};
-ghost use Rattle.yard_core.specs.Columns.{first_cell, last_cell, IsSite};
-ghost use Rattle.yard_core.specs.Plan.{InPlan, IsSized};
-ghost use Rattle.yard_core.specs.YardMap.{IsKind};
+ghost use Rattle.std.specs.{HashMap.{get, Updates}, Prelude.{◌≡◌, Some, IsSome, OnOk, OnErr, IfOk, ◌↔◌, ◌*◌, ◌<◌, ◌≤◌, IsTrue, All, length}, Str.bytes_eq};
+ghost use Rattle.yard_core.specs.{Columns.{first_cell, last_cell, IsSite}, Plan.{InPlan, IsSized}, YardMap.IsKind};
 ghost use Rattle.std.specs.FinMap as finite_map;
 
 use crate::plan::Plan;

@@ -1,11 +1,7 @@
 ghost use Rattle.std.specs.Prelude.{◌||◌, ◌↔◌, IsTrue, ◌≢◌, false, ◌≡◌, ◌+◌, ◌*◌, ◌<◌, ◌≤◌, ◌⊎◌, true, Option, Some, None, length, All, IfErr, IfOk, MatchOption, OnErr};
-ghost use Rattle.yard_core.specs.Calls.{RefusesRemove};
-ghost use Rattle.yard_core.specs.Columns.{AgreeOn, IsKept, IsLifted, IsReady, level, stowed_at, bears, is_twenty, is_forty_in, is_empty};
-ghost use Rattle.yard_core.specs.Decisions.{blocker_on};
-ghost use Rattle.yard_core.specs.FitsAndFree.{MisfitsBy, RestsOnEmpty};
-ghost use Rattle.yard_core.specs.Plan.{IsSized, block_of, IsPlan};
-ghost use Rattle.yard_core.specs.Search.{IsInTier, IsInBlock, IsInBay, NoneOpen, IsFirstOpen};
-ghost use Rattle.yard_core.specs.YardMap.{Boxes, placement_of, placement_if_any, yard_map};
+ghost use Rattle.yard_core.specs.{Calls.RefusesRemove, Columns.{AgreeOn, IsKept, IsLifted, IsReady, level, stowed_at, bears, is_twenty, is_forty_in, is_empty}};
+ghost use Rattle.yard_core.specs.{Decisions.blocker_on, FitsAndFree.{MisfitsBy, RestsOnEmpty}, Plan.{IsSized, block_of, IsPlan}};
+ghost use Rattle.yard_core.specs.{Search.{IsInTier, IsInBlock, IsInBay, NoneOpen, IsFirstOpen}, YardMap.{Boxes, placement_of, placement_if_any, yard_map}};
 ghost use Rattle.std.specs.FinMap as finite_map;
 
 use crate::columns::Columns;

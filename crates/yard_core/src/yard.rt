@@ -1,6 +1,5 @@
 ghost use Rattle.std.specs.Prelude.{◌≡◌, None, Some};
-ghost use Rattle.yard_core.specs.declared.placements.Placement.{Placement};
-ghost use Rattle.yard_core.specs.declared.placements.Stowed.{Stowed};
+ghost use Rattle.yard_core.specs.{declared.placements.Placement.Placement, declared.placements.Stowed.Stowed};
 
 use crate::columns::Columns;
 use crate::placements::{Placement, Placements, Stowed, first_cell, site_of};

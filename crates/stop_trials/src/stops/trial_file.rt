@@ -1,10 +1,8 @@
 //! A file in memory that reads a crash as it is set to. `Memory` of `sqlite_disk` supposes that a torn write leaves any
 //! bytes, and over it a commit syncs twice. The program supposes that each byte is old or new, and syncs once.
 
-ghost use Rattle.std.specs.Prelude.{◌≡◌, ◌⊎◌, [], length, true, false, refl, is_ok, IsTrue, OnOk, OnErr};
-ghost use Rattle.std.proofs.Common.{inl, inr};
-ghost use Rattle.sqlite_disk.specs.Disk.{Holds, Torn, Cut, CountsFault};
-ghost use Rattle.sqlite_disk.specs.Refusal.{finds_no_room};
+ghost use Rattle.std.{specs.Prelude.{◌≡◌, ◌⊎◌, [], length, true, false, refl, is_ok, IsTrue, OnOk, OnErr}, proofs.Common.{inl, inr}};
+ghost use Rattle.sqlite_disk.specs.{Disk.{Holds, Torn, Cut, CountsFault}, Refusal.finds_no_room};
 
 use sqlite_disk::{Crash, Disk, Tally, digest_of};
 use std::alloc::{AllocError, Global};

@@ -2,9 +2,7 @@
 
 ghost use Rattle.std.specs.Prelude.{◌≡◌, ◌+◌, ◌≤◌, [], ◌∷◌, ◌++◌, map, Some, IfOk, OnErr, vec_len, vec_capacity};
 ghost use Rattle.edi_messages.specs.Owned.{call_content, entry_content, order_content};
-ghost use Rattle.terminal_core.specs.Rows.{change_content, line_done};
-ghost use Rattle.terminal_core.specs.State.{LineContent, is_in, line_of, IsWhole};
-ghost use Rattle.terminal_core.specs.Versions.{newest};
+ghost use Rattle.terminal_core.specs.{Rows.{change_content, line_done}, State.{LineContent, is_in, line_of, IsWhole}, Versions.newest};
 ghost use Rattle.terminal_core.specs.Step.{after_entry, after_departure, after_move, after_listing, step, step_gate_in, step_discharge, step_load, with_line};
 ghost use Rattle.terminal_core.specs.Calls.{Follows, IsPlanned, is_refused};
 

@@ -1,5 +1,4 @@
-use Rattle.std.proofs.Common.{◌≡◌, drop}
-use Rattle.std.specs.List.{list_all}
+use Rattle.std.{specs.List.list_all, proofs.Common.{◌≡◌, drop}}
 use Rattle.edi_messages.specs.CodeText.{is_code, texts_of}
 use Rattle.edi_messages.proofs.code.are_codes.Given as goal
 

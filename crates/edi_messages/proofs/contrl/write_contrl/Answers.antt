@@ -1,13 +1,7 @@
 use Rattle.std.proofs.Common.{◌≡◌, List, length, sym, ap, ◌∙◌}
-use Rattle.edi_syntax.specs.Spelling.{Writing}
-use Rattle.edi_syntax.specs.Text.{Content}
-use Rattle.edi_syntax.specs.Envelope.{header_of}
-use Rattle.edi_syntax.specs.Frames.{messages_left}
-use Rattle.edi_syntax.specs.Envelopes.{envelope_segments}
-use Rattle.edi_syntax.specs.Heads.{head_segments}
+use Rattle.edi_syntax.specs.{Spelling.Writing, Text.Content, Envelope.header_of, Frames.messages_left, Envelopes.envelope_segments, Heads.head_segments}
 use Rattle.edi_syntax.specs.Messages.{Message}
-use Rattle.edi_messages.specs.Contrl.{contrl_text}
-use Rattle.edi_messages.proofs.SurveyLemmas.{contrl_written}
+use Rattle.edi_messages.{specs.Contrl.contrl_text, proofs.SurveyLemmas.contrl_written}
 use Rattle.edi_messages.proofs.contrl.write_contrl.Goals as goal
 
 pub returns : goal.returns

@@ -1,12 +1,7 @@
 -- Where no message is left, no verdict is written.
-use Rattle.std.proofs.Common.{◌≡◌, List, [], ◌∷◌, map, refl, sym, ap, ◌∙◌, drop}
-use Rattle.std.specs.Prelude.{zip}
-use Rattle.edi_syntax.specs.Text.{Content}
-use Rattle.edi_syntax.specs.Written.{with_segments}
-use Rattle.edi_syntax.specs.Messages.{Message}
-use Rattle.edi_syntax.specs.Frames.{messages_left}
-use Rattle.edi_messages.specs.Contrl.{ucm}
-use Rattle.edi_messages.specs.declared.message.Verdict.{Verdict}
+use Rattle.std.{specs.Prelude.zip, proofs.Common.{◌≡◌, List, [], ◌∷◌, map, refl, sym, ap, ◌∙◌, drop}}
+use Rattle.edi_syntax.specs.{Text.Content, Written.with_segments, Messages.Message, Frames.messages_left}
+use Rattle.edi_messages.specs.{Contrl.ucm, declared.message.Verdict.Verdict}
 use Rattle.edi_messages.proofs.contrl.write_message_responses.Goals as goal
 
 no_messages : (verdicts : List Verdict) → map ucm (zip verdicts []) ≡ []

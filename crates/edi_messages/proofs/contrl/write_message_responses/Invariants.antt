@@ -1,8 +1,6 @@
 -- what is written, and a response to each message that is left, are the responses to all
-use Rattle.std.proofs.Common.{◌≡◌, map, drop, false}
-use Rattle.std.specs.Prelude.{zip}
-use Rattle.edi_syntax.specs.Written.{with_segments}
-use Rattle.edi_syntax.specs.Frames.{messages_left}
+use Rattle.std.{specs.Prelude.zip, proofs.Common.{◌≡◌, map, drop, false}}
+use Rattle.edi_syntax.specs.{Written.with_segments, Frames.messages_left}
 use Rattle.edi_messages.specs.Contrl.{ucm}
 use Rattle.edi_messages.proofs.contrl.write_message_responses.Given as goal
 

@@ -1,7 +1,5 @@
 use Rattle.std.proofs.Common.{ap, ◌∙◌}
-use Rattle.edi_syntax.specs.Spelling.{Writing}
-use Rattle.edi_syntax.specs.Envelope.{header_of}
-use Rattle.edi_syntax.specs.Heads.{head_segments}
+use Rattle.edi_syntax.specs.{Spelling.Writing, Envelope.header_of, Heads.head_segments}
 use Rattle.edi_messages.proofs.SurveyLemmas.{rejection_written}
 use Rattle.edi_messages.proofs.contrl.write_rejection.Goals as goal
 

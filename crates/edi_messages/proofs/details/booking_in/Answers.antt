@@ -1,7 +1,6 @@
 -- The values of the first element, one after the other.
 use Rattle.std.proofs.Common.{◌≡◌, [], false, true, Some, refl, sym, ap, ◌∙◌}
-use Rattle.edi_syntax.specs.Segment.{content}
-use Rattle.edi_syntax.specs.Text.{element_of}
+use Rattle.edi_syntax.specs.{Segment.content, Text.element_of}
 use Rattle.edi_messages.proofs.DetailLemmas.{two_values, booking_by_values, booking_named}
 use Rattle.edi_messages.proofs.details.booking_in.Goals as goal
 

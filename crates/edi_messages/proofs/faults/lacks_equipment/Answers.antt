@@ -1,8 +1,7 @@
 -- None was counted.
 use Rattle.std.proofs.Common.{ℕ, ◌==◌, sym, ap, ◌∙◌}
 use Rattle.edi_syntax.specs.Frames.{message}
-use Rattle.edi_messages.specs.Faults.{is_container}
-use Rattle.edi_messages.proofs.SurveyLemmas.{none_counted}
+use Rattle.edi_messages.{specs.Faults.is_container, proofs.SurveyLemmas.none_counted}
 use Rattle.edi_messages.proofs.faults.lacks_equipment.Goals as goal
 
 pub returns : goal.returns

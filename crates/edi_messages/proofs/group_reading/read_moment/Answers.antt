@@ -1,12 +1,7 @@
 -- What is read of the moment that was kept is read of the segment that states it.
-use Rattle.std.proofs.Common.{Option, Ok, sym, ap, ◌∙◌}
-use Rattle.std.specs.Option.{option_map, ok_or}
-use Rattle.std.specs.List.{find}
+use Rattle.std.{specs.{Option.{option_map, ok_or}, List.find}, proofs.Common.{Option, Ok, sym, ap, ◌∙◌}}
 use Rattle.edi_syntax.specs.Moments.{CivilMoment}
-use Rattle.edi_messages.specs.Kept.{moment_kept}
-use Rattle.edi_messages.specs.Orders.{moment_stated}
-use Rattle.edi_messages.specs.Parts.{part_left, states_moment}
-use Rattle.edi_messages.specs.declared.line.LineFault.TheVariants.{Moment}
+use Rattle.edi_messages.specs.{Kept.moment_kept, Orders.moment_stated, Parts.{part_left, states_moment}, declared.line.LineFault.TheVariants.Moment}
 use Rattle.edi_messages.proofs.DetailLemmas.{kept_as}
 use Rattle.edi_messages.proofs.group_reading.read_moment.Goals as goal
 

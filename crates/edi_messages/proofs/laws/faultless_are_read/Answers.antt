@@ -1,6 +1,5 @@
 use Rattle.std.proofs.Common.{refl}
-use Rattle.edi_messages.proofs.SurveyLemmas.{purpose_there}
-use Rattle.edi_messages.proofs.WalkLemmas.{heading_faultless}
+use Rattle.edi_messages.proofs.{SurveyLemmas.purpose_there, WalkLemmas.heading_faultless}
 use Rattle.edi_messages.proofs.laws.faultless_are_read.Goals as goal
 
 pub returns : goal.returns

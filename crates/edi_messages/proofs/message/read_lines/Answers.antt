@@ -1,10 +1,7 @@
 -- The lines that were kept, and those of the segments that are left.
 use Rattle.std.proofs.Common.{◌≡◌, ◌∷◌, List, sym, ap, ◌∙◌}
-use Rattle.edi_syntax.specs.Segment.{content}
-use Rattle.edi_syntax.specs.Frames.{message_segments_left}
-use Rattle.edi_messages.specs.Message.{LineContent, line_of, lines_of}
-use Rattle.edi_messages.specs.Parts.{EquipmentGroup, before_end}
-use Rattle.edi_messages.specs.Spans.{group_content, purpose_spanned}
+use Rattle.edi_syntax.specs.{Segment.content, Frames.message_segments_left}
+use Rattle.edi_messages.specs.{Message.{LineContent, line_of, lines_of}, Parts.{EquipmentGroup, before_end}, Spans.{group_content, purpose_spanned}}
 use Rattle.edi_messages.proofs.WalkLemmas.{lines_with, lines_without, lines_same, line_contents, lines_more, lines_still, lines_all}
 use Rattle.edi_messages.proofs.message.read_lines.Goals as goal
 

@@ -1,8 +1,6 @@
 use Rattle.std.proofs.Common.{◌≡◌, ◌++◌, IfSome, length, map}
 use Rattle.edi_syntax.specs.Frames.{message_segments_left}
-use Rattle.edi_messages.specs.Message.{lines_of}
-use Rattle.edi_messages.specs.Spans.{purpose_spanned}
-use Rattle.edi_messages.specs.Owned.{line_content}
+use Rattle.edi_messages.specs.{Message.lines_of, Spans.purpose_spanned, Owned.line_content}
 use Rattle.edi_messages.proofs.message.read_lines.Given as goal
 
 abbrev pub invariant-loop-counted : goal.invariant-loop-counted

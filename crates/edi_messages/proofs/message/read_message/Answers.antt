@@ -1,14 +1,8 @@
 -- What was found is of the message.
-use Rattle.std.proofs.Common.{◌≡◌, Some, None, Ok, refl, sym, ap, ◌∙◌}
-use Rattle.std.specs.Option.{option_map}
-use Rattle.edi_syntax.specs.Frames.{message, message_segments_left}
-use Rattle.edi_syntax.specs.declared.frames.Frame.{Frame}
-use Rattle.edi_messages.specs.Faults.{purpose_of, replaces_list}
-use Rattle.edi_messages.specs.Message.{lines_of}
-use Rattle.edi_messages.specs.Owned.{message_content}
-use Rattle.edi_messages.specs.Spans.{purpose_spanned}
-use Rattle.edi_messages.specs.Walks.{heading_fault_of, equipment_fault_of}
-use Rattle.edi_messages.proofs.SurveyLemmas.{purpose_there}
+use Rattle.std.{specs.Option.option_map, proofs.Common.{◌≡◌, Some, None, Ok, refl, sym, ap, ◌∙◌}}
+use Rattle.edi_syntax.specs.{Frames.{message, message_segments_left}, declared.frames.Frame.Frame}
+use Rattle.edi_messages.specs.{Faults.{purpose_of, replaces_list}, Message.lines_of, Owned.message_content, Spans.purpose_spanned}
+use Rattle.edi_messages.{specs.Walks.{heading_fault_of, equipment_fault_of}, proofs.SurveyLemmas.purpose_there}
 use Rattle.edi_messages.proofs.WalkLemmas.{rejected_by_heading, rejected_by_equipment, read_for, line_contents, built_of, lines_same}
 use Rattle.edi_messages.proofs.message.read_message.Goals as goal
 

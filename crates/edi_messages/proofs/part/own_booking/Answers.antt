@@ -1,13 +1,7 @@
 -- What is read of the booking that was kept is read of the segment that names it.
-use Rattle.std.proofs.Common.{◌≡◌, [], codes, ◌∙◌}
-use Rattle.std.specs.Option.{option_map}
-use Rattle.std.specs.List.{find}
-use Rattle.edi_syntax.specs.Segment.{value}
-use Rattle.edi_syntax.specs.Text.{component_of}
-use Rattle.edi_messages.specs.Orders.{name_kept, booking}
-use Rattle.edi_messages.specs.Parts.{part_left, is_qualified}
-use Rattle.edi_messages.specs.Spans.{group_content}
-use Rattle.edi_messages.proofs.DetailLemmas.{kept_as}
+use Rattle.std.{specs.{Option.option_map, List.find}, proofs.Common.{◌≡◌, [], codes, ◌∙◌}}
+use Rattle.edi_syntax.specs.{Segment.value, Text.component_of}
+use Rattle.edi_messages.{specs.{Orders.{name_kept, booking}, Parts.{part_left, is_qualified}, Spans.group_content}, proofs.DetailLemmas.kept_as}
 use Rattle.edi_messages.proofs.part.own_booking.Goals as goal
 
 pub returns-in-Some : goal.returns-in-Some

@@ -1,9 +1,7 @@
 -- The names of a call are printable.
 use Rattle.std.proofs.lemmas.Bool.{and_parts}
 use Rattle.edi_syntax.specs.Segment.{content}
-use Rattle.edi_messages.specs.Texts.{is_name}
-use Rattle.edi_messages.specs.Faults.{vessel_of, voyage_of}
-use Rattle.edi_messages.proofs.SurveyLemmas.{name_printable}
+use Rattle.edi_messages.{specs.{Texts.is_name, Faults.{vessel_of, voyage_of}}, proofs.SurveyLemmas.name_printable}
 use Rattle.edi_messages.proofs.part.own_call.Goals as goal
 
 pub own_text-requires : goal.own_text-requires

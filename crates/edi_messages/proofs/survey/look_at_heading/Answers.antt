@@ -1,11 +1,7 @@
 -- One segment more of the heading.
 use Rattle.std.proofs.Common.{sym, ap, ◌∙◌, arith, codes, length}
-use Rattle.edi_syntax.specs.Text.{has_tag}
-use Rattle.edi_syntax.specs.Segment.{content}
-use Rattle.edi_syntax.specs.Frames.{message_segments_left}
-use Rattle.edi_messages.specs.Faults.{is_container}
-use Rattle.edi_messages.specs.Parts.{is_equipment, is_qualified}
-use Rattle.edi_messages.proofs.SurveyLemmas.{first_step}
+use Rattle.edi_syntax.specs.{Text.has_tag, Segment.content, Frames.message_segments_left}
+use Rattle.edi_messages.{specs.{Faults.is_container, Parts.{is_equipment, is_qualified}}, proofs.SurveyLemmas.first_step}
 use Rattle.edi_messages.proofs.WalkLemmas.{heading_goes_on, no_container, uncounted, groups_after}
 use Rattle.edi_messages.proofs.survey.look_at_heading.Goals as goal
 

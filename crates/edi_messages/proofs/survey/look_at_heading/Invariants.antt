@@ -1,11 +1,6 @@
-use Rattle.std.proofs.Common.{◌≡◌, ◌≤◌, length, count_by, codes}
-use Rattle.std.specs.Option.{option_map}
-use Rattle.edi_syntax.specs.Text.{has_tag}
-use Rattle.edi_syntax.specs.Segment.{content}
-use Rattle.edi_syntax.specs.Frames.{message, message_segments_left}
-use Rattle.edi_messages.specs.Faults.{beginning, transport, control, is_container}
-use Rattle.edi_messages.specs.Parts.{is_equipment, is_qualified, heading, groups_of}
-use Rattle.edi_messages.specs.Walks.{counted_on}
+use Rattle.std.{specs.Option.option_map, proofs.Common.{◌≡◌, ◌≤◌, length, count_by, codes}}
+use Rattle.edi_syntax.specs.{Text.has_tag, Segment.content, Frames.{message, message_segments_left}}
+use Rattle.edi_messages.specs.{Faults.{beginning, transport, control, is_container}, Parts.{is_equipment, is_qualified, heading, groups_of}, Walks.counted_on}
 use Rattle.edi_messages.proofs.SurveyLemmas.{first_in}
 use Rattle.edi_messages.proofs.survey.look_at_heading.Given as goal
 

@@ -1,7 +1,5 @@
 -- The first bytes that differ tell the values apart.
-use Rattle.std.proofs.Common.{◌≡◌, ◌∷◌, sym, ◌∙◌}
-use Rattle.std.proofs.lemmas.List.{append_cancel_left}
-use Rattle.std.proofs.lemmas.Bool.{false≢true}
+use Rattle.std.proofs.{Common.{◌≡◌, ◌∷◌, sym, ◌∙◌}, lemmas.List.append_cancel_left, lemmas.Bool.false≢true}
 use Rattle.edi_syntax.specs.Segment.{bytes_left}
 use Rattle.edi_syntax.proofs.component.are_bytes.Goals as goal
 

@@ -1,5 +1,4 @@
-use Rattle.std.proofs.Common.{◌≡◌, ◌==◌, take, false}
-use Rattle.std.specs.List.{list_any}
+use Rattle.std.{specs.List.list_any, proofs.Common.{◌≡◌, ◌==◌, take, false}}
 use Rattle.edi_syntax.proofs.component.has_byte.Given as goal
 
 abbrev pub invariant-loop-other : goal.invariant-loop-other

@@ -1,7 +1,5 @@
-use Rattle.std.proofs.Common.{ℕ, Option, sym, ap, ◌∙◌}
-use Rattle.std.specs.List.{list_any}
-use Rattle.edi_syntax.specs.Characters.{is_release}
-use Rattle.edi_syntax.proofs.AdviceLemmas.{releases_one}
+use Rattle.std.{specs.List.list_any, proofs.Common.{ℕ, Option, sym, ap, ◌∙◌}}
+use Rattle.edi_syntax.{specs.Characters.is_release, proofs.AdviceLemmas.releases_one}
 use Rattle.edi_syntax.proofs.component.has_release.Goals as goal
 
 pub returns-in-Some : goal.returns-in-Some

@@ -1,5 +1,4 @@
-use Rattle.std.proofs.Common.{◌<◌, ◌∙◌, ◌++◌, ◌∷◌, [], List, ℕ, length, get_or, sym, ap, arith}
-use Rattle.std.proofs.lemmas.List.{take_more, take_more_set, length-set}
+use Rattle.std.proofs.{Common.{◌<◌, ◌∙◌, ◌++◌, ◌∷◌, [], List, ℕ, length, get_or, sym, ap, arith}, lemmas.List.{take_more, take_more_set, length-set}}
 use Rattle.edi_syntax.proofs.cutter.front_of.Goals as goal
 
 pub loop-i-preserved : goal.loop-i-preserved

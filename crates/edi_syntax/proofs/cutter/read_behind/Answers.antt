@@ -1,9 +1,8 @@
 -- The piece is read as far as an end, a refusal or the limit.
-use Rattle.std.proofs.Common.{◌∙◌, sym}
-use Rattle.std.proofs.lemmas.Bool.{true≢false}
+use Rattle.std.proofs.{Common.{◌∙◌, sym}, lemmas.Bool.true≢false}
 use Rattle.edi_syntax.proofs.BehindLemmas.{reading_goes, scanned_of, room_lacks, room_is_there, refuses_behind, too_long_behind, reads_on_behind}
-use Rattle.edi_syntax.proofs.cutter.read_behind.Goals as goal
 use Rattle.edi_syntax.proofs.cutter.read_behind.Goals.{else-not-stops-via-then-not-stops+else-within-piece, else-not-stops-via-else-not-stops}
+use Rattle.edi_syntax.proofs.cutter.read_behind.Goals as goal
 
 pub read_bytes-used-requires : goal.read_bytes-used-requires
 read_bytes-used-requires c = reading_goes c.args.text.now c.args.reading c.requires.holds c.requires.going

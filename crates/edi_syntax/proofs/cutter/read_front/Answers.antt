@@ -1,7 +1,6 @@
 -- Each byte leads to the end of the interchange, to a fault, or on; after the ninth the rest is read at once.
 use Rattle.std.proofs.Common.{◌+◌, ◌∙◌, ◌++◌, List, ℕ, take, refl, sym, ap, subst, arith}
-use Rattle.edi_syntax.specs.Cuts.{is_whole}
-use Rattle.edi_syntax.specs.Steps.{Holds}
+use Rattle.edi_syntax.specs.{Cuts.is_whole, Steps.Holds}
 use Rattle.edi_syntax.proofs.FrontLemmas.{filled_none, filled_next, next_bytes, put_next, holds_next, refused_next, read_whole, read_all, closed_is, nine, read_later, refused_later}
 use Rattle.edi_syntax.proofs.cutter.read_front.Goals as goal
 

@@ -1,7 +1,5 @@
-use Rattle.std.proofs.Common.{◌≡◌, ◌∷◌, ◌||◌}
-use Rattle.std.specs.List.{list_any}
-use Rattle.edi_syntax.specs.Segment.{content, segments_left}
-use Rattle.edi_syntax.specs.Envelope.{last_of, is_of_functional_group}
+use Rattle.std.{specs.List.list_any, proofs.Common.{◌≡◌, ◌∷◌, ◌||◌}}
+use Rattle.edi_syntax.specs.{Segment.{content, segments_left}, Envelope.{last_of, is_of_functional_group}}
 use Rattle.edi_syntax.proofs.faults.ends.Given as goal
 
 abbrev pub invariant-loop-segment : goal.invariant-loop-segment

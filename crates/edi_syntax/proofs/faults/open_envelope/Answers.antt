@@ -1,10 +1,6 @@
 -- The first fault of the head, or that of the body.
-use Rattle.std.proofs.Common.{List, sym, ap, subst, ◌∙◌}
-use Rattle.std.proofs.lemmas.Result.{IfOk-weaker, IfErr-weaker, err_from_is_err_and}
-use Rattle.edi_syntax.specs.Text.{Content}
-use Rattle.edi_syntax.specs.Interchange.{InterchangeText}
-use Rattle.edi_syntax.specs.Faults.{body_fault_of}
-use Rattle.edi_syntax.proofs.BlockLemmas.{of_head, of_body}
+use Rattle.std.proofs.{Common.{List, sym, ap, subst, ◌∙◌}, lemmas.Result.{IfOk-weaker, IfErr-weaker, err_from_is_err_and}}
+use Rattle.edi_syntax.{specs.{Text.Content, Interchange.InterchangeText, Faults.body_fault_of}, proofs.BlockLemmas.{of_head, of_body}}
 use Rattle.edi_syntax.proofs.faults.open_envelope.Goals as goal
 
 pub returns-in_err-open-clause-err : goal.returns-in_err-open-clause-err

@@ -1,12 +1,7 @@
 -- The trailer of the interchange, after whole messages.
-use Rattle.std.proofs.Common.{◌||◌, ◌&&◌, Bool, List, length, sym, ap, ◌∙◌, refl, arith}
-use Rattle.std.specs.List.{list_all, list_any}
-use Rattle.std.proofs.lemmas.Bool.{eqb-true}
+use Rattle.std.{specs.List.{list_all, list_any}, proofs.{Common.{◌||◌, ◌&&◌, Bool, List, length, sym, ap, ◌∙◌, refl, arith}, lemmas.Bool.eqb-true}}
 use Rattle.std.proofs.lemmas.List.{nil_from_length}
-use Rattle.edi_syntax.specs.Segment.{content}
-use Rattle.edi_syntax.specs.Checks.{checked_left}
-use Rattle.edi_syntax.specs.Messages.{Message, is_counted, is_referenced}
-use Rattle.edi_syntax.specs.Envelope.{is_of_functional_group}
+use Rattle.edi_syntax.specs.{Segment.content, Checks.checked_left, Messages.{Message, is_counted, is_referenced}, Envelope.is_of_functional_group}
 use Rattle.edi_syntax.proofs.TallyLemmas.{at_end, and_true, or_false}
 use Rattle.edi_syntax.proofs.faults.tally_of.Goals as goal
 

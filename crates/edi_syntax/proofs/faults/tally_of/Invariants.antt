@@ -1,9 +1,5 @@
-use Rattle.std.proofs.Common.{◌≡◌, ◌∷◌, ◌+◌, ◌≤◌, ◌&&◌, ◌||◌, length, false}
-use Rattle.std.specs.List.{list_all, list_any}
-use Rattle.edi_syntax.specs.Text.{Content}
-use Rattle.edi_syntax.specs.Segment.{content}
-use Rattle.edi_syntax.specs.Checks.{checked_left, are_all}
-use Rattle.edi_syntax.specs.Messages.{messages_in, are_messages, is_counted, is_referenced}
+use Rattle.std.{specs.List.{list_all, list_any}, proofs.Common.{◌≡◌, ◌∷◌, ◌+◌, ◌≤◌, ◌&&◌, ◌||◌, length, false}}
+use Rattle.edi_syntax.specs.{Text.Content, Segment.content, Checks.{checked_left, are_all}, Messages.{messages_in, are_messages, is_counted, is_referenced}}
 use Rattle.edi_syntax.specs.Envelope.{last_of, is_of_functional_group}
 use Rattle.edi_syntax.proofs.faults.tally_of.Given as goal
 

@@ -1,13 +1,8 @@
 -- One segment more, which is the trailer or stands before it.
-use Rattle.std.proofs.Common.{◌≡◌, ◌||◌, Bool, length, sym, ap, ◌∙◌, refl, arith, true}
-use Rattle.std.specs.List.{list_any}
-use Rattle.edi_syntax.specs.Segment.{content}
-use Rattle.edi_syntax.specs.Checks.{checked_left}
-use Rattle.edi_syntax.specs.Messages.{ends_message, is_inner}
-use Rattle.edi_syntax.specs.Envelope.{is_of_functional_group}
-use Rattle.edi_syntax.proofs.TallyLemmas.{at_trailer, within}
+use Rattle.std.{specs.List.list_any, proofs.Common.{◌≡◌, ◌||◌, Bool, length, sym, ap, ◌∙◌, refl, arith, true}}
+use Rattle.edi_syntax.specs.{Segment.content, Checks.checked_left, Messages.{ends_message, is_inner}, Envelope.is_of_functional_group}
+use Rattle.edi_syntax.proofs.{TallyLemmas.{at_trailer, within}, frames.message_end.Goals.{then-has_functional_group, else-has_functional_group}}
 use Rattle.edi_syntax.proofs.frames.message_end.Goals as goal
-use Rattle.edi_syntax.proofs.frames.message_end.Goals.{then-has_functional_group, else-has_functional_group}
 
 pub loop-segment-init : goal.loop-segment-init
 loop-segment-init c = record {

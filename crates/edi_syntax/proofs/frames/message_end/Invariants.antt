@@ -1,8 +1,5 @@
-use Rattle.std.proofs.Common.{◌≡◌, ◌+◌, ◌≤◌, ◌||◌, length, true}
-use Rattle.std.specs.List.{list_any}
-use Rattle.edi_syntax.specs.Text.{Content}
-use Rattle.edi_syntax.specs.Checks.{checked_left, are_all}
-use Rattle.edi_syntax.specs.Messages.{before_trailer, trailer_in, messages_in, are_messages}
+use Rattle.std.{specs.List.list_any, proofs.Common.{◌≡◌, ◌+◌, ◌≤◌, ◌||◌, length, true}}
+use Rattle.edi_syntax.specs.{Text.Content, Checks.{checked_left, are_all}, Messages.{before_trailer, trailer_in, messages_in, are_messages}}
 use Rattle.edi_syntax.specs.Envelope.{last_of, is_of_functional_group}
 use Rattle.edi_syntax.proofs.frames.message_end.Given as goal
 

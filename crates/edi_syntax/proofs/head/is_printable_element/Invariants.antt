@@ -1,8 +1,5 @@
-use Rattle.std.proofs.Common.{◌≡◌}
-use Rattle.std.specs.List.{list_all}
-use Rattle.edi_syntax.specs.Characters.{is_printable}
-use Rattle.edi_syntax.specs.Segment.{content, components_left}
-use Rattle.edi_syntax.specs.Header.{is_printable_element}
+use Rattle.std.{specs.List.list_all, proofs.Common.◌≡◌}
+use Rattle.edi_syntax.specs.{Characters.is_printable, Segment.{content, components_left}, Header.is_printable_element}
 use Rattle.edi_syntax.proofs.head.is_printable_element.Given as goal
 
 abbrev pub invariant-loop-component : goal.invariant-loop-component

@@ -1,6 +1,5 @@
 -- One digit more, while there is room for one.
-use Rattle.std.proofs.Common.{ℕ, ◌+◌, ◌-◌, ◌*◌, ◌<◌, ◌≤◌, List, [], ◌∷◌, ◌++◌, sym, ap, ◌∙◌, append_assoc, arith}
-use Rattle.std.proofs.lemmas.List.{length_push}
+use Rattle.std.proofs.{Common.{ℕ, ◌+◌, ◌-◌, ◌*◌, ◌<◌, ◌≤◌, List, [], ◌∷◌, ◌++◌, sym, ap, ◌∙◌, append_assoc, arith}, lemmas.List.length_push}
 use Rattle.edi_syntax.proofs.BlockLemmas.{digits_value_one, digits_one, small_one, has_room}
 use Rattle.edi_syntax.proofs.head.number_of.Goals as goal
 

@@ -1,8 +1,5 @@
-use Rattle.std.proofs.Common.{◌≡◌, ◌++◌, ◌≤◌, ◌<◌, ◌^◌, length, true}
-use Rattle.std.specs.List.{list_all}
-use Rattle.std.specs.Str.Parse.{digits_value}
-use Rattle.edi_syntax.specs.Characters.{is_digit}
-use Rattle.edi_syntax.specs.Segment.{value, bytes_left}
+use Rattle.std.{specs.{List.list_all, Str.Parse.digits_value}, proofs.Common.{◌≡◌, ◌++◌, ◌≤◌, ◌<◌, ◌^◌, length, true}}
+use Rattle.edi_syntax.specs.{Characters.is_digit, Segment.{value, bytes_left}}
 use Rattle.edi_syntax.proofs.head.number_of.Given as goal
 
 abbrev pub invariant-loop-byte : goal.invariant-loop-byte

@@ -1,9 +1,7 @@
 -- Six and four digits, or no moment.
 use Rattle.std.proofs.Common.{◌≡◌, ◌++◌, ◌&&◌, ℕ, List, Bool, true, false, None, cond, codes, length, nat_eq, sym, ap, ◌∙◌, refl}
 use Rattle.std.proofs.lemmas.Bool.{and_left, and_right, and_from}
-use Rattle.edi_syntax.specs.Moments.{moment_of}
-use Rattle.edi_syntax.specs.Segment.{content, value_of_length}
-use Rattle.edi_syntax.specs.Header.{preparation_date, preparation_time}
+use Rattle.edi_syntax.specs.{Moments.moment_of, Segment.{content, value_of_length}, Header.{preparation_date, preparation_time}}
 use Rattle.edi_syntax.proofs.BlockLemmas.{no_array, array_is}
 use Rattle.edi_syntax.proofs.head.preparation.Goals as goal
 

@@ -1,10 +1,7 @@
 -- One line break less at the end.
-use Rattle.std.proofs.Common.{◌≡◌, ◌-◌, ℕ, List, [], ◌∷◌, ◌++◌, length, take, drop, true, refl, sym, ap, ◌∙◌, append_assoc}
-use Rattle.std.proofs.lemmas.Bool.{and_from}
+use Rattle.std.proofs.{Common.{◌≡◌, ◌-◌, ℕ, List, [], ◌∷◌, ◌++◌, length, take, drop, true, refl, sym, ap, ◌∙◌, append_assoc}, lemmas.Bool.and_from}
 use Rattle.std.proofs.lemmas.List.{take_rest, take-append-drop, append-nil}
-use Rattle.edi_syntax.specs.Characters.{is_break}
-use Rattle.edi_syntax.specs.Reading.{breaks_len}
-use Rattle.edi_syntax.specs.Interchange.{without_breaks_at_end}
+use Rattle.edi_syntax.specs.{Characters.is_break, Reading.breaks_len, Interchange.without_breaks_at_end}
 use Rattle.edi_syntax.proofs.SegmentsLemmas.{breaks_at, break_at_end, other_at_end}
 use Rattle.edi_syntax.proofs.interchange.interchange_text.Goals as goal
 

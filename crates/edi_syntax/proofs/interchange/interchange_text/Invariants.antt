@@ -1,8 +1,5 @@
-use Rattle.std.proofs.Common.{◌≡◌, ◌++◌, ℕ, List, IsTrue, length}
-use Rattle.std.specs.List.{list_all}
-use Rattle.edi_syntax.specs.Characters.{is_break}
-use Rattle.edi_syntax.specs.Advice.{without_breaks}
-use Rattle.edi_syntax.specs.Interchange.{without_breaks_at_end}
+use Rattle.std.{specs.List.list_all, proofs.Common.{◌≡◌, ◌++◌, ℕ, List, IsTrue, length}}
+use Rattle.edi_syntax.specs.{Characters.is_break, Advice.without_breaks, Interchange.without_breaks_at_end}
 use Rattle.edi_syntax.proofs.interchange.interchange_text.Given as goal
 
 abbrev pub invariant-loop-last : goal.invariant-loop-last

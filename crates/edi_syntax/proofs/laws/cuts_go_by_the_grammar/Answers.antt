@@ -1,11 +1,7 @@
 -- A position is refused, or closed, just where the grammar says so.
-use Rattle.std.proofs.Common.{◌≡◌, Bool, true, refl, sym, ap, ◌∙◌}
-use Rattle.std.proofs.lemmas.Bool.{true≢false, false≢true}
-use Rattle.edi_syntax.specs.Advice.{service_at}
-use Rattle.edi_syntax.specs.Positions.{is_refused}
-use Rattle.edi_syntax.specs.Cuts.{is_closed, past_advice, position_of, CutsGoByTheGrammar}
-use Rattle.edi_syntax.specs.declared.position.Position.{Position}
-use Rattle.edi_syntax.specs.declared.position.Position.TheVariants.{Between, First, Second, Tagged, Inside, Refused}
+use Rattle.std.proofs.{Common.{◌≡◌, Bool, true, refl, sym, ap, ◌∙◌}, lemmas.Bool.{true≢false, false≢true}}
+use Rattle.edi_syntax.specs.{Advice.service_at, Positions.is_refused, Cuts.{is_closed, past_advice, position_of, CutsGoByTheGrammar}}
+use Rattle.edi_syntax.specs.{declared.position.Position.Position, declared.position.Position.TheVariants.{Between, First, Second, Tagged, Inside, Refused}}
 use Rattle.edi_syntax.proofs.PositionLemmas.{refused_where_nothing_goes_on, closed_where_a_trailer_ends}
 use Rattle.edi_syntax.proofs.laws.cuts_go_by_the_grammar.Goals as goal
 

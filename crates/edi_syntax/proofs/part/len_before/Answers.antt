@@ -1,6 +1,5 @@
 -- The first byte that is the separator, or none of two more.
-use Rattle.std.proofs.Common.{◌≡◌, ℕ, ◌+◌, ◌<◌, false, nat_eq, length, get_or, sym, below_more, arith}
-use Rattle.std.proofs.lemmas.Bool.{ne_eqb, eq-eqb}
+use Rattle.std.proofs.{Common.{◌≡◌, ℕ, ◌+◌, ◌<◌, false, nat_eq, length, get_or, sym, below_more, arith}, lemmas.Bool.{ne_eqb, eq-eqb}}
 use Rattle.std.proofs.lemmas.List.Sums.{position_or_len_is}
 use Rattle.edi_syntax.proofs.part.len_before.Goals.{else-at-bytes-via-then-at-bytes+else-bytes-at-3, else-at-bytes-via-else-at-bytes}
 use Rattle.edi_syntax.proofs.part.len_before.Goals as goal

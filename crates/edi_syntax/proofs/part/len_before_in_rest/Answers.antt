@@ -1,7 +1,5 @@
 -- The first byte that is the separator, as the search finds it.
-use Rattle.std.proofs.Common.{◌≡◌, ℕ, ◌<◌, nat_eq, length, get_or, sym, false, inl, inr, arith}
-use Rattle.std.proofs.lemmas.Bool.{cases_Bool}
-use Rattle.std.proofs.lemmas.List.Sums.{position_or_len_is}
+use Rattle.std.proofs.{Common.{◌≡◌, ℕ, ◌<◌, nat_eq, length, get_or, sym, false, inl, inr, arith}, lemmas.Bool.cases_Bool, lemmas.List.Sums.position_or_len_is}
 use Rattle.edi_syntax.proofs.part.len_before_in_rest.Goals as goal
 
 pub returns-in-Some : goal.returns-in-Some

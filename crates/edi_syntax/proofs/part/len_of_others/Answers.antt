@@ -1,6 +1,5 @@
 -- One byte more that is passed over.
-use Rattle.std.proofs.Common.{◌∙◌, get_or}
-use Rattle.std.proofs.lemmas.Bool.{ne_eqb}
+use Rattle.std.proofs.{Common.{◌∙◌, get_or}, lemmas.Bool.ne_eqb}
 use Rattle.edi_syntax.proofs.PartLemmas.{separator_passed, not_releasing}
 use Rattle.edi_syntax.proofs.part.len_of_others.Goals as goal
 

@@ -1,6 +1,5 @@
 -- the separator stands as far after the bytes that were passed over as it stands in what is left
-use Rattle.std.proofs.Common.{◌≡◌, ◌+◌, drop, false}
-use Rattle.std.specs.Option.{option_map}
+use Rattle.std.{specs.Option.option_map, proofs.Common.{◌≡◌, ◌+◌, drop, false}}
 use Rattle.edi_syntax.specs.Parts.{separator_of}
 use Rattle.edi_syntax.proofs.part.len_of_others.Given as goal
 

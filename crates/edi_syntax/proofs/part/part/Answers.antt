@@ -1,10 +1,7 @@
 -- One part less to pass over.
-use Rattle.std.proofs.Common.{◌≡◌, ◌+◌, ◌-◌, ℕ, suc, List, [], ◌∷◌, Option, false, get_or, refl, sym, ap, ◌∙◌, arith}
-use Rattle.std.specs.Option.{option_map_or}
+use Rattle.std.{specs.Option.option_map_or, proofs.Common.{◌≡◌, ◌+◌, ◌-◌, ℕ, suc, List, [], ◌∷◌, Option, false, get_or, refl, sym, ap, ◌∙◌, arith}}
 use Rattle.std.proofs.lemmas.List.{get_or_past}
-use Rattle.edi_syntax.specs.Parts.{parts_of, split_of}
-use Rattle.edi_syntax.proofs.PartLemmas.{parts_split}
-use Rattle.edi_syntax.specs.declared.characters.Service.{Service}
+use Rattle.edi_syntax.{specs.{Parts.{parts_of, split_of}, declared.characters.Service.Service}, proofs.PartLemmas.parts_split}
 use Rattle.edi_syntax.proofs.part.part.Goals as goal
 
 found : (s : Service) (separator : ℕ) (bytes : List ℕ) (o : Option (List ℕ × List ℕ)) → o ≡ split_of s separator bytes → parts_of s separator false bytes ≡ option_map_or (λ (p : List ℕ × List ℕ). p.0 ∷ parts_of s separator false p.1) o (bytes ∷ [])

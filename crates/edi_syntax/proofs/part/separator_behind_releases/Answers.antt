@@ -1,8 +1,5 @@
 -- The separator, a release character and what it releases, or one byte more.
-use Rattle.std.proofs.Common.{◌+◌, ◌<◌, false, length, get_or, sym, ap, ◌∙◌, arith}
-use Rattle.std.specs.Option.{option_map}
-use Rattle.std.proofs.lemmas.Bool.{ne_eqb}
-use Rattle.std.proofs.lemmas.List.{take_rest}
+use Rattle.std.{specs.Option.option_map, proofs.{Common.{◌+◌, ◌<◌, false, length, get_or, sym, ap, ◌∙◌, arith}, lemmas.Bool.ne_eqb, lemmas.List.take_rest}}
 use Rattle.edi_syntax.proofs.PartLemmas.{separator_here, separator_nowhere, separator_passed, separator_released, separator_cut, separator_joined}
 use Rattle.edi_syntax.proofs.part.separator_behind_releases.Goals as goal
 

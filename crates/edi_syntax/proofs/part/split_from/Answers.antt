@@ -1,7 +1,5 @@
 -- What stands before and after the separator.
-use Rattle.std.proofs.Common.{◌+◌, take, drop, ap}
-use Rattle.std.specs.Option.{option_map}
-use Rattle.std.proofs.lemmas.List.{take_rest}
+use Rattle.std.{specs.Option.option_map, proofs.{Common.{◌+◌, take, drop, ap}, lemmas.List.take_rest}}
 use Rattle.edi_syntax.proofs.part.split_from.Goals as goal
 
 pub returns : goal.returns

@@ -1,6 +1,5 @@
 use Rattle.std.proofs.Common.{subst, take, ℕ, arith}
-use Rattle.edi_syntax.specs.Positions.{StayInside}
-use Rattle.edi_syntax.proofs.CutLemmas.{stays_nothing}
+use Rattle.edi_syntax.{specs.Positions.StayInside, proofs.CutLemmas.stays_nothing}
 use Rattle.edi_syntax.proofs.position.len_inside.Goals as goal
 
 pub loop-i-init : goal.loop-i-init

@@ -1,7 +1,5 @@
 use Rattle.std.proofs.Common.{subst, sym, ap, ◌∙◌}
-use Rattle.edi_syntax.specs.Positions.{Keeps}
-use Rattle.edi_syntax.specs.declared.position.Position.{Position}
-use Rattle.edi_syntax.specs.declared.position.Position.TheVariants.{Inside}
+use Rattle.edi_syntax.specs.{Positions.Keeps, declared.position.Position.Position, declared.position.Position.TheVariants.Inside}
 use Rattle.edi_syntax.proofs.CutLemmas.{keeps_inside}
 use Rattle.edi_syntax.proofs.position.len_kept.Goals as goal
 

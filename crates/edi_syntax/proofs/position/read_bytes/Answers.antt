@@ -1,5 +1,4 @@
-use Rattle.std.proofs.Common.{sym, ◌∙◌}
-use Rattle.std.proofs.lemmas.Bool.{true≢false}
+use Rattle.std.proofs.{Common.{sym, ◌∙◌}, lemmas.Bool.true≢false}
 use Rattle.edi_syntax.proofs.CutLemmas.{reads_nothing, reads_rest}
 use Rattle.edi_syntax.proofs.position.read_bytes.Goals as goal
 

@@ -1,10 +1,6 @@
 -- One segment more: what is left is nothing but segments where what was left before is.
-use Rattle.std.proofs.Common.{◌≡◌, ℕ, List, length, sym, ap, ◌∙◌, false, Option}
-use Rattle.std.specs.Option.{option_map_or}
-use Rattle.std.proofs.lemmas.Bool.{eqb-true, eqb-false}
-use Rattle.edi_syntax.specs.Text.{Content}
-use Rattle.edi_syntax.specs.Reading.{are_segments}
-use Rattle.edi_syntax.specs.declared.characters.Service.{Service}
+use Rattle.std.{specs.Option.option_map_or, proofs.{Common.{◌≡◌, ℕ, List, length, sym, ap, ◌∙◌, false, Option}, lemmas.Bool.{eqb-true, eqb-false}}}
+use Rattle.edi_syntax.specs.{Text.Content, Reading.are_segments, declared.characters.Service.Service}
 use Rattle.edi_syntax.proofs.SegmentsLemmas.{next_of_are_segments, nothing_is_segments}
 use Rattle.edi_syntax.proofs.reader.are_segments.Goals as goal
 

@@ -1,6 +1,5 @@
 -- The terminator after bytes that are passed over.
-use Rattle.std.proofs.Common.{◌+◌, Some, false, sym, ap, ◌∙◌, arith}
-use Rattle.std.specs.Option.{option_map}
+use Rattle.std.{specs.Option.option_map, proofs.Common.{◌+◌, Some, false, sym, ap, ◌∙◌, arith}}
 use Rattle.edi_syntax.proofs.SegmentsLemmas.{end_more}
 use Rattle.edi_syntax.proofs.reader.end.Goals as goal
 

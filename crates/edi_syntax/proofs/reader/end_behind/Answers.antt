@@ -1,7 +1,5 @@
 -- The bytes that are passed over at once, and then one that ends the search, one that is released, or one more.
-use Rattle.std.proofs.Common.{◌+◌, ◌<◌, Some, true, false, length, sym, ap, ◌∙◌, refl, arith}
-use Rattle.std.specs.Option.{option_map}
-use Rattle.std.proofs.lemmas.List.{take_rest}
+use Rattle.std.{specs.Option.option_map, proofs.{Common.{◌+◌, ◌<◌, Some, true, false, length, sym, ap, ◌∙◌, refl, arith}, lemmas.List.take_rest}}
 use Rattle.edi_syntax.proofs.SegmentsLemmas.{end_more, end_past, end_passed, end_joined, end_released, no_released, invalid_released, goes_on}
 use Rattle.edi_syntax.proofs.reader.end_behind.Goals as goal
 

@@ -1,6 +1,5 @@
 -- the terminator stands as far after the bytes that were passed over as it stands in what is left
-use Rattle.std.proofs.Common.{◌≡◌, ◌+◌, ◌-◌, ◌≤◌, length, drop, false}
-use Rattle.std.specs.Option.{option_map}
+use Rattle.std.{specs.Option.option_map, proofs.Common.{◌≡◌, ◌+◌, ◌-◌, ◌≤◌, length, drop, false}}
 use Rattle.edi_syntax.specs.Reading.{end_of}
 use Rattle.edi_syntax.proofs.reader.end_behind.Given as goal
 

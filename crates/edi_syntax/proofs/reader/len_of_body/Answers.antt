@@ -1,8 +1,5 @@
-use Rattle.std.proofs.Common.{◌≡◌, ◌+◌, sym, drop, arith, cond, false, None, ℕ, Option, Bool, true, refl}
-use Rattle.std.specs.Option.{option_map}
-use Rattle.std.proofs.lemmas.List.{length-drop}
-use Rattle.edi_syntax.proofs.SegmentsLemmas.{no_end}
-use Rattle.edi_syntax.specs.Reading.{end_of}
+use Rattle.std.{specs.Option.option_map, proofs.{Common.{◌≡◌, ◌+◌, sym, drop, arith, cond, false, None, ℕ, Option, Bool, true, refl}, lemmas.List.length-drop}}
+use Rattle.edi_syntax.{specs.Reading.end_of, proofs.SegmentsLemmas.no_end}
 use Rattle.edi_syntax.proofs.reader.len_of_body.Goals as goal
 
 pub returns-then-bytes-lt3-clause-found : goal.returns-then-bytes-lt3-clause-found

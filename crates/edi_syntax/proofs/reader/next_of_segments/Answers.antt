@@ -1,9 +1,6 @@
 -- The first terminator that is not released ends the first segment.
-use Rattle.std.proofs.Common.{◌≡◌, ◌-◌, ℕ, length, take, drop, sym, ap, ◌∙◌}
-use Rattle.std.proofs.lemmas.List.{take_rest}
-use Rattle.edi_syntax.specs.Parts.{split_of}
-use Rattle.edi_syntax.specs.Reading.{breaks_len, are_segments}
-use Rattle.edi_syntax.proofs.ReaderLemmas.{none_short, IsFirst, first_is, not_none}
+use Rattle.std.proofs.{Common.{◌≡◌, ◌-◌, ℕ, length, take, drop, sym, ap, ◌∙◌}, lemmas.List.take_rest}
+use Rattle.edi_syntax.{specs.{Parts.split_of, Reading.{breaks_len, are_segments}}, proofs.ReaderLemmas.{none_short, IsFirst, first_is, not_none}}
 use Rattle.edi_syntax.proofs.reader.next_of_segments.Goals as goal
 
 pub returns-then-bytes-lt3-clause-exact : goal.returns-then-bytes-lt3-clause-exact

@@ -1,5 +1,4 @@
-use Rattle.std.proofs.Common.{◌≡◌, map, drop}
-use Rattle.std.specs.List.{list_all}
+use Rattle.std.{specs.List.list_all, proofs.Common.{◌≡◌, map, drop}}
 use Rattle.edi_syntax.specs.Spelling.{is_empty_value}
 use Rattle.edi_syntax.proofs.writing.are_empty.Given as goal
 

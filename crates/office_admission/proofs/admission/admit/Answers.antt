@@ -1,10 +1,6 @@
 use Rattle.std.proofs.Common.{Some, None, inl, inr, ◌+◌}
-use Rattle.edi_syntax.specs.Segment.{value}
-use Rattle.edi_syntax.proofs.BlockLemmas.{of_head}
-use Rattle.edi_syntax.specs.Heads.{head_segments}
-use Rattle.office_admission.specs.Parties.{parties_of}
-use Rattle.office_admission.specs.Outcomes.{IsOpened}
-use Rattle.office_admission.proofs.Admitting.{syntax_refused, no_error, sender_is}
+use Rattle.edi_syntax.{specs.{Segment.value, Heads.head_segments}, proofs.BlockLemmas.of_head}
+use Rattle.office_admission.{specs.{Parties.parties_of, Outcomes.IsOpened}, proofs.Admitting.{syntax_refused, no_error, sender_is}}
 use Rattle.office_admission.proofs.Adding.{ok_weaker, err_weaker}
 use Rattle.office_admission.proofs.admission.admit.Goals as goal
 

@@ -1,9 +1,7 @@
 use Rattle.std.proofs.Common.{◌≡◌, ◌<◌, List, length, slice_get, get_or, Some, None, true, false, refl, sym, ap, subst, arith, ◌∙◌, ◌+◌}
 use Rattle.std.proofs.lemmas.Option.{slice_get-get_or}
-use Rattle.edi_syntax.specs.Segment.{value}
-use Rattle.edi_syntax.specs.Heads.{head_segments}
-use Rattle.office_admission.specs.Parties.{parties_of}
-use Rattle.office_admission.specs.declared.setup.Account.{Account}
+use Rattle.edi_syntax.specs.{Segment.value, Heads.head_segments}
+use Rattle.office_admission.specs.{Parties.parties_of, declared.setup.Account.Account}
 use Rattle.office_admission.proofs.Admitting.{syntax_refused, stray_refused, text_admitted, body_fault_is, recipient_is, kind_there}
 use Rattle.office_admission.proofs.admission.admit_from.Goals as goal
 

@@ -1,6 +1,5 @@
 use Rattle.std.proofs.Common.{Some, None}
-use Rattle.office_admission.specs.Parties.{parties_of}
-use Rattle.office_admission.proofs.Admitting.{syntax_refused, stranger_refused, body_fault_is}
+use Rattle.office_admission.{specs.Parties.parties_of, proofs.Admitting.{syntax_refused, stranger_refused, body_fault_is}}
 use Rattle.office_admission.proofs.admission.stranger_fault.Goals as goal
 
 pub returns-in-Err : goal.returns-in-Err

@@ -1,8 +1,6 @@
-use Rattle.std.proofs.Common.{◌≡◌, ◌-◌, ◌+◌, ap, sym, ◌∙◌, drop, arith, string_bytes, Some, cond}
-use Rattle.std.specs.Str.{bytes_eq}
+use Rattle.std.{specs.Str.bytes_eq, proofs.Common.{◌≡◌, ◌-◌, ◌+◌, ap, sym, ◌∙◌, drop, arith, string_bytes, Some, cond}}
+use Rattle.office_admission.specs.{declared.setup.Account.Account, SetupAccounts.{index_in, partner_codes, partner_from}}
 use Rattle.office_admission.proofs.Named.{found_after, one_earlier}
-use Rattle.office_admission.specs.declared.setup.Account.{Account}
-use Rattle.office_admission.specs.SetupAccounts.{index_in, partner_codes, partner_from}
 use Rattle.office_admission.proofs.setup.indexes_of.Goals as goal
 
 pub loop-index-preserved : goal.loop-index-preserved

@@ -1,13 +1,9 @@
 use Rattle.std.proofs.Common.{string_bytes, sym, ap, ◌∙◌, ◌++◌, map}
-use Rattle.edi_syntax.specs.Envelope.{header_of, messages_of}
-use Rattle.edi_syntax.specs.Envelopes.{envelope_segments}
-use Rattle.edi_syntax.specs.Header.{preparation}
+use Rattle.edi_syntax.specs.{Envelope.{header_of, messages_of}, Envelopes.envelope_segments, Header.preparation}
 use Rattle.terminal_core.specs.Rows.{change_content}
-use Rattle.office_admission.specs.Tallies.{with_interchange}
-use Rattle.office_admission.specs.Taking.{messages_taken, source_in}
+use Rattle.office_admission.{specs.{Tallies.with_interchange, Taking.{messages_taken, source_in}}, proofs.Adding.ok_weaker}
 use Rattle.office_admission.proofs.Takings.{taken_is, changes_are, reports_are, left_by, ok_both}
 use Rattle.office_admission.proofs.taking.take.Goals as goal
-use Rattle.office_admission.proofs.Adding.{ok_weaker}
 
 pub returns-clause-taken : goal.returns-clause-taken
 returns-clause-taken c =

@@ -1,8 +1,7 @@
 use Rattle.std.proofs.Common.{length, map, ap, ◌∙◌}
 use Rattle.edi_syntax.specs.Frames.{messages_left}
 use Rattle.office_replies.specs.Messages.{report_content}
-use Rattle.office_admission.specs.Taking.{verdicts_of}
-use Rattle.office_admission.proofs.Takings.{reports_count, verdicts_count}
+use Rattle.office_admission.{specs.Taking.verdicts_of, proofs.Takings.{reports_count, verdicts_count}}
 use Rattle.office_admission.proofs.taking.take_interchange.Goals as goal
 
 pub write_contrl-requires : goal.write_contrl-requires

@@ -1,5 +1,4 @@
-use Rattle.std.proofs.Common.{◌≡◌, ◌+◌, ◌<◌, ◌∷◌, length, drop, map, get_or, string_bytes, rules, sym, ap, subst, ◌∙◌}
-use Rattle.std.proofs.lemmas.List.{drop_more}
+use Rattle.std.proofs.{Common.{◌≡◌, ◌+◌, ◌<◌, ◌∷◌, length, drop, map, get_or, string_bytes, rules, sym, ap, subst, ◌∙◌}, lemmas.List.drop_more}
 use Rattle.office_closing.specs.Register.{archive_content, register_content}
 use Rattle.office_archive_files.specs.Listing.{FollowIn}
 use Rattle.office_archive_files.proofs.archives.archive_lines.Goals as goal

@@ -1,5 +1,4 @@
-use Rattle.std.proofs.Common.{ℕ, List, [], drop, map}
-use Rattle.std.specs.Prelude.{string_bytes}
+use Rattle.std.{specs.Prelude.string_bytes, proofs.Common.{ℕ, List, [], drop, map}}
 use Rattle.office_closing.specs.Register.{archive_content, register_content}
 use Rattle.office_archive_files.specs.Listing.{FollowIn}
 use Rattle.office_archive_files.proofs.archives.archive_lines.Given as goal

@@ -1,8 +1,6 @@
-use Rattle.std.proofs.Common.{◌≡◌, inl, ℕ, List, [], length, map, rules, string_bytes, refl, sym, subst, ◌∙◌}
-use Rattle.std.proofs.lemmas.List.{length-map}
+use Rattle.std.proofs.{Common.{◌≡◌, inl, ℕ, List, [], length, map, rules, string_bytes, refl, sym, subst, ◌∙◌}, lemmas.List.length-map}
 use Rattle.std.proofs.lemmas.Result.{err_from_is_err_and}
-use Rattle.sqlite.specs.Recovery.{Image}
-use Rattle.sqlite.specs.WalFiles.{image_at}
+use Rattle.sqlite.specs.{Recovery.Image, WalFiles.image_at}
 use Rattle.sqlite_trees.specs.declared.store.Store.{Ghosts}
 use Rattle.office_admission.specs.Setups.{SetupContent, setup_content}
 use Rattle.office_commands.specs.Ending.{Prints}

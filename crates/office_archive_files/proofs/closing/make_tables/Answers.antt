@@ -1,13 +1,7 @@
-use Rattle.std.proofs.Common.{◌≡◌, ◌==◌, inl, inr, length, not, rules, sym, ap, subst, ◌∙◌, arith}
-use Rattle.std.proofs.lemmas.List.{length-map}
-use Rattle.std.proofs.lemmas.Result.{err_from_is_err_and}
-use Rattle.sqlite.specs.Effect.{Database}
-use Rattle.sqlite.specs.Held.{state}
-use Rattle.sqlite.specs.State.{HasCleanDisk}
+use Rattle.std.proofs.{Common.{◌≡◌, ◌==◌, inl, inr, length, not, rules, sym, ap, subst, ◌∙◌, arith}, lemmas.List.length-map, lemmas.Result.err_from_is_err_and}
+use Rattle.sqlite.specs.{Effect.Database, Held.state, State.HasCleanDisk}
 use Rattle.office_tables.specs.Opened.{AreMissing}
-use Rattle.office_closing.specs.Register.{RegisterContent, archive_content, register_content}
-use Rattle.office_closing.specs.Stored.{HasRegister}
-use Rattle.office_closing.specs.Tables.{register_tables}
+use Rattle.office_closing.specs.{Register.{RegisterContent, archive_content, register_content}, Stored.HasRegister, Tables.register_tables}
 use Rattle.office_archive_files.proofs.FileLemmas.{never_missing}
 use Rattle.office_archive_files.proofs.closing.make_tables.Goals as goal
 

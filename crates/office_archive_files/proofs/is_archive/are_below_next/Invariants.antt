@@ -1,5 +1,4 @@
-use Rattle.std.proofs.Common.{take}
-use Rattle.std.specs.List.{AllByRecursion}
+use Rattle.std.{specs.List.AllByRecursion, proofs.Common.take}
 use Rattle.office_archive_files.specs.Archives.{IsBelowNext}
 use Rattle.office_archive_files.proofs.is_archive.are_below_next.Given as goal
 

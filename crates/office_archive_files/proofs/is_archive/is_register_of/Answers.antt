@@ -1,7 +1,5 @@
-use Rattle.std.proofs.Common.{◌≡◌, List, length, map, take, rules, refl, sym, ap, ◌∙◌}
-use Rattle.std.proofs.lemmas.List.{length-map, take-map}
-use Rattle.office_closing.specs.Register.{archive_content}
-use Rattle.office_closing.specs.declared.register.Archive.{Archive}
+use Rattle.std.proofs.{Common.{◌≡◌, List, length, map, take, rules, refl, sym, ap, ◌∙◌}, lemmas.List.{length-map, take-map}}
+use Rattle.office_closing.specs.{Register.archive_content, declared.register.Archive.Archive}
 use Rattle.office_archive_files.proofs.is_archive.is_register_of.Goals as goal
 
 -- the first of a list, told by what each says

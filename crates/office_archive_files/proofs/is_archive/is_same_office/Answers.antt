@@ -1,9 +1,6 @@
-use Rattle.std.proofs.Common.{◌≡◌, List, ℕ, length, take, rules, sym, ap, ◌∙◌}
-use Rattle.std.specs.Prelude.{string_bytes}
-use Rattle.std.proofs.lemmas.List.{length-map, take-map}
+use Rattle.std.{specs.Prelude.string_bytes, proofs.{Common.{◌≡◌, List, ℕ, length, take, rules, sym, ap, ◌∙◌}, lemmas.List.{length-map, take-map}}}
 use Rattle.edi_messages.specs.declared.codes.PartnerKind.{PartnerKind}
-use Rattle.office_admission.specs.declared.setup.Account.{Account}
-use Rattle.office_admission.specs.SetupAccounts.{account_contents}
+use Rattle.office_admission.specs.{declared.setup.Account.Account, SetupAccounts.account_contents}
 use Rattle.office_archive_files.proofs.is_archive.is_same_office.Goals as goal
 
 abbrev said : Account → List ℕ × PartnerKind

@@ -1,10 +1,7 @@
-use Rattle.std.proofs.Common.{◌≡◌, Some, false, true, ap, subst, ◌∙◌}
-use Rattle.std.specs.Prelude.{not}
-use Rattle.partner_core.specs.Answers.{Clash, Repeat}
-use Rattle.partner_core.specs.Standings.{is_same_text}
-use Rattle.office_desk.specs.Answers.{answer_by_model}
+use Rattle.std.{specs.Prelude.not, proofs.Common.{◌≡◌, Some, false, true, ap, subst, ◌∙◌}}
+use Rattle.partner_core.specs.{Answers.{Clash, Repeat}, Standings.is_same_text}
+use Rattle.office_desk.{specs.Answers.answer_by_model, proofs.DeliverLemmas.is_now}
 use Rattle.office_tables.specs.declared.interchanges.Kept.{Kept}
-use Rattle.office_desk.proofs.DeliverLemmas.{is_now}
 use Rattle.office_archives.proofs.Filled.{clash_answers, repeat_answers, same_text, other_text}
 use Rattle.office_archives.proofs.archives.answer_closed.Goals as goal
 

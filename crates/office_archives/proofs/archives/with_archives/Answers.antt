@@ -1,16 +1,11 @@
 use Rattle.std.proofs.Common.{◌≡◌, ℕ, List, Option, None, Some, option_map, string_bytes, ap, ◌∙◌}
 use Rattle.office_rows.proofs.Creating.{if_ok}
 use Rattle.serde_json.specs.Written.{compact_text}
-use Rattle.office_reports.specs.declared.query.View.{View}
-use Rattle.office_reports.specs.declared.query.View.TheVariants.{Text, Json, Csv, Page}
-use Rattle.office_report_data.specs.Archives.{ToldContent, told_data, with_archives as with_member}
-use Rattle.office_report_data.specs.Calls.{calls_object}
-use Rattle.office_report_data.specs.Containers.{container_object}
-use Rattle.office_report_data.specs.Visits.{visits_object}
-use Rattle.office_report_data.specs.Told.{ReportContent, shown}
+use Rattle.office_reports.specs.{declared.query.View.View, declared.query.View.TheVariants.{Text, Json, Csv, Page}}
+use Rattle.office_report_data.specs.{Archives.{ToldContent, told_data, with_archives as with_member}, Calls.calls_object, Containers.container_object}
+use Rattle.office_report_data.specs.{Visits.visits_object, Told.{ReportContent, shown}}
+use Rattle.office_archives.{specs.Telling.{AreAsked, AreEnded, json_beside, shown_beside, with_archives, with_note}, proofs.Noted.asked_end}
 use Rattle.office_report_data.specs.Told as value
-use Rattle.office_archives.specs.Telling.{AreAsked, AreEnded, json_beside, shown_beside, with_archives, with_note}
-use Rattle.office_archives.proofs.Noted.{asked_end}
 use Rattle.office_archives.proofs.archives.with_archives.Goals as goal
 
 line_beside : (view : View) (count : ℕ) (told found : Option (List ℕ)) (what : Option ReportContent) → view ≡ Text → found ≡ with_archives count told → told ≡ option_map (shown view) what → found ≡ shown_beside count view what

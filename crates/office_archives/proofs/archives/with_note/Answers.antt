@@ -1,9 +1,6 @@
-use Rattle.std.proofs.Common.{◌≡◌, ℕ, List, ◌++◌, Option, None, Some, option_map, string_bytes, sym, ap, ◌∙◌}
-use Rattle.std.proofs.lemmas.Option.{same_Some}
-use Rattle.office_pages.specs.Archives.{archives_note}
-use Rattle.office_pages.specs.Fixed.{foot}
-use Rattle.office_archives.specs.Telling.{AreEnded, with_note}
-use Rattle.office_archives.proofs.Noted.{note_before_end}
+use Rattle.std.proofs.{Common.{◌≡◌, ℕ, List, ◌++◌, Option, None, Some, option_map, string_bytes, sym, ap, ◌∙◌}, lemmas.Option.same_Some}
+use Rattle.office_pages.specs.{Archives.archives_note, Fixed.foot}
+use Rattle.office_archives.{specs.Telling.{AreEnded, with_note}, proofs.Noted.note_before_end}
 use Rattle.office_archives.proofs.archives.with_note.Goals as goal
 
 noted : (count : ℕ) (page text : List ℕ) (what : Option (List ℕ)) → AreEnded what → Some page ≡ what → ((body : List ℕ) → page ≡ body ++ foot → text ≡ body ++ archives_note count ++ foot) → Some text ≡ option_map (with_note count) what

@@ -1,10 +1,8 @@
-use Rattle.std.proofs.Common.{[], ◌∷◌, Some, Ok, map, option_map, sym, ap, subst, ◌∙◌}
-use Rattle.std.proofs.lemmas.Result.{err_from_is_err_and}
+use Rattle.std.proofs.{Common.{[], ◌∷◌, Some, Ok, map, option_map, sym, ap, subst, ◌∙◌}, lemmas.Result.err_from_is_err_and}
 use Rattle.edi_messages.specs.Owned.{call_content}
 use Rattle.office_rows.specs.Rows.{listing_content}
 use Rattle.office_parts.specs.OwnLists.{list_name}
-use Rattle.office_archives.specs.ListsAway.{FindsIfAway}
-use Rattle.office_archives.proofs.Brought.{brings_fault, brings_lines, brings_nothing}
+use Rattle.office_archives.{specs.ListsAway.FindsIfAway, proofs.Brought.{brings_fault, brings_lines, brings_nothing}}
 use Rattle.office_archives.proofs.bringing.bring_back.Goals as goal
 
 pub returns-in_err-lines : goal.returns-in_err-lines

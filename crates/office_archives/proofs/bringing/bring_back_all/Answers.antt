@@ -1,10 +1,8 @@
-use Rattle.std.proofs.Common.{Ok, Err, [], ◌∷◌, map, take, sym, subst, refl}
-use Rattle.std.proofs.lemmas.Result.{err_from_is_err_and}
+use Rattle.std.proofs.{Common.{Ok, Err, [], ◌∷◌, map, take, sym, subst, refl}, lemmas.Result.err_from_is_err_and}
 use Rattle.office_tables.proofs.WritesLemmas.{taken_more}
 use Rattle.office_desk.proofs.LookLemmas.{looks_nowhere}
 use Rattle.office_parts.specs.Named.{named_list_content}
-use Rattle.office_archives.specs.Bringing.{BringsTogether}
-use Rattle.office_archives.proofs.Brought.{brings_failed, brings_more, brings_nothing}
+use Rattle.office_archives.{specs.Bringing.BringsTogether, proofs.Brought.{brings_failed, brings_more, brings_nothing}}
 use Rattle.office_archives.proofs.bringing.bring_back_all.Goals as goal
 
 pub loop-list-init : goal.loop-list-init

@@ -1,14 +1,9 @@
-use Rattle.std.proofs.Common.{◌≡◌, Ok, map, refl, sym, ap, subst, ◌∙◌}
-use Rattle.std.proofs.lemmas.Result.{err_from_is_err_and}
+use Rattle.std.proofs.{Common.{◌≡◌, Ok, map, refl, sym, ap, subst, ◌∙◌}, lemmas.Result.err_from_is_err_and}
 use Rattle.office_desk.proofs.LookLemmas.{looks_nowhere}
-use Rattle.office_parts.specs.Named.{named_list_content}
-use Rattle.office_parts.specs.Naming.{interchange_lists}
-use Rattle.office_admission.specs.Parties.{partner_kinds}
-use Rattle.office_admission.specs.declared.setup.Setup.{Setup}
-use Rattle.office_admission.specs.Outcomes.{IsAdmitted}
+use Rattle.office_parts.specs.{Named.named_list_content, Naming.interchange_lists}
+use Rattle.office_admission.specs.{Parties.partner_kinds, declared.setup.Setup.Setup, Outcomes.IsAdmitted}
 use Rattle.terminal_core.specs.Versions.{newest}
-use Rattle.office_archives.specs.Bringing.{BringsTogether, named_by}
-use Rattle.office_archives.proofs.Brought.{brings_fault, brings_nothing, never_away, none_there}
+use Rattle.office_archives.{specs.Bringing.{BringsTogether, named_by}, proofs.Brought.{brings_fault, brings_nothing, never_away, none_there}}
 use Rattle.office_archives.proofs.bringing.bring_back_named.Goals as goal
 
 -- no list was put away

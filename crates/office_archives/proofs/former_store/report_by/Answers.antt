@@ -1,7 +1,6 @@
 use Rattle.std.proofs.Common.{sym, subst}
 use Rattle.sqlite.specs.Held.{state}
-use Rattle.office_rows.specs.Stored.{HasRows}
-use Rattle.office_rows.proofs.Creating.{if_ok}
+use Rattle.office_rows.{specs.Stored.HasRows, proofs.Creating.if_ok}
 use Rattle.office_loading.specs.Closed.{closed_content}
 use Rattle.office_admission.specs.Setups.{setup_content}
 use Rattle.office_tables.proofs.WriteLemmas.{one_read, only_then, was_clean}

@@ -1,13 +1,11 @@
 use Rattle.std.proofs.Common.{sym, ap, subst, ◌∙◌}
-use Rattle.sqlite.specs.Effect.{Database}
-use Rattle.sqlite.specs.Held.{state}
+use Rattle.sqlite.specs.{Effect.Database, Held.state}
 use Rattle.office_admission.specs.Setups.{setup_content}
-use Rattle.office_loading.specs.Closed.{closed_content}
-use Rattle.office_loading.specs.Tables.{LoadsOwn}
+use Rattle.office_loading.specs.{Closed.closed_content, Tables.LoadsOwn}
 use Rattle.office_tables.proofs.MadeLemmas.{clean_first, reads_on, ◌then◌}
 use Rattle.office_report_data.specs.Told.{shown}
-use Rattle.office_report_data.specs.Told as value
 use Rattle.office_archives.proofs.Rising.{taken_in}
+use Rattle.office_report_data.specs.Told as value
 use Rattle.office_archives.proofs.former_store.ticket_by.Goals as goal
 
 pub returns-clause-ticket : goal.returns-clause-ticket

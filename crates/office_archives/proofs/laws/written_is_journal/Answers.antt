@@ -1,5 +1,4 @@
-use Rattle.office_archives.specs.Texts.{OpensOn}
-use Rattle.office_archives.proofs.Journal.{written_is_journal}
+use Rattle.office_archives.{specs.Texts.OpensOn, proofs.Journal.written_is_journal}
 use Rattle.office_archives.proofs.laws.written_is_journal.Goals as goal
 
 pub returns : goal.returns

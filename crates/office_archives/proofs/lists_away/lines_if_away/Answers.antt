@@ -1,10 +1,8 @@
+use Rattle.std.specs.{Prelude.String, declared.alloc.Global.Global}
 use Rattle.std.proofs.Common.{◌≡◌, ℕ, List, None, Some, Option, true, false, is_some, option_map, string_bytes, map, refl, sym, ap, subst, ◌∙◌}
-use Rattle.std.specs.Prelude.{String}
-use Rattle.std.specs.declared.alloc.Global.{Global}
 use Rattle.edi_messages.specs.Owned.{call_content}
 use Rattle.office_rows.specs.Rows.{listing_content}
-use Rattle.office_desk.specs.Reports.{DeskTells}
-use Rattle.office_desk.proofs.LookLemmas.{looks_nowhere}
+use Rattle.office_desk.{specs.Reports.DeskTells, proofs.LookLemmas.looks_nowhere}
 use Rattle.office_parts.specs.OwnLists.{list_name}
 use Rattle.office_archives.proofs.Brought.{line_gone, never_away, some_there}
 use Rattle.office_archives.proofs.lists_away.lines_if_away.Goals as goal

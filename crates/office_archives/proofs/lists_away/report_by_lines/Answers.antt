@@ -1,17 +1,11 @@
 use Rattle.std.proofs.Common.{◌≡◌, List, Option, option_map, refl, sym, subst}
-use Rattle.edi_messages.specs.Owned.{call_content}
-use Rattle.edi_messages.specs.Purposes.{CallContent}
-use Rattle.edi_messages.specs.declared.call.Call.{Call}
-use Rattle.terminal_core.specs.State.{TerminalState}
-use Rattle.terminal_core.specs.declared.lines.Side.{Side}
-use Rattle.office_reports.specs.Work.{work_by}
-use Rattle.office_reports.specs.declared.query.About.{About}
-use Rattle.office_reports.specs.declared.query.About.TheVariants as about
-use Rattle.office_reports.specs.Lists.{IsOfLines, list_by}
+use Rattle.edi_messages.specs.{Owned.call_content, Purposes.CallContent, declared.call.Call.Call}
+use Rattle.terminal_core.specs.{State.TerminalState, declared.lines.Side.Side}
+use Rattle.office_reports.specs.{Work.work_by, declared.query.About.About, Lists.{IsOfLines, list_by}}
 use Rattle.office_report_data.specs.Told.{ReportContent}
+use Rattle.office_archives.specs.{ListsAway.TellsList, Telling.IsOfList}
+use Rattle.office_reports.specs.declared.query.About.TheVariants as about
 use Rattle.office_report_data.specs.Told as value
-use Rattle.office_archives.specs.ListsAway.{TellsList}
-use Rattle.office_archives.specs.Telling.{IsOfList}
 use Rattle.office_archives.proofs.lists_away.report_by_lines.Goals as goal
 
 abbrev TellsWork : TerminalState → CallContent → Side → Option ReportContent → Type 0

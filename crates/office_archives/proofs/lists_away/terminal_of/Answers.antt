@@ -1,9 +1,7 @@
-use Rattle.std.proofs.Common.{sym, ap, ◌∙◌}
-use Rattle.std.specs.FinMap as finite_map
-use Rattle.std.proofs.lemmas.Simd.{map-map}
+use Rattle.std.proofs.{Common.{sym, ap, ◌∙◌}, lemmas.Simd.map-map}
 use Rattle.office_loading.proofs.Keyed.{listed_once}
-use Rattle.office_rows.specs.ByKey.{line_entry}
-use Rattle.office_rows.specs.Rows.{listing_content}
+use Rattle.office_rows.specs.{ByKey.line_entry, Rows.listing_content}
+use Rattle.std.specs.FinMap as finite_map
 use Rattle.office_archives.proofs.lists_away.terminal_of.Goals as goal
 
 pub returns-in-Ok-restore : goal.returns-in-Ok-restore

@@ -1,8 +1,7 @@
 use Rattle.std.proofs.Common.{◌≡◌, ◌+◌, ap, ◌∙◌, rules}
 use Rattle.office_loading.specs.Closed.{ClosedContent}
 use Rattle.office_closing.specs.Register.{register_content}
-use Rattle.office_archives.specs.Texts.{OpensOn, closed_before}
-use Rattle.office_archives.proofs.Journal.{added_by}
+use Rattle.office_archives.{specs.Texts.{OpensOn, closed_before}, proofs.Journal.added_by}
 use Rattle.office_archives.proofs.texts.write_archive.Goals as goal
 
 pub returns-clause-added : goal.returns-clause-added

@@ -1,8 +1,7 @@
 use Rattle.std.proofs.Common.{◌≡◌, ◌+◌, ◌<◌, ◌≤◌, [], ◌∷◌, length, drop, map, get_or, Some, refl, rules, sym, ap, subst, ◌∙◌}
 use Rattle.std.proofs.lemmas.List.{drop_all, drop_more}
 use Rattle.office_closing.specs.Register.{archive_content, register_content}
-use Rattle.office_archives.specs.Texts.{AreAdded, FailsIfNone, IsAdded, OpensOn}
-use Rattle.office_archives.proofs.Journal.{added_still}
+use Rattle.office_archives.{specs.Texts.{AreAdded, FailsIfNone, IsAdded, OpensOn}, proofs.Journal.added_still}
 use Rattle.office_archives.proofs.texts.write_archives.Goals as goal
 
 pub loop-archive-preserved : goal.loop-archive-preserved

@@ -1,8 +1,7 @@
 use Rattle.std.proofs.Common.{◌≡◌, List, Option, drop, map, ℕ}
 use Rattle.office_parts.specs.Archives.{Archive}
 use Rattle.office_closing.specs.Register.{archive_content, register_content}
-use Rattle.office_archives.specs.declared.passing.Rest.{Rest}
-use Rattle.office_archives.specs.Texts.{AreAdded, OpensOn}
+use Rattle.office_archives.specs.{declared.passing.Rest.Rest, Texts.{AreAdded, OpensOn}}
 use Rattle.office_archives.proofs.texts.write_archives.Given as goal
 
 -- Whatever the archives that are left make of what is written so far is what all make.

@@ -1,12 +1,9 @@
 use Rattle.std.proofs.Common.{◌≡◌, refl, ap, subst}
-use Rattle.sqlite.specs.Held.{state}
-use Rattle.sqlite.specs.State.{HasCleanDisk}
-use Rattle.office_rows.specs.Rows.{Rows}
-use Rattle.office_rows.specs.Stored.{HasRows}
+use Rattle.sqlite.specs.{Held.state, State.HasCleanDisk}
+use Rattle.office_rows.specs.{Rows.Rows, Stored.HasRows}
 use Rattle.office_loading.specs.Closed.{ClosedContent}
 use Rattle.office_closing.specs.Register.{last_closed, register_content}
-use Rattle.office_archives.specs.Parts.{PartIsWritten, StandInOrder}
-use Rattle.office_archives.proofs.Journal.{own_by}
+use Rattle.office_archives.{specs.Parts.{PartIsWritten, StandInOrder}, proofs.Journal.own_by}
 use Rattle.office_archives.proofs.texts.write_journal.Goals as goal
 
 pub returns-in-Some-2-clause-writes : goal.returns-in-Some-2-clause-writes

@@ -1,16 +1,8 @@
-use Rattle.std.proofs.Common.{◌≡◌, [], ◌∷◌, ◌++◌, true, false, IfErr, refl, ◌∙◌, rules, arith}
-use Rattle.std.proofs.lemmas.Result.{err_from_is_err_and}
-use Rattle.sqlite.specs.Held.{state}
-use Rattle.sqlite.specs.Given.{HasGiven}
-use Rattle.sqlite.specs.State.{HasCleanDisk, IsUnchanged, FailsToQuery, Survives, CommitsShowing}
-use Rattle.office_loading.specs.Closed.{last_closed}
-use Rattle.office_rows.specs.Rows.{Rows}
-use Rattle.office_rows.specs.Stored.{HasRows}
-use Rattle.office_tables.specs.Faults.{IsOfStore}
-use Rattle.office_tables.proofs.MadeLemmas.{reads_same, reads_failed, query_survives, ◌then◌}
-use Rattle.office_loading.proofs.StreamLemmas.{begun_shows, stands_first, stands_next}
-use Rattle.office_loading.specs.Texts.{IsText}
-use Rattle.office_loading.proofs.TakenLemmas.{of_store_only}
+use Rattle.std.proofs.{Common.{◌≡◌, [], ◌∷◌, ◌++◌, true, false, IfErr, refl, ◌∙◌, rules, arith}, lemmas.Result.err_from_is_err_and}
+use Rattle.sqlite.specs.{Held.state, Given.HasGiven, State.{HasCleanDisk, IsUnchanged, FailsToQuery, Survives, CommitsShowing}}
+use Rattle.office_loading.{specs.{Closed.last_closed, Texts.IsText}, proofs.{StreamLemmas.{begun_shows, stands_first, stands_next}, TakenLemmas.of_store_only}}
+use Rattle.office_rows.specs.{Rows.Rows, Stored.HasRows}
+use Rattle.office_tables.{specs.Faults.IsOfStore, proofs.MadeLemmas.{reads_same, reads_failed, query_survives, ◌then◌}}
 use Rattle.office_archives.proofs.PartQuery.{select_part, part_shows, IsRow, none_done, row_passed, more_done, row_shows_text, all_are_shown, part_done}
 use Rattle.office_archives.proofs.writing.write_part.Goals as goal
 

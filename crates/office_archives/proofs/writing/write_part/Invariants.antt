@@ -1,10 +1,7 @@
 use Rattle.std.proofs.Common.{◌≡◌, List, Ok}
-use Rattle.sqlite.specs.Order.{Row}
-use Rattle.sqlite.specs.Held.{state}
-use Rattle.sqlite.specs.State.{HasCleanDisk}
-use Rattle.office_loading.specs.Closed.{last_closed}
+use Rattle.sqlite.specs.{Order.Row, Held.state, State.HasCleanDisk}
+use Rattle.office_loading.{specs.Closed.last_closed, proofs.StreamLemmas.Stands}
 use Rattle.office_tables.specs.Reading.{Reads}
-use Rattle.office_loading.proofs.StreamLemmas.{Stands}
 use Rattle.office_archives.proofs.PartQuery.{select_part, IsRow, AreDoneSoFar}
 use Rattle.office_archives.proofs.writing.write_part.Given as goal
 

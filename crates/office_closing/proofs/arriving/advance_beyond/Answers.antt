@@ -1,7 +1,5 @@
-use Rattle.std.proofs.Common.{◌≡◌, true, false, Err, Ok, sym, ap, ◌∙◌, arith}
-use Rattle.sqlite.specs.Held.{state}
-use Rattle.sqlite.specs.Given.{row_if}
-use Rattle.sqlite.specs.State.{HasCleanDisk}
+use Rattle.std.proofs.Common.{◌≡◌, true, false, Ok, sym, ap, ◌∙◌, arith}
+use Rattle.sqlite.specs.{Held.state, Given.row_if, State.HasCleanDisk}
 use Rattle.office_loading.specs.Closed.{last_closed}
 use Rattle.office_closing.specs.Arriving.{stops_at}
 use Rattle.office_closing.proofs.ArrivingLemmas.{comes_to, on_any, on_none, on_then, passes_more, passes_none, read_no_more, read_one}

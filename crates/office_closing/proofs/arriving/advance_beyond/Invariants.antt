@@ -1,10 +1,7 @@
 use Rattle.std.proofs.Common.{Ok}
-use Rattle.sqlite.specs.Held.{state}
-use Rattle.sqlite.specs.State.{HasCleanDisk}
-use Rattle.sqlite.specs.declared.error.Error.{Error}
+use Rattle.sqlite.specs.{Held.state, State.HasCleanDisk, declared.error.Error.Error}
 use Rattle.office_loading.specs.Closed.{last_closed}
-use Rattle.office_closing.specs.Arriving.{IsReadOn}
-use Rattle.office_closing.proofs.ArrivingLemmas.{HasPassed}
+use Rattle.office_closing.{specs.Arriving.IsReadOn, proofs.ArrivingLemmas.HasPassed}
 use Rattle.office_closing.proofs.arriving.advance_beyond.Given as goal
 
 abbrev pub invariant-each : goal.invariant-each

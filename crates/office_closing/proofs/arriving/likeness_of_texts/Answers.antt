@@ -1,20 +1,13 @@
 use Rattle.std.proofs.Common.{◌≡◌, [], false, Err, Ok, Result, IfErr, IfOk, ℕ, refl, rules, ◌∙◌}
 use Rattle.sqlite_trees.specs.declared.store.Store.{Ghosts}
-use Rattle.sqlite.specs.Held.{Held, state}
-use Rattle.sqlite.specs.Given.{HasGiven}
-use Rattle.sqlite.specs.State.{HasCleanDisk, IsUnchanged, FailsToQuery, Survives, CommitsShowing}
+use Rattle.sqlite.specs.{Held.{Held, state}, Given.HasGiven, State.{HasCleanDisk, IsUnchanged, FailsToQuery, Survives, CommitsShowing}}
 use Rattle.sqlite.specs.declared.rows.stream.Rows.{Rows}
 use Rattle.office_loading.specs.Closed.{last_closed}
-use Rattle.office_rows.specs.Rows.{Rows as OfficeRows}
-use Rattle.office_rows.specs.Stored.{HasRows}
+use Rattle.office_rows.specs.{Rows.Rows as OfficeRows, Stored.HasRows}
 use Rattle.office_tables.proofs.MadeLemmas.{reads_failed}
-use Rattle.office_closing.specs.declared.arriving.Likeness.{Likeness}
-use Rattle.office_closing.specs.declared.faults.FileFault.{FileFault}
-use Rattle.office_closing.specs.Arriving.{AreCompared, IsReadOn, IsTold, StandInOrder, select_arrivals}
-use Rattle.office_closing.specs.Files.{IsRead}
+use Rattle.office_closing.{specs.{declared.arriving.Likeness.Likeness, declared.faults.FileFault.FileFault, Files.IsRead}, proofs.JudgeLemmas.read_err}
+use Rattle.office_closing.{specs.Arriving.{AreCompared, IsReadOn, IsTold, StandInOrder, select_arrivals}, proofs.ArrivalQuery.{only_shows, tells_texts}}
 use Rattle.office_closing.proofs.ArrivingLemmas.{begun_is, begun_read, on_clean, on_same, read_any, read_since}
-use Rattle.office_closing.proofs.ArrivalQuery.{only_shows, tells_texts}
-use Rattle.office_closing.proofs.JudgeLemmas.{read_err}
 use Rattle.office_closing.proofs.arriving.likeness_of_texts.Goals as goal
 
 -- what two queries tell from their start is told of the rows

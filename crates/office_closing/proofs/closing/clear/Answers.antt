@@ -1,10 +1,6 @@
-use Rattle.std.proofs.Common.{◌+◌, [], not, take, drop, ap, sym, refl, ◌∙◌}
-use Rattle.std.proofs.lemmas.List.{take_more, take-append-drop}
-use Rattle.std.proofs.lemmas.Result.{err_from_is_err_and}
+use Rattle.std.proofs.{Common.{◌+◌, [], not, take, drop, ap, sym, refl, ◌∙◌}, lemmas.List.{take_more, take-append-drop}, lemmas.Result.err_from_is_err_and}
 use Rattle.office_parts.specs.LeftOver.{rows_without}
-use Rattle.office_closing.specs.Clearing.{IsWithoutSome}
-use Rattle.office_closing.specs.Deleting.{goes}
-use Rattle.office_closing.proofs.ClearLemmas.{clears_none}
+use Rattle.office_closing.{specs.{Clearing.IsWithoutSome, Deleting.goes}, proofs.ClearLemmas.clears_none}
 use Rattle.office_closing.proofs.NumberLemmas.{more_cleared, more_failed, deleted_none}
 use Rattle.office_closing.proofs.closing.clear.Goals as goal
 

@@ -1,8 +1,7 @@
 use Rattle.std.proofs.Common.{Ok, take}
 use Rattle.sqlite.specs.Held.{state}
 use Rattle.office_parts.specs.LeftOver.{rows_without}
-use Rattle.office_closing.specs.Clearing.{Clears, IsWithoutSome}
-use Rattle.office_closing.specs.Deleting.{goes}
+use Rattle.office_closing.specs.{Clearing.{Clears, IsWithoutSome}, Deleting.goes}
 use Rattle.office_closing.proofs.closing.clear.Given as goal
 
 abbrev pub invariant-loop-numbers : goal.invariant-loop-numbers

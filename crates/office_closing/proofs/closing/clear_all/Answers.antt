@@ -1,13 +1,8 @@
-use Rattle.std.proofs.Common.{Err, Ok, map, subst}
-use Rattle.std.proofs.lemmas.Result.{err_from_is_err_and}
+use Rattle.std.proofs.{Common.{Err, Ok, map, subst}, lemmas.Result.err_from_is_err_and}
 use Rattle.sqlite.specs.Held.{state}
-use Rattle.office_parts.specs.OwnLists.{rows_without_lists}
-use Rattle.office_parts.specs.LeftOver.{rows_without}
-use Rattle.office_closing.specs.Lists.{list_content}
-use Rattle.office_closing.specs.Clearing.{Clears, IsWithoutSome, IsWithoutSomeLists, IsWithoutSomeVisits}
-use Rattle.office_closing.specs.Closes.{closing_content}
-use Rattle.office_closing.specs.Deleting.{all_but, goes, is_one_of, without_visits}
-use Rattle.office_closing.proofs.FileLemmas.{cleared_all, cleared_more, cleared_some}
+use Rattle.office_parts.specs.{OwnLists.rows_without_lists, LeftOver.rows_without}
+use Rattle.office_closing.specs.{Lists.list_content, Clearing.{Clears, IsWithoutSome, IsWithoutSomeLists, IsWithoutSomeVisits}, Closes.closing_content}
+use Rattle.office_closing.{specs.Deleting.{all_but, goes, is_one_of, without_visits}, proofs.FileLemmas.{cleared_all, cleared_more, cleared_some}}
 use Rattle.office_closing.proofs.closing.clear_all.Goals as goal
 
 pub returns-in_err-clear : goal.returns-in_err-clear

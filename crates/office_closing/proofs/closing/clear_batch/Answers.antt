@@ -1,10 +1,7 @@
-use Rattle.std.proofs.Common.{◌≡◌, [], ◌∷◌, true, Err, not, ap, subst, ◌∙◌, rules}
-use Rattle.std.proofs.lemmas.Result.{err_from_is_err_and}
+use Rattle.std.proofs.{Common.{◌≡◌, [], ◌∷◌, true, Err, not, ap, subst, ◌∙◌, rules}, lemmas.Result.err_from_is_err_and}
 use Rattle.sqlite.specs.Held.{state}
 use Rattle.office_parts.specs.LeftOver.{rows_without}
-use Rattle.office_closing.specs.Clearing.{Clears, IsWithoutSome}
-use Rattle.office_closing.specs.Deleting.{goes}
-use Rattle.office_closing.proofs.ClearLemmas.{clears_batch, clears_nothing}
+use Rattle.office_closing.{specs.{Clearing.{Clears, IsWithoutSome}, Deleting.goes}, proofs.ClearLemmas.{clears_batch, clears_nothing}}
 use Rattle.office_closing.proofs.NumberLemmas.{whole_is_some, none_is_some}
 use Rattle.office_closing.proofs.closing.clear_batch.Goals as goal
 

@@ -1,12 +1,8 @@
-use Rattle.std.proofs.Common.{◌≡◌, [], ◌∷◌, true, Err, not, ap, subst, ◌∙◌, rules}
-use Rattle.std.proofs.lemmas.Result.{err_from_is_err_and}
+use Rattle.std.proofs.{Common.{◌≡◌, [], ◌∷◌, true, Err, not, ap, subst, ◌∙◌, rules}, lemmas.Result.err_from_is_err_and}
 use Rattle.sqlite.specs.Held.{state}
 use Rattle.office_parts.specs.OwnLists.{rows_without_lists}
-use Rattle.office_closing.specs.Lists.{list_content}
-use Rattle.office_closing.specs.Clearing.{Clears, IsWithoutSomeLists}
-use Rattle.office_closing.specs.Deleting.{is_one_of}
-use Rattle.office_closing.proofs.ClearLemmas.{clears_batch, clears_nothing}
-use Rattle.office_closing.proofs.NumberLemmas.{none_is_some_lists, one_deleted, whole_is_some_lists}
+use Rattle.office_closing.specs.{Lists.list_content, Clearing.{Clears, IsWithoutSomeLists}, Deleting.is_one_of}
+use Rattle.office_closing.proofs.{ClearLemmas.{clears_batch, clears_nothing}, NumberLemmas.{none_is_some_lists, one_deleted, whole_is_some_lists}}
 use Rattle.office_closing.proofs.closing.clear_list.Goals as goal
 
 pub returns-in_err-delete_list : goal.returns-in_err-delete_list

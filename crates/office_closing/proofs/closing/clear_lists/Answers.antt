@@ -1,11 +1,6 @@
-use Rattle.std.proofs.Common.{◌+◌, ◌++◌, [], ◌∷◌, not, map, take, drop, ap, sym, refl, ◌∙◌}
-use Rattle.std.proofs.lemmas.List.{take-append-drop}
-use Rattle.std.proofs.lemmas.Result.{err_from_is_err_and}
+use Rattle.std.proofs.{Common.{◌+◌, ◌++◌, [], ◌∷◌, not, map, take, drop, ap, sym, refl, ◌∙◌}, lemmas.List.take-append-drop, lemmas.Result.err_from_is_err_and}
 use Rattle.office_parts.specs.OwnLists.{rows_without_lists}
-use Rattle.office_closing.specs.Lists.{list_content}
-use Rattle.office_closing.specs.Clearing.{IsWithoutSomeLists}
-use Rattle.office_closing.specs.Deleting.{is_one_of}
-use Rattle.office_closing.proofs.ClearLemmas.{clears_none}
+use Rattle.office_closing.{specs.{Lists.list_content, Clearing.IsWithoutSomeLists, Deleting.is_one_of}, proofs.ClearLemmas.clears_none}
 use Rattle.office_closing.proofs.NumberLemmas.{list_cleared, list_failed, lists_none, one_more}
 use Rattle.office_closing.proofs.closing.clear_lists.Goals as goal
 

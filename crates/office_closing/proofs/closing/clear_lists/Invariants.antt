@@ -1,9 +1,7 @@
 use Rattle.std.proofs.Common.{Ok, map, take}
 use Rattle.sqlite.specs.Held.{state}
 use Rattle.office_parts.specs.OwnLists.{rows_without_lists}
-use Rattle.office_closing.specs.Lists.{list_content}
-use Rattle.office_closing.specs.Clearing.{Clears, IsWithoutSomeLists}
-use Rattle.office_closing.specs.Deleting.{is_one_of}
+use Rattle.office_closing.specs.{Lists.list_content, Clearing.{Clears, IsWithoutSomeLists}, Deleting.is_one_of}
 use Rattle.office_closing.proofs.closing.clear_lists.Given as goal
 
 abbrev pub invariant-loop-list : goal.invariant-loop-list

@@ -1,9 +1,6 @@
-use Rattle.std.proofs.Common.{inl, inr, [], ◌∷◌, not, ap, refl, ◌∙◌, arith}
-use Rattle.std.proofs.lemmas.Result.{err_from_is_err_and}
+use Rattle.std.proofs.{Common.{inl, inr, [], ◌∷◌, not, ap, refl, ◌∙◌, arith}, lemmas.Result.err_from_is_err_and}
 use Rattle.office_parts.specs.LeftOver.{rows_without}
-use Rattle.office_closing.specs.Clearing.{IsWithoutSome}
-use Rattle.office_closing.specs.Deleting.{goes}
-use Rattle.office_closing.proofs.ClearLemmas.{clears_none}
+use Rattle.office_closing.{specs.{Clearing.IsWithoutSome, Deleting.goes}, proofs.ClearLemmas.clears_none}
 use Rattle.office_closing.proofs.NumberLemmas.{batch_cleared, batch_failed, numbers_cleared, numbers_to, deleted_none, goes_none}
 use Rattle.office_closing.proofs.closing.clear_numbers.Goals as goal
 

@@ -1,9 +1,7 @@
 use Rattle.std.proofs.Common.{◌≡◌, ◌≤◌, ◌-◌, ◌⊎◌, [], ◌∷◌, Ok}
 use Rattle.sqlite.specs.Held.{state}
 use Rattle.office_parts.specs.LeftOver.{rows_without}
-use Rattle.office_closing.specs.Clearing.{Clears, IsWithoutSome}
-use Rattle.office_closing.specs.Deleting.{goes}
-use Rattle.office_closing.proofs.NumberLemmas.{numbers_to}
+use Rattle.office_closing.{specs.{Clearing.{Clears, IsWithoutSome}, Deleting.goes}, proofs.NumberLemmas.numbers_to}
 use Rattle.office_closing.proofs.closing.clear_numbers.Given as goal
 
 abbrev pub invariant-loop-from : goal.invariant-loop-from

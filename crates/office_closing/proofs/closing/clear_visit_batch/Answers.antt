@@ -1,10 +1,7 @@
-use Rattle.std.proofs.Common.{◌≡◌, true, Err, not, ap, subst, ◌∙◌, rules}
-use Rattle.std.proofs.lemmas.Result.{err_from_is_err_and}
+use Rattle.std.proofs.{Common.{◌≡◌, true, Err, not, ap, subst, ◌∙◌, rules}, lemmas.Result.err_from_is_err_and}
 use Rattle.sqlite.specs.Held.{state}
-use Rattle.office_closing.specs.Clearing.{Clears, IsWithoutSomeVisits}
-use Rattle.office_closing.specs.Deleting.{all_but, without_visits}
-use Rattle.office_closing.proofs.ClearLemmas.{clears_batch, clears_nothing}
-use Rattle.office_closing.proofs.NumberLemmas.{whole_is_some_visits, none_is_some_visits}
+use Rattle.office_closing.specs.{Clearing.{Clears, IsWithoutSomeVisits}, Deleting.{all_but, without_visits}}
+use Rattle.office_closing.proofs.{ClearLemmas.{clears_batch, clears_nothing}, NumberLemmas.{whole_is_some_visits, none_is_some_visits}}
 use Rattle.office_closing.proofs.closing.clear_visit_batch.Goals as goal
 
 pub returns-in_err-delete_visits : goal.returns-in_err-delete_visits

@@ -1,9 +1,5 @@
-use Rattle.std.proofs.Common.{◌≡◌, ◌++◌, [], not, ap, ap₂, refl, append_assoc, ◌∙◌}
-use Rattle.std.proofs.lemmas.List.{take-append-drop}
-use Rattle.std.proofs.lemmas.Result.{err_from_is_err_and}
-use Rattle.office_closing.specs.Clearing.{IsWithoutSomeVisits}
-use Rattle.office_closing.specs.Deleting.{all_but, without_visits}
-use Rattle.office_closing.proofs.ClearLemmas.{clears_none}
+use Rattle.std.proofs.{Common.{◌≡◌, ◌++◌, [], not, ap, ap₂, refl, append_assoc, ◌∙◌}, lemmas.List.take-append-drop, lemmas.Result.err_from_is_err_and}
+use Rattle.office_closing.{specs.{Clearing.IsWithoutSomeVisits, Deleting.{all_but, without_visits}}, proofs.ClearLemmas.clears_none}
 use Rattle.office_closing.proofs.NumberLemmas.{visits_cleared, visits_failed, without_none}
 use Rattle.office_closing.proofs.closing.clear_visits.Goals as goal
 

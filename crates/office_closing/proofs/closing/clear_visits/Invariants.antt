@@ -1,7 +1,6 @@
 use Rattle.std.proofs.Common.{◌≡◌, ◌++◌, ℕ, List, Ok, length}
 use Rattle.sqlite.specs.Held.{state}
-use Rattle.office_closing.specs.Clearing.{Clears, IsWithoutSomeVisits}
-use Rattle.office_closing.specs.Deleting.{all_but, without_visits}
+use Rattle.office_closing.specs.{Clearing.{Clears, IsWithoutSomeVisits}, Deleting.{all_but, without_visits}}
 use Rattle.office_closing.proofs.closing.clear_visits.Given as goal
 
 abbrev pub invariant-loop-rest : goal.invariant-loop-rest

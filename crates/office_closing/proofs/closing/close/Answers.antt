@@ -1,7 +1,6 @@
 use Rattle.std.proofs.lemmas.Result.{err_from_is_err_and}
 use Rattle.sqlite.specs.Held.{state}
-use Rattle.office_closing.specs.Copies.{FileNames}
-use Rattle.office_closing.specs.Files.{files}
+use Rattle.office_closing.specs.{Copies.FileNames, Files.files}
 use Rattle.office_closing.proofs.ClosesLemmas.{closes_refused, closes_uncleared, closes_unmarked, closes_unraised, away_whole, closes_whole}
 use Rattle.office_closing.proofs.closing.close.Goals as goal
 

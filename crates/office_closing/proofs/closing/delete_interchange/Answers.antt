@@ -1,6 +1,5 @@
 use Rattle.std.proofs.Common.{[], ◌∷◌, Ok}
-use Rattle.sqlite.specs.Held.{state}
-use Rattle.sqlite.specs.State.{Executes}
+use Rattle.sqlite.specs.{Held.state, State.Executes}
 use Rattle.office_rows.specs.Values.{number_value}
 use Rattle.office_closing.specs.Deleting.{without_interchange}
 use Rattle.office_closing.proofs.ClearLemmas as lemma

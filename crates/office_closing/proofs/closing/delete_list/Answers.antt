@@ -1,11 +1,8 @@
 use Rattle.std.proofs.Common.{[], ◌∷◌, Ok}
-use Rattle.sqlite.specs.declared.types.Value.TheVariants.{Text}
-use Rattle.sqlite.specs.Held.{state}
-use Rattle.sqlite.specs.State.{Executes}
+use Rattle.sqlite.specs.{declared.types.Value.TheVariants.Text, Held.state, State.Executes}
 use Rattle.edi_messages.specs.Owned.{call_content}
 use Rattle.terminal_core.specs.State.{side_code}
-use Rattle.office_parts.specs.Bringing.{is_list}
-use Rattle.office_parts.specs.OwnLists.{list_name, rows_without_lists}
+use Rattle.office_parts.specs.{Bringing.is_list, OwnLists.{list_name, rows_without_lists}}
 use Rattle.office_rows.specs.Values.{number_value}
 use Rattle.office_closing.proofs.ClearLemmas as lemma
 use Rattle.office_closing.proofs.closing.delete_list.Goals as goal

@@ -1,8 +1,7 @@
 use Rattle.std.proofs.Common.{◌≡◌, ◌≤◌, ◌-◌, ◌⊎◌, [], ◌∷◌, Ok}
 use Rattle.sqlite.specs.Held.{state}
 use Rattle.office_parts.specs.LeftOver.{rows_without}
-use Rattle.office_closing.specs.Deleting.{Deletes, goes}
-use Rattle.office_closing.proofs.NumberLemmas.{numbers_to}
+use Rattle.office_closing.{specs.Deleting.{Deletes, goes}, proofs.NumberLemmas.numbers_to}
 use Rattle.office_closing.proofs.closing.delete_numbers.Given as goal
 
 abbrev pub invariant-loop-number : goal.invariant-loop-number

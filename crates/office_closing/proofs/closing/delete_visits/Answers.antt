@@ -1,9 +1,6 @@
-use Rattle.std.proofs.Common.{◌+◌, refl, rules, take, []}
-use Rattle.std.proofs.lemmas.List.{take_more}
+use Rattle.std.proofs.{Common.{◌+◌, refl, rules, take, []}, lemmas.List.take_more}
 use Rattle.sqlite.specs.Held.{state}
-use Rattle.office_closing.specs.Deleting.{without_visits}
-use Rattle.office_closing.proofs.ClearLemmas.{deletes_none}
-use Rattle.office_closing.proofs.NumberLemmas.{visit_deleted, without_none}
+use Rattle.office_closing.{specs.Deleting.without_visits, proofs.{ClearLemmas.deletes_none, NumberLemmas.{visit_deleted, without_none}}}
 use Rattle.office_closing.proofs.closing.delete_visits.Goals as goal
 
 pub loop-visit-init : goal.loop-visit-init

@@ -1,8 +1,6 @@
 use Rattle.std.proofs.Common.{◌≡◌, Ok, true, false, sym, subst, ◌∙◌, rules}
 use Rattle.sqlite.specs.Held.{state}
-use Rattle.office_closing.specs.Changes.{marked_for, unmarked}
-use Rattle.office_closing.specs.Steps.{StepsIf, is_unmarked}
-use Rattle.office_closing.proofs.PlanLemmas.{not_due}
+use Rattle.office_closing.{specs.{Changes.{marked_for, unmarked}, Steps.{StepsIf, is_unmarked}}, proofs.PlanLemmas.not_due}
 use Rattle.office_closing.proofs.closing.mark_archive.Goals as goal
 
 pub returns-then-is_due-clause-steps : goal.returns-then-is_due-clause-steps

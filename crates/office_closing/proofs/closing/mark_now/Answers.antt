@@ -1,6 +1,5 @@
 use Rattle.sqlite.specs.Held.{state}
-use Rattle.office_closing.specs.Changes.{marked_for, unmarked}
-use Rattle.office_closing.proofs.PlanLemmas.{stepped, stopped}
+use Rattle.office_closing.{specs.Changes.{marked_for, unmarked}, proofs.PlanLemmas.{stepped, stopped}}
 use Rattle.office_closing.proofs.closing.mark_now.Goals as goal
 
 pub returns-in-Ok-clause-steps : goal.returns-in-Ok-clause-steps

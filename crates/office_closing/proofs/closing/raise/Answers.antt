@@ -1,12 +1,7 @@
 use Rattle.std.proofs.Common.{◌≡◌, Bool, List, Ok, true, false, map, sym, subst, ◌∙◌, rules}
 use Rattle.sqlite.specs.Held.{state}
-use Rattle.office_closing.specs.Changes.{closed_with, unchanged}
-use Rattle.office_closing.specs.Lists.{list_content}
-use Rattle.office_closing.specs.Register.{archive_content}
-use Rattle.office_closing.specs.declared.register.Segment.{Segment}
-use Rattle.office_closing.specs.declared.settled_lists.SettledList.{SettledList}
-use Rattle.office_closing.specs.Steps.{StepsIf, is_unraised}
-use Rattle.office_closing.proofs.PlanLemmas.{not_due}
+use Rattle.office_closing.specs.{Changes.{closed_with, unchanged}, Lists.list_content, Register.archive_content, declared.register.Segment.Segment}
+use Rattle.office_closing.{specs.{declared.settled_lists.SettledList.SettledList, Steps.{StepsIf, is_unraised}}, proofs.PlanLemmas.not_due}
 use Rattle.office_closing.proofs.closing.raise.Goals as goal
 
 pub returns-then-is_due-clause-steps : goal.returns-then-is_due-clause-steps

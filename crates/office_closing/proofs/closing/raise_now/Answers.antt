@@ -1,9 +1,6 @@
 use Rattle.std.specs.Prelude.{map}
 use Rattle.sqlite.specs.Held.{state}
-use Rattle.office_closing.specs.Changes.{closed_with, unchanged}
-use Rattle.office_closing.specs.Lists.{list_content}
-use Rattle.office_closing.specs.Register.{archive_content}
-use Rattle.office_closing.proofs.PlanLemmas.{stepped, stopped}
+use Rattle.office_closing.{specs.{Changes.{closed_with, unchanged}, Lists.list_content, Register.archive_content}, proofs.PlanLemmas.{stepped, stopped}}
 use Rattle.office_closing.proofs.closing.raise_now.Goals as goal
 
 pub returns-in-Ok-clause-steps : goal.returns-in-Ok-clause-steps

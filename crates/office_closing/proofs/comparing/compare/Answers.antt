@@ -1,11 +1,8 @@
-use Rattle.std.proofs.Common.{◌+◌, take, drop, sym, ap, subst, ◌∙◌}
-use Rattle.std.proofs.lemmas.List.{take_more, take_all, take-append-drop}
-use Rattle.std.proofs.lemmas.Result.{err_from_is_err_and}
+use Rattle.std.proofs.{Common.{◌+◌, take, drop, sym, ap, subst, ◌∙◌}, lemmas.List.{take_more, take_all, take-append-drop}, lemmas.Result.err_from_is_err_and}
 use Rattle.sqlite.specs.Held.{state}
 use Rattle.office_rows.specs.Stored.{HasRows}
 use Rattle.office_tables.specs.DeliveryReading.{IsSame}
-use Rattle.office_closing.specs.Deleting.{is_among}
-use Rattle.office_closing.proofs.FileLemmas.{among_all, compared_more, either_more, unfit_of_all}
+use Rattle.office_closing.{specs.Deleting.is_among, proofs.FileLemmas.{among_all, compared_more, either_more, unfit_of_all}}
 use Rattle.office_closing.proofs.JudgeLemmas.{clean_before, if_open_after, if_open_after_failed, if_open_passed, none_read}
 use Rattle.office_closing.proofs.comparing.compare.Goals as goal
 

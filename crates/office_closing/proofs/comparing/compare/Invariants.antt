@@ -1,11 +1,8 @@
 use Rattle.std.proofs.Common.{None, Ok, take}
-use Rattle.sqlite.specs.Held.{state}
-use Rattle.sqlite.specs.State.{HasCleanDisk}
-use Rattle.office_rows.specs.Rows.{Rows}
-use Rattle.office_rows.specs.Stored.{HasRows}
+use Rattle.sqlite.specs.{Held.state, State.HasCleanDisk}
+use Rattle.office_rows.specs.{Rows.Rows, Stored.HasRows}
 use Rattle.office_history.specs.After.{AreKeptOnce}
-use Rattle.office_closing.specs.Comparing.{IsComparedAs}
-use Rattle.office_closing.specs.Files.{IsReadIfOpen}
+use Rattle.office_closing.specs.{Comparing.IsComparedAs, Files.IsReadIfOpen}
 use Rattle.office_closing.proofs.comparing.compare.Given as goal
 
 abbrev pub invariant-loop-numbers : goal.invariant-loop-numbers

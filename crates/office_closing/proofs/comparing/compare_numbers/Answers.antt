@@ -1,14 +1,8 @@
-use Rattle.std.proofs.Common.{◌≡◌, ℕ, ◌+◌, [], ◌∷◌, inl, inr, true, sym, subst, arith}
-use Rattle.std.proofs.lemmas.Bool.{cases_order}
-use Rattle.std.proofs.lemmas.Result.{err_from_is_err_and}
+use Rattle.std.proofs.{Common.{◌≡◌, ℕ, ◌+◌, [], ◌∷◌, inl, inr, true, sym, subst, arith}, lemmas.Bool.cases_order, lemmas.Result.err_from_is_err_and}
 use Rattle.sqlite.specs.Held.{state}
-use Rattle.office_rows.specs.Rows.{Rows}
-use Rattle.office_rows.specs.Stored.{HasRows}
-use Rattle.office_tables.specs.Answers.{HasUnfitReply}
-use Rattle.office_tables.specs.DeliveryReading.{IsSame}
-use Rattle.office_closing.specs.declared.comparing.Numbers.{Numbers}
-use Rattle.office_closing.specs.Comparing.{HasUnfitAmong, IsToldAlike}
-use Rattle.office_closing.specs.Deleting.{is_among}
+use Rattle.office_rows.specs.{Rows.Rows, Stored.HasRows}
+use Rattle.office_tables.specs.{Answers.HasUnfitReply, DeliveryReading.IsSame}
+use Rattle.office_closing.specs.{declared.comparing.Numbers.Numbers, Comparing.{HasUnfitAmong, IsToldAlike}, Deleting.is_among}
 use Rattle.office_closing.proofs.FileLemmas.{among_parts, either_more, is_among_one}
 use Rattle.office_closing.proofs.JudgeLemmas.{if_open_after, if_open_after_failed, if_open_passed, none_read, read_clean, read_if_open}
 use Rattle.office_closing.proofs.comparing.compare_numbers.Goals as goal

@@ -1,11 +1,8 @@
 use Rattle.std.proofs.Common.{ℕ, ◌<◌, ◌≤◌, ◌-◌, Ok}
-use Rattle.sqlite.specs.Held.{state}
-use Rattle.sqlite.specs.State.{HasCleanDisk}
-use Rattle.office_rows.specs.Rows.{Rows}
-use Rattle.office_rows.specs.Stored.{HasRows}
+use Rattle.sqlite.specs.{Held.state, State.HasCleanDisk}
+use Rattle.office_rows.specs.{Rows.Rows, Stored.HasRows}
 use Rattle.office_history.specs.After.{AreKeptOnce}
-use Rattle.office_closing.specs.Comparing.{IsToldAlike}
-use Rattle.office_closing.specs.Files.{IsReadIfOpen}
+use Rattle.office_closing.specs.{Comparing.IsToldAlike, Files.IsReadIfOpen}
 use Rattle.office_closing.proofs.comparing.compare_numbers.Given as goal
 
 abbrev pub invariant-loop-number : goal.invariant-loop-number

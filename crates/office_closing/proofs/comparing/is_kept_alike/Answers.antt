@@ -1,7 +1,6 @@
 use Rattle.std.proofs.lemmas.Result.{err_from_is_err_and}
 use Rattle.sqlite.specs.Held.{state}
-use Rattle.office_closing.proofs.FileLemmas.{kept_same, of_copy, of_own, told_alike}
-use Rattle.office_closing.proofs.JudgeLemmas.{failed, passed, untouched_err}
+use Rattle.office_closing.proofs.{FileLemmas.{kept_same, of_copy, of_own, told_alike}, JudgeLemmas.{failed, passed, untouched_err}}
 use Rattle.office_closing.proofs.comparing.is_kept_alike.Goals as goal
 
 pub returns-clause-alike : goal.returns-clause-alike

@@ -2,8 +2,7 @@ use Rattle.std.proofs.Common.{[], ◌∷◌, take}
 use Rattle.sqlite.specs.Held.{state}
 use Rattle.office_rows.specs.Stored.{HasEmpty}
 use Rattle.office_tables.proofs.MadeLemmas.{creates_of, makes_one}
-use Rattle.office_closing.specs.Tables.{register_tables, archive_table}
-use Rattle.office_closing.proofs.Created.{created_archive}
+use Rattle.office_closing.{specs.Tables.{register_tables, archive_table}, proofs.Created.created_archive}
 use Rattle.office_closing.proofs.WriteTexts as texts
 use Rattle.office_closing.proofs.creating.create_archive.Goals as goal
 

@@ -1,16 +1,8 @@
 use Rattle.std.proofs.Common.{◌≡◌, IsTrue, true, not, refl, sym, ap, subst, ◌∙◌, take, arith, rules}
-use Rattle.sqlite.specs.State.{HasCleanDisk, Survives}
-use Rattle.sqlite.specs.Held.{state}
-use Rattle.sqlite.specs.Effect.{Database}
-use Rattle.sqlite.proofs.StateLemmas.{survives_then}
-use Rattle.sqlite.proofs.Callers.{survives_begin}
-use Rattle.office_rows.specs.Stored.{HasEmpty}
-use Rattle.office_rows.specs.Steps.{Turns}
+use Rattle.sqlite.{specs.{State.{HasCleanDisk, Survives}, Held.state, Effect.Database}, proofs.{StateLemmas.survives_then, Callers.survives_begin}}
+use Rattle.office_rows.specs.{Stored.HasEmpty, Steps.Turns}
 use Rattle.office_tables.specs.Opened.{AreMissing, MakesTables}
-use Rattle.office_closing.specs.Changes.{empty_register}
-use Rattle.office_closing.specs.Stored.{HasWhole}
-use Rattle.office_closing.specs.Tables.{register_tables, whole}
-use Rattle.office_closing.specs.Transactions.{IsMade}
+use Rattle.office_closing.specs.{Changes.empty_register, Stored.HasWhole, Tables.{register_tables, whole}, Transactions.IsMade}
 use Rattle.office_closing.proofs.Committing.{made, made_register}
 use Rattle.office_closing.proofs.creating.create_register.Goals as goal
 

@@ -2,8 +2,7 @@ use Rattle.std.proofs.Common.{[], ◌∷◌, take}
 use Rattle.sqlite.specs.Held.{state}
 use Rattle.office_rows.specs.Stored.{HasEmpty}
 use Rattle.office_tables.proofs.MadeLemmas.{creates_then}
-use Rattle.office_closing.specs.Changes.{empty_register}
-use Rattle.office_closing.specs.Stored.{HasWhole}
+use Rattle.office_closing.specs.{Changes.empty_register, Stored.HasWhole}
 use Rattle.office_closing.specs.Tables.{register_tables, archive_table, segment_table, closed_for_table, settled_table, taken_table}
 use Rattle.office_closing.proofs.creating.create_tables.Goals as goal
 

@@ -2,10 +2,7 @@ use Rattle.std.proofs.Common.{[], ◌∷◌, take}
 use Rattle.sqlite.specs.Held.{state}
 use Rattle.office_rows.specs.Stored.{HasEmpty}
 use Rattle.office_tables.proofs.MadeLemmas.{creates_of, makes_one}
-use Rattle.office_closing.specs.Changes.{empty_register}
-use Rattle.office_closing.specs.Stored.{HasWhole}
-use Rattle.office_closing.specs.Tables.{register_tables, taken_table}
-use Rattle.office_closing.proofs.Created.{created_taken}
+use Rattle.office_closing.{specs.{Changes.empty_register, Stored.HasWhole, Tables.{register_tables, taken_table}}, proofs.Created.created_taken}
 use Rattle.office_closing.proofs.WriteTexts as texts
 use Rattle.office_closing.proofs.creating.create_taken.Goals as goal
 

@@ -1,13 +1,10 @@
-use Rattle.std.proofs.Common.{◌≡◌, ◌+◌, inl, inr, [], ◌∷◌, ◌++◌, map, take, sym, ap, subst, ◌∙◌}
-use Rattle.std.proofs.lemmas.List.{map_more, take_all}
+use Rattle.std.proofs.{Common.{◌≡◌, ◌+◌, inl, inr, [], ◌∷◌, ◌++◌, map, take, sym, ap, subst, ◌∙◌}, lemmas.List.{map_more, take_all}}
 use Rattle.office_parts.specs.Named.{named_list_content}
-use Rattle.office_closing.specs.Lists.{list_content}
-use Rattle.office_rows.specs.Rows.{listing_content}
-use Rattle.office_closing.specs.Found.{list_on}
-use Rattle.office_closing.specs.Going.{IsAmong}
+use Rattle.office_closing.specs.{Lists.list_content, Found.list_on, Going.IsAmong}
 use Rattle.office_closing.proofs.FoundLemmas.{AreFoundOf, content_in, found_all, found_already, found_before, found_step}
-use Rattle.office_closing.proofs.going.done_lists.Goals as goal
 use Rattle.office_closing.proofs.going.done_lists.Goals.{then-not-is_looked_at+in_ok-list+in_ok-push_if_any, else-not-is_looked_at}
+use Rattle.office_rows.specs.Rows.{listing_content}
+use Rattle.office_closing.proofs.going.done_lists.Goals as goal
 
 pub loop-index-preserved : goal.loop-index-preserved
 loop-index-preserved c =

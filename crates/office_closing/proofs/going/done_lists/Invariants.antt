@@ -1,8 +1,7 @@
 use Rattle.std.proofs.Common.{map, take}
 use Rattle.office_parts.specs.Named.{named_list_content}
-use Rattle.office_closing.specs.Lists.{list_content}
+use Rattle.office_closing.{specs.Lists.list_content, proofs.FoundLemmas.AreFoundOf}
 use Rattle.office_rows.specs.Rows.{listing_content}
-use Rattle.office_closing.proofs.FoundLemmas.{AreFoundOf}
 use Rattle.office_closing.proofs.going.done_lists.Given as goal
 
 abbrev pub invariant-loop-index : goal.invariant-loop-index

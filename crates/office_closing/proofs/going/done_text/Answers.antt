@@ -1,7 +1,6 @@
 use Rattle.std.proofs.Common.{map, sym, ◌∙◌}
 use Rattle.office_rows.specs.Rows.{listing_content}
-use Rattle.office_closing.specs.Found.{list_on}
-use Rattle.office_closing.proofs.FoundLemmas.{content_in, not_all}
+use Rattle.office_closing.{specs.Found.list_on, proofs.FoundLemmas.{content_in, not_all}}
 use Rattle.office_closing.proofs.going.done_text.Goals as goal
 
 pub returns-then-not-is_done-clause-none : goal.returns-then-not-is_done-clause-none

@@ -1,8 +1,7 @@
 use Rattle.std.proofs.Common.{map, refl, sym, subst, ◌∙◌}
 use Rattle.office_parts.specs.Named.{named_list_content}
 use Rattle.office_rows.specs.Rows.{listing_content}
-use Rattle.office_closing.specs.Found.{IsFoundAs, list_on}
-use Rattle.office_closing.proofs.FoundLemmas.{named_tied}
+use Rattle.office_closing.{specs.Found.{IsFoundAs, list_on}, proofs.FoundLemmas.named_tied}
 use Rattle.office_closing.proofs.going.list_of.Goals as goal
 
 pub returns-then-is_named-clause-none : goal.returns-then-is_named-clause-none

@@ -1,11 +1,9 @@
-use Rattle.std.proofs.Common.{◌≡◌, ap, sym, subst, ◌∙◌, rules}
-use Rattle.std.proofs.lemmas.Result.{err_from_is_err_and}
 use Rattle.std.specs.Prelude.{ℕ, false, true}
+use Rattle.std.proofs.Common.{◌≡◌, ap, sym, subst, ◌∙◌}
+use Rattle.std.proofs.lemmas.Result.{err_from_is_err_and}
 use Rattle.sqlite.specs.Held.{state}
 use Rattle.office_loading.specs.Closed.{ClosedContent}
-use Rattle.office_closing.specs.Arriving.{HasTexts}
-use Rattle.office_closing.specs.Judging.{WantsAll}
-use Rattle.office_closing.proofs.JudgeLemmas.{failed, passed, untouched_err}
+use Rattle.office_closing.{specs.{Arriving.HasTexts, Judging.WantsAll}, proofs.JudgeLemmas.{failed, passed, untouched_err}}
 use Rattle.office_closing.proofs.judging.check_order.Goals as goal
 
 pub returns-in_err-closed-clause-store_read : goal.returns-in_err-closed-clause-store_read

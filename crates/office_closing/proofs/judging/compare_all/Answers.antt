@@ -1,14 +1,8 @@
 use Rattle.std.proofs.Common.{◌≡◌, List, None, Ok, Err, OnOk, Result, false, true, sym, subst, ◌∙◌, rules}
-use Rattle.sqlite.specs.Effect.{Database}
-use Rattle.sqlite.specs.Held.{state}
+use Rattle.sqlite.specs.{Effect.Database, Held.state}
 use Rattle.office_history.specs.After.{AreKeptOnce}
-use Rattle.office_rows.specs.Rows.{Rows}
-use Rattle.office_rows.specs.Stored.{HasRows}
-use Rattle.office_closing.specs.declared.comparing.Numbers.{Numbers}
-use Rattle.office_closing.specs.declared.planning.Plan.{Plan}
-use Rattle.office_closing.specs.Closes.{Held}
-use Rattle.office_closing.specs.Comparing.{IsComparedAs}
-use Rattle.office_closing.specs.Judging.{IsComparedIf}
+use Rattle.office_rows.specs.{Rows.Rows, Stored.HasRows}
+use Rattle.office_closing.specs.{declared.comparing.Numbers.Numbers, declared.planning.Plan.Plan, Closes.Held, Comparing.IsComparedAs, Judging.IsComparedIf}
 use Rattle.office_closing.proofs.JudgeLemmas.{none_read}
 use Rattle.office_closing.proofs.judging.compare_all.Goals as goal
 

@@ -1,9 +1,6 @@
 use Rattle.std.proofs.Common.{List}
 use Rattle.office_rows.specs.Rows.{Rows}
-use Rattle.office_closing.specs.declared.comparing.Numbers.{Numbers}
-use Rattle.office_closing.specs.Comparing.{HasUnfitAmong}
-use Rattle.office_closing.specs.Refusing.{HasUnfit}
-use Rattle.office_closing.proofs.FileLemmas.{either_more}
+use Rattle.office_closing.{specs.{declared.comparing.Numbers.Numbers, Comparing.HasUnfitAmong, Refusing.HasUnfit}, proofs.FileLemmas.either_more}
 use Rattle.office_closing.proofs.JudgeLemmas.{if_open_failed, if_open_passed}
 use Rattle.office_closing.proofs.judging.compare_numbers.Goals as goal
 

@@ -1,7 +1,5 @@
 use Rattle.std.proofs.Common.{refl, subst}
-use Rattle.office_closing.specs.Arriving.{IsTold}
-use Rattle.office_closing.specs.Judging.{WantsAll}
-use Rattle.office_closing.proofs.PlanLemmas.{first_copied, other_copied, same_copied}
+use Rattle.office_closing.{specs.{Arriving.IsTold, Judging.WantsAll}, proofs.PlanLemmas.{first_copied, other_copied, same_copied}}
 use Rattle.office_closing.proofs.judging.is_copied.Goals as goal
 
 pub returns-in-Same : goal.returns-in-Same

@@ -1,20 +1,12 @@
-use Rattle.std.proofs.Common.{◌≡◌, ◌∙◌, Ok, map, sym, subst, arith}
-use Rattle.std.proofs.lemmas.Result.{err_from_is_err_and}
-use Rattle.sqlite.specs.Held.{state}
-use Rattle.sqlite.specs.Effect.{Database}
-use Rattle.sqlite.specs.State.{State, HasCleanDisk}
-use Rattle.office_closing.specs.Waiting.{AreWaitedFor}
-use Rattle.office_parts.specs.Named.{named_list_content}
-use Rattle.office_rows.specs.Stored.{HasRows}
-use Rattle.office_closing.specs.declared.faults.CloseFault.{CloseFault}
-use Rattle.office_closing.specs.Copies.{ClosesNone, FileNames, office_content}
-use Rattle.office_closing.specs.Arriving.{HasTexts, StandInOrder}
-use Rattle.office_closing.specs.Files.{IsRead, IsReadIfOpen, files}
-use Rattle.office_closing.specs.Judging.{WantsAll}
-use Rattle.office_closing.specs.Refusing.{IsOfOrdering}
+use Rattle.std.proofs.{Common.{◌≡◌, ◌∙◌, Ok, map, sym, subst, arith}, lemmas.Result.err_from_is_err_and}
+use Rattle.sqlite.specs.{Held.state, Effect.Database, State.{State, HasCleanDisk}}
+use Rattle.office_closing.specs.{Waiting.AreWaitedFor, declared.faults.CloseFault.CloseFault, Copies.{ClosesNone, FileNames, office_content}, Judging.WantsAll}
+use Rattle.office_closing.specs.{Arriving.{HasTexts, StandInOrder}, Files.{IsRead, IsReadIfOpen, files}, Refusing.IsOfOrdering}
 use Rattle.office_closing.specs.Register.{RegisterContent, last_closed}
 use Rattle.office_closing.proofs.JudgeLemmas.{none_wants, plan_judged, wants_none, failed, passed, then_failed, then_if_open, then_if_open_failed, then_ok, untouched_err}
 use Rattle.office_closing.proofs.PlanLemmas.{compared_tells, copy_tells, ordering_tells, own_tells, plan_tells, texts_for, waiting_tells}
+use Rattle.office_parts.specs.Named.{named_list_content}
+use Rattle.office_rows.specs.Stored.{HasRows}
 use Rattle.office_closing.proofs.judging.judge.Goals as goal
 
 -- the store after it was compared

@@ -1,7 +1,5 @@
 use Rattle.std.proofs.Common.{◌≡◌, true, false, inl, inr, refl, sym, ap, ◌∙◌}
-use Rattle.office_closing.specs.Register.{is_newer_than, register_content}
-use Rattle.office_closing.proofs.FileLemmas.{fault_of_more}
-use Rattle.office_closing.proofs.JudgeLemmas.{read_err, read_ok}
+use Rattle.office_closing.{specs.Register.{is_newer_than, register_content}, proofs.{FileLemmas.fault_of_more, JudgeLemmas.{read_err, read_ok}}}
 use Rattle.office_closing.proofs.judging.nexts_of.Goals as goal
 
 -- The store still awaits a number that had been taken.

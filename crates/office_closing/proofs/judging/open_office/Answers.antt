@@ -1,17 +1,11 @@
-use Rattle.std.proofs.Common.{◌≡◌, inl, inr, sym, ap, subst, ◌∙◌, arith}
-use Rattle.std.proofs.lemmas.Result.{err_from_is_err_and}
-use Rattle.sqlite.specs.Held.{state}
-use Rattle.sqlite.specs.State.{HasCleanDisk}
-use Rattle.office_loading.specs.Tables.{LoadsOwn}
+use Rattle.std.proofs.{Common.{◌≡◌, inl, inr, sym, ap, subst, ◌∙◌, arith}, lemmas.Result.err_from_is_err_and}
+use Rattle.sqlite.specs.{Held.state, State.HasCleanDisk}
+use Rattle.office_loading.specs.{Tables.{LoadsOwn, FailsToLoadOwn}, Closed.{ClosedContent, closed_content}}
 use Rattle.office_rows.specs.Stored.{HasRows}
 use Rattle.office_admission.specs.Setups.{setup_content}
-use Rattle.office_loading.specs.Closed.{ClosedContent, closed_content}
-use Rattle.office_loading.specs.Tables.{FailsToLoadOwn}
 use Rattle.office_tables.specs.Faults.{IsOfStoreOr}
-use Rattle.office_closing.specs.Refusing.{HaveNoNexts, IsUnopened}
-use Rattle.office_closing.specs.Register.{RegisterContent, closed_by, register_content}
+use Rattle.office_closing.{specs.{Refusing.{HaveNoNexts, IsUnopened}, Register.{RegisterContent, closed_by, register_content}}, proofs.PlanLemmas.this_more}
 use Rattle.office_closing.proofs.JudgeLemmas.{failed, passed, then_failed}
-use Rattle.office_closing.proofs.PlanLemmas.{this_more}
 use Rattle.office_closing.proofs.judging.open_office.Goals as goal
 
 pub returns-in_err-nexts-clause-rows_read : goal.returns-in_err-nexts-clause-rows_read

@@ -1,8 +1,5 @@
 use Rattle.std.proofs.Common.{inl, inr, refl, sym, subst, arith}
-use Rattle.office_closing.specs.Waiting.{HaveNexts}
-use Rattle.office_closing.proofs.FileLemmas.{fault_of_more}
-use Rattle.office_closing.proofs.JudgeLemmas.{if_open_err, if_open_ok}
-use Rattle.office_closing.proofs.WaitingLemmas.{many_accounts}
+use Rattle.office_closing.{specs.Waiting.HaveNexts, proofs.{FileLemmas.fault_of_more, JudgeLemmas.{if_open_err, if_open_ok}, WaitingLemmas.many_accounts}}
 use Rattle.office_closing.proofs.judging.waited_for.Goals as goal
 
 pub returns-in-Ok-clause-named : goal.returns-in-Ok-clause-named

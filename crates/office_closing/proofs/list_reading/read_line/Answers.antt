@@ -1,10 +1,8 @@
-use Rattle.std.proofs.Common.{◌≡◌, true, sym, ap, ◌∙◌, subst}
-use Rattle.std.specs.Prelude.{Ok}
+use Rattle.std.{specs.Prelude.Ok, proofs.Common.{◌≡◌, true, sym, ap, ◌∙◌, subst}}
 use Rattle.box6346.specs.ContainerNumber.{number_of}
 use Rattle.edi_messages.specs.Owned.{call_content}
 use Rattle.terminal_core.specs.Forms.{IsFormedPort}
-use Rattle.office_closing.specs.Texts.{IsLineOf}
-use Rattle.office_closing.proofs.TextLemmas.{number_read, number_reads, cut_there, cut_parts, cut_text, line_read}
+use Rattle.office_closing.{specs.Texts.IsLineOf, proofs.TextLemmas.{number_read, number_reads, cut_there, cut_parts, cut_text, line_read}}
 use Rattle.office_closing.proofs.list_reading.read_line.Goals as goal
 
 pub returns-in_default-clause-none : goal.returns-in_default-clause-none

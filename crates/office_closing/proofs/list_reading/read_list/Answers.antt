@@ -1,5 +1,4 @@
-use Rattle.std.proofs.Common.{◌≡◌, ◌==◌, List, [], ◌∷◌, ◌++◌, length, map, true, sym, ap, ◌∙◌, subst, lit<, rules, eq-eqb}
-use Rattle.std.proofs.lemmas.List.{map-append}
+use Rattle.std.proofs.{Common.{◌≡◌, ◌==◌, List, [], ◌∷◌, ◌++◌, length, map, true, sym, ap, ◌∙◌, subst, lit<, rules, eq-eqb}, lemmas.List.map-append}
 use Rattle.std.proofs.lemmas.Str.Pattern.{split_parts}
 use Rattle.edi_messages.specs.Owned.{call_content}
 use Rattle.office_rows.specs.Rows.{ListingContent, listing_content}

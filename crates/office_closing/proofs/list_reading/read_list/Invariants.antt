@@ -1,9 +1,9 @@
 use Rattle.std.proofs.Common.{length, map}
-use denote.Text.{Utf8}
-use denote.Shadow.{shadow}
 use Rattle.edi_messages.specs.Owned.{call_content}
 use Rattle.office_rows.specs.Rows.{listing_content}
 use Rattle.office_closing.proofs.TextLemmas.{IsReadUpTo}
+use denote.Text.{Utf8}
+use denote.Shadow.{shadow}
 use Rattle.office_closing.proofs.list_reading.read_list.Given as goal
 
 abbrev pub invariant-lines : goal.invariant-lines

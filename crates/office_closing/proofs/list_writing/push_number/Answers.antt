@@ -1,5 +1,4 @@
-use Rattle.std.proofs.Common.{◌≡◌, ◌<◌, [], ◌∷◌, ◌++◌, ap, ◌∙◌, arith, string_bytes, length, get_or}
-use Rattle.std.proofs.lemmas.List.Elements.{All-get_or}
+use Rattle.std.proofs.{Common.{◌≡◌, ◌<◌, [], ◌∷◌, ◌++◌, ap, ◌∙◌, arith, string_bytes, length, get_or}, lemmas.List.Elements.All-get_or}
 use Rattle.office_closing.proofs.TextLemmas.{IsPlain, number_plain, character_more}
 use Rattle.office_closing.proofs.list_writing.push_number.Goals as goal
 

@@ -1,7 +1,5 @@
-use Rattle.std.proofs.Common.{◌++◌, [], ◌∷◌, map, take, sym, ap, ◌∙◌}
-use Rattle.std.proofs.lemmas.List.{map_more}
-use Rattle.office_closing.specs.Lists.{list_content}
-use Rattle.office_closing.proofs.NumberLemmas.{content_pushed}
+use Rattle.std.proofs.{Common.{◌++◌, [], ◌∷◌, map, take, sym, ap, ◌∙◌}, lemmas.List.map_more}
+use Rattle.office_closing.{specs.Lists.list_content, proofs.NumberLemmas.content_pushed}
 use Rattle.office_closing.proofs.lists.copied_lists.Goals as goal
 
 pub loop-list-preserved : goal.loop-list-preserved

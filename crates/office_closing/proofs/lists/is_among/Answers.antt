@@ -1,6 +1,4 @@
-use Rattle.std.proofs.Common.{map, sym, subst, arith}
-use Rattle.std.specs.Prelude.{Contains}
-use Rattle.std.proofs.lemmas.List.{take_all}
+use Rattle.std.{specs.Prelude.Contains, proofs.{Common.{map, sym, subst, arith}, lemmas.List.take_all}}
 use Rattle.office_closing.specs.Lists.{list_content}
 use Rattle.office_closing.proofs.lists.is_among.Goals as goal
 

@@ -1,5 +1,4 @@
-use Rattle.std.proofs.Common.{map, take}
-use Rattle.std.specs.Prelude.{Contains}
+use Rattle.std.{specs.Prelude.Contains, proofs.Common.{map, take}}
 use Rattle.office_closing.specs.Lists.{list_content}
 use Rattle.office_closing.proofs.lists.is_among.Given as goal
 

@@ -1,10 +1,6 @@
-use Rattle.std.proofs.Common.{◌≡◌, ◌+◌, ◌++◌, [], ◌∷◌, true, false, map, take, sym, ap, subst, ◌∙◌, arith, rules}
-use Rattle.std.specs.Prelude.{Contains}
+use Rattle.std.{specs.Prelude.Contains, proofs.Common.{◌≡◌, ◌+◌, ◌++◌, [], ◌∷◌, true, false, map, take, sym, ap, subst, ◌∙◌, arith, rules}}
 use Rattle.std.proofs.lemmas.List.{map_more, take_all}
-use Rattle.office_closing.specs.Lists.{list_content}
-use Rattle.office_closing.specs.Planning.{AreInBoth}
-use Rattle.office_closing.proofs.FileLemmas.{both_passed, both_pushed}
-use Rattle.office_closing.proofs.NumberLemmas.{content_pushed}
+use Rattle.office_closing.{specs.{Lists.list_content, Planning.AreInBoth}, proofs.{FileLemmas.{both_passed, both_pushed}, NumberLemmas.content_pushed}}
 use Rattle.office_closing.proofs.lists.lists_in_both.Goals.{else-is_among, then-is_among+in_ok-copied_list+in_ok-append}
 use Rattle.office_closing.proofs.lists.lists_in_both.Goals as goal
 

@@ -1,6 +1,5 @@
 use Rattle.std.proofs.Common.{map, take}
-use Rattle.office_closing.specs.Lists.{list_content}
-use Rattle.office_closing.specs.Planning.{AreInBoth}
+use Rattle.office_closing.specs.{Lists.list_content, Planning.AreInBoth}
 use Rattle.office_closing.proofs.lists.lists_in_both.Given as goal
 
 abbrev pub invariant-loop-list : goal.invariant-loop-list

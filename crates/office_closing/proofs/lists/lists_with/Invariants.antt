@@ -1,6 +1,5 @@
 use Rattle.std.proofs.Common.{◌≡◌, filter, map, take}
-use Rattle.office_closing.specs.Lists.{list_content}
-use Rattle.office_closing.specs.Copies.{is_put_away_with}
+use Rattle.office_closing.specs.{Lists.list_content, Copies.is_put_away_with}
 use Rattle.office_closing.proofs.lists.lists_with.Given as goal
 
 abbrev pub invariant-loop-list : goal.invariant-loop-list

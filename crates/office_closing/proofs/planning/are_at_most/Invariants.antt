@@ -1,5 +1,4 @@
-use Rattle.std.proofs.Common.{drop}
-use Rattle.std.specs.Prelude.{◌↔◌}
+use Rattle.std.{specs.Prelude.◌↔◌, proofs.Common.drop}
 use Rattle.office_closing.specs.Copies.{AreAtMost}
 use Rattle.office_closing.proofs.planning.are_at_most.Given as goal
 

@@ -1,5 +1,4 @@
-use Rattle.std.proofs.Common.{◌≡◌, List, ℕ, false, true, refl, ap, arith, rules}
-use Rattle.std.specs.Prelude.{string_bytes}
+use Rattle.std.{specs.Prelude.string_bytes, proofs.Common.{◌≡◌, List, ℕ, false, true, refl, ap, arith, rules}}
 use Rattle.edi_messages.specs.declared.codes.PartnerKind.{PartnerKind}
 use Rattle.office_admission.specs.declared.setup.Account.{Account}
 use Rattle.office_closing.proofs.PlanLemmas.{are_the_first, first_no_more, first_same}

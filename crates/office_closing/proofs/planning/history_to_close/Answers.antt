@@ -1,10 +1,7 @@
-use Rattle.std.proofs.Common.{◌≡◌, ap, subst, ◌∙◌}
-use Rattle.std.proofs.lemmas.Result.{err_from_is_err_and}
+use Rattle.std.proofs.{Common.{◌≡◌, ap, subst, ◌∙◌}, lemmas.Result.err_from_is_err_and}
 use Rattle.office_loading.specs.Closed.{ClosedContent}
+use Rattle.office_closing.specs.{Register.{ArchiveContent, last_closed}, Planning.IsTakenFor, Copies.{numbers_from, numbers_of, office_content, segments_of}}
 use Rattle.office_loading.specs.Closed as closed
-use Rattle.office_closing.specs.Register.{ArchiveContent, last_closed}
-use Rattle.office_closing.specs.Planning.{IsTakenFor}
-use Rattle.office_closing.specs.Copies.{numbers_from, numbers_of, office_content, segments_of}
 use Rattle.office_closing.proofs.planning.history_to_close.Goals as goal
 
 pub returns-in_err-visits-clause-err : goal.returns-in_err-visits-clause-err

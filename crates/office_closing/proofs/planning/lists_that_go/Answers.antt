@@ -1,11 +1,7 @@
-use Rattle.std.proofs.Common.{◌≡◌, ◌==◌, true, List, [], length, map, ap, sym, subst, ◌∙◌, rules}
-use Rattle.std.proofs.lemmas.Result.{IfOk-weaker}
+use Rattle.std.proofs.{Common.{◌≡◌, ◌==◌, true, List, [], length, map, ap, sym, subst, ◌∙◌, rules}, lemmas.Result.IfOk-weaker}
 use Rattle.office_parts.specs.Named.{named_list_content}
 use Rattle.office_rows.specs.Rows.{listing_content}
-use Rattle.office_closing.specs.declared.register.Segment.{Segment}
-use Rattle.office_closing.specs.Copies.{GoWith}
-use Rattle.office_closing.specs.Lists.{list_content}
-use Rattle.office_closing.proofs.ClearLemmas.{done_in, go_with, none_is_empty}
+use Rattle.office_closing.{specs.{declared.register.Segment.Segment, Copies.GoWith, Lists.list_content}, proofs.ClearLemmas.{done_in, go_with, none_is_empty}}
 use Rattle.office_closing.proofs.planning.lists_that_go.Goals as goal
 
 -- With no segment there are none.

@@ -1,9 +1,5 @@
 use Rattle.std.proofs.Common.{map, refl, ap, subst}
-use Rattle.office_parts.specs.Named.{named_list_content}
-use Rattle.office_closing.specs.Lists.{list_content}
-use Rattle.office_closing.specs.Copies.{office_content}
-use Rattle.office_closing.specs.Planning.{AreInBoth}
-use Rattle.office_closing.proofs.ClearLemmas.{registers_for}
+use Rattle.office_closing.{specs.{Lists.list_content, Copies.office_content, Planning.AreInBoth}, proofs.ClearLemmas.registers_for}
 use Rattle.office_closing.proofs.planning.lists_to_close.Goals as goal
 
 pub returns : goal.returns

@@ -1,11 +1,7 @@
-use Rattle.std.proofs.Common.{◌≡◌, map, refl, sym, ap, subst, ◌∙◌}
-use Rattle.std.proofs.lemmas.Result.{err_from_is_err_and}
+use Rattle.std.proofs.{Common.{◌≡◌, map, refl, sym, ap, subst, ◌∙◌}, lemmas.Result.err_from_is_err_and}
 use Rattle.office_parts.specs.Named.{named_list_content}
-use Rattle.office_closing.specs.Lists.{list_content}
-use Rattle.office_closing.specs.Register.{ArchiveContent}
-use Rattle.office_closing.specs.Copies.{AreDoneIn, ComesOn, FileNames, archive_in, office_content}
-use Rattle.office_closing.specs.Planning.{AreClosingLists, IsTakenFor}
-use Rattle.office_closing.proofs.ClearLemmas.{plan_from, refused_with, registers_for}
+use Rattle.office_closing.specs.{Lists.list_content, Register.ArchiveContent, Copies.{AreDoneIn, ComesOn, FileNames, archive_in, office_content}}
+use Rattle.office_closing.{specs.Planning.{AreClosingLists, IsTakenFor}, proofs.ClearLemmas.{plan_from, refused_with, registers_for}}
 use Rattle.office_closing.proofs.planning.make_plan.Goals as goal
 
 pub returns-in_err-check_office-clause-err : goal.returns-in_err-check_office-clause-err

@@ -1,5 +1,4 @@
-use Rattle.std.proofs.Common.{◌≡◌, refl, sym, ◌∙◌, vec_len}
-use Rattle.std.proofs.lemmas.List.{length-map}
+use Rattle.std.proofs.{Common.{◌≡◌, refl, sym, ◌∙◌, vec_len}, lemmas.List.length-map}
 use Rattle.office_closing.specs.Lists.{list_content}
 use Rattle.office_closing.proofs.planning.put_away.Goals as goal
 

@@ -1,19 +1,14 @@
-use Rattle.std.proofs.Common.{◌≡◌, ℕ, Bool, true, List, None, Some, map, refl, sym, ap, subst, ◌∙◌}
-use Rattle.std.specs.Prelude.{◌↔◌, string_bytes}
+use Rattle.std.{specs.Prelude.{◌↔◌, string_bytes}, proofs.Common.{◌≡◌, ℕ, Bool, true, List, None, Some, map, refl, sym, ap, subst, ◌∙◌}}
 use Rattle.std.proofs.lemmas.Bool.{false≢true}
-use Rattle.office_closing.specs.declared.register.Segment.{Segment}
-use Rattle.office_closing.specs.Changes.{closed_with, unmarked}
-use Rattle.office_closing.specs.Lists.{SettledListContent, list_content}
-use Rattle.office_closing.specs.Register.{ArchiveContent, RegisterContent, archive_content, register_content}
-use Rattle.office_closing.specs.Sound as sound
-use Rattle.office_closing.specs.declared.planning.Mark.{Mark}
-use Rattle.office_closing.specs.declared.planning.Mark.TheVariants as mark
-use Rattle.office_closing.specs.declared.planning.Stage.{Stage}
-use Rattle.office_closing.specs.declared.planning.Stage.TheVariants as stage
+use Rattle.office_closing.specs.{declared.register.Segment.Segment, Changes.{closed_with, unmarked}, Lists.{SettledListContent, list_content}}
+use Rattle.office_closing.specs.{Register.{ArchiveContent, RegisterContent, archive_content, register_content}, declared.planning.Mark.Mark}
+use Rattle.office_closing.specs.{declared.planning.Stage.Stage, Planning.{AreFor, IsMarkedAs, IsTakenFor, IsToldBy}}
 use Rattle.office_closing.specs.Copies.{ComesOn, FileNames, HasCome, OfficeContent, archive_in, lists_at, numbers_of, office_content, raised_by, segments_of, taken_at}
-use Rattle.office_closing.specs.Planning.{AreFor, IsMarkedAs, IsTakenFor, IsToldBy}
 use Rattle.office_closing.proofs.ClearLemmas.{lists_come, one_longer, taken_come}
 use Rattle.office_closing.proofs.planning.stage_of.Goals.{else-branch, in_default, in_default-2, then-branch}
+use Rattle.office_closing.specs.Sound as sound
+use Rattle.office_closing.specs.declared.planning.Mark.TheVariants as mark
+use Rattle.office_closing.specs.declared.planning.Stage.TheVariants as stage
 use Rattle.office_closing.proofs.planning.stage_of.Goals as goal
 
 -- the register with this archive, these lists and what had been taken

@@ -1,6 +1,5 @@
 use Rattle.std.proofs.Common.{◌≡◌, arith, rules, true, false}
-use Rattle.office_closing.specs.Register.{archive_content}
-use Rattle.office_closing.proofs.Inserted.{alike_at}
+use Rattle.office_closing.{specs.Register.archive_content, proofs.Inserted.alike_at}
 use Rattle.office_closing.proofs.register.are_same_archives.Goals as goal
 
 pub returns-then-not-is_same_archive : goal.returns-then-not-is_same_archive

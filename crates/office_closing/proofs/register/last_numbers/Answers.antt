@@ -1,8 +1,5 @@
-use Rattle.std.proofs.Common.{◌≡◌, ◌+◌, ◌<◌, ◌-◌, ◌∷◌, length, max, set, get_or, ap, ◌∙◌, arith}
-use Rattle.std.proofs.Math.ListN.{length-set}
-use Rattle.office_closing.specs.declared.register.Segment.{Segment}
-use Rattle.office_closing.proofs.Created.{any_default}
-use Rattle.office_closing.proofs.Inserted.{account_at, one_higher, zeros}
+use Rattle.std.proofs.{Common.{◌≡◌, ◌+◌, ◌<◌, ◌-◌, ◌∷◌, length, max, set, get_or, ap, ◌∙◌, arith}, Math.ListN.length-set}
+use Rattle.office_closing.{specs.declared.register.Segment.Segment, proofs.{Created.any_default, Inserted.{account_at, one_higher, zeros}}}
 use Rattle.office_closing.proofs.register.last_numbers.Goals as goal
 
 pub loop-segment-init : goal.loop-segment-init

@@ -1,15 +1,7 @@
 use Rattle.std.proofs.Common.{◌≡◌, IsTrue, map, true, not, refl, sym, ap, subst, ◌∙◌, arith, rules}
-use Rattle.sqlite.specs.State.{HasCleanDisk, Survives}
-use Rattle.sqlite.specs.Held.{state}
-use Rattle.sqlite.proofs.StateLemmas.{survives_then}
-use Rattle.sqlite.proofs.Callers.{survives_begin}
-use Rattle.office_closing.specs.Changes.{unchanged, closed_with}
-use Rattle.office_closing.specs.Lists.{list_content}
-use Rattle.office_closing.specs.Register.{archive_content}
-use Rattle.office_closing.specs.Stored.{HasRegister, HasWhole}
-use Rattle.office_closing.specs.Tables.{whole}
-use Rattle.office_closing.specs.Transactions.{Steps, HasBecome}
-use Rattle.office_closing.proofs.Committing.{became}
+use Rattle.sqlite.{specs.{State.{HasCleanDisk, Survives}, Held.state}, proofs.{StateLemmas.survives_then, Callers.survives_begin}}
+use Rattle.office_closing.specs.{Changes.{unchanged, closed_with}, Lists.list_content, Register.archive_content, Stored.{HasRegister, HasWhole}, Tables.whole}
+use Rattle.office_closing.{specs.Transactions.{Steps, HasBecome}, proofs.Committing.became}
 use Rattle.office_closing.proofs.register_closing.close_with.Goals as goal
 
 pub returns-in_err-commit-clause-crash : goal.returns-in_err-commit-clause-crash

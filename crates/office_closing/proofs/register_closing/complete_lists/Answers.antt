@@ -1,8 +1,5 @@
 use Rattle.sqlite.specs.Held.{state}
-use Rattle.office_closing.specs.Changes.{unchanged}
-use Rattle.office_closing.specs.Stored.{HasListed, HasRegister}
-use Rattle.office_closing.proofs.Committing.{writes_to_of}
-use Rattle.office_closing.proofs.Created.{completed_lists}
+use Rattle.office_closing.{specs.{Changes.unchanged, Stored.{HasListed, HasRegister}}, proofs.{Committing.writes_to_of, Created.completed_lists}}
 use Rattle.office_closing.proofs.register_closing.complete_lists.Goals as goal
 
 pub returns-clause-writes : goal.returns-clause-writes

@@ -1,6 +1,5 @@
 use Rattle.sqlite.specs.Held.{state}
-use Rattle.office_closing.specs.Stored.{HasListed, HasRegister}
-use Rattle.office_closing.proofs.Committing.{writes_through}
+use Rattle.office_closing.{specs.Stored.{HasListed, HasRegister}, proofs.Committing.writes_through}
 use Rattle.office_closing.proofs.register_closing.complete_tables.Goals as goal
 
 pub returns-clause-writes : goal.returns-clause-writes

@@ -1,8 +1,5 @@
 use Rattle.sqlite.specs.Held.{state}
-use Rattle.office_closing.specs.Changes.{unchanged}
-use Rattle.office_closing.specs.Stored.{HasListed}
-use Rattle.office_closing.proofs.Committing.{writes_of}
-use Rattle.office_closing.proofs.Created.{completed_taken}
+use Rattle.office_closing.{specs.{Changes.unchanged, Stored.HasListed}, proofs.{Committing.writes_of, Created.completed_taken}}
 use Rattle.office_closing.proofs.register_closing.complete_taken.Goals as goal
 
 pub returns-clause-writes : goal.returns-clause-writes

@@ -1,8 +1,6 @@
-use Rattle.std.proofs.Common.{refl, rules}
-use Rattle.std.proofs.lemmas.List.{take_more}
+use Rattle.std.proofs.{Common.{refl, rules}, lemmas.List.take_more}
 use Rattle.sqlite.specs.Held.{state}
-use Rattle.office_closing.specs.Changes.{with_taken}
-use Rattle.office_closing.proofs.Committing.{none_written, one_more_written, none_taken, one_more_taken}
+use Rattle.office_closing.{specs.Changes.with_taken, proofs.Committing.{none_written, one_more_written, none_taken, one_more_taken}}
 use Rattle.office_closing.proofs.register_closing.insert_all_taken.Goals as goal
 
 pub loop-one-init : goal.loop-one-init

@@ -1,8 +1,6 @@
 use Rattle.std.proofs.Common.{◌≡◌, Ok, take}
 use Rattle.sqlite.specs.Held.{state}
-use Rattle.office_closing.specs.Changes.{unchanged, with_taken}
-use Rattle.office_closing.specs.Stored.{HasWhole}
-use Rattle.office_closing.specs.Transactions.{WritesIfOpen}
+use Rattle.office_closing.specs.{Changes.{unchanged, with_taken}, Stored.HasWhole, Transactions.WritesIfOpen}
 use Rattle.office_closing.proofs.register_closing.insert_all_taken.Given as goal
 
 abbrev pub invariant-loop-one : goal.invariant-loop-one

@@ -1,10 +1,6 @@
 use Rattle.std.proofs.Common.{Ok}
-use Rattle.sqlite.specs.Held.{state}
-use Rattle.sqlite.specs.State.{Executes}
-use Rattle.office_closing.specs.Changes.{unchanged, with_archive}
-use Rattle.office_closing.specs.Register.{archive_content}
-use Rattle.office_closing.specs.Stored.{HasWhole, archive_values}
-use Rattle.office_closing.proofs.Committing.{writes_of}
+use Rattle.sqlite.specs.{Held.state, State.Executes}
+use Rattle.office_closing.{specs.{Changes.{unchanged, with_archive}, Register.archive_content, Stored.{HasWhole, archive_values}}, proofs.Committing.writes_of}
 use Rattle.office_closing.proofs.Inserted.{inserted_archive}
 use Rattle.office_closing.proofs.WriteTexts as texts
 use Rattle.office_closing.proofs.register_closing.insert_archive.Goals as goal

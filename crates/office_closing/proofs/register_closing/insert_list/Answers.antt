@@ -1,10 +1,6 @@
 use Rattle.std.proofs.Common.{[], ◌∷◌, Ok}
-use Rattle.sqlite.specs.Held.{state}
-use Rattle.sqlite.specs.State.{Executes}
-use Rattle.office_closing.specs.Changes.{unchanged, with_lists}
-use Rattle.office_closing.specs.Lists.{list_content}
-use Rattle.office_closing.specs.Stored.{HasWhole, list_values}
-use Rattle.office_closing.proofs.Committing.{writes_of}
+use Rattle.sqlite.specs.{Held.state, State.Executes}
+use Rattle.office_closing.{specs.{Changes.{unchanged, with_lists}, Lists.list_content, Stored.{HasWhole, list_values}}, proofs.Committing.writes_of}
 use Rattle.office_closing.proofs.Inserted.{inserted_settled}
 use Rattle.office_closing.proofs.WriteTexts as texts
 use Rattle.office_closing.proofs.register_closing.insert_list.Goals as goal

@@ -1,9 +1,6 @@
-use Rattle.std.proofs.Common.{◌≡◌, ◌+◌, ◌++◌, [], ◌∷◌, map, take, get_or, refl, sym, ap, ◌∙◌, rules}
-use Rattle.std.proofs.lemmas.List.{take_more, map-append}
+use Rattle.std.proofs.{Common.{◌≡◌, ◌+◌, ◌++◌, [], ◌∷◌, map, take, get_or, refl, sym, ap, ◌∙◌, rules}, lemmas.List.{take_more, map-append}}
 use Rattle.sqlite.specs.Held.{state}
-use Rattle.office_closing.specs.Changes.{with_lists}
-use Rattle.office_closing.specs.Lists.{list_content}
-use Rattle.office_closing.proofs.Committing.{none_written, one_more_written, one_more_list}
+use Rattle.office_closing.{specs.{Changes.with_lists, Lists.list_content}, proofs.Committing.{none_written, one_more_written, one_more_list}}
 use Rattle.office_closing.proofs.register_closing.insert_lists.Goals as goal
 
 pub loop-list-init : goal.loop-list-init

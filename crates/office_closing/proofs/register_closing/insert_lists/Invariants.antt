@@ -1,9 +1,6 @@
 use Rattle.std.proofs.Common.{◌≡◌, Ok, map, take}
 use Rattle.sqlite.specs.Held.{state}
-use Rattle.office_closing.specs.Changes.{unchanged, with_lists}
-use Rattle.office_closing.specs.Lists.{list_content}
-use Rattle.office_closing.specs.Stored.{HasWhole}
-use Rattle.office_closing.specs.Transactions.{WritesIfOpen}
+use Rattle.office_closing.specs.{Changes.{unchanged, with_lists}, Lists.list_content, Stored.HasWhole, Transactions.WritesIfOpen}
 use Rattle.office_closing.proofs.register_closing.insert_lists.Given as goal
 
 abbrev pub invariant-loop-list : goal.invariant-loop-list

@@ -1,10 +1,6 @@
 use Rattle.std.proofs.Common.{Ok}
-use Rattle.sqlite.specs.Held.{state}
-use Rattle.sqlite.specs.State.{Executes}
-use Rattle.office_closing.specs.Changes.{unmarked, marked_for}
-use Rattle.office_closing.specs.Stored.{HasWhole, file_values}
-use Rattle.office_closing.proofs.Committing.{writes_of}
-use Rattle.office_closing.proofs.Inserted.{inserted_closed_for}
+use Rattle.sqlite.specs.{Held.state, State.Executes}
+use Rattle.office_closing.{specs.{Changes.{unmarked, marked_for}, Stored.{HasWhole, file_values}}, proofs.{Committing.writes_of, Inserted.inserted_closed_for}}
 use Rattle.office_closing.proofs.WriteTexts as texts
 use Rattle.office_closing.proofs.register_closing.insert_mark.Goals as goal
 

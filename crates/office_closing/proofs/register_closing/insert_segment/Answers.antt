@@ -1,9 +1,6 @@
 use Rattle.std.proofs.Common.{[], ◌∷◌, Ok}
-use Rattle.sqlite.specs.Held.{state}
-use Rattle.sqlite.specs.State.{Executes}
-use Rattle.office_closing.specs.Changes.{unchanged, with_segments}
-use Rattle.office_closing.specs.Stored.{HasWhole, segment_values}
-use Rattle.office_closing.proofs.Committing.{writes_of}
+use Rattle.sqlite.specs.{Held.state, State.Executes}
+use Rattle.office_closing.{specs.{Changes.{unchanged, with_segments}, Stored.{HasWhole, segment_values}}, proofs.Committing.writes_of}
 use Rattle.office_closing.proofs.Inserted.{inserted_segment}
 use Rattle.office_closing.proofs.WriteTexts as texts
 use Rattle.office_closing.proofs.register_closing.insert_segment.Goals as goal

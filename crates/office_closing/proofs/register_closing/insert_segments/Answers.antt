@@ -1,8 +1,6 @@
-use Rattle.std.proofs.Common.{refl, rules}
-use Rattle.std.proofs.lemmas.List.{take_more}
+use Rattle.std.proofs.{Common.{refl, rules}, lemmas.List.take_more}
 use Rattle.sqlite.specs.Held.{state}
-use Rattle.office_closing.specs.Changes.{with_segments}
-use Rattle.office_closing.proofs.Committing.{none_written, one_more_written, no_segments, one_more_segment}
+use Rattle.office_closing.{specs.Changes.with_segments, proofs.Committing.{none_written, one_more_written, no_segments, one_more_segment}}
 use Rattle.office_closing.proofs.register_closing.insert_segments.Goals as goal
 
 pub loop-segment-init : goal.loop-segment-init

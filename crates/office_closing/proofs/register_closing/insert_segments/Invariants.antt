@@ -1,8 +1,6 @@
 use Rattle.std.proofs.Common.{◌≡◌, Ok, take}
 use Rattle.sqlite.specs.Held.{state}
-use Rattle.office_closing.specs.Changes.{unchanged, with_segments}
-use Rattle.office_closing.specs.Stored.{HasWhole}
-use Rattle.office_closing.specs.Transactions.{WritesIfOpen}
+use Rattle.office_closing.specs.{Changes.{unchanged, with_segments}, Stored.HasWhole, Transactions.WritesIfOpen}
 use Rattle.office_closing.proofs.register_closing.insert_segments.Given as goal
 
 abbrev pub invariant-loop-segment : goal.invariant-loop-segment

@@ -1,10 +1,6 @@
 use Rattle.std.proofs.Common.{[], ◌∷◌, Ok}
-use Rattle.sqlite.specs.Held.{state}
-use Rattle.sqlite.specs.State.{Executes}
-use Rattle.office_closing.specs.Changes.{unchanged, with_taken}
-use Rattle.office_closing.specs.Stored.{HasWhole, segment_values}
-use Rattle.office_closing.proofs.Committing.{writes_of}
-use Rattle.office_closing.proofs.Inserted.{inserted_taken}
+use Rattle.sqlite.specs.{Held.state, State.Executes}
+use Rattle.office_closing.{specs.{Changes.{unchanged, with_taken}, Stored.{HasWhole, segment_values}}, proofs.{Committing.writes_of, Inserted.inserted_taken}}
 use Rattle.office_closing.proofs.WriteTexts as texts
 use Rattle.office_closing.proofs.register_closing.insert_taken.Goals as goal
 

@@ -1,12 +1,6 @@
 use Rattle.std.proofs.Common.{◌≡◌, IsTrue, true, not, refl, sym, ap, subst, ◌∙◌, arith, rules}
-use Rattle.sqlite.specs.State.{HasCleanDisk, Survives}
-use Rattle.sqlite.specs.Held.{state}
-use Rattle.sqlite.proofs.StateLemmas.{survives_then}
-use Rattle.sqlite.proofs.Callers.{survives_begin}
-use Rattle.office_closing.specs.Changes.{unmarked, marked_for}
-use Rattle.office_closing.specs.Stored.{HasRegister, HasWhole}
-use Rattle.office_closing.specs.Tables.{whole}
-use Rattle.office_closing.specs.Transactions.{Steps, HasBecome}
+use Rattle.sqlite.{specs.{State.{HasCleanDisk, Survives}, Held.state}, proofs.{StateLemmas.survives_then, Callers.survives_begin}}
+use Rattle.office_closing.specs.{Changes.{unmarked, marked_for}, Stored.{HasRegister, HasWhole}, Tables.whole, Transactions.{Steps, HasBecome}}
 use Rattle.office_closing.proofs.Committing.{became}
 use Rattle.office_closing.proofs.register_closing.mark.Goals as goal
 

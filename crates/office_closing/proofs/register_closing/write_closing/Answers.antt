@@ -1,10 +1,7 @@
 use Rattle.std.proofs.Common.{map}
 use Rattle.sqlite.specs.Held.{state}
-use Rattle.office_closing.specs.Changes.{unchanged, with_archive, with_segments, with_lists, with_taken}
-use Rattle.office_closing.specs.Lists.{list_content}
-use Rattle.office_closing.specs.Register.{archive_content}
-use Rattle.office_closing.specs.Stored.{HasRegister, HasWhole}
-use Rattle.office_closing.proofs.Committing.{writes_next, writes_if_open}
+use Rattle.office_closing.specs.{Changes.{unchanged, with_archive, with_segments, with_lists, with_taken}, Lists.list_content, Register.archive_content}
+use Rattle.office_closing.{specs.Stored.{HasRegister, HasWhole}, proofs.Committing.{writes_next, writes_if_open}}
 use Rattle.office_closing.proofs.register_closing.write_closing.Goals as goal
 
 pub returns-clause-writes : goal.returns-clause-writes

@@ -1,6 +1,5 @@
 use Rattle.sqlite.specs.Held.{state}
-use Rattle.office_closing.specs.Changes.{unchanged, unmarked, marked_for}
-use Rattle.office_closing.specs.Stored.{HasRegister, HasWhole}
+use Rattle.office_closing.specs.{Changes.{unchanged, unmarked, marked_for}, Stored.{HasRegister, HasWhole}}
 use Rattle.office_closing.proofs.Committing.{writes_from, writes_then, writes_if_open}
 use Rattle.office_closing.proofs.register_closing.write_mark.Goals as goal
 

@@ -1,9 +1,5 @@
 use Rattle.std.proofs.Common.{◌≡◌, [], true, false, ap, subst, ◌∙◌}
-use Rattle.sqlite.specs.Held.{state}
-use Rattle.sqlite.specs.Listing.{understood}
-use Rattle.sqlite.specs.State.{IsNotRun}
-use Rattle.sqlite.specs.Steps.{Outlines}
-use Rattle.sqlite.specs.declared.error.Error.TheVariants.{SqlInputError}
+use Rattle.sqlite.specs.{Held.state, Listing.understood, State.IsNotRun, Steps.Outlines, declared.error.Error.TheVariants.SqlInputError}
 use Rattle.sqlite_resolve.specs.declared.error.CompileError.TheVariants.{NoSuchTable}
 use Rattle.office_tables.proofs.MadeLemmas.{reads_same}
 use Rattle.office_closing.proofs.WriteTexts.{found_in, missing_in, missing_keeps, not_run_keeps}

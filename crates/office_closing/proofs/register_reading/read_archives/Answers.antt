@@ -1,10 +1,7 @@
 use Rattle.std.proofs.Common.{[], ◌∷◌, refl}
 use Rattle.sqlite.specs.Held.{state}
 use Rattle.office_loading.proofs.VersionLemmas.{reads_table}
-use Rattle.office_closing.specs.Reading.{FitsArchive}
-use Rattle.office_closing.specs.Register.{archive_content}
-use Rattle.office_closing.specs.Stored.{archive_values}
-use Rattle.office_closing.specs.Tables.{archive_table}
+use Rattle.office_closing.specs.{Reading.FitsArchive, Register.archive_content, Stored.archive_values, Tables.archive_table}
 use Rattle.office_closing.proofs.register_reading.read_archives.Goals as goal
 
 pub returns-clause-read : goal.returns-clause-read

@@ -1,9 +1,7 @@
-use Rattle.std.proofs.Common.{[], ◌∷◌, refl}
+use Rattle.std.{specs.Prelude.{IsUtf8, string_bytes}, proofs.Common.{[], ◌∷◌, refl}}
 use Rattle.sqlite.specs.Held.{state}
 use Rattle.office_loading.proofs.VersionLemmas.{reads_table}
-use Rattle.std.specs.Prelude.{IsUtf8, string_bytes}
-use Rattle.office_closing.specs.Stored.{file_values}
-use Rattle.office_closing.specs.Tables.{closed_for_table}
+use Rattle.office_closing.specs.{Stored.file_values, Tables.closed_for_table}
 use Rattle.office_closing.proofs.register_reading.read_files.Goals as goal
 
 pub returns-clause-read : goal.returns-clause-read

@@ -1,18 +1,10 @@
-use Rattle.std.proofs.Common.{◌≡◌, List, true, false, sym, ◌∙◌, Ok, rules}
-use Rattle.std.specs.List.{AllByRecursion}
-use Rattle.std.proofs.lemmas.Result.{err_from_is_err_and}
-use Rattle.sqlite.specs.Effect.{Database}
-use Rattle.sqlite.specs.Held.{state}
-use Rattle.office_tables.proofs.WritesLemmas.{of_store_or}
-use Rattle.office_tables.proofs.MadeLemmas.{◌then◌, clean_first, reads_on, reads_stopped}
-use Rattle.office_loading.specs.Tables.{ReadsTable}
-use Rattle.office_loading.proofs.VersionLemmas.{from_first}
-use Rattle.office_closing.specs.Lists.{SettledListContent, list_content}
-use Rattle.office_closing.specs.Reading.{FitsList}
-use Rattle.office_closing.specs.Stored.{ShowsLists}
-use Rattle.office_closing.specs.Tables.{has_table, whole, schema_in}
-use Rattle.office_closing.specs.declared.register_reading.Later.TheVariants as later
+use Rattle.std.{specs.List.AllByRecursion, proofs.{Common.{◌≡◌, List, true, false, sym, ◌∙◌, Ok, rules}, lemmas.Result.err_from_is_err_and}}
+use Rattle.sqlite.specs.{Effect.Database, Held.state}
+use Rattle.office_tables.proofs.{WritesLemmas.of_store_or, MadeLemmas.{◌then◌, clean_first, reads_on, reads_stopped}}
+use Rattle.office_loading.{specs.Tables.ReadsTable, proofs.VersionLemmas.from_first}
+use Rattle.office_closing.specs.{Lists.{SettledListContent, list_content}, Reading.FitsList, Stored.ShowsLists, Tables.{has_table, whole, schema_in}}
 use Rattle.office_closing.proofs.WriteTexts.{lists_read, lists_missing}
+use Rattle.office_closing.specs.declared.register_reading.Later.TheVariants as later
 use Rattle.office_closing.proofs.register_reading.read_lists.Goals as goal
 
 pub returns-in_err-there-clause-read : goal.returns-in_err-there-clause-read

@@ -1,10 +1,7 @@
-use Rattle.std.proofs.Common.{◌≡◌, false, sym, ◌∙◌, rules}
-use Rattle.std.proofs.lemmas.Result.{err_from_is_err_and}
+use Rattle.std.proofs.{Common.{◌≡◌, false, sym, ◌∙◌, rules}, lemmas.Result.err_from_is_err_and}
 use Rattle.sqlite.specs.Held.{state}
-use Rattle.office_tables.specs.declared.table_fault.TableFault.TheVariants.{Damaged}
-use Rattle.office_tables.proofs.MadeLemmas.{reads_stopped}
-use Rattle.office_closing.specs.Register.{register_content}
-use Rattle.office_closing.proofs.SoundLemmas.{register_fails, kept_fails, fits_sound, none_sound, read_again}
+use Rattle.office_tables.{specs.declared.table_fault.TableFault.TheVariants.Damaged, proofs.MadeLemmas.reads_stopped}
+use Rattle.office_closing.{specs.Register.register_content, proofs.SoundLemmas.{register_fails, kept_fails, fits_sound, none_sound, read_again}}
 use Rattle.office_closing.proofs.register_reading.read_register.Goals as goal
 
 pub returns-in_err-register-clause-read : goal.returns-in_err-register-clause-read

@@ -1,10 +1,7 @@
 use Rattle.std.proofs.Common.{[], ◌∷◌, refl}
 use Rattle.sqlite.specs.Held.{state}
-use Rattle.office_loading.proofs.VersionLemmas.{reads_table}
-use Rattle.office_loading.specs.Decoded.{itself}
-use Rattle.office_closing.specs.Reading.{FitsSegment}
-use Rattle.office_closing.specs.Stored.{segment_values}
-use Rattle.office_closing.specs.Tables.{segment_table}
+use Rattle.office_loading.{specs.Decoded.itself, proofs.VersionLemmas.reads_table}
+use Rattle.office_closing.specs.{Reading.FitsSegment, Stored.segment_values, Tables.segment_table}
 use Rattle.office_closing.proofs.register_reading.read_segments.Goals as goal
 
 pub returns-clause-read : goal.returns-clause-read

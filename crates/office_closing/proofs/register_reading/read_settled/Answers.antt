@@ -1,10 +1,7 @@
 use Rattle.std.proofs.Common.{[], ◌∷◌, refl}
 use Rattle.sqlite.specs.Held.{state}
 use Rattle.office_loading.proofs.VersionLemmas.{reads_table}
-use Rattle.office_closing.specs.Lists.{list_content}
-use Rattle.office_closing.specs.Reading.{FitsList}
-use Rattle.office_closing.specs.Stored.{list_values}
-use Rattle.office_closing.specs.Tables.{settled_table}
+use Rattle.office_closing.specs.{Lists.list_content, Reading.FitsList, Stored.list_values, Tables.settled_table}
 use Rattle.office_closing.proofs.register_reading.read_settled.Goals as goal
 
 pub returns-clause-read : goal.returns-clause-read

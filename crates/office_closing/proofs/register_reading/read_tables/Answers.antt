@@ -1,17 +1,9 @@
-use Rattle.std.proofs.Common.{Ok, subst}
-use Rattle.std.specs.List.{AllByRecursion}
-use Rattle.std.proofs.lemmas.Result.{err_from_is_err_and}
-use Rattle.sqlite.specs.Effect.{Database}
-use Rattle.sqlite.specs.Held.{state}
+use Rattle.std.{specs.List.AllByRecursion, proofs.{Common.{Ok, subst}, lemmas.Result.err_from_is_err_and}}
+use Rattle.sqlite.specs.{Effect.Database, Held.state}
 use Rattle.office_tables.proofs.MadeLemmas.{◌then◌, clean_first, reads_on, reads_stopped}
-use Rattle.office_loading.specs.Decoded.{itself}
-use Rattle.office_loading.specs.Tables.{FailsTable, ReadsTable}
-use Rattle.office_loading.proofs.VersionLemmas.{from_first, same_items}
-use Rattle.office_closing.specs.Lists.{list_content}
-use Rattle.office_closing.specs.Reading.{FitsSegment, FitsList, ShowsSegments, FailsMark, ReadsMark}
-use Rattle.office_closing.specs.Stored.{ShowsLists, ShowsTaken}
-use Rattle.office_closing.specs.Tables.{schema_in}
-use Rattle.office_closing.proofs.WriteTexts.{archives_fail, segments_fail, files_fail, lists_fail, taken_fails}
+use Rattle.office_loading.{specs.{Decoded.itself, Tables.{FailsTable, ReadsTable}}, proofs.VersionLemmas.{from_first, same_items}}
+use Rattle.office_closing.specs.{Lists.list_content, Reading.{FitsSegment, FitsList, ShowsSegments, FailsMark, ReadsMark}, Stored.{ShowsLists, ShowsTaken}}
+use Rattle.office_closing.{specs.Tables.schema_in, proofs.WriteTexts.{archives_fail, segments_fail, files_fail, lists_fail, taken_fails}}
 use Rattle.office_closing.proofs.register_reading.read_tables.Goals as goal
 
 pub returns-in_err-archives-clause-read : goal.returns-in_err-archives-clause-read

@@ -1,19 +1,10 @@
-use Rattle.std.proofs.Common.{◌≡◌, List, true, false, sym, ◌∙◌, Ok, rules}
-use Rattle.std.specs.List.{AllByRecursion}
-use Rattle.std.proofs.lemmas.Result.{err_from_is_err_and}
-use Rattle.sqlite.specs.Effect.{Database}
-use Rattle.sqlite.specs.Held.{state}
-use Rattle.office_tables.proofs.WritesLemmas.{of_store_or}
-use Rattle.office_tables.proofs.MadeLemmas.{◌then◌, clean_first, reads_on, reads_stopped}
-use Rattle.office_loading.specs.Decoded.{itself}
-use Rattle.office_loading.specs.Tables.{ReadsTable}
-use Rattle.office_loading.proofs.VersionLemmas.{from_first}
-use Rattle.office_closing.specs.declared.register.Segment.{Segment}
-use Rattle.office_closing.specs.declared.register_reading.Later.TheVariants as later
-use Rattle.office_closing.specs.Reading.{FitsSegment}
-use Rattle.office_closing.specs.Stored.{ShowsTaken}
-use Rattle.office_closing.specs.Tables.{has_table, whole, register_schema}
+use Rattle.std.{specs.List.AllByRecursion, proofs.{Common.{◌≡◌, List, true, false, sym, ◌∙◌, Ok, rules}, lemmas.Result.err_from_is_err_and}}
+use Rattle.sqlite.specs.{Effect.Database, Held.state}
+use Rattle.office_tables.proofs.{WritesLemmas.of_store_or, MadeLemmas.{◌then◌, clean_first, reads_on, reads_stopped}}
+use Rattle.office_loading.{specs.{Decoded.itself, Tables.ReadsTable}, proofs.VersionLemmas.from_first}
+use Rattle.office_closing.specs.{declared.register.Segment.Segment, Reading.FitsSegment, Stored.ShowsTaken, Tables.{has_table, whole, register_schema}}
 use Rattle.office_closing.proofs.WriteTexts.{taken_read_in, taken_missing, whole_by}
+use Rattle.office_closing.specs.declared.register_reading.Later.TheVariants as later
 use Rattle.office_closing.proofs.register_reading.read_taken.Goals as goal
 
 pub returns-in_err-there-clause-read : goal.returns-in_err-there-clause-read

@@ -1,7 +1,6 @@
 use Rattle.sqlite.specs.Held.{state}
 use Rattle.office_rows.proofs.Creating.{if_ok}
-use Rattle.office_closing.proofs.Committing.{lists_archives, lists_nothing}
-use Rattle.office_closing.proofs.WriteTexts.{archive_shows, select_archive, select_archive_missing}
+use Rattle.office_closing.proofs.{Committing.{lists_archives, lists_nothing}, WriteTexts.{archive_shows, select_archive, select_archive_missing}}
 use Rattle.office_closing.proofs.register_reading.select_archives.Goals as goal
 
 pub select-requires : goal.select-requires

@@ -1,7 +1,6 @@
 use Rattle.sqlite.specs.Held.{state}
 use Rattle.office_rows.proofs.Creating.{if_ok}
-use Rattle.office_closing.proofs.Committing.{lists_settled}
-use Rattle.office_closing.proofs.WriteTexts.{settled_shows}
+use Rattle.office_closing.proofs.{Committing.lists_settled, WriteTexts.settled_shows}
 use Rattle.office_closing.proofs.register_reading.select_lists.Goals as goal
 
 pub select-requires : goal.select-requires

@@ -1,7 +1,6 @@
 use Rattle.sqlite.specs.Held.{state}
 use Rattle.office_rows.proofs.Creating.{if_ok}
-use Rattle.office_closing.proofs.Committing.{lists_segments}
-use Rattle.office_closing.proofs.WriteTexts.{segment_shows}
+use Rattle.office_closing.proofs.{Committing.lists_segments, WriteTexts.segment_shows}
 use Rattle.office_closing.proofs.register_reading.select_segments.Goals as goal
 
 pub select-requires : goal.select-requires

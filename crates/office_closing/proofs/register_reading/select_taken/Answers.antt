@@ -1,7 +1,6 @@
 use Rattle.sqlite.specs.Held.{state}
 use Rattle.office_rows.proofs.Creating.{if_ok}
-use Rattle.office_closing.proofs.Committing.{lists_taken}
-use Rattle.office_closing.proofs.WriteTexts.{taken_shows}
+use Rattle.office_closing.proofs.{Committing.lists_taken, WriteTexts.taken_shows}
 use Rattle.office_closing.proofs.register_reading.select_taken.Goals as goal
 
 pub select-requires : goal.select-requires

@@ -1,5 +1,4 @@
-use Rattle.std.proofs.Common.{take}
-use Rattle.std.specs.List.{AllZip}
+use Rattle.std.{specs.List.AllZip, proofs.Common.take}
 use Rattle.office_closing.proofs.register_rows.read_all.Given as goal
 
 abbrev pub invariant-loop-row : goal.invariant-loop-row

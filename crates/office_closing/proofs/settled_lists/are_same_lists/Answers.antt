@@ -1,6 +1,5 @@
 use Rattle.std.proofs.Common.{◌≡◌, arith, rules, true, false}
-use Rattle.office_closing.specs.Lists.{list_content}
-use Rattle.office_closing.proofs.Inserted.{alike_at}
+use Rattle.office_closing.{specs.Lists.list_content, proofs.Inserted.alike_at}
 use Rattle.office_closing.proofs.settled_lists.are_same_lists.Goals as goal
 
 pub returns-then-not-is_same_list : goal.returns-then-not-is_same_list

@@ -1,7 +1,5 @@
-use Rattle.std.proofs.Common.{◌≡◌, ◌+◌, ◌++◌, [], ◌∷◌, map, take, get_or, sym, ap, ◌∙◌}
-use Rattle.std.proofs.lemmas.List.{take_more, map-append}
-use Rattle.office_closing.specs.Lists.{list_content, put_list, put_lists}
-use Rattle.office_closing.proofs.Committing.{put_more}
+use Rattle.std.proofs.{Common.{◌≡◌, ◌+◌, ◌++◌, [], ◌∷◌, map, take, get_or, sym, ap, ◌∙◌}, lemmas.List.{take_more, map-append}}
+use Rattle.office_closing.{specs.Lists.{list_content, put_list, put_lists}, proofs.Committing.put_more}
 use Rattle.office_closing.proofs.settled_lists.put_lists.Goals as goal
 
 pub loop-list-preserved : goal.loop-list-preserved

@@ -1,6 +1,5 @@
 use Rattle.std.proofs.Common.{◌≡◌, ◌+◌, map, drop}
-use Rattle.office_closing.specs.Register.{archive_content}
-use Rattle.office_closing.specs.Sound.{are_numbered}
+use Rattle.office_closing.specs.{Register.archive_content, Sound.are_numbered}
 use Rattle.office_closing.proofs.sound.are_numbered.Given as goal
 
 abbrev pub invariant-loop-before : goal.invariant-loop-before

@@ -1,7 +1,5 @@
-use Rattle.std.proofs.Common.{◌≡◌, map, drop, None}
-use Rattle.std.specs.Option.{option_map}
-use Rattle.office_closing.specs.Lists.{list_content}
-use Rattle.office_closing.specs.Sound.{are_rising}
+use Rattle.std.{specs.Option.option_map, proofs.Common.{◌≡◌, map, drop, None}}
+use Rattle.office_closing.specs.{Lists.list_content, Sound.are_rising}
 use Rattle.office_closing.proofs.sound.are_rising.Given as goal
 
 abbrev pub invariant-loop-list : goal.invariant-loop-list

@@ -1,8 +1,5 @@
-use Rattle.std.proofs.Common.{◌≡◌, ◌<◌, get_or, take, ap, ◌∙◌, arith}
-use Rattle.std.proofs.Math.ListN.{length-set}
-use Rattle.office_closing.specs.declared.register.Segment.{Segment}
-use Rattle.office_closing.specs.Register.{last_closed}
-use Rattle.office_closing.proofs.Created.{any_default, partner_at, more_told, more_closed}
+use Rattle.std.proofs.{Common.{◌≡◌, ◌<◌, get_or, take, ap, ◌∙◌, arith}, Math.ListN.length-set}
+use Rattle.office_closing.{specs.{declared.register.Segment.Segment, Register.last_closed}, proofs.Created.{any_default, partner_at, more_told, more_closed}}
 use Rattle.office_closing.proofs.sound.close_more.Goals as goal
 
 pub loop-segment-preserved : goal.loop-segment-preserved

@@ -1,6 +1,5 @@
 use Rattle.std.proofs.Common.{◌≡◌, ℕ, ◌<◌, [], length, take, drop, get_or}
-use Rattle.office_closing.specs.Register.{last_closed}
-use Rattle.office_closing.specs.Sound.{close_more}
+use Rattle.office_closing.specs.{Register.last_closed, Sound.close_more}
 use Rattle.office_closing.proofs.sound.close_more.Given as goal
 
 abbrev pub invariant-loop-segment : goal.invariant-loop-segment

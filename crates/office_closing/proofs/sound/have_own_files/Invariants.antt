@@ -1,6 +1,5 @@
 use Rattle.std.proofs.Common.{◌≡◌, map, drop}
-use Rattle.office_closing.specs.Register.{archive_content}
-use Rattle.office_closing.specs.Sound.{have_own_files}
+use Rattle.office_closing.specs.{Register.archive_content, Sound.have_own_files}
 use Rattle.office_closing.proofs.sound.have_own_files.Given as goal
 
 abbrev pub invariant-loop-before : goal.invariant-loop-before

@@ -1,7 +1,5 @@
-use Rattle.std.proofs.Common.{◌≡◌, map, drop}
-use Rattle.std.specs.List.{list_any}
-use Rattle.office_closing.specs.Register.{archive_content}
-use Rattle.office_closing.specs.Sound.{is_in}
+use Rattle.std.{specs.List.list_any, proofs.Common.{◌≡◌, map, drop}}
+use Rattle.office_closing.specs.{Register.archive_content, Sound.is_in}
 use Rattle.office_closing.proofs.sound.is_file_of.Given as goal
 
 abbrev pub invariant-loop-archive : goal.invariant-loop-archive

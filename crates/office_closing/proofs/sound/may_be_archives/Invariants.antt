@@ -1,7 +1,5 @@
-use Rattle.std.proofs.Common.{◌≡◌, map, drop}
-use Rattle.std.specs.List.{list_all}
-use Rattle.office_closing.specs.Register.{archive_content}
-use Rattle.office_closing.specs.Sound.{may_be_archive}
+use Rattle.std.{specs.List.list_all, proofs.Common.{◌≡◌, map, drop}}
+use Rattle.office_closing.specs.{Register.archive_content, Sound.may_be_archive}
 use Rattle.office_closing.proofs.sound.may_be_archives.Given as goal
 
 abbrev pub invariant-loop-archive : goal.invariant-loop-archive

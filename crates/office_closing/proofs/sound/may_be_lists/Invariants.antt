@@ -1,7 +1,5 @@
-use Rattle.std.proofs.Common.{◌≡◌, map, drop}
-use Rattle.std.specs.List.{list_all}
-use Rattle.office_closing.specs.Lists.{list_content}
-use Rattle.office_closing.specs.Sound.{may_be_list}
+use Rattle.std.{specs.List.list_all, proofs.Common.{◌≡◌, map, drop}}
+use Rattle.office_closing.specs.{Lists.list_content, Sound.may_be_list}
 use Rattle.office_closing.proofs.sound.may_be_lists.Given as goal
 
 abbrev pub invariant-loop-list : goal.invariant-loop-list

@@ -1,5 +1,4 @@
-use Rattle.std.proofs.Common.{ap, ◌∙◌}
-use Rattle.std.proofs.lemmas.Result.{IfOk-weaker}
+use Rattle.std.proofs.{Common.{ap, ◌∙◌}, lemmas.Result.IfOk-weaker}
 use Rattle.office_loading.specs.Closed.{ClosedContent}
 use Rattle.office_closing.specs.Copies.{numbers_from, segments_of}
 use Rattle.office_closing.proofs.taken.taken_so_far.Goals as goal

@@ -1,5 +1,4 @@
-use Rattle.std.proofs.Common.{◌≡◌, true, false, not, ap, refl, sym, subst, ◌∙◌}
-use Rattle.std.specs.Prelude.{is_some, map}
+use Rattle.std.{specs.Prelude.{is_some, map}, proofs.Common.{◌≡◌, true, false, not, ap, refl, sym, subst, ◌∙◌}}
 use Rattle.terminal_core.specs.Rows.{VisitContent, visit_content}
 use Rattle.office_closing.proofs.ClearLemmas.{same_visit}
 use Rattle.office_closing.proofs.visits.goes.Goals as goal

@@ -1,13 +1,8 @@
-use Rattle.std.proofs.Common.{◌≡◌, ◌+◌, true, false, length, map, take, Some, refl, sym, subst, ◌∙◌}
-use Rattle.std.specs.Prelude.{Contains, slice_get}
-use Rattle.std.proofs.lemmas.List.{take_all}
-use Rattle.std.proofs.lemmas.Option.{slice_get_read}
-use Rattle.std.proofs.lemmas.Result.{err_from_is_err_and}
-use Rattle.terminal_core.specs.Rows.{visit_content}
-use Rattle.terminal_core.proofs.Whole.{contained, content_at, one_row_more}
-use Rattle.office_closing.specs.Visits.{AreAlike, GoesBelow}
+use Rattle.std.{specs.Prelude.{Contains, slice_get}, proofs.Common.{◌≡◌, ◌+◌, true, false, length, map, take, Some, refl, sym, subst, ◌∙◌}}
+use Rattle.std.proofs.{lemmas.List.take_all, lemmas.Option.slice_get_read, lemmas.Result.err_from_is_err_and}
+use Rattle.terminal_core.{specs.Rows.visit_content, proofs.Whole.{contained, content_at, one_row_more}}
+use Rattle.office_closing.{specs.Visits.{AreAlike, GoesBelow}, proofs.visits.visits_to_go.Goals.{then-branch+in_ok-append, else-branch}}
 use Rattle.office_closing.proofs.ClearLemmas.{AreGone, differs_told, none_differs, none_gone, one_alike, one_goes, one_stays}
-use Rattle.office_closing.proofs.visits.visits_to_go.Goals.{then-branch+in_ok-append, else-branch}
 use Rattle.office_closing.proofs.visits.visits_to_go.Goals as goal
 
 pub returns-in_err-goes-clause-err : goal.returns-in_err-goes-clause-err

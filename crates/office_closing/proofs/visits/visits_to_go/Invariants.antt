@@ -1,7 +1,6 @@
 use Rattle.std.proofs.Common.{map, take}
 use Rattle.terminal_core.specs.Rows.{visit_content}
-use Rattle.office_closing.specs.Visits.{AreAlike}
-use Rattle.office_closing.proofs.ClearLemmas.{AreGone}
+use Rattle.office_closing.{specs.Visits.AreAlike, proofs.ClearLemmas.AreGone}
 use Rattle.office_closing.proofs.visits.visits_to_go.Given as goal
 
 abbrev pub invariant-loop-visit : goal.invariant-loop-visit

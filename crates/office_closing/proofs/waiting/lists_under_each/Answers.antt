@@ -1,17 +1,11 @@
-use Rattle.std.proofs.Common.{Ok, sym, ap, ap₂, subst, ◌++◌, ◌∙◌, ℕ, Contains, get_or, map}
-use Rattle.std.proofs.lemmas.List.{take_all}
-use Rattle.std.proofs.lemmas.List.Elements.{Contains-get_or}
+use Rattle.std.proofs.{Common.{Ok, sym, ap, ap₂, subst, ◌++◌, ◌∙◌, ℕ, Contains, get_or, map}, lemmas.List.take_all, lemmas.List.Elements.Contains-get_or}
 use Rattle.std.proofs.lemmas.Result.{err_from_is_err_and}
 use Rattle.sqlite.specs.Held.{state}
 use Rattle.office_rows.specs.Stored.{HasRows}
 use Rattle.office_admission.specs.Setups.{setup_content}
-use Rattle.office_tables.proofs.MadeLemmas.{clean_first}
-use Rattle.office_tables.specs.DeliveryReading.{IsSame}
-use Rattle.office_tables.proofs.WriteLemmas.{nothing_read, one_read, only_on, only_stopped, only_then}
+use Rattle.office_tables.{specs.DeliveryReading.IsSame, proofs.{MadeLemmas.clean_first, WriteLemmas.{nothing_read, one_read, only_on, only_stopped, only_then}}}
 use Rattle.office_parts.specs.Named.{named_list_content}
-use Rattle.office_closing.specs.Waiting.{lists_under, lists_under_each}
-use Rattle.office_closing.proofs.FileLemmas.{fault_of_more}
-use Rattle.office_closing.proofs.WaitingLemmas.{numbers_more, one_more}
+use Rattle.office_closing.{specs.Waiting.{lists_under, lists_under_each}, proofs.{FileLemmas.fault_of_more, WaitingLemmas.{numbers_more, one_more}}}
 use Rattle.office_closing.proofs.waiting.lists_under_each.Goals as goal
 
 pub loop-number-init : goal.loop-number-init

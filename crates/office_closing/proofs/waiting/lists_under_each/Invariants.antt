@@ -1,8 +1,6 @@
 use Rattle.std.proofs.Common.{◌≡◌, Ok, map, take}
-use Rattle.sqlite.specs.Held.{state}
-use Rattle.sqlite.specs.State.{HasCleanDisk}
-use Rattle.office_rows.specs.Rows.{Rows}
-use Rattle.office_rows.specs.Stored.{HasRows}
+use Rattle.sqlite.specs.{Held.state, State.HasCleanDisk}
+use Rattle.office_rows.specs.{Rows.Rows, Stored.HasRows}
 use Rattle.office_admission.specs.Setups.{setup_content}
 use Rattle.office_history.specs.After.{AreKeptOnce}
 use Rattle.office_tables.specs.DeliveryReading.{OnlyReads}

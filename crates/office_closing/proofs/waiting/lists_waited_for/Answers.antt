@@ -1,14 +1,9 @@
-use Rattle.std.proofs.Common.{◌+◌, ◌≤◌, List, length, map, take, get_or, sym, subst, arith}
-use Rattle.std.specs.Prelude.{IsPermutation}
-use Rattle.std.specs.List.{flat_map}
-use Rattle.std.proofs.lemmas.List.{take_all}
-use Rattle.std.proofs.lemmas.Result.{err_from_is_err_and}
+use Rattle.std.{specs.{Prelude.IsPermutation, List.flat_map}, proofs.Common.{◌+◌, ◌≤◌, List, length, map, take, get_or, sym, subst, arith}}
+use Rattle.std.proofs.{lemmas.List.take_all, lemmas.Result.err_from_is_err_and}
 use Rattle.sqlite.specs.Held.{state}
-use Rattle.office_rows.specs.Rows.{Partner}
-use Rattle.office_rows.specs.Stored.{HasRows}
+use Rattle.office_rows.specs.{Rows.Partner, Stored.HasRows}
 use Rattle.office_admission.specs.Setups.{setup_content}
-use Rattle.office_tables.proofs.MadeLemmas.{clean_first}
-use Rattle.office_tables.specs.DeliveryReading.{IsSame}
+use Rattle.office_tables.{specs.DeliveryReading.IsSame, proofs.MadeLemmas.clean_first}
 use Rattle.office_parts.specs.Named.{named_list_content}
 use Rattle.office_closing.proofs.FileLemmas.{fault_of_more}
 use Rattle.office_closing.proofs.WaitingLemmas.{accounts_by_id, account_at, has_waiting, as_many, account_lists, lists_more, one_more, waited_for}

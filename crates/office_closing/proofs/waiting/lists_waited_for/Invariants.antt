@@ -1,10 +1,6 @@
-use Rattle.std.proofs.Common.{List, Ok, map, take}
-use Rattle.std.specs.List.{flat_map}
-use Rattle.std.specs.Prelude.{IsPermutation}
-use Rattle.sqlite.specs.Held.{state}
-use Rattle.sqlite.specs.State.{HasCleanDisk}
-use Rattle.office_rows.specs.Rows.{Partner, Rows}
-use Rattle.office_rows.specs.Stored.{HasRows}
+use Rattle.std.{specs.{List.flat_map, Prelude.IsPermutation}, proofs.Common.{List, Ok, map, take}}
+use Rattle.sqlite.specs.{Held.state, State.HasCleanDisk}
+use Rattle.office_rows.specs.{Rows.{Partner, Rows}, Stored.HasRows}
 use Rattle.office_admission.specs.Setups.{setup_content}
 use Rattle.office_history.specs.After.{AreKeptOnce}
 use Rattle.office_tables.specs.DeliveryReading.{OnlyReads}

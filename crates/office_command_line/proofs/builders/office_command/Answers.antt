@@ -1,7 +1,5 @@
-use Rattle.std.proofs.Common.{◌≡◌, ◌∙◌, ap, codes, true}
-use Rattle.std.proofs.lemmas.Result.{IfOk-weaker}
-use Rattle.clap.specs.Words.{app_of, new_app}
-use Rattle.clap.specs.Simple.{app_of_fields, on_top}
+use Rattle.std.proofs.{Common.{◌≡◌, ◌∙◌, ap, codes, true}, lemmas.Result.IfOk-weaker}
+use Rattle.clap.specs.{Words.{app_of, new_app}, Simple.{app_of_fields, on_top}}
 use Rattle.office_command_line.specs.Commands.{office_app, needs_subcommand, with_daily_work, with_upkeep}
 use Rattle.office_command_line.proofs.builders.office_command.Goals as goal
 

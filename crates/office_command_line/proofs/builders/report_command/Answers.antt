@@ -1,6 +1,5 @@
 use Rattle.std.proofs.Common.{◌≡◌, ◌∙◌, ap, ap₂, codes}
-use Rattle.clap.specs.Words.{app_of, new_app, with_rule}
-use Rattle.clap.specs.Simple.{app_of_fields}
+use Rattle.clap.specs.{Words.{app_of, new_app, with_rule}, Simple.app_of_fields}
 use Rattle.office_command_line.specs.Commands.{report_app}
 use Rattle.office_command_line.proofs.builders.report_command.Goals as goal
 

@@ -1,6 +1,5 @@
 use Rattle.std.proofs.Common.{◌∙◌, ap, Some}
-use Rattle.clap.specs.Words.{Rule, rule_of}
-use Rattle.clap.specs.declared.builder.ArgAction.TheVariants.{Set}
+use Rattle.clap.specs.{Words.{Rule, rule_of}, declared.builder.ArgAction.TheVariants.Set}
 use Rattle.office_command_line.proofs.builders.valued.Goals as goal
 
 pub returns-clause-rule : goal.returns-clause-rule

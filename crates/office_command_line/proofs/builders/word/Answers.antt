@@ -1,7 +1,5 @@
 use Rattle.std.proofs.Common.{◌∙◌, ap, Some, true}
-use Rattle.clap.specs.Words.{Rule, rule_of}
-use Rattle.clap.specs.declared.builder.ArgAction.TheVariants.{Set}
-use Rattle.clap.specs.declared.builder.arg.Arg.{Arg}
+use Rattle.clap.specs.{Words.{Rule, rule_of}, declared.builder.ArgAction.TheVariants.Set, declared.builder.arg.Arg.Arg}
 use Rattle.office_command_line.proofs.builders.word.Goals as goal
 
 pub returns : goal.returns

@@ -1,5 +1,4 @@
-use Rattle.office_commands.proofs.AccountLemmas.{asked_over}
-use Rattle.office_commands.proofs.Alike.{as_said, writer_by}
+use Rattle.office_commands.proofs.{AccountLemmas.asked_over, Alike.{as_said, writer_by}}
 use Rattle.office_commands.proofs.deliver.ask_desk.Goals as goal
 
 -- The desk was opened for an opening set-up that says the same as that of the files, so it answers as the files' office.

@@ -1,7 +1,5 @@
 use Rattle.office_replies.proofs.StreamLemmas.{streams_as}
-use Rattle.office_commands.specs.Delivering.{Leads}
-use Rattle.office_commands.proofs.Alike.{inner_leads}
-use Rattle.office_commands.proofs.DeliverLemmas.{delivered_over}
+use Rattle.office_commands.{specs.Delivering.Leads, proofs.{Alike.inner_leads, DeliverLemmas.delivered_over}}
 use Rattle.office_commands.proofs.deliver.deliver_desk.Goals as goal
 
 -- The desk was opened with a set-up that says the same as that of the files, so it answers as the files' office.

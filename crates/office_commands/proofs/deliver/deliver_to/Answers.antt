@@ -1,5 +1,4 @@
-use Rattle.office_commands.specs.Ending.{ports}
-use Rattle.office_commands.proofs.StreamLemmas.{ports_by}
+use Rattle.office_commands.{specs.Ending.ports, proofs.StreamLemmas.ports_by}
 use Rattle.office_commands.proofs.deliver.deliver_to.Goals as goal
 
 pub returns-clause-ends : goal.returns-clause-ends

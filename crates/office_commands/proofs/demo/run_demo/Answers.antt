@@ -1,6 +1,5 @@
 use Rattle.std.proofs.Common.{◌≡◌, Ok, Err, arith}
-use Rattle.office_commands.specs.Ending.{most_turns}
-use Rattle.office_commands.proofs.Leaving.{answered_in_memory, left_by, left_for_turns, failed_by}
+use Rattle.office_commands.{specs.Ending.most_turns, proofs.Leaving.{answered_in_memory, left_by, left_for_turns, failed_by}}
 use Rattle.office_commands.proofs.demo.run_demo.Goals as goal
 
 -- The opening is the desk as it was opened, to which nothing has been delivered. A store in memory is clean.

@@ -1,6 +1,5 @@
 use Rattle.std.proofs.lemmas.Result.{err_from_is_err_and}
-use Rattle.office_tables.proofs.MadeLemmas.{reads_on}
-use Rattle.office_tables.proofs.WriteLemmas.{one_read, only_on}
+use Rattle.office_tables.proofs.{MadeLemmas.reads_on, WriteLemmas.{one_read, only_on}}
 use Rattle.office_commands.proofs.RefusingLemmas.{unloaded}
 use Rattle.office_commands.proofs.loaded.load_office.Goals as goal
 

@@ -1,6 +1,5 @@
-use Rattle.std.proofs.Common.{not, ap, ◌∙◌}
+use Rattle.std.proofs.{Common.{not, ap, ◌∙◌}, lemmas.Result.err_from_is_err_and}
 use Rattle.office_tables.proofs.MadeLemmas.{reads_on, reads_stopped}
-use Rattle.std.proofs.lemmas.Result.{err_from_is_err_and}
 use Rattle.office_commands.proofs.migration.look_at.Goals as goal
 
 -- Looking at the office changes nothing.

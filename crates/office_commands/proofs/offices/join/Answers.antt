@@ -2,8 +2,7 @@ use Rattle.std.proofs.Common.{sym, ap, subst, ◌∙◌}
 use Rattle.office_closing.specs.Register.{register_content}
 use Rattle.office_desk.specs.declared.desk.Desk.{Desk}
 use Rattle.office_loading.specs.Closed.{closed_content}
-use Rattle.office_commands.specs.Beside.{OpensWith}
-use Rattle.office_commands.proofs.OpenLemmas.{joined_with, loaded_as}
+use Rattle.office_commands.{specs.Beside.OpensWith, proofs.OpenLemmas.{joined_with, loaded_as}}
 use Rattle.office_commands.proofs.offices.join.Goals as goal
 
 -- The desk is over what was loaded, beside the archives that the register names.

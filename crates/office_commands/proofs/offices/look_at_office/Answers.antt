@@ -1,7 +1,5 @@
-use Rattle.std.proofs.Common.{inl, inr, ap, sym, ◌∙◌}
-use Rattle.std.proofs.lemmas.Result.{err_from_is_err_and}
-use Rattle.sqlite.specs.Files.{over_files}
-use Rattle.sqlite.specs.WalFiles.{image_at}
+use Rattle.std.proofs.{Common.{inl, inr, ap, sym, ◌∙◌}, lemmas.Result.err_from_is_err_and}
+use Rattle.sqlite.specs.{Files.over_files, WalFiles.image_at}
 use Rattle.office_closing.specs.Register.{is_newer_than, register_content}
 use Rattle.office_commands.proofs.RefusingLemmas.{older_over, refused_names, unloaded_over}
 use Rattle.office_commands.proofs.offices.look_at_office.Goals as goal

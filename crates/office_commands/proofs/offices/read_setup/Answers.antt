@@ -1,13 +1,9 @@
-use Rattle.std.proofs.Common.{◌≡◌, ap, subst}
-use Rattle.std.proofs.lemmas.Result.{err_from_is_err_and}
-use Rattle.sqlite.specs.Effect.{Database}
-use Rattle.sqlite.specs.Held.{state}
+use Rattle.std.proofs.{Common.{◌≡◌, ap, subst}, lemmas.Result.err_from_is_err_and}
+use Rattle.sqlite.specs.{Effect.Database, Held.state}
 use Rattle.office_admission.specs.Setups.{SetupContent}
 use Rattle.office_rows.specs.Tables.{office_schema}
-use Rattle.office_loading.specs.Closed.{ClosedContent}
-use Rattle.office_loading.specs.Tables.{LoadsOwn}
-use Rattle.office_tables.proofs.MadeLemmas.{clean_first}
-use Rattle.office_tables.proofs.WriteLemmas.{one_read, only_on}
+use Rattle.office_loading.specs.{Closed.ClosedContent, Tables.LoadsOwn}
+use Rattle.office_tables.proofs.{MadeLemmas.clean_first, WriteLemmas.{one_read, only_on}}
 use Rattle.terminal_core.specs.State.{TerminalState}
 use Rattle.office_commands.proofs.RefusingLemmas.{unloaded}
 use Rattle.office_commands.proofs.offices.read_setup.Goals as goal

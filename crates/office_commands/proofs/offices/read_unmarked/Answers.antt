@@ -1,5 +1,4 @@
-use Rattle.std.proofs.Common.{◌≡◌, true, string_bytes, String, Option, None, Some, is_some, option_map, sym, ap, ◌∙◌}
-use Rattle.std.specs.declared.alloc.Global.{Global}
+use Rattle.std.{specs.declared.alloc.Global.Global, proofs.Common.{◌≡◌, true, string_bytes, String, Option, None, Some, is_some, option_map, sym, ap, ◌∙◌}}
 use Rattle.partner_core.proofs.Orders.{none_of}
 use Rattle.office_closing.specs.Register.{register_content}
 use Rattle.office_commands.proofs.offices.read_unmarked.Goals as goal

@@ -1,9 +1,6 @@
 use Rattle.std.proofs.Common.{◌≡◌, [], arith, subst}
-use Rattle.sqlite.specs.Effect.{Database}
-use Rattle.sqlite.specs.Files.{file_state}
-use Rattle.sqlite.specs.State.{HasCleanDisk}
-use Rattle.office_rows.specs.Opening.{opening_rows}
-use Rattle.office_rows.specs.Tables.{office_schema, office_tables}
+use Rattle.sqlite.specs.{Effect.Database, Files.file_state, State.HasCleanDisk}
+use Rattle.office_rows.specs.{Opening.opening_rows, Tables.{office_schema, office_tables}}
 use Rattle.office_admission.specs.Setups.{setup_content}
 use Rattle.office_tables.specs.Opened.{AreMissing}
 use Rattle.office_history.proofs.Lawful.{opening_after}

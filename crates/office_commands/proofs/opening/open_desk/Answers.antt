@@ -1,10 +1,6 @@
 use Rattle.std.proofs.Common.{◌≡◌, [], sym, ap, subst, ◌∙◌}
-use Rattle.sqlite.specs.Held.{state}
-use Rattle.sqlite.specs.Steps.{over_memory}
-use Rattle.office_rows.specs.Opening.{opening_rows}
-use Rattle.office_rows.specs.Stored.{HasRows}
-use Rattle.office_rows.specs.Tables.{no_schema}
-use Rattle.office_rows.proofs.Creating.{if_ok}
+use Rattle.sqlite.specs.{Held.state, Steps.over_memory}
+use Rattle.office_rows.{specs.{Opening.opening_rows, Stored.HasRows, Tables.no_schema}, proofs.Creating.if_ok}
 use Rattle.office_admission.specs.Setups.{SetupContent, setup_content}
 use Rattle.office_history.proofs.Lawful.{opening_after}
 use Rattle.office_desk.specs.Desks.{StandsFor}

@@ -1,5 +1,4 @@
-use Rattle.std.proofs.Common.{◌≡◌, ◌==◌, length, rules, sym, ap, ◌∙◌}
-use Rattle.std.proofs.lemmas.List.{length-map}
+use Rattle.std.proofs.{Common.{◌≡◌, ◌==◌, length, rules, sym, ap, ◌∙◌}, lemmas.List.length-map}
 use Rattle.office_closing.specs.Register.{archive_content}
 use Rattle.office_commands.proofs.register.names_none.Goals as goal
 

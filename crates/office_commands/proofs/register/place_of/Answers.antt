@@ -1,5 +1,4 @@
-use Rattle.std.proofs.Common.{lit<, sym, subst}
-use Rattle.std.proofs.lemmas.Str.Pattern.{NoCharPasses-char}
+use Rattle.std.proofs.{Common.{lit<, sym, subst}, lemmas.Str.Pattern.NoCharPasses-char}
 use Rattle.office_commands.specs.Paths.{HasNoSlash}
 use Rattle.office_commands.proofs.register.place_of.Goals as goal
 

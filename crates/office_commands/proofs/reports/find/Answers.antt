@@ -1,11 +1,9 @@
-use Rattle.std.proofs.Common.{◌≡◌, inl, inr, None, Some, Result, Ok, Err, IfOk, option_map, refl, sym, ap, ◌∙◌}
+use Rattle.std.{specs.Prelude.string_bytes, proofs.Common.{◌≡◌, inl, inr, None, Some, Result, Ok, Err, IfOk, option_map, refl, sym, ap, ◌∙◌}}
 use Rattle.std.proofs.lemmas.Result.{IfErr-weaker, IfOk-weaker}
-use Rattle.std.specs.Prelude.{string_bytes}
 use Rattle.office_reports.specs.Keys.{query_content, query_of}
 use Rattle.office_desk.proofs.LookLemmas.{looks_nowhere}
 use Rattle.office_archives.proofs.Together.{looks_on}
-use Rattle.office_commands.proofs.RefusingLemmas.{err_both}
-use Rattle.office_commands.proofs.LookingLemmas.{looked_over, told_held}
+use Rattle.office_commands.proofs.{RefusingLemmas.err_both, LookingLemmas.{looked_over, told_held}}
 use Rattle.office_commands.proofs.reports.find.Goals as goal
 
 -- what is supposed before the answer is known may be supposed after it

@@ -1,7 +1,5 @@
-use Rattle.std.proofs.lemmas.Result.{err_from_is_err_and}
-use Rattle.std.specs.Prelude.{option_map, string_bytes}
-use Rattle.office_commands.specs.Ending.{Prints}
-use Rattle.office_commands.proofs.ReportLemmas.{printed_found}
+use Rattle.std.{specs.Prelude.{option_map, string_bytes}, proofs.lemmas.Result.err_from_is_err_and}
+use Rattle.office_commands.{specs.Ending.Prints, proofs.ReportLemmas.printed_found}
 use Rattle.office_commands.proofs.reports.report_on.Goals as goal
 
 pub returns-in_ok-lines-in-Some-clause-ok : goal.returns-in_ok-lines-in-Some-clause-ok

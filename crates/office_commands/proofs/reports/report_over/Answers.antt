@@ -1,5 +1,4 @@
-use Rattle.std.proofs.Common.{refl}
-use Rattle.std.proofs.lemmas.Result.{IfErr-weaker, IfOk-weaker, err_from_is_err_and}
+use Rattle.std.proofs.{Common.refl, lemmas.Result.{IfErr-weaker, IfOk-weaker, err_from_is_err_and}}
 use Rattle.sqlite.specs.WalFiles.{image_at}
 use Rattle.office_commands.proofs.RefusingLemmas.{err_under}
 use Rattle.office_commands.proofs.reports.report_over.Goals as goal

@@ -1,9 +1,6 @@
-use Rattle.std.proofs.Common.{◌≡◌, inl, inr, refl, subst, arith, rules}
-use Rattle.std.specs.Io.KnownBytes.{Appends}
-use Rattle.std.specs.Prelude.{string_bytes}
+use Rattle.std.{specs.{Io.KnownBytes.Appends, Prelude.string_bytes}, proofs.Common.{◌≡◌, inl, inr, refl, subst, arith, rules}}
 use Rattle.office_replies.specs.Fronts.{AppendsFront}
-use Rattle.office_commands.specs.Serving.{listening_line, served_line}
-use Rattle.office_commands.proofs.ServingLemmas.{tells_none}
+use Rattle.office_commands.{specs.Serving.{listening_line, served_line}, proofs.ServingLemmas.tells_none}
 use Rattle.office_commands.proofs.serving.listen.Goals as goal
 
 -- printing failed

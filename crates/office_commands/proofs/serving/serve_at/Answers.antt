@@ -1,8 +1,6 @@
 use Rattle.std.proofs.Common.{◌∙◌, inr, refl}
-use Rattle.office_http.specs.Served.{AtMost}
-use Rattle.office_http.proofs.Serving.{none_yet}
-use Rattle.office_commands.specs.Ending.{Tells}
-use Rattle.office_commands.proofs.ServingLemmas.{ends_by, tells_none}
+use Rattle.office_http.{specs.Served.AtMost, proofs.Serving.none_yet}
+use Rattle.office_commands.{specs.Ending.Tells, proofs.ServingLemmas.{ends_by, tells_none}}
 use Rattle.office_commands.proofs.serving.serve_at.Goals as goal
 
 pub returns-in-Some : goal.returns-in-Some

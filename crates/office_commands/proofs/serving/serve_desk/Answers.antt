@@ -1,7 +1,4 @@
-use Rattle.office_commands.specs.Delivering.{Leads}
-use Rattle.office_commands.specs.Ending.{Tells}
-use Rattle.office_commands.specs.ServingBeside.{Enrols, Looks}
-use Rattle.office_commands.proofs.ServeLemmas.{served_inner, served_over}
+use Rattle.office_commands.{specs.{Delivering.Leads, Ending.Tells, ServingBeside.{Enrols, Looks}}, proofs.ServeLemmas.{served_inner, served_over}}
 use Rattle.office_commands.proofs.ServingLemmas.{ends_as}
 use Rattle.office_commands.proofs.serving.serve_desk.Goals as goal
 

@@ -1,6 +1,5 @@
 use Rattle.std.proofs.Common.{◌∙◌, ap}
-use Rattle.office_commands.specs.Ending.{Tells}
-use Rattle.office_commands.proofs.ServingLemmas.{ends_inner, named_enrols, named_leads}
+use Rattle.office_commands.{specs.Ending.Tells, proofs.ServingLemmas.{ends_inner, named_enrols, named_leads}}
 use Rattle.office_commands.proofs.serving.serve_named.Goals as goal
 
 -- What stands around the desk asks it, or answers `not now`.

@@ -1,5 +1,4 @@
-use Rattle.std.proofs.Common.{refl}
-use Rattle.std.proofs.lemmas.Result.{err_from_is_err_and}
+use Rattle.std.proofs.{Common.refl, lemmas.Result.err_from_is_err_and}
 use Rattle.sqlite.specs.WalFiles.{image_at}
 use Rattle.office_commands.proofs.serving.serve_over.Goals as goal
 

@@ -1,8 +1,7 @@
 use Rattle.std.proofs.Common.{◌≡◌, not, IfErr, IfOk, IsTrue, ap, subst, ◌∙◌}
 use Rattle.sqlite.specs.Held.{Held, state}
 use Rattle.office_tables.specs.Faults.{IsOfStore}
-use Rattle.office_commands.specs.Printing.{PrintsTexts}
-use Rattle.office_commands.proofs.TextLemmas.{ByRows, committed_ok, committed_err}
+use Rattle.office_commands.{specs.Printing.PrintsTexts, proofs.TextLemmas.{ByRows, committed_ok, committed_err}}
 use Rattle.office_commands.proofs.texts.print_kept.Goals as goal
 
 -- No change was under way, so the rows that are read are those that are committed.

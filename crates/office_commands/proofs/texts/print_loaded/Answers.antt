@@ -1,10 +1,8 @@
 use Rattle.std.proofs.Common.{inl, inr, sym, ap, ◌∙◌}
 use Rattle.office_closing.specs.Register.{register_content}
 use Rattle.office_loading.specs.Closed.{closed_content}
-use Rattle.office_commands.specs.Printing.{PrintsOf, PrintsTexts}
-use Rattle.office_commands.proofs.KeptTextLemmas.{prints_of}
+use Rattle.office_commands.{specs.Printing.{PrintsOf, PrintsTexts}, proofs.{KeptTextLemmas.prints_of, TextLemmas.printed_alone}}
 use Rattle.office_commands.proofs.OpenLemmas.{closes_nothing, empty_if, loaded_as, of_that_day, opened_over, opened_whole, opens_at, opens_on}
-use Rattle.office_commands.proofs.TextLemmas.{printed_alone}
 use Rattle.office_commands.proofs.texts.print_loaded.Goals as goal
 
 -- Nothing was put away: the store shows what its files held, and was only read.

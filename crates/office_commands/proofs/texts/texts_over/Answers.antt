@@ -1,9 +1,6 @@
-use Rattle.std.proofs.Common.{◌≡◌, true, inr, refl, sym, subst, ◌∙◌}
-use Rattle.std.proofs.lemmas.Result.{err_from_is_err_and}
-use Rattle.sqlite.specs.Files.{over_files}
-use Rattle.sqlite.specs.WalFiles.{image_at}
-use Rattle.office_closing.specs.Register.{is_newer_than, register_content}
-use Rattle.office_closing.specs.declared.register.Register.{Register}
+use Rattle.std.proofs.{Common.{◌≡◌, true, inr, refl, sym, subst, ◌∙◌}, lemmas.Result.err_from_is_err_and}
+use Rattle.sqlite.specs.{Files.over_files, WalFiles.image_at}
+use Rattle.office_closing.specs.{Register.{is_newer_than, register_content}, declared.register.Register.Register}
 use Rattle.office_commands.proofs.RefusingLemmas.{older_over, refused_names, refused_opening, unloaded_over}
 use Rattle.office_commands.proofs.texts.texts_over.Goals as goal
 

@@ -1,11 +1,7 @@
-use Rattle.std.proofs.Common.{ap, subst, ◌∙◌}
-use Rattle.std.proofs.lemmas.Result.{IfOk-weaker}
-use Rattle.sqlite.specs.Files.{file_state, over_files}
-use Rattle.sqlite.specs.Held.{Held}
-use Rattle.sqlite.specs.declared.FileStore.{FileStore}
+use Rattle.std.proofs.{Common.{ap, subst, ◌∙◌}, lemmas.Result.IfOk-weaker}
+use Rattle.sqlite.specs.{Files.{file_state, over_files}, Held.Held, declared.FileStore.FileStore}
 use Rattle.office_desk.specs.declared.desk.Desk.{Desk}
-use Rattle.office_commands.specs.Whole.{IsLeft}
-use Rattle.office_commands.proofs.WholeLemmas.{whole_after}
+use Rattle.office_commands.{specs.Whole.IsLeft, proofs.WholeLemmas.whole_after}
 use Rattle.office_commands.proofs.whole.leave_office.Goals as goal
 
 -- The connection is the desk's.

@@ -1,10 +1,8 @@
-use Rattle.std.proofs.Common.{inl, inr, refl, sym, ap, subst, ◌∙◌}
+use Rattle.std.proofs.Common.{inl, inr, refl, sym, subst, ◌∙◌}
 use Rattle.std.proofs.lemmas.Result.{err_from_is_err_and}
-use Rattle.sqlite.specs.Held.{state}
-use Rattle.sqlite.specs.State.{HasCleanDisk}
+use Rattle.sqlite.specs.{Held.state, State.HasCleanDisk}
 use Rattle.office_rows.specs.Stored.{HasRows}
-use Rattle.office_tables.proofs.WritesLemmas.{of_store_weaker}
-use Rattle.office_tables.proofs.MadeLemmas.{clean_first, reads_on, reads_stopped, ◌then◌}
+use Rattle.office_tables.proofs.{WritesLemmas.of_store_weaker, MadeLemmas.{clean_first, reads_on, reads_stopped, ◌then◌}}
 use Rattle.office_desk.proofs.accounts.look_up.Goals as goal
 
 pub returns-clause-is : goal.returns-clause-is

@@ -1,13 +1,10 @@
-use Rattle.std.proofs.Common.{◌≡◌, ◌+◌, ◌<◌, List, None, Some, get_or, length, refl, sym, ap, subst, ◌∙◌, arith}
-use Rattle.std.proofs.lemmas.Result.{err_from_is_err_and}
-use Rattle.office_admission.specs.declared.setup.Account.{Account}
-use Rattle.office_admission.specs.Setups.{account_contents}
+use Rattle.std.proofs.{Common.{◌≡◌, ◌+◌, ◌<◌, List, None, Some, get_or, length, refl, sym, ap, subst, ◌∙◌, arith}, lemmas.Result.err_from_is_err_and}
+use Rattle.office_admission.specs.{declared.setup.Account.Account, Setups.account_contents}
 use Rattle.office_tables.proofs.WritesLemmas.{of_store_weaker}
 use Rattle.office_reports.specs.Partners.{partner_content, row_of}
 use Rattle.office_report_data.specs.Told.{shown}
+use Rattle.office_desk.{specs.Causes.{LacksNumbers, LacksSome}, proofs.PageLemmas.{some_lacks, told_of_none, told_one}}
 use Rattle.office_report_data.specs.Told as value
-use Rattle.office_desk.specs.Causes.{LacksNumbers, LacksSome}
-use Rattle.office_desk.proofs.PageLemmas.{some_lacks, told_of_none, told_one}
 use Rattle.office_desk.proofs.accounts.tell_partner.Goals as goal
 
 pub returns-in_ok-show_partner-in-Some-clause-told : goal.returns-in_ok-show_partner-in-Some-clause-told

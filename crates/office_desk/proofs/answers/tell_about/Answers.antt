@@ -1,20 +1,14 @@
-use Rattle.std.proofs.Common.{◌≡◌, length, None, Some, inl, option_map, string_bytes, refl, sym, ap, subst, ◌∙◌, arith}
-use Rattle.std.specs.FinMap as finite_map
-use Rattle.std.proofs.lemmas.Result.{IfErr-weaker}
+use Rattle.std.proofs.{Common.{◌≡◌, length, None, Some, inl, option_map, string_bytes, refl, sym, ap, subst, ◌∙◌, arith}, lemmas.Result.IfErr-weaker}
 use Rattle.office_rows.proofs.Creating.{if_ok}
-use Rattle.office_tables.specs.Answers.{LacksNext}
-use Rattle.office_tables.specs.Faults.{IsOfStoreOr}
-use Rattle.office_tables.proofs.WritesLemmas.{of_store_weaker}
-use Rattle.office_desk.specs.Causes.{AsksUnreadable, HasUnfitReplyOf, LacksReply, LacksSome}
-use Rattle.office_admission.specs.Setups.{setup_content}
-use Rattle.office_reports.specs.Calls.{lists_in}
-use Rattle.office_reports.specs.OpenLines.{open_lines}
-use Rattle.office_report_data.specs.Told.{shown}
-use Rattle.office_report_data.specs.Told as value
+use Rattle.office_tables.{specs.{Answers.LacksNext, Faults.IsOfStoreOr}, proofs.WritesLemmas.of_store_weaker}
+use Rattle.office_desk.{specs.Causes.{AsksUnreadable, HasUnfitReplyOf, LacksReply, LacksSome}, proofs.{Values.{shows_text, text_shown}, PageLemmas.some_lacks}}
 use Rattle.office_desk.specs.Reports.{Shows, TellsAbout, TellsMetrics, TellsNext, TellsReplyOf, contrl_for_partner, partner_called, partner_if_called, ticket_of}
-use Rattle.office_desk.proofs.Values.{shows_text, text_shown}
-use Rattle.office_desk.proofs.PageLemmas.{some_lacks}
 use Rattle.office_desk.proofs.Faults.{called}
+use Rattle.office_admission.specs.Setups.{setup_content}
+use Rattle.office_reports.specs.{Calls.lists_in, OpenLines.open_lines}
+use Rattle.office_report_data.specs.Told.{shown}
+use Rattle.std.specs.FinMap as finite_map
+use Rattle.office_report_data.specs.Told as value
 use Rattle.office_desk.proofs.answers.tell_about.Goals as goal
 
 pub returns-in-Some-clause-told : goal.returns-in-Some-clause-told

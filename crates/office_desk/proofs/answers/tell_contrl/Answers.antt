@@ -1,7 +1,6 @@
 use Rattle.std.proofs.Common.{None, Some, option_map, string_bytes, sym, ap, ◌∙◌}
 use Rattle.office_report_data.specs.Told.{shown}
-use Rattle.office_desk.specs.Reports.{contrl_by}
-use Rattle.office_desk.proofs.Faults.{contrl_kept}
+use Rattle.office_desk.{specs.Reports.contrl_by, proofs.Faults.contrl_kept}
 use Rattle.office_desk.proofs.answers.tell_contrl.Goals as goal
 
 pub returns-in_ok-show_contrl-in-Some-clause-told : goal.returns-in_ok-show_contrl-in-Some-clause-told

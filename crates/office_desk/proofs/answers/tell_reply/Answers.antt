@@ -1,12 +1,8 @@
-use Rattle.std.proofs.Common.{◌≡◌, inl, inr, None, Some, option_map, string_bytes, refl, sym, ap, subst}
-use Rattle.std.proofs.lemmas.Result.{err_from_is_err_and}
+use Rattle.std.proofs.{Common.{◌≡◌, inl, inr, None, Some, option_map, string_bytes, refl, sym, ap, subst}, lemmas.Result.err_from_is_err_and}
 use Rattle.sqlite.specs.Held.{state}
 use Rattle.office_rows.specs.Stored.{HasRows}
-use Rattle.office_tables.specs.Answers.{IsKept}
-use Rattle.office_tables.proofs.WritesLemmas.{of_store_weaker}
-use Rattle.office_tables.proofs.MadeLemmas.{clean_first, reads_on, reads_stopped, ◌then◌}
-use Rattle.office_desk.specs.Reports.{answered}
-use Rattle.office_desk.proofs.Faults.{told_kept, told_nothing}
+use Rattle.office_tables.{specs.Answers.IsKept, proofs.{WritesLemmas.of_store_weaker, MadeLemmas.{clean_first, reads_on, reads_stopped, ◌then◌}}}
+use Rattle.office_desk.{specs.Reports.answered, proofs.Faults.{told_kept, told_nothing}}
 use Rattle.office_desk.proofs.answers.tell_reply.Goals as goal
 
 pub returns-in_ok-tell_kept-in-Some-clause-told : goal.returns-in_ok-tell_kept-in-Some-clause-told

@@ -1,7 +1,7 @@
 use Rattle.std.proofs.Common.{option_map, sym, ap, ◌∙◌}
 use Rattle.office_report_data.specs.Told.{shown}
-use Rattle.office_report_data.specs.Told as value
 use Rattle.office_desk.proofs.Faults.{no_ticket, ticket_there}
+use Rattle.office_report_data.specs.Told as value
 use Rattle.office_desk.proofs.answers.tell_ticket.Goals as goal
 
 pub returns-then-was_taken-clause-told : goal.returns-then-was_taken-clause-told

@@ -1,14 +1,9 @@
-use Rattle.std.proofs.Common.{subst}
-use Rattle.std.proofs.lemmas.Result.{err_from_is_err_and}
+use Rattle.std.proofs.{Common.subst, lemmas.Result.err_from_is_err_and}
 use Rattle.sqlite.specs.Held.{state}
 use Rattle.office_admission.specs.Setups.{setup_content}
-use Rattle.office_tables.proofs.MadeLemmas.{reads_on, reads_stopped}
-use Rattle.office_tables.proofs.WriteLemmas.{nothing_read, one_read}
+use Rattle.office_tables.proofs.{MadeLemmas.{reads_on, reads_stopped}, WriteLemmas.{nothing_read, one_read}}
 use Rattle.office_loading.specs.Closed.{closed_content}
-use Rattle.office_desk.proofs.Faults.{opens_alone}
-use Rattle.office_desk.proofs.HoldLemmas.{nexts_loaded}
-use Rattle.office_desk.proofs.DeliverLemmas.{loaded_is, same_beside, beside_loaded}
-use Rattle.office_desk.specs.Finding.{StaysBeside}
+use Rattle.office_desk.{specs.Finding.StaysBeside, proofs.{Faults.opens_alone, HoldLemmas.nexts_loaded, DeliverLemmas.{loaded_is, same_beside, beside_loaded}}}
 use Rattle.office_desk.proofs.beside.beside_of.Goals as goal
 
 pub returns-in-Some-clause-beside : goal.returns-in-Some-clause-beside

@@ -1,13 +1,9 @@
-use Rattle.std.proofs.Common.{inl, inr, ap, ◌∙◌, subst, sym}
-use Rattle.std.proofs.lemmas.Result.{err_from_is_err_and}
-use Rattle.sqlite.specs.Held.{state}
-use Rattle.sqlite.specs.State.{IsUnchanged}
+use Rattle.std.proofs.{Common.{inl, inr, ap, ◌∙◌, subst, sym}, lemmas.Result.err_from_is_err_and}
+use Rattle.sqlite.specs.{Held.state, State.IsUnchanged}
 use Rattle.office_rows.specs.Stored.{HasRows}
 use Rattle.office_admission.specs.Setups.{setup_content}
-use Rattle.office_tables.proofs.WritesLemmas.{of_store_alone}
-use Rattle.office_loading.specs.Tables.{ShowsPartners}
-use Rattle.office_tables.proofs.MadeLemmas.{clean_first, reads_on, reads_stopped, ◌then◌}
-use Rattle.office_loading.specs.Closed.{closed_content}
+use Rattle.office_tables.proofs.{WritesLemmas.of_store_alone, MadeLemmas.{clean_first, reads_on, reads_stopped, ◌then◌}}
+use Rattle.office_loading.specs.{Tables.ShowsPartners, Closed.closed_content}
 use Rattle.office_desk.proofs.Faults.{nexts_fit}
 use Rattle.office_desk.proofs.beside.load_beside.Goals as goal
 

@@ -1,15 +1,11 @@
-use Rattle.std.proofs.Common.{◌≡◌, List, length, Some, map, string_bytes, sym, ap, subst, ◌∙◌}
+use Rattle.std.proofs.Common.{◌≡◌, List, length, Some, map, sym, ap, subst, ◌∙◌}
 use Rattle.std.proofs.lemmas.List.{length-map}
 use Rattle.std.proofs.lemmas.Result.{err_from_is_err_and}
 use Rattle.office_tables.proofs.WritesLemmas.{of_store_weaker}
 use Rattle.office_rows.specs.Opening.{tables_version}
-use Rattle.office_admission.specs.Setups.{account_contents}
-use Rattle.office_admission.specs.declared.setup.Account.{Account}
-use Rattle.office_reports.specs.Metrics.{metrics_text}
-use Rattle.office_reports.specs.Partners.{partner_content}
-use Rattle.office_desk.specs.Causes.{LacksSome}
-use Rattle.office_desk.specs.Reports.{AreLookedUp}
-use Rattle.office_desk.proofs.PageLemmas.{said}
+use Rattle.office_admission.specs.{Setups.account_contents, declared.setup.Account.Account}
+use Rattle.office_reports.specs.{Metrics.metrics_text, Partners.partner_content}
+use Rattle.office_desk.{specs.{Causes.LacksSome, Reports.AreLookedUp}, proofs.PageLemmas.said}
 use Rattle.office_desk.proofs.beside.tell_metrics.Goals as goal
 
 pub returns-clause-told : goal.returns-clause-told

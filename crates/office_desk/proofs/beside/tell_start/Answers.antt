@@ -1,16 +1,11 @@
-use Rattle.std.proofs.Common.{◌≡◌, List, length, Some, map, refl, sym, ap, subst, ◌∙◌}
-use Rattle.std.proofs.lemmas.List.{length-map}
-use Rattle.std.proofs.lemmas.Result.{err_from_is_err_and}
+use Rattle.std.proofs.{Common.{◌≡◌, List, length, Some, map, refl, sym, ap, subst, ◌∙◌}, lemmas.List.length-map, lemmas.Result.err_from_is_err_and}
 use Rattle.office_tables.proofs.WritesLemmas.{of_store_weaker}
-use Rattle.office_admission.specs.Setups.{account_contents, setup_content}
-use Rattle.office_admission.specs.declared.setup.Account.{Account}
+use Rattle.office_admission.specs.{Setups.{account_contents, setup_content}, declared.setup.Account.Account}
 use Rattle.office_pages.specs.Start.{office_page}
 use Rattle.office_reports.specs.Partners.{partner_content}
 use Rattle.office_report_data.specs.Told.{shown}
+use Rattle.office_desk.{specs.{Causes.LacksSome, Reports.{AreLookedUp, start_by}}, proofs.PageLemmas.said}
 use Rattle.office_report_data.specs.Told as value
-use Rattle.office_desk.specs.Causes.{LacksSome}
-use Rattle.office_desk.specs.Reports.{AreLookedUp, start_by}
-use Rattle.office_desk.proofs.PageLemmas.{said}
 use Rattle.office_desk.proofs.beside.tell_start.Goals as goal
 
 pub returns-clause-told : goal.returns-clause-told

@@ -1,9 +1,8 @@
 use Rattle.std.proofs.Common.{◌≡◌, None, Some, option_map, refl, ap, subst}
 use Rattle.edi_messages.specs.Owned.{call_content}
-use Rattle.office_reports.specs.Lists.{IsOfLines}
-use Rattle.office_reports.specs.Work.{work_by, work_content}
-use Rattle.office_report_data.specs.Told as value
+use Rattle.office_reports.specs.{Lists.IsOfLines, Work.{work_by, work_content}}
 use Rattle.office_desk.proofs.Values.{of_lines}
+use Rattle.office_report_data.specs.Told as value
 use Rattle.office_desk.proofs.in_memory.tell_work.Goals as goal
 
 pub returns-in_ok-show_work-in-Some : goal.returns-in_ok-show_work-in-Some

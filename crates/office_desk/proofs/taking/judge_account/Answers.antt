@@ -1,9 +1,6 @@
-use Rattle.std.proofs.Common.{◌≡◌, ◌+◌, ◌<◌, cond, Some, None, length, sym, ap, ◌∙◌}
-use Rattle.std.proofs.lemmas.List.{length-map}
-use Rattle.std.specs.Prelude.{nat_lt}
-use Rattle.office_admission.specs.Accounts.{added_as, by_number, by_own_kind, refused_for}
+use Rattle.std.{specs.Prelude.nat_lt, proofs.{Common.{◌≡◌, ◌+◌, ◌<◌, cond, Some, None, length, sym, ap, ◌∙◌}, lemmas.List.length-map}}
+use Rattle.office_admission.specs.{Accounts.{added_as, by_number, by_own_kind, refused_for}, Setups.setup_content}
 use Rattle.office_replies.specs.declared.accounts.AccountFault.TheVariants.{Accounts}
-use Rattle.office_admission.specs.Setups.{setup_content}
 use Rattle.office_desk.proofs.AccountLemmas.{found_by_code, kind_at}
 use Rattle.office_desk.proofs.taking.judge_account.Goals as goal
 

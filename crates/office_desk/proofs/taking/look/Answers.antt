@@ -1,17 +1,10 @@
-use Rattle.std.proofs.Common.{Err, Some, ap, refl, sym, subst, ◌∙◌}
-use Rattle.std.proofs.lemmas.Result.{err_from_is_err_and}
+use Rattle.std.proofs.{Common.{Err, Some, ap, refl, sym, subst, ◌∙◌}, lemmas.Result.err_from_is_err_and}
 use Rattle.sqlite.specs.Held.{state}
 use Rattle.office_rows.specs.Stored.{HasRows}
-use Rattle.office_tables.specs.declared.table_fault.TableFault.TheVariants.{Damaged}
-use Rattle.office_tables.proofs.WritesLemmas.{of_store_or}
-use Rattle.office_tables.proofs.MadeLemmas.{clean_first, reads_on, reads_stopped}
-use Rattle.office_tables.specs.DeliveryReading.{IsSame}
-use Rattle.office_tables.proofs.WriteLemmas.{one_read, only_on, only_stopped, then_read}
+use Rattle.office_tables.{specs.{declared.table_fault.TableFault.TheVariants.Damaged, DeliveryReading.IsSame}, proofs.WritesLemmas.of_store_or}
+use Rattle.office_tables.proofs.{MadeLemmas.{clean_first, reads_on, reads_stopped}, WriteLemmas.{one_read, only_on, only_stopped, then_read}}
 use Rattle.office_loading.specs.Closed.{closed_content}
-use Rattle.office_desk.specs.Finding.{StaysBeside}
-use Rattle.office_desk.specs.Offices.{HoldsOffice}
-use Rattle.office_desk.proofs.Faults.{next_known}
-use Rattle.office_desk.proofs.NextLemmas.{next_beside, read_beside}
+use Rattle.office_desk.{specs.{Finding.StaysBeside, Offices.HoldsOffice}, proofs.{Faults.next_known, NextLemmas.{next_beside, read_beside}}}
 use Rattle.office_desk.proofs.DeliverLemmas.{keeps_accounts, none_beside}
 use Rattle.office_desk.proofs.taking.look.Goals as goal
 

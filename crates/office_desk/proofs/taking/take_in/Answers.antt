@@ -1,25 +1,13 @@
-use Rattle.std.proofs.Common.{◌≡◌, inl, None, Some, length, not, refl, sym, ap, subst, ◌∙◌, arith}
-use Rattle.std.proofs.lemmas.List.{length-map}
-use Rattle.sqlite.specs.Held.{state}
-use Rattle.sqlite.specs.State.{HasCleanDisk}
+use Rattle.std.proofs.{Common.{◌≡◌, inl, None, Some, length, not, refl, sym, ap, subst, ◌∙◌, arith}, lemmas.List.length-map}
+use Rattle.sqlite.specs.{Held.state, State.HasCleanDisk}
 use Rattle.office_rows.specs.Stored.{HasRows}
 use Rattle.office_admission.specs.Setups.{setup_content}
-use Rattle.office_tables.specs.Answers.{HasUnfitReply, IsKept}
-use Rattle.office_tables.specs.Faults.{IsOfStoreOr}
-use Rattle.office_tables.proofs.WritesLemmas.{of_store_weaker}
-use Rattle.office_tables.specs.DeliveryReading.{IsSame}
+use Rattle.office_tables.{specs.{Answers.{HasUnfitReply, IsKept}, Faults.IsOfStoreOr, DeliveryReading.IsSame}, proofs.WritesLemmas.of_store_weaker}
 use Rattle.office_tables.proofs.WriteLemmas.{text_kept, was_clean, was_open}
 use Rattle.office_loading.specs.Closed.{closed_content}
-use Rattle.office_desk.specs.Beside.{IsAt}
-use Rattle.office_desk.specs.Finding.{IsOpenIfKept, KeepsBeside}
-use Rattle.office_desk.specs.Kept.{LacksAnswer}
-use Rattle.office_desk.specs.Order.{IsInOrder, stored}
-use Rattle.office_desk.specs.Taking.{IsNew}
-use Rattle.office_desk.specs.Telling.{delivery_of}
+use Rattle.office_desk.specs.{Beside.IsAt, Finding.{IsOpenIfKept, KeepsBeside}, Kept.LacksAnswer, Order.{IsInOrder, stored}, Taking.IsNew, Telling.delivery_of}
 use Rattle.office_desk.proofs.HoldLemmas.{leaves_less, used_leaves, held_with, next_is, used_answers, failed_holds, failed_leaves}
-use Rattle.office_desk.proofs.DeliverLemmas.{is_now, office_with}
-use Rattle.office_desk.proofs.KeptLemmas.{failed_stays, next_found, used_by_kept}
-use Rattle.office_desk.proofs.PageLemmas.{failed_over, used_into}
+use Rattle.office_desk.proofs.{DeliverLemmas.{is_now, office_with}, KeptLemmas.{failed_stays, next_found, used_by_kept}, PageLemmas.{failed_over, used_into}}
 use Rattle.office_desk.proofs.Faults.{failed_in_order, failed_leaves_in_order, used_in_order}
 use Rattle.office_desk.proofs.taking.take_in.Goals as goal
 

@@ -1,26 +1,17 @@
-use Rattle.std.proofs.Common.{◌≡◌, ◌∷◌, ◌++◌, [], Some, inl, inr, length, refl, sym, ap, subst, ◌∙◌, arith}
-use Rattle.std.proofs.lemmas.Bool.{cases_order}
-use Rattle.std.proofs.lemmas.List.{length-map}
+use Rattle.std.proofs.{Common.{◌≡◌, ◌∷◌, ◌++◌, [], Some, inl, inr, length, refl, sym, ap, subst, ◌∙◌, arith}, lemmas.Bool.cases_order, lemmas.List.length-map}
 use Rattle.sqlite.specs.Held.{state}
 use Rattle.partner_core.specs.Answers.{Waiting}
 use Rattle.office_replies.specs.Events.{delivered}
-use Rattle.office_rows.specs.Stored.{HasRows}
-use Rattle.office_tables.specs.Writing.{Commits}
-use Rattle.office_rows.proofs.Creating.{if_ok, on_ok}
+use Rattle.office_rows.{specs.Stored.HasRows, proofs.Creating.{if_ok, on_ok}}
+use Rattle.office_tables.{specs.{Writing.Commits, Faults.IsOfStore}, proofs.WritesLemmas.{of_store_alone, of_store_or}}
 use Rattle.office_admission.specs.Setups.{setup_content}
-use Rattle.office_tables.specs.Faults.{IsOfStore}
-use Rattle.office_tables.proofs.WritesLemmas.{of_store_alone, of_store_or}
 use Rattle.office_history.specs.After.{machine_with}
-use Rattle.office_desk.specs.Beside.{IsBeside, IsOrNone}
-use Rattle.office_desk.specs.Order.{IsInOrder, IsRunInOrder, stored}
-use Rattle.office_desk.specs.Taking.{HasNumbered}
-use Rattle.office_desk.specs.Telling.{IsRunDone, delivery_of}
+use Rattle.office_desk.specs.{Beside.{IsBeside, IsOrNone}, Order.{IsInOrder, IsRunInOrder, stored}, Taking.HasNumbered, Telling.{IsRunDone, delivery_of}}
 use Rattle.office_desk.proofs.HoldLemmas.{committed_leaves, either_of, run_after, held_with, machine_same, next_answers, next_is, numbered, number_within, early_events, early_leaves, failed_holds, failed_leaves}
-use Rattle.office_desk.proofs.DeliverLemmas.{is_now, keeps_accounts, next_follows, office_with}
+use Rattle.office_desk.proofs.{DeliverLemmas.{is_now, keeps_accounts, next_follows, office_with}, NextLemmas.{free_after, free_over}}
 use Rattle.office_desk.proofs.Faults.{behind_fits, low_is_kept, committed_in_order, early_crash, early_rows, failed_in_order, failed_leaves_in_order, held_in_order, run_in_order}
 use Rattle.office_desk.proofs.KeptLemmas.{early_or_stays, failed_stays, next_answers_so, next_found, numbered_in}
 use Rattle.office_desk.proofs.PageLemmas.{early_leaves_over, failed_over, run_into, taken_leaves_over}
-use Rattle.office_desk.proofs.NextLemmas.{free_after, free_over}
 use Rattle.office_desk.proofs.taking.take_new.Goals as goal
 
 pub take_next-requires-clause-known : goal.take_next-requires-clause-known

@@ -1,20 +1,12 @@
-use Rattle.std.proofs.Common.{◌≡◌, ◌⊎◌, inl, ◌+◌, ◌-◌, ◌<◌, length, arith, sym, ap, subst, ◌∙◌}
-use Rattle.std.specs.Prelude.{slice_index_or, slice_set}
+use Rattle.std.{specs.Prelude.{slice_index_or, slice_set}, proofs.Common.{◌≡◌, ◌⊎◌, inl, ◌+◌, ◌-◌, ◌<◌, length, arith, sym, ap, subst, ◌∙◌}}
 use Rattle.std.proofs.lemmas.Result.{err_from_is_err_and}
-use Rattle.sqlite.specs.Held.{state}
-use Rattle.sqlite.specs.State.{HasCleanDisk}
+use Rattle.sqlite.specs.{Held.state, State.HasCleanDisk}
 use Rattle.office_admission.specs.Taking.{machine_of}
 use Rattle.office_history.specs.Cascade.{AreTakenFrom, texts_with, with_run}
-use Rattle.office_tables.specs.DeliveryReading.{IsSame}
-use Rattle.office_tables.proofs.WriteLemmas.{was_clean, was_open}
-use Rattle.office_tables.specs.Taken.{taken_contents}
-use Rattle.office_tables.specs.declared.running.Taken.{Taken}
+use Rattle.office_tables.specs.{DeliveryReading.IsSame, Taken.taken_contents, declared.running.Taken.Taken, Writing.{Commits, IsWhole, IsWholeInOrder}}
+use Rattle.office_tables.{specs.Order.HasRowsInOrder, proofs.{WriteLemmas.{was_clean, was_open}, WritesLemmas.of_store_or}}
 use Rattle.office_rows.specs.Stored.{HasRows}
-use Rattle.office_tables.specs.Writing.{Commits, IsWhole, IsWholeInOrder}
-use Rattle.office_tables.specs.Order.{HasRowsInOrder}
-use Rattle.office_tables.proofs.WritesLemmas.{of_store_or}
-use Rattle.office_desk.proofs.AccountLemmas.{takes_next}
-use Rattle.office_desk.proofs.HoldLemmas.{either_of, leaves_less, number_at}
+use Rattle.office_desk.proofs.{AccountLemmas.takes_next, HoldLemmas.{either_of, leaves_less, number_at}}
 use Rattle.office_desk.proofs.taking.take_next.Goals as goal
 
 pub returns-clause-takes : goal.returns-clause-takes

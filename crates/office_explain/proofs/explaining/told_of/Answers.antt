@@ -1,9 +1,7 @@
 -- What is told of an interchange is the fault that is named of it, with its code, or what is read of it.
 use Rattle.std.proofs.Common.{ℕ, Option, subst}
 use Rattle.edi_messages.specs.declared.codes.PartnerKind.{PartnerKind}
-use Rattle.office_explain.specs.Findings.{IsFound}
-use Rattle.office_explain.specs.Messages.{IsReadOf}
-use Rattle.office_explain.specs.declared.finding.Subject.TheVariants.{Interchange}
+use Rattle.office_explain.specs.{Findings.IsFound, Messages.IsReadOf, declared.finding.Subject.TheVariants.Interchange}
 use Rattle.office_explain.proofs.explaining.told_of.Goals as goal
 
 pub returns-in-Err-clause-explains : goal.returns-in-Err-clause-explains

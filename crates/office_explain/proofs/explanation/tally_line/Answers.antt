@@ -1,6 +1,5 @@
 -- What is written is the line, by what each of its pieces is.
-use Rattle.std.proofs.Common.{◌≡◌, ℕ, List, ◌++◌, ◌∙◌, codes, decimal, length, string_bytes}
-use Rattle.std.proofs.lemmas.Result.{IfOk-weaker}
+use Rattle.std.proofs.{Common.{◌≡◌, ℕ, List, ◌++◌, ◌∙◌, codes, decimal, length, string_bytes}, lemmas.Result.IfOk-weaker}
 use Rattle.office_explain.specs.Tallies.{tally_line}
 use Rattle.office_explain.proofs.explanation.tally_line.Goals as goal
 

@@ -1,8 +1,5 @@
-use Rattle.std.proofs.Common.{sym, ◌∙◌, refl, ap}
-use Rattle.std.specs.Option.{option_map}
-use Rattle.office_explain.specs.Entries.{entry_content}
-use Rattle.office_explain.specs.Said.{partner_said}
-use Rattle.office_explain.proofs.Givens.{none_said}
+use Rattle.std.{specs.Option.option_map, proofs.Common.{sym, ◌∙◌, refl, ap}}
+use Rattle.office_explain.{specs.{Entries.entry_content, Said.partner_said}, proofs.Givens.none_said}
 use Rattle.office_explain.proofs.files.accounts_of.Goals as goal
 
 pub returns-in_default : goal.returns-in_default

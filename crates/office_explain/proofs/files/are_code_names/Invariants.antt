@@ -1,7 +1,5 @@
-use Rattle.std.proofs.Common.{◌≡◌, map, drop}
-use Rattle.std.specs.List.{list_all}
-use Rattle.office_explain.specs.Entries.{entry_content}
-use Rattle.office_explain.specs.Said.{is_code_name, names_of}
+use Rattle.std.{specs.List.list_all, proofs.Common.{◌≡◌, map, drop}}
+use Rattle.office_explain.specs.{Entries.entry_content, Said.{is_code_name, names_of}}
 use Rattle.office_explain.proofs.files.are_code_names.Given as goal
 
 abbrev pub invariant-loop-entry : goal.invariant-loop-entry

@@ -1,7 +1,6 @@
 use Rattle.std.proofs.Common.{◌≡◌, None, sym, ◌∙◌}
 use Rattle.csv.specs.Records.{fields_of}
-use Rattle.office_explain.specs.Said.{block_said}
-use Rattle.office_explain.proofs.Givens.{none_said}
+use Rattle.office_explain.{specs.Said.block_said, proofs.Givens.none_said}
 use Rattle.office_explain.proofs.files.blocks_among.Goals as goal
 
 pub returns-in_default : goal.returns-in_default

@@ -1,6 +1,5 @@
 use Rattle.std.proofs.Common.{◌≡◌, sym, ◌∙◌, List, subst}
-use Rattle.yard_core.specs.declared.plan.Block.{Block}
-use Rattle.yard_core.specs.Plan.{IsPlan}
+use Rattle.yard_core.specs.{declared.plan.Block.Block, Plan.IsPlan}
 use Rattle.office_explain.proofs.Givens.{some_same, not_plan}
 use Rattle.office_explain.proofs.files.blocks_of.Goals as goal
 

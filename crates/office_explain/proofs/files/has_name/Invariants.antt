@@ -1,8 +1,5 @@
-use Rattle.std.proofs.Common.{◌≡◌, map, drop}
-use Rattle.std.specs.List.{list_any}
-use Rattle.std.specs.Str.{bytes_eq}
-use Rattle.office_explain.specs.Entries.{entry_content}
-use Rattle.office_explain.specs.Said.{names_of}
+use Rattle.std.{specs.{List.list_any, Str.bytes_eq}, proofs.Common.{◌≡◌, map, drop}}
+use Rattle.office_explain.specs.{Entries.entry_content, Said.names_of}
 use Rattle.office_explain.proofs.files.has_name.Given as goal
 
 abbrev pub invariant-loop-entry : goal.invariant-loop-entry

@@ -1,6 +1,5 @@
 use Rattle.std.proofs.Common.{◌≡◌, map, drop}
-use Rattle.office_explain.specs.Entries.{entry_content}
-use Rattle.office_explain.specs.Said.{value_of}
+use Rattle.office_explain.specs.{Entries.entry_content, Said.value_of}
 use Rattle.office_explain.proofs.files.value_of.Given as goal
 
 abbrev pub invariant-loop-entry : goal.invariant-loop-entry

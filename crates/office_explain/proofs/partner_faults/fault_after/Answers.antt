@@ -1,10 +1,6 @@
-use Rattle.std.proofs.Common.{◌≡◌, List, map, sym, ap, ◌∙◌}
-use Rattle.std.specs.Option.{option_map}
+use Rattle.std.{specs.Option.option_map, proofs.Common.{◌≡◌, List, map, sym, ap, ◌∙◌}}
 use Rattle.csv.specs.Records.{fields_of}
-use Rattle.office_explain.specs.Entries.{entry_content}
-use Rattle.office_explain.specs.PartnerFaults.{fault_of_partner}
-use Rattle.office_explain.specs.declared.records.Entry.{Entry}
-use Rattle.office_explain.proofs.Givens.{fault_read}
+use Rattle.office_explain.{specs.{Entries.entry_content, PartnerFaults.fault_of_partner, declared.records.Entry.Entry}, proofs.Givens.fault_read}
 use Rattle.office_explain.proofs.partner_faults.fault_after.Goals as goal
 
 pub returns : goal.returns

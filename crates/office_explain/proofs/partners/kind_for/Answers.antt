@@ -1,13 +1,9 @@
-use Rattle.std.proofs.Common.{◌≡◌, ◌∙◌, ℕ, ◌+◌, ◌<◌, suc, Bool, true, false, cond, List, length, drop, get_or, Some, ap, sym, arith, drop-cons}
 use Rattle.std.specs.List.{find}
-use Rattle.edi_syntax.specs.Frames.{message}
-use Rattle.edi_syntax.specs.Messages.{Message}
-use Rattle.edi_messages.specs.declared.code.CodeTable.{CodeTable}
-use Rattle.edi_messages.specs.declared.codes.Codes.{Codes}
-use Rattle.edi_messages.specs.declared.codes.PartnerKind.{PartnerKind}
+use Rattle.std.proofs.Common.{◌≡◌, ◌∙◌, ℕ, ◌+◌, ◌<◌, suc, Bool, true, false, cond, List, length, drop, get_or, Some, ap, sym, arith, drop-cons}
+use Rattle.edi_syntax.specs.{Frames.message, Messages.Message}
+use Rattle.edi_messages.specs.{declared.code.CodeTable.CodeTable, declared.codes.Codes.Codes, declared.codes.PartnerKind.PartnerKind}
 use Rattle.edi_messages.specs.declared.codes.PartnerKind.TheVariants.{Gate}
-use Rattle.office_explain.specs.Kinds.{codes_of, kind_for, kinds, may_send}
-use Rattle.office_explain.proofs.SenderLemmas.{codes_are}
+use Rattle.office_explain.{specs.Kinds.{codes_of, kind_for, kinds, may_send}, proofs.SenderLemmas.codes_are}
 use Rattle.office_explain.proofs.partners.kind_for.Goals as goal
 
 found_at : {A : Type 0} (p : A → Bool) (xs : List A) (i : ℕ) (d : A) → i < length xs

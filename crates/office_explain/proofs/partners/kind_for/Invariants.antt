@@ -1,6 +1,5 @@
 -- the first kind among all is the first among those that are left
-use Rattle.std.proofs.Common.{◌≡◌, drop}
-use Rattle.std.specs.List.{find}
+use Rattle.std.{specs.List.find, proofs.Common.{◌≡◌, drop}}
 use Rattle.edi_syntax.specs.Frames.{message}
 use Rattle.office_explain.specs.Kinds.{codes_of, kind_for, may_send}
 use Rattle.office_explain.proofs.partners.kind_for.Given as goal

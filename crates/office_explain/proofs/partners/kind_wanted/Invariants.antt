@@ -1,8 +1,6 @@
 -- the kind that all messages want is that which those that are left want
 use Rattle.std.proofs.Common.{◌≡◌}
-use Rattle.edi_syntax.specs.Envelope.{messages_of}
-use Rattle.edi_syntax.specs.Envelopes.{envelope_segments}
-use Rattle.edi_syntax.specs.Frames.{messages_left}
+use Rattle.edi_syntax.specs.{Envelope.messages_of, Envelopes.envelope_segments, Frames.messages_left}
 use Rattle.office_explain.specs.Kinds.{kind_wanted}
 use Rattle.office_explain.proofs.partners.kind_wanted.Given as goal
 

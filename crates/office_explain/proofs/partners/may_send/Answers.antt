@@ -1,5 +1,4 @@
-use Rattle.std.proofs.Common.{◌≡◌, ◌∙◌, None, Some, not, ap, sym}
-use Rattle.std.specs.Result.{result_err}
+use Rattle.std.{specs.Result.result_err, proofs.Common.{◌≡◌, ◌∙◌, None, Some, not, ap, sym}}
 use Rattle.edi_syntax.specs.Frames.{message}
 use Rattle.edi_messages.specs.Owned.{message_content}
 use Rattle.office_explain.proofs.SendingLemmas.{sent_by, sent_if_answered}

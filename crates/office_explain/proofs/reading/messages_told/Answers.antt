@@ -1,11 +1,7 @@
 -- The messages are read by the moment of the header.
 use Rattle.std.proofs.Common.{List, ap, sym, subst, ◌∙◌}
-use Rattle.edi_syntax.specs.Text.{Content}
-use Rattle.edi_syntax.specs.Envelope.{header_of}
-use Rattle.edi_syntax.specs.Header.{preparation}
-use Rattle.edi_syntax.specs.Messages.{Message}
-use Rattle.office_explain.specs.InOrder.{InOrder}
-use Rattle.office_explain.specs.Messages.{IsToldOf}
+use Rattle.edi_syntax.specs.{Text.Content, Envelope.header_of, Header.preparation, Messages.Message}
+use Rattle.office_explain.specs.{InOrder.InOrder, Messages.IsToldOf}
 use Rattle.office_explain.proofs.reading.messages_told.Goals as goal
 
 pub returns : goal.returns

@@ -1,6 +1,5 @@
 -- No line is left after the last.
-use Rattle.office_explain.specs.Messages.{IsNote}
-use Rattle.office_explain.proofs.SendingLemmas.{all_passed}
+use Rattle.office_explain.{specs.Messages.IsNote, proofs.SendingLemmas.all_passed}
 use Rattle.office_explain.proofs.reading.notes_of.Goals as goal
 
 pub returns : goal.returns

@@ -1,13 +1,8 @@
 -- The envelope's segments are those of the text, and the codes those of the sender's kind.
 use Rattle.std.proofs.Common.{ℕ, List, Option, ap, sym, subst, unwrap_or, ◌∙◌}
 use Rattle.edi_messages.specs.declared.codes.Codes.{Codes}
-use Rattle.edi_syntax.specs.Text.{Content}
-use Rattle.edi_syntax.specs.Interchange.{segments_in}
-use Rattle.edi_syntax.specs.Envelope.{header_of, messages_of}
-use Rattle.edi_syntax.specs.Header.{control_number, recipient, sender}
-use Rattle.office_explain.specs.Kinds.{kind_wanted}
-use Rattle.office_explain.specs.Messages.{AreToldOf}
-use Rattle.office_explain.proofs.SenderLemmas.{codes_are}
+use Rattle.edi_syntax.specs.{Text.Content, Interchange.segments_in, Envelope.{header_of, messages_of}, Header.{control_number, recipient, sender}}
+use Rattle.office_explain.{specs.{Kinds.kind_wanted, Messages.AreToldOf}, proofs.SenderLemmas.codes_are}
 use Rattle.office_explain.proofs.reading.reading_of.Goals as goal
 
 pub returns : goal.returns

@@ -1,5 +1,4 @@
-use Rattle.std.proofs.Common.{◌≡◌, map, drop}
-use Rattle.std.specs.List.{list_any}
+use Rattle.std.{specs.List.list_any, proofs.Common.{◌≡◌, map, drop}}
 use Rattle.csv.specs.Records.{fields_of}
 use Rattle.office_explain.specs.Wrong.{is_of}
 use Rattle.office_explain.proofs.records.has.Given as goal

@@ -1,7 +1,6 @@
 use Rattle.std.proofs.Common.{◌∙◌, sym}
 use Rattle.csv.specs.Records.{fields_of}
-use Rattle.office_explain.specs.Entries.{is_block_header, is_block_row}
-use Rattle.office_explain.proofs.Givens.{formed}
+use Rattle.office_explain.{specs.Entries.{is_block_header, is_block_row}, proofs.Givens.formed}
 use Rattle.office_explain.proofs.records.is_block_file.Goals as goal
 
 pub returns-then-is_block_header : goal.returns-then-is_block_header

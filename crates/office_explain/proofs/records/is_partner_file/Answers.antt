@@ -1,7 +1,6 @@
 use Rattle.std.proofs.Common.{◌∙◌, sym}
 use Rattle.csv.specs.Records.{fields_of}
-use Rattle.office_explain.specs.Entries.{is_partner_header, is_partner_row}
-use Rattle.office_explain.proofs.Givens.{formed}
+use Rattle.office_explain.{specs.Entries.{is_partner_header, is_partner_row}, proofs.Givens.formed}
 use Rattle.office_explain.proofs.records.is_partner_file.Goals as goal
 
 pub returns-then-is_partner_header : goal.returns-then-is_partner_header

@@ -1,11 +1,8 @@
-use Rattle.std.proofs.Common.{sym, ◌∙◌, ap, map}
-use Rattle.std.proofs.lemmas.List.{map-append}
-use Rattle.std.specs.Option.{option_map}
+use Rattle.std.{specs.Option.option_map, proofs.{Common.{sym, ◌∙◌, ap, map}, lemmas.List.map-append}}
 use Rattle.csv.specs.Records.{fields_of}
-use Rattle.office_explain.specs.Entries.{entry_content, entry_of}
-use Rattle.office_explain.proofs.Givens.{kept_more, left_more}
-use Rattle.office_explain.proofs.records.section.Goals as goal
+use Rattle.office_explain.{specs.Entries.{entry_content, entry_of}, proofs.Givens.{kept_more, left_more}}
 use Rattle.office_explain.proofs.records.section.Goals.{in-Some+in_ok-push, in_default}
+use Rattle.office_explain.proofs.records.section.Goals as goal
 
 pub loop-row-preserved : goal.loop-row-preserved
 loop-row-preserved c =

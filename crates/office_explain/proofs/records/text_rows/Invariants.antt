@@ -1,5 +1,4 @@
-use Rattle.std.proofs.Common.{◌≡◌, All, map, ◌++◌}
-use Rattle.std.specs.Vec.Iter.{into_iter_items}
+use Rattle.std.{specs.Vec.Iter.into_iter_items, proofs.Common.{◌≡◌, All, map, ◌++◌}}
 use Rattle.csv.specs.Records.{AllText, fields_of}
 use Rattle.office_explain.proofs.records.text_rows.Given as goal
 

@@ -1,5 +1,4 @@
-use Rattle.std.proofs.Common.{rules}
-use Rattle.std.proofs.lemmas.List.Sorted.{IsNonDecreasingBy-from_sort_by_key}
+use Rattle.std.proofs.{Common.rules, lemmas.List.Sorted.IsNonDecreasingBy-from_sort_by_key}
 use Rattle.yard_core.specs.declared.plan.Block.{Block}
 use Rattle.office_explain.proofs.setup_reading.by_letter.Goals as goal
 

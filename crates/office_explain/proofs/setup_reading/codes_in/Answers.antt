@@ -1,7 +1,6 @@
 use Rattle.std.proofs.Common.{◌≡◌, ◌∙◌, MatchOption, map, ap, subst, List, ℕ}
 use Rattle.edi_messages.specs.Codes.{table_texts}
-use Rattle.office_explain.specs.Entries.{entry_content}
-use Rattle.office_explain.specs.Said.{AreCodes, code_texts}
+use Rattle.office_explain.specs.{Entries.entry_content, Said.{AreCodes, code_texts}}
 use Rattle.office_explain.proofs.setup_reading.codes_in.Goals as goal
 
 pub returns : goal.returns

@@ -1,9 +1,6 @@
 use Rattle.std.proofs.Common.{MatchOption, Option, Vec, Global, map, subst}
-use Rattle.office_admission.specs.SetupAccounts.{account_contents}
-use Rattle.office_admission.specs.declared.setup.Account.{Account}
-use Rattle.office_explain.specs.Entries.{entry_content}
-use Rattle.office_explain.specs.Said.{ArePartners, AreNoPartners}
-use Rattle.office_explain.proofs.Givens.{all_coded}
+use Rattle.office_admission.specs.{SetupAccounts.account_contents, declared.setup.Account.Account}
+use Rattle.office_explain.{specs.{Entries.entry_content, Said.{ArePartners, AreNoPartners}}, proofs.Givens.all_coded}
 use Rattle.office_explain.proofs.setup_reading.partners_in.Goals as goal
 
 pub of-requires : goal.of-requires

@@ -1,10 +1,7 @@
-use Rattle.std.proofs.lemmas.Result.{IfOk-weaker}
-use Rattle.std.proofs.Common.{map}
+use Rattle.std.proofs.{lemmas.Result.IfOk-weaker, Common.map}
 use Rattle.csv.specs.Records.{fields_of}
-use Rattle.office_admission.specs.Given.{IsGiven}
-use Rattle.office_admission.specs.Setups.{setup_content}
-use Rattle.office_explain.specs.Said.{SaysSetup}
-use Rattle.office_explain.proofs.Givens.{given}
+use Rattle.office_admission.specs.{Given.IsGiven, Setups.setup_content}
+use Rattle.office_explain.{specs.Said.SaysSetup, proofs.Givens.given}
 use Rattle.office_explain.proofs.setup_reading.read_setup.Goals as goal
 
 pub returns-clause-given : goal.returns-clause-given

@@ -1,7 +1,6 @@
 use Rattle.std.proofs.Common.{arith}
 use Rattle.csv.specs.Records.{fields_of}
-use Rattle.office_explain.specs.Wrong.{Shows}
-use Rattle.office_explain.proofs.Wrong.{brought}
+use Rattle.office_explain.{specs.Wrong.Shows, proofs.Wrong.brought}
 use Rattle.office_explain.proofs.wrong_records.halved.Goals as goal
 
 pub returns : goal.returns

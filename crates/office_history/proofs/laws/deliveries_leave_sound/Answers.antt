@@ -1,8 +1,6 @@
-use Rattle.office_history.proofs.Afters.{state_sound}
-use Rattle.office_history.specs.After.{content_after, deliveries_of, taking_in}
+use Rattle.office_history.{specs.After.{content_after, deliveries_of, taking_in}, proofs.{Afters.state_sound, Places.sound_in}}
 use Rattle.terminal_core.specs.Versions.{newest}
 use Rattle.office_admission.proofs.Adding.{given_after}
-use Rattle.office_history.proofs.Places.{sound_in}
 use Rattle.office_history.proofs.laws.deliveries_leave_sound.Goals as goal
 
 pub returns : goal.returns

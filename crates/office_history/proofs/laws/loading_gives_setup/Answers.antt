@@ -1,5 +1,4 @@
-use Rattle.office_history.proofs.Alike.{reopens}
-use Rattle.office_history.proofs.Loads.{shown_by_office}
+use Rattle.office_history.proofs.{Alike.reopens, Loads.shown_by_office}
 use Rattle.office_history.proofs.laws.loading_gives_setup.Goals as goal
 
 pub returns : goal.returns

@@ -1,5 +1,4 @@
-use Rattle.office_history.proofs.Loads.{shown_by_office}
-use Rattle.office_history.proofs.Offices.{state_given}
+use Rattle.office_history.proofs.{Loads.shown_by_office, Offices.state_given}
 use Rattle.office_history.proofs.laws.loading_gives_state.Goals as goal
 
 pub returns : goal.returns

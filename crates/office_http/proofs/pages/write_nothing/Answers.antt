@@ -1,9 +1,6 @@
 use Rattle.std.proofs.Common.{◌≡◌, ◌⊎◌, inl, inr, List, ℕ, None, ap, subst, sym, ◌∙◌}
 use Rattle.office_pages.specs.declared.notices.Notice.TheVariants.{NotHere}
-use Rattle.office_http.specs.Ports.{Sends}
-use Rattle.office_http.specs.Responses.{response_bytes}
-use Rattle.office_http.specs.Served.{notice_response, nothing_bytes}
-use Rattle.office_http.specs.declared.head.ContentType.TheVariants.{Page}
+use Rattle.office_http.specs.{Ports.Sends, Responses.response_bytes, Served.{notice_response, nothing_bytes}, declared.head.ContentType.TheVariants.Page}
 use Rattle.office_http.specs.declared.targets.Showing.{Showing}
 use Rattle.office_http.specs.declared.targets.Showing.TheVariants as showing
 use Rattle.office_http.proofs.pages.write_nothing.Goals as goal

@@ -1,6 +1,5 @@
 use Rattle.std.proofs.Common.{sym, subst, refl}
-use Rattle.office_http.specs.Requests.{IsDelivery}
-use Rattle.office_http.proofs.SenderLemmas.{posted_explained}
+use Rattle.office_http.{specs.Requests.IsDelivery, proofs.SenderLemmas.posted_explained}
 use Rattle.office_http.proofs.routes.explained.Goals as goal
 
 pub returns-in-Delivery : goal.returns-in-Delivery

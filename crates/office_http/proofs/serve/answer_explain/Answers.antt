@@ -1,7 +1,5 @@
 use Rattle.std.proofs.Common.{ℕ, List, None, inl, subst}
-use Rattle.office_http.specs.Ports.{Sends}
-use Rattle.office_http.specs.Responses.{response_bytes}
-use Rattle.office_http.specs.declared.head.ContentType.TheVariants.{Text}
+use Rattle.office_http.specs.{Ports.Sends, Responses.response_bytes, declared.head.ContentType.TheVariants.Text}
 use Rattle.office_http.proofs.serve.answer_explain.Goals as goal
 
 -- what was explained is written

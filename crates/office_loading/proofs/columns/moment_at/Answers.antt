@@ -1,5 +1,4 @@
-use Rattle.std.proofs.Common.{ap, ◌∙◌}
-use Rattle.std.specs.Str.{bytes_eq}
+use Rattle.std.{specs.Str.bytes_eq, proofs.Common.{ap, ◌∙◌}}
 use Rattle.sqlite.specs.Order.{column}
 use Rattle.office_loading.proofs.LackingLemmas.{moment_read, moment_refused}
 use Rattle.office_loading.proofs.columns.moment_at.Goals as goal

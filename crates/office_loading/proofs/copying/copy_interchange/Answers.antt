@@ -1,7 +1,6 @@
 use Rattle.std.proofs.Common.{[], ◌∷◌, Ok}
 use Rattle.sqlite.specs.Held.{state}
-use Rattle.office_rows.specs.Opening.{interchange_row, with_interchanges}
-use Rattle.office_rows.proofs.Creating.{on_ok}
+use Rattle.office_rows.{specs.Opening.{interchange_row, with_interchanges}, proofs.Creating.on_ok}
 use Rattle.office_tables.specs.Writes.{Writes}
 use Rattle.office_loading.proofs.StandingLemmas.{at_ok}
 use Rattle.office_loading.proofs.copying.copy_interchange.Goals as goal

@@ -1,13 +1,8 @@
-use Rattle.std.proofs.Common.{◌≡◌, [], ◌∷◌, ◌++◌, false, IfErr, refl, ap, append_assoc, ◌∙◌, arith, rules}
-use Rattle.std.proofs.lemmas.List.{append-nil}
-use Rattle.sqlite.specs.Held.{state}
-use Rattle.sqlite.specs.Given.{HasGiven}
-use Rattle.sqlite.specs.State.{HasCleanDisk, IsUnchanged, FailsToQuery, Survives, CommitsShowing}
+use Rattle.std.proofs.{Common.{◌≡◌, [], ◌∷◌, ◌++◌, false, IfErr, refl, ap, append_assoc, ◌∙◌, arith, rules}, lemmas.List.append-nil}
+use Rattle.sqlite.specs.{Held.state, Given.HasGiven, State.{HasCleanDisk, IsUnchanged, FailsToQuery, Survives, CommitsShowing}}
 use Rattle.office_rows.specs.Opening.{with_interchanges}
-use Rattle.office_tables.proofs.MadeLemmas.{reads_same, reads_failed, query_survives, ◌then◌}
-use Rattle.office_tables.proofs.WritesLemmas.{none_written, one_more_written}
-use Rattle.office_loading.proofs.StreamLemmas.{begun_shows, stands_first, stands_next, all_shown}
-use Rattle.office_loading.specs.Copies.{ShowsInterchange}
+use Rattle.office_tables.proofs.{MadeLemmas.{reads_same, reads_failed, query_survives, ◌then◌}, WritesLemmas.{none_written, one_more_written}}
+use Rattle.office_loading.{specs.Copies.ShowsInterchange, proofs.StreamLemmas.{begun_shows, stands_first, stands_next, all_shown}}
 use Rattle.office_loading.proofs.StandingLemmas.{select_standing, standing_shows, are_standing}
 use Rattle.office_loading.proofs.copying.copy_interchanges.Goals as goal
 

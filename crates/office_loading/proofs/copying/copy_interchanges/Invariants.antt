@@ -1,13 +1,8 @@
 use Rattle.std.proofs.Common.{◌≡◌, Ok, List}
-use Rattle.sqlite.specs.State.{HasCleanDisk}
-use Rattle.sqlite.specs.Held.{state}
-use Rattle.office_rows.specs.Rows.{Interchange}
-use Rattle.office_rows.specs.Opening.{with_interchanges}
-use Rattle.office_tables.specs.Reading.{Reads}
-use Rattle.office_tables.specs.Writes.{WritesIfOpen}
-use Rattle.office_loading.proofs.StreamLemmas.{Stands}
-use Rattle.office_loading.specs.Copies.{ShowsInterchange}
-use Rattle.office_loading.proofs.StandingLemmas.{select_standing}
+use Rattle.sqlite.specs.{State.HasCleanDisk, Held.state}
+use Rattle.office_rows.specs.{Rows.Interchange, Opening.with_interchanges}
+use Rattle.office_tables.specs.{Reading.Reads, Writes.WritesIfOpen}
+use Rattle.office_loading.{specs.Copies.ShowsInterchange, proofs.{StreamLemmas.Stands, StandingLemmas.select_standing}}
 use Rattle.office_loading.proofs.copying.copy_interchanges.Given as goal
 
 abbrev pub invariant-each : goal.invariant-each

@@ -1,9 +1,7 @@
-use Rattle.std.proofs.Common.{subst}
-use Rattle.std.proofs.lemmas.Result.{IfErr-weaker, IfOk-weaker}
+use Rattle.std.proofs.{Common.subst, lemmas.Result.{IfErr-weaker, IfOk-weaker}}
 use Rattle.sqlite.specs.Held.{state}
 use Rattle.office_admission.specs.Setups.{setup_content}
-use Rattle.office_loading.specs.Tables.{FailsToLoadOwn, LoadsOwn}
-use Rattle.office_loading.proofs.OfficeLemmas.{fails_whole, loads_whole}
+use Rattle.office_loading.{specs.Tables.{FailsToLoadOwn, LoadsOwn}, proofs.OfficeLemmas.{fails_whole, loads_whole}}
 use Rattle.office_loading.proofs.loading.load.Goals as goal
 
 pub returns-clause-loaded : goal.returns-clause-loaded

@@ -2,11 +2,8 @@ use Rattle.std.proofs.lemmas.Result.{err_from_is_err_and}
 use Rattle.sqlite.specs.Held.{state}
 use Rattle.terminal_core.specs.State.{TerminalState}
 use Rattle.office_admission.specs.declared.setup.Setup.{Setup}
-use Rattle.office_loading.specs.Closed.{closed_content}
-use Rattle.office_loading.specs.Contents.{opened_rows}
+use Rattle.office_loading.{specs.{Closed.closed_content, Contents.opened_rows, Tables.{NamesVersion, fault_of_restoring}}, proofs.VersionLemmas.fault_tells}
 use Rattle.office_loading.proofs.OfficeLemmas.{restoring_fails, restoring_tells, tables_fail}
-use Rattle.office_loading.proofs.VersionLemmas.{fault_tells}
-use Rattle.office_loading.specs.Tables.{NamesVersion, fault_of_restoring}
 use Rattle.office_loading.proofs.loading.load_own.Goals as goal
 
 pub returns-in_err-tables-clause-refused : goal.returns-in_err-tables-clause-refused

@@ -1,12 +1,7 @@
-use Rattle.std.proofs.Common.{map, ap, subst, ◌∙◌}
-use Rattle.std.proofs.lemmas.Result.{IfErr-weaker}
-use Rattle.sqlite.specs.Order.{column}
-use Rattle.sqlite.specs.Held.{state}
-use Rattle.office_rows.specs.Layouts.{weighed}
-use Rattle.office_rows.proofs.Listed.{nexts_listed}
-use Rattle.office_rows.proofs.Creating.{if_ok}
-use Rattle.office_loading.specs.Decoded.{FailsOne}
-use Rattle.office_loading.proofs.VersionLemmas.{IsRead, high_next, high_shown}
+use Rattle.std.proofs.{Common.{map, ap, subst, ◌∙◌}, lemmas.Result.IfErr-weaker}
+use Rattle.sqlite.specs.{Order.column, Held.state}
+use Rattle.office_rows.{specs.Layouts.weighed, proofs.{Listed.nexts_listed, Creating.if_ok}}
+use Rattle.office_loading.{specs.Decoded.FailsOne, proofs.VersionLemmas.{IsRead, high_next, high_shown}}
 use Rattle.office_loading.proofs.loading.nexts.Goals as goal
 
 pub returns-clause-answer : goal.returns-clause-answer

@@ -1,9 +1,6 @@
-use Rattle.std.proofs.Common.{◌^◌}
-use Rattle.std.proofs.lemmas.Result.{err_from_is_err_and}
+use Rattle.std.proofs.{Common.◌^◌, lemmas.Result.err_from_is_err_and}
 use Rattle.sqlite.specs.Order.{Row, column}
-use Rattle.office_loading.specs.Decoded.{IsSaid}
-use Rattle.office_loading.specs.Columns.{SaysNumber}
-use Rattle.office_loading.proofs.LackingLemmas.{one_refused}
+use Rattle.office_loading.{specs.{Decoded.IsSaid, Columns.SaysNumber}, proofs.LackingLemmas.one_refused}
 use Rattle.office_loading.proofs.loading.read_nexts.Goals as goal
 
 pub returns-in_err-next-clause-err : goal.returns-in_err-next-clause-err

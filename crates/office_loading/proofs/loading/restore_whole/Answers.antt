@@ -1,9 +1,6 @@
-use Rattle.std.proofs.Common.{subst}
-use Rattle.std.specs.Prelude.{IfErr, IfOk}
+use Rattle.std.{specs.Prelude.{IfErr, IfOk}, proofs.Common.subst}
 use Rattle.office_admission.specs.Setups.{setup_content}
-use Rattle.office_loading.specs.Contents.{opened_rows}
-use Rattle.office_loading.specs.OwnOffice.{IsOwnOffice}
-use Rattle.office_loading.specs.Refusals.{RefusesTables}
+use Rattle.office_loading.specs.{Contents.opened_rows, OwnOffice.IsOwnOffice, Refusals.RefusesTables}
 use Rattle.office_loading.proofs.loading.restore_whole.Goals as goal
 
 pub returns-clause-ok : goal.returns-clause-ok

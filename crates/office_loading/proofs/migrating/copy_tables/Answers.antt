@@ -1,16 +1,8 @@
 use Rattle.std.proofs.Common.{◌≡◌, IsTrue, true, not, refl, sym, ap, subst, ◌∙◌, arith, rules}
-use Rattle.sqlite.specs.State.{HasCleanDisk, Survives}
-use Rattle.sqlite.specs.Held.{state}
-use Rattle.sqlite.specs.Effect.{Database}
-use Rattle.sqlite.proofs.StateLemmas.{survives_then}
-use Rattle.sqlite.proofs.Callers.{survives_begin}
+use Rattle.sqlite.{specs.{State.{HasCleanDisk, Survives}, Held.state, Effect.Database}, proofs.{StateLemmas.survives_then, Callers.survives_begin}}
 use Rattle.office_rows.specs.Tables.{office_tables}
-use Rattle.office_tables.specs.Order.{HasRowsInOrder}
-use Rattle.office_tables.specs.Opened.{AreMissing}
-use Rattle.office_loading.specs.Contents.{opened_rows}
-use Rattle.office_loading.specs.Copies.{copied_rows}
-use Rattle.office_loading.specs.Migration.{IsCopy}
-use Rattle.office_loading.proofs.MigratedLemmas.{made_rows, copied_whole}
+use Rattle.office_tables.specs.{Order.HasRowsInOrder, Opened.AreMissing}
+use Rattle.office_loading.{specs.{Contents.opened_rows, Copies.copied_rows, Migration.IsCopy}, proofs.MigratedLemmas.{made_rows, copied_whole}}
 use Rattle.office_loading.proofs.migrating.copy_tables.Goals as goal
 
 pub returns-in_err-commit-clause-crash : goal.returns-in_err-commit-clause-crash

@@ -1,25 +1,12 @@
-use Rattle.std.proofs.Common.{◌≡◌, Ok, Err, OnOk, not, sym, ap, subst, ◌∙◌, arith, rules}
-use Rattle.std.proofs.lemmas.Result.{IfErr-weaker, err_from_is_err_and}
-use Rattle.sqlite.specs.State.{HasCleanDisk}
-use Rattle.sqlite.specs.Held.{state}
-use Rattle.sqlite.specs.Effect.{Database}
-use Rattle.sqlite.proofs.StateLemmas.{survives_weaker}
-use Rattle.sqlite.specs.Schema.{Schema}
+use Rattle.std.proofs.{Common.{◌≡◌, Ok, Err, OnOk, not, sym, ap, subst, ◌∙◌, arith, rules}, lemmas.Result.{IfErr-weaker, err_from_is_err_and}}
+use Rattle.sqlite.{specs.{State.HasCleanDisk, Held.state, Effect.Database, Schema.Schema}, proofs.StateLemmas.survives_weaker}
 use Rattle.office_admission.specs.Setups.{setup_content}
-use Rattle.office_rows.specs.Layouts.{bare_schema}
-use Rattle.office_rows.specs.Opened.{OpenedRows}
-use Rattle.office_tables.specs.Order.{HasRowsInOrder}
-use Rattle.office_rows.proofs.Creating.{on_ok}
-use Rattle.office_loading.specs.Settings.{HasSettings}
-use Rattle.office_loading.specs.Contents.{opened_rows}
-use Rattle.office_loading.specs.declared.restoring.OpenedTables.{OpenedTables}
-use Rattle.office_loading.specs.Older.{NamesOlder, ReadsOlderTables, FailsOlderTables, TellsOlder}
-use Rattle.office_tables.proofs.WritesLemmas.{of_store_or, survives_here}
+use Rattle.office_rows.{specs.{Layouts.bare_schema, Opened.OpenedRows}, proofs.Creating.on_ok}
+use Rattle.office_tables.{specs.Order.HasRowsInOrder, proofs.WritesLemmas.{of_store_or, survives_here}}
 use Rattle.office_tables.proofs.MadeLemmas.{◌then◌, clean_first, then_if_open, reads_stopped}
-use Rattle.office_loading.proofs.VersionLemmas.{result_tells, told}
-use Rattle.office_loading.proofs.OlderOffice.{older_one, older_tables_fail}
-use Rattle.office_loading.specs.Copies.{copied_rows}
-use Rattle.office_loading.specs.Migration.{Copies, IsCopy, IsMigration}
+use Rattle.office_loading.specs.{Settings.HasSettings, Contents.opened_rows, declared.restoring.OpenedTables.OpenedTables, Copies.copied_rows}
+use Rattle.office_loading.specs.{Older.{NamesOlder, ReadsOlderTables, FailsOlderTables, TellsOlder}, Migration.{Copies, IsCopy, IsMigration}}
+use Rattle.office_loading.proofs.{VersionLemmas.{result_tells, told}, OlderOffice.{older_one, older_tables_fail}}
 use Rattle.office_loading.proofs.MigratedLemmas.{has_migrated, stand_alike, migrated_whole, of_store_fails}
 use Rattle.office_loading.proofs.StandingLemmas.{never_refused, holds_after, migration_holds}
 use Rattle.office_loading.proofs.migrating.migrate.Goals as goal

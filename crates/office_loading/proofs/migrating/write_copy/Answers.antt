@@ -1,14 +1,8 @@
 use Rattle.std.proofs.Common.{take, refl, arith}
-use Rattle.sqlite.specs.State.{HasCleanDisk}
-use Rattle.sqlite.specs.Held.{state}
-use Rattle.office_rows.specs.Tables.{office_tables}
-use Rattle.office_rows.specs.Stored.{HasEmpty}
-use Rattle.office_rows.specs.Opening.{with_interchanges}
-use Rattle.office_rows.proofs.Creating.{on_ok}
+use Rattle.sqlite.specs.{State.HasCleanDisk, Held.state}
+use Rattle.office_rows.{specs.{Tables.office_tables, Stored.HasEmpty, Opening.with_interchanges}, proofs.Creating.on_ok}
 use Rattle.office_tables.proofs.MadeLemmas.{on_ok_from, if_open_then}
-use Rattle.office_loading.specs.Contents.{opened_rows}
-use Rattle.office_loading.specs.Copies.{AddsStanding, without_interchanges}
-use Rattle.office_loading.proofs.StandingLemmas.{order_turn, reads_here}
+use Rattle.office_loading.{specs.{Contents.opened_rows, Copies.{AddsStanding, without_interchanges}}, proofs.StandingLemmas.{order_turn, reads_here}}
 use Rattle.office_loading.proofs.migrating.write_copy.Goals as goal
 
 pub returns-clause-made : goal.returns-clause-made

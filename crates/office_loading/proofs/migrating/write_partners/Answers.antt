@@ -1,10 +1,8 @@
-use Rattle.std.proofs.Common.{[], ◌∷◌, Ok, append_assoc, refl, ap, rules}
-use Rattle.std.proofs.lemmas.List.{append-nil}
+use Rattle.std.proofs.{Common.{[], ◌∷◌, Ok, append_assoc, refl, ap, rules}, lemmas.List.append-nil}
 use Rattle.sqlite.specs.Held.{state}
 use Rattle.office_loading.specs.Contents.{partner_content}
 use Rattle.office_rows.specs.Opening.{with_partners}
-use Rattle.office_tables.proofs.WritesLemmas.{none_written, one_more_written, taken_more}
-use Rattle.office_tables.specs.Writes.{Writes}
+use Rattle.office_tables.{specs.Writes.Writes, proofs.WritesLemmas.{none_written, one_more_written, taken_more}}
 use Rattle.office_loading.proofs.migrating.write_partners.Goals as goal
 
 pub loop-row-init : goal.loop-row-init

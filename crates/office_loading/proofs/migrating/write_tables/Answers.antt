@@ -1,10 +1,8 @@
 use Rattle.std.proofs.Common.{map}
 use Rattle.sqlite.specs.Held.{state}
 use Rattle.terminal_core.specs.Rows.{visit_content}
-use Rattle.office_rows.specs.Rows.{Rows, no_rows, listing_content}
-use Rattle.office_rows.specs.Opening.{with_settings, with_partners, with_blocks, with_visits, with_places, with_lines}
-use Rattle.office_tables.specs.Writes.{WritesIfOpen}
-use Rattle.office_tables.proofs.MadeLemmas.{makes_empty, makes_with}
+use Rattle.office_rows.specs.{Rows.{Rows, no_rows, listing_content}, Opening.{with_settings, with_partners, with_blocks, with_visits, with_places, with_lines}}
+use Rattle.office_tables.{specs.Writes.WritesIfOpen, proofs.MadeLemmas.{makes_empty, makes_with}}
 use Rattle.office_loading.specs.Contents.{setting_content, partner_content, place_content}
 use Rattle.office_loading.proofs.migrating.write_tables.Goals as goal
 

@@ -1,5 +1,4 @@
-use Rattle.std.proofs.Common.{[], append_assoc, refl, ap, rules}
-use Rattle.std.proofs.lemmas.List.{append-nil}
+use Rattle.std.proofs.{Common.{[], append_assoc, refl, ap, rules}, lemmas.List.append-nil}
 use Rattle.sqlite.specs.Held.{state}
 use Rattle.terminal_core.specs.Rows.{visit_content}
 use Rattle.office_rows.specs.Opening.{with_visits}

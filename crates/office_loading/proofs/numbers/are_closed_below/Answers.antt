@@ -1,9 +1,5 @@
-use Rattle.std.proofs.Common.{◌<◌, refl, sym, subst, arith}
-use Rattle.std.proofs.lemmas.List.Elements.{All-map}
-use Rattle.office_loading.specs.Closed.{last_closed}
-use Rattle.office_loading.specs.Contents.{partner_content}
-use Rattle.office_loading.specs.OwnOffice.{IsClosedBelow}
-use Rattle.office_loading.specs.declared.numbers.PartnerRow.{PartnerRow}
+use Rattle.std.proofs.{Common.{◌<◌, refl, sym, subst, arith}, lemmas.List.Elements.All-map}
+use Rattle.office_loading.specs.{Closed.last_closed, Contents.partner_content, OwnOffice.IsClosedBelow, declared.numbers.PartnerRow.PartnerRow}
 use Rattle.office_loading.proofs.Kept.{each_mapped, each_more, each_of}
 use Rattle.office_loading.proofs.numbers.are_closed_below.Goals as goal
 

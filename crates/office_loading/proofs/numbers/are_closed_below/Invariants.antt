@@ -1,6 +1,5 @@
 use Rattle.std.proofs.Common.{All, ◌<◌, take}
-use Rattle.office_loading.specs.Closed.{last_closed}
-use Rattle.office_loading.specs.declared.numbers.PartnerRow.{PartnerRow}
+use Rattle.office_loading.specs.{Closed.last_closed, declared.numbers.PartnerRow.PartnerRow}
 use Rattle.office_loading.proofs.numbers.are_closed_below.Given as goal
 
 abbrev pub invariant-loop-partner : goal.invariant-loop-partner

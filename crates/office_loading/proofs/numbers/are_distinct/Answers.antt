@@ -1,8 +1,6 @@
-use Rattle.std.proofs.Common.{◌≡◌, ◌≢◌, ℕ, ◌<◌, List, Some, length, take, refl, sym, ap, ◌∙◌, arith, true, string_bytes}
-use Rattle.std.specs.Prelude.{slice_get}
+use Rattle.std.{specs.Prelude.slice_get, proofs.Common.{◌≡◌, ◌≢◌, ℕ, ◌<◌, List, Some, length, take, refl, sym, ap, ◌∙◌, arith, true, string_bytes}}
 use Rattle.std.proofs.lemmas.Option.{slice_get_read, slice_get_within}
-use Rattle.office_loading.specs.declared.numbers.PartnerRow.{PartnerRow}
-use Rattle.office_loading.proofs.Kept.{rows_more, before_in, before_of, distinct_at, distinct_from}
+use Rattle.office_loading.{specs.declared.numbers.PartnerRow.PartnerRow, proofs.Kept.{rows_more, before_in, before_of, distinct_at, distinct_from}}
 use Rattle.office_loading.proofs.numbers.are_distinct.Goals as goal
 
 pub returns-then-has_code : goal.returns-then-has_code

@@ -1,9 +1,5 @@
-use Rattle.std.proofs.Common.{List, false, map, refl, sym, subst, get_or}
-use Rattle.std.proofs.lemmas.List.{drop_all}
-use Rattle.office_loading.specs.Contents.{number_content}
-use Rattle.office_loading.specs.OwnOffice.{AreInOrder}
-use Rattle.office_loading.specs.declared.numbers.NumberRow.{NumberRow}
-use Rattle.office_loading.proofs.Keyed.{order_more, order_not}
+use Rattle.std.proofs.{Common.{List, false, map, refl, sym, subst, get_or}, lemmas.List.drop_all}
+use Rattle.office_loading.{specs.{Contents.number_content, OwnOffice.AreInOrder, declared.numbers.NumberRow.NumberRow}, proofs.Keyed.{order_more, order_not}}
 use Rattle.office_loading.proofs.numbers.are_in_order.Goals as goal
 
 abbrev none : NumberRow

@@ -1,6 +1,5 @@
 use Rattle.std.proofs.Common.{map, drop, ◌↔◌}
-use Rattle.office_loading.specs.Contents.{number_content}
-use Rattle.office_loading.specs.OwnOffice.{AreInOrder}
+use Rattle.office_loading.specs.{Contents.number_content, OwnOffice.AreInOrder}
 use Rattle.office_loading.proofs.numbers.are_in_order.Given as goal
 
 abbrev pub invariant-loop-row : goal.invariant-loop-row

@@ -1,5 +1,4 @@
-use Rattle.office_loading.specs.Closed.{last_closed}
-use Rattle.office_loading.proofs.Kept.{accounts_more, kept_more, kept_not}
+use Rattle.office_loading.{specs.Closed.last_closed, proofs.Kept.{accounts_more, kept_more, kept_not}}
 use Rattle.office_loading.proofs.numbers.are_kept.Goals as goal
 
 pub returns-then-not-is_kept_for : goal.returns-then-not-is_kept_for

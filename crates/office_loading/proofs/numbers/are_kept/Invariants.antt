@@ -1,9 +1,6 @@
 use Rattle.std.proofs.Common.{map, drop, ◌+◌, ◌↔◌}
 use Rattle.office_rows.specs.Office.{AreAccounts}
-use Rattle.office_loading.specs.Accounts.{accounts_in}
-use Rattle.office_loading.specs.Checks.{AreKeptBeyond}
-use Rattle.office_loading.specs.Closed.{last_closed}
-use Rattle.office_loading.specs.Contents.{number_content, partner_content}
+use Rattle.office_loading.specs.{Accounts.accounts_in, Checks.AreKeptBeyond, Closed.last_closed, Contents.{number_content, partner_content}}
 use Rattle.office_loading.proofs.numbers.are_kept.Given as goal
 
 abbrev pub invariant-loop-partner : goal.invariant-loop-partner

@@ -1,8 +1,5 @@
-use Rattle.std.proofs.Common.{◌≡◌, ℕ, ◌+◌, Some, length, refl, arith, true}
-use Rattle.std.specs.Prelude.{slice_get}
-use Rattle.std.proofs.lemmas.Option.{slice_get_read, slice_get_within}
-use Rattle.office_loading.specs.declared.numbers.PartnerRow.{PartnerRow}
-use Rattle.office_loading.proofs.Kept.{IsAccount, account_at, accounts_from, rows_more}
+use Rattle.std.{specs.Prelude.slice_get, proofs.{Common.{◌≡◌, ℕ, ◌+◌, Some, length, refl, arith, true}, lemmas.Option.{slice_get_read, slice_get_within}}}
+use Rattle.office_loading.{specs.declared.numbers.PartnerRow.PartnerRow, proofs.Kept.{IsAccount, account_at, accounts_from, rows_more}}
 use Rattle.office_loading.proofs.numbers.are_numbered.Goals as goal
 
 pub returns-then-not-is_account : goal.returns-then-not-is_account

@@ -1,5 +1,4 @@
-use Rattle.std.proofs.Common.{◌≡◌, ℕ, ◌+◌, ◌<◌, ◌≤◌, Some}
-use Rattle.std.specs.Prelude.{slice_get}
+use Rattle.std.{specs.Prelude.slice_get, proofs.Common.{◌≡◌, ℕ, ◌+◌, ◌<◌, ◌≤◌, Some}}
 use Rattle.office_loading.specs.declared.numbers.PartnerRow.{PartnerRow}
 use Rattle.office_loading.proofs.numbers.are_numbered.Given as goal
 

@@ -1,6 +1,5 @@
 use Rattle.std.proofs.Common.{false, refl, get_or}
-use Rattle.office_loading.specs.declared.numbers.NumberRow.{NumberRow}
-use Rattle.office_loading.proofs.Kept.{taken_more, taken_not}
+use Rattle.office_loading.{specs.declared.numbers.NumberRow.NumberRow, proofs.Kept.{taken_more, taken_not}}
 use Rattle.office_loading.proofs.numbers.are_taken.Goals as goal
 
 abbrev none : NumberRow

@@ -1,5 +1,4 @@
-use Rattle.std.proofs.Common.{◌≡◌, map, take, true}
-use Rattle.std.specs.List.{range_with_len}
+use Rattle.std.{specs.List.range_with_len, proofs.Common.{◌≡◌, map, take, true}}
 use Rattle.office_loading.specs.Contents.{number_content}
 use Rattle.office_loading.proofs.numbers.are_taken.Given as goal
 

@@ -1,9 +1,6 @@
-use Rattle.std.proofs.Common.{List, false, map, refl, sym, subst, get_or}
+use Rattle.std.proofs.{Common.{List, false, map, refl, sym, subst, get_or}, lemmas.List.drop_all}
 use Rattle.office_rows.specs.Office.{AreWaiting}
-use Rattle.office_loading.specs.Contents.{number_content}
-use Rattle.office_loading.specs.declared.numbers.NumberRow.{NumberRow}
-use Rattle.office_loading.proofs.Kept.{waits_more, waits_not}
-use Rattle.std.proofs.lemmas.List.{drop_all}
+use Rattle.office_loading.{specs.{Contents.number_content, declared.numbers.NumberRow.NumberRow}, proofs.Kept.{waits_more, waits_not}}
 use Rattle.office_loading.proofs.numbers.are_waiting.Goals as goal
 
 abbrev none : NumberRow

@@ -1,8 +1,6 @@
-use Rattle.std.proofs.Common.{◌≡◌, ◌≢◌, ℕ, Some, length, refl, sym, ◌∙◌, arith, true, string_bytes}
-use Rattle.std.specs.Prelude.{slice_get}
+use Rattle.std.{specs.Prelude.slice_get, proofs.Common.{◌≡◌, ◌≢◌, ℕ, Some, length, refl, sym, ◌∙◌, arith, true, string_bytes}}
 use Rattle.std.proofs.lemmas.Option.{slice_get_read, slice_get_within}
-use Rattle.office_loading.specs.declared.numbers.PartnerRow.{PartnerRow}
-use Rattle.office_loading.proofs.Kept.{rows_more}
+use Rattle.office_loading.{specs.declared.numbers.PartnerRow.PartnerRow, proofs.Kept.rows_more}
 use Rattle.office_loading.proofs.numbers.has_code.Goals as goal
 
 pub returns-then-are_same : goal.returns-then-are_same

@@ -1,7 +1,5 @@
 use Rattle.std.proofs.Common.{[]}
-use Rattle.office_loading.specs.Closed.{last_closed}
-use Rattle.office_loading.specs.Contents.{partner_content}
-use Rattle.office_loading.proofs.Kept.{too_few, kept_of, parts_of}
+use Rattle.office_loading.{specs.{Closed.last_closed, Contents.partner_content}, proofs.Kept.{too_few, kept_of, parts_of}}
 use Rattle.office_loading.proofs.numbers.is_kept_for.Goals as goal
 
 pub returns-then-numbers-count : goal.returns-then-numbers-count

@@ -1,6 +1,5 @@
 use Rattle.std.proofs.Common.{map, take}
-use Rattle.office_loading.specs.Contents.{number_content}
-use Rattle.office_loading.specs.Owned.{AreOwn}
+use Rattle.office_loading.specs.{Contents.number_content, Owned.AreOwn}
 use Rattle.office_loading.proofs.numbers.own_count.Given as goal
 
 abbrev pub invariant-loop-index : goal.invariant-loop-index

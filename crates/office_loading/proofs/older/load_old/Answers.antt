@@ -1,19 +1,11 @@
-use Rattle.std.proofs.Common.{subst}
-use Rattle.std.proofs.lemmas.Result.{err_from_is_err_and}
+use Rattle.std.proofs.{Common.subst, lemmas.Result.err_from_is_err_and}
 use Rattle.sqlite.specs.Held.{state}
 use Rattle.terminal_core.specs.State.{TerminalState}
-use Rattle.office_admission.specs.Setups.{setup_content}
-use Rattle.office_admission.specs.declared.setup.Setup.{Setup}
+use Rattle.office_admission.specs.{Setups.setup_content, declared.setup.Setup.Setup}
 use Rattle.office_rows.specs.Office.{IsOffice}
-use Rattle.office_loading.specs.Closed.{nothing_closed}
-use Rattle.office_loading.specs.Contents.{opened_rows}
-use Rattle.office_loading.specs.Refusals.{RefusesTables}
-use Rattle.office_loading.proofs.Offices.{whole_office}
-use Rattle.office_loading.proofs.OlderOffice.{older_restoring_fails, older_tables_fail}
-use Rattle.office_loading.proofs.OfficeLemmas.{restoring_tells}
+use Rattle.office_loading.specs.{Closed.nothing_closed, Contents.opened_rows, Refusals.RefusesTables, Older.NamesOlder, Tables.fault_of_restoring}
+use Rattle.office_loading.proofs.{Offices.whole_office, OlderOffice.{older_restoring_fails, older_tables_fail}, OfficeLemmas.restoring_tells}
 use Rattle.office_loading.proofs.VersionLemmas.{fault_tells}
-use Rattle.office_loading.specs.Older.{NamesOlder}
-use Rattle.office_loading.specs.Tables.{fault_of_restoring}
 use Rattle.office_loading.proofs.older.load_old.Goals as goal
 
 pub returns-in_err-tables-clause-refused : goal.returns-in_err-tables-clause-refused

@@ -1,16 +1,10 @@
-use Rattle.std.proofs.Common.{◌≡◌, Ok, Err, true, false, [], ◌∷◌, map, refl, sym, ap, ◌∙◌}
-use Rattle.std.proofs.lemmas.Result.{err_from_is_err_and}
+use Rattle.std.proofs.{Common.{◌≡◌, Ok, Err, true, false, [], ◌∷◌, map, refl, sym, ap, ◌∙◌}, lemmas.Result.err_from_is_err_and}
 use Rattle.sqlite.specs.Held.{state}
-use Rattle.office_rows.specs.Tables.{setting_table}
-use Rattle.office_rows.specs.Values.{setting_values}
-use Rattle.office_loading.specs.Contents.{setting_content}
-use Rattle.office_tables.specs.declared.table_fault.TableFault.TheVariants.{Damaged}
-use Rattle.office_loading.specs.Columns.{is_older, SaysSetting}
-use Rattle.office_loading.specs.Decoded.{IsSaid}
-use Rattle.office_loading.specs.Fits.{FitsSetting}
-use Rattle.office_loading.proofs.VersionLemmas.{reads_table, older_there, older_absent, names_older, names_no_older, fails_named, decoding_tells}
-use Rattle.office_loading.specs.Older.{HasOlder, NamesOlder}
+use Rattle.office_rows.specs.{Tables.setting_table, Values.setting_values}
+use Rattle.office_loading.specs.{Contents.setting_content, Columns.{is_older, SaysSetting}, Decoded.IsSaid, Fits.FitsSetting, Older.{HasOlder, NamesOlder}}
 use Rattle.office_loading.specs.Tables.{FailsTable, ShowsSettings}
+use Rattle.office_loading.proofs.VersionLemmas.{reads_table, older_there, older_absent, names_older, names_no_older, fails_named, decoding_tells}
+use Rattle.office_tables.specs.declared.table_fault.TableFault.TheVariants.{Damaged}
 use Rattle.office_loading.proofs.older.read_older_settings.Goals as goal
 
 pub returns-then-not-is_older-clause-read : goal.returns-then-not-is_older-clause-read

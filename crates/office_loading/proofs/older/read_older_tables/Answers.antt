@@ -1,14 +1,9 @@
-use Rattle.std.proofs.Common.{map}
-use Rattle.std.proofs.lemmas.Result.{err_from_is_err_and}
-use Rattle.sqlite.specs.Effect.{Database}
-use Rattle.sqlite.specs.Held.{state}
+use Rattle.std.proofs.{Common.map, lemmas.Result.err_from_is_err_and}
+use Rattle.sqlite.specs.{Effect.Database, Held.state}
 use Rattle.office_rows.specs.Layouts.{bare, bare_schema}
-use Rattle.office_loading.specs.declared.restoring.OpenedTables.{OpenedTables}
-use Rattle.office_loading.specs.Contents.{setting_content}
-use Rattle.office_tables.proofs.MadeLemmas.{◌then◌, clean_first, reads_stopped}
-use Rattle.office_loading.specs.Older.{NamesOlder}
-use Rattle.office_loading.specs.Tables.{ReadsOthers}
+use Rattle.office_loading.specs.{declared.restoring.OpenedTables.OpenedTables, Contents.setting_content, Older.NamesOlder, Tables.ReadsOthers}
 use Rattle.office_loading.proofs.VersionLemmas.{result_tells, from_first, older_settings_fail, older_read}
+use Rattle.office_tables.proofs.MadeLemmas.{◌then◌, clean_first, reads_stopped}
 use Rattle.office_loading.proofs.older.read_older_tables.Goals as goal
 
 pub returns-in_err-settings-clause-read : goal.returns-in_err-settings-clause-read

@@ -1,14 +1,7 @@
-use Rattle.std.proofs.Common.{◌≡◌, true, false, [], ◌∷◌, refl, sym, ap, ◌∙◌}
-use Rattle.std.specs.List.{list_any}
+use Rattle.std.{specs.List.list_any, proofs.Common.{◌≡◌, true, false, [], ◌∷◌, refl, sym, ap, ◌∙◌}}
 use Rattle.sqlite.specs.Held.{state}
-use Rattle.office_rows.specs.Tables.{setting_table}
-use Rattle.office_rows.specs.Layouts.{weighed}
-use Rattle.office_rows.specs.Opening.{tables_version}
-use Rattle.office_rows.specs.Values.{setting_values}
-use Rattle.office_loading.specs.Contents.{setting_content}
-use Rattle.office_loading.specs.Columns.{names_version}
-use Rattle.office_loading.specs.Fits.{FitsSetting}
-use Rattle.office_loading.specs.Tables.{NamesVersion}
+use Rattle.office_rows.specs.{Tables.setting_table, Layouts.weighed, Opening.tables_version, Values.setting_values}
+use Rattle.office_loading.specs.{Contents.setting_content, Columns.names_version, Fits.FitsSetting, Tables.NamesVersion}
 use Rattle.office_loading.proofs.VersionLemmas.{reads_table, version_there, version_absent, reads_settings, names_this, names_none, decoded_tells}
 use Rattle.office_loading.proofs.older.read_settings.Goals as goal
 

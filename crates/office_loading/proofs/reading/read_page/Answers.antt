@@ -1,20 +1,8 @@
-use Rattle.std.proofs.Common.{◌≡◌, [], ◌∷◌, true, false, Ok, IfErr, refl, sym, subst, ◌∙◌, rules, arith}
-use Rattle.std.proofs.lemmas.Result.{err_from_is_err_and}
-use Rattle.sqlite.specs.Values.{bound}
-use Rattle.sqlite.specs.Order.{Row}
-use Rattle.sqlite.specs.Held.{state}
-use Rattle.sqlite.specs.Given.{HasGiven}
-use Rattle.sqlite.specs.State.{HasCleanDisk, IsUnchanged, FailsToQuery, Survives, CommitsShowing}
-use Rattle.office_rows.specs.Values.{number_value}
-use Rattle.office_rows.specs.Rows.{Rows}
-use Rattle.office_rows.specs.Stored.{HasRows}
-use Rattle.office_tables.specs.Faults.{IsOfStore}
-use Rattle.office_tables.specs.Reading.{Reads}
-use Rattle.office_loading.specs.Texts.{IsText}
-use Rattle.office_loading.specs.Pages.{TellsPage}
-use Rattle.office_loading.specs.declared.page.TextsPage.{TextsPage}
-use Rattle.office_tables.proofs.MadeLemmas.{reads_same, reads_failed, query_survives, ◌then◌}
-use Rattle.office_loading.proofs.StreamLemmas.{begun_shows}
+use Rattle.std.proofs.{Common.{◌≡◌, [], ◌∷◌, true, false, Ok, IfErr, refl, sym, subst, ◌∙◌, rules, arith}, lemmas.Result.err_from_is_err_and}
+use Rattle.sqlite.specs.{Values.bound, Order.Row, Held.state, Given.HasGiven, State.{HasCleanDisk, IsUnchanged, FailsToQuery, Survives, CommitsShowing}}
+use Rattle.office_rows.specs.{Values.number_value, Rows.Rows, Stored.HasRows}
+use Rattle.office_tables.{specs.{Faults.IsOfStore, Reading.Reads}, proofs.MadeLemmas.{reads_same, reads_failed, query_survives, ◌then◌}}
+use Rattle.office_loading.{specs.{Texts.IsText, Pages.TellsPage, declared.page.TextsPage.TextsPage}, proofs.StreamLemmas.begun_shows}
 use Rattle.office_loading.proofs.TextQuery.{select_texts, texts_shows, AreRead, none_read, more_read, stands_first, stands_next, row_shows_text, text_is_next, texts_are_all}
 use Rattle.office_loading.proofs.TakenLemmas.{row_taken, row_left, counted_more, of_store_only, page_of_all, page_of_first}
 use Rattle.office_loading.proofs.reading.read_page.Goals as goal

@@ -1,6 +1,5 @@
 use Rattle.std.proofs.Common.{◌≡◌, ◌≤◌, length, Ok}
-use Rattle.sqlite.specs.Held.{state}
-use Rattle.sqlite.specs.State.{HasCleanDisk}
+use Rattle.sqlite.specs.{Held.state, State.HasCleanDisk}
 use Rattle.office_tables.specs.Reading.{Reads}
 use Rattle.office_loading.proofs.TextQuery.{Stands, AreRead}
 use Rattle.office_loading.proofs.reading.read_page.Given as goal

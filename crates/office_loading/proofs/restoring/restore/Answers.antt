@@ -1,14 +1,8 @@
 use Rattle.std.proofs.Common.{rules, ◌≡◌, ℕ, List, length, map, true, sym, ap, ◌∙◌, refl, subst}
 use Rattle.yard_core.specs.declared.plan.Block.{Block}
-use Rattle.office_loading.specs.Accounts.{AreWholeAccounts}
-use Rattle.office_loading.specs.Closed.{closed_content, last_closed}
-use Rattle.office_loading.specs.Contents.{partner_content, number_content, setting_content, opened_rows}
-use Rattle.office_loading.specs.Formed.{AreByLetter, AreTerminal, RefusesTerminal}
-use Rattle.office_loading.specs.OwnOffice.{AreOwnNumbers}
-use Rattle.office_loading.specs.Refusals.{RefusesTables}
-use Rattle.office_loading.specs.Said.{set_up_with, AreSettings}
-use Rattle.office_loading.specs.declared.numbers.PartnerRow.{PartnerRow}
-use Rattle.office_loading.specs.declared.settings.Setting.{Setting}
+use Rattle.office_loading.specs.{Accounts.AreWholeAccounts, Closed.{closed_content, last_closed}, Formed.{AreByLetter, AreTerminal, RefusesTerminal}}
+use Rattle.office_loading.specs.{Contents.{partner_content, number_content, setting_content, opened_rows}, OwnOffice.AreOwnNumbers, Refusals.RefusesTables}
+use Rattle.office_loading.specs.{Said.{set_up_with, AreSettings}, declared.numbers.PartnerRow.PartnerRow, declared.settings.Setting.Setting}
 use Rattle.office_loading.proofs.Offices.{accounts_of_office, by_letter_of_office, tables_refused, office_of}
 use Rattle.office_loading.proofs.restoring.restore.Goals as goal
 

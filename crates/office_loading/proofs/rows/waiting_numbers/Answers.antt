@@ -1,9 +1,7 @@
-use Rattle.std.proofs.Common.{map, ap, subst, ◌∙◌}
-use Rattle.std.proofs.lemmas.Result.{IfErr-weaker}
+use Rattle.std.proofs.{Common.{map, ap, subst, ◌∙◌}, lemmas.Result.IfErr-weaker}
 use Rattle.sqlite.specs.Order.{column}
 use Rattle.office_rows.proofs.Creating.{if_ok}
-use Rattle.office_loading.specs.Decoded.{FailsOne}
-use Rattle.office_loading.proofs.OlderOffice.{IsRead, high_waiting, numbers_shown}
+use Rattle.office_loading.{specs.Decoded.FailsOne, proofs.OlderOffice.{IsRead, high_waiting, numbers_shown}}
 use Rattle.office_loading.proofs.rows.waiting_numbers.Goals as goal
 
 pub returns-clause-answer : goal.returns-clause-answer

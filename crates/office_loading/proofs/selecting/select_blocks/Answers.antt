@@ -1,6 +1,5 @@
 use Rattle.sqlite.specs.Held.{state}
-use Rattle.office_rows.proofs.Listed.{lists_block}
-use Rattle.office_rows.proofs.Creating.{if_ok}
+use Rattle.office_rows.proofs.{Listed.lists_block, Creating.if_ok}
 use Rattle.office_loading.proofs.LackingLemmas.{block_shows}
 use Rattle.office_loading.proofs.selecting.select_blocks.Goals as goal
 

@@ -1,6 +1,5 @@
 use Rattle.sqlite.specs.Held.{state}
-use Rattle.office_rows.proofs.Listed.{lists_partner}
-use Rattle.office_rows.proofs.Creating.{if_ok}
+use Rattle.office_rows.proofs.{Listed.lists_partner, Creating.if_ok}
 use Rattle.office_loading.proofs.LackingLemmas.{partner_shows}
 use Rattle.office_loading.proofs.selecting.select_partners.Goals as goal
 

@@ -1,6 +1,5 @@
 use Rattle.sqlite.specs.Held.{state}
-use Rattle.office_rows.proofs.Listed.{lists_place}
-use Rattle.office_rows.proofs.Creating.{if_ok}
+use Rattle.office_rows.proofs.{Listed.lists_place, Creating.if_ok}
 use Rattle.office_loading.proofs.LackingLemmas.{place_shows}
 use Rattle.office_loading.proofs.selecting.select_places.Goals as goal
 

@@ -1,10 +1,7 @@
 use Rattle.std.proofs.Common.{[]}
 use Rattle.sqlite.specs.Held.{state}
-use Rattle.office_rows.proofs.Listed.{lists_setting}
-use Rattle.office_rows.proofs.Creating.{if_ok}
-use Rattle.office_rows.proofs.Reading.{select_setting}
-use Rattle.office_loading.proofs.RowLemmas.{never_shown, setting_missing, lists_settings}
-use Rattle.office_loading.proofs.LackingLemmas.{setting_shows}
+use Rattle.office_rows.proofs.{Listed.lists_setting, Creating.if_ok, Reading.select_setting}
+use Rattle.office_loading.proofs.{RowLemmas.{never_shown, setting_missing, lists_settings}, LackingLemmas.setting_shows}
 use Rattle.office_loading.proofs.selecting.select_settings.Goals as goal
 
 pub select-requires : goal.select-requires

@@ -1,6 +1,5 @@
 use Rattle.std.proofs.Common.{[], ◌∷◌}
-use Rattle.sqlite.specs.Held.{state}
-use Rattle.sqlite.specs.State.{Shown}
+use Rattle.sqlite.specs.{Held.state, State.Shown}
 use Rattle.office_rows.specs.Values.{number_value}
 use Rattle.office_tables.proofs.MadeLemmas.{reads_shown, reads_failed}
 use Rattle.office_loading.proofs.WaitingQuery.{select_waiting, waiting_shows, finds_waiting}

@@ -1,5 +1,4 @@
-use Rattle.std.proofs.Common.{◌≡◌, ℕ, ◌+◌, ◌-◌, ◌<◌, ◌≤◌, List, length, get_or, ap, inl, inr, ◌⊎◌, arith}
-use Rattle.std.proofs.lemmas.List.{get_or_default}
+use Rattle.std.proofs.{Common.{◌≡◌, ℕ, ◌+◌, ◌-◌, ◌<◌, ◌≤◌, List, length, get_or, ap, inl, inr, ◌⊎◌, arith}, lemmas.List.get_or_default}
 use Rattle.yard_core.specs.declared.plan.Block.{Block}
 use Rattle.office_loading.proofs.settings.are_by_letter.Goals as goal
 

@@ -1,5 +1,4 @@
-use Rattle.std.proofs.Common.{◌≡◌, ℕ, List, Some, length, string_bytes, refl, sym, ap, ◌∙◌, true}
-use Rattle.std.specs.Prelude.{slice_get}
+use Rattle.std.{specs.Prelude.slice_get, proofs.Common.{◌≡◌, ℕ, List, Some, length, string_bytes, refl, sym, ap, ◌∙◌, true}}
 use Rattle.std.proofs.lemmas.Option.{slice_get_read, same_Some}
 use Rattle.office_loading.proofs.Kept.{name_in}
 use Rattle.office_loading.proofs.settings.are_named.Goals as goal

@@ -1,6 +1,5 @@
 use Rattle.std.proofs.Common.{◌≡◌, map, take}
-use Rattle.office_loading.specs.Contents.{setting_content}
-use Rattle.office_loading.specs.Said.{setting_names, names_of}
+use Rattle.office_loading.specs.{Contents.setting_content, Said.{setting_names, names_of}}
 use Rattle.office_loading.proofs.settings.are_named.Given as goal
 
 abbrev pub invariant-loop-place : goal.invariant-loop-place

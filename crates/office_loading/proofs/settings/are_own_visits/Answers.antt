@@ -1,7 +1,5 @@
-use Rattle.std.proofs.Common.{List, map, refl, sym, subst}
-use Rattle.std.proofs.lemmas.List.{drop_all}
-use Rattle.terminal_core.specs.declared.visits.Visit.{Visit}
-use Rattle.terminal_core.specs.Rows.{visit_content}
+use Rattle.std.proofs.{Common.{List, map, refl, sym, subst}, lemmas.List.drop_all}
+use Rattle.terminal_core.specs.{declared.visits.Visit.Visit, Rows.visit_content}
 use Rattle.office_loading.proofs.Offices.{Follow, follow_more, follow_not, follow_own, own_follow}
 use Rattle.office_loading.proofs.settings.are_own_visits.Goals as goal
 

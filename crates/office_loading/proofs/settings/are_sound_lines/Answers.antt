@@ -1,6 +1,5 @@
 use Rattle.std.proofs.Common.{refl}
-use Rattle.office_loading.specs.Formed.{IsSoundLine}
-use Rattle.office_loading.proofs.Kept.{each_more, each_of}
+use Rattle.office_loading.{specs.Formed.IsSoundLine, proofs.Kept.{each_more, each_of}}
 use Rattle.office_loading.proofs.settings.are_sound_lines.Goals as goal
 
 pub loop-line-preserved : goal.loop-line-preserved

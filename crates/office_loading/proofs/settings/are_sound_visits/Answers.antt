@@ -1,8 +1,6 @@
 use Rattle.std.proofs.Common.{refl}
-use Rattle.terminal_core.specs.declared.visits.Visit.{Visit}
-use Rattle.terminal_core.specs.Rows.{visit_content}
-use Rattle.office_loading.specs.Formed.{IsSoundVisit}
-use Rattle.office_loading.proofs.Kept.{each_more, each_of}
+use Rattle.terminal_core.specs.{declared.visits.Visit.Visit, Rows.visit_content}
+use Rattle.office_loading.{specs.Formed.IsSoundVisit, proofs.Kept.{each_more, each_of}}
 use Rattle.office_loading.proofs.settings.are_sound_visits.Goals as goal
 
 pub loop-visit-preserved : goal.loop-visit-preserved

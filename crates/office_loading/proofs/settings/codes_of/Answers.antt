@@ -1,10 +1,7 @@
-use Rattle.std.proofs.Common.{◌≡◌, Some, length, map, sym, ap, ◌∙◌}
-use Rattle.std.proofs.lemmas.List.{length-map}
+use Rattle.std.proofs.{Common.{◌≡◌, Some, length, map, sym, ap, ◌∙◌}, lemmas.List.length-map}
 use Rattle.edi_messages.specs.CodeText.{table_fault}
 use Rattle.office_rows.specs.Rows.{Setting}
-use Rattle.office_loading.specs.Contents.{setting_content}
-use Rattle.office_loading.specs.Said.{values_of}
-use Rattle.office_loading.proofs.Kept.{seven_codes}
+use Rattle.office_loading.{specs.{Contents.setting_content, Said.values_of}, proofs.Kept.seven_codes}
 use Rattle.office_loading.proofs.settings.codes_of.Goals as goal
 
 pub returns-in-Err : goal.returns-in-Err

@@ -1,5 +1,4 @@
-use Rattle.std.proofs.Common.{◌≡◌, ℕ, ◌≤◌, Ok, arith, true, subst, decimal}
-use Rattle.std.proofs.lemmas.Fmt.{parse-decimal}
+use Rattle.std.proofs.{Common.{◌≡◌, ℕ, ◌≤◌, Ok, arith, true, subst, decimal}, lemmas.Fmt.parse-decimal}
 use Rattle.office_loading.proofs.settings.limit_of.Goals as goal
 
 pub returns-else-is_limit : goal.returns-else-is_limit

@@ -1,8 +1,6 @@
 use Rattle.std.proofs.Common.{◌≡◌, ℕ, List, Some, map, true, IsTrue, sym, ap, ◌∙◌, subst}
 use Rattle.office_admission.specs.Given.{is_party_code}
-use Rattle.office_loading.specs.Contents.{setting_content}
-use Rattle.office_loading.specs.Said.{set_up_with}
-use Rattle.office_loading.proofs.Kept.{names_so, settings_so}
+use Rattle.office_loading.{specs.{Contents.setting_content, Said.set_up_with}, proofs.Kept.{names_so, settings_so}}
 use Rattle.office_loading.proofs.settings.read_settings.Goals as goal
 
 pub returns-then-not-are_named-clause-refused : goal.returns-then-not-are_named-clause-refused

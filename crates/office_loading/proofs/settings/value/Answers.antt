@@ -1,8 +1,5 @@
-use Rattle.std.proofs.Common.{◌≡◌, Some, length, string_bytes, refl, sym, ap, ◌∙◌}
-use Rattle.std.specs.Prelude.{slice_get}
-use Rattle.std.proofs.lemmas.Option.{slice_get_read}
-use Rattle.office_loading.specs.declared.settings.Setting.{Setting}
-use Rattle.office_loading.proofs.Kept.{value_in}
+use Rattle.std.{specs.Prelude.slice_get, proofs.{Common.{◌≡◌, Some, length, string_bytes, refl, sym, ap, ◌∙◌}, lemmas.Option.slice_get_read}}
+use Rattle.office_loading.{specs.declared.settings.Setting.Setting, proofs.Kept.value_in}
 use Rattle.office_loading.proofs.settings.value.Goals as goal
 
 pub returns : goal.returns

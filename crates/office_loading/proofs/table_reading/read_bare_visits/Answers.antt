@@ -1,21 +1,11 @@
 use Rattle.std.proofs.Common.{[], ◌∷◌, refl}
 use Rattle.sqlite.specs.Held.{state}
-use Rattle.terminal_core.specs.declared.visits.Visit.{Visit}
-use Rattle.terminal_core.specs.Rows.{visit_content}
-use Rattle.office_rows.specs.Tables.{visit_table}
-use Rattle.office_rows.specs.Bare.{with_weights}
-use Rattle.office_rows.specs.Layouts.{bare_schema}
-use Rattle.office_rows.specs.Shown.{ShowsTable}
-use Rattle.office_rows.specs.Values.{visit_values}
-use Rattle.office_rows.proofs.BareReading as texts
+use Rattle.terminal_core.specs.{declared.visits.Visit.Visit, Rows.visit_content}
+use Rattle.office_rows.specs.{Tables.visit_table, Bare.with_weights, Layouts.bare_schema, Shown.ShowsTable, Values.visit_values}
 use Rattle.office_rows.proofs.Listed.{lists_bare_visit}
-use Rattle.office_loading.proofs.LackingLemmas.{bare_visit_shows}
-use Rattle.office_loading.specs.Columns.{SaysVisit}
-use Rattle.office_loading.specs.Decoded.{IsSaid}
-use Rattle.office_loading.specs.Fits.{FitsVisit}
-use Rattle.office_loading.specs.Tables.{ReadsTable, ShowsVisits}
-use Rattle.office_loading.proofs.RowLemmas.{whole_answer, from_shown}
-use Rattle.office_loading.proofs.VersionLemmas.{reads_table, store_fails}
+use Rattle.office_loading.{specs.{Columns.SaysVisit, Decoded.IsSaid, Fits.FitsVisit, Tables.{ReadsTable, ShowsVisits}}, proofs.LackingLemmas.bare_visit_shows}
+use Rattle.office_loading.proofs.{RowLemmas.{whole_answer, from_shown}, VersionLemmas.{reads_table, store_fails}}
+use Rattle.office_rows.proofs.BareReading as texts
 use Rattle.office_loading.proofs.table_reading.read_bare_visits.Goals as goal
 
 pub read_shown-requires : goal.read_shown-requires

@@ -1,11 +1,7 @@
-use Rattle.office_rows.specs.Bare.{weighed_in}
+use Rattle.office_rows.specs.{Bare.weighed_in, Tables.block_table, Values.block_values}
 use Rattle.std.proofs.Common.{[], ◌∷◌, refl}
 use Rattle.sqlite.specs.Held.{state}
-use Rattle.office_loading.specs.Decoded.{itself}
-use Rattle.office_rows.specs.Tables.{block_table}
-use Rattle.office_rows.specs.Values.{block_values}
-use Rattle.office_loading.specs.Fits.{FitsBlock}
-use Rattle.office_loading.proofs.VersionLemmas.{reads_table}
+use Rattle.office_loading.{specs.{Decoded.itself, Fits.FitsBlock}, proofs.VersionLemmas.reads_table}
 use Rattle.office_loading.proofs.table_reading.read_blocks.Goals as goal
 
 pub returns-clause-read : goal.returns-clause-read

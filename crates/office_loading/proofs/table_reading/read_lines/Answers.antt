@@ -1,20 +1,10 @@
 use Rattle.std.proofs.Common.{[], ◌∷◌, refl}
 use Rattle.sqlite.specs.Held.{state}
 use Rattle.terminal_core.specs.declared.lines.Listing.{Listing}
-use Rattle.office_rows.specs.Rows.{listing_content}
-use Rattle.office_rows.specs.Tables.{listing_table}
-use Rattle.office_rows.specs.Bare.{weighed_in}
-use Rattle.office_rows.specs.Shown.{ShowsTable}
-use Rattle.office_rows.specs.Values.{line_values}
+use Rattle.office_rows.{specs.{Rows.listing_content, Tables.listing_table, Bare.weighed_in, Shown.ShowsTable, Values.line_values}, proofs.Listed.lists_listed}
+use Rattle.office_loading.{specs.{Columns.SaysLine, Decoded.IsSaid, Fits.FitsLine, Tables.{ReadsTable, ShowsLines}}, proofs.LackingLemmas.listed_shows}
+use Rattle.office_loading.proofs.{RowLemmas.{whole_listed, from_shown}, VersionLemmas.{reads_table, store_fails}}
 use Rattle.office_rows.proofs.Reading as texts
-use Rattle.office_rows.proofs.Listed.{lists_listed}
-use Rattle.office_loading.proofs.LackingLemmas.{listed_shows}
-use Rattle.office_loading.specs.Columns.{SaysLine}
-use Rattle.office_loading.specs.Decoded.{IsSaid}
-use Rattle.office_loading.specs.Fits.{FitsLine}
-use Rattle.office_loading.specs.Tables.{ReadsTable, ShowsLines}
-use Rattle.office_loading.proofs.RowLemmas.{whole_listed, from_shown}
-use Rattle.office_loading.proofs.VersionLemmas.{reads_table, store_fails}
 use Rattle.office_loading.proofs.table_reading.read_lines.Goals as goal
 
 pub read_shown-requires : goal.read_shown-requires

@@ -1,20 +1,10 @@
 use Rattle.std.proofs.Common.{[], ◌∷◌, refl}
 use Rattle.sqlite.specs.Held.{state}
-use Rattle.office_loading.specs.Contents.{number_content}
-use Rattle.office_loading.specs.declared.numbers.NumberRow.{NumberRow}
-use Rattle.office_rows.specs.Tables.{interchange_table}
-use Rattle.office_rows.specs.Bare.{weighed_in}
-use Rattle.office_rows.specs.Opened.{ShowsNumbers}
-use Rattle.office_rows.specs.Shown.{ShowsTable}
-use Rattle.office_rows.proofs.Reading as texts
-use Rattle.office_rows.proofs.Listed.{lists_interchange}
-use Rattle.office_loading.proofs.LackingLemmas.{interchange_shows}
-use Rattle.office_loading.specs.Columns.{SaysNumbered}
-use Rattle.office_loading.specs.Decoded.{IsSaid}
-use Rattle.office_loading.specs.Fits.{FitsNumber}
-use Rattle.office_loading.specs.Tables.{ReadsTable}
-use Rattle.office_loading.proofs.RowLemmas.{whole_interchange, from_shown}
+use Rattle.office_loading.specs.{Contents.number_content, declared.numbers.NumberRow.NumberRow, Columns.SaysNumbered, Decoded.IsSaid, Fits.FitsNumber}
+use Rattle.office_loading.{specs.Tables.ReadsTable, proofs.{LackingLemmas.interchange_shows, RowLemmas.{whole_interchange, from_shown}}}
 use Rattle.office_loading.proofs.VersionLemmas.{reads_numbers, store_fails}
+use Rattle.office_rows.{specs.{Tables.interchange_table, Bare.weighed_in, Opened.ShowsNumbers, Shown.ShowsTable}, proofs.Listed.lists_interchange}
+use Rattle.office_rows.proofs.Reading as texts
 use Rattle.office_loading.proofs.table_reading.read_numbers.Goals as goal
 
 pub read_shown-requires : goal.read_shown-requires

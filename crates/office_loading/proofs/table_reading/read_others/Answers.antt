@@ -1,19 +1,12 @@
-use Rattle.std.proofs.Common.{Ok, refl, subst}
-use Rattle.std.specs.List.{AllByRecursion}
-use Rattle.std.proofs.lemmas.Result.{err_from_is_err_and}
-use Rattle.sqlite.specs.Effect.{Database}
-use Rattle.sqlite.specs.Held.{state}
+use Rattle.std.{specs.List.AllByRecursion, proofs.{Common.{Ok, refl, subst}, lemmas.Result.err_from_is_err_and}}
+use Rattle.sqlite.specs.{Effect.Database, Held.state}
 use Rattle.terminal_core.specs.Rows.{visit_content}
-use Rattle.office_rows.specs.Rows.{listing_content}
-use Rattle.office_rows.specs.Bare.{weighed_in}
-use Rattle.office_rows.specs.Layouts.{schema_in}
-use Rattle.office_rows.specs.Opened.{OpenedRows, ShowsNumbers}
-use Rattle.office_loading.specs.Contents.{number_content, place_content}
-use Rattle.office_tables.proofs.MadeLemmas.{◌then◌, clean_first, reads_on, reads_stopped}
-use Rattle.office_loading.specs.Decoded.{itself}
+use Rattle.office_rows.specs.{Rows.listing_content, Bare.weighed_in, Layouts.schema_in, Opened.{OpenedRows, ShowsNumbers}}
+use Rattle.office_loading.specs.{Contents.{number_content, place_content}, Decoded.itself}
 use Rattle.office_loading.specs.Fits.{FitsPartner, FitsNumber, FitsVisit, FitsPlace, FitsLine, FitsBlock}
 use Rattle.office_loading.specs.Tables.{ReadsTable, ShowsPartners, ShowsVisits, ShowsPlaces, ShowsLines, ShowsBlocks, layout_with}
 use Rattle.office_loading.proofs.VersionLemmas.{from_first, later_fails, one_fails, same_items}
+use Rattle.office_tables.proofs.MadeLemmas.{◌then◌, clean_first, reads_on, reads_stopped}
 use Rattle.office_loading.proofs.table_reading.read_others.Goals as goal
 
 pub returns-in_err-partners-clause-read : goal.returns-in_err-partners-clause-read

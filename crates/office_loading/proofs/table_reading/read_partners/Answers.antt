@@ -1,11 +1,7 @@
-use Rattle.office_rows.specs.Bare.{weighed_in}
+use Rattle.office_rows.specs.{Bare.weighed_in, Tables.partner_table, Values.partner_values}
 use Rattle.std.proofs.Common.{[], ◌∷◌, refl}
 use Rattle.sqlite.specs.Held.{state}
-use Rattle.office_loading.specs.Contents.{partner_content}
-use Rattle.office_rows.specs.Tables.{partner_table}
-use Rattle.office_rows.specs.Values.{partner_values}
-use Rattle.office_loading.specs.Fits.{FitsPartner}
-use Rattle.office_loading.proofs.VersionLemmas.{reads_table}
+use Rattle.office_loading.{specs.{Contents.partner_content, Fits.FitsPartner}, proofs.VersionLemmas.reads_table}
 use Rattle.office_loading.proofs.table_reading.read_partners.Goals as goal
 
 pub returns-clause-read : goal.returns-clause-read

@@ -1,11 +1,7 @@
-use Rattle.office_rows.specs.Bare.{weighed_in}
+use Rattle.office_rows.specs.{Bare.weighed_in, Tables.place_table, Values.place_values}
 use Rattle.std.proofs.Common.{[], ◌∷◌, refl}
 use Rattle.sqlite.specs.Held.{state}
-use Rattle.office_loading.specs.Contents.{place_content}
-use Rattle.office_rows.specs.Tables.{place_table}
-use Rattle.office_rows.specs.Values.{place_values}
-use Rattle.office_loading.specs.Fits.{FitsPlace}
-use Rattle.office_loading.proofs.VersionLemmas.{reads_table}
+use Rattle.office_loading.{specs.{Contents.place_content, Fits.FitsPlace}, proofs.VersionLemmas.reads_table}
 use Rattle.office_loading.proofs.table_reading.read_places.Goals as goal
 
 pub returns-clause-read : goal.returns-clause-read

@@ -1,12 +1,7 @@
-use Rattle.std.proofs.Common.{◌≡◌, [], false, Ok, IfErr, refl, ◌∙◌, rules, arith}
-use Rattle.std.proofs.lemmas.Result.{err_from_is_err_and}
-use Rattle.sqlite.specs.Held.{state}
-use Rattle.sqlite.specs.Given.{HasGiven}
-use Rattle.sqlite.specs.State.{HasCleanDisk, IsUnchanged, FailsToQuery, Survives, CommitsShowing}
-use Rattle.office_tables.specs.Faults.{IsOfStoreOr}
-use Rattle.office_tables.proofs.MadeLemmas.{reads_same, reads_failed, query_survives, ◌then◌}
-use Rattle.office_loading.specs.Decoded.{ShowsUnsaid, ReadsShown}
-use Rattle.office_loading.proofs.StreamLemmas.{begun_shows, stands_first, stands_next, row_refused, all_read}
+use Rattle.std.proofs.{Common.{◌≡◌, [], false, Ok, IfErr, refl, ◌∙◌, rules, arith}, lemmas.Result.err_from_is_err_and}
+use Rattle.sqlite.specs.{Held.state, Given.HasGiven, State.{HasCleanDisk, IsUnchanged, FailsToQuery, Survives, CommitsShowing}}
+use Rattle.office_tables.{specs.Faults.IsOfStoreOr, proofs.MadeLemmas.{reads_same, reads_failed, query_survives, ◌then◌}}
+use Rattle.office_loading.{specs.Decoded.{ShowsUnsaid, ReadsShown}, proofs.StreamLemmas.{begun_shows, stands_first, stands_next, row_refused, all_read}}
 use Rattle.office_loading.proofs.table_reading.read_shown.Goals as goal
 
 pub returns-in_err-rows-clause-reads : goal.returns-in_err-rows-clause-reads

@@ -1,6 +1,5 @@
 use Rattle.std.proofs.Common.{◌≡◌, Ok}
-use Rattle.sqlite.specs.Held.{state}
-use Rattle.sqlite.specs.State.{HasCleanDisk}
+use Rattle.sqlite.specs.{Held.state, State.HasCleanDisk}
 use Rattle.office_tables.specs.Reading.{Reads}
 use Rattle.office_loading.proofs.StreamLemmas.{Stands}
 use Rattle.office_loading.proofs.table_reading.read_shown.Given as goal

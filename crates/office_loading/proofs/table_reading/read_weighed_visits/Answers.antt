@@ -1,19 +1,10 @@
 use Rattle.std.proofs.Common.{[], ◌∷◌, refl}
 use Rattle.sqlite.specs.Held.{state}
-use Rattle.terminal_core.specs.declared.visits.Visit.{Visit}
-use Rattle.terminal_core.specs.Rows.{visit_content}
-use Rattle.office_rows.specs.Tables.{visit_table, office_schema}
-use Rattle.office_rows.specs.Shown.{ShowsTable}
-use Rattle.office_rows.specs.Values.{visit_values}
+use Rattle.terminal_core.specs.{declared.visits.Visit.Visit, Rows.visit_content}
+use Rattle.office_rows.{specs.{Tables.{visit_table, office_schema}, Shown.ShowsTable, Values.visit_values}, proofs.Listed.lists_visit}
+use Rattle.office_loading.{specs.{Columns.SaysVisit, Decoded.IsSaid, Fits.FitsVisit, Tables.{ReadsTable, ShowsVisits}}, proofs.LackingLemmas.visit_shows}
+use Rattle.office_loading.proofs.{RowLemmas.{whole_answer, from_shown}, VersionLemmas.{reads_table, store_fails}}
 use Rattle.office_rows.proofs.Reading as texts
-use Rattle.office_rows.proofs.Listed.{lists_visit}
-use Rattle.office_loading.proofs.LackingLemmas.{visit_shows}
-use Rattle.office_loading.specs.Columns.{SaysVisit}
-use Rattle.office_loading.specs.Decoded.{IsSaid}
-use Rattle.office_loading.specs.Fits.{FitsVisit}
-use Rattle.office_loading.specs.Tables.{ReadsTable, ShowsVisits}
-use Rattle.office_loading.proofs.RowLemmas.{whole_answer, from_shown}
-use Rattle.office_loading.proofs.VersionLemmas.{reads_table, store_fails}
 use Rattle.office_loading.proofs.table_reading.read_weighed_visits.Goals as goal
 
 pub read_shown-requires : goal.read_shown-requires

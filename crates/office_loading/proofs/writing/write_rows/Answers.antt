@@ -1,21 +1,9 @@
-use Rattle.std.proofs.Common.{◌≡◌, [], ◌∷◌, true, false, Ok, IfErr, refl, ◌∙◌, rules, arith}
-use Rattle.std.proofs.lemmas.Result.{err_from_is_err_and}
-use Rattle.sqlite.specs.Values.{bound}
-use Rattle.sqlite.specs.Order.{Row}
-use Rattle.sqlite.specs.Held.{state}
-use Rattle.sqlite.specs.Given.{HasGiven}
-use Rattle.sqlite.specs.State.{HasCleanDisk, IsUnchanged, FailsToQuery, Survives, CommitsShowing}
-use Rattle.office_rows.specs.Values.{number_value}
-use Rattle.office_rows.specs.Rows.{Rows}
-use Rattle.office_rows.specs.Stored.{HasRows}
-use Rattle.office_tables.specs.Faults.{IsOfStore}
-use Rattle.office_tables.specs.Reading.{Reads}
-use Rattle.office_loading.specs.Texts.{IsText}
-use Rattle.office_tables.proofs.MadeLemmas.{reads_same, reads_failed, query_survives, ◌then◌}
-use Rattle.office_loading.proofs.StreamLemmas.{begun_shows}
+use Rattle.std.proofs.{Common.{◌≡◌, [], ◌∷◌, true, false, Ok, IfErr, refl, ◌∙◌, rules, arith}, lemmas.Result.err_from_is_err_and}
+use Rattle.sqlite.specs.{Values.bound, Order.Row, Held.state, Given.HasGiven, State.{HasCleanDisk, IsUnchanged, FailsToQuery, Survives, CommitsShowing}}
+use Rattle.office_rows.specs.{Values.number_value, Rows.Rows, Stored.HasRows}
+use Rattle.office_tables.{specs.{Faults.IsOfStore, Reading.Reads}, proofs.MadeLemmas.{reads_same, reads_failed, query_survives, ◌then◌}}
+use Rattle.office_loading.{specs.{Texts.IsText, declared.writing.Written.Written, declared.writing.Written.TheVariants.Failed}, proofs.StreamLemmas.begun_shows}
 use Rattle.office_loading.proofs.TextQuery.{select_texts, texts_shows, stands_first, stands_next, row_shows_text, texts_are_all}
-use Rattle.office_loading.specs.declared.writing.Written.{Written}
-use Rattle.office_loading.specs.declared.writing.Written.TheVariants.{Failed}
 use Rattle.office_loading.proofs.TakenLemmas.{AreSoFar, none_so_far, more_so_far, all_so_far, row_written, of_store_only}
 use Rattle.office_loading.proofs.writing.write_rows.Goals as goal
 

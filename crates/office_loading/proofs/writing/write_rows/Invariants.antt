@@ -1,9 +1,7 @@
 use Rattle.std.proofs.Common.{◌≡◌, Ok}
-use Rattle.sqlite.specs.Held.{state}
-use Rattle.sqlite.specs.State.{HasCleanDisk}
+use Rattle.sqlite.specs.{Held.state, State.HasCleanDisk}
 use Rattle.office_tables.specs.Reading.{Reads}
-use Rattle.office_loading.proofs.TextQuery.{Stands}
-use Rattle.office_loading.proofs.TakenLemmas.{AreSoFar}
+use Rattle.office_loading.proofs.{TextQuery.Stands, TakenLemmas.AreSoFar}
 use Rattle.office_loading.proofs.writing.write_rows.Given as goal
 
 abbrev pub invariant-each : goal.invariant-each

@@ -1,8 +1,5 @@
-use Rattle.std.proofs.Common.{◌≡◌, ◌++◌, None, codes, lit<, rules, string_bytes}
-use Rattle.std.proofs.lemmas.Result.{on_ok_weaker}
-use Rattle.std.proofs.lemmas.Str.Pattern.{split_parts}
-use Rattle.office_pages.specs.Drawn.{drawn_line, picture_view}
-use Rattle.office_pages.proofs.Splitting.{pieces_end, pieces_more}
+use Rattle.std.proofs.{Common.{◌≡◌, ◌++◌, None, codes, lit<, rules, string_bytes}, lemmas.Result.on_ok_weaker, lemmas.Str.Pattern.split_parts}
+use Rattle.office_pages.{specs.Drawn.{drawn_line, picture_view}, proofs.Splitting.{pieces_end, pieces_more}}
 use Rattle.office_pages.proofs.drawn.push_picture.Goals as goal
 
 pub lines-preserved : goal.lines-preserved

@@ -1,7 +1,7 @@
 use Rattle.std.proofs.Common.{◌≡◌, ◌++◌, length, string_bytes}
+use Rattle.office_pages.specs.Drawn.{picture_view}
 use denote.Text.{Utf8}
 use denote.Shadow.{shadow}
-use Rattle.office_pages.specs.Drawn.{picture_view}
 use Rattle.office_pages.proofs.drawn.push_picture.Given as goal
 
 abbrev pub invariant-lines : goal.invariant-lines

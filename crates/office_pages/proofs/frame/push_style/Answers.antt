@@ -1,7 +1,5 @@
-use Rattle.std.proofs.Common.{◌++◌, ◌∷◌, [], ◌∙◌, codes, string_bytes}
-use Rattle.std.proofs.lemmas.Result.{on_ok_weaker}
-use Rattle.office_pages.specs.Frame.{style_pieces}
-use Rattle.office_pages.specs.Pieces.{Markup, pieces_text}
+use Rattle.std.proofs.{Common.{◌++◌, ◌∷◌, [], ◌∙◌, codes, string_bytes}, lemmas.Result.on_ok_weaker}
+use Rattle.office_pages.specs.{Frame.style_pieces, Pieces.{Markup, pieces_text}}
 use Rattle.office_pages.proofs.frame.push_style.Goals as goal
 
 pub returns : goal.returns

@@ -1,5 +1,4 @@
-use Rattle.std.proofs.Common.{◌≡◌, ◌-◌, ◌++◌, flat_map, string_bytes}
-use Rattle.std.specs.List.{range_with_len}
+use Rattle.std.{specs.List.range_with_len, proofs.Common.{◌≡◌, ◌-◌, ◌++◌, flat_map, string_bytes}}
 use Rattle.office_pages.specs.Partner.{last_reply}
 use Rattle.office_pages.proofs.partner.push_last_replies.Given as goal
 

@@ -1,10 +1,6 @@
-use Rattle.std.proofs.Common.{◌++◌, ap, ◌∙◌, codes, string_bytes}
-use Rattle.std.proofs.lemmas.Result.{on_ok_weaker}
-use Rattle.office_reports.specs.Fields.{field_text}
-use Rattle.office_pages.specs.Addresses.{part}
-use Rattle.office_pages.specs.Pieces.{container_link}
-use Rattle.office_pages.proofs.Growing.{if_pushed}
-use Rattle.office_reports.proofs.Markup.{onto}
+use Rattle.std.proofs.{Common.{◌++◌, ap, ◌∙◌, codes, string_bytes}, lemmas.Result.on_ok_weaker}
+use Rattle.office_reports.{specs.Fields.field_text, proofs.Markup.onto}
+use Rattle.office_pages.{specs.{Addresses.part, Pieces.container_link}, proofs.Growing.if_pushed}
 use Rattle.office_pages.proofs.pieces.push_container.Goals as goal
 
 pub returns : goal.returns

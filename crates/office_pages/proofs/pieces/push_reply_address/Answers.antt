@@ -1,7 +1,5 @@
-use Rattle.std.proofs.Common.{◌++◌, ap, ◌∙◌, codes, decimal, string_bytes}
-use Rattle.std.proofs.lemmas.Result.{on_ok_weaker}
-use Rattle.office_pages.specs.Addresses.{part}
-use Rattle.office_pages.specs.Pieces.{reply_address}
+use Rattle.std.proofs.{Common.{◌++◌, ap, ◌∙◌, codes, decimal, string_bytes}, lemmas.Result.on_ok_weaker}
+use Rattle.office_pages.specs.{Addresses.part, Pieces.reply_address}
 use Rattle.office_reports.proofs.Markup.{onto}
 use Rattle.office_pages.proofs.pieces.push_reply_address.Goals as goal
 

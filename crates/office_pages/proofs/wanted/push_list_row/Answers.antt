@@ -1,7 +1,5 @@
-use Rattle.std.proofs.Common.{◌++◌, sym, ◌∙◌, string_bytes}
-use Rattle.std.proofs.lemmas.Result.{on_ok_weaker}
-use Rattle.office_pages.specs.Wanted.{wanted_line}
-use Rattle.office_pages.proofs.Sides.{side_again}
+use Rattle.std.proofs.{Common.{◌++◌, sym, ◌∙◌, string_bytes}, lemmas.Result.on_ok_weaker}
+use Rattle.office_pages.{specs.Wanted.wanted_line, proofs.Sides.side_again}
 use Rattle.office_pages.proofs.wanted.push_list_row.Goals as goal
 
 pub returns : goal.returns

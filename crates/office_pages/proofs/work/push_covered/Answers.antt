@@ -1,9 +1,7 @@
-use Rattle.std.proofs.Common.{◌++◌, codes, count_by, flat_map, map, ◌∙◌, string_bytes}
+use Rattle.std.proofs.Common.{◌++◌, codes, flat_map, map, ◌∙◌, string_bytes}
 use Rattle.std.proofs.lemmas.Result.{on_ok_weaker}
-use Rattle.office_reports.specs.Work.{job_content}
-use Rattle.office_reports.proofs.Markup.{onto}
-use Rattle.office_pages.specs.Tables.{section_head, table_of}
-use Rattle.office_pages.specs.Work.{covered_columns, covered_row}
+use Rattle.office_reports.{specs.Work.job_content, proofs.Markup.onto}
+use Rattle.office_pages.specs.{Tables.{section_head, table_of}, Work.{covered_columns, covered_row}}
 use Rattle.office_pages.proofs.work.push_covered.Goals as goal
 
 pub returns : goal.returns

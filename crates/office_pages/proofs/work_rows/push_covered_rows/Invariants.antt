@@ -1,7 +1,4 @@
-use Rattle.std.proofs.Common.{◌≡◌, ◌++◌, map, take, string_bytes, flat_map}
-use Rattle.std.specs.BTreeSet.{contains}
-use Rattle.std.specs.Cmp.Lexicographic.{slice_cmp}
-use Rattle.std.specs.Ordering.{nat_cmp}
+use Rattle.std.{specs.{BTreeSet.contains, Cmp.Lexicographic.slice_cmp, Ordering.nat_cmp}, proofs.Common.{◌≡◌, ◌++◌, map, take, string_bytes, flat_map}}
 use Rattle.office_reports.specs.Work.{job_content}
 use Rattle.office_pages.specs.Work.{covered_row}
 use Rattle.office_pages.proofs.work_rows.push_covered_rows.Given as goal

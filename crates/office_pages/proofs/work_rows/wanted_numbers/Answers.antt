@@ -1,6 +1,4 @@
-use Rattle.std.proofs.Common.{arith}
-use Rattle.std.proofs.lemmas.Grind.{common_steps}
-use Rattle.std.proofs.lemmas.List.Folds.{list_any-append}
+use Rattle.std.proofs.{Common.arith, lemmas.Grind.common_steps, lemmas.List.Folds.list_any-append}
 use Rattle.office_pages.proofs.work_rows.wanted_numbers.Goals as goal
 
 pub loop-job-preserved : goal.loop-job-preserved

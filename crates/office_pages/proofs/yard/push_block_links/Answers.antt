@@ -1,6 +1,5 @@
 use Rattle.std.proofs.Common.{◌+◌, ◌++◌, ap, count_by, ◌∙◌, string_bytes}
-use Rattle.office_reports.proofs.Markup.{next}
-use Rattle.office_reports.specs.Blocks.{is_in}
+use Rattle.office_reports.{specs.Blocks.is_in, proofs.Markup.next}
 use Rattle.office_pages.specs.Yard.{block_link}
 use Rattle.office_pages.proofs.yard.push_block_links.Goals as goal
 

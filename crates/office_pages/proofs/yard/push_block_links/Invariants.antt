@@ -1,5 +1,4 @@
-use Rattle.std.proofs.Common.{◌≡◌, ◌+◌, ◌++◌, count_by, flat_map, string_bytes}
-use Rattle.std.specs.List.{range_with_len}
+use Rattle.std.{specs.List.range_with_len, proofs.Common.{◌≡◌, ◌+◌, ◌++◌, count_by, flat_map, string_bytes}}
 use Rattle.office_reports.specs.Blocks.{is_in}
 use Rattle.office_pages.specs.Yard.{block_link}
 use Rattle.office_pages.proofs.yard.push_block_links.Given as goal

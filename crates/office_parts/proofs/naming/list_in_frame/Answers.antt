@@ -1,9 +1,7 @@
-use Rattle.std.proofs.Common.{ap, ◌∙◌}
-use Rattle.std.specs.Option.{option_map}
+use Rattle.std.{specs.Option.option_map, proofs.Common.{ap, ◌∙◌}}
 use Rattle.edi_messages.specs.Message.{reading}
 use Rattle.edi_syntax.specs.Frames.{message}
-use Rattle.office_parts.specs.Named.{named_list_content, names_if_any}
-use Rattle.office_parts.proofs.BringingLemmas.{rejected_names_none, if_both}
+use Rattle.office_parts.{specs.Named.{named_list_content, names_if_any}, proofs.BringingLemmas.{rejected_names_none, if_both}}
 use Rattle.office_parts.proofs.naming.list_in_frame.Goals as goal
 
 pub returns-in-Err : goal.returns-in-Err

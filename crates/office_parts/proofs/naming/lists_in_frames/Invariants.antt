@@ -1,8 +1,7 @@
 use Rattle.std.proofs.Common.{◌≡◌, ◌++◌, map}
 use Rattle.edi_syntax.specs.Frames.{messages_left}
 use Rattle.terminal_core.specs.Versions.{newest}
-use Rattle.office_parts.specs.Named.{named_list_content}
-use Rattle.office_parts.specs.Naming.{lists_in_messages}
+use Rattle.office_parts.specs.{Named.named_list_content, Naming.lists_in_messages}
 use Rattle.office_parts.proofs.naming.lists_in_frames.Given as goal
 
 abbrev pub invariant-loop-frame : goal.invariant-loop-frame

@@ -1,9 +1,7 @@
 use Rattle.std.proofs.Common.{sym, ap, ◌∙◌}
-use Rattle.edi_syntax.specs.Envelope.{header_of}
-use Rattle.edi_syntax.specs.Header.{preparation}
+use Rattle.edi_syntax.specs.{Envelope.header_of, Header.preparation}
 use Rattle.terminal_core.specs.Versions.{newest}
-use Rattle.office_parts.specs.Naming.{lists_in_messages}
-use Rattle.office_parts.proofs.BringingLemmas.{named_is, if_ok}
+use Rattle.office_parts.{specs.Naming.lists_in_messages, proofs.BringingLemmas.{named_is, if_ok}}
 use Rattle.office_parts.proofs.naming.lists_named.Goals as goal
 
 pub returns : goal.returns

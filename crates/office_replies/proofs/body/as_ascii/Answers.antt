@@ -1,5 +1,4 @@
-use Rattle.std.proofs.Common.{sym, ◌∙◌}
-use Rattle.std.proofs.lemmas.Str.{IsUtf8-from_ascii, encodes-IsAscii}
+use Rattle.std.proofs.{Common.{sym, ◌∙◌}, lemmas.Str.{IsUtf8-from_ascii, encodes-IsAscii}}
 use Rattle.office_replies.proofs.body.as_ascii.Goals as goal
 
 pub returns-in-Ok-clause-text : goal.returns-in-Ok-clause-text

@@ -1,6 +1,5 @@
 -- A text without a byte to be escaped, between quotes.
-use Rattle.std.proofs.Common.{◌≡◌, ◌++◌, ℕ, List, true, sym, ap, subst, ◌∙◌, append_assoc, codes, string_bytes}
-use Rattle.std.specs.List.{list_all}
+use Rattle.std.{specs.List.list_all, proofs.Common.{◌≡◌, ◌++◌, ℕ, List, true, sym, ap, subst, ◌∙◌, append_assoc, codes, string_bytes}}
 use Rattle.json.specs.Run.{is_plain}
 use Rattle.office_replies.proofs.Plain.{escape_plain}
 use Rattle.office_replies.proofs.body.push_quoted.Goals as goal

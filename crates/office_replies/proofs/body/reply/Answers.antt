@@ -1,7 +1,6 @@
 use Rattle.std.proofs.Common.{map, string_bytes}
 use Rattle.serde_json.proofs.FreeTexts.{text_of_value}
-use Rattle.office_replies.specs.Messages.{report_content, reply_data, reply_content_text}
-use Rattle.office_replies.proofs.Floats.{reply_has_no_float}
+use Rattle.office_replies.{specs.Messages.{report_content, reply_data, reply_content_text}, proofs.Floats.reply_has_no_float}
 use Rattle.office_replies.proofs.body.reply.Goals as goal
 
 pub returns-in-Ok : goal.returns-in-Ok

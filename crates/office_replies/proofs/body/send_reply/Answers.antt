@@ -1,5 +1,4 @@
-use Rattle.std.proofs.Common.{codes}
-use Rattle.std.proofs.lemmas.Result.{on_ok_weaker}
+use Rattle.std.proofs.{Common.codes, lemmas.Result.on_ok_weaker}
 use Rattle.serde_json.specs.Data.{member, no_members}
 use Rattle.office_replies.specs.Messages.{messages_data}
 use Rattle.office_replies.proofs.body.send_reply.Goals as goal

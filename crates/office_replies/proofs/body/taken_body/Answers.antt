@@ -1,8 +1,7 @@
 -- The text piece by piece: what stands with what follows is the whole.
 use Rattle.std.proofs.Common.{◌≡◌, ◌∙◌, ◌++◌, ℕ, List, ap, sym, codes, decimal, string_bytes, append_assoc}
 use Rattle.json.specs.Print.{quoted}
-use Rattle.office_replies.specs.Bodies.{answer_text, joined_head}
-use Rattle.office_replies.proofs.Floats.{answer_text-data}
+use Rattle.office_replies.{specs.Bodies.{answer_text, joined_head}, proofs.Floats.answer_text-data}
 use Rattle.office_replies.proofs.body.taken_body.Goals as goal
 
 -- a piece more stands

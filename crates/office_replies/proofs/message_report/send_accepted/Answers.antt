@@ -1,7 +1,5 @@
-use Rattle.std.proofs.Common.{ℕ, Option, OnOk, sym, subst}
-use Rattle.std.proofs.lemmas.Result.{on_ok_weaker}
-use Rattle.serde_json.specs.Data.{object}
-use Rattle.serde_json.specs.Events.{SendsValue}
+use Rattle.std.proofs.{Common.{ℕ, Option, OnOk, sym, subst}, lemmas.Result.on_ok_weaker}
+use Rattle.serde_json.specs.{Data.object, Events.SendsValue}
 use Rattle.office_replies.specs.Messages.{accepted_members, common_members}
 use Rattle.office_replies.proofs.message_report.send_accepted.Goals as goal
 

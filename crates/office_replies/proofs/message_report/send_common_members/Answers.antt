@@ -1,5 +1,4 @@
-use Rattle.std.proofs.Common.{codes}
-use Rattle.std.proofs.lemmas.Result.{on_ok_weaker}
+use Rattle.std.proofs.{Common.codes, lemmas.Result.on_ok_weaker}
 use Rattle.serde_json.specs.Data.{no_members}
 use Rattle.office_replies.specs.Members.{text_member}
 use Rattle.office_replies.proofs.message_report.send_common_members.Goals as goal

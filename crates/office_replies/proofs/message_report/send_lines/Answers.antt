@@ -1,11 +1,7 @@
-use Rattle.std.proofs.Common.{◌≡◌, [], drop, Some, sym, subst, arith}
-use Rattle.std.proofs.lemmas.List.{drop_all}
-use Rattle.std.proofs.lemmas.Result.{on_ok_weaker}
+use Rattle.std.proofs.{Common.{◌≡◌, [], drop, Some, sym, subst, arith}, lemmas.List.drop_all, lemmas.Result.on_ok_weaker}
 use Rattle.serde.specs.Event.{Logs, seq_begins}
-use Rattle.serde_json.specs.View.{items_of}
-use Rattle.serde_json.specs.Events.{SendsItems}
-use Rattle.office_replies.specs.Lines.{lines_from}
-use Rattle.office_replies.proofs.Floats.{lines_len}
+use Rattle.serde_json.specs.{View.items_of, Events.SendsItems}
+use Rattle.office_replies.{specs.Lines.lines_from, proofs.Floats.lines_len}
 use Rattle.office_replies.proofs.message_report.send_lines.Goals as goal
 
 pub returns : goal.returns

@@ -1,7 +1,6 @@
 use Rattle.std.proofs.Common.{◌≡◌, ◌+◌, drop}
 use Rattle.serde.specs.Event.{Log}
-use Rattle.serde_json.specs.Events.{SendsItems}
-use Rattle.serde_json.specs.View.{items_of}
+use Rattle.serde_json.specs.{Events.SendsItems, View.items_of}
 use Rattle.office_replies.specs.Lines.{lines_from}
 use Rattle.office_replies.proofs.message_report.send_lines.Given as goal
 

@@ -1,5 +1,4 @@
-use Rattle.std.proofs.Common.{Some, subst}
-use Rattle.std.proofs.lemmas.Result.{on_ok_weaker}
+use Rattle.std.proofs.{Common.{Some, subst}, lemmas.Result.on_ok_weaker}
 use Rattle.serde.specs.Event.{Logs, map_begins}
 use Rattle.serde_json.specs.Data.{no_members}
 use Rattle.office_replies.specs.Sent.{slot_members, reason_members, told_outcome_members, number_members, box_members}

@@ -1,11 +1,8 @@
+use Rattle.std.{specs.Io.KnownBytes.Appends, proofs.{KnownBytes.{Appends-trans, Appends-kept, Appends-nil}, lemmas.List.take_rest}}
 use Rattle.std.proofs.Common.{◌-◌, ◌++◌, ◌+◌, ◌∷◌, [], Ok, Err, ℕ, length, take, drop, sym, ap, subst, ◌∙◌, arith, refl, length-take, length-append}
+use Rattle.office_replies.proofs.{PartLemmas.{none_written, one_taken, one_interrupted}, port.write_whole.Goals.{in-Ok, in-Err}}
 use lib.Seq.{take-add, take-take}
-use Rattle.std.specs.Io.KnownBytes.{Appends}
-use Rattle.std.proofs.KnownBytes.{Appends-trans, Appends-kept, Appends-nil}
-use Rattle.std.proofs.lemmas.List.{take_rest}
-use Rattle.office_replies.proofs.PartLemmas.{none_written, one_taken, one_interrupted}
 use Rattle.office_replies.proofs.port.write_whole.Goals as goal
-use Rattle.office_replies.proofs.port.write_whole.Goals.{in-Ok, in-Err}
 
 pub writes-init : goal.writes-init
 writes-init g c = record {

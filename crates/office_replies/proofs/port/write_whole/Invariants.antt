@@ -1,6 +1,4 @@
-use Rattle.std.proofs.Common.{◌≡◌, ◌≤◌, ℕ, List, Result, length, take, drop}
-use Rattle.std.specs.Io.KnownBytes.{Appends}
-use Rattle.std.specs.declared.io.Error.{Error}
+use Rattle.std.{specs.{Io.KnownBytes.Appends, declared.io.Error.Error}, proofs.Common.{◌≡◌, ◌≤◌, ℕ, List, Result, length, take, drop}}
 use Rattle.office_replies.specs.Writes.{WritesOn}
 use Rattle.office_replies.proofs.port.write_whole.Given as goal
 

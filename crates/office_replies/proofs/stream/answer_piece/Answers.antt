@@ -1,9 +1,7 @@
-use Rattle.std.proofs.Common.{None, Some, length, refl, sym, subst, ◌∙◌}
-use Rattle.std.proofs.lemmas.List.{take_rest, take-append-drop}
+use Rattle.std.proofs.{Common.{None, Some, length, refl, sym, subst, ◌∙◌}, lemmas.List.{take_rest, take-append-drop}}
 use Rattle.edi_syntax.specs.Cuts.{Answers, pending_bytes}
 use Rattle.office_replies.proofs.PieceLemmas.{Used, nothing_done, piece_more, piece_cut_short, piece_ends, used_some, ends_used_up, ends_cut}
-use Rattle.office_replies.proofs.PlaceLemmas.{not_yet, followed_more, followed_whole, followed_cut}
-use Rattle.office_replies.proofs.PartLemmas.{on_err}
+use Rattle.office_replies.proofs.{PlaceLemmas.{not_yet, followed_more, followed_whole, followed_cut}, PartLemmas.on_err}
 use Rattle.office_replies.proofs.stream.answer_piece.Goals as goal
 
 pub pieces-init : goal.pieces-init

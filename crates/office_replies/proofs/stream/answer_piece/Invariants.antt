@@ -1,9 +1,6 @@
 use Rattle.std.proofs.Common.{◌≡◌, ◌++◌, ℕ, List, None, length, true}
 use Rattle.edi_syntax.specs.Cuts.{pending_bytes}
-use Rattle.office_replies.specs.Pieces.{PieceAnswered}
-use Rattle.office_replies.specs.Places.{Follows}
-use Rattle.office_replies.proofs.PieceLemmas.{IsLeft}
-use Rattle.office_replies.proofs.PlaceLemmas.{Followed}
+use Rattle.office_replies.{specs.{Pieces.PieceAnswered, Places.Follows}, proofs.{PieceLemmas.IsLeft, PlaceLemmas.Followed}}
 use Rattle.office_replies.proofs.stream.answer_piece.Given as goal
 
 abbrev pub invariant-pieces : goal.invariant-pieces

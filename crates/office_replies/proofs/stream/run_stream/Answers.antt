@@ -1,13 +1,10 @@
-use Rattle.std.proofs.Common.{◌≡◌, ◌≢◌, ◌⊎◌, ◌++◌, [], None, Some, inl, inr, refl, sym, ◌∙◌, arith, take}
-use Rattle.std.proofs.KnownBytes.{Consumes-trans}
-use Rattle.std.proofs.lemmas.Bool.{ne_eqb}
+use Rattle.std.proofs.{Common.{◌≡◌, ◌≢◌, ◌⊎◌, ◌++◌, [], None, Some, inl, inr, refl, sym, ◌∙◌, arith, take}, KnownBytes.Consumes-trans, lemmas.Bool.ne_eqb}
 use Rattle.edi_syntax.specs.Cuts.{pending_bytes}
-use Rattle.office_replies.specs.declared.stream.StreamEnd.TheVariants.{Whole, Open, Cut}
+use Rattle.office_replies.{specs.declared.stream.StreamEnd.TheVariants.{Whole, Open, Cut}, proofs.PartLemmas.on_ok}
 use Rattle.office_replies.proofs.PlaceLemmas.{read_nothing, read_more, stopped, cut_at_end, cut_at_fault}
-use Rattle.office_replies.proofs.PartLemmas.{on_ok}
 use Rattle.office_replies.proofs.StreamLemmas.{same_bytes, nothing_read, sofar_more, began, began_now, cut_short, piece_at, input_ends, stream_cut, finished, passed_on, nil_is, nil_is_not, err_weaker, is_err_and, starts_running, starts_empty, nothing_taken}
-use Rattle.office_replies.proofs.stream.run_stream.Goals as goal
 use Rattle.office_replies.proofs.stream.run_stream.Goals.{then-at_rest, else-at_rest}
+use Rattle.office_replies.proofs.stream.run_stream.Goals as goal
 
 pub reads-init : goal.reads-init
 reads-init g c = record {

@@ -1,7 +1,6 @@
 use Rattle.std.proofs.Common.{◌≡◌, ◌+◌, ◌-◌, ◌^◌, ◌≤◌, ◌<◌, min, None, false, true}
 use Rattle.edi_syntax.specs.Cuts.{pending_bytes}
-use Rattle.office_replies.proofs.PlaceLemmas.{ReadSofar}
-use Rattle.office_replies.proofs.StreamLemmas.{Sofar}
+use Rattle.office_replies.proofs.{PlaceLemmas.ReadSofar, StreamLemmas.Sofar}
 use Rattle.office_replies.proofs.stream.run_stream.Given as goal
 
 abbrev pub invariant-reads : goal.invariant-reads

@@ -1,9 +1,5 @@
-use Rattle.std.proofs.Common.{subst}
-use Rattle.std.proofs.KnownBytes.{Appends-kept}
-use Rattle.std.specs.Io.KnownBytes.{Appends}
-use Rattle.office_replies.specs.Fronts.{AppendsFront}
-use Rattle.office_replies.specs.StreamLines.{line}
-use Rattle.office_replies.proofs.PartLemmas.{front_kept, on_ok, on_err}
+use Rattle.std.{specs.Io.KnownBytes.Appends, proofs.{Common.subst, KnownBytes.Appends-kept}}
+use Rattle.office_replies.{specs.{Fronts.AppendsFront, StreamLines.line}, proofs.PartLemmas.{front_kept, on_ok, on_err}}
 use Rattle.office_replies.proofs.stream.send_account_answer.Goals as goal
 
 pub returns-in_err-write_line-clause-front : goal.returns-in_err-write_line-clause-front

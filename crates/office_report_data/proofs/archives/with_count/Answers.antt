@@ -1,6 +1,4 @@
-use Rattle.std.proofs.Common.{arith, string_bytes}
-use Rattle.std.proofs.lemmas.Result.{IfOk-weaker}
-use Rattle.std.proofs.lemmas.Str.Pattern.{strip_prefix_char}
+use Rattle.std.proofs.{Common.{arith, string_bytes}, lemmas.Result.IfOk-weaker, lemmas.Str.Pattern.strip_prefix_char}
 use Rattle.office_report_data.proofs.WholeLemmas.{archives_told}
 use Rattle.office_report_data.proofs.archives.with_count.Goals as goal
 

@@ -1,6 +1,5 @@
 use Rattle.std.proofs.Common.{◌≡◌, ◌++◌, drop, false, map, string_bytes}
-use Rattle.serde_json.specs.View.{items_of}
-use Rattle.serde_json.specs.Written.{items_text}
+use Rattle.serde_json.specs.{View.items_of, Written.items_text}
 use Rattle.office_report_data.specs.Blocks.{block_data}
 use Rattle.office_report_data.proofs.blocks.push_blocks.Given as goal
 

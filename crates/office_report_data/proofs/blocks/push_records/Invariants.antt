@@ -1,6 +1,5 @@
 use Rattle.std.proofs.Common.{◌≡◌, ◌++◌, drop, flat_map}
-use Rattle.office_report_data.specs.Tables.{IsBetweenRecords, record_text, written_rows}
-use Rattle.office_report_data.specs.Blocks.{block_fields}
+use Rattle.office_report_data.specs.{Tables.{IsBetweenRecords, record_text, written_rows}, Blocks.block_fields}
 use Rattle.office_report_data.proofs.blocks.push_records.Given as goal
 
 abbrev pub invariant-loop-row : goal.invariant-loop-row

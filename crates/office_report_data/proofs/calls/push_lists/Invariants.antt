@@ -1,6 +1,5 @@
 use Rattle.std.proofs.Common.{◌≡◌, ◌++◌, false, map, string_bytes}
-use Rattle.serde_json.specs.View.{items_of}
-use Rattle.serde_json.specs.Written.{items_text}
+use Rattle.serde_json.specs.{View.items_of, Written.items_text}
 use Rattle.office_reports.specs.Calls.{lists_content}
 use Rattle.office_report_data.specs.Calls.{call_data}
 use Rattle.office_report_data.proofs.calls.push_lists.Given as goal

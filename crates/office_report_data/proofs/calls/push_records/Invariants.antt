@@ -1,7 +1,6 @@
 use Rattle.std.proofs.Common.{◌≡◌, ◌++◌, flat_map}
-use Rattle.office_report_data.specs.Tables.{IsBetweenRecords, record_text, written_rows}
+use Rattle.office_report_data.specs.{Tables.{IsBetweenRecords, record_text, written_rows}, Calls.call_fields}
 use Rattle.office_reports.specs.Calls.{lists_content}
-use Rattle.office_report_data.specs.Calls.{call_fields}
 use Rattle.office_report_data.proofs.calls.push_records.Given as goal
 
 abbrev pub invariant-loop-vessel : goal.invariant-loop-vessel

@@ -1,5 +1,4 @@
-use Rattle.std.proofs.Common.{ap, ◌∙◌}
-use Rattle.std.proofs.lemmas.Result.{IfOk-weaker}
+use Rattle.std.proofs.{Common.{ap, ◌∙◌}, lemmas.Result.IfOk-weaker}
 use Rattle.serde_json.specs.Written.{compact_text, has_float}
 use Rattle.office_reports.specs.Containers.{container_content}
 use Rattle.office_report_data.proofs.FloatLemmas.{container_has_no_float}

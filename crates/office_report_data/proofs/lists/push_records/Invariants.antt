@@ -1,7 +1,6 @@
 use Rattle.std.proofs.Common.{◌≡◌, ◌++◌, flat_map}
-use Rattle.office_report_data.specs.Tables.{IsBetweenRecords, record_text, written_rows}
+use Rattle.office_report_data.specs.{Tables.{IsBetweenRecords, record_text, written_rows}, Lists.listed_fields}
 use Rattle.office_reports.specs.Lists.{list_contents}
-use Rattle.office_report_data.specs.Lists.{listed_fields}
 use Rattle.office_report_data.proofs.lists.push_records.Given as goal
 
 abbrev pub invariant-loop-container : goal.invariant-loop-container

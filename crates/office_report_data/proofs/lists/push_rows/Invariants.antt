@@ -1,6 +1,5 @@
 use Rattle.std.proofs.Common.{◌≡◌, ◌++◌, false, map, string_bytes}
-use Rattle.serde_json.specs.View.{items_of}
-use Rattle.serde_json.specs.Written.{items_text}
+use Rattle.serde_json.specs.{View.items_of, Written.items_text}
 use Rattle.office_reports.specs.Lists.{list_contents}
 use Rattle.office_report_data.specs.Lists.{listed_data}
 use Rattle.office_report_data.proofs.lists.push_rows.Given as goal

@@ -1,7 +1,6 @@
 use Rattle.std.proofs.Common.{◌≡◌, ◌++◌, drop, map, flat_map}
-use Rattle.office_report_data.specs.Tables.{IsBetweenRecords, record_text, written_rows}
+use Rattle.office_report_data.specs.{Tables.{IsBetweenRecords, record_text, written_rows}, Partners.partner_fields}
 use Rattle.office_reports.specs.Partners.{row_content}
-use Rattle.office_report_data.specs.Partners.{partner_fields}
 use Rattle.office_report_data.proofs.partners.push_records.Given as goal
 
 abbrev pub invariant-loop-row : goal.invariant-loop-row

@@ -1,6 +1,5 @@
 use Rattle.std.proofs.Common.{◌≡◌, ◌++◌, drop, false, map, string_bytes}
-use Rattle.serde_json.specs.View.{items_of}
-use Rattle.serde_json.specs.Written.{items_text}
+use Rattle.serde_json.specs.{View.items_of, Written.items_text}
 use Rattle.office_reports.specs.Partners.{row_content}
 use Rattle.office_report_data.specs.Partners.{partner_data}
 use Rattle.office_report_data.proofs.partners.push_rows.Given as goal

@@ -1,8 +1,7 @@
 use Rattle.std.proofs.Common.{◌≡◌, ◌++◌, drop, map, flat_map}
-use Rattle.office_report_data.specs.Tables.{IsBetweenRecords, record_text, written_rows}
+use Rattle.office_report_data.specs.{Tables.{IsBetweenRecords, record_text, written_rows}, Visits.visit_fields}
 use Rattle.office_admission.specs.Setups.{setup_content}
 use Rattle.terminal_core.specs.Rows.{visit_content}
-use Rattle.office_report_data.specs.Visits.{visit_fields}
 use Rattle.office_report_data.proofs.visits.push_records.Given as goal
 
 abbrev pub invariant-loop-visit : goal.invariant-loop-visit

@@ -1,7 +1,6 @@
 use Rattle.std.proofs.Common.{◌≡◌, ◌++◌, drop, map, flat_map}
-use Rattle.office_report_data.specs.Tables.{IsBetweenRecords, record_text, written_rows}
+use Rattle.office_report_data.specs.{Tables.{IsBetweenRecords, record_text, written_rows}, Work.job_fields}
 use Rattle.office_reports.specs.Work.{job_content}
-use Rattle.office_report_data.specs.Work.{job_fields}
 use Rattle.office_report_data.proofs.work.push_records.Given as goal
 
 abbrev pub invariant-loop-job : goal.invariant-loop-job

@@ -1,7 +1,5 @@
-use Rattle.std.proofs.Common.{◌≡◌, ◌++◌, flat_map}
-use Rattle.std.specs.Map.{values_of}
-use Rattle.office_report_data.specs.Tables.{IsBetweenRecords, written_rows}
-use Rattle.office_report_data.specs.Yard.{standing_record}
+use Rattle.std.{specs.Map.values_of, proofs.Common.{◌≡◌, ◌++◌, flat_map}}
+use Rattle.office_report_data.specs.{Tables.{IsBetweenRecords, written_rows}, Yard.standing_record}
 use Rattle.office_report_data.proofs.yard.push_records.Given as goal
 
 abbrev pub invariant-loop-standing : goal.invariant-loop-standing

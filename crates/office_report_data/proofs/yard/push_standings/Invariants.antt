@@ -1,7 +1,5 @@
-use Rattle.std.proofs.Common.{◌≡◌, ◌++◌, false, map, string_bytes}
-use Rattle.serde_json.specs.View.{items_of}
-use Rattle.serde_json.specs.Written.{items_text}
-use Rattle.std.specs.Map.{values_of}
+use Rattle.std.{specs.Map.values_of, proofs.Common.{◌≡◌, ◌++◌, false, map, string_bytes}}
+use Rattle.serde_json.specs.{View.items_of, Written.items_text}
 use Rattle.office_report_data.specs.Yard.{standing_data}
 use Rattle.office_report_data.proofs.yard.push_standings.Given as goal
 

@@ -1,6 +1,5 @@
 use Rattle.std.proofs.Common.{◌≡◌, [], ◌∷◌, IfOk, string_bytes, codes, encode_utf8_all, decimal, subst, ◌∙◌, rules}
-use Rattle.office_reports.specs.Names.{phrase}
-use Rattle.office_reports.specs.Blocks.{cell_count}
+use Rattle.office_reports.specs.{Names.phrase, Blocks.cell_count}
 use Rattle.office_reports.proofs.blocks.size_text.Goals as goal
 
 pub returns : goal.returns

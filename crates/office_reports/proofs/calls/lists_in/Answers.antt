@@ -1,7 +1,6 @@
 use Rattle.std.proofs.Common.{ap, ◌∙◌, arith}
 use Rattle.terminal_core.specs.Listings.{key_of}
-use Rattle.office_reports.specs.Calls.{list_of, lists_content}
-use Rattle.office_reports.proofs.CallLemmas.{all_listed, count_put, count_read, few_on, none_listed}
+use Rattle.office_reports.{specs.Calls.{list_of, lists_content}, proofs.CallLemmas.{all_listed, count_put, count_read, few_on, none_listed}}
 use Rattle.office_reports.proofs.calls.lists_in.Goals as goal
 
 pub loop-row-init : goal.loop-row-init

@@ -1,10 +1,8 @@
-use Rattle.std.proofs.Common.{map, refl, sym, ap, ◌∙◌}
-use Rattle.std.specs.List.{prefix_len}
+use Rattle.std.{specs.List.prefix_len, proofs.Common.{map, refl, sym, ap, ◌∙◌}}
 use Rattle.terminal_core.specs.Listings.{key_of, line_entry}
-use Rattle.office_reports.specs.OpenLines.{is_behind}
-use Rattle.office_reports.proofs.Waits.{none_open, row_other, row_put, all_open}
-use Rattle.office_reports.proofs.containers.open_lines.Goals as goal
+use Rattle.office_reports.{specs.OpenLines.is_behind, proofs.Waits.{none_open, row_other, row_put, all_open}}
 use Rattle.office_reports.proofs.containers.open_lines.Goals.{then-is_open_for+in_ok-insert, else-is_open_for}
+use Rattle.office_reports.proofs.containers.open_lines.Goals as goal
 
 pub loop-row-init : goal.loop-row-init
 loop-row-init c = ap (map (λ line. line_entry line.now)) c.new-lines.ensures.items ∙ none_open c.args.container

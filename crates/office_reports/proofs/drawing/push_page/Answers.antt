@@ -1,8 +1,5 @@
 use Rattle.std.proofs.Common.{◌++◌, ap, ◌∙◌, codes, flat_map, string_bytes}
-use Rattle.office_reports.specs.Fixed.{legend}
-use Rattle.office_reports.specs.Picture.{page_head}
-use Rattle.office_reports.specs.Views.{block_view, index}
-use Rattle.office_reports.proofs.Markup.{onto}
+use Rattle.office_reports.{specs.{Fixed.legend, Picture.page_head, Views.{block_view, index}}, proofs.Markup.onto}
 use Rattle.office_reports.proofs.drawing.push_page.Goals as goal
 
 pub returns : goal.returns

@@ -1,7 +1,5 @@
-use Rattle.std.proofs.Common.{◌++◌, ◌∷◌, [], ap, ◌∙◌, codes, decimal, string_bytes}
-use Rattle.std.proofs.lemmas.Result.{on_ok_weaker}
-use Rattle.office_reports.specs.Fields.{field_text, joined_pieces}
-use Rattle.office_reports.specs.Picture.{page_head}
+use Rattle.std.proofs.{Common.{◌++◌, ◌∷◌, [], ap, ◌∙◌, codes, decimal, string_bytes}, lemmas.Result.on_ok_weaker}
+use Rattle.office_reports.specs.{Fields.{field_text, joined_pieces}, Picture.page_head}
 use Rattle.office_reports.proofs.drawing.push_page_head.Goals as goal
 
 pub returns : goal.returns

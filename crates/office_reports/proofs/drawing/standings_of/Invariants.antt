@@ -1,5 +1,4 @@
-use Rattle.std.proofs.Common.{◌≡◌, ◌++◌}
-use Rattle.std.specs.Map.{values_of}
+use Rattle.std.{specs.Map.values_of, proofs.Common.{◌≡◌, ◌++◌}}
 use Rattle.office_reports.proofs.drawing.standings_of.Given as goal
 
 abbrev pub invariant-loop-standing : goal.invariant-loop-standing

@@ -1,7 +1,5 @@
-use Rattle.std.proofs.Common.{◌++◌, ◌∷◌, [], ap, ◌∙◌, codes, string_bytes, take, drop}
-use Rattle.std.proofs.lemmas.Result.{on_ok_weaker}
-use Rattle.office_reports.specs.Fields.{field_text, joined_pieces}
-use Rattle.office_reports.specs.Views.{lettering}
+use Rattle.std.proofs.{Common.{◌++◌, ◌∷◌, [], ap, ◌∙◌, codes, string_bytes, take, drop}, lemmas.Result.on_ok_weaker}
+use Rattle.office_reports.specs.{Fields.{field_text, joined_pieces}, Views.lettering}
 use Rattle.office_reports.proofs.drawn_containers.push_lettering.Goals as goal
 
 pub returns : goal.returns

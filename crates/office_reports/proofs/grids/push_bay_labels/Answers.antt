@@ -1,6 +1,5 @@
 use Rattle.std.proofs.Common.{◌+◌, ◌*◌, ◌++◌, ap, ◌∙◌, string_bytes}
-use Rattle.office_reports.specs.Views.{bay_label}
-use Rattle.office_reports.proofs.Markup.{next}
+use Rattle.office_reports.{specs.Views.bay_label, proofs.Markup.next}
 use Rattle.office_reports.proofs.grids.push_bay_labels.Goals as goal
 
 pub loop-n-preserved : goal.loop-n-preserved

@@ -1,7 +1,5 @@
-use Rattle.std.proofs.Common.{◌++◌, ◌∷◌, [], ◌∙◌, codes, string_bytes}
-use Rattle.std.proofs.lemmas.Result.{on_ok_weaker}
-use Rattle.office_reports.specs.Fields.{joined_pieces}
-use Rattle.office_reports.specs.Views.{block_link}
+use Rattle.std.proofs.{Common.{◌++◌, ◌∷◌, [], ◌∙◌, codes, string_bytes}, lemmas.Result.on_ok_weaker}
+use Rattle.office_reports.specs.{Fields.joined_pieces, Views.block_link}
 use Rattle.office_reports.proofs.grids.push_link.Goals as goal
 
 pub returns : goal.returns

@@ -1,7 +1,5 @@
-use Rattle.std.proofs.Common.{◌++◌, ◌∷◌, [], ap, ◌∙◌, codes, decimal, string_bytes}
-use Rattle.std.proofs.lemmas.Result.{on_ok_weaker}
-use Rattle.office_reports.specs.Fields.{joined_pieces}
-use Rattle.office_reports.specs.Views.{part_view}
+use Rattle.std.proofs.{Common.{◌++◌, ◌∷◌, [], ap, ◌∙◌, codes, decimal, string_bytes}, lemmas.Result.on_ok_weaker}
+use Rattle.office_reports.specs.{Fields.joined_pieces, Views.part_view}
 use Rattle.office_reports.proofs.grids.push_part.Goals as goal
 
 pub returns : goal.returns

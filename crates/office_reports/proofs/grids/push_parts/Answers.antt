@@ -1,6 +1,5 @@
 use Rattle.std.proofs.Common.{string_bytes}
-use Rattle.office_reports.specs.Views.{part_view}
-use Rattle.office_reports.proofs.Markup.{next}
+use Rattle.office_reports.{specs.Views.part_view, proofs.Markup.next}
 use Rattle.office_reports.proofs.grids.push_parts.Goals as goal
 
 pub loop-part-preserved : goal.loop-part-preserved

@@ -1,7 +1,5 @@
-use Rattle.std.proofs.Common.{◌++◌, codes, flat_map, string_bytes}
-use Rattle.std.specs.List.{range_with_len}
-use Rattle.office_reports.specs.Views.{part_count, part_view, row_head, view_in_row}
-use Rattle.office_reports.proofs.Markup.{onto}
+use Rattle.std.{specs.List.range_with_len, proofs.Common.{◌++◌, codes, flat_map, string_bytes}}
+use Rattle.office_reports.{specs.Views.{part_count, part_view, row_head, view_in_row}, proofs.Markup.onto}
 use Rattle.office_reports.proofs.grids.push_row.Goals as goal
 
 pub returns : goal.returns

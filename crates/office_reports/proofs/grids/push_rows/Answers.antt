@@ -1,6 +1,5 @@
 use Rattle.std.proofs.Common.{◌+◌, string_bytes}
-use Rattle.office_reports.specs.Views.{row_view}
-use Rattle.office_reports.proofs.Markup.{next}
+use Rattle.office_reports.{specs.Views.row_view, proofs.Markup.next}
 use Rattle.office_reports.proofs.grids.push_rows.Goals as goal
 
 pub loop-n-preserved : goal.loop-n-preserved

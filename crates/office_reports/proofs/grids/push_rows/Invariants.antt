@@ -1,5 +1,4 @@
-use Rattle.std.proofs.Common.{◌≡◌, ◌+◌, ◌++◌, flat_map, string_bytes}
-use Rattle.std.specs.List.{range_with_len}
+use Rattle.std.{specs.List.range_with_len, proofs.Common.{◌≡◌, ◌+◌, ◌++◌, flat_map, string_bytes}}
 use Rattle.office_reports.specs.Views.{row_view}
 use Rattle.office_reports.proofs.grids.push_rows.Given as goal
 

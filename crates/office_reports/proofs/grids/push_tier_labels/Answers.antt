@@ -1,6 +1,5 @@
 use Rattle.std.proofs.Common.{◌+◌, string_bytes}
-use Rattle.office_reports.specs.Views.{tier_label}
-use Rattle.office_reports.proofs.Markup.{next}
+use Rattle.office_reports.{specs.Views.tier_label, proofs.Markup.next}
 use Rattle.office_reports.proofs.grids.push_tier_labels.Goals as goal
 
 pub loop-n-preserved : goal.loop-n-preserved

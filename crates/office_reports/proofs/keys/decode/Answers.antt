@@ -1,6 +1,5 @@
 use Rattle.std.proofs.Common.{List, ℕ, ap, sym, ◌∙◌}
-use Rattle.office_reports.specs.Escapes.{decoded_part}
-use Rattle.office_reports.proofs.Parting.{behind, one_more}
+use Rattle.office_reports.{specs.Escapes.decoded_part, proofs.Parting.{behind, one_more}}
 use Rattle.office_reports.proofs.keys.decode.Goals as goal
 
 pub bytes-preserved : goal.bytes-preserved

@@ -1,6 +1,5 @@
 use Rattle.std.proofs.Common.{◌≡◌, length}
-use Rattle.office_reports.specs.Escapes.{decoded_part}
-use Rattle.office_reports.proofs.Parting.{behind}
+use Rattle.office_reports.{specs.Escapes.decoded_part, proofs.Parting.behind}
 use Rattle.office_reports.proofs.keys.decode.Given as goal
 
 abbrev pub invariant-bytes : goal.invariant-bytes

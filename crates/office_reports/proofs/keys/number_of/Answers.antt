@@ -1,5 +1,4 @@
-use Rattle.std.proofs.Common.{◌<◌, ◌≤◌, ◌+◌, ◌*◌, ◌-◌, ℕ, take, get_or, ap, ◌∙◌, arith}
-use Rattle.std.proofs.lemmas.List.{take_more}
+use Rattle.std.proofs.{Common.{◌<◌, ◌≤◌, ◌+◌, ◌*◌, ◌-◌, ℕ, take, get_or, ap, ◌∙◌, arith}, lemmas.List.take_more}
 use Rattle.edi_syntax.proofs.BlockLemmas.{digits_value_one, digits_one, small_one}
 use Rattle.office_reports.proofs.Parting.{has_room}
 use Rattle.office_reports.proofs.keys.number_of.Goals as goal

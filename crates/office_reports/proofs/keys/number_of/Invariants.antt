@@ -1,6 +1,4 @@
-use Rattle.std.proofs.Common.{◌≡◌, ◌^◌, ◌<◌, take, true}
-use Rattle.std.specs.List.{list_all}
-use Rattle.std.specs.Str.Parse.{digits_value}
+use Rattle.std.{specs.{List.list_all, Str.Parse.digits_value}, proofs.Common.{◌≡◌, ◌^◌, ◌<◌, take, true}}
 use Rattle.edi_syntax.specs.Characters.{is_digit}
 use Rattle.office_reports.proofs.keys.number_of.Given as goal
 

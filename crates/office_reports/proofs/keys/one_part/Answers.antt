@@ -1,7 +1,5 @@
-use Rattle.std.proofs.Common.{ap, sym, lit<}
-use Rattle.std.proofs.lemmas.Str.Pattern.{split_parts}
-use Rattle.office_reports.specs.Keys.{one_part}
-use Rattle.office_reports.proofs.Parting.{one_part_of, not_one}
+use Rattle.std.proofs.{Common.{ap, sym, lit<}, lemmas.Str.Pattern.split_parts}
+use Rattle.office_reports.{specs.Keys.one_part, proofs.Parting.{one_part_of, not_one}}
 use Rattle.office_reports.proofs.keys.one_part.Goals as goal
 
 pub returns-in-Some : goal.returns-in-Some

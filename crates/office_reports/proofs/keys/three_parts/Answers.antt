@@ -1,7 +1,5 @@
-use Rattle.std.proofs.Common.{ℕ, List, Option, option_map, Bor, ap, sym, lit<, ◌∙◌}
-use Rattle.std.proofs.lemmas.Str.Pattern.{split_parts}
-use Rattle.office_reports.specs.Keys.{three_parts}
-use Rattle.office_reports.proofs.Parting.{one_part_of, three_parts_of}
+use Rattle.std.proofs.{Common.{ℕ, List, Option, option_map, Bor, ap, sym, lit<, ◌∙◌}, lemmas.Str.Pattern.split_parts}
+use Rattle.office_reports.{specs.Keys.three_parts, proofs.Parting.{one_part_of, three_parts_of}}
 use Rattle.office_reports.proofs.keys.three_parts.Goals as goal
 
 pub returns-in-None : goal.returns-in-None

@@ -1,7 +1,5 @@
-use Rattle.std.proofs.Common.{ℕ, List, Option, option_map, Bor, ap, sym, lit<, ◌∙◌}
-use Rattle.std.proofs.lemmas.Str.Pattern.{split_parts}
-use Rattle.office_reports.specs.Keys.{two_parts}
-use Rattle.office_reports.proofs.Parting.{one_part_of, two_parts_of}
+use Rattle.std.proofs.{Common.{ℕ, List, Option, option_map, Bor, ap, sym, lit<, ◌∙◌}, lemmas.Str.Pattern.split_parts}
+use Rattle.office_reports.{specs.Keys.two_parts, proofs.Parting.{one_part_of, two_parts_of}}
 use Rattle.office_reports.proofs.keys.two_parts.Goals as goal
 
 pub returns-in-None : goal.returns-in-None

@@ -1,5 +1,4 @@
-use Rattle.office_reports.specs.Fields.{field_text}
-use Rattle.office_reports.proofs.Markup.{field_is_quiet, quiet_stays}
+use Rattle.office_reports.{specs.Fields.field_text, proofs.Markup.{field_is_quiet, quiet_stays}}
 use Rattle.office_reports.proofs.laws.fields_stay_in_place.Goals as goal
 
 pub returns : goal.returns

@@ -1,12 +1,6 @@
-use Rattle.std.proofs.Common.{ℕ, List, sym, ap, ◌∙◌}
-use Rattle.std.specs.Map.{values_of}
-use Rattle.office_reports.specs.declared.yard.Standing.{Standing}
-use Rattle.office_reports.specs.Lists.{HasLine}
-use Rattle.office_reports.specs.Yard.{StandsAt}
-use Rattle.office_reports.proofs.Standings.{one_list}
-use Rattle.office_reports.specs.Blocks.{blocks_of, blocks_text}
-use Rattle.office_reports.specs.Work.{work_found}
-use Rattle.office_reports.proofs.Waits.{texts_alike}
+use Rattle.std.{specs.Map.values_of, proofs.Common.{ℕ, List, sym, ap, ◌∙◌}}
+use Rattle.office_reports.specs.{declared.yard.Standing.Standing, Lists.HasLine, Yard.StandsAt, Blocks.{blocks_of, blocks_text}, Work.work_found}
+use Rattle.office_reports.proofs.{Standings.one_list, Waits.texts_alike}
 use Rattle.office_reports.proofs.laws.lookups_are_one.Goals as goal
 
 pub returns-clause-blocks : goal.returns-clause-blocks

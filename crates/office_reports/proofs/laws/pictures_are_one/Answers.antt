@@ -1,8 +1,5 @@
-use Rattle.std.proofs.Common.{sym, ap, ◌∙◌}
-use Rattle.std.specs.Map.{values_of}
-use Rattle.office_reports.specs.Yard.{StandsAt}
-use Rattle.office_reports.proofs.Standings.{one_list}
-use Rattle.office_reports.specs.Picture.{page_text}
+use Rattle.std.{specs.Map.values_of, proofs.Common.{sym, ap, ◌∙◌}}
+use Rattle.office_reports.{specs.{Yard.StandsAt, Picture.page_text}, proofs.Standings.one_list}
 use Rattle.office_reports.proofs.laws.pictures_are_one.Goals as goal
 
 pub returns : goal.returns

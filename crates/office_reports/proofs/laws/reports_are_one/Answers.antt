@@ -1,7 +1,5 @@
 use Rattle.std.proofs.Common.{sym, ap, ◌∙◌}
-use Rattle.office_reports.specs.Yard.{StandsAt, yard_text}
-use Rattle.office_reports.specs.Lists.{HasLine, list_found}
-use Rattle.office_reports.proofs.Standings.{one_list}
+use Rattle.office_reports.{specs.{Yard.{StandsAt, yard_text}, Lists.{HasLine, list_found}}, proofs.Standings.one_list}
 use Rattle.office_reports.proofs.laws.reports_are_one.Goals as goal
 
 pub returns-clause-yard : goal.returns-clause-yard

@@ -1,10 +1,8 @@
-use Rattle.std.proofs.Common.{ℕ, ◌+◌, List, take, sym, ◌∙◌, subst}
-use Rattle.std.specs.BTreeMap.{BTreeMap}
+use Rattle.std.{specs.BTreeMap.BTreeMap, proofs.Common.{ℕ, ◌+◌, List, take, sym, ◌∙◌, subst}}
 use Rattle.edi_messages.specs.Owned.{call_content}
-use Rattle.office_reports.specs.declared.lists.ListedLine.{ListedLine}
-use Rattle.office_reports.proofs.Listing.{Lists, lists_none, row_off, row_on, are_lines}
-use Rattle.office_reports.proofs.lists.lines_on.Goals as goal
+use Rattle.office_reports.{specs.declared.lists.ListedLine.ListedLine, proofs.Listing.{Lists, lists_none, row_off, row_on, are_lines}}
 use Rattle.office_reports.proofs.lists.lines_on.Goals.{then-is_on+in_ok-listed_line+in_ok-insert+in-Some-1, then-is_on+in_ok-listed_line+in_ok-insert+in-None-1, else-is_on}
+use Rattle.office_reports.proofs.lists.lines_on.Goals as goal
 
 pub loop-line-init : goal.loop-line-init
 loop-line-init c = lists_none (call_content c.args.call.now) c.args.side c.new-list.result.entries c.new-list.ensures.empty c.new-list.ensures.ordered

@@ -1,7 +1,5 @@
-use Rattle.std.proofs.Common.{◌++◌, ◌∷◌, [], ap, ◌∙◌, codes, decimal, string_bytes}
-use Rattle.std.proofs.lemmas.Result.{on_ok_weaker}
-use Rattle.office_reports.specs.Names.{line}
-use Rattle.office_reports.proofs.Listing.{other_count}
+use Rattle.std.proofs.{Common.{◌++◌, ◌∷◌, [], ap, ◌∙◌, codes, decimal, string_bytes}, lemmas.Result.on_ok_weaker}
+use Rattle.office_reports.{specs.Names.line, proofs.Listing.other_count}
 use Rattle.office_reports.proofs.lists.push_counts.Goals as goal
 
 pub returns : goal.returns

@@ -1,8 +1,6 @@
-use Rattle.std.proofs.Common.{◌≡◌, ℕ, List, [], ◌∷◌, ◌++◌, length, map, codes, count_by, flat_map, sym, ap, ◌∙◌}
-use Rattle.std.proofs.lemmas.List.{length-map}
+use Rattle.std.proofs.{Common.{◌≡◌, ℕ, List, [], ◌∷◌, ◌++◌, length, map, codes, count_by, flat_map, sym, ap, ◌∙◌}, lemmas.List.length-map}
 use Rattle.terminal_core.specs.Rows.{visit_content}
-use Rattle.office_reports.specs.Metrics.{GaugeContent, gauge, gauge_text, is_here, versions_text}
-use Rattle.office_reports.specs.Partners.{partner_content}
+use Rattle.office_reports.specs.{Metrics.{GaugeContent, gauge, gauge_text, is_here, versions_text}, Partners.partner_content}
 use Rattle.office_reports.proofs.metrics.metrics_report.Goals as goal
 
 abbrev counted : (accounts containers visits limit waiting partners : ℕ) → List GaugeContent

@@ -1,5 +1,4 @@
-use Rattle.std.proofs.Common.{◌≡◌, ℕ, List, ◌++◌, append_assoc, codes, string_bytes, ap, ◌∙◌}
-use Rattle.std.proofs.lemmas.Result.{on_ok_weaker}
+use Rattle.std.proofs.{Common.{◌≡◌, ℕ, List, ◌++◌, append_assoc, codes, string_bytes, ap, ◌∙◌}, lemmas.Result.on_ok_weaker}
 use Rattle.office_reports.specs.Metrics.{gauge_head}
 use Rattle.office_reports.proofs.metrics.push_versions.Goals as goal
 

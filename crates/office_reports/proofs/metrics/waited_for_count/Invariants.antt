@@ -1,6 +1,5 @@
 use Rattle.std.proofs.Common.{◌≡◌, ◌≤◌, count_by, map, take}
-use Rattle.office_reports.specs.Metrics.{is_waited_for}
-use Rattle.office_reports.specs.Partners.{partner_content}
+use Rattle.office_reports.specs.{Metrics.is_waited_for, Partners.partner_content}
 use Rattle.office_reports.proofs.metrics.waited_for_count.Given as goal
 
 abbrev pub invariant-loop-partner : goal.invariant-loop-partner

@@ -1,8 +1,5 @@
-use Rattle.std.proofs.Common.{◌++◌, ◌∷◌, [], sym, ap, ◌∙◌, codes, decimal, string_bytes}
-use Rattle.std.proofs.lemmas.List.{length-map}
-use Rattle.std.proofs.lemmas.Result.{on_ok_weaker}
-use Rattle.office_reports.specs.Names.{line}
-use Rattle.office_reports.specs.Partners.{row_content}
+use Rattle.std.proofs.{Common.{◌++◌, ◌∷◌, [], sym, ap, ◌∙◌, codes, decimal, string_bytes}, lemmas.List.length-map, lemmas.Result.on_ok_weaker}
+use Rattle.office_reports.specs.{Names.line, Partners.row_content}
 use Rattle.office_reports.proofs.partners.push_counts.Goals as goal
 
 pub returns : goal.returns

@@ -1,6 +1,4 @@
-use Rattle.std.proofs.Common.{◌≡◌, ◌-◌, length, List, ap, Some, slice_get, sym, ◌∙◌, arith}
-use Rattle.std.proofs.lemmas.Bool.{ltb-true}
-use Rattle.std.proofs.lemmas.Option.{slice_get-get_or}
+use Rattle.std.proofs.{Common.{◌≡◌, ◌-◌, length, List, ap, Some, slice_get, sym, ◌∙◌, arith}, lemmas.Bool.ltb-true, lemmas.Option.slice_get-get_or}
 use Rattle.office_admission.specs.declared.setup.Account.{Account}
 use Rattle.office_reports.proofs.Standings.{code_found}
 use Rattle.office_reports.proofs.passages.code_of.Goals as goal

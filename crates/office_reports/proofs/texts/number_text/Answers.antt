@@ -1,5 +1,4 @@
-use Rattle.std.proofs.Common.{◌∙◌}
-use Rattle.std.proofs.lemmas.Result.{IfOk-weaker}
+use Rattle.std.proofs.{Common.◌∙◌, lemmas.Result.IfOk-weaker}
 use Rattle.office_reports.proofs.Standings.{number_same}
 use Rattle.office_reports.proofs.texts.number_text.Goals as goal
 

@@ -1,7 +1,5 @@
-use Rattle.std.proofs.Common.{◌∙◌, List, ℕ, Bor, codes}
-use Rattle.std.proofs.lemmas.Result.{IfOk-weaker}
-use Rattle.office_reports.specs.Names.{phrase}
-use Rattle.office_reports.proofs.Standings.{joined}
+use Rattle.std.proofs.{Common.{◌∙◌, List, ℕ, Bor, codes}, lemmas.Result.IfOk-weaker}
+use Rattle.office_reports.{specs.Names.phrase, proofs.Standings.joined}
 use Rattle.office_reports.proofs.texts.phrase.Goals as goal
 
 pub returns : goal.returns

@@ -1,6 +1,5 @@
 use Rattle.std.proofs.Common.{string_bytes}
-use Rattle.office_reports.specs.Tickets.{entry_line}
-use Rattle.office_reports.proofs.Standings.{all_rows, next_row, none_yet, shown}
+use Rattle.office_reports.{specs.Tickets.entry_line, proofs.Standings.{all_rows, next_row, none_yet, shown}}
 use Rattle.office_reports.proofs.tickets.push_entries.Goals as goal
 
 pub loop-visit-init : goal.loop-visit-init

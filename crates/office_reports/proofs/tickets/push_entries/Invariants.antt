@@ -1,6 +1,5 @@
 use Rattle.std.proofs.Common.{string_bytes}
-use Rattle.office_reports.specs.Tickets.{entry_line}
-use Rattle.office_reports.proofs.Standings.{HasLines, shown}
+use Rattle.office_reports.{specs.Tickets.entry_line, proofs.Standings.{HasLines, shown}}
 use Rattle.office_reports.proofs.tickets.push_entries.Given as goal
 
 abbrev pub invariant-loop-visit : goal.invariant-loop-visit

@@ -1,9 +1,6 @@
-use Rattle.std.proofs.Common.{◌++◌, ◌∷◌, [], ap, sym, ◌∙◌, codes, string_bytes}
-use Rattle.std.proofs.lemmas.Result.{on_ok_weaker}
-use Rattle.std.specs.Option.{option_map}
+use Rattle.std.{specs.Option.option_map, proofs.{Common.{◌++◌, ◌∷◌, [], ap, sym, ◌∙◌, codes, string_bytes}, lemmas.Result.on_ok_weaker}}
 use Rattle.terminal_core.specs.Rows.{visit_content}
-use Rattle.office_reports.specs.Names.{line}
-use Rattle.office_reports.specs.Tickets.{exit_line}
+use Rattle.office_reports.specs.{Names.line, Tickets.exit_line}
 use Rattle.office_reports.proofs.tickets.push_exit.Goals as goal
 
 pub returns : goal.returns

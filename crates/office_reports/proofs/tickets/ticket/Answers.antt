@@ -1,7 +1,5 @@
-use Rattle.std.proofs.Common.{ap, ◌∙◌}
-use Rattle.std.proofs.lemmas.Result.{IfOk-weaker}
-use Rattle.office_reports.specs.Tickets.{told_text}
-use Rattle.office_reports.proofs.Standings.{ticket_stays}
+use Rattle.std.proofs.{Common.{ap, ◌∙◌}, lemmas.Result.IfOk-weaker}
+use Rattle.office_reports.{specs.Tickets.told_text, proofs.Standings.ticket_stays}
 use Rattle.office_reports.proofs.tickets.ticket.Goals as goal
 
 pub returns : goal.returns

@@ -1,7 +1,6 @@
 use Rattle.std.proofs.Common.{string_bytes}
 use Rattle.office_admission.specs.Setups.{setup_content}
-use Rattle.office_reports.specs.Visits.{visit_line}
-use Rattle.office_reports.proofs.Standings.{all_rows, next_row, none_yet, shown}
+use Rattle.office_reports.{specs.Visits.visit_line, proofs.Standings.{all_rows, next_row, none_yet, shown}}
 use Rattle.office_reports.proofs.visits.push_visits.Goals as goal
 
 pub loop-visit-init : goal.loop-visit-init

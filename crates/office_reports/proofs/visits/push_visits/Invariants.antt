@@ -1,7 +1,6 @@
 use Rattle.std.proofs.Common.{string_bytes}
 use Rattle.office_admission.specs.Setups.{setup_content}
-use Rattle.office_reports.specs.Visits.{visit_line}
-use Rattle.office_reports.proofs.Standings.{HasLines, shown}
+use Rattle.office_reports.{specs.Visits.visit_line, proofs.Standings.{HasLines, shown}}
 use Rattle.office_reports.proofs.visits.push_visits.Given as goal
 
 abbrev pub invariant-loop-visit : goal.invariant-loop-visit

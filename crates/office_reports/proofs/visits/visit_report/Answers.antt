@@ -1,8 +1,6 @@
-use Rattle.std.proofs.Common.{Some, sym, ap, ◌∙◌}
-use Rattle.std.specs.Option.{option_map}
+use Rattle.std.{specs.Option.option_map, proofs.Common.{Some, sym, ap, ◌∙◌}}
 use Rattle.office_admission.specs.Setups.{setup_content}
-use Rattle.office_reports.specs.Visits.{rows_text, visits_content}
-use Rattle.office_reports.proofs.Standings.{visits_stay}
+use Rattle.office_reports.{specs.Visits.{rows_text, visits_content}, proofs.Standings.visits_stay}
 use Rattle.office_reports.proofs.visits.visit_report.Goals as goal
 
 pub returns-in_ok-visits_text-in-Some : goal.returns-in_ok-visits_text-in-Some

@@ -1,6 +1,5 @@
 use Rattle.std.proofs.Common.{◌≡◌, ◌++◌, drop, filter, map}
-use Rattle.terminal_core.specs.Rows.{visit_content}
-use Rattle.terminal_core.specs.State.{is_visit_of}
+use Rattle.terminal_core.specs.{Rows.visit_content, State.is_visit_of}
 use Rattle.office_reports.proofs.visits.visits_in.Given as goal
 
 abbrev pub invariant-loop-visit : goal.invariant-loop-visit

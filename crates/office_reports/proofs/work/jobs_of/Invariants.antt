@@ -1,7 +1,5 @@
 use Rattle.std.proofs.Common.{◌≡◌, ◌++◌, map}
-use Rattle.office_reports.specs.Lists.{list_contents}
-use Rattle.office_reports.specs.Work.{jobs_of}
-use Rattle.office_reports.specs.Work.{job_content}
+use Rattle.office_reports.specs.{Lists.list_contents, Work.{jobs_of, job_content}}
 use Rattle.office_reports.proofs.work.jobs_of.Given as goal
 
 abbrev pub invariant-loop-container : goal.invariant-loop-container

@@ -1,6 +1,5 @@
 use Rattle.std.proofs.Common.{◌≡◌, ◌++◌, drop, filter, map}
-use Rattle.office_reports.specs.Work.{is_absent}
-use Rattle.office_reports.specs.Work.{job_content}
+use Rattle.office_reports.specs.Work.{is_absent, job_content}
 use Rattle.office_reports.proofs.work.push_others.Given as goal
 
 abbrev pub invariant-loop-job : goal.invariant-loop-job

@@ -1,5 +1,4 @@
-use Rattle.std.proofs.Common.{◌≡◌, ◌++◌, map}
-use Rattle.std.specs.Map.{values_of}
+use Rattle.std.{specs.Map.values_of, proofs.Common.{◌≡◌, ◌++◌, map}}
 use Rattle.office_reports.specs.Work.{job_content, placed_contents}
 use Rattle.office_reports.proofs.work.push_placed.Given as goal
 

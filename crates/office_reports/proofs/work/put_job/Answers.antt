@@ -1,9 +1,5 @@
-use Rattle.std.proofs.Common.{sym, ap, ◌∙◌}
-use Rattle.std.specs.BTreeMap.{insert_entry}
-use Rattle.std.specs.Ordering.{nat_cmp}
-use Rattle.std.specs.Cmp.Lexicographic.{slice_cmp}
-use Rattle.office_reports.specs.Work.{job_content, placed_contents, with_job}
-use Rattle.office_reports.proofs.CallLemmas.{contents_inserted}
+use Rattle.std.{specs.{BTreeMap.insert_entry, Ordering.nat_cmp, Cmp.Lexicographic.slice_cmp}, proofs.Common.{sym, ap, ◌∙◌}}
+use Rattle.office_reports.{specs.Work.{job_content, placed_contents, with_job}, proofs.CallLemmas.contents_inserted}
 use Rattle.office_reports.proofs.work.put_job.Goals as goal
 
 pub returns-in_ok-insert-in-Some : goal.returns-in_ok-insert-in-Some

@@ -1,5 +1,4 @@
-use Rattle.std.proofs.Common.{◌≡◌, ◌++◌, string_bytes, flat_map}
-use Rattle.std.specs.Map.{values_of}
+use Rattle.std.{specs.Map.values_of, proofs.Common.{◌≡◌, ◌++◌, string_bytes, flat_map}}
 use Rattle.office_reports.specs.Yard.{standing_line}
 use Rattle.office_reports.proofs.yard.push_standings.Given as goal
 

@@ -1,12 +1,9 @@
+use Rattle.std.specs.{BTreeMap.{BTreeMap, get, is_at}, Ordering.nat_cmp, Cmp.Lexicographic.slice_cmp}
 use Rattle.std.proofs.Common.{ℕ, ◌+◌, List, map, take, cond, Some, sym, ap, ◌∙◌, subst}
-use Rattle.std.specs.BTreeMap.{BTreeMap, get, is_at}
-use Rattle.std.specs.Ordering.{nat_cmp}
-use Rattle.std.specs.Cmp.Lexicographic.{slice_cmp}
 use Rattle.terminal_core.specs.State.{AreOpenOf}
-use Rattle.office_reports.specs.declared.yard.Standing.{Standing}
-use Rattle.office_reports.proofs.Standings.{Holds, shown, holds_none, row_left, row_stands, are_listed}
-use Rattle.office_reports.proofs.yard.standings.Goals as goal
+use Rattle.office_reports.{specs.declared.yard.Standing.Standing, proofs.Standings.{Holds, shown, holds_none, row_left, row_stands, are_listed}}
 use Rattle.office_reports.proofs.yard.standings.Goals.{in-Some+in_ok-insert, in_default}
+use Rattle.office_reports.proofs.yard.standings.Goals as goal
 
 pub loop-visit-init : goal.loop-visit-init
 loop-visit-init c = holds_none c.args.terminal.now c.in_ok-open.ensures.whole c.new-yard.result.entries c.new-yard.ensures.empty c.new-yard.ensures.ordered

@@ -1,16 +1,8 @@
 use Rattle.std.proofs.Common.{◌≡◌, IsTrue, true, not, refl, sym, ap, subst, ◌∙◌, take, arith, rules}
-use Rattle.sqlite.specs.State.{HasCleanDisk, Survives}
-use Rattle.sqlite.specs.Held.{state}
-use Rattle.sqlite.proofs.StateLemmas.{survives_then}
-use Rattle.sqlite.proofs.Callers.{survives_begin}
+use Rattle.sqlite.{specs.{State.{HasCleanDisk, Survives}, Held.state, Effect.Database}, proofs.{StateLemmas.survives_then, Callers.survives_begin}}
 use Rattle.office_admission.specs.Setups.{setup_content}
-use Rattle.office_rows.specs.Tables.{office_tables}
-use Rattle.office_rows.specs.Stored.{HasRows, HasEmpty}
-use Rattle.office_rows.specs.Steps.{Turns}
-use Rattle.office_rows.specs.Opening.{opening_rows}
-use Rattle.sqlite.specs.Effect.{Database}
-use Rattle.office_tables.specs.Opened.{IsOpening, AreMissing}
-use Rattle.office_tables.proofs.WritesLemmas.{opened, made_rows}
+use Rattle.office_rows.specs.{Tables.office_tables, Stored.{HasRows, HasEmpty}, Steps.Turns, Opening.opening_rows}
+use Rattle.office_tables.{specs.Opened.{IsOpening, AreMissing}, proofs.WritesLemmas.{opened, made_rows}}
 use Rattle.office_tables.proofs.creating.create.Goals as goal
 
 pub returns-in_err-commit-clause-crash : goal.returns-in_err-commit-clause-crash

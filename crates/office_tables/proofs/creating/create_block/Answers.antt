@@ -1,11 +1,8 @@
 use Rattle.std.proofs.Common.{[], ◌∷◌, take}
 use Rattle.sqlite.specs.Held.{state}
-use Rattle.office_rows.specs.Tables.{office_tables, block_table}
-use Rattle.office_rows.specs.Rows.{no_rows}
-use Rattle.office_rows.specs.Stored.{HasEmpty, HasRows}
-use Rattle.office_rows.proofs.Reading.{created_block}
-use Rattle.office_rows.proofs.Creating as texts
+use Rattle.office_rows.{specs.{Tables.{office_tables, block_table}, Rows.no_rows, Stored.{HasEmpty, HasRows}}, proofs.Reading.created_block}
 use Rattle.office_tables.proofs.MadeLemmas.{creates_of, makes_one, block_anew}
+use Rattle.office_rows.proofs.Creating as texts
 use Rattle.office_tables.proofs.creating.create_block.Goals as goal
 
 pub returns-clause-creates : goal.returns-clause-creates

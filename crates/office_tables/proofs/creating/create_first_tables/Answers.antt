@@ -1,7 +1,6 @@
 use Rattle.std.proofs.Common.{[], ◌∷◌, take}
 use Rattle.sqlite.specs.Held.{state}
-use Rattle.office_rows.specs.Tables.{office_tables, partner_table, interchange_table, visit_table, place_table}
-use Rattle.office_rows.specs.Stored.{HasEmpty}
+use Rattle.office_rows.specs.{Tables.{office_tables, partner_table, interchange_table, visit_table, place_table}, Stored.HasEmpty}
 use Rattle.office_tables.proofs.MadeLemmas.{creates_then}
 use Rattle.office_tables.proofs.creating.create_first_tables.Goals as goal
 

@@ -1,10 +1,8 @@
 use Rattle.std.proofs.Common.{[], ◌∷◌, take}
 use Rattle.sqlite.specs.Held.{state}
-use Rattle.office_rows.specs.Tables.{office_tables, interchange_table}
-use Rattle.office_rows.specs.Stored.{HasEmpty}
-use Rattle.office_rows.proofs.Reading.{created_interchange}
-use Rattle.office_rows.proofs.Creating as texts
+use Rattle.office_rows.{specs.{Tables.{office_tables, interchange_table}, Stored.HasEmpty}, proofs.Reading.created_interchange}
 use Rattle.office_tables.proofs.MadeLemmas.{creates_of, makes_one, interchange_anew}
+use Rattle.office_rows.proofs.Creating as texts
 use Rattle.office_tables.proofs.creating.create_interchange.Goals as goal
 
 pub returns-clause-creates : goal.returns-clause-creates

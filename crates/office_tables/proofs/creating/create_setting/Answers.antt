@@ -1,10 +1,8 @@
 use Rattle.std.proofs.Common.{[], ◌∷◌, take}
 use Rattle.sqlite.specs.Held.{state}
-use Rattle.office_rows.specs.Tables.{office_tables, setting_table}
-use Rattle.office_rows.specs.Stored.{HasEmpty}
-use Rattle.office_rows.proofs.Reading.{created_setting}
-use Rattle.office_rows.proofs.Creating as texts
+use Rattle.office_rows.{specs.{Tables.{office_tables, setting_table}, Stored.HasEmpty}, proofs.Reading.created_setting}
 use Rattle.office_tables.proofs.MadeLemmas.{creates_of, makes_one, setting_anew}
+use Rattle.office_rows.proofs.Creating as texts
 use Rattle.office_tables.proofs.creating.create_setting.Goals as goal
 
 pub returns-clause-creates : goal.returns-clause-creates

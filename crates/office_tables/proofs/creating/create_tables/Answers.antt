@@ -1,8 +1,6 @@
 use Rattle.std.proofs.Common.{[], ◌∷◌, take}
 use Rattle.sqlite.specs.Held.{state}
-use Rattle.office_rows.specs.Tables.{office_tables, listing_table, setting_table, block_table}
-use Rattle.office_rows.specs.Rows.{no_rows}
-use Rattle.office_rows.specs.Stored.{HasRows, HasEmpty}
+use Rattle.office_rows.specs.{Tables.{office_tables, listing_table, setting_table, block_table}, Rows.no_rows, Stored.{HasRows, HasEmpty}}
 use Rattle.office_tables.proofs.MadeLemmas.{creates_then}
 use Rattle.office_tables.proofs.creating.create_tables.Goals as goal
 

@@ -1,10 +1,7 @@
 use Rattle.sqlite.specs.Held.{state}
-use Rattle.office_rows.specs.Rows.{Rows, no_rows}
-use Rattle.office_rows.specs.Opening.{settings_of, partners_from, with_settings, with_partners, with_blocks}
+use Rattle.office_rows.specs.{Rows.{Rows, no_rows}, Opening.{settings_of, partners_from, with_settings, with_partners, with_blocks}}
 use Rattle.office_admission.specs.Setups.{setup_content}
-use Rattle.office_tables.specs.Writes.{WritesIfOpen}
-use Rattle.office_tables.proofs.MadeLemmas.{makes_empty, makes_with}
-use Rattle.office_tables.proofs.WritesLemmas.{writes_if_open}
+use Rattle.office_tables.{specs.Writes.WritesIfOpen, proofs.{MadeLemmas.{makes_empty, makes_with}, WritesLemmas.writes_if_open}}
 use Rattle.office_tables.proofs.creating.write_opening.Goals as goal
 
 pub returns-clause-makes : goal.returns-clause-makes

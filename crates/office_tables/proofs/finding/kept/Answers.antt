@@ -1,9 +1,6 @@
 use Rattle.std.proofs.Common.{◌≡◌, sym, subst}
-use Rattle.office_rows.specs.Values.{kept_values}
-use Rattle.office_rows.proofs.Creating.{none_first, some_first}
-use Rattle.office_rows.specs.Layouts.{weighed}
-use Rattle.office_tables.specs.Answers.{pair_of, RepliesAs}
-use Rattle.office_tables.proofs.WritesLemmas.{of_store_weaker}
+use Rattle.office_rows.{specs.{Values.kept_values, Layouts.weighed}, proofs.Creating.{none_first, some_first}}
+use Rattle.office_tables.{specs.Answers.{pair_of, RepliesAs}, proofs.WritesLemmas.of_store_weaker}
 use Rattle.office_tables.proofs.finding.kept.Goals as goal
 
 pub returns-in-None-clause-answer : goal.returns-in-None-clause-answer

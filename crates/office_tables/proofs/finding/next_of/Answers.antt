@@ -1,10 +1,6 @@
-use Rattle.std.proofs.Common.{◌≡◌, sym, inl, inr}
-use Rattle.office_rows.specs.Values.{next_values}
-use Rattle.office_rows.proofs.Creating.{none_first, some_first, if_ok}
-use Rattle.office_tables.proofs.WritesLemmas.{of_store_weaker}
-use Rattle.std.proofs.lemmas.Result.{IfErr-weaker}
-use Rattle.office_tables.specs.Answers.{has_id}
-use Rattle.std.proofs.Common.{filter}
+use Rattle.std.proofs.{Common.{◌≡◌, sym, inl, inr, filter}, lemmas.Result.IfErr-weaker}
+use Rattle.office_rows.{specs.Values.next_values, proofs.Creating.{none_first, some_first, if_ok}}
+use Rattle.office_tables.{specs.Answers.has_id, proofs.WritesLemmas.of_store_weaker}
 use Rattle.office_tables.proofs.finding.next_of.Goals as goal
 
 pub returns-clause-answer : goal.returns-clause-answer

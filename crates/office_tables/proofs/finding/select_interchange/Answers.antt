@@ -1,11 +1,8 @@
 use Rattle.std.proofs.Common.{[], ◌∷◌}
-use Rattle.sqlite.specs.Held.{state}
-use Rattle.sqlite.specs.State.{Shown}
-use Rattle.office_rows.specs.Values.{number_value}
+use Rattle.sqlite.specs.{Held.state, State.Shown}
+use Rattle.office_rows.{specs.Values.number_value, proofs.Listed.finds_pair}
+use Rattle.office_tables.proofs.{WritesLemmas.kept_shows, MadeLemmas.{reads_shown, reads_failed}}
 use Rattle.office_rows.proofs.Reading as texts
-use Rattle.office_rows.proofs.Listed.{finds_pair}
-use Rattle.office_tables.proofs.WritesLemmas.{kept_shows}
-use Rattle.office_tables.proofs.MadeLemmas.{reads_shown, reads_failed}
 use Rattle.office_tables.proofs.finding.select_interchange.Goals as goal
 
 pub returns-clause-shown : goal.returns-clause-shown

@@ -1,13 +1,9 @@
 use Rattle.std.proofs.Common.{[], ◌∷◌, Ok}
-use Rattle.sqlite.specs.Held.{state}
-use Rattle.sqlite.specs.State.{Executes}
-use Rattle.office_rows.specs.Values.{interchange_values}
-use Rattle.office_rows.specs.Opening.{interchange_row, with_interchanges}
-use Rattle.office_rows.proofs.Writing as texts
-use Rattle.office_rows.proofs.Written.{inserted_whole}
-use Rattle.office_tables.proofs.PairLemmas.{new_pair}
+use Rattle.sqlite.specs.{Held.state, State.Executes}
+use Rattle.office_rows.{specs.{Values.interchange_values, Opening.{interchange_row, with_interchanges}}, proofs.Written.inserted_whole}
 use Rattle.office_rows.proofs.InPlace.{copies_in_place}
-use Rattle.office_tables.proofs.WritesLemmas.{writes_of}
+use Rattle.office_tables.proofs.{PairLemmas.new_pair, WritesLemmas.writes_of}
+use Rattle.office_rows.proofs.Writing as texts
 use Rattle.office_tables.proofs.interchanges.insert_interchange.Goals as goal
 
 pub returns-clause-writes : goal.returns-clause-writes

@@ -1,13 +1,8 @@
 use Rattle.std.proofs.Common.{[], ◌∷◌, Ok}
-use Rattle.sqlite.specs.declared.types.Value.TheVariants.{Blob}
-use Rattle.sqlite.specs.Held.{state}
-use Rattle.sqlite.specs.State.{Executes}
-use Rattle.office_rows.specs.Values.{number_value}
-use Rattle.office_rows.specs.Effects.{with_waiting}
-use Rattle.office_rows.proofs.Writing as texts
-use Rattle.office_rows.proofs.Written.{inserted_interchange}
-use Rattle.office_rows.proofs.InPlace.{keeps_in_place}
+use Rattle.sqlite.specs.{declared.types.Value.TheVariants.Blob, Held.state, State.Executes}
+use Rattle.office_rows.{specs.{Values.number_value, Effects.with_waiting}, proofs.{Written.inserted_interchange, InPlace.keeps_in_place}}
 use Rattle.office_tables.proofs.WritesLemmas.{writes_of}
+use Rattle.office_rows.proofs.Writing as texts
 use Rattle.office_tables.proofs.interchanges.keep.Goals as goal
 
 pub returns-clause-writes : goal.returns-clause-writes

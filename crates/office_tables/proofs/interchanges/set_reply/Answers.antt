@@ -1,13 +1,8 @@
 use Rattle.std.proofs.Common.{[], ◌∷◌, Ok}
-use Rattle.sqlite.specs.declared.types.Value.TheVariants.{Text}
-use Rattle.sqlite.specs.Held.{state}
-use Rattle.sqlite.specs.State.{Executes}
-use Rattle.office_rows.specs.Values.{number_value}
-use Rattle.office_rows.specs.Effects.{with_reply}
-use Rattle.office_rows.proofs.Writing as texts
-use Rattle.office_rows.proofs.Written.{update_replyd}
-use Rattle.office_rows.proofs.InPlace.{update_replies_in_place}
+use Rattle.sqlite.specs.{declared.types.Value.TheVariants.Text, Held.state, State.Executes}
+use Rattle.office_rows.{specs.{Values.number_value, Effects.with_reply}, proofs.{Written.update_replyd, InPlace.update_replies_in_place}}
 use Rattle.office_tables.proofs.WritesLemmas.{writes_of}
+use Rattle.office_rows.proofs.Writing as texts
 use Rattle.office_tables.proofs.interchanges.set_reply.Goals as goal
 
 pub returns-clause-writes : goal.returns-clause-writes

@@ -1,8 +1,6 @@
-use Rattle.std.proofs.Common.{[], append_assoc, refl, ap, rules}
-use Rattle.std.proofs.lemmas.List.{append-nil}
+use Rattle.std.proofs.{Common.{[], append_assoc, refl, ap, rules}, lemmas.List.append-nil}
 use Rattle.sqlite.specs.Held.{state}
-use Rattle.office_rows.specs.Rows.{listing_content}
-use Rattle.office_rows.specs.Opening.{with_lines}
+use Rattle.office_rows.specs.{Rows.listing_content, Opening.with_lines}
 use Rattle.office_tables.proofs.WritesLemmas.{none_written, one_more_written, taken_more}
 use Rattle.office_tables.proofs.returning.insert_lines.Goals as goal
 

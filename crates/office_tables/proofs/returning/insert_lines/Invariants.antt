@@ -1,7 +1,6 @@
 use Rattle.std.proofs.Common.{◌≡◌, Ok, take, map}
 use Rattle.sqlite.specs.Held.{state}
-use Rattle.office_rows.specs.Rows.{listing_content}
-use Rattle.office_rows.specs.Opening.{with_lines}
+use Rattle.office_rows.specs.{Rows.listing_content, Opening.with_lines}
 use Rattle.office_tables.specs.Writes.{WritesIfOpen}
 use Rattle.office_tables.proofs.returning.insert_lines.Given as goal
 

@@ -1,8 +1,6 @@
-use Rattle.std.proofs.Common.{◌≡◌, ◌-◌, [], ◌∷◌, length, map, take, drop, append_assoc, sym, ap, ◌∙◌, arith}
-use Rattle.std.proofs.lemmas.List.{drop_more, take_rest}
+use Rattle.std.proofs.{Common.{◌≡◌, ◌-◌, [], ◌∷◌, length, map, take, drop, append_assoc, sym, ap, ◌∙◌, arith}, lemmas.List.{drop_more, take_rest}}
 use Rattle.sqlite.specs.Held.{state}
-use Rattle.office_rows.specs.Rows.{listing_content}
-use Rattle.office_rows.specs.Opening.{with_lines}
+use Rattle.office_rows.specs.{Rows.listing_content, Opening.with_lines}
 use Rattle.office_tables.proofs.WritesLemmas.{writes_then_if_open, writes_same}
 use Rattle.office_tables.proofs.returning.insert_some.Goals as goal
 

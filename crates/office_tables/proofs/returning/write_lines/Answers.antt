@@ -1,10 +1,7 @@
 use Rattle.std.proofs.Common.{◌≡◌, IsTrue, OnErr, true, not, map, ap, subst, ◌∙◌, rules}
-use Rattle.sqlite.specs.Held.{state}
-use Rattle.sqlite.specs.State.{HasCleanDisk, Survives}
-use Rattle.office_rows.specs.Opening.{with_lines}
-use Rattle.office_rows.specs.Rows.{listing_content}
-use Rattle.office_tables.specs.Writing.{IsWholeInOrder, WritesWhole}
-use Rattle.office_tables.proofs.WriteLemmas.{none_left, crash_in_order, written_whole}
+use Rattle.sqlite.specs.{Held.state, State.{HasCleanDisk, Survives}}
+use Rattle.office_rows.specs.{Opening.with_lines, Rows.listing_content}
+use Rattle.office_tables.{specs.Writing.{IsWholeInOrder, WritesWhole}, proofs.WriteLemmas.{none_left, crash_in_order, written_whole}}
 use Rattle.office_tables.proofs.returning.write_lines.Goals as goal
 
 pub returns-clause-writes : goal.returns-clause-writes

@@ -1,13 +1,9 @@
-use Rattle.std.proofs.Common.{◌≡◌, ◌+◌, ◌++◌, [], ◌∷◌, ◌<◌, All, length, None, Ok, Some, ap, subst, sym, ◌∙◌, arith}
-use Rattle.std.proofs.lemmas.List.{length-append}
+use Rattle.std.proofs.{Common.{◌≡◌, ◌+◌, ◌++◌, [], ◌∷◌, ◌<◌, All, length, None, Ok, Some, ap, subst, sym, ◌∙◌, arith}, lemmas.List.length-append}
 use Rattle.std.proofs.lemmas.List.Elements.{All-push}
-use Rattle.sqlite.specs.Held.{state}
-use Rattle.sqlite.specs.State.{HasCleanDisk}
+use Rattle.sqlite.specs.{Held.state, State.HasCleanDisk}
 use Rattle.office_rows.specs.Stored.{HasRows}
 use Rattle.office_history.specs.Cascade.{text_in, texts_with}
-use Rattle.office_tables.specs.DeliveryReading.{IsSame}
-use Rattle.office_tables.specs.Taken.{taken_contents}
-use Rattle.office_tables.specs.declared.running.Taken.{Taken}
+use Rattle.office_tables.specs.{DeliveryReading.IsSame, Taken.taken_contents, declared.running.Taken.Taken}
 use Rattle.office_tables.proofs.WriteLemmas.{nothing_read, only_on, only_stopped, only_then, was_clean, first_pushed, more_pushed, all_taken, texts_behind, below_last}
 use Rattle.office_tables.proofs.running.take_run.Goals as goal
 

@@ -1,15 +1,9 @@
 use Rattle.std.proofs.Common.{ℕ, List, ◌+◌, ◌<◌, ◌≤◌, ◌-◌, All, Ok, length}
-use Rattle.sqlite.specs.Held.{state}
-use Rattle.sqlite.specs.State.{HasCleanDisk}
-use Rattle.office_rows.specs.Rows.{Rows}
-use Rattle.office_rows.specs.Stored.{HasRows}
-use Rattle.office_admission.specs.Outcomes.{IsAdmitted}
-use Rattle.office_admission.specs.Taking.{machine_of}
+use Rattle.sqlite.specs.{Held.state, State.HasCleanDisk}
+use Rattle.office_rows.specs.{Rows.Rows, Stored.HasRows}
+use Rattle.office_admission.specs.{Outcomes.IsAdmitted, Taking.machine_of}
 use Rattle.office_history.specs.Cascade.{texts_with}
-use Rattle.office_tables.specs.DeliveryReading.{OnlyReads}
-use Rattle.office_tables.specs.Taken.{taken_contents}
-use Rattle.office_tables.specs.Taking.{IsNumbered}
-use Rattle.office_tables.specs.declared.running.Taken.{Taken}
+use Rattle.office_tables.specs.{DeliveryReading.OnlyReads, Taken.taken_contents, Taking.IsNumbered, declared.running.Taken.Taken}
 use Rattle.office_tables.proofs.WriteLemmas.{AreTakenTo}
 use Rattle.office_tables.proofs.running.take_run.Given as goal
 

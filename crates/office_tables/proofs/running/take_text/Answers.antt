@@ -1,8 +1,6 @@
-use Rattle.std.proofs.Common.{subst}
-use Rattle.std.proofs.lemmas.Result.{IfOk-weaker}
+use Rattle.std.proofs.{Common.subst, lemmas.Result.IfOk-weaker}
 use Rattle.office_admission.specs.Taking.{machine_of}
-use Rattle.office_tables.specs.Taken.{taken_content}
-use Rattle.office_tables.specs.Taking.{IsTaken}
+use Rattle.office_tables.specs.{Taken.taken_content, Taking.IsTaken}
 use Rattle.office_tables.proofs.running.take_text.Goals as goal
 
 pub returns-in-Some : goal.returns-in-Some

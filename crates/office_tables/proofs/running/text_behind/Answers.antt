@@ -1,7 +1,6 @@
 use Rattle.std.proofs.Common.{◌+◌}
 use Rattle.sqlite.specs.Held.{state}
-use Rattle.office_tables.proofs.MadeLemmas.{reads_on, reads_stopped}
-use Rattle.office_tables.proofs.WriteLemmas.{no_text, nothing_read, one_read, text_kept}
+use Rattle.office_tables.proofs.{MadeLemmas.{reads_on, reads_stopped}, WriteLemmas.{no_text, nothing_read, one_read, text_kept}}
 use Rattle.office_tables.proofs.running.text_behind.Goals as goal
 
 pub returns-in-Some-clause-text : goal.returns-in-Some-clause-text

@@ -1,12 +1,8 @@
 use Rattle.std.proofs.Common.{[], ◌∷◌, Ok}
-use Rattle.sqlite.specs.Held.{state}
-use Rattle.sqlite.specs.State.{Executes}
-use Rattle.office_rows.specs.Values.{partner_values}
-use Rattle.office_rows.specs.Opening.{with_partners}
+use Rattle.sqlite.specs.{Held.state, State.Executes}
+use Rattle.office_rows.{specs.{Values.partner_values, Opening.with_partners}, proofs.Written.inserted_partner}
+use Rattle.office_tables.proofs.{PairLemmas.insert_partner_stays, WritesLemmas.writes_of}
 use Rattle.office_rows.proofs.Writing as texts
-use Rattle.office_rows.proofs.Written.{inserted_partner}
-use Rattle.office_tables.proofs.PairLemmas.{insert_partner_stays}
-use Rattle.office_tables.proofs.WritesLemmas.{writes_of}
 use Rattle.office_tables.proofs.settings.insert_account.Goals as goal
 
 pub returns-clause-writes : goal.returns-clause-writes

@@ -1,12 +1,8 @@
 use Rattle.std.proofs.Common.{[], ◌∷◌, Ok}
-use Rattle.sqlite.specs.Held.{state}
-use Rattle.sqlite.specs.State.{Executes}
-use Rattle.office_rows.specs.Values.{block_values}
-use Rattle.office_rows.specs.Opening.{with_blocks}
+use Rattle.sqlite.specs.{Held.state, State.Executes}
+use Rattle.office_rows.{specs.{Values.block_values, Opening.with_blocks}, proofs.Written.inserted_block}
+use Rattle.office_tables.proofs.{PairLemmas.insert_block_stays, WritesLemmas.writes_of}
 use Rattle.office_rows.proofs.Writing as texts
-use Rattle.office_rows.proofs.Written.{inserted_block}
-use Rattle.office_tables.proofs.PairLemmas.{insert_block_stays}
-use Rattle.office_tables.proofs.WritesLemmas.{writes_of}
 use Rattle.office_tables.proofs.settings.insert_block.Goals as goal
 
 pub returns-clause-writes : goal.returns-clause-writes

@@ -1,5 +1,4 @@
-use Rattle.std.proofs.Common.{[], append_assoc, refl, ap, rules}
-use Rattle.std.proofs.lemmas.List.{append-nil, take_more}
+use Rattle.std.proofs.{Common.{[], append_assoc, refl, ap, rules}, lemmas.List.{append-nil, take_more}}
 use Rattle.sqlite.specs.Held.{state}
 use Rattle.office_rows.specs.Opening.{with_blocks}
 use Rattle.office_tables.proofs.WritesLemmas.{none_written, one_more_written}

@@ -1,9 +1,7 @@
-use Rattle.std.proofs.Common.{◌≡◌, ◌+◌, ap, refl, append_assoc, rules, take, [], ◌∷◌, ◌++◌}
-use Rattle.std.proofs.lemmas.List.{append-nil}
+use Rattle.std.proofs.{Common.{◌≡◌, ◌+◌, ap, refl, append_assoc, rules, take, [], ◌∷◌, ◌++◌}, lemmas.List.append-nil}
 use Rattle.sqlite.specs.Held.{state}
 use Rattle.edi_messages.specs.Codes.{table_texts}
-use Rattle.office_rows.specs.Opening.{code_names, code_settings, setting_row, with_settings}
-use Rattle.office_rows.proofs.Creating.{take_at, setting_at}
+use Rattle.office_rows.{specs.Opening.{code_names, code_settings, setting_row, with_settings}, proofs.Creating.{take_at, setting_at}}
 use Rattle.office_tables.proofs.WritesLemmas.{none_written, one_more_written}
 use Rattle.office_tables.proofs.settings.insert_codes.Goals as goal
 

@@ -2,11 +2,8 @@ use Rattle.std.proofs.Common.{◌≡◌, sym, ap, ◌∙◌, ◌+◌, Ok, refl, 
 use Rattle.std.proofs.lemmas.List.{append-nil, length-map, map-append, take_more}
 use Rattle.sqlite.specs.Held.{state}
 use Rattle.office_admission.specs.Setups.{account_contents}
-use Rattle.office_rows.specs.Rows.{Partner}
-use Rattle.office_rows.specs.Opening.{partners_from, with_partners}
-use Rattle.office_rows.proofs.Creating.{partners_then}
-use Rattle.office_tables.specs.Writes.{Writes}
-use Rattle.office_tables.proofs.WritesLemmas.{none_written, one_more_written}
+use Rattle.office_rows.{specs.{Rows.Partner, Opening.{partners_from, with_partners}}, proofs.Creating.partners_then}
+use Rattle.office_tables.{specs.Writes.Writes, proofs.WritesLemmas.{none_written, one_more_written}}
 use Rattle.office_tables.proofs.settings.insert_partners.Goals as goal
 
 pub loop-account-init : goal.loop-account-init

@@ -1,12 +1,8 @@
 use Rattle.std.proofs.Common.{[], ◌∷◌, Ok}
-use Rattle.sqlite.specs.Held.{state}
-use Rattle.sqlite.specs.State.{Executes}
-use Rattle.office_rows.specs.Values.{setting_values}
-use Rattle.office_rows.specs.Opening.{setting_row, with_settings}
+use Rattle.sqlite.specs.{Held.state, State.Executes}
+use Rattle.office_rows.{specs.{Values.setting_values, Opening.{setting_row, with_settings}}, proofs.Written.inserted_setting}
+use Rattle.office_tables.proofs.{PairLemmas.insert_setting_stays, WritesLemmas.writes_of}
 use Rattle.office_rows.proofs.Writing as texts
-use Rattle.office_rows.proofs.Written.{inserted_setting}
-use Rattle.office_tables.proofs.PairLemmas.{insert_setting_stays}
-use Rattle.office_tables.proofs.WritesLemmas.{writes_of}
 use Rattle.office_tables.proofs.settings.insert_setting.Goals as goal
 
 pub returns-clause-writes : goal.returns-clause-writes

@@ -1,10 +1,8 @@
 use Rattle.std.proofs.Common.{◌≡◌, [], ◌∷◌, ◌++◌, Ok, codes, decimal, ap, ◌∙◌, append_assoc, string_bytes}
 use Rattle.sqlite.specs.Held.{state}
-use Rattle.office_rows.specs.Rows.{Rows}
-use Rattle.office_rows.specs.Opening.{code_settings, setting_row, settings_of, tables_version, with_settings}
+use Rattle.office_rows.specs.{Rows.Rows, Opening.{code_settings, setting_row, settings_of, tables_version, with_settings}}
 use Rattle.office_admission.specs.Setups.{setup_content}
-use Rattle.office_tables.specs.Writes.{Writes}
-use Rattle.office_tables.proofs.WritesLemmas.{writes_then, writes_then_if_open, writes_same}
+use Rattle.office_tables.{specs.Writes.Writes, proofs.WritesLemmas.{writes_then, writes_then_if_open, writes_same}}
 use Rattle.office_tables.proofs.settings.insert_settings.Goals as goal
 
 pub returns-clause-writes : goal.returns-clause-writes

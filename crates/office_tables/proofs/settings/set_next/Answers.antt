@@ -1,12 +1,8 @@
 use Rattle.std.proofs.Common.{[], ◌∷◌, Ok}
-use Rattle.sqlite.specs.Held.{state}
-use Rattle.sqlite.specs.State.{Executes}
-use Rattle.office_rows.specs.Values.{number_value}
-use Rattle.office_rows.specs.Effects.{with_next}
+use Rattle.sqlite.specs.{Held.state, State.Executes}
+use Rattle.office_rows.{specs.{Values.number_value, Effects.with_next}, proofs.Written.update_nextd}
+use Rattle.office_tables.proofs.{PairLemmas.update_next_stays, WritesLemmas.writes_of}
 use Rattle.office_rows.proofs.Writing as texts
-use Rattle.office_rows.proofs.Written.{update_nextd}
-use Rattle.office_tables.proofs.PairLemmas.{update_next_stays}
-use Rattle.office_tables.proofs.WritesLemmas.{writes_of}
 use Rattle.office_tables.proofs.settings.set_next.Goals as goal
 
 pub returns-clause-writes : goal.returns-clause-writes

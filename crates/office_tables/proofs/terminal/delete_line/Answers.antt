@@ -1,16 +1,10 @@
 use Rattle.std.proofs.Common.{[], ◌∷◌, Ok}
-use Rattle.sqlite.specs.declared.types.Value.TheVariants.{Text}
-use Rattle.sqlite.specs.Held.{state}
-use Rattle.sqlite.specs.State.{Executes}
+use Rattle.sqlite.specs.{declared.types.Value.TheVariants.Text, Held.state, State.Executes}
 use Rattle.edi_messages.specs.Owned.{call_content}
-use Rattle.terminal_core.specs.State.{side_code}
-use Rattle.terminal_core.specs.Rows.{unlisted}
-use Rattle.office_rows.specs.Values.{number_value}
-use Rattle.office_rows.specs.Effects.{with_change}
+use Rattle.terminal_core.specs.{State.side_code, Rows.unlisted}
+use Rattle.office_rows.{specs.{Values.number_value, Effects.with_change}, proofs.Written.delete_lined}
+use Rattle.office_tables.proofs.{PairLemmas.delete_line_stays, WritesLemmas.writes_of}
 use Rattle.office_rows.proofs.Writing as texts
-use Rattle.office_rows.proofs.Written.{delete_lined}
-use Rattle.office_tables.proofs.PairLemmas.{delete_line_stays}
-use Rattle.office_tables.proofs.WritesLemmas.{writes_of}
 use Rattle.office_tables.proofs.terminal.delete_line.Goals as goal
 
 pub returns-clause-writes : goal.returns-clause-writes

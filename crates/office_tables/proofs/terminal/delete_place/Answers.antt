@@ -1,13 +1,9 @@
 use Rattle.std.proofs.Common.{[], ◌∷◌, Ok}
-use Rattle.sqlite.specs.declared.types.Value.TheVariants.{Text}
-use Rattle.sqlite.specs.Held.{state}
-use Rattle.sqlite.specs.State.{Executes}
+use Rattle.sqlite.specs.{declared.types.Value.TheVariants.Text, Held.state, State.Executes}
 use Rattle.terminal_core.specs.Rows.{removed_from}
-use Rattle.office_rows.specs.Effects.{with_change}
+use Rattle.office_rows.{specs.Effects.with_change, proofs.Written.delete_placed}
+use Rattle.office_tables.proofs.{PairLemmas.delete_place_stays, WritesLemmas.writes_of}
 use Rattle.office_rows.proofs.Writing as texts
-use Rattle.office_rows.proofs.Written.{delete_placed}
-use Rattle.office_tables.proofs.PairLemmas.{delete_place_stays}
-use Rattle.office_tables.proofs.WritesLemmas.{writes_of}
 use Rattle.office_tables.proofs.terminal.delete_place.Goals as goal
 
 pub returns-clause-writes : goal.returns-clause-writes

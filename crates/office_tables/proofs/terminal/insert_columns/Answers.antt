@@ -1,14 +1,9 @@
 use Rattle.std.proofs.Common.{◌≡◌, [], ◌∷◌, Ok, subst, refl}
-use Rattle.sqlite.specs.Values.{bound}
-use Rattle.sqlite.specs.Held.{state}
-use Rattle.sqlite.specs.State.{Executes}
+use Rattle.sqlite.specs.{Values.bound, Held.state, State.Executes}
 use Rattle.terminal_core.specs.Rows.{visit_content, visit_opened}
-use Rattle.office_rows.specs.Values.{visit_values}
-use Rattle.office_rows.specs.Effects.{with_change}
+use Rattle.office_rows.{specs.{Values.visit_values, Effects.with_change}, proofs.Written.inserted_visit}
+use Rattle.office_tables.proofs.{PairLemmas.insert_visit_stays, WritesLemmas.writes_of}
 use Rattle.office_rows.proofs.Writing as texts
-use Rattle.office_rows.proofs.Written.{inserted_visit}
-use Rattle.office_tables.proofs.PairLemmas.{insert_visit_stays}
-use Rattle.office_tables.proofs.WritesLemmas.{writes_of}
 use Rattle.office_tables.proofs.terminal.insert_columns.Goals as goal
 
 pub returns-clause-writes : goal.returns-clause-writes

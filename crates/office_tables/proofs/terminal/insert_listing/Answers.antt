@@ -1,13 +1,9 @@
 use Rattle.std.proofs.Common.{[], ◌∷◌, Ok}
-use Rattle.sqlite.specs.Held.{state}
-use Rattle.sqlite.specs.State.{Executes}
+use Rattle.sqlite.specs.{Held.state, State.Executes}
 use Rattle.edi_messages.specs.Owned.{call_content}
-use Rattle.office_rows.specs.Values.{line_values}
-use Rattle.office_rows.specs.Opening.{listing_row, with_lines}
+use Rattle.office_rows.{specs.{Values.line_values, Opening.{listing_row, with_lines}}, proofs.Written.inserted_listed}
+use Rattle.office_tables.proofs.{PairLemmas.insert_listed_stays, WritesLemmas.writes_of}
 use Rattle.office_rows.proofs.Writing as texts
-use Rattle.office_rows.proofs.Written.{inserted_listed}
-use Rattle.office_tables.proofs.PairLemmas.{insert_listed_stays}
-use Rattle.office_tables.proofs.WritesLemmas.{writes_of}
 use Rattle.office_tables.proofs.terminal.insert_listing.Goals as goal
 
 pub returns-clause-writes : goal.returns-clause-writes

@@ -1,13 +1,9 @@
 use Rattle.std.proofs.Common.{Ok}
-use Rattle.sqlite.specs.Held.{state}
-use Rattle.sqlite.specs.State.{Executes}
+use Rattle.sqlite.specs.{Held.state, State.Executes}
 use Rattle.terminal_core.specs.Rows.{placed_at}
-use Rattle.office_rows.specs.Values.{place_values}
-use Rattle.office_rows.specs.Effects.{with_change}
+use Rattle.office_rows.{specs.{Values.place_values, Effects.with_change}, proofs.Written.inserted_place}
+use Rattle.office_tables.proofs.{PairLemmas.insert_place_stays, WritesLemmas.writes_of}
 use Rattle.office_rows.proofs.Writing as texts
-use Rattle.office_rows.proofs.Written.{inserted_place}
-use Rattle.office_tables.proofs.PairLemmas.{insert_place_stays}
-use Rattle.office_tables.proofs.WritesLemmas.{writes_of}
 use Rattle.office_tables.proofs.terminal.insert_place.Goals as goal
 
 pub returns-clause-writes : goal.returns-clause-writes

@@ -1,15 +1,10 @@
 use Rattle.std.proofs.Common.{[], ◌∷◌, Ok}
-use Rattle.sqlite.specs.declared.types.Value.TheVariants.{Text}
-use Rattle.sqlite.specs.Held.{state}
-use Rattle.sqlite.specs.State.{Executes}
+use Rattle.sqlite.specs.{declared.types.Value.TheVariants.Text, Held.state, State.Executes}
 use Rattle.edi_syntax.specs.Moments.{moment_digits}
 use Rattle.terminal_core.specs.Rows.{visit_closed}
-use Rattle.office_rows.specs.Values.{number_value, way_code}
-use Rattle.office_rows.specs.Effects.{with_change}
+use Rattle.office_rows.{specs.{Values.{number_value, way_code}, Effects.with_change}, proofs.Written.update_exitd}
+use Rattle.office_tables.proofs.{PairLemmas.update_exit_stays, WritesLemmas.writes_of}
 use Rattle.office_rows.proofs.Writing as texts
-use Rattle.office_rows.proofs.Written.{update_exitd}
-use Rattle.office_tables.proofs.PairLemmas.{update_exit_stays}
-use Rattle.office_tables.proofs.WritesLemmas.{writes_of}
 use Rattle.office_tables.proofs.terminal.set_exit.Goals as goal
 
 pub returns-clause-writes : goal.returns-clause-writes

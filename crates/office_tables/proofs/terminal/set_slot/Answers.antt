@@ -1,14 +1,10 @@
 use Rattle.std.proofs.Common.{[], ◌∷◌, Ok}
-use Rattle.sqlite.specs.declared.types.Value.TheVariants.{Text}
-use Rattle.sqlite.specs.Held.{state}
-use Rattle.sqlite.specs.State.{Executes}
+use Rattle.sqlite.specs.{declared.types.Value.TheVariants.Text, Held.state, State.Executes}
 use Rattle.box6346.specs.SlotName.{slot_text}
 use Rattle.terminal_core.specs.Rows.{moved_to}
-use Rattle.office_rows.specs.Effects.{with_change}
+use Rattle.office_rows.{specs.Effects.with_change, proofs.Written.update_slotd}
+use Rattle.office_tables.proofs.{PairLemmas.update_slot_stays, WritesLemmas.writes_of}
 use Rattle.office_rows.proofs.Writing as texts
-use Rattle.office_rows.proofs.Written.{update_slotd}
-use Rattle.office_tables.proofs.PairLemmas.{update_slot_stays}
-use Rattle.office_tables.proofs.WritesLemmas.{writes_of}
 use Rattle.office_tables.proofs.terminal.set_slot.Goals as goal
 
 pub returns-clause-writes : goal.returns-clause-writes

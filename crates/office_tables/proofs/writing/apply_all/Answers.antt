@@ -1,10 +1,8 @@
-use Rattle.std.proofs.Common.{◌≡◌, sym, ap, ◌∙◌, ◌+◌, refl, rules, take, [], ◌∷◌, ◌++◌}
-use Rattle.std.proofs.lemmas.List.{take_more}
+use Rattle.std.proofs.{Common.{◌≡◌, sym, ap, ◌∙◌, ◌+◌, refl, rules, take, [], ◌∷◌, ◌++◌}, lemmas.List.take_more}
 use Rattle.sqlite.specs.Held.{state}
 use Rattle.terminal_core.specs.Rows.{change_content}
 use Rattle.office_rows.specs.Effects.{with_change}
-use Rattle.office_tables.proofs.WritesLemmas.{none_written, writes_if_open}
-use Rattle.office_tables.proofs.WriteLemmas.{written_more}
+use Rattle.office_tables.proofs.{WritesLemmas.{none_written, writes_if_open}, WriteLemmas.written_more}
 use Rattle.office_tables.proofs.writing.apply_all.Goals as goal
 
 pub loop-change-init : goal.loop-change-init

@@ -1,10 +1,8 @@
 use Rattle.std.proofs.Common.{ap}
 use Rattle.sqlite.specs.Held.{state}
 use Rattle.office_rows.specs.Effects.{with_waiting}
-use Rattle.office_tables.proofs.WritesLemmas.{writes_then_if_open}
+use Rattle.office_tables.{specs.Taken.{taken_content, taken_contents}, proofs.{WritesLemmas.writes_then_if_open, WriteLemmas.writes_run}}
 use Rattle.office_history.specs.Cascade.{with_interchanges}
-use Rattle.office_tables.specs.Taken.{taken_content, taken_contents}
-use Rattle.office_tables.proofs.WriteLemmas.{writes_run}
 use Rattle.office_tables.proofs.writing.write_all.Goals as goal
 
 pub returns-in_ok-keep-in_default-clause-writes : goal.returns-in_ok-keep-in_default-clause-writes

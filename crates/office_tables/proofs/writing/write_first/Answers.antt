@@ -1,11 +1,8 @@
 use Rattle.std.proofs.Common.{map, Ok, string_bytes}
 use Rattle.sqlite.specs.Held.{state}
 use Rattle.terminal_core.specs.Rows.{change_content}
-use Rattle.office_tables.specs.Kept.{with_kept_reply}
-use Rattle.office_tables.specs.Writes.{Writes, WritesIfOpen}
+use Rattle.office_tables.{specs.{Kept.with_kept_reply, Writes.{Writes, WritesIfOpen}, Taken.taken_content}, proofs.WriteLemmas.writes_first}
 use Rattle.office_history.specs.Cascade.{with_changes}
-use Rattle.office_tables.specs.Taken.{taken_content}
-use Rattle.office_tables.proofs.WriteLemmas.{writes_first}
 use Rattle.office_tables.proofs.writing.write_first.Goals as goal
 
 pub returns-clause-writes : goal.returns-clause-writes

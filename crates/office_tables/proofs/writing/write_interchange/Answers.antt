@@ -2,8 +2,7 @@ use Rattle.std.proofs.Common.{map, Ok, string_bytes}
 use Rattle.sqlite.specs.Held.{state}
 use Rattle.terminal_core.specs.Rows.{change_content}
 use Rattle.office_rows.specs.Effects.{with_taken}
-use Rattle.office_tables.specs.Writes.{Writes, WritesIfOpen}
-use Rattle.office_tables.proofs.WritesLemmas.{if_open_then}
+use Rattle.office_tables.{specs.Writes.{Writes, WritesIfOpen}, proofs.WritesLemmas.if_open_then}
 use Rattle.office_history.specs.Cascade.{with_changes}
 use Rattle.office_tables.proofs.writing.write_interchange.Goals as goal
 

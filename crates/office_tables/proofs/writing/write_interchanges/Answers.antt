@@ -1,10 +1,7 @@
-use Rattle.std.proofs.Common.{◌≡◌, sym, ap, ◌∙◌, ◌+◌, refl, rules, take, [], ◌∷◌, ◌++◌}
-use Rattle.std.proofs.lemmas.List.{take_more}
+use Rattle.std.proofs.{Common.{◌≡◌, sym, ap, ◌∙◌, ◌+◌, refl, rules, take, [], ◌∷◌, ◌++◌}, lemmas.List.take_more}
 use Rattle.sqlite.specs.Held.{state}
 use Rattle.office_history.specs.Cascade.{with_interchange}
-use Rattle.office_tables.proofs.WritesLemmas.{none_written}
-use Rattle.office_tables.specs.Taken.{taken_content}
-use Rattle.office_tables.proofs.WriteLemmas.{written_more}
+use Rattle.office_tables.{specs.Taken.taken_content, proofs.{WritesLemmas.none_written, WriteLemmas.written_more}}
 use Rattle.office_tables.proofs.writing.write_interchanges.Goals as goal
 
 pub loop-item-init : goal.loop-item-init

@@ -1,8 +1,7 @@
 use Rattle.std.proofs.Common.{◌≡◌, Ok, take}
 use Rattle.sqlite.specs.Held.{state}
-use Rattle.office_tables.specs.Writes.{WritesIfOpen}
+use Rattle.office_tables.specs.{Writes.WritesIfOpen, Taken.taken_contents}
 use Rattle.office_history.specs.Cascade.{with_interchanges}
-use Rattle.office_tables.specs.Taken.{taken_contents}
 use Rattle.office_tables.proofs.writing.write_interchanges.Given as goal
 
 abbrev pub invariant-loop-item : goal.invariant-loop-item

@@ -1,10 +1,7 @@
 use Rattle.std.proofs.Common.{◌≡◌, IsTrue, OnErr, true, not, ap, subst, ◌∙◌, rules}
-use Rattle.sqlite.specs.Held.{state}
-use Rattle.sqlite.specs.State.{HasCleanDisk, Survives}
+use Rattle.sqlite.specs.{Held.state, State.{HasCleanDisk, Survives}}
 use Rattle.office_history.specs.Cascade.{with_run}
-use Rattle.office_tables.specs.Taken.{taken_contents}
-use Rattle.office_tables.specs.Writing.{IsWholeInOrder, WritesWhole}
-use Rattle.office_tables.proofs.WriteLemmas.{none_left, crash_in_order, written_whole}
+use Rattle.office_tables.{specs.{Taken.taken_contents, Writing.{IsWholeInOrder, WritesWhole}}, proofs.WriteLemmas.{none_left, crash_in_order, written_whole}}
 use Rattle.office_tables.proofs.writing.write_run.Goals as goal
 
 pub returns-clause-writes : goal.returns-clause-writes

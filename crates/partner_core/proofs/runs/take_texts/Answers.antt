@@ -1,12 +1,6 @@
-use Rattle.std.proofs.Common.{arith, ◌≡◌, ℕ, ◌+◌, ◌≤◌, cond, take, vec_len, [], ◌∷◌, sym, ◌∙◌, ap}
-use Rattle.std.proofs.lemmas.List.{take-append-le}
-use Rattle.std.specs.Prelude.{◌==◌, None, Some, is_some}
-use Rattle.std.specs.Option.{option_map}
-use Rattle.std.specs.String.{string_bytes}
-use Rattle.std.specs.BTreeMap.{get}
-use Rattle.std.specs.Ordering.{nat_cmp}
-use Rattle.partner_core.specs.Numbered.{text_in, reply_in}
-use Rattle.partner_core.proofs.Keepings.{reply_in-push, with_number-past, takes_one_more}
+use Rattle.std.specs.{Prelude.{◌==◌, None, Some, is_some}, Option.option_map, String.string_bytes, BTreeMap.get, Ordering.nat_cmp}
+use Rattle.std.proofs.{Common.{arith, ◌≡◌, ℕ, ◌+◌, ◌≤◌, cond, take, vec_len, [], ◌∷◌, sym, ◌∙◌, ap}, lemmas.List.take-append-le}
+use Rattle.partner_core.{specs.Numbered.{text_in, reply_in}, proofs.Keepings.{reply_in-push, with_number-past, takes_one_more}}
 use Rattle.partner_core.proofs.runs.take_texts.Goals as goal
 
 pub loop-text-preserved : goal.loop-text-preserved

@@ -1,6 +1,5 @@
 use Rattle.std.proofs.Common.{◌≡◌, ◌≤◌, take, vec_len, ◌-◌}
-use Rattle.partner_core.specs.Cascade.{TakesTexts}
-use Rattle.partner_core.specs.Numbered.{text_in, reply_in}
+use Rattle.partner_core.specs.{Cascade.TakesTexts, Numbered.{text_in, reply_in}}
 use Rattle.partner_core.proofs.runs.take_texts.Given as goal
 
 -- the texts so far were taken, and the replies before them stay

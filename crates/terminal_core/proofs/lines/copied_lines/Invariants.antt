@@ -1,5 +1,4 @@
-use Rattle.std.proofs.Common.{◌≡◌, take}
-use Rattle.std.specs.Prelude.{map}
+use Rattle.std.{specs.Prelude.map, proofs.Common.{◌≡◌, take}}
 use Rattle.terminal_core.specs.Listings.{line_entry}
 use Rattle.terminal_core.proofs.lines.copied_lines.Given as goal
 

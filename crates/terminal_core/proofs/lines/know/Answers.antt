@@ -1,9 +1,6 @@
 use Rattle.std.proofs.Common.{Some, cond, ap, ◌∙◌, sym}
-use Rattle.edi_messages.specs.Purposes.{CallContent}
-use Rattle.edi_messages.specs.Owned.{call_content}
-use Rattle.terminal_core.specs.LineIndexes.{is_call, indexes_of}
-use Rattle.terminal_core.proofs.Indexed.{none_of}
-use Rattle.terminal_core.proofs.Noted.{known_now}
+use Rattle.edi_messages.specs.{Purposes.CallContent, Owned.call_content}
+use Rattle.terminal_core.{specs.LineIndexes.{is_call, indexes_of}, proofs.{Indexed.none_of, Noted.known_now}}
 use Rattle.terminal_core.proofs.lines.know.Goals as goal
 
 pub returns-clause-same : goal.returns-clause-same

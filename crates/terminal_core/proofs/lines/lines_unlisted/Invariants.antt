@@ -1,5 +1,4 @@
-use Rattle.std.proofs.Common.{◌≡◌, take}
-use Rattle.std.specs.Prelude.{map}
+use Rattle.std.{specs.Prelude.map, proofs.Common.{◌≡◌, take}}
 use Rattle.edi_messages.specs.Owned.{call_content}
 use Rattle.terminal_core.specs.Rows.{change_content, unlisted}
 use Rattle.terminal_core.proofs.lines.lines_unlisted.Given as goal

@@ -1,11 +1,6 @@
-use Rattle.std.proofs.Common.{Some, cond, ap, ◌∙◌, sym}
-use Rattle.std.specs.Prelude.{◌==◌, ◌&&◌}
-use Rattle.std.specs.Str.{bytes_eq}
-use Rattle.std.specs.Map.{lookup}
+use Rattle.std.{specs.{Prelude.{◌==◌, ◌&&◌}, Str.bytes_eq, Map.lookup}, proofs.Common.{Some, cond, ap, ◌∙◌, sym}}
 use Rattle.edi_messages.specs.Owned.{call_content}
-use Rattle.terminal_core.specs.State.{side_code}
-use Rattle.terminal_core.specs.LineIndexes.{is_key}
-use Rattle.terminal_core.proofs.Noted.{notes_index, stays_noted, always}
+use Rattle.terminal_core.{specs.{State.side_code, LineIndexes.is_key}, proofs.Noted.{notes_index, stays_noted, always}}
 use Rattle.terminal_core.proofs.lines.put.Goals as goal
 
 pub returns-in_err-insert-clause-err : goal.returns-in_err-insert-clause-err

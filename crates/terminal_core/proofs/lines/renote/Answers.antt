@@ -1,11 +1,6 @@
-use Rattle.std.proofs.Common.{Some, cond, ap, ◌∙◌, sym, subst, refl}
-use Rattle.std.specs.Prelude.{◌==◌, ◌&&◌, IsSome}
-use Rattle.std.specs.Str.{bytes_eq}
-use Rattle.std.specs.Map.{lookup}
+use Rattle.std.{specs.{Prelude.{◌==◌, ◌&&◌, IsSome}, Str.bytes_eq, Map.lookup}, proofs.Common.{Some, cond, ap, ◌∙◌, sym, subst, refl}}
 use Rattle.edi_messages.specs.Owned.{call_content}
-use Rattle.terminal_core.specs.State.{side_code}
-use Rattle.terminal_core.specs.LineIndexes.{is_key}
-use Rattle.terminal_core.proofs.Noted.{notes_index}
+use Rattle.terminal_core.{specs.{State.side_code, LineIndexes.is_key}, proofs.Noted.notes_index}
 use Rattle.terminal_core.proofs.lines.renote.Goals as goal
 
 pub returns-in-Some-get_mut : goal.returns-in-Some-get_mut

@@ -1,7 +1,4 @@
-use Rattle.std.proofs.Common.{◌≡◌, ◌<◌, length, Some, sym, ap, ◌∙◌}
-use Rattle.std.specs.Prelude.{slice_get}
-use Rattle.std.proofs.lemmas.Bool.{ltb-true}
-use Rattle.std.proofs.lemmas.Option.{slice_get-get_or}
+use Rattle.std.{specs.Prelude.slice_get, proofs.{Common.{◌≡◌, ◌<◌, length, Some, sym, ap, ◌∙◌}, lemmas.Bool.ltb-true, lemmas.Option.slice_get-get_or}}
 use Rattle.edi_messages.specs.Owned.{call_content}
 use Rattle.terminal_core.proofs.Noted.{first_there, none_there}
 use Rattle.terminal_core.proofs.lists.index_of.Goals as goal

@@ -1,14 +1,7 @@
-use Rattle.std.proofs.Common.{List, sym, ◌∙◌, arith, length, subst, take}
-use Rattle.std.proofs.lemmas.List.{take_all}
-use Rattle.std.proofs.lemmas.Option.{MatchOption-at_some, MatchOption-at_none}
+use Rattle.std.proofs.{Common.{List, sym, ◌∙◌, arith, length, subst, take}, lemmas.List.take_all, lemmas.Option.{MatchOption-at_some, MatchOption-at_none}}
 use Rattle.edi_messages.specs.Owned.{call_content}
-use Rattle.terminal_core.specs.declared.lines.Listing.{Listing}
-use Rattle.terminal_core.specs.Listings.{NoneBefore, IsFirstAt}
-use Rattle.terminal_core.specs.LineIndexes.{AreNoted}
-use Rattle.terminal_core.specs.Restoring.{AreOnce}
-use Rattle.terminal_core.proofs.Indexed.{some_of, none_of}
-use Rattle.terminal_core.proofs.Lined.{once_more, not_once}
-use Rattle.terminal_core.proofs.Noted.{next_noted}
+use Rattle.terminal_core.specs.{declared.lines.Listing.Listing, Listings.{NoneBefore, IsFirstAt}, LineIndexes.AreNoted, Restoring.AreOnce}
+use Rattle.terminal_core.proofs.{Indexed.{some_of, none_of}, Lined.{once_more, not_once}, Noted.next_noted}
 use Rattle.terminal_core.proofs.lists.noted_lines.Goals as goal
 
 pub returns-then-is_some : goal.returns-then-is_some

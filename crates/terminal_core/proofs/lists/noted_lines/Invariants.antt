@@ -1,6 +1,5 @@
 use Rattle.std.proofs.Common.{take}
-use Rattle.terminal_core.specs.LineIndexes.{AreNoted}
-use Rattle.terminal_core.specs.Restoring.{AreOnce}
+use Rattle.terminal_core.specs.{LineIndexes.AreNoted, Restoring.AreOnce}
 use Rattle.terminal_core.proofs.lists.noted_lines.Given as goal
 
 abbrev pub invariant-loop-i : goal.invariant-loop-i

@@ -1,10 +1,6 @@
+use Rattle.std.{specs.Prelude.{slice_get, nat_lt as ltb}, proofs.{lemmas.Option.{slice_get-get_or, slice_get_within}, lemmas.Bool.{ltb-true, lt-ltb}}}
 use Rattle.std.proofs.Common.{◌≡◌, ◌-◌, ◌<◌, List, length, vec_len, Some, true, false, sym, ap, ◌∙◌, rules, arith, get_or}
-use Rattle.std.specs.Prelude.{slice_get}
-use Rattle.std.proofs.lemmas.Option.{slice_get-get_or, slice_get_within}
-use Rattle.std.proofs.lemmas.Bool.{ltb-true, lt-ltb}
-use Rattle.std.specs.Prelude.{nat_lt as ltb}
-use Rattle.terminal_core.specs.declared.lines.Listing.{Listing}
-use Rattle.terminal_core.proofs.Removed.{swapped_out, noted_last, noted_moved}
+use Rattle.terminal_core.{specs.declared.lines.Listing.Listing, proofs.Removed.{swapped_out, noted_last, noted_moved}}
 use Rattle.terminal_core.proofs.lists.remove_at.Goals as goal
 
 pub returns-in-Some-clause-moved : goal.returns-in-Some-clause-moved

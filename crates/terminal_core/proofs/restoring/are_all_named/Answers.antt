@@ -1,8 +1,5 @@
-use Rattle.std.proofs.Common.{◌≡◌, ℕ, ◌<◌, List, Bool, true, false, get_or, length, Some, is_none, sym, subst}
-use Rattle.std.specs.Prelude.{slice_get}
-use Rattle.std.specs.List.{list_any}
-use Rattle.terminal_core.specs.Restoring.{numbers_of}
-use Rattle.terminal_core.specs.declared.visits.Visit.{Visit}
+use Rattle.std.{specs.{Prelude.slice_get, List.list_any}, proofs.Common.{◌≡◌, ℕ, ◌<◌, List, Bool, true, false, get_or, length, Some, is_none, sym, subst}}
+use Rattle.terminal_core.specs.{Restoring.numbers_of, declared.visits.Visit.Visit}
 use Rattle.terminal_core.proofs.Whole.{names_number, named_where_marked, marked_where_named, numbers_rise}
 use Rattle.terminal_core.proofs.restoring.are_all_named.Goals as goal
 

@@ -1,5 +1,4 @@
-use Rattle.std.proofs.Common.{◌≡◌, ℕ, ◌<◌, Some, true, false, is_none}
-use Rattle.std.specs.Prelude.{slice_get, slice_index_or}
+use Rattle.std.{specs.Prelude.{slice_get, slice_index_or}, proofs.Common.{◌≡◌, ℕ, ◌<◌, Some, true, false, is_none}}
 use Rattle.terminal_core.specs.declared.visits.Visit.{Visit}
 use Rattle.terminal_core.proofs.restoring.are_marked.Given as goal
 

@@ -1,10 +1,6 @@
-use Rattle.std.proofs.Common.{◌≡◌, ◌<◌, Some, refl, sym, ap, subst, ◌∙◌, arith, length, take}
-use Rattle.std.specs.Prelude.{slice_get, map}
-use Rattle.std.proofs.lemmas.List.{take_all}
+use Rattle.std.{specs.Prelude.{slice_get, map}, proofs.{Common.{◌≡◌, ◌<◌, Some, refl, sym, ap, subst, ◌∙◌, arith, length, take}, lemmas.List.take_all}}
 use Rattle.std.proofs.lemmas.Option.{slice_get_read}
-use Rattle.terminal_core.specs.Rows.{visit_content}
-use Rattle.terminal_core.specs.State.{AreNumbered, last_number}
-use Rattle.terminal_core.proofs.Open.{numbered_one_more, last_pushed}
+use Rattle.terminal_core.{specs.{Rows.visit_content, State.{AreNumbered, last_number}}, proofs.Open.{numbered_one_more, last_pushed}}
 use Rattle.terminal_core.proofs.Whole.{next_above, one_row_more}
 use Rattle.terminal_core.proofs.restoring.are_numbered.Goals as goal
 

@@ -1,7 +1,5 @@
-use Rattle.std.proofs.Common.{◌≡◌, take}
-use Rattle.std.specs.Prelude.{map}
-use Rattle.terminal_core.specs.Rows.{visit_content}
-use Rattle.terminal_core.specs.State.{AreNumbered, last_number}
+use Rattle.std.{specs.Prelude.map, proofs.Common.{◌≡◌, take}}
+use Rattle.terminal_core.specs.{Rows.visit_content, State.{AreNumbered, last_number}}
 use Rattle.terminal_core.proofs.restoring.are_numbered.Given as goal
 
 abbrev pub invariant-loop-visit : goal.invariant-loop-visit

@@ -1,6 +1,4 @@
-use Rattle.std.proofs.Common.{Err, inl, inr, arith}
-use Rattle.std.proofs.lemmas.Bool.{cases_order}
-use Rattle.std.proofs.lemmas.List.Sorted.{searched}
+use Rattle.std.proofs.{Common.{Err, inl, inr, arith}, lemmas.Bool.cases_order, lemmas.List.Sorted.searched}
 use Rattle.terminal_core.proofs.Whole.{no_fall}
 use Rattle.terminal_core.proofs.restoring.index_of.Goals as goal
 

@@ -1,7 +1,6 @@
 use Rattle.std.proofs.Common.{◌≡◌, List, Bool, true, false, length, get_or, set, length-set, ap, ◌∙◌}
-use Rattle.terminal_core.proofs.Whole.{marked_more, unmarked_more}
+use Rattle.terminal_core.proofs.{Whole.{marked_more, unmarked_more}, restoring.named.Goals.{in-Some, in_default}}
 use Rattle.terminal_core.proofs.restoring.named.Goals as goal
-use Rattle.terminal_core.proofs.restoring.named.Goals.{in-Some, in_default}
 
 pub loop-place-preserved : goal.loop-place-preserved
 loop-place-preserved c = elim c.match-index_of.branch [

@@ -1,5 +1,4 @@
-use Rattle.std.proofs.Common.{◌≡◌, ℕ, ◌<◌, false, length, take, get_or}
-use Rattle.std.specs.List.{list_any}
+use Rattle.std.{specs.List.list_any, proofs.Common.{◌≡◌, ℕ, ◌<◌, false, length, take, get_or}}
 use Rattle.terminal_core.proofs.Whole.{names_number}
 use Rattle.terminal_core.proofs.restoring.named.Given as goal
 

@@ -1,11 +1,6 @@
-use Rattle.std.proofs.Common.{◌≡◌, ◌<◌, Some, get_or, refl, sym, ap, ◌∙◌, arith, length}
-use Rattle.std.specs.Prelude.{slice_get, map}
-use Rattle.std.proofs.lemmas.List.{length-map}
+use Rattle.std.{specs.Prelude.{slice_get, map}, proofs.{Common.{◌≡◌, ◌<◌, Some, get_or, refl, sym, ap, ◌∙◌, arith, length}, lemmas.List.length-map}}
 use Rattle.std.proofs.lemmas.Option.{slice_get_read, slice_get_within, same_Some}
-use Rattle.terminal_core.specs.declared.visits.Visit.{Visit}
-use Rattle.terminal_core.specs.Restoring.{numbers_of}
-use Rattle.terminal_core.specs.Rows.{visit_content, VisitContent}
-use Rattle.terminal_core.specs.State.{is_open_visit}
+use Rattle.terminal_core.specs.{declared.visits.Visit.Visit, Restoring.numbers_of, Rows.{visit_content, VisitContent}, State.is_open_visit}
 use Rattle.terminal_core.proofs.Whole.{found_at, row_at, content_at, number_read, numbers_rise, same_index, names_at}
 use Rattle.terminal_core.proofs.restoring.named_visit.Goals as goal
 

@@ -1,12 +1,7 @@
-use Rattle.std.proofs.Common.{sym, subst}
-use Rattle.std.specs.Prelude.{map}
+use Rattle.std.{specs.Prelude.map, proofs.Common.{sym, subst}}
 use Rattle.box6346.specs.declared.size_type.Length.{Length}
-use Rattle.yard_core.specs.Calls.{RefusesPutBack}
-use Rattle.yard_core.specs.YardMap.{placement, stowed}
-use Rattle.terminal_core.specs.declared.restoring.RestoreFault.{RestoreFault}
-use Rattle.terminal_core.specs.Rows.{visit_content}
-use Rattle.terminal_core.specs.Restoring.{RefusesPut}
-use Rattle.terminal_core.proofs.Placing.{refused_put}
+use Rattle.yard_core.specs.{Calls.RefusesPutBack, YardMap.{placement, stowed}}
+use Rattle.terminal_core.{specs.{declared.restoring.RestoreFault.RestoreFault, Rows.visit_content, Restoring.RefusesPut}, proofs.Placing.refused_put}
 use Rattle.terminal_core.proofs.restoring.put.Goals as goal
 
 pub returns-in-Err : goal.returns-in-Err

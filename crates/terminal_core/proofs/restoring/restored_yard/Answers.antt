@@ -1,10 +1,5 @@
-use Rattle.std.proofs.Common.{◌≤◌, List, sym, arith, subst}
-use Rattle.std.specs.Prelude.{map}
-use Rattle.std.proofs.lemmas.Result.{err_from_is_err_and}
-use Rattle.terminal_core.specs.declared.change.Place.{Place}
-use Rattle.terminal_core.specs.Rows.{visit_content}
-use Rattle.terminal_core.specs.State.{last_number}
-use Rattle.terminal_core.specs.Restoring.{ArePlacesOf, AreNamed, RefusesPlaces}
+use Rattle.std.{specs.Prelude.map, proofs.{Common.{◌≤◌, List, sym, arith, subst}, lemmas.Result.err_from_is_err_and}}
+use Rattle.terminal_core.specs.{declared.change.Place.Place, Rows.visit_content, State.last_number, Restoring.{ArePlacesOf, AreNamed, RefusesPlaces}}
 use Rattle.terminal_core.proofs.Placing.{whole_of, unsound_yard, not_all_named}
 use Rattle.terminal_core.proofs.restoring.restored_yard.Goals as goal
 

@@ -1,10 +1,6 @@
-use Rattle.std.proofs.Common.{List, ◌∙◌, arith, subst}
-use Rattle.std.specs.Prelude.{map}
-use Rattle.std.proofs.lemmas.Result.{err_from_is_err_and}
-use Rattle.yard_core.specs.declared.plan.Block.{Block}
-use Rattle.yard_core.specs.Plan.{IsPlan}
-use Rattle.terminal_core.specs.Rows.{visit_content}
-use Rattle.terminal_core.proofs.Placing.{none_taken, one_more_taken, refuses_places}
+use Rattle.std.{specs.Prelude.map, proofs.{Common.{List, ◌∙◌, arith, subst}, lemmas.Result.err_from_is_err_and}}
+use Rattle.yard_core.specs.{declared.plan.Block.Block, Plan.IsPlan}
+use Rattle.terminal_core.{specs.Rows.visit_content, proofs.Placing.{none_taken, one_more_taken, refuses_places}}
 use Rattle.terminal_core.proofs.restoring.settled_yard.Goals as goal
 
 pub loop-place-init : goal.loop-place-init

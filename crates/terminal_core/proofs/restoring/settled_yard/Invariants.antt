@@ -1,10 +1,6 @@
-use Rattle.std.proofs.Common.{◌≡◌, take}
-use Rattle.std.specs.Prelude.{map}
-use Rattle.yard_core.specs.Plan.{IsPlan}
-use Rattle.yard_core.specs.SoundYard.{IsSound}
-use Rattle.yard_core.specs.YardMap.{placement_of}
-use Rattle.terminal_core.specs.Rows.{visit_content}
-use Rattle.terminal_core.specs.Restoring.{ArePlacesOf}
+use Rattle.std.{specs.Prelude.map, proofs.Common.{◌≡◌, take}}
+use Rattle.yard_core.specs.{Plan.IsPlan, SoundYard.IsSound, YardMap.placement_of}
+use Rattle.terminal_core.specs.{Rows.visit_content, Restoring.ArePlacesOf}
 use Rattle.terminal_core.proofs.restoring.settled_yard.Given as goal
 
 abbrev pub invariant-loop-place : goal.invariant-loop-place

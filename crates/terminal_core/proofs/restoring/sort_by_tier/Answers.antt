@@ -1,6 +1,4 @@
-use Rattle.std.proofs.Common.{rules}
-use Rattle.std.proofs.lemmas.Result.{on_ok_weaker}
-use Rattle.std.proofs.lemmas.List.Sorted.{IsNonDecreasingBy-from_sort_by_key}
+use Rattle.std.proofs.{Common.rules, lemmas.Result.on_ok_weaker, lemmas.List.Sorted.IsNonDecreasingBy-from_sort_by_key}
 use Rattle.terminal_core.proofs.restoring.sort_by_tier.Goals as goal
 
 pub returns-clause-sorted : goal.returns-clause-sorted

@@ -1,5 +1,4 @@
-use Rattle.std.proofs.Common.{◌≡◌, take}
-use Rattle.std.specs.Prelude.{map}
+use Rattle.std.{specs.Prelude.map, proofs.Common.{◌≡◌, take}}
 use Rattle.terminal_core.specs.Rows.{visit_content}
 use Rattle.terminal_core.proofs.visits.copied_visits.Given as goal
 

@@ -1,11 +1,5 @@
-use Rattle.std.proofs.Common.{List, Some, cond, ap, ◌∙◌, arith, subst}
-use Rattle.std.specs.Prelude.{map}
-use Rattle.std.specs.Str.{bytes_eq}
-use Rattle.std.specs.Map.{lookup}
-use Rattle.std.proofs.lemmas.List.{take_all}
-use Rattle.terminal_core.specs.declared.visits.Visit.{Visit}
-use Rattle.terminal_core.specs.Rows.{visit_content}
-use Rattle.terminal_core.specs.Index.{AreIndexed}
+use Rattle.std.{specs.{Prelude.map, Str.bytes_eq, Map.lookup}, proofs.{Common.{List, Some, cond, ap, ◌∙◌, arith, subst}, lemmas.List.take_all}}
+use Rattle.terminal_core.specs.{declared.visits.Visit.Visit, Rows.visit_content, Index.AreIndexed}
 use Rattle.terminal_core.proofs.Indexed.{none_indexed, open_row_indexed, closed_row_indexed, stays_tested, went_tested}
 use Rattle.terminal_core.proofs.visits.indexed.Goals.{then-is_none+in_ok-insert, else-is_none}
 use Rattle.terminal_core.proofs.visits.indexed.Goals as goal

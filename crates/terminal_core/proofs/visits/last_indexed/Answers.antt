@@ -1,12 +1,5 @@
-use Rattle.std.proofs.Common.{List, Some, cond, ap, ◌∙◌, arith, subst}
-use Rattle.std.specs.Prelude.{map}
-use Rattle.std.specs.Str.{bytes_eq}
-use Rattle.std.specs.Map.{lookup}
-use Rattle.std.proofs.lemmas.List.{take_all}
-use Rattle.terminal_core.specs.declared.visits.Visit.{Visit}
-use Rattle.terminal_core.specs.Rows.{visit_content}
-use Rattle.terminal_core.specs.Index.{AreLastIndexed}
-use Rattle.terminal_core.proofs.Noted.{row_last}
+use Rattle.std.{specs.{Prelude.map, Str.bytes_eq, Map.lookup}, proofs.{Common.{List, Some, cond, ap, ◌∙◌, arith, subst}, lemmas.List.take_all}}
+use Rattle.terminal_core.{specs.{declared.visits.Visit.Visit, Rows.visit_content, Index.AreLastIndexed}, proofs.Noted.row_last}
 use Rattle.terminal_core.proofs.visits.last_indexed.Goals as goal
 
 pub loop-row_index-preserved : goal.loop-row_index-preserved

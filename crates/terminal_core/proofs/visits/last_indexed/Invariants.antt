@@ -1,7 +1,5 @@
-use Rattle.std.proofs.Common.{take}
-use Rattle.std.specs.Prelude.{map}
-use Rattle.terminal_core.specs.Rows.{visit_content}
-use Rattle.terminal_core.specs.Index.{AreLastIndexed}
+use Rattle.std.{specs.Prelude.map, proofs.Common.take}
+use Rattle.terminal_core.specs.{Rows.visit_content, Index.AreLastIndexed}
 use Rattle.terminal_core.proofs.visits.last_indexed.Given as goal
 
 abbrev pub invariant-loop-row_index : goal.invariant-loop-row_index

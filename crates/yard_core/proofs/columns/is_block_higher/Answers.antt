@@ -1,5 +1,4 @@
-use Rattle.std.proofs.Common.{◌+◌, ◌*◌, ◌-◌, inl, inr, refl, arith}
-use Rattle.std.proofs.Math.Nat.{eq-or-lt_of_le}
+use Rattle.std.proofs.{Common.{◌+◌, ◌*◌, ◌-◌, inl, inr, refl, arith}, Math.Nat.eq-or-lt_of_le}
 use Rattle.yard_core.proofs.LeastHeights.{all_higher, higher_among}
 use Rattle.yard_core.proofs.columns.is_block_higher.Goals as goal
 

@@ -1,6 +1,5 @@
 use Rattle.std.proofs.Common.{◌*◌, ◌<◌, length, sym, ap, subst, ◌∙◌}
-use Rattle.yard_core.specs.Columns.{column_of, first_cell, last_cell}
-use Rattle.yard_core.proofs.Cells.{bounds, column_below, first_in_column, last_in_column}
+use Rattle.yard_core.{specs.Columns.{column_of, first_cell, last_cell}, proofs.Cells.{bounds, column_below, first_in_column, last_in_column}}
 use Rattle.yard_core.proofs.placements.site_of.Goals as goal
 
 pub last_cell-requires : goal.last_cell-requires

@@ -1,5 +1,5 @@
 use Rattle.std.proofs.Common.{sym, ap, ◌∙◌, arith}
-use Rattle.yard_core.specs.YardMap.{placement_if_any, placement_of}
+use Rattle.yard_core.specs.YardMap.{placement_if_any}
 use Rattle.yard_core.specs.Decisions.{blocker_on}
 use Rattle.yard_core.proofs.Exact.{blocker_seen}
 use Rattle.yard_core.proofs.Placings.{tier_low}

@@ -1,11 +1,7 @@
 -- A slot's column is as far from that of its bay's first row as its row is.
 use Rattle.std.proofs.Common.{◌≡◌, ◌+◌, ◌-◌, ◌≤◌, ℕ, List, ◌∙◌, ap, arith}
-use Rattle.box6346.specs.declared.size_type.Length.{Length}
-use Rattle.box6346.specs.declared.size_type.Length.TheVariants.{Twenty, Forty}
-use Rattle.box6346.specs.declared.slot.Slot.{Slot}
-use Rattle.yard_core.specs.declared.plan.Block.{Block}
-use Rattle.yard_core.specs.Columns.{near_of}
-use Rattle.yard_core.specs.YardMap.{placement}
+use Rattle.box6346.specs.{declared.size_type.Length.Length, declared.size_type.Length.TheVariants.{Twenty, Forty}, declared.slot.Slot.Slot}
+use Rattle.yard_core.specs.{declared.plan.Block.Block, Columns.near_of, YardMap.placement}
 use Rattle.yard_core.proofs.support.first_in_bay.Goals as goal
 
 rows_on : (plan : List Block) (size : Length) (corner : Slot) (row : ℕ) → 1 ≤ row

@@ -1,7 +1,6 @@
 use Rattle.std.proofs.Common.{◌∙◌}
 use Rattle.edi_syntax.specs.Segment.{value}
-use Rattle.edi_messages.specs.Codes.{code_text}
-use Rattle.edi_messages.specs.declared.order.OrderKind.TheVariants.{GateIn, GateOut, ListDischarge, ListLoad, Discharge, Load}
+use Rattle.edi_messages.specs.{Codes.code_text, declared.order.OrderKind.TheVariants.{GateIn, GateOut, ListDischarge, ListLoad, Discharge, Load}}
 use Rattle.edi_messages.proofs.SurveyLemmas.{two_meanings}
 use Rattle.edi_messages.proofs.codes.Codes.order_meant.Goals as goal
 

@@ -1,13 +1,8 @@
 -- One segment more of the group.
 use Rattle.std.proofs.Common.{sym, ◌∙◌, refl, codes}
-use Rattle.edi_syntax.specs.Segment.{content}
-use Rattle.edi_syntax.specs.Text.{component_of}
-use Rattle.edi_syntax.specs.Frames.{message_segments_left}
-use Rattle.edi_messages.specs.Orders.{moment_stated}
-use Rattle.edi_messages.specs.Parts.{is_qualified, states_moment, states_weight}
-use Rattle.edi_messages.proofs.SurveyLemmas.{first_step, group_goes_on}
-use Rattle.edi_messages.proofs.DetailLemmas.{kept_step}
-use Rattle.edi_messages.proofs.WalkLemmas.{goes_on_to_end}
+use Rattle.edi_syntax.specs.{Segment.content, Text.component_of, Frames.message_segments_left}
+use Rattle.edi_messages.{specs.{Orders.moment_stated, Parts.{is_qualified, states_moment, states_weight}}, proofs.SurveyLemmas.{first_step, group_goes_on}}
+use Rattle.edi_messages.proofs.{DetailLemmas.kept_step, WalkLemmas.goes_on_to_end}
 use Rattle.edi_messages.proofs.line.Group.of.Goals as goal
 
 pub loop-segment-preserved : goal.loop-segment-preserved

@@ -1,15 +1,7 @@
-use Rattle.std.proofs.Common.{◌≡◌, length, codes}
-use Rattle.std.specs.List.{find}
-use Rattle.std.specs.Option.{option_map}
-use Rattle.edi_syntax.specs.Segment.{content, value}
-use Rattle.edi_syntax.specs.Text.{component_of}
-use Rattle.edi_syntax.specs.Frames.{message_segments_left}
-use Rattle.edi_messages.specs.Kept.{moment_kept}
-use Rattle.edi_messages.specs.Orders.{moment_stated}
-use Rattle.edi_messages.specs.Parts.{before_end, is_qualified, states_moment, states_weight}
-use Rattle.edi_messages.specs.Walks.{from_end}
-use Rattle.edi_messages.proofs.SurveyLemmas.{first_in}
-use Rattle.edi_messages.proofs.DetailLemmas.{kept_in}
+use Rattle.std.{specs.{List.find, Option.option_map}, proofs.Common.{◌≡◌, length, codes}}
+use Rattle.edi_syntax.specs.{Segment.{content, value}, Text.component_of, Frames.message_segments_left}
+use Rattle.edi_messages.specs.{Kept.moment_kept, Orders.moment_stated, Parts.{before_end, is_qualified, states_moment, states_weight}, Walks.from_end}
+use Rattle.edi_messages.proofs.{SurveyLemmas.first_in, DetailLemmas.kept_in}
 use Rattle.edi_messages.proofs.line.Group.of.Given as goal
 
 abbrev pub invariant-loop-segment : goal.invariant-loop-segment

@@ -1,13 +1,7 @@
 -- The segments that are passed are no equipment and no control total.
-use Rattle.std.proofs.Common.{List, Option, length, codes, ap, ◌∙◌, arith}
-use Rattle.std.specs.Option.{option_map, option_or}
-use Rattle.std.specs.List.{find}
-use Rattle.edi_syntax.specs.Text.{Content}
-use Rattle.edi_syntax.specs.Segment.{content}
-use Rattle.edi_syntax.specs.Frames.{message_segments_left}
-use Rattle.edi_messages.specs.Faults.{is_container}
-use Rattle.edi_messages.specs.Parts.{is_equipment, is_qualified, groups_of}
-use Rattle.edi_messages.specs.Walks.{counted_on}
+use Rattle.std.{specs.{Option.{option_map, option_or}, List.find}, proofs.Common.{List, Option, length, codes, ap, ◌∙◌, arith}}
+use Rattle.edi_syntax.specs.{Text.Content, Segment.content, Frames.message_segments_left}
+use Rattle.edi_messages.specs.{Faults.is_container, Parts.{is_equipment, is_qualified, groups_of}, Walks.counted_on}
 use Rattle.edi_messages.proofs.WalkLemmas.{no_equipment, no_container, no_control, counted_behind, found_behind, groups_behind, no_more_behind}
 use Rattle.edi_messages.proofs.survey.Survey.next_group.Goals as goal
 

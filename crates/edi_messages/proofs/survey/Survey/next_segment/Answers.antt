@@ -1,9 +1,7 @@
 -- One segment more, which is counted.
 use Rattle.std.proofs.Common.{◌+◌, ◌≤◌, sym, ap, ◌∙◌, arith, codes, length}
-use Rattle.edi_syntax.specs.Segment.{content, segments_left}
-use Rattle.edi_syntax.specs.Frames.{message, message_segments_left}
-use Rattle.edi_messages.specs.Faults.{is_container}
-use Rattle.edi_messages.specs.Parts.{is_equipment, is_qualified}
+use Rattle.edi_syntax.specs.{Segment.{content, segments_left}, Frames.{message, message_segments_left}}
+use Rattle.edi_messages.specs.{Faults.is_container, Parts.{is_equipment, is_qualified}}
 use Rattle.edi_messages.proofs.SurveyLemmas.{first_step, count_step, one_if, one_at_most, few_before_trailer}
 use Rattle.edi_messages.proofs.survey.Survey.next_segment.Goals as goal
 

@@ -1,10 +1,7 @@
 -- The characters that the advice names.
-use Rattle.std.proofs.Common.{◌≡◌, ℕ, Option, Some, None, cond, nat_eq, get_or, refl, sym, ap}
-use Rattle.std.proofs.lemmas.Bool.{eq-eqb, ne_eqb}
-use Rattle.edi_syntax.specs.Advice.{ServiceCharacters}
-use Rattle.edi_syntax.proofs.AdviceLemmas.{service_of_advice}
+use Rattle.std.proofs.{Common.{◌≡◌, ℕ, Option, Some, None, cond, nat_eq, get_or, refl, sym, ap}, lemmas.Bool.{eq-eqb, ne_eqb}}
+use Rattle.edi_syntax.{specs.Advice.ServiceCharacters, proofs.{AdviceLemmas.service_of_advice, characters.Service.read.Goals.{then-text-eq32, else-text-eq32}}}
 use Rattle.edi_syntax.proofs.characters.Service.read.Goals as goal
-use Rattle.edi_syntax.proofs.characters.Service.read.Goals.{then-text-eq32, else-text-eq32}
 
 pub returns-then-are_service_characters-clause-ok : goal.returns-then-are_service_characters-clause-ok
 returns-then-are_service_characters-clause-ok c =

@@ -1,9 +1,6 @@
 -- The next byte of the value, after a release character or not.
-use Rattle.std.proofs.Common.{◌≡◌, ℕ, List, [], ◌∷◌, length, false, true, ap, ◌∙◌, arith}
-use Rattle.std.proofs.lemmas.List.{nil_from_length}
-use Rattle.edi_syntax.specs.Tokens.{token_of, releases}
-use Rattle.edi_syntax.specs.Parts.{value_of}
-use Rattle.edi_syntax.specs.Segment.{bytes_left}
+use Rattle.std.proofs.{Common.{◌≡◌, ℕ, List, [], ◌∷◌, length, false, true, ap, ◌∙◌, arith}, lemmas.List.nil_from_length}
+use Rattle.edi_syntax.specs.{Tokens.{token_of, releases}, Parts.value_of, Segment.bytes_left}
 use Rattle.edi_syntax.proofs.PartLemmas.{value_nothing, value_plain, value_cut, value_released}
 use Rattle.edi_syntax.proofs.component.BytesIterator.next.Goals as goal
 

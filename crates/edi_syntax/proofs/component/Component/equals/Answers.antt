@@ -1,8 +1,6 @@
 -- A value is never longer than its text.
-use Rattle.std.proofs.Common.{false, length, sym, ap, arith}
-use Rattle.std.proofs.lemmas.Bool.{false≢true}
-use Rattle.edi_syntax.proofs.PartLemmas.{length-value}
-use Rattle.edi_syntax.proofs.AdviceLemmas.{short_differs}
+use Rattle.std.proofs.{Common.{false, length, sym, ap, arith}, lemmas.Bool.false≢true}
+use Rattle.edi_syntax.proofs.{PartLemmas.length-value, AdviceLemmas.short_differs}
 use Rattle.edi_syntax.proofs.component.Component.equals.Goals as goal
 
 pub returns-then-self-other-clause-equal : goal.returns-then-self-other-clause-equal

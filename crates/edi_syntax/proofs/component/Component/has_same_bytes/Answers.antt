@@ -1,6 +1,5 @@
 use Rattle.std.proofs.Common.{◌≡◌, ◌↔◌, IsTrue}
-use Rattle.edi_syntax.specs.Segment.{value}
-use Rattle.edi_syntax.proofs.SegmentLemmas.{test_of_same}
+use Rattle.edi_syntax.{specs.Segment.value, proofs.SegmentLemmas.test_of_same}
 use Rattle.edi_syntax.proofs.component.Component.has_same_bytes.Goals as goal
 
 pub returns-clause-test : goal.returns-clause-test

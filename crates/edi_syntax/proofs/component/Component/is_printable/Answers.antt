@@ -1,6 +1,5 @@
 use Rattle.std.proofs.Common.{false, sym, ◌∙◌}
-use Rattle.edi_syntax.specs.Characters.{is_printable}
-use Rattle.edi_syntax.proofs.AdviceLemmas.{value_all}
+use Rattle.edi_syntax.{specs.Characters.is_printable, proofs.AdviceLemmas.value_all}
 use Rattle.edi_syntax.proofs.component.Component.is_printable.Goals as goal
 
 pub returns-then-are_printable : goal.returns-then-are_printable

@@ -1,7 +1,5 @@
-use Rattle.std.proofs.Common.{◌≡◌}
-use Rattle.std.specs.List.{list_all}
-use Rattle.edi_syntax.specs.Characters.{is_printable}
-use Rattle.edi_syntax.specs.Segment.{value, bytes_left}
+use Rattle.std.{specs.List.list_all, proofs.Common.◌≡◌}
+use Rattle.edi_syntax.specs.{Characters.is_printable, Segment.{value, bytes_left}}
 use Rattle.edi_syntax.proofs.component.Component.is_printable_by_bytes.Given as goal
 
 abbrev pub invariant-loop-byte : goal.invariant-loop-byte

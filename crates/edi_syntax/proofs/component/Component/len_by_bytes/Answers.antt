@@ -1,9 +1,8 @@
 -- One byte more is counted unless it releases the next.
 use Rattle.std.proofs.Common.{◌≡◌, get_or, arith}
-use Rattle.edi_syntax.specs.Tokens.{token_of, releases}
-use Rattle.edi_syntax.proofs.PartLemmas.{length_value_more, length_value_past}
-use Rattle.edi_syntax.proofs.component.Component.len_by_bytes.Goals as goal
+use Rattle.edi_syntax.{specs.Tokens.{token_of, releases}, proofs.PartLemmas.{length_value_more, length_value_past}}
 use Rattle.edi_syntax.proofs.component.Component.len_by_bytes.Goals.{then-not-released, else-not-released}
+use Rattle.edi_syntax.proofs.component.Component.len_by_bytes.Goals as goal
 
 pub loop-byte-preserved : goal.loop-byte-preserved
 loop-byte-preserved c =

@@ -1,9 +1,6 @@
 -- The first value that is left, and those after it.
-use Rattle.std.proofs.Common.{◌≡◌, ℕ, List, [], ◌∷◌, false, length, map, Option, sym, ap, ◌∙◌, arith}
-use Rattle.std.specs.Option.{option_map_or}
-use Rattle.edi_syntax.specs.Parts.{value_of, parts_of, split_of}
-use Rattle.edi_syntax.specs.Segment.{value, components_left}
-use Rattle.edi_syntax.proofs.PartLemmas.{values_split}
+use Rattle.std.{specs.Option.option_map_or, proofs.Common.{◌≡◌, ℕ, List, [], ◌∷◌, false, length, map, Option, sym, ap, ◌∙◌, arith}}
+use Rattle.edi_syntax.{specs.{Parts.{value_of, parts_of, split_of}, Segment.{value, components_left}}, proofs.PartLemmas.values_split}
 use Rattle.edi_syntax.proofs.component.ComponentsIterator.next.Goals as goal
 
 some_left : (c : goal.After-new) → components_left c.args.self.now ≡ value c.new.result ∷ map (value_of c.args.self.now.service false) (parts_of c.args.self.now.service c.args.self.now.service.component false c.in-Some.behind.now)

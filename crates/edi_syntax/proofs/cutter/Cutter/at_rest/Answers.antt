@@ -1,6 +1,5 @@
 use Rattle.std.proofs.Common.{◌∙◌, sym, ap}
-use Rattle.edi_syntax.specs.Cuts.{Cutting, is_nil}
-use Rattle.edi_syntax.proofs.PositionLemmas.{rests_when_whole, rests_when_nil}
+use Rattle.edi_syntax.{specs.Cuts.{Cutting, is_nil}, proofs.PositionLemmas.{rests_when_whole, rests_when_nil}}
 use Rattle.edi_syntax.proofs.cutter.Cutter.at_rest.Goals as goal
 
 pub returns-then-is_whole : goal.returns-then-is_whole

@@ -1,8 +1,6 @@
 -- What was read of a piece is kept at once, or nothing is.
 use Rattle.std.proofs.Common.{◌≡◌, ◌∙◌, ◌-◌, List, ℕ, length, take, drop, refl, sym, ap, subst, cond}
-use Rattle.edi_syntax.specs.Reading.{breaks_len}
-use Rattle.edi_syntax.specs.Cuts.{Cutting, is_nil, is_whole, Fails}
-use Rattle.edi_syntax.specs.declared.cutter.CutFault.{CutFault}
+use Rattle.edi_syntax.specs.{Reading.breaks_len, Cuts.{Cutting, is_nil, is_whole, Fails}, declared.cutter.CutFault.CutFault}
 use Rattle.edi_syntax.proofs.PieceLemmas.{Begins, begins_of, rest_of, faultless, answers_read, used_of, fails_read, read_of, refused_of, holds_of, running_of, answer_of}
 use Rattle.edi_syntax.proofs.cutter.Cutter.cut.Goals as goal
 

@@ -1,7 +1,6 @@
 -- The piece comes after what is pending, or begins anew after a whole interchange.
 use Rattle.std.proofs.Common.{◌∙◌, sym, ap, subst, List, ℕ, IfOk, IfErr, true, false}
-use Rattle.edi_syntax.specs.Cuts.{Cutting, is_whole, pending_bytes, Answers, Fails}
-use Rattle.edi_syntax.proofs.PositionLemmas.{whole_seen}
+use Rattle.edi_syntax.{specs.Cuts.{Cutting, is_whole, pending_bytes, Answers, Fails}, proofs.PositionLemmas.whole_seen}
 use Rattle.edi_syntax.proofs.CutLemmas.{nothing_open, pending_open, pending_whole, answers_anew, fails_anew, stays}
 use Rattle.edi_syntax.proofs.cutter.Cutter.feed.Goals as goal
 

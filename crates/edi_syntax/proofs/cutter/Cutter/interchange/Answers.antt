@@ -1,6 +1,5 @@
 use Rattle.std.proofs.Common.{◌∙◌, sym, ap}
-use Rattle.edi_syntax.specs.Cuts.{Cutting}
-use Rattle.edi_syntax.proofs.PositionLemmas.{shows_interchange, shows_none}
+use Rattle.edi_syntax.{specs.Cuts.Cutting, proofs.PositionLemmas.{shows_interchange, shows_none}}
 use Rattle.edi_syntax.proofs.cutter.Cutter.interchange.Goals as goal
 
 pub returns-then-is_whole : goal.returns-then-is_whole

@@ -1,6 +1,5 @@
 use Rattle.std.proofs.Common.{arith}
-use Rattle.edi_syntax.specs.Segment.{segments_left}
-use Rattle.edi_syntax.proofs.BlockLemmas.{length-messages_in}
+use Rattle.edi_syntax.{specs.Segment.segments_left, proofs.BlockLemmas.length-messages_in}
 use Rattle.edi_syntax.proofs.envelope.Envelope.frames.Goals as goal
 
 pub returns-clause-few : goal.returns-clause-few

@@ -1,7 +1,5 @@
 use Rattle.std.proofs.Common.{◌≡◌, ◌≤◌, length}
-use Rattle.edi_syntax.specs.Segment.{segments_left}
-use Rattle.edi_syntax.specs.Messages.{messages_in}
-use Rattle.edi_syntax.specs.Frames.{messages_left}
+use Rattle.edi_syntax.specs.{Segment.segments_left, Messages.messages_in, Frames.messages_left}
 use Rattle.edi_syntax.proofs.frames.FramesIterator.next.Given as goal
 
 abbrev pub invariant-loop-segment : goal.invariant-loop-segment

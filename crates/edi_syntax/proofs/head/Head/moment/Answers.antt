@@ -1,5 +1,4 @@
-use Rattle.edi_syntax.specs.Heads.{head_segments}
-use Rattle.edi_syntax.proofs.BlockLemmas.{header_found, some_from}
+use Rattle.edi_syntax.{specs.Heads.head_segments, proofs.BlockLemmas.{header_found, some_from}}
 use Rattle.edi_syntax.proofs.head.Head.moment.Goals as goal
 
 pub unwrap-requires : goal.unwrap-requires

@@ -1,7 +1,5 @@
 use Rattle.std.proofs.Common.{sym, ◌∙◌}
-use Rattle.edi_syntax.specs.Segment.{content}
-use Rattle.edi_syntax.specs.Heads.{head_segments}
-use Rattle.edi_syntax.proofs.BlockLemmas.{header_found, some_from, control_number_within}
+use Rattle.edi_syntax.{specs.{Segment.content, Heads.head_segments}, proofs.BlockLemmas.{header_found, some_from, control_number_within}}
 use Rattle.edi_syntax.proofs.head.Head.number.Goals as goal
 
 pub unwrap-requires : goal.unwrap-requires

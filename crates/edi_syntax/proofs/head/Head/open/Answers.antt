@@ -1,11 +1,7 @@
 -- The first fault of the bytes, or that of envelope and header.
-use Rattle.std.proofs.Common.{◌≡◌, Bool, List, sym, ap, subst, ◌∙◌}
-use Rattle.std.proofs.lemmas.Result.{IfOk-weaker, IfErr-weaker, err_from_is_err_and}
-use Rattle.edi_syntax.specs.Text.{Content}
-use Rattle.edi_syntax.specs.Checks.{checked_left, are_all}
-use Rattle.edi_syntax.specs.Interchange.{InterchangeText, segments_in, is_segment_text}
-use Rattle.edi_syntax.specs.Faults.{header_faults, segments_fault, head_fault_of}
-use Rattle.edi_syntax.proofs.BlockLemmas.{head_fault_is, of_bytes}
+use Rattle.std.proofs.{Common.{◌≡◌, Bool, List, sym, ap, subst, ◌∙◌}, lemmas.Result.{IfOk-weaker, IfErr-weaker, err_from_is_err_and}}
+use Rattle.edi_syntax.specs.{Text.Content, Checks.{checked_left, are_all}, Interchange.{InterchangeText, segments_in, is_segment_text}}
+use Rattle.edi_syntax.{specs.Faults.{header_faults, segments_fault, head_fault_of}, proofs.BlockLemmas.{head_fault_is, of_bytes}}
 use Rattle.edi_syntax.proofs.head.Head.open.Goals as goal
 
 pub returns-in_err-check-clause-err : goal.returns-in_err-check-clause-err

@@ -1,6 +1,5 @@
 use Rattle.std.proofs.Common.{◌≡◌, subst, true}
-use Rattle.edi_syntax.specs.Moments.{CivilMoment, is_moment}
-use Rattle.edi_syntax.proofs.DigitLemmas.{read_back}
+use Rattle.edi_syntax.{specs.Moments.{CivilMoment, is_moment}, proofs.DigitLemmas.read_back}
 use Rattle.edi_syntax.proofs.moment.Moment.digits.Goals as goal
 
 pub returns-clause-read : goal.returns-clause-read

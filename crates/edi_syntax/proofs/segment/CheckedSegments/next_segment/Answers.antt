@@ -1,9 +1,6 @@
 -- The first segment that is left, and what stands after it.
-use Rattle.std.proofs.Common.{◌≡◌, ℕ, List, [], ◌∷◌, length, false, sym, ap, ◌∙◌, arith, Option}
-use Rattle.std.specs.Option.{option_map_or}
-use Rattle.edi_syntax.specs.Text.{Content}
-use Rattle.edi_syntax.specs.Reading.{segments_of, are_segments}
-use Rattle.edi_syntax.specs.Checks.{checked_left}
+use Rattle.std.{specs.Option.option_map_or, proofs.Common.{◌≡◌, ℕ, List, [], ◌∷◌, length, false, sym, ap, ◌∙◌, arith, Option}}
+use Rattle.edi_syntax.specs.{Text.Content, Reading.{segments_of, are_segments}, Checks.checked_left}
 use Rattle.edi_syntax.proofs.SegmentsLemmas.{next_of_segments, next_of_are_segments}
 use Rattle.edi_syntax.proofs.segment.CheckedSegments.next_segment.Goals as goal
 

@@ -1,9 +1,6 @@
 -- The value is found by its place among the parts.
-use Rattle.std.proofs.Common.{◌≡◌, ◌-◌, ℕ, List, [], false, drop, get_or, sym, ap, ◌∙◌, arith}
-use Rattle.std.proofs.lemmas.List.{get_or-drop}
-use Rattle.edi_syntax.specs.Reading.{elements_of}
-use Rattle.edi_syntax.specs.Parts.{parts_of, value_of}
-use Rattle.edi_syntax.proofs.PartLemmas.{component_by_parts}
+use Rattle.std.proofs.{Common.{◌≡◌, ◌-◌, ℕ, List, [], false, drop, get_or, sym, ap, ◌∙◌, arith}, lemmas.List.get_or-drop}
+use Rattle.edi_syntax.{specs.{Reading.elements_of, Parts.{parts_of, value_of}}, proofs.PartLemmas.component_by_parts}
 use Rattle.edi_syntax.proofs.segment.Segment.component.Goals as goal
 
 pub returns : goal.returns

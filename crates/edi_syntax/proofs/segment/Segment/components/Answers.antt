@@ -1,9 +1,6 @@
 -- The values are those of the element's text.
-use Rattle.std.proofs.Common.{◌≡◌, ◌-◌, ℕ, List, [], ◌∷◌, false, drop, get_or, map, sym, ap, ◌∙◌, arith}
-use Rattle.std.proofs.lemmas.List.{get_or-drop}
-use Rattle.edi_syntax.specs.Reading.{elements_of}
-use Rattle.edi_syntax.specs.Parts.{parts_of, value_of}
-use Rattle.edi_syntax.proofs.PartLemmas.{element_by_parts}
+use Rattle.std.proofs.{Common.{◌≡◌, ◌-◌, ℕ, List, [], ◌∷◌, false, drop, get_or, map, sym, ap, ◌∙◌, arith}, lemmas.List.get_or-drop}
+use Rattle.edi_syntax.{specs.{Reading.elements_of, Parts.{parts_of, value_of}}, proofs.PartLemmas.element_by_parts}
 use Rattle.edi_syntax.proofs.segment.Segment.components.Goals as goal
 
 pub returns : goal.returns

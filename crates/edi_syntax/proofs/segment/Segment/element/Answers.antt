@@ -1,9 +1,7 @@
 -- What follows the separator has the other parts.
-use Rattle.std.proofs.Common.{◌≡◌, ℕ, List, [], ◌∷◌, length, take, drop, ◌-◌, get_or, false, sym, ap, ◌∙◌, arith}
-use Rattle.std.specs.Prelude.{min}
+use Rattle.std.{specs.Prelude.min, proofs.Common.{◌≡◌, ℕ, List, [], ◌∷◌, length, take, drop, ◌-◌, get_or, false, sym, ap, ◌∙◌, arith}}
 use Rattle.std.proofs.lemmas.List.{drop_min, take_all, length-drop}
-use Rattle.edi_syntax.specs.Parts.{parts_of}
-use Rattle.edi_syntax.proofs.PartLemmas.{parts_behind_first}
+use Rattle.edi_syntax.{specs.Parts.parts_of, proofs.PartLemmas.parts_behind_first}
 use Rattle.edi_syntax.proofs.segment.Segment.element.Goals as goal
 
 pub returns-in-Some : goal.returns-in-Some

@@ -1,12 +1,7 @@
 -- What is left after the advice, under the service characters of the text.
 use Rattle.std.proofs.Common.{◌≡◌, List, true, arith, sym, ap, subst, ◌∙◌}
-use Rattle.edi_syntax.specs.Text.{Content}
-use Rattle.edi_syntax.specs.Advice.{service_at}
-use Rattle.edi_syntax.specs.Reading.{segments_of, are_segments}
-use Rattle.edi_syntax.specs.Interchange.{InterchangeText, segments_in, is_segment_text}
-use Rattle.edi_syntax.specs.declared.characters.Service.{Service}
-use Rattle.edi_syntax.proofs.SegmentsLemmas.{length-segments}
-use Rattle.edi_syntax.proofs.AdviceLemmas.{interchange_sound}
+use Rattle.edi_syntax.specs.{Text.Content, Advice.service_at, Reading.{segments_of, are_segments}, Interchange.{InterchangeText, segments_in, is_segment_text}}
+use Rattle.edi_syntax.{specs.declared.characters.Service.Service, proofs.{SegmentsLemmas.length-segments, AdviceLemmas.interchange_sound}}
 use Rattle.edi_syntax.proofs.segments.SegmentCheck.of.Goals as goal
 
 pub returns-clause-fewer : goal.returns-clause-fewer

@@ -1,12 +1,7 @@
 -- What is read is a text of the segments, and the only one.
-use Rattle.std.proofs.Common.{◌≡◌, arith, List, true, sym, ap, subst, ◌∙◌}
-use Rattle.std.proofs.lemmas.Bool.{false≢true, true≢false}
-use Rattle.edi_syntax.specs.Text.{Content}
-use Rattle.edi_syntax.specs.Advice.{service_at}
-use Rattle.edi_syntax.specs.Reading.{are_segments, segments_of}
-use Rattle.edi_syntax.specs.Interchange.{InterchangeText, segments_in, is_segment_text}
-use Rattle.edi_syntax.specs.declared.characters.Service.{Service}
-use Rattle.edi_syntax.proofs.SegmentsLemmas.{length-segments}
+use Rattle.std.proofs.{Common.{◌≡◌, arith, List, true, sym, ap, subst, ◌∙◌}, lemmas.Bool.{false≢true, true≢false}}
+use Rattle.edi_syntax.specs.{Text.Content, Advice.service_at, Reading.{are_segments, segments_of}, Interchange.{InterchangeText, segments_in, is_segment_text}}
+use Rattle.edi_syntax.{specs.declared.characters.Service.Service, proofs.SegmentsLemmas.length-segments}
 use Rattle.edi_syntax.proofs.AdviceLemmas.{interchange_sound, interchange_complete}
 use Rattle.edi_syntax.proofs.segments.Segments.read.Goals as goal
 

@@ -1,10 +1,6 @@
 -- The first segment that is left, or nothing is left.
-use Rattle.std.proofs.Common.{◌≡◌, ℕ, List, [], ◌∷◌, length, sym, ap, ◌∙◌, arith, Option}
-use Rattle.std.specs.Option.{option_map_or}
-use Rattle.edi_syntax.specs.Text.{Content}
-use Rattle.edi_syntax.specs.Reading.{segments_of}
-use Rattle.edi_syntax.specs.Segment.{segments_left, content}
-use Rattle.edi_syntax.proofs.SegmentsLemmas.{next_of_segments}
+use Rattle.std.{specs.Option.option_map_or, proofs.Common.{◌≡◌, ℕ, List, [], ◌∷◌, length, sym, ap, ◌∙◌, arith, Option}}
+use Rattle.edi_syntax.{specs.{Text.Content, Reading.segments_of, Segment.{segments_left, content}}, proofs.SegmentsLemmas.next_of_segments}
 use Rattle.edi_syntax.proofs.segments.SegmentsIterator.next.Goals as goal
 
 pub returns-in_err-segment-clause-steps : goal.returns-in_err-segment-clause-steps

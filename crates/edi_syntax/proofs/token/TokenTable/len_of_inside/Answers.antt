@@ -1,8 +1,6 @@
 -- One byte or two more that stay inside.
-use Rattle.std.proofs.Common.{◌+◌, ◌<◌, ℕ, false, length, drop, sym, ap, ◌∙◌, arith}
-use Rattle.std.specs.Option.{option_map}
-use Rattle.edi_syntax.specs.Reading.{end_of}
-use Rattle.edi_syntax.proofs.SegmentsLemmas.{end_passed}
+use Rattle.std.{specs.Option.option_map, proofs.Common.{◌+◌, ◌<◌, ℕ, false, length, drop, sym, ap, ◌∙◌, arith}}
+use Rattle.edi_syntax.{specs.Reading.end_of, proofs.SegmentsLemmas.end_passed}
 use Rattle.edi_syntax.proofs.token.TokenTable.len_of_inside.Goals as goal
 
 pub returns-then-not-stays_unreleased-clause-passes : goal.returns-then-not-stays_unreleased-clause-passes

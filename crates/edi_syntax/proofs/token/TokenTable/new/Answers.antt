@@ -1,16 +1,10 @@
 -- Data everywhere, and over it what is stored.
-use Rattle.std.proofs.Common.{rules, ◌≡◌, ℕ, ◌+◌, arith, cond, eqb, nat_lt, sym, ◌∙◌, false, subst, List, map}
-use Rattle.std.proofs.lemmas.List.FromFn.{fill_by_all}
-use Rattle.std.proofs.lemmas.List.{length-replicate, get_or-replicate}
-use Rattle.std.proofs.lemmas.Bool.Decides.{nat_tests}
-use Rattle.std.specs.List.{range_with_len}
-use Rattle.edi_syntax.specs.declared.characters.Service.{Service}
-use Rattle.edi_syntax.specs.declared.token.Token.{Token}
+use Rattle.std.{specs.List.range_with_len, proofs.Common.{rules, ◌≡◌, ℕ, ◌+◌, arith, cond, eqb, nat_lt, sym, ◌∙◌, false, subst, List, map}}
+use Rattle.std.proofs.{lemmas.List.FromFn.fill_by_all, lemmas.List.{length-replicate, get_or-replicate}, lemmas.Bool.Decides.nat_tests}
+use Rattle.edi_syntax.specs.{declared.characters.Service.Service, declared.token.Token.Token, Tokens.token_of}
 use Rattle.edi_syntax.specs.declared.token.Token.TheVariants.{Data, Component, Element, Terminator, Release, Invalid}
-use Rattle.edi_syntax.specs.Tokens.{token_of}
-use Rattle.edi_syntax.proofs.TokenLemmas.{IsTableOf, stored, marked, token_unreleasing, token_releasing}
+use Rattle.edi_syntax.proofs.{TokenLemmas.{IsTableOf, stored, marked, token_unreleasing, token_releasing}, token.TokenTable.new.Goals.{in-Some, in_default}}
 use Rattle.edi_syntax.proofs.token.TokenTable.new.Goals as goal
-use Rattle.edi_syntax.proofs.token.TokenTable.new.Goals.{in-Some, in_default}
 
 -- no byte is before the first
 none_before : (k : ℕ) (t d : Token) → d ≡ cond (nat_lt k 0) t d

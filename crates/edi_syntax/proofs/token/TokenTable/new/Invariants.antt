@@ -1,7 +1,6 @@
 -- the bytes before space that were met are invalid, the others data
 use Rattle.std.proofs.Common.{cond, nat_lt}
-use Rattle.edi_syntax.specs.declared.token.Token.TheVariants.{Data, Invalid}
-use Rattle.edi_syntax.proofs.TokenLemmas.{IsTableOf}
+use Rattle.edi_syntax.{specs.declared.token.Token.TheVariants.{Data, Invalid}, proofs.TokenLemmas.IsTableOf}
 use Rattle.edi_syntax.proofs.token.TokenTable.new.Given as goal
 
 abbrev pub invariant-loop-byte : goal.invariant-loop-byte

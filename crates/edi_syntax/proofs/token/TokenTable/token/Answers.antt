@@ -1,9 +1,6 @@
 -- The token stands at the place of its byte.
-use Rattle.std.proofs.Common.{ap, ◌∙◌, get_or, false, List, arith}
-use Rattle.std.proofs.lemmas.List.FromFn.{get_or-map-range_with_len}
-use Rattle.edi_syntax.specs.Tokens.{token_of}
-use Rattle.edi_syntax.specs.declared.token.Token.{Token}
-use Rattle.edi_syntax.specs.declared.token.Token.TheVariants.{Data}
+use Rattle.std.proofs.{Common.{ap, ◌∙◌, get_or, false, List, arith}, lemmas.List.FromFn.get_or-map-range_with_len}
+use Rattle.edi_syntax.specs.{Tokens.token_of, declared.token.Token.Token, declared.token.Token.TheVariants.Data}
 use Rattle.edi_syntax.proofs.token.TokenTable.token.Goals as goal
 
 pub returns : goal.returns

@@ -1,8 +1,6 @@
 use Rattle.std.proofs.Common.{sym, ap, ◌∙◌, string_bytes}
-use Rattle.office_admission.specs.Taking.{interchange_taken, machine_of}
-use Rattle.office_admission.proofs.Takings.{step_is, not_for, nothing_now, on_ok}
+use Rattle.office_admission.{specs.Taking.{interchange_taken, machine_of}, proofs.{Takings.{step_is, not_for, nothing_now, on_ok}, Adding.ok_weaker}}
 use Rattle.office_admission.proofs.machine.TerminalMachineMachine.step.Goals as goal
-use Rattle.office_admission.proofs.Adding.{ok_weaker}
 
 pub returns-in_default-clause-state : goal.returns-in_default-clause-state
 returns-in_default-clause-state c =

@@ -1,15 +1,8 @@
 use Rattle.std.proofs.Common.{sym, subst}
-use Rattle.edi_syntax.specs.Interchange.{segments_in}
-use Rattle.edi_syntax.specs.Envelope.{header_of}
-use Rattle.edi_syntax.specs.Heads.{head_segments}
-use Rattle.office_replies.specs.Contents.{GivesOrNotNow}
-use Rattle.office_replies.specs.declared.deliver.Response.TheVariants.{Refused}
-use Rattle.office_admission.specs.Parties.{parties_of}
-use Rattle.office_admission.specs.Admission.{sender_of}
-use Rattle.office_admission.specs.Outcomes.{IsRefused, fault_in}
-use Rattle.office_admission.specs.Refusals.{error_of, refusal_of}
-use Rattle.office_admission.specs.declared.refusal.Refusal.{Refusal}
-use Rattle.office_admission.specs.declared.refusal.Refusal.TheVariants.{Plain, WithContrl}
+use Rattle.edi_syntax.specs.{Interchange.segments_in, Envelope.header_of, Heads.head_segments}
+use Rattle.office_replies.specs.{Contents.GivesOrNotNow, declared.deliver.Response.TheVariants.Refused}
+use Rattle.office_admission.specs.{Parties.parties_of, Admission.sender_of, Outcomes.{IsRefused, fault_in}, Refusals.{error_of, refusal_of}}
+use Rattle.office_admission.specs.{declared.refusal.Refusal.Refusal, declared.refusal.Refusal.TheVariants.{Plain, WithContrl}}
 use Rattle.office_admission.proofs.Admitting.{refused_plainly, plainly_sure, owed, owed_sure}
 use Rattle.office_admission.proofs.refusal.Refusal.answer.Goals as goal
 

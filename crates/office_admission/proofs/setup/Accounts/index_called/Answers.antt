@@ -1,6 +1,5 @@
 use Rattle.std.proofs.Common.{◌≡◌, ap, ◌∙◌}
-use Rattle.office_admission.proofs.Named.{found_within}
-use Rattle.office_admission.specs.SetupAccounts.{index_in, partner_codes, partner_from}
+use Rattle.office_admission.{specs.SetupAccounts.{index_in, partner_codes, partner_from}, proofs.Named.found_within}
 use Rattle.office_admission.proofs.setup.Accounts.index_called.Goals as goal
 
 pub returns-clause-within : goal.returns-clause-within

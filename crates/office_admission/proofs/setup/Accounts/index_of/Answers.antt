@@ -1,7 +1,6 @@
 use Rattle.std.proofs.Common.{◌≡◌, ap, sym, ◌∙◌}
 use Rattle.edi_syntax.specs.Segment.{value}
-use Rattle.office_admission.proofs.Named.{found_within, none_longer}
-use Rattle.office_admission.specs.SetupAccounts.{index_in, partner_codes, partner_from}
+use Rattle.office_admission.{specs.SetupAccounts.{index_in, partner_codes, partner_from}, proofs.Named.{found_within, none_longer}}
 use Rattle.office_admission.proofs.setup.Accounts.index_of.Goals as goal
 
 pub returns-in-Some-clause-within : goal.returns-in-Some-clause-within

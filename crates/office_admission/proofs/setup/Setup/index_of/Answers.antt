@@ -1,8 +1,6 @@
-use Rattle.std.proofs.Common.{◌+◌, ap, ◌∙◌}
-use Rattle.std.specs.Option.{option_map}
+use Rattle.std.{specs.Option.option_map, proofs.Common.{◌+◌, ap, ◌∙◌}}
 use Rattle.edi_syntax.specs.Segment.{value}
-use Rattle.office_admission.proofs.Named.{one_further}
-use Rattle.office_admission.specs.SetupAccounts.{partner_codes}
+use Rattle.office_admission.{specs.SetupAccounts.partner_codes, proofs.Named.one_further}
 use Rattle.office_admission.proofs.setup.Setup.index_of.Goals as goal
 
 pub returns-clause-number : goal.returns-clause-number

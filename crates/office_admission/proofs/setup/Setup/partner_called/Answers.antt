@@ -1,7 +1,5 @@
-use Rattle.std.proofs.Common.{◌+◌, ap, sym, ◌∙◌}
-use Rattle.std.specs.Option.{option_map}
-use Rattle.office_admission.proofs.Named.{one_further}
-use Rattle.office_admission.specs.SetupAccounts.{partner_codes}
+use Rattle.std.{specs.Option.option_map, proofs.Common.{◌+◌, ap, sym, ◌∙◌}}
+use Rattle.office_admission.{specs.SetupAccounts.partner_codes, proofs.Named.one_further}
 use Rattle.office_admission.proofs.setup.Setup.partner_called.Goals as goal
 
 pub returns-in-Some : goal.returns-in-Some

@@ -1,6 +1,5 @@
 use Rattle.std.proofs.Common.{ap, ◌∙◌}
-use Rattle.sqlite.specs.Files.{over_files}
-use Rattle.sqlite.specs.WalFiles.{image_at}
+use Rattle.sqlite.specs.{Files.over_files, WalFiles.image_at}
 use Rattle.office_closing.specs.Register.{register_content}
 use Rattle.office_archive_files.proofs.ShelfLemmas.{none_held, none_shelved}
 use Rattle.office_archive_files.proofs.in_files.InFilesArchivesBesideManyArchivesFileStoreFileFromStoreShelf.none.Goals as goal

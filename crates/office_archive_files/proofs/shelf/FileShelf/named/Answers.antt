@@ -1,9 +1,6 @@
-use Rattle.std.proofs.Common.{◌≡◌, ◌-◌, Some, slice_get, option_map, rules, refl, sym, ap, subst, ◌∙◌}
-use Rattle.std.specs.Prelude.{IfSome, IsTrue, string_bytes}
+use Rattle.std.proofs.Common.{◌≡◌, ◌-◌, Some, slice_get, option_map, rules, refl, ap, subst, ◌∙◌}
 use Rattle.std.proofs.lemmas.Option.{slice_get-map}
 use Rattle.office_closing.specs.Register.{archive_content, register_content}
-use Rattle.office_closing.specs.Sound.{is_sound}
-use Rattle.office_commands.specs.Paths.{path_of}
 use Rattle.office_archive_files.specs.Archives.{IsRegisterAt}
 use Rattle.office_archive_files.proofs.shelf.FileShelf.named.Goals as goal
 

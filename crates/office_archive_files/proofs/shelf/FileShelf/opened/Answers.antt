@@ -1,13 +1,10 @@
 use Rattle.std.proofs.Common.{rules, sym, ap, subst, ◌∙◌}
-use Rattle.sqlite.specs.Files.{over_files}
-use Rattle.sqlite.specs.WalFiles.{image_at}
-use Rattle.office_loading.specs.Closed.{closed_content}
+use Rattle.sqlite.specs.{Files.over_files, WalFiles.image_at}
+use Rattle.office_loading.specs.{Closed.closed_content, Tables.LoadsOwn}
 use Rattle.office_rows.specs.Stored.{HasRows}
 use Rattle.office_admission.specs.Setups.{setup_content}
-use Rattle.office_loading.specs.Tables.{LoadsOwn}
 use Rattle.office_tables.proofs.MadeLemmas.{clean_first}
-use Rattle.office_archive_files.specs.Archives.{Reaches}
-use Rattle.office_archive_files.proofs.ShelfLemmas.{opened_at, shown_after}
+use Rattle.office_archive_files.{specs.Archives.Reaches, proofs.ShelfLemmas.{opened_at, shown_after}}
 use Rattle.office_archive_files.proofs.shelf.FileShelf.opened.Goals as goal
 
 -- What was opened was only read.

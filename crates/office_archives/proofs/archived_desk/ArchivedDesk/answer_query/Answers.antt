@@ -1,10 +1,7 @@
 use Rattle.std.proofs.Common.{IsTrue, arith, subst}
-use Rattle.sqlite.specs.Held.{Held, state}
-use Rattle.sqlite.specs.State.{HasCleanDisk}
+use Rattle.sqlite.specs.{Held.{Held, state}, State.HasCleanDisk}
 use Rattle.office_reports.specs.Looking.{report}
-use Rattle.office_archives.proofs.Alone.{alone_looks}
-use Rattle.office_archives.proofs.Beside.{none_there}
-use Rattle.office_archives.proofs.Together.{looks_noted}
+use Rattle.office_archives.proofs.{Alone.alone_looks, Beside.none_there, Together.looks_noted}
 use Rattle.office_archives.proofs.archived_desk.ArchivedDesk.answer_query.Goals as goal
 
 -- there is no archive

@@ -2,9 +2,7 @@ use Rattle.std.proofs.Common.{arith, subst}
 use Rattle.edi_syntax.specs.Interchange.{interchange_of}
 use Rattle.office_admission.specs.Outcomes.{IsRefused, fault_in}
 use Rattle.office_desk.proofs.OwnNumbers.{refused_for}
-use Rattle.office_archives.proofs.Alone.{alone_leads}
-use Rattle.office_archives.proofs.Beside.{none_there}
-use Rattle.office_archives.proofs.Together.{by_desk}
+use Rattle.office_archives.proofs.{Alone.alone_leads, Beside.none_there, Together.by_desk}
 use Rattle.office_archives.proofs.archived_desk.ArchivedDesk.answer_text.Goals as goal
 
 -- there is no archive

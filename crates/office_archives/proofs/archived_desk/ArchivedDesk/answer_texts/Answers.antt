@@ -1,9 +1,7 @@
 use Rattle.std.proofs.Common.{arith}
 use Rattle.office_reports.specs.Looking.{texts_after}
 use Rattle.office_desk.proofs.LookLemmas.{looks_nowhere}
-use Rattle.office_archives.proofs.Alone.{alone_looks}
-use Rattle.office_archives.proofs.Beside.{none_there}
-use Rattle.office_archives.proofs.Together.{looks_noted, looks_on}
+use Rattle.office_archives.proofs.{Alone.alone_looks, Beside.none_there, Together.{looks_noted, looks_on}}
 use Rattle.office_archives.proofs.archived_desk.ArchivedDesk.answer_texts.Goals as goal
 
 -- there is no archive

@@ -1,9 +1,6 @@
-use Rattle.std.proofs.Common.{option_map, string_bytes}
-use Rattle.std.proofs.lemmas.Result.{IfErr-weaker}
+use Rattle.std.proofs.{Common.{option_map, string_bytes}, lemmas.Result.IfErr-weaker}
 use Rattle.office_rows.proofs.Creating.{if_ok}
-use Rattle.office_archives.specs.Telling.{IsOfNeither}
-use Rattle.office_archives.proofs.Beside.{is_neither, neither_beside}
-use Rattle.office_archives.proofs.Together.{looks_on}
+use Rattle.office_archives.{specs.Telling.IsOfNeither, proofs.{Beside.{is_neither, neither_beside}, Together.looks_on}}
 use Rattle.office_archives.proofs.archived_desk.ArchivedDesk.find_beside.Goals as goal
 
 pub returns-in_default : goal.returns-in_default

@@ -1,13 +1,9 @@
-use Rattle.std.proofs.Common.{◌≡◌, List, option_map, string_bytes, sym, ap, subst, ◌∙◌}
+use Rattle.std.proofs.{Common.{◌≡◌, List, option_map, string_bytes, sym, ap, subst, ◌∙◌}, lemmas.Result.err_from_is_err_and}
 use Rattle.office_parts.specs.Archives.{Archive}
 use Rattle.office_desk.specs.Reports.{DeskTells}
-use Rattle.office_archives.specs.Telling.{archives_with_lists}
-use Rattle.office_archives.specs.Together.{TellsBeside}
-use Rattle.office_archives.proofs.Beside.{calls_beside}
-use Rattle.office_archives.proofs.Together.{looks_on}
-use Rattle.std.proofs.lemmas.Result.{err_from_is_err_and}
-use Rattle.office_archives.proofs.archived_desk.ArchivedDesk.find_calls.Goals as goal
+use Rattle.office_archives.{specs.{Telling.archives_with_lists, Together.TellsBeside}, proofs.{Beside.calls_beside, Together.looks_on}}
 use Rattle.office_archives.proofs.archived_desk.ArchivedDesk.find_calls.Goals.{then-has_lists, else-has_lists}
+use Rattle.office_archives.proofs.archived_desk.ArchivedDesk.find_calls.Goals as goal
 
 pub returns-clause-told : goal.returns-clause-told
 returns-clause-told g c = λ sound whole.

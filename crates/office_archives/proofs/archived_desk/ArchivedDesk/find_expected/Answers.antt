@@ -1,7 +1,5 @@
-use Rattle.std.proofs.Common.{option_map, string_bytes}
-use Rattle.office_archives.proofs.Beside.{expected_beside}
-use Rattle.office_archives.proofs.Together.{looks_on}
-use Rattle.std.proofs.lemmas.Result.{err_from_is_err_and}
+use Rattle.std.proofs.{Common.{option_map, string_bytes}, lemmas.Result.err_from_is_err_and}
+use Rattle.office_archives.proofs.{Beside.expected_beside, Together.looks_on}
 use Rattle.office_archives.proofs.archived_desk.ArchivedDesk.find_expected.Goals as goal
 
 pub returns-clause-told : goal.returns-clause-told

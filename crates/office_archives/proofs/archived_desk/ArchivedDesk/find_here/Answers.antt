@@ -1,8 +1,6 @@
-use Rattle.std.proofs.Common.{option_map, string_bytes}
-use Rattle.std.proofs.lemmas.Result.{IfErr-weaker}
+use Rattle.std.proofs.{Common.{option_map, string_bytes}, lemmas.Result.IfErr-weaker}
 use Rattle.office_rows.proofs.Creating.{if_ok}
-use Rattle.office_archives.proofs.Beside.{here_beside}
-use Rattle.office_archives.proofs.Together.{looks_on}
+use Rattle.office_archives.proofs.{Beside.here_beside, Together.looks_on}
 use Rattle.office_archives.proofs.archived_desk.ArchivedDesk.find_here.Goals as goal
 
 pub returns : goal.returns

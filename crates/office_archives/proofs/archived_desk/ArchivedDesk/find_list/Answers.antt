@@ -1,12 +1,8 @@
 use Rattle.std.proofs.Common.{map, option_map, string_bytes, subst}
 use Rattle.edi_messages.specs.Owned.{call_content}
-use Rattle.office_rows.proofs.Creating.{if_ok}
-use Rattle.office_rows.specs.Rows.{listing_content}
+use Rattle.office_rows.{specs.Rows.listing_content, proofs.Creating.if_ok}
 use Rattle.office_parts.specs.OwnLists.{list_name}
-use Rattle.office_archives.specs.ListsAway.{FindsIfAway}
-use Rattle.office_archives.proofs.Beside.{away_beside, list_beside}
-use Rattle.office_archives.proofs.Together.{looks_more, looks_on}
-use Rattle.office_archives.specs.Causes.{IsDeservedHere}
+use Rattle.office_archives.{specs.{ListsAway.FindsIfAway, Causes.IsDeservedHere}, proofs.{Beside.{away_beside, list_beside}, Together.{looks_more, looks_on}}}
 use Rattle.office_archives.proofs.Causing.{err_all, list_not_here}
 use Rattle.office_archives.proofs.archived_desk.ArchivedDesk.find_list.Goals as goal
 

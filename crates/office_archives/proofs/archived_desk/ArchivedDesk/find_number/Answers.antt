@@ -1,13 +1,9 @@
-use Rattle.std.proofs.Common.{◌≡◌, None, Some, option_map, string_bytes, refl, sym, ◌∙◌}
+use Rattle.std.proofs.{Common.{◌≡◌, None, Some, option_map, string_bytes, refl, sym, ◌∙◌}, lemmas.Result.IfErr-weaker}
 use Rattle.office_admission.specs.Setups.{setup_content}
 use Rattle.office_rows.proofs.Creating.{if_ok}
-use Rattle.office_desk.specs.Reports.{partner_called}
-use Rattle.office_archives.proofs.Beside.{closed_beside, nobody_beside, number_beside}
-use Rattle.office_desk.proofs.LookLemmas.{looks_nowhere}
-use Rattle.office_archives.proofs.Together.{looks_on}
-use Rattle.office_archives.specs.Causes.{IsDeservedHere}
+use Rattle.office_desk.{specs.Reports.partner_called, proofs.LookLemmas.looks_nowhere}
+use Rattle.office_archives.{specs.Causes.IsDeservedHere, proofs.{Beside.{closed_beside, nobody_beside, number_beside}, Together.looks_on}}
 use Rattle.office_archives.proofs.Causing.{err_all, number_not_here}
-use Rattle.std.proofs.lemmas.Result.{IfErr-weaker}
 use Rattle.office_archives.proofs.archived_desk.ArchivedDesk.find_number.Goals as goal
 
 -- ---- nobody has the code

@@ -1,10 +1,7 @@
-use Rattle.std.proofs.Common.{◌≡◌, List, [], arith, option_map, string_bytes}
-use Rattle.std.proofs.lemmas.Result.{IfErr-weaker}
+use Rattle.std.proofs.{Common.{◌≡◌, List, [], arith, option_map, string_bytes}, lemmas.Result.IfErr-weaker}
 use Rattle.office_rows.proofs.Creating.{if_ok}
 use Rattle.office_parts.specs.Archives.{Archive}
-use Rattle.office_archives.proofs.Alone.{alone_tells}
-use Rattle.office_archives.proofs.Beside.{none_there}
-use Rattle.office_archives.proofs.Together.{looks_on}
+use Rattle.office_archives.proofs.{Alone.alone_tells, Beside.none_there, Together.looks_on}
 use Rattle.office_archives.proofs.archived_desk.ArchivedDesk.find_report.Goals as goal
 
 -- there is no archive

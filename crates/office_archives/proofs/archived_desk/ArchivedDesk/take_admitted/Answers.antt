@@ -1,15 +1,10 @@
-use Rattle.std.proofs.Common.{◌≡◌, ℕ, Ok, ap, sym, subst, ◌∙◌}
-use Rattle.std.specs.Prelude.{nat_le}
-use Rattle.edi_syntax.specs.Interchange.{segments_in}
-use Rattle.edi_syntax.specs.Envelope.{header_of}
-use Rattle.edi_syntax.specs.Heads.{head_segments}
-use Rattle.office_admission.specs.Admission.{admission, number_in}
+use Rattle.std.{specs.Prelude.nat_le, proofs.Common.{◌≡◌, ℕ, Ok, ap, sym, subst, ◌∙◌}}
+use Rattle.edi_syntax.specs.{Interchange.segments_in, Envelope.header_of, Heads.head_segments}
+use Rattle.office_admission.specs.{Admission.{admission, number_in}, Parties.parties_of}
 use Rattle.office_loading.specs.Closed.{last_closed}
 use Rattle.office_replies.specs.declared.deliver.Response.TheVariants.{NotNow}
-use Rattle.office_admission.specs.Parties.{parties_of}
 use Rattle.office_desk.proofs.OwnNumbers.{admitted_surely, numbered}
-use Rattle.office_archives.specs.Answering.{AnswersClosed}
-use Rattle.office_archives.proofs.Together.{by_archives, not_now}
+use Rattle.office_archives.{specs.Answering.AnswersClosed, proofs.Together.{by_archives, not_now}}
 use Rattle.office_archives.proofs.archived_desk.ArchivedDesk.take_admitted.Goals as goal
 
 pub take_open-requires : goal.take_open-requires

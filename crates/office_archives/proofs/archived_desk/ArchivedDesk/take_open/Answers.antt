@@ -1,14 +1,9 @@
 use Rattle.std.proofs.Common.{◌≡◌, Ok, Err, sym, subst}
-use Rattle.edi_syntax.specs.Interchange.{segments_in}
-use Rattle.edi_syntax.specs.Envelope.{header_of}
-use Rattle.office_admission.specs.Admission.{admission, number_in}
-use Rattle.office_admission.specs.Outcomes.{IsAdmitted}
+use Rattle.edi_syntax.specs.{Interchange.segments_in, Envelope.header_of}
+use Rattle.office_admission.specs.{Admission.{admission, number_in}, Outcomes.IsAdmitted, Parties.parties_of, declared.setup.Setup.Setup}
 use Rattle.office_replies.specs.declared.deliver.Response.TheVariants.{NotNow}
-use Rattle.office_admission.specs.Parties.{parties_of}
-use Rattle.office_admission.specs.declared.setup.Setup.{Setup}
 use Rattle.office_desk.proofs.OwnNumbers.{admitted_surely}
-use Rattle.office_archives.specs.Bringing.{BringsTogether, named_by}
-use Rattle.office_archives.proofs.Together.{by_open, not_brought}
+use Rattle.office_archives.{specs.Bringing.{BringsTogether, named_by}, proofs.Together.{by_open, not_brought}}
 use Rattle.office_archives.proofs.archived_desk.ArchivedDesk.take_open.Goals as goal
 
 pub take_admitted-requires : goal.take_admitted-requires

@@ -1,9 +1,7 @@
 use Rattle.std.proofs.Common.{not, ap, ◌∙◌}
 use Rattle.sqlite.specs.Held.{state}
-use Rattle.office_rows.specs.Rows.{Rows}
-use Rattle.office_rows.specs.Stored.{HasRows}
-use Rattle.office_tables.specs.Answers.{HasUnfitReply, IsKept}
-use Rattle.office_tables.specs.Faults.{IsOfStoreOr}
+use Rattle.office_rows.specs.{Rows.Rows, Stored.HasRows}
+use Rattle.office_tables.specs.{Answers.{HasUnfitReply, IsKept}, Faults.IsOfStoreOr}
 use Rattle.office_archives.proofs.Looking.{err_committed, ok_committed}
 use Rattle.office_archives.proofs.looked.Looked.kept.Goals as goal
 

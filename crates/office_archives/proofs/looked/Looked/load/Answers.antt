@@ -1,15 +1,9 @@
-use Rattle.std.proofs.Common.{◌≡◌, not, ap, subst, ◌∙◌}
-use Rattle.std.specs.Prelude.{IfErr}
-use Rattle.sqlite.specs.Effect.{Database}
-use Rattle.sqlite.specs.Held.{state}
+use Rattle.std.{specs.Prelude.IfErr, proofs.Common.{◌≡◌, not, ap, subst, ◌∙◌}}
+use Rattle.sqlite.specs.{Effect.Database, Held.state}
 use Rattle.office_admission.specs.Setups.{setup_content}
 use Rattle.office_desk.specs.Offices.{FailsToOpen}
-use Rattle.office_loading.specs.Closed.{closed_content}
-use Rattle.office_loading.specs.Tables.{LoadsOwn}
-use Rattle.office_rows.specs.Rows.{Rows}
-use Rattle.office_rows.specs.Shown.{AreNexts}
-use Rattle.office_rows.specs.Stored.{HasRows}
-use Rattle.office_rows.specs.Tables.{office_schema}
+use Rattle.office_loading.specs.{Closed.closed_content, Tables.LoadsOwn}
+use Rattle.office_rows.specs.{Rows.Rows, Shown.AreNexts, Stored.HasRows, Tables.office_schema}
 use Rattle.office_archives.proofs.Looking.{loaded_committed, ok_committed}
 use Rattle.office_archives.proofs.looked.Looked.load.Goals as goal
 

@@ -1,8 +1,6 @@
 use Rattle.std.proofs.Common.{◌≡◌, not, ap, ◌∙◌}
 use Rattle.sqlite.specs.Held.{state}
-use Rattle.office_closing.specs.Register.{RegisterContent, register_content}
-use Rattle.office_closing.specs.Sound.{IsSound}
-use Rattle.office_closing.specs.Stored.{HasRegister}
+use Rattle.office_closing.specs.{Register.{RegisterContent, register_content}, Sound.IsSound, Stored.HasRegister}
 use Rattle.office_tables.specs.Faults.{IsOfStore}
 use Rattle.office_archives.proofs.Looking.{err_committed, ok_committed}
 use Rattle.office_archives.proofs.looked.Looked.register.Goals as goal

@@ -1,7 +1,5 @@
 use Rattle.std.proofs.Common.{not, option_map, string_bytes, ap, subst, ◌∙◌, IfOk}
-use Rattle.sqlite.specs.Held.{state}
-use Rattle.office_rows.specs.Rows.{Rows}
-use Rattle.office_rows.specs.Stored.{HasRows}
+use Rattle.office_rows.specs.{Rows.Rows, Stored.HasRows}
 use Rattle.office_history.specs.After.{AreKeptOnce}
 use Rattle.office_tables.proofs.WriteLemmas.{was_open}
 use Rattle.office_archives.specs.Keeping.{IsReportOf}

@@ -1,10 +1,8 @@
 use Rattle.std.proofs.Common.{not, string_bytes, ap, ◌∙◌}
 use Rattle.sqlite.specs.Held.{state}
-use Rattle.office_rows.specs.Rows.{Rows}
-use Rattle.office_rows.specs.Stored.{HasRows}
+use Rattle.office_rows.specs.{Rows.Rows, Stored.HasRows}
 use Rattle.office_history.specs.After.{AreKeptOnce}
-use Rattle.office_archives.specs.Keeping.{IsTicketOf}
-use Rattle.office_archives.proofs.Looking.{ok_committed}
+use Rattle.office_archives.{specs.Keeping.IsTicketOf, proofs.Looking.ok_committed}
 use Rattle.office_archives.proofs.looked.Looked.ticket.Goals as goal
 
 pub returns-clause-ticket : goal.returns-clause-ticket

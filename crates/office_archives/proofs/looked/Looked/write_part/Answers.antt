@@ -1,12 +1,9 @@
 use Rattle.std.proofs.Common.{not, ap, ◌∙◌}
 use Rattle.sqlite.specs.Held.{state}
 use Rattle.office_loading.specs.Closed.{last_closed}
-use Rattle.office_rows.specs.Rows.{Rows}
-use Rattle.office_rows.specs.Stored.{HasRows}
-use Rattle.office_rows.proofs.Creating.{if_ok}
+use Rattle.office_rows.{specs.{Rows.Rows, Stored.HasRows}, proofs.Creating.if_ok}
 use Rattle.office_tables.specs.Faults.{IsOfStore}
-use Rattle.office_archives.specs.Parts.{StandInOrder, WritesPart}
-use Rattle.office_archives.proofs.Looking.{err_committed, ok_committed}
+use Rattle.office_archives.{specs.Parts.{StandInOrder, WritesPart}, proofs.Looking.{err_committed, ok_committed}}
 use Rattle.office_archives.proofs.looked.Looked.write_part.Goals as goal
 
 pub returns-clause-writes : goal.returns-clause-writes

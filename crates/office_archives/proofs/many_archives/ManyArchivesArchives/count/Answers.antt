@@ -1,5 +1,4 @@
-use Rattle.std.proofs.Common.{◌≡◌, length, rules, sym, ◌∙◌}
-use Rattle.std.proofs.lemmas.List.{length-map}
+use Rattle.std.proofs.{Common.{◌≡◌, length, rules, sym, ◌∙◌}, lemmas.List.length-map}
 use Rattle.office_closing.specs.Register.{archive_content}
 use Rattle.office_archives.proofs.many_archives.ManyArchivesArchives.count.Goals as goal
 

@@ -2,10 +2,8 @@ use Rattle.std.proofs.Common.{◌≡◌, ℕ, List, [], true, false, Option, Non
 use Rattle.edi_messages.specs.Purposes.{CallContent}
 use Rattle.terminal_core.specs.declared.lines.Side.{Side}
 use Rattle.office_rows.specs.Rows.{ListingContent}
-use Rattle.office_parts.specs.Away.{lines_away}
-use Rattle.office_parts.specs.OwnLists.{list_name}
-use Rattle.office_closing.specs.Register.{register_content}
-use Rattle.office_closing.proofs.Created.{some_told}
+use Rattle.office_parts.specs.{Away.lines_away, OwnLists.list_name}
+use Rattle.office_closing.{specs.Register.register_content, proofs.Created.some_told}
 use Rattle.office_archives.specs.Shelves.{IsKeptAs}
 use Rattle.office_archives.proofs.many_archives.ManyArchivesArchives.has_lists.Goals as goal
 

@@ -1,12 +1,8 @@
-use Rattle.std.proofs.Common.{◌≡◌, Some, sym, ap, subst, ◌∙◌}
-use Rattle.std.specs.Option.{option_and_then}
+use Rattle.std.{specs.Option.option_and_then, proofs.Common.{◌≡◌, Some, sym, ap, subst, ◌∙◌}}
 use Rattle.partner_core.proofs.Orders.{some_of}
-use Rattle.office_tables.specs.Answers.{IsKept}
-use Rattle.office_tables.proofs.MadeLemmas.{clean_first}
+use Rattle.office_tables.{specs.Answers.IsKept, proofs.MadeLemmas.clean_first}
 use Rattle.office_parts.specs.Archives.{archive_of}
-use Rattle.office_archives.specs.Shelves.{IsOpenAt, archive_at}
-use Rattle.office_archives.proofs.Rising.{open_still, shelved_still}
-use Rattle.office_archives.proofs.Filled.{told_by}
+use Rattle.office_archives.{specs.Shelves.{IsOpenAt, archive_at}, proofs.{Rising.{open_still, shelved_still}, Filled.told_by}}
 use Rattle.office_archives.proofs.many_archives.ManyArchivesArchives.kept.Goals as goal
 
 pub returns-in-Some-found-clause-kept : goal.returns-in-Some-found-clause-kept

@@ -1,12 +1,9 @@
 use Rattle.std.proofs.Common.{◌≡◌, ℕ, List, Option, None, Some, IfSome, map, option_map, sym, ap, subst, ◌∙◌}
-use Rattle.edi_messages.specs.Owned.{call_content}
-use Rattle.edi_messages.specs.Purposes.{CallContent}
+use Rattle.edi_messages.specs.{Owned.call_content, Purposes.CallContent}
 use Rattle.terminal_core.specs.declared.lines.Side.{Side}
 use Rattle.office_rows.specs.Rows.{ListingContent, listing_content}
-use Rattle.office_parts.specs.Away.{lines_away}
-use Rattle.office_parts.specs.OwnLists.{list_name}
-use Rattle.office_closing.specs.Texts.{IsTextOf}
-use Rattle.office_closing.proofs.TextLemmas.{one_list}
+use Rattle.office_parts.specs.{Away.lines_away, OwnLists.list_name}
+use Rattle.office_closing.{specs.Texts.IsTextOf, proofs.TextLemmas.one_list}
 use Rattle.office_archives.specs.Shelves.{IsKeptAs}
 use Rattle.office_archives.proofs.many_archives.ManyArchivesArchives.lines.Goals as goal
 

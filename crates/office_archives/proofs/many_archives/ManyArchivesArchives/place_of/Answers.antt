@@ -1,5 +1,4 @@
-use Rattle.std.proofs.Common.{ap, sym, ◌∙◌}
-use Rattle.std.specs.Option.{option_and_then}
+use Rattle.std.{specs.Option.option_and_then, proofs.Common.{ap, sym, ◌∙◌}}
 use Rattle.office_archives.specs.Shelves.{archive_at}
 use Rattle.office_archives.proofs.many_archives.ManyArchivesArchives.place_of.Goals as goal
 

@@ -1,7 +1,6 @@
 use Rattle.std.proofs.Common.{sym, subst}
 use Rattle.office_tables.proofs.WriteLemmas.{was_clean, was_open}
-use Rattle.office_archives.specs.Shelves.{IsOpenAt}
-use Rattle.office_archives.proofs.Rising.{open_still, shelved_still}
+use Rattle.office_archives.{specs.Shelves.IsOpenAt, proofs.Rising.{open_still, shelved_still}}
 use Rattle.office_archives.proofs.many_archives.ManyArchivesArchives.report.Goals as goal
 
 pub returns-clause-report : goal.returns-clause-report

@@ -1,7 +1,6 @@
 use Rattle.std.proofs.Common.{sym, subst, ◌∙◌}
 use Rattle.office_tables.proofs.MadeLemmas.{clean_first}
-use Rattle.office_archives.specs.Shelves.{IsOpenAt}
-use Rattle.office_archives.proofs.Rising.{archive_there, open_still, shelved_still}
+use Rattle.office_archives.{specs.Shelves.IsOpenAt, proofs.Rising.{archive_there, open_still, shelved_still}}
 use Rattle.office_archives.proofs.many_archives.ManyArchivesArchives.ticket.Goals as goal
 
 pub returns-clause-ticket : goal.returns-clause-ticket

@@ -1,8 +1,5 @@
-use Rattle.std.proofs.Common.{subst, sym}
-use Rattle.std.specs.List.{AllByRecursion}
-use Rattle.office_closing.specs.Register.{register_content}
-use Rattle.office_closing.specs.Sound.{IsOfAccount}
-use Rattle.office_closing.proofs.Inserted.{sound_accounts}
+use Rattle.std.{specs.List.AllByRecursion, proofs.Common.{subst, sym}}
+use Rattle.office_closing.{specs.{Register.register_content, Sound.IsOfAccount}, proofs.Inserted.sound_accounts}
 use Rattle.office_closing.proofs.register.Register.closed.Goals as goal
 
 pub last_numbers-requires : goal.last_numbers-requires

@@ -1,5 +1,4 @@
-use Rattle.std.proofs.Common.{◌≡◌, drop, not}
-use Rattle.std.specs.List.{list_any}
+use Rattle.std.{specs.List.list_any, proofs.Common.{◌≡◌, drop, not}}
 use Rattle.office_closing.specs.Register.{is_passed}
 use Rattle.office_closing.proofs.register.Register.is_newer_than.Given as goal
 

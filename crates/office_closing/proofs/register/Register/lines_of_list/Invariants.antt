@@ -1,5 +1,4 @@
-use Rattle.std.proofs.Common.{◌≡◌, map, take}
-use Rattle.std.specs.Option.{option_map}
+use Rattle.std.{specs.Option.option_map, proofs.Common.{◌≡◌, map, take}}
 use Rattle.edi_messages.specs.Owned.{call_content}
 use Rattle.office_closing.specs.Lists.{list_content, lines_of_list}
 use Rattle.office_closing.proofs.register.Register.lines_of_list.Given as goal

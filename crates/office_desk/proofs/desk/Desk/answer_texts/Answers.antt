@@ -1,6 +1,4 @@
-use Rattle.std.proofs.Common.{Result, Ok, Err}
-use Rattle.std.proofs.lemmas.Result.{IfErr-weaker}
-use Rattle.std.specs.Prelude.{OnOk}
+use Rattle.std.{specs.Prelude.OnOk, proofs.{Common.{Result, Ok, Err}, lemmas.Result.IfErr-weaker}}
 use Rattle.office_reports.specs.Looking.{texts_after}
 use Rattle.office_tables.proofs.WritesLemmas.{of_store_or}
 use Rattle.office_desk.proofs.LookLemmas.{looks_noted}

@@ -1,5 +1,4 @@
-use Rattle.std.proofs.Common.{◌≡◌, ◌-◌, get_or, string_bytes, sym, ◌∙◌, arith}
-use Rattle.std.proofs.lemmas.Option.{slice_get-get_or}
+use Rattle.std.proofs.{Common.{◌≡◌, ◌-◌, get_or, string_bytes, sym, ◌∙◌, arith}, lemmas.Option.slice_get-get_or}
 use Rattle.office_desk.proofs.OwnNumbers.{code_at}
 use Rattle.office_desk.proofs.desk.Desk.code_of.Goals as goal
 

@@ -1,23 +1,13 @@
-use Rattle.std.proofs.Common.{◌≡◌, OnOk, Some, not, option_map, string_bytes, refl, sym, ap, subst, ◌∙◌}
-use Rattle.std.specs.Prelude.{IsTrue}
-use Rattle.sqlite.specs.Held.{state}
-use Rattle.sqlite.specs.State.{HasCleanDisk}
+use Rattle.std.{specs.Prelude.IsTrue, proofs.Common.{◌≡◌, OnOk, Some, not, option_map, string_bytes, refl, sym, ap, subst, ◌∙◌}}
 use Rattle.std.proofs.lemmas.Result.{IfErr-weaker, err_from_is_err_and}
-use Rattle.office_rows.specs.Stored.{HasRows}
-use Rattle.office_tables.proofs.WritesLemmas.{of_store_or, of_store_weaker}
+use Rattle.sqlite.specs.{Held.state, State.HasCleanDisk}
+use Rattle.office_rows.{specs.Stored.HasRows, proofs.Creating.{if_ok, on_ok}}
+use Rattle.office_tables.{specs.DeliveryReading.IsSame, proofs.{WritesLemmas.{of_store_or, of_store_weaker}, WriteLemmas.{was_clean, was_open}}}
 use Rattle.office_loading.specs.Closed.{closed_content}
-use Rattle.office_desk.proofs.Faults.{asked_unfit}
-use Rattle.office_desk.proofs.DeliverLemmas.{keeps_accounts, office_once, office_with}
-use Rattle.office_rows.proofs.Creating.{if_ok, on_ok}
+use Rattle.office_desk.{specs.{Beside.{IsBeside, IsOrNone}, Finding.StaysBeside, Offices.HoldsOffice, Reports.TellsOf}, proofs.Faults.asked_unfit}
+use Rattle.office_desk.proofs.{DeliverLemmas.{keeps_accounts, office_once, office_with}, HoldLemmas.{leaves_less, held_with}}
 use Rattle.office_history.specs.After.{content_after, machine_after}
 use Rattle.office_admission.specs.Setups.{setup_content}
-use Rattle.office_tables.specs.DeliveryReading.{IsSame}
-use Rattle.office_tables.proofs.WriteLemmas.{was_clean, was_open}
-use Rattle.office_desk.specs.Beside.{IsBeside, IsOrNone}
-use Rattle.office_desk.specs.Finding.{StaysBeside}
-use Rattle.office_desk.specs.Offices.{HoldsOffice}
-use Rattle.office_desk.specs.Reports.{TellsOf}
-use Rattle.office_desk.proofs.HoldLemmas.{leaves_less, held_with}
 use Rattle.office_desk.proofs.desk.Desk.find_report.Goals as goal
 
 -- What stands beside the rows, or is loaded from them, is at the deliveries.

@@ -1,15 +1,11 @@
-use Rattle.std.proofs.Common.{◌≡◌, List, ℕ, Option, option_map, not, refl, sym, ap, subst, ◌∙◌}
+use Rattle.std.proofs.Common.{◌≡◌, ℕ, option_map, not, refl, sym, ap, subst, ◌∙◌}
 use Rattle.std.proofs.lemmas.Result.{IfErr-weaker}
-use Rattle.sqlite.specs.Effect.{Database}
-use Rattle.sqlite.specs.Held.{state}
-use Rattle.office_rows.specs.Stored.{HasRows}
-use Rattle.office_rows.proofs.Creating.{if_ok}
+use Rattle.sqlite.specs.{Effect.Database, Held.state}
+use Rattle.office_rows.{specs.Stored.HasRows, proofs.Creating.if_ok}
 use Rattle.office_tables.proofs.WriteLemmas.{one_read, was_clean, was_open}
 use Rattle.office_admission.specs.Setups.{setup_content}
 use Rattle.office_loading.specs.Closed.{closed_content}
-use Rattle.office_desk.specs.Looking.{PagesOf}
-use Rattle.office_desk.proofs.HoldLemmas.{leaves_less, held_with}
-use Rattle.office_desk.proofs.DeliverLemmas.{office_with}
+use Rattle.office_desk.{specs.Looking.PagesOf, proofs.{HoldLemmas.{leaves_less, held_with}, DeliverLemmas.office_with}}
 use Rattle.office_desk.proofs.desk.Desk.find_texts.Goals as goal
 
 -- no change was under way, so the rows that are read are those that the desk has

@@ -1,22 +1,13 @@
-use Rattle.std.proofs.Common.{◌≡◌, None, Some, not, refl, sym, ap, subst, ◌∙◌, IsTrue}
-use Rattle.std.proofs.lemmas.Result.{err_from_is_err_and}
-use Rattle.sqlite.specs.Held.{state}
-use Rattle.sqlite.specs.State.{HasCleanDisk, IsUnchanged}
-use Rattle.office_rows.specs.Stored.{HasRows}
-use Rattle.office_rows.specs.Tables.{office_schema}
+use Rattle.std.proofs.{Common.{◌≡◌, None, Some, not, refl, sym, ap, subst, ◌∙◌, IsTrue}, lemmas.Result.err_from_is_err_and}
+use Rattle.sqlite.specs.{Held.state, State.{HasCleanDisk, IsUnchanged}}
+use Rattle.office_rows.specs.{Stored.HasRows, Tables.office_schema}
 use Rattle.edi_messages.specs.Codes.{table_texts}
 use Rattle.office_admission.specs.Setups.{SetupContent, setup_content}
-use Rattle.office_history.specs.After.{SaysSame, content_after}
-use Rattle.office_history.proofs.Alike.{reopens}
-use Rattle.office_loading.specs.Tables.{LoadsOwn}
+use Rattle.office_history.{specs.After.{SaysSame, content_after}, proofs.Alike.reopens}
+use Rattle.office_loading.specs.{Tables.LoadsOwn, Closed.closed_content}
 use Rattle.office_tables.proofs.MadeLemmas.{clean_first, reads_stopped}
-use Rattle.office_loading.specs.Closed.{closed_content}
-use Rattle.office_desk.specs.Beside.{IsBeside, IsOrNone}
-use Rattle.office_desk.specs.Offices.{HoldsOffice}
-use Rattle.office_desk.specs.Telling.{Holds}
-use Rattle.office_desk.proofs.OwnNumbers.{codes_after}
-use Rattle.office_desk.proofs.HoldLemmas.{held_leaves, nexts_loaded}
-use Rattle.office_desk.proofs.DeliverLemmas.{office_with, shown_by_own, beside_loaded}
+use Rattle.office_desk.{specs.{Beside.{IsBeside, IsOrNone}, Offices.HoldsOffice, Telling.Holds}, proofs.OwnNumbers.codes_after}
+use Rattle.office_desk.proofs.{HoldLemmas.{held_leaves, nexts_loaded}, DeliverLemmas.{office_with, shown_by_own, beside_loaded}}
 use Rattle.office_desk.proofs.desk.Desk.open.Goals as goal
 
 pub new-requires-clause-given : goal.new-requires-clause-given

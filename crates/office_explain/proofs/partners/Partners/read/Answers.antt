@@ -1,8 +1,6 @@
 -- The constants are what the definitions say.
-use Rattle.std.proofs.Common.{List, ℕ, subst, sym}
-use Rattle.std.proofs.lemmas.Result.{err_from_is_err_and}
-use Rattle.office_admission.specs.Setups.{setup_content}
-use Rattle.office_admission.specs.declared.setup.Setup.{Setup}
+use Rattle.std.proofs.{Common.{List, ℕ, subst, sym}, lemmas.Result.err_from_is_err_and}
+use Rattle.office_admission.specs.{Setups.setup_content, declared.setup.Setup.Setup}
 use Rattle.office_explain.specs.Said.{RefuseFiles, SayFiles, one_block}
 use Rattle.office_explain.proofs.partners.Partners.read.Goals as goal
 

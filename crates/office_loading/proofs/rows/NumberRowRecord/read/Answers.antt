@@ -1,7 +1,5 @@
 use Rattle.std.proofs.Common.{◌≡◌, [], ◌∷◌, not, ap}
-use Rattle.office_rows.specs.Rows.{Interchange}
-use Rattle.office_rows.specs.Opened.{reply_values}
-use Rattle.office_rows.specs.Shown.{columns_at}
+use Rattle.office_rows.specs.{Rows.Interchange, Opened.reply_values, Shown.columns_at}
 use Rattle.office_loading.specs.Contents.{number_content}
 use Rattle.office_loading.proofs.rows.NumberRowRecord.read.Goals as goal
 

@@ -1,12 +1,9 @@
+use Rattle.std.{specs.{Io.KnownBytes.Appends, declared.io.Error.Error}, proofs.lemmas.Result.{on_ok_weaker, err_from_is_err_and}}
 use Rattle.std.proofs.Common.{◌≡◌, ◌+◌, ◌++◌, ℕ, List, [], Err, length, take, drop, get_or, refl, sym, ap, subst, ◌∙◌, arith, append_assoc, length-append}
-use Rattle.std.proofs.lemmas.Result.{on_ok_weaker, err_from_is_err_and}
-use Rattle.std.specs.Io.KnownBytes.{Appends}
-use Rattle.std.specs.declared.io.Error.{Error}
-use Rattle.office_replies.specs.Writes.{joined_parts, WritesOut}
-use Rattle.office_replies.specs.Fronts.{AppendsFront}
+use Rattle.office_replies.specs.{Writes.{joined_parts, WritesOut}, Fronts.AppendsFront}
 use Rattle.office_replies.proofs.PartLemmas.{on_err, on_err_weaker, Gathers, gathers_none, gathers_held, gathers_out, gathers_passed, ends_out, ends_together, ends_appended, ends_front, stops_out, stops_front, joined_more, joined_rest, joined_all, no_room, ok_absent, out_as, pieces_as}
-use Rattle.office_replies.proofs.port.Port.write_parts.Goals as goal
 use Rattle.office_replies.proofs.port.Port.write_parts.Goals.{then-has_room, else-has_room+in_ok-write_all+in_ok-write_all-2}
+use Rattle.office_replies.proofs.port.Port.write_parts.Goals as goal
 
 pub parts-init : goal.parts-init
 parts-init g c = record {

@@ -1,6 +1,5 @@
 use Rattle.std.proofs.Common.{◌≡◌, take}
-use Rattle.office_replies.specs.Writes.{joined_parts}
-use Rattle.office_replies.proofs.PartLemmas.{Gathers}
+use Rattle.office_replies.{specs.Writes.joined_parts, proofs.PartLemmas.Gathers}
 use Rattle.office_replies.proofs.port.Port.write_parts.Given as goal
 
 -- of the parts so far pieces were written out, and the rest is held

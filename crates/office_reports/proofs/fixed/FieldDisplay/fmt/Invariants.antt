@@ -1,5 +1,4 @@
-use Rattle.std.proofs.Common.{flat_map, take}
-use Rattle.std.specs.Fmt.{HasWritten, IsPlainFormatter}
+use Rattle.std.{specs.Fmt.{HasWritten, IsPlainFormatter}, proofs.Common.{flat_map, take}}
 use Rattle.office_reports.specs.Fields.{character_text}
 use Rattle.office_reports.proofs.fixed.FieldDisplay.fmt.Given as goal
 

@@ -1,12 +1,8 @@
 use Rattle.std.proofs.Common.{◌≡◌, ℕ, List, [], ◌∷◌, ◌++◌, length, vec_len, None, sym, ap, ◌∙◌, rules, subst}
-use Rattle.std.specs.FinMap as finite_map
 use Rattle.edi_messages.specs.Owned.{call_content}
-use Rattle.terminal_core.specs.declared.lines.Listing.{Listing}
-use Rattle.terminal_core.specs.State.{Lines}
-use Rattle.terminal_core.specs.Listings.{key_of, line_content, lines_of}
-use Rattle.terminal_core.specs.LineIndexes.{AreNoted, NotesIndex}
-use Rattle.terminal_core.proofs.Lined.{line_added}
-use Rattle.terminal_core.proofs.Noted.{one_noted}
+use Rattle.terminal_core.specs.{declared.lines.Listing.Listing, State.Lines, Listings.{key_of, line_content, lines_of}, LineIndexes.{AreNoted, NotesIndex}}
+use Rattle.terminal_core.proofs.{Lined.line_added, Noted.one_noted}
+use Rattle.std.specs.FinMap as finite_map
 use Rattle.terminal_core.proofs.lists.Lists.add.Goals as goal
 
 pub invariant_of-self-2 : goal.invariant_of-self-2

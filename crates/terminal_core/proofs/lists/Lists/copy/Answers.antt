@@ -1,10 +1,6 @@
-use Rattle.std.proofs.Common.{◌≡◌, List, sym, ap, ◌∙◌, subst}
-use Rattle.std.specs.Prelude.{map}
-use Rattle.terminal_core.specs.declared.lines.Listing.{Listing}
-use Rattle.terminal_core.specs.declared.restoring.RestoreFault.{RestoreFault}
-use Rattle.terminal_core.specs.Listings.{line_entry}
-use Rattle.terminal_core.specs.Restoring.{AreOnce, RefusesLines}
-use Rattle.terminal_core.proofs.Noted.{copy_noted, once_noted}
+use Rattle.std.{specs.Prelude.map, proofs.Common.{◌≡◌, List, sym, ap, ◌∙◌, subst}}
+use Rattle.terminal_core.specs.{declared.lines.Listing.Listing, declared.restoring.RestoreFault.RestoreFault, Listings.line_entry}
+use Rattle.terminal_core.{specs.Restoring.{AreOnce, RefusesLines}, proofs.Noted.{copy_noted, once_noted}}
 use Rattle.terminal_core.proofs.lists.Lists.copy.Goals as goal
 
 pub unreachable-requires : goal.unreachable-requires

@@ -1,10 +1,7 @@
-use Rattle.std.proofs.Common.{List, ap, ◌∙◌, subst}
-use Rattle.std.specs.List.Sorted.{IsPermutation}
+use Rattle.std.{specs.List.Sorted.IsPermutation, proofs.Common.{List, ap, ◌∙◌, subst}}
 use Rattle.box6346.specs.declared.box_number.BoxNumber.{BoxNumber}
 use Rattle.edi_messages.specs.Owned.{call_content}
-use Rattle.terminal_core.specs.Drop.{open_rows_of}
-use Rattle.terminal_core.proofs.Noted.{once_noted}
-use Rattle.terminal_core.proofs.OpenRows.{sorted_are}
+use Rattle.terminal_core.{specs.Drop.open_rows_of, proofs.{Noted.once_noted, OpenRows.sorted_are}}
 use Rattle.terminal_core.proofs.lists.Lists.open_containers.Goals as goal
 
 pub returns : goal.returns

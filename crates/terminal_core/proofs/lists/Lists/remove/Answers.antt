@@ -1,7 +1,5 @@
 use Rattle.edi_messages.specs.Owned.{call_content}
-use Rattle.terminal_core.specs.State.{line_key}
-use Rattle.terminal_core.proofs.Lined.{none_told}
-use Rattle.terminal_core.proofs.Removed.{line_removed, none_removed}
+use Rattle.terminal_core.{specs.State.line_key, proofs.{Lined.none_told, Removed.{line_removed, none_removed}}}
 use Rattle.terminal_core.proofs.lists.Lists.remove.Goals as goal
 
 pub returns-in-Some : goal.returns-in-Some

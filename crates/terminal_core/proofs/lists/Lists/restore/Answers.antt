@@ -1,6 +1,5 @@
 use Rattle.std.proofs.Common.{List, refl, subst}
-use Rattle.terminal_core.specs.declared.lines.Listing.{Listing}
-use Rattle.terminal_core.specs.Restoring.{AreOnce}
+use Rattle.terminal_core.specs.{declared.lines.Listing.Listing, Restoring.AreOnce}
 use Rattle.terminal_core.proofs.lists.Lists.restore.Goals as goal
 
 pub returns : goal.returns

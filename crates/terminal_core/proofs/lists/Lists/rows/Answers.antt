@@ -1,7 +1,5 @@
 use Rattle.std.proofs.Common.{List, sym, subst}
-use Rattle.terminal_core.specs.declared.lines.Listing.{Listing}
-use Rattle.terminal_core.specs.Restoring.{AreOnce}
-use Rattle.terminal_core.proofs.Noted.{once_noted}
+use Rattle.terminal_core.{specs.{declared.lines.Listing.Listing, Restoring.AreOnce}, proofs.Noted.once_noted}
 use Rattle.terminal_core.proofs.lists.Lists.rows.Goals as goal
 
 pub returns-clause-once : goal.returns-clause-once

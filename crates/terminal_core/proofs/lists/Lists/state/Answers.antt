@@ -1,5 +1,4 @@
-use Rattle.std.proofs.Common.{sym, ap}
-use Rattle.std.specs.Option.{option_map}
+use Rattle.std.{specs.Option.option_map, proofs.Common.{sym, ap}}
 use Rattle.edi_messages.specs.Owned.{call_content}
 use Rattle.terminal_core.proofs.Lined.{state_told, none_told}
 use Rattle.terminal_core.proofs.lists.Lists.state.Goals as goal

@@ -1,10 +1,6 @@
-use Rattle.std.proofs.Common.{sym, subst}
-use Rattle.std.specs.Prelude.{map, IfOk}
-use Rattle.edi_messages.specs.Owned.{order_content}
-use Rattle.edi_messages.specs.declared.order.Order.{Order}
-use Rattle.terminal_core.specs.Rows.{change_content}
-use Rattle.terminal_core.specs.Step.{step}
-use Rattle.terminal_core.specs.Calls.{Follows}
+use Rattle.std.{specs.Prelude.{map, IfOk}, proofs.Common.{sym, subst}}
+use Rattle.edi_messages.specs.{Owned.order_content, declared.order.Order.Order}
+use Rattle.terminal_core.specs.{Rows.change_content, Step.step, Calls.Follows}
 use Rattle.terminal_core.proofs.terminal.Terminal.carry_out.Goals as goal
 
 pub returns-in-Discharge-clause-ok : goal.returns-in-Discharge-clause-ok

@@ -1,9 +1,6 @@
 use Rattle.std.proofs.Common.{refl}
 use Rattle.yard_core.specs.YardMap.{placement}
-use Rattle.terminal_core.specs.Rows.{change_content}
-use Rattle.terminal_core.specs.Step.{departure_by}
-use Rattle.terminal_core.proofs.Whole.{whole_departed, whole_with}
-use Rattle.terminal_core.proofs.Open.{two_more}
+use Rattle.terminal_core.{specs.{Rows.change_content, Step.departure_by}, proofs.{Whole.{whole_departed, whole_with}, Open.two_more}}
 use Rattle.terminal_core.proofs.Lined.{has_departed, has_not_departed}
 use Rattle.terminal_core.proofs.terminal.Terminal.depart.Goals as goal
 

@@ -1,13 +1,8 @@
 use Rattle.std.proofs.Common.{◌∙◌, Some, sym, ap}
 use Rattle.edi_messages.specs.Owned.{call_content, entry_content}
-use Rattle.terminal_core.specs.declared.lines.LineState.TheVariants.{Pending}
-use Rattle.terminal_core.specs.declared.lines.Side.TheVariants.{Discharge}
-use Rattle.terminal_core.specs.declared.visits.Way.TheVariants.{Ship}
-use Rattle.terminal_core.specs.State.{Lines, line_of, line_key}
-use Rattle.terminal_core.specs.Versions.{newest}
-use Rattle.terminal_core.specs.Step.{after_entry}
+use Rattle.terminal_core.specs.{declared.lines.LineState.TheVariants.Pending, declared.lines.Side.TheVariants.Discharge, declared.visits.Way.TheVariants.Ship}
+use Rattle.terminal_core.{specs.{State.{Lines, line_of, line_key}, Versions.newest, Step.after_entry}, proofs.Lined.{mapped_some, line_closed, came_off}}
 use Rattle.std.specs.FinMap as finite_map
-use Rattle.terminal_core.proofs.Lined.{mapped_some, line_closed, came_off}
 use Rattle.terminal_core.proofs.terminal.Terminal.discharge.Goals as goal
 
 pub returns-else-is_refused-clause-ok : goal.returns-else-is_refused-clause-ok

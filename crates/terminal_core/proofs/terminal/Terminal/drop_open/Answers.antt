@@ -1,11 +1,9 @@
-use Rattle.std.proofs.Common.{◌≡◌, ◌∷◌, ◌++◌, List, length, sym, ap, subst, ◌∙◌, arith}
 use Rattle.std.specs.Prelude.{map}
+use Rattle.std.proofs.Common.{◌≡◌, ◌∷◌, ◌++◌, List, length, ap, subst, ◌∙◌, arith}
 use Rattle.std.proofs.lemmas.List.{map-append}
 use Rattle.box6346.specs.declared.box_number.BoxNumber.{BoxNumber}
 use Rattle.edi_messages.specs.Owned.{call_content}
-use Rattle.terminal_core.specs.Drop.{list_drop, Drops, open_containers, without_lines_of}
-use Rattle.terminal_core.specs.Rows.{change_content, unlisted}
-use Rattle.terminal_core.specs.State.{TerminalState, Lines}
+use Rattle.terminal_core.specs.{Drop.{list_drop, Drops, open_containers, without_lines_of}, Rows.{change_content, unlisted}, State.{TerminalState, Lines}}
 use Rattle.terminal_core.proofs.terminal.Terminal.drop_open.Goals as goal
 
 pub returns-clause-ok : goal.returns-clause-ok

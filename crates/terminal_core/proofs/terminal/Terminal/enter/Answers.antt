@@ -1,16 +1,8 @@
-use Rattle.std.proofs.Common.{◌≡◌, ◌<◌, ◌≤◌, ◌+◌, length, refl, ap, ◌∙◌, arith, subst}
-use Rattle.std.specs.Prelude.{map}
-use Rattle.std.proofs.lemmas.Result.{MatchResult-at_ok}
+use Rattle.std.{specs.Prelude.map, proofs.{Common.{◌≡◌, ◌<◌, ◌≤◌, ◌+◌, length, refl, ap, ◌∙◌, arith, subst}, lemmas.Result.MatchResult-at_ok}}
 use Rattle.edi_messages.specs.Owned.{entry_content}
-use Rattle.terminal_core.specs.declared.change.Outcome.TheVariants.{Done}
-use Rattle.terminal_core.specs.Rows.{visit_content, change_content}
-use Rattle.terminal_core.specs.State.{TerminalState, last_number}
-use Rattle.terminal_core.specs.Versions.{newest}
-use Rattle.terminal_core.specs.Step.{after_entry}
-use Rattle.terminal_core.specs.Calls.{Follows, Settles, IsUnsettled}
-use Rattle.terminal_core.proofs.Open.{no_more_than_last, visits_after, changes_after, room}
-use Rattle.terminal_core.proofs.Whole.{whole_entered, whole_with, placed_in_plan}
-use Rattle.terminal_core.proofs.Lined.{has_entered}
+use Rattle.terminal_core.specs.{declared.change.Outcome.TheVariants.Done, Rows.{visit_content, change_content}, State.{TerminalState, last_number}}
+use Rattle.terminal_core.{specs.{Versions.newest, Step.after_entry, Calls.{Follows, Settles, IsUnsettled}}, proofs.Lined.has_entered}
+use Rattle.terminal_core.proofs.{Open.{no_more_than_last, visits_after, changes_after, room}, Whole.{whole_entered, whole_with, placed_in_plan}}
 use Rattle.terminal_core.proofs.terminal.Terminal.enter.Goals as goal
 
 pub invariant_of-self-in-Ok : goal.invariant_of-self-in-Ok

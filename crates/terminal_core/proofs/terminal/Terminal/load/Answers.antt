@@ -1,12 +1,8 @@
 use Rattle.std.proofs.Common.{◌≡◌, ◌∙◌, Some, sym, ap, true}
 use Rattle.edi_messages.specs.Owned.{call_content}
-use Rattle.terminal_core.specs.declared.lines.LineState.TheVariants.{Pending}
-use Rattle.terminal_core.specs.declared.lines.Side.TheVariants.{Load}
-use Rattle.terminal_core.specs.declared.visits.Way.TheVariants.{Ship}
-use Rattle.terminal_core.specs.State.{Lines, line_of, line_key, is_in}
-use Rattle.terminal_core.specs.Step.{after_departure}
+use Rattle.terminal_core.specs.{declared.lines.LineState.TheVariants.Pending, declared.lines.Side.TheVariants.Load, declared.visits.Way.TheVariants.Ship}
+use Rattle.terminal_core.{specs.{State.{Lines, line_of, line_key, is_in}, Step.after_departure}, proofs.Lined.{mapped_some, line_kept, line_closed, went_on}}
 use Rattle.std.specs.FinMap as finite_map
-use Rattle.terminal_core.proofs.Lined.{mapped_some, line_kept, line_closed, went_on}
 use Rattle.terminal_core.proofs.terminal.Terminal.load.Goals as goal
 
 pub returns-then-is_refused-clause-ok : goal.returns-then-is_refused-clause-ok

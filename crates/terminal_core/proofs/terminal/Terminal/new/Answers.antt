@@ -1,6 +1,5 @@
 use Rattle.std.proofs.Common.{List, subst}
-use Rattle.yard_core.specs.declared.plan.Block.{Block}
-use Rattle.yard_core.specs.Plan.{IsPlan}
+use Rattle.yard_core.specs.{declared.plan.Block.Block, Plan.IsPlan}
 use Rattle.terminal_core.proofs.Whole.{whole_empty}
 use Rattle.terminal_core.proofs.terminal.Terminal.new.Goals as goal
 

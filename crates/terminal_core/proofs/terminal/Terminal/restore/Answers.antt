@@ -1,11 +1,5 @@
-use Rattle.std.proofs.Common.{◌≡◌, ◌≤◌, List, length, arith, subst}
-use Rattle.std.proofs.lemmas.List.{length-map}
-use Rattle.terminal_core.specs.State.{last_number}
-use Rattle.terminal_core.proofs.Open.{no_more_than_last}
-use Rattle.std.specs.Prelude.{map}
-use Rattle.terminal_core.specs.declared.visits.Visit.{Visit}
-use Rattle.terminal_core.specs.Rows.{visit_content}
-use Rattle.terminal_core.specs.Restoring.{IsYardOf}
+use Rattle.std.{specs.Prelude.map, proofs.{Common.{◌≡◌, ◌≤◌, List, length, arith, subst}, lemmas.List.length-map}}
+use Rattle.terminal_core.{specs.{State.last_number, declared.visits.Visit.Visit, Rows.visit_content, Restoring.IsYardOf}, proofs.Open.no_more_than_last}
 use Rattle.terminal_core.proofs.Placing.{one_state, rows_of}
 use Rattle.terminal_core.proofs.terminal.Terminal.restore.Goals as goal
 

@@ -1,9 +1,6 @@
 use Rattle.std.proofs.Common.{refl}
-use Rattle.terminal_core.specs.Rows.{change_content}
-use Rattle.terminal_core.proofs.Whole.{whole_moved, whole_stays, shifted_in_plan}
-use Rattle.terminal_core.proofs.Open.{one_more}
-use Rattle.terminal_core.proofs.Lined.{has_moved, has_not_moved}
-use Rattle.terminal_core.proofs.terminal.Terminal.shift.Goals.{in-Ok, in-Err}
+use Rattle.terminal_core.{specs.Rows.change_content, proofs.{Whole.{whole_moved, whole_stays, shifted_in_plan}, Open.one_more}}
+use Rattle.terminal_core.proofs.{Lined.{has_moved, has_not_moved}, terminal.Terminal.shift.Goals.{in-Ok, in-Err}}
 use Rattle.terminal_core.proofs.terminal.Terminal.shift.Goals as goal
 
 pub invariant_of-self : goal.invariant_of-self

@@ -1,16 +1,7 @@
+use Rattle.std.{specs.{Prelude.{map, find}, Str.bytes_eq, Map.lookup}, proofs.lemmas.Option.{none-some, slice_get_within}}
 use Rattle.std.proofs.Common.{◌≡◌, List, length, vec_len, Some, cond, None, refl, sym, ap, ◌∙◌, arith, rules, subst}
-use Rattle.std.specs.Prelude.{map}
-use Rattle.std.specs.Str.{bytes_eq}
-use Rattle.std.specs.Map.{lookup}
-use Rattle.std.proofs.lemmas.Option.{none-some, slice_get_within}
-use Rattle.terminal_core.specs.Rows.{VisitContent, visit_content}
-use Rattle.terminal_core.specs.Step.{departure_by, closed_visit, number_of_visit}
-use Rattle.terminal_core.specs.State.{is_open_visit}
-use Rattle.terminal_core.specs.Calls.{HasOneVisit}
-use Rattle.std.specs.Prelude.{find}
-use Rattle.terminal_core.specs.Index.{VisitBook}
-use Rattle.terminal_core.proofs.Indexed.{kept_somewhere, kept_at, shut_rows, less_indexed}
-use Rattle.terminal_core.proofs.Noted.{closed_last}
+use Rattle.terminal_core.specs.{Rows.{VisitContent, visit_content}, Step.{departure_by, closed_visit, number_of_visit}, State.is_open_visit, Calls.HasOneVisit}
+use Rattle.terminal_core.{specs.Index.VisitBook, proofs.{Indexed.{kept_somewhere, kept_at, shut_rows, less_indexed}, Noted.closed_last}}
 use Rattle.terminal_core.proofs.visits.Visits.close.Goals as goal
 
 pub unreachable-requires : goal.unreachable-requires

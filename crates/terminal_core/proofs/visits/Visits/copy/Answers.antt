@@ -1,10 +1,6 @@
-use Rattle.std.proofs.Common.{List, ap, sym, ◌∙◌, subst}
-use Rattle.std.specs.Prelude.{map}
+use Rattle.std.{specs.Prelude.map, proofs.Common.{List, ap, sym, ◌∙◌, subst, ℕ}}
 use Rattle.box6346.specs.declared.box_number.BoxNumber.{BoxNumber}
-use Rattle.std.proofs.Common.{ℕ}
-use Rattle.terminal_core.specs.Rows.{VisitContent, visit_content}
-use Rattle.terminal_core.specs.Index.{AreFound}
-use Rattle.terminal_core.proofs.Indexed.{clones_same}
+use Rattle.terminal_core.{specs.{Rows.{VisitContent, visit_content}, Index.AreFound}, proofs.Indexed.clones_same}
 use Rattle.terminal_core.proofs.visits.Visits.copy.Goals as goal
 
 pub invariant_of-result : goal.invariant_of-result

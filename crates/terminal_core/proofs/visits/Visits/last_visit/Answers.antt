@@ -1,11 +1,5 @@
-use Rattle.std.proofs.Common.{◌≡◌, Some, ap, ◌∙◌}
-use Rattle.std.specs.Prelude.{map, find, reverse, slice_get}
-use Rattle.std.specs.Str.{bytes_eq}
-use Rattle.std.specs.Map.{lookup}
-use Rattle.terminal_core.specs.Rows.{visit_content}
-use Rattle.terminal_core.specs.State.{is_visit_of}
-use Rattle.terminal_core.specs.Index.{VisitBook}
-use Rattle.terminal_core.proofs.Noted.{is_shown, lent_at}
+use Rattle.std.{specs.{Prelude.{map, find, reverse, slice_get}, Str.bytes_eq, Map.lookup}, proofs.Common.{◌≡◌, Some, ap, ◌∙◌}}
+use Rattle.terminal_core.{specs.{Rows.visit_content, State.is_visit_of, Index.VisitBook}, proofs.Noted.{is_shown, lent_at}}
 use Rattle.terminal_core.proofs.visits.Visits.last_visit.Goals as goal
 
 pub returns : goal.returns

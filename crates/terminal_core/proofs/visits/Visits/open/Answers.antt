@@ -1,15 +1,7 @@
+use Rattle.std.{specs.{Prelude.{map, find, is_some}, Str.bytes_eq, Map.lookup, HashMap.spare}, proofs.lemmas.List.length-map}
 use Rattle.std.proofs.Common.{◌≡◌, ◌<◌, List, length, vec_len, Some, cond, refl, sym, ap, ◌∙◌, rules, subst}
-use Rattle.std.specs.Prelude.{map, find, is_some}
-use Rattle.std.specs.Str.{bytes_eq}
-use Rattle.std.specs.Map.{lookup}
-use Rattle.std.specs.HashMap.{spare}
-use Rattle.std.proofs.lemmas.List.{length-map}
-use Rattle.terminal_core.specs.Rows.{VisitContent, visit_content}
-use Rattle.terminal_core.specs.State.{is_open_visit}
-use Rattle.terminal_core.specs.Index.{VisitBook, AreFound}
-use Rattle.terminal_core.proofs.Open.{one_more}
+use Rattle.terminal_core.{specs.{Rows.{VisitContent, visit_content}, State.is_open_visit, Index.{VisitBook, AreFound}}, proofs.{Open.one_more, Noted.one_last}}
 use Rattle.terminal_core.proofs.Indexed.{one_indexed, at_ok}
-use Rattle.terminal_core.proofs.Noted.{one_last}
 use Rattle.terminal_core.proofs.visits.Visits.open.Goals as goal
 
 pub invariant_of-self : goal.invariant_of-self

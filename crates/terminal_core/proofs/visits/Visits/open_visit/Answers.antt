@@ -1,13 +1,6 @@
-use Rattle.std.proofs.Common.{◌≡◌, List, length, None, Some, nat_lt, sym, ap, ◌∙◌, subst}
-use Rattle.std.specs.Prelude.{map, find, slice_get}
-use Rattle.std.specs.Str.{bytes_eq}
-use Rattle.std.specs.Map.{lookup}
+use Rattle.std.{specs.{Prelude.{map, find, slice_get}, Str.bytes_eq, Map.lookup}, proofs.Common.{◌≡◌, List, length, None, Some, nat_lt, sym, ap, ◌∙◌, subst}}
 use Rattle.std.proofs.lemmas.Option.{none-some, same_Some}
-use Rattle.terminal_core.specs.declared.visits.Visit.{Visit}
-use Rattle.terminal_core.specs.Rows.{visit_content}
-use Rattle.terminal_core.specs.State.{is_open_visit}
-use Rattle.terminal_core.specs.Index.{VisitBook}
-use Rattle.terminal_core.proofs.Whole.{content_at}
+use Rattle.terminal_core.{specs.{declared.visits.Visit.Visit, Rows.visit_content, State.is_open_visit, Index.VisitBook}, proofs.Whole.content_at}
 use Rattle.terminal_core.proofs.Lined.{opened, none_opened, read_at, not_read}
 use Rattle.terminal_core.proofs.visits.Visits.open_visit.Goals as goal
 

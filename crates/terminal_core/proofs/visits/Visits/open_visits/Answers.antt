@@ -1,11 +1,6 @@
-use Rattle.std.proofs.Common.{◌≡◌, map, Bor, None, Some, sym, ap, subst, ◌∷◌, [], ◌∙◌}
+use Rattle.std.{specs.{Option.option_and_then, Prelude.slice_get}, proofs.Common.{◌≡◌, map, Bor, None, Some, sym, ap, subst, ◌∷◌, [], ◌∙◌}}
 use Rattle.std.proofs.lemmas.List.{map-append}
-use Rattle.std.specs.Option.{option_and_then}
-use Rattle.std.specs.Prelude.{slice_get}
-use Rattle.terminal_core.specs.Index.{VisitBook, if_open}
-use Rattle.terminal_core.specs.Rows.{VisitContent, visit_content}
-use Rattle.terminal_core.specs.State.{AreOpenOf}
-use Rattle.terminal_core.specs.declared.visits.Visit.{Visit}
+use Rattle.terminal_core.specs.{Index.{VisitBook, if_open}, Rows.{VisitContent, visit_content}, State.AreOpenOf, declared.visits.Visit.Visit}
 use Rattle.terminal_core.proofs.Dropping.{IsOpenSoFar, open_none, open_more, open_less, open_all}
 use Rattle.terminal_core.proofs.visits.Visits.open_visits.Goals as goal
 

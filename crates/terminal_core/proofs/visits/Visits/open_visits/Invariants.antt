@@ -1,6 +1,5 @@
 use Rattle.std.proofs.Common.{map}
-use Rattle.terminal_core.specs.Rows.{visit_content}
-use Rattle.terminal_core.proofs.Dropping.{IsOpenSoFar}
+use Rattle.terminal_core.{specs.Rows.visit_content, proofs.Dropping.IsOpenSoFar}
 use Rattle.terminal_core.proofs.visits.Visits.open_visits.Given as goal
 
 abbrev pub invariant-loop-row_index : goal.invariant-loop-row_index

@@ -1,7 +1,5 @@
-use Rattle.std.proofs.Common.{ap}
-use Rattle.std.specs.Prelude.{map}
-use Rattle.terminal_core.specs.Rows.{visit_content}
-use Rattle.terminal_core.proofs.Noted.{kept_found}
+use Rattle.std.{specs.Prelude.map, proofs.Common.ap}
+use Rattle.terminal_core.{specs.Rows.visit_content, proofs.Noted.kept_found}
 use Rattle.terminal_core.proofs.visits.Visits.reserve.Goals as goal
 
 pub invariant_of-self-in_err-reserve-3 : goal.invariant_of-self-in_err-reserve-3

@@ -1,7 +1,5 @@
-use Rattle.std.proofs.Common.{◌≤◌, length, arith, slice_get, sym, ap, ◌∙◌, List}
-use Rattle.std.proofs.lemmas.Option.{slice_get_past}
-use Rattle.yard_core.specs.YardMap.{Box}
-use Rattle.yard_core.proofs.Cells.{slice_get-somes}
+use Rattle.std.proofs.{Common.{◌≤◌, length, arith, slice_get, sym, ap, ◌∙◌, List}, lemmas.Option.slice_get_past}
+use Rattle.yard_core.{specs.YardMap.Box, proofs.Cells.slice_get-somes}
 use Rattle.yard_core.proofs.columns.Column.at.Goals as goal
 
 pub returns-then-level-self : goal.returns-then-level-self

@@ -1,7 +1,5 @@
 use Rattle.std.proofs.Common.{◌-◌, length, take, sym, ap, ◌∙◌, arith, List}
-use Rattle.yard_core.specs.YardMap.{Box}
-use Rattle.yard_core.specs.Columns.{present_boxes}
-use Rattle.yard_core.proofs.Cells.{take-somes, IsFilled-less}
+use Rattle.yard_core.{specs.{YardMap.Box, Columns.present_boxes}, proofs.Cells.{take-somes, IsFilled-less}}
 use Rattle.yard_core.proofs.columns.Column.pop.Goals as goal
 
 pub invariant_of-self : goal.invariant_of-self

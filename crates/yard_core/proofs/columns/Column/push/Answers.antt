@@ -1,6 +1,5 @@
 use Rattle.std.proofs.Common.{◌<◌, ◌++◌, ◌∷◌, [], length, sym, ap, ◌∙◌, arith, List}
-use Rattle.yard_core.specs.YardMap.{Box}
-use Rattle.yard_core.proofs.Cells.{present_boxes-more, IsFilled-more}
+use Rattle.yard_core.{specs.YardMap.Box, proofs.Cells.{present_boxes-more, IsFilled-more}}
 use Rattle.yard_core.proofs.columns.Column.push.Goals as goal
 
 pub invariant_of-self : goal.invariant_of-self

@@ -1,9 +1,5 @@
-use Rattle.std.proofs.Common.{◌≡◌, ◌*◌, ◌<◌, ◌≤◌, List, length, get_or, ap, subst, ◌∙◌, arith}
-use Rattle.std.proofs.lemmas.Bool.Decides.{nat_tests}
-use Rattle.yard_core.specs.YardMap.{Box}
-use Rattle.yard_core.specs.declared.columns.LeastHeight.{LeastHeight}
-use Rattle.yard_core.specs.LeastHeights.{AreAtLeast}
-use Rattle.yard_core.proofs.LeastHeights.{at_least}
+use Rattle.std.proofs.{Common.{◌≡◌, ◌*◌, ◌<◌, ◌≤◌, List, length, get_or, ap, subst, ◌∙◌, arith}, lemmas.Bool.Decides.nat_tests}
+use Rattle.yard_core.{specs.{YardMap.Box, declared.columns.LeastHeight.LeastHeight, LeastHeights.AreAtLeast}, proofs.LeastHeights.at_least}
 use Rattle.yard_core.proofs.columns.Columns.are_at_least.Goals as goal
 
 pub returns-then-eq : goal.returns-then-eq

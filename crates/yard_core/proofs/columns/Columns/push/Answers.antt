@@ -1,7 +1,5 @@
 use Rattle.std.proofs.Common.{◌+◌, ◌*◌, ◌/◌, ◌<◌, List, length, refl, ap, subst, arith}
-use Rattle.yard_core.specs.YardMap.{Box}
-use Rattle.yard_core.specs.LeastHeights.{AreAtLeast}
-use Rattle.yard_core.proofs.LeastHeights.{AreLeastHeights-grown, AreLeastHeights-set, block_of_column}
+use Rattle.yard_core.{specs.{YardMap.Box, LeastHeights.AreAtLeast}, proofs.LeastHeights.{AreLeastHeights-grown, AreLeastHeights-set, block_of_column}}
 use Rattle.yard_core.proofs.columns.Columns.push.Goals as goal
 
 pub invariant_of-self : goal.invariant_of-self

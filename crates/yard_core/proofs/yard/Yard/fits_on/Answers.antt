@@ -1,8 +1,6 @@
 -- A slot that is open stands right on its first column.
 use Rattle.std.proofs.Common.{◌≡◌, ◌<◌, ◌+◌, ◌∙◌, length, sym, subst, ap}
-use Rattle.yard_core.specs.YardMap.{YardMap, placement, placement_of}
-use Rattle.yard_core.specs.Columns.{near_of, column_at}
-use Rattle.yard_core.specs.Search.{IsOpenTo}
+use Rattle.yard_core.specs.{YardMap.{YardMap, placement, placement_of}, Columns.{near_of, column_at}, Search.IsOpenTo}
 use Rattle.yard_core.proofs.LeastHeights.{not_true, open_ends}
 use Rattle.yard_core.proofs.yard.Yard.fits_on.Goals as goal
 

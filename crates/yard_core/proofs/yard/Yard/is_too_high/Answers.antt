@@ -1,8 +1,5 @@
 use Rattle.std.proofs.Common.{◌≡◌, ◌*◌, Some, sym, subst}
-use Rattle.yard_core.specs.Plan.{block_of}
-use Rattle.yard_core.specs.YardMap.{YardMap, placement_of}
-use Rattle.yard_core.specs.Search.{IsInBlock, NoneOpen}
-use Rattle.yard_core.specs.LeastHeights.{AreAtLeast}
+use Rattle.yard_core.specs.{Plan.block_of, YardMap.{YardMap, placement_of}, Search.{IsInBlock, NoneOpen}, LeastHeights.AreAtLeast}
 use Rattle.yard_core.proofs.LeastHeights.{none_open}
 use Rattle.yard_core.proofs.yard.Yard.is_too_high.Goals as goal
 
