@@ -1,4 +1,5 @@
 ghost use Rattle.std.specs.Prelude.{◌≡◌};
+ghost use Rattle.office_commands.specs.Noting.{account_note, delivery_note};
 
 use crate::telling::{Faults, Tallied};
 use edi_syntax::{Head, interchange_text};
@@ -140,27 +141,14 @@ impl<'a, D: Report + Faults + Tallied, N: Notes> Noted<'a, D, N> {
 
     /// Notes how a text was answered.
     fn note_delivery(&self, alloc: Global, delivered: &[u8], response: &Response) {
-        let note = match response {
-            Response::Taken(_) => DeliveryNote::Taken(self.desk.last_taken()),
-            Response::Repeat(_) => DeliveryNote::Repeat,
-            Response::Waiting(_) => DeliveryNote::Waiting,
-            Response::Clash(_) => DeliveryNote::Clash,
-            Response::Refused(fault) => DeliveryNote::Refused(*fault),
-            Response::RefusedWithContrl { fault, .. } => DeliveryNote::Refused(*fault),
-            Response::NotNow => DeliveryNote::NotNow(self.why()),
-        };
+        let note = delivery_note(response, self.desk.last_taken(), self.why());
         let sender = Sender::of(alloc, delivered);
         self.notes.delivered(sender.as_ref(), &note);
     }
 
     /// Notes how an account was answered.
     fn note_account(&self, code: &[u8], answer: &AccountAnswer) {
-        let note = match answer {
-            AccountAnswer::Added { .. } => AccountNote::Added,
-            AccountAnswer::Known { .. } => AccountNote::Known,
-            AccountAnswer::Refused(fault) => AccountNote::Refused(*fault),
-            AccountAnswer::NotNow => AccountNote::NotNow(self.why()),
-        };
+        let note = account_note(answer, self.why());
         self.notes.enrolled(code, &note);
     }
 
@@ -170,6 +158,34 @@ impl<'a, D: Report + Faults + Tallied, N: Notes> Noted<'a, D, N> {
             fault: self.desk.last_fault(),
             is_nameless: self.desk.is_nameless(),
         }
+    }
+}
+
+/// How a delivery that was answered so is noted: if it was taken, with what became of it, and if it could not be answered now,
+/// with the reason.
+fn delivery_note<'a>(response: &Response, taken: Tally, why: WhyNotNow<'a>) -> DeliveryNote<'a>
+    ensures { result ≡ delivery_note taken why.entry response.now }
+{
+    match response {
+        Response::Taken(_) => DeliveryNote::Taken(taken),
+        Response::Repeat(_) => DeliveryNote::Repeat,
+        Response::Waiting(_) => DeliveryNote::Waiting,
+        Response::Clash(_) => DeliveryNote::Clash,
+        Response::Refused(fault) => DeliveryNote::Refused(*fault),
+        Response::RefusedWithContrl { fault, .. } => DeliveryNote::Refused(*fault),
+        Response::NotNow => DeliveryNote::NotNow(why),
+    }
+}
+
+/// How an account that was asked for is noted, if it was answered so: with the reason, if that could not be answered now.
+fn account_note<'a>(answer: &AccountAnswer, why: WhyNotNow<'a>) -> AccountNote<'a>
+    ensures { result ≡ account_note why.entry answer.now }
+{
+    match answer {
+        AccountAnswer::Added { .. } => AccountNote::Added,
+        AccountAnswer::Known { .. } => AccountNote::Known,
+        AccountAnswer::Refused(fault) => AccountNote::Refused(*fault),
+        AccountAnswer::NotNow => AccountNote::NotNow(why),
     }
 }
 

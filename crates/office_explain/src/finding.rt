@@ -1,13 +1,12 @@
 //! A fault, with what it is called, its place and what is expected there; and how they are written.
 ghost use Rattle.std.specs.Prelude.{◌≡◌, ◌<◌};
-ghost use Rattle.office_replies.specs.Names.{message_fault_name};
 ghost use Rattle.office_explain.specs.{Names.{cut_name, line_fault_name}, Findings.IsFound};
 
 use crate::segments::{PlacedSegment, Span};
 use edi_messages::{CodeTable, Codes, LineFault, MessageFault, PartnerKind};
 use edi_syntax::characters::is_printable;
 use edi_syntax::{Component, CutFault};
-use office_replies::Fault;
+use office_replies::{Fault, message_fault_name};
 use std::fmt;
 
 /// What has a fault, and which. Messages are counted from 1 in their interchange, lines in their message.
@@ -133,23 +132,6 @@ fn cut_name(fault: Option<CutFault>) -> &'static str
         Some(CutFault::Service) => "Service",
         Some(CutFault::Segment) => "Segment",
         Some(CutFault::Memory) => "Memory",
-    }
-}
-
-/// The name of a fault of a message, as a reply gives it.
-fn message_fault_name(fault: MessageFault) -> &'static str
-    ensures { result.now ≡ message_fault_name fault }
-{
-    match fault {
-        MessageFault::OtherType => "OtherType",
-        MessageFault::NoBgm => "NoBgm",
-        MessageFault::Code => "Code",
-        MessageFault::Function => "Function",
-        MessageFault::NoTransport => "NoTransport",
-        MessageFault::NoEquipment => "NoEquipment",
-        MessageFault::EquipmentCount => "EquipmentCount",
-        MessageFault::TooMany => "TooMany",
-        MessageFault::Memory => "Memory",
     }
 }
 

@@ -1,8 +1,8 @@
 use Rattle.std.{specs.Prelude.string_bytes, proofs.Common.{◌≡◌, List, ℕ, false, true, refl, ap, arith, rules}}
 use Rattle.edi_messages.specs.declared.codes.PartnerKind.{PartnerKind}
 use Rattle.office_admission.specs.declared.setup.Account.{Account}
-use Rattle.office_closing.proofs.PlanLemmas.{are_the_first, first_no_more, first_same}
-use Rattle.office_closing.proofs.planning.are_first.Goals as goal
+use Rattle.office_closing.proofs.FirstLemmas.{are_the_first, first_no_more, first_same}
+use Rattle.office_closing.proofs.planning.are_first_accounts.Goals as goal
 
 abbrev said : Account → List ℕ × PartnerKind
 said account = (string_bytes account.code, account.kind)
