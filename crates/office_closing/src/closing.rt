@@ -1,7 +1,7 @@
-ghost use Rattle.std.specs.Prelude.{◌≡◌, ◌<◌, ◌≤◌, [], ◌∷◌, false, map, true, OnOk, OnErr, IfOk, IfErr, IsTrue};
+ghost use Rattle.std.specs.Prelude.{◌≡◌, ◌<◌, ◌≤◌, ◌+◌, ◌-◌, [], ◌∷◌, false, map, min, true, OnOk, OnErr, IfOk, IfErr, IsTrue};
 ghost use Rattle.edi_messages.specs.Owned.{call_content};
-ghost use Rattle.office_closing.specs.{Clearing.{Clears, IsWithoutSome, IsWithoutSomeLists, IsWithoutSomeVisits}, Files.{AreClean, AreIdle, files}};
-ghost use Rattle.office_closing.specs.{Closes.{ArePutAway, Closes, IsLeft, cleared, closing_content}, Judging.AreResting, Refusing.IsFileOf};
+ghost use Rattle.office_closing.specs.{Clearing.{Clears, most_at_once, IsWithoutSome, IsWithoutSomeLists, IsWithoutSomeVisits}, Judging.AreResting};
+ghost use Rattle.office_closing.specs.{Closes.{ArePutAway, Closes, IsLeft, cleared, closing_content}, Files.{AreClean, AreIdle, files}, Refusing.IsFileOf};
 ghost use Rattle.office_closing.specs.{Deleting.{Deletes, all_but, goes, is_one_of, without_interchange, without_visits}, Lists.list_content};
 ghost use Rattle.office_closing.specs.{Steps.{StepsIf, is_unmarked, is_unraised}, Changes.{closed_with, marked_for, unchanged, unmarked}};
 ghost use Rattle.office_closing.specs.Register.{archive_content};
@@ -214,6 +214,7 @@ fn clear_numbers<S: Alter>(conn: &mut Connection<S>, numbers: Numbers) -> Result
 /// The last number of a batch of those above one and up to another.
 fn batch_end(from: u32, to: u32) -> u32
     requires { from < to }
+    ensures exact { result ≡ from + min (to - from) most_at_once }
     ensures above { from < result }
     ensures within { result ≤ to }
 {

@@ -18,3 +18,4 @@ pub mod Whole
 pub mod Paths
 pub mod History
 pub mod Telling
+pub mod Noting

@@ -1,5 +1,3 @@
-ghost use Rattle.std.specs.Prelude.{◌≡◌};
-
 use crate::telling::{Faults, Tallied};
 use edi_syntax::{Head, interchange_text};
 use office_admission::Tally;
@@ -124,6 +122,9 @@ pub(crate) struct Noted<'a, D, N> {
 }
 
 impl<'a, D: Report + Faults + Tallied, N: Notes> Noted<'a, D, N> {
+    ghost use Rattle.std.specs.Prelude.{◌≡◌};
+    ghost use Rattle.office_commands.specs.Noting.{IsAccountNoteOf, IsNoteOf};
+
     pub(crate) fn new(desk: D, notes: &'a N) -> Noted<'a, D, N>
         ensures { result.desk ≡ desk }
     {
@@ -140,7 +141,16 @@ impl<'a, D: Report + Faults + Tallied, N: Notes> Noted<'a, D, N> {
 
     /// Tells how a text was answered.
     fn note_delivery(&self, alloc: Global, delivered: &[u8], response: &Response) {
-        let note = match response {
+        let sender = Sender::of(alloc, delivered);
+        let note = self.delivery_note(response);
+        self.notes.delivered(sender.as_ref(), &note);
+    }
+
+    /// How a text was answered, for a person.
+    fn delivery_note(&self, response: &Response) -> DeliveryNote<'_>
+        ensures { IsNoteOf response.now result }
+    {
+        match response {
             Response::Taken(_) => DeliveryNote::Taken(self.desk.last_taken()),
             Response::Repeat(_) => DeliveryNote::Repeat,
             Response::Waiting(_) => DeliveryNote::Waiting,
@@ -148,20 +158,25 @@ impl<'a, D: Report + Faults + Tallied, N: Notes> Noted<'a, D, N> {
             Response::Refused(fault) => DeliveryNote::Refused(*fault),
             Response::RefusedWithContrl { fault, .. } => DeliveryNote::Refused(*fault),
             Response::NotNow => DeliveryNote::NotNow(self.why()),
-        };
-        let sender = Sender::of(alloc, delivered);
-        self.notes.delivered(sender.as_ref(), &note);
+        }
     }
 
     /// Tells how an account was answered.
     fn note_account(&self, code: &[u8], answer: &AccountAnswer) {
-        let note = match answer {
+        let note = self.account_note(answer);
+        self.notes.enrolled(code, &note);
+    }
+
+    /// How an account was answered, for a person.
+    fn account_note(&self, answer: &AccountAnswer) -> AccountNote<'_>
+        ensures { IsAccountNoteOf answer.now result }
+    {
+        match answer {
             AccountAnswer::Added { .. } => AccountNote::Added,
             AccountAnswer::Known { .. } => AccountNote::Known,
             AccountAnswer::Refused(fault) => AccountNote::Refused(*fault),
             AccountAnswer::NotNow => AccountNote::NotNow(self.why()),
-        };
-        self.notes.enrolled(code, &note);
+        }
     }
 
     /// Why the last answer was `not now`.
