@@ -108,7 +108,7 @@ REPORTS = {
     'partners': lookups.partners, 'partner': lookups.partner, 'health': lookups.health, 'metrics': lookups.metrics,
     'archives': lookups.archives,
     'visits': visits, 'container': lookups.container, 'list': vessel_list, 'work': lookups.work, 'ticket': ticket,
-    'reply': reply, 'contrl': lookups.contrl}
+    'reply': reply, 'contrl': lookups.contrl, 'own calls': lookups.own_calls}
 
 
 # those on one interchange, and those on one list
@@ -125,27 +125,32 @@ def has_key(kind):
     return PARTS[kind] > 0
 
 
-WHOLE = [(kind, '') for kind in REPORTS if not has_key(kind)]
+WHOLE = [(kind, '') for kind in PARTS if not has_key(kind)]
 
 
-def report(office, kind, key=''):
-    """The report of a kind under a key. None where nothing is found, also under a key that can't be read."""
-    return reported(office, kind, read_key(kind, key) if has_key(kind) else [])
+def as_text(office, kind, *values):
+    """A report as text."""
+    return REPORTS[kind](office, *values)
 
 
-def own_report(office, kind, key=''):
+def report(office, kind, key='', shown=as_text):
+    """The report of a kind under a key, shown so. None where nothing is found, also under a key that can't be read."""
+    return reported(office, kind, read_key(kind, key) if has_key(kind) else [], shown)
+
+
+def own_report(office, kind, key='', shown=as_text):
     """The same as an archive is asked by its store: of its lists it tells those that stand there."""
     values = read_key(kind, key) if has_key(kind) else []
     if values and kind in OF_LISTS and ((values[0], values[1]), values[2]) in office.away:
         return None
-    return lookups.own_calls(office) if kind == 'calls' else reported(office, kind, values)
+    return reported(office, 'own calls' if kind == 'calls' else kind, values, shown)
 
 
-def reported(office, kind, values):
+def reported(office, kind, values, shown):
     """The report of a kind on what a key names; None where it names nothing."""
     if values and kind in OF_NUMBERS and office.is_lost(*values):
         raise Lost
-    return None if values is None else REPORTS[kind](office, *values)
+    return None if values is None else shown(office, kind, *values)
 
 
 def printed(office, kind, key=''):

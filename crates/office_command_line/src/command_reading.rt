@@ -1,11 +1,11 @@
 ghost use Rattle.std.specs.{Option.option_map, Prelude.{◌≡◌, IfOk, IfErr, map}};
 ghost use Rattle.clap.specs.Words.{found_of, rows_of, subcommand_rows_of, first_of};
-ghost use Rattle.office_command_line.specs.Requests.{request_content, init_request, account_request, migrate_request, close_request, explain_asked, deliver_request, serve_request, report_request, report_said, report_with, archives_with, texts_asked, from_said, request_by, request_met, is_set, kind_said, usage_line, wants_key, RefusesWords, RefusesMet, WordsAsk, fault_told, number_if_any, number_upto};
+ghost use Rattle.office_command_line.specs.Requests.{request_content, init_request, account_request, migrate_request, close_request, explain_asked, deliver_request, serve_request, report_request, report_said, report_with, archives_alone, archives_with, table_with, view_said, texts_asked, from_said, request_by, request_met, is_set, kind_said, usage_line, wants_key, RefusesWords, RefusesMet, WordsAsk, fault_told, number_if_any, number_upto};
 
 use crate::builders::office_command;
 use clap::error::ErrorKind;
 use clap::{ArgMatches, Error};
-use office_reports::{ReportKind, number_of, passed_of};
+use office_reports::{ReportKind, View, number_of, passed_of};
 use std::alloc::Global;
 use std::fmt;
 
@@ -95,6 +95,8 @@ pub enum Request<'a> {
         store: &'a str,
         /// What the report is about.
         kind: ReportKind,
+        /// As what it is printed.
+        view: View,
         /// Which container, list, interchange or partner it is about; none for a report on the whole yard, on all partners
         /// or on the office.
         key: Option<&'a str>,
@@ -257,7 +259,8 @@ fn report_in<'a>(matches: &ArgMatches<'a>) -> Option<Request<'a>>
 {
     let store = text_of(matches, "DB")?;
     let word = text_of(matches, "KIND")?;
-    report_said(store, word, text_of(matches, "KEY"))
+    let view = view_said(is_set(matches, "json"), is_set(matches, "csv"))?;
+    report_said(store, word, view, text_of(matches, "KEY"))
 }
 
 fn texts_in<'a>(matches: &ArgMatches<'a>) -> Option<Request<'a>>
@@ -301,22 +304,52 @@ fn explain_in<'a>(matches: &ArgMatches<'a>) -> Option<Request<'a>>
     Some(Request::Explain { file, partners })
 }
 
-/// A report of the kind that a word says.
-fn report_said<'a>(store: &'a str, word: &str, key: Option<&'a str>) -> Option<Request<'a>>
-    ensures { option_map request_content result
-        ≡ report_said store.entry.now word.now (option_map (λ text. text.now) key.entry) }
+/// As what a report is to be printed, by whether JSON is asked for, and whether CSV is; not both.
+fn view_said(json: bool, csv: bool) -> Option<View>
+    ensures { result ≡ view_said json csv }
 {
-    if word == "archives" {
-        return archives_with(store, key);
+    match (json, csv) {
+        (false, false) => Some(View::Text),
+        (true, false) => Some(View::Json),
+        (false, true) => Some(View::Csv),
+        (true, true) => None,
     }
-    let kind = kind_of(word)?;
-    report_with(store, kind, key)
 }
 
-/// The report on the store's archives, which has no key.
-fn archives_with<'a>(store: &'a str, key: Option<&'a str>) -> Option<Request<'a>>
+/// A report of the kind that a word says.
+fn report_said<'a>(
+    store: &'a str,
+    word: &str,
+    view: View,
+    key: Option<&'a str>,
+) -> Option<Request<'a>>
     ensures { option_map request_content result
-        ≡ archives_with store.entry.now (option_map (λ text. text.now) key.entry) }
+        ≡ report_said store.entry.now word.now view (option_map (λ text. text.now) key.entry) }
+{
+    if word == "archives" {
+        return archives_with(store, view, key);
+    }
+    if word == "yardcsv" {
+        return table_with(store, view, key);
+    }
+    let kind = kind_of(word)?;
+    report_with(store, kind, view, key)
+}
+
+/// The report on the store's archives, which is text and has no key.
+fn archives_with<'a>(store: &'a str, view: View, key: Option<&'a str>) -> Option<Request<'a>>
+    ensures { option_map request_content result
+        ≡ archives_with store.entry.now view (option_map (λ text. text.now) key.entry) }
+{
+    match view {
+        View::Text => archives_alone(store, key),
+        View::Json | View::Csv | View::Page => None,
+    }
+}
+
+fn archives_alone<'a>(store: &'a str, key: Option<&'a str>) -> Option<Request<'a>>
+    ensures { option_map request_content result
+        ≡ archives_alone store.entry.now (option_map (λ text. text.now) key.entry) }
 {
     match key {
         None => Some(Request::Archives { store }),
@@ -324,13 +357,34 @@ fn archives_with<'a>(store: &'a str, key: Option<&'a str>) -> Option<Request<'a>
     }
 }
 
-/// The report, if a key is given where one is wanted and nowhere else.
-fn report_with<'a>(store: &'a str, kind: ReportKind, key: Option<&'a str>) -> Option<Request<'a>>
+/// The report on the yard as CSV, by a word of its own.
+fn table_with<'a>(store: &'a str, view: View, key: Option<&'a str>) -> Option<Request<'a>>
     ensures { option_map request_content result
-        ≡ report_with store.entry.now kind (option_map (λ text. text.now) key.entry) }
+        ≡ table_with store.entry.now view (option_map (λ text. text.now) key.entry) }
+{
+    match view {
+        View::Text | View::Csv => report_with(store, ReportKind::Yard, View::Csv, key),
+        View::Json | View::Page => None,
+    }
+}
+
+/// The report, if a key is given where one is wanted and nowhere else.
+fn report_with<'a>(
+    store: &'a str,
+    kind: ReportKind,
+    view: View,
+    key: Option<&'a str>,
+) -> Option<Request<'a>>
+    ensures { option_map request_content result
+        ≡ report_with store.entry.now kind view (option_map (λ text. text.now) key.entry) }
 {
     if wants_key(kind) == key.is_some() {
-        Some(Request::Report { store, kind, key })
+        Some(Request::Report {
+            store,
+            kind,
+            view,
+            key,
+        })
     } else {
         None
     }
@@ -341,13 +395,13 @@ fn wants_key(kind: ReportKind) -> bool
 {
     match kind {
         ReportKind::Yard
-        | ReportKind::YardTable
         | ReportKind::Partners
         | ReportKind::Blocks
         | ReportKind::Calls
         | ReportKind::Picture
         | ReportKind::Health
-        | ReportKind::Metrics => false,
+        | ReportKind::Metrics
+        | ReportKind::Start => false,
         ReportKind::Visits
         | ReportKind::List
         | ReportKind::Ticket
@@ -355,7 +409,8 @@ fn wants_key(kind: ReportKind) -> bool
         | ReportKind::Container
         | ReportKind::Work
         | ReportKind::Contrl
-        | ReportKind::Partner => true,
+        | ReportKind::Partner
+        | ReportKind::Block => true,
     }
 }
 
@@ -364,7 +419,6 @@ fn kind_of(word: &str) -> Option<ReportKind>
 {
     match word {
         "yard" => Some(ReportKind::Yard),
-        "yardcsv" => Some(ReportKind::YardTable),
         "visits" => Some(ReportKind::Visits),
         "list" => Some(ReportKind::List),
         "ticket" => Some(ReportKind::Ticket),

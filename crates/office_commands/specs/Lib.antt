@@ -19,3 +19,4 @@ pub mod Whole
 pub mod Paths
 pub mod History
 pub mod Telling
+pub mod Noting

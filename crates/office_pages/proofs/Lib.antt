@@ -1,3 +1,7 @@
-pub mod Shown
+mod Growing
+pub mod Plain
+pub mod Sides
 mod Splitting
-mod Titled
+pub mod Sums
+mod Texts
+pub mod Values

@@ -1,4 +1,4 @@
-//! The texts of the office's reports: the yard, its export, a container's visits, a vessel's lists and a partner's
+//! The texts of the office's reports: the yard, a container's visits, a vessel's lists and a partner's
 //! tickets.
 //!
 //! What can be asked of the office besides deliveries, and the keys by which it is asked, accounts that are to be
@@ -33,10 +33,12 @@ mod work;
 mod work_lines;
 pub mod yard;
 
-pub use blocks::{BlockRow, BlockUse, BlocksReport, blocks_of, blocks_report, blocks_text};
+pub use blocks::{
+    BlockRow, BlockUse, BlocksReport, blocks_of, blocks_report, blocks_text, cell_count,
+};
 pub use calls::{CallsReport, ListCount, ListKey, calls_of, calls_report, calls_text};
 pub use container_lines::{container_report, container_text};
-pub use containers::{ContainerReport, Stay, container_of};
+pub use containers::{ContainerReport, Stay, container_of, open_lines_of};
 pub use drawing::picture;
 pub use fixed::field_text;
 pub use keys::{AccountKey, number_of, passed_of, read_account_key, read_query, read_sender_key};
@@ -47,9 +49,9 @@ pub use partners::{
     partner_text, partners_of, partners_report, partners_text,
 };
 pub use passages::{Passage, passage_of};
-pub use query::{NotNow, Query, Report, ReportKind, program_version};
+pub use query::{About, NotNow, Query, Report, ReportKind, View, has_view, program_version};
 pub use tickets::{TicketReport, ticket, ticket_of, ticket_text};
 pub use visits::{VisitsReport, visit_report, visits_of, visits_text};
 pub use work::{Job, WorkReport, in_order, work_of};
 pub use work_lines::{work_report, work_text};
-pub use yard::{Standing, standings as yard_standings, yard_csv, yard_report, yard_text};
+pub use yard::{Standing, standings as yard_standings, yard_report, yard_text};

@@ -15,9 +15,10 @@ returns-clause-told g c = λ sound whole.
       | then-has_lists w ↦ w.count-is ∙ w.count-count.ensures list these ∙ ap (archives_with_lists list) (sym w.if-has_lists.true)
       | else-has_lists w ↦ w.count-is ∙ ap (archives_with_lists list) (sym w.if-has_lists.false)
     ] in
-    subst (λ q. TellsBeside g.S.Store g.A.Archives.are self.desk self.archives q found) (sym c.requires)
-    (calls_beside g.S.Store g.A.Archives.are self.desk self.archives told found c.has_lists.result c.if-has_lists.count c.has_lists.ensures.none c.has_lists.ensures.some counted
-    (subst (λ q. DeskTells g.S.Store self.desk q told) c.requires (c.in_ok-told.ensures.told sound)) c.in_ok-with_archives.ensures)
+    let view = c.args.query.now.view in
+    subst (λ q. TellsBeside g.S.Store g.A.Archives.are self.desk self.archives (record { about = q; view = view }) found) (sym c.requires)
+    (calls_beside g.S.Store g.A.Archives.are self.desk self.archives view told found c.has_lists.result c.if-has_lists.count c.has_lists.ensures.none c.has_lists.ensures.some counted
+    (subst (λ q. DeskTells g.S.Store self.desk (record { about = q; view = view }) told) c.requires (c.in_ok-told.ensures.told sound)) c.in_ok-with_archives.ensures)
 
 pub returns-clause-looks : goal.returns-clause-looks
 returns-clause-looks g c =
