@@ -1,0 +1,5 @@
+use Rattle.std.proofs.lemmas.Result.{on_ok_weaker}
+use Rattle.office_pages.proofs.yard.push_row.Goals as goal
+
+pub returns : goal.returns
+returns c = on_ok_weaker c.push_pieces.result (λ e. cc) c.push_pieces.ensures
