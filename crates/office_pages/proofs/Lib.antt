@@ -1,3 +1,4 @@
+mod Decoding
 mod Ends
 mod Growing
 pub mod Plain
