@@ -1,3 +1,5 @@
+mod Decoding
+mod Ends
 mod Growing
 pub mod Plain
 pub mod Sides

@@ -1,5 +1,5 @@
 -- What a person types for a container's number.
-use Rattle.std.specs.Prelude.{ℕ, ◌+◌, ◌==◌, ◌&&◌, ◌||◌, List, length, map, filter, nat_lt, slice_set, take, not, Bool, Option, None, Some, Result, Ok, Err, if◌then◌else◌}
+use Rattle.std.specs.Prelude.{ℕ, ◌+◌, ◌==◌, ◌||◌, List, length, map, filter, slice_set, take, not, Bool, Option, None, Some, Result, Ok, Err, if◌then◌else◌}
 use Rattle.std.specs.{Char.to_ascii_uppercase, Str.is_utf8}
 use Rattle.percent_encoding.specs.Percent.{percent_decode}
 use Rattle.box6346.specs.{ContainerNumber.number_of, NumberText.check_digit_of, declared.box_number.BoxNumber.BoxNumber}
@@ -33,13 +33,21 @@ number_in text (Err fault.CheckDigit) = corrected (number_of (with_check_digit t
 abbrev pub space_or_same : ℕ → ℕ
 space_or_same c = if c == 43 then 32 else c
 
--- nothing, and what is no UTF-8, is no text
-abbrev pub words_by : List ℕ → Option (List ℕ)
-words_by bytes = if nat_lt 0 (length bytes) && is_utf8 bytes then Some bytes else None
+-- what is no UTF-8 is no text
+abbrev pub text_by : List ℕ → Option (List ℕ)
+text_by bytes = if is_utf8 bytes then Some bytes else None
 
--- the text that is meant by a value of the form's field
+-- nor is nothing
+abbrev pub words_by : List ℕ → Option (List ℕ)
+words_by bytes = if length bytes == 0 then None else text_by bytes
+
+-- the bytes that a value of the form's field writes
+abbrev pub typed_bytes : List ℕ → List ℕ
+typed_bytes value = percent_decode (map space_or_same value)
+
+-- the text that is meant by it
 abbrev pub typed_words : List ℕ → Option (List ℕ)
-typed_words value = words_by (percent_decode (map space_or_same value))
+typed_words value = words_by (typed_bytes value)
 
 -- the number that is meant by a value of the form's field, or what to tell
 abbrev pub typed : List ℕ → Result BoxNumber Notice

@@ -1,5 +1,5 @@
 //! How many archives were not asked, on a page.
-ghost use Rattle.std.specs.Prelude.{◌≡◌, ◌++◌, ℕ, List, IfOk, OnOk, string_bytes};
+ghost use Rattle.std.specs.Prelude.{◌≡◌, ◌≢◌, ◌++◌, ℕ, List, IfOk, MatchOption, OnOk, string_bytes};
 ghost use Rattle.office_pages.specs.{Archives.{archives_note, note_line}, Fixed.foot};
 
 use crate::layout::foot;
@@ -12,10 +12,23 @@ pub fn with_archives(alloc: Global, page: &str, count: usize) -> Result<String, 
     ensures { IfOk result (λ text. (body : List ℕ) → page.now ≡ body ++ foot →
         string_bytes text ≡ body ++ archives_note count ++ foot) }
 {
-    let Some(body) = page.strip_suffix(foot()) else {
+    match body_of(page) {
+        Some(body) => noted(alloc, body, count),
         // It is no page.
-        return String::from_str(alloc, page);
-    };
+        None => String::from_str(alloc, page),
+    }
+}
+
+/// A page without its end.
+fn body_of(page: &str) -> Option<&str>
+    ensures { MatchOption result ((body : List ℕ) → page.now ≢ body ++ foot) (λ body. page.now ≡ body.now ++ foot) }
+{
+    page.strip_suffix(foot())
+}
+
+fn noted(alloc: Global, body: &str, count: usize) -> Result<String, AllocError>
+    ensures { IfOk result (λ text. string_bytes text ≡ body.now ++ archives_note count ++ foot) }
+{
     let mut text = String::from_str(alloc, body)?;
     push_note(alloc, &mut text, count)?;
     text.push_str(foot())?;

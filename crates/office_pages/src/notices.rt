@@ -2,7 +2,7 @@
 ghost use Rattle.std.specs.{Option.option_map, Prelude.{◌≡◌, ◌++◌, IfOk, IsTrue, OnOk, map, string_bytes}};
 ghost use Rattle.box6346.specs.{ContainerNumber.number_of, NumberText.has_form};
 ghost use Rattle.office_pages.specs.Notices.{notice_bytes, notice_title, notice_top, notice_view};
-ghost use Rattle.office_pages.specs.Typed.{corrected, is_left_out, number_in, space_or_same, typed, typed_text, typed_words, with_check_digit};
+ghost use Rattle.office_pages.specs.Typed.{corrected, is_left_out, number_in, space_or_same, text_by, typed, typed_bytes, typed_text, typed_words, with_check_digit, words_by};
 
 use crate::frame::push_top;
 use crate::layout::foot;
@@ -106,12 +106,39 @@ pub fn typed_number(alloc: Global, value: &[u8]) -> Result<Result<BoxNumber, Not
 pub fn typed_words(alloc: Global, value: &[u8]) -> Result<Option<String>, AllocError>
     ensures { IfOk result (λ found. option_map string_bytes found ≡ typed_words value.now) }
 {
+    let bytes = typed_bytes(alloc, value)?;
+    match words_in(bytes.as_slice()) {
+        Some(words) => Ok(Some(String::from_str(alloc, words)?)),
+        None => Ok(None),
+    }
+}
+
+fn typed_bytes(alloc: Global, value: &[u8]) -> Result<Vec<u8>, AllocError>
+    ensures { IfOk result (λ bytes. bytes.items ≡ typed_bytes value.now) }
+{
     let spaced = spaced(alloc, value)?;
-    let mut decoded = Vec::new(alloc);
-    percent_decode(spaced.as_slice()).append_to(&mut decoded)?;
-    match str::from_utf8(decoded.as_slice()) {
-        Ok("") | Err(_) => Ok(None),
-        Ok(words) => Ok(Some(String::from_str(alloc, words)?)),
+    let mut bytes = Vec::new(alloc);
+    percent_decode(spaced.as_slice()).append_to(&mut bytes)?;
+    Ok(bytes)
+}
+
+/// Bytes as a text; None if there are none, or they are no text.
+fn words_in(bytes: &[u8]) -> Option<&str>
+    ensures { option_map (λ words. words.now) result ≡ words_by bytes.now }
+{
+    if bytes.is_empty() {
+        None
+    } else {
+        text_of(bytes)
+    }
+}
+
+fn text_of(bytes: &[u8]) -> Option<&str>
+    ensures { option_map (λ text. text.now) result ≡ text_by bytes.now }
+{
+    match str::from_utf8(bytes) {
+        Ok(text) => Some(text),
+        Err(_) => None,
     }
 }
 
