@@ -56,7 +56,7 @@ abbrev pub days_field : (entry : CivilMoment) → Option Departure → List ℕ
 days_field entry departure = field_of (λ exit. signed_decimal (day_number exit.moment -ℤ day_number entry)) departure
 
 -- the columns of a visit in their order, the passages by four each
-abbrev pub visit_record : (number size_type load : List ℕ) → (entry : List (List ℕ)) → (slot booking gross : List ℕ)
+unfoldable pub visit_record : (number size_type load : List ℕ) → (entry : List (List ℕ)) → (slot booking gross : List ℕ)
     → (exit : List (List ℕ)) → (days : List ℕ) → List (List ℕ)
 visit_record number size_type load entry slot booking gross exit days =
     number ∷ size_type ∷ load ∷ (entry ++ (slot ∷ booking ∷ gross ∷ (exit ++ (days ∷ []))))

@@ -216,7 +216,7 @@ fn push_records(
     Ok(())
 }
 
-#[tactic(auto, unfolding(crate::specs::Visits::visit_fields))]
+#[tactic(auto, using(crate::proofs::MemberLemmas::visit_is))]
 fn push_visit(
     alloc: Global,
     table: &mut Writer<Vec<u8>>,
@@ -233,6 +233,7 @@ fn push_visit(
     push_fields(table, &fields, load_word(visit.is_laden), &entry, &exit)
 }
 
+#[tactic(auto, unfolding(crate::specs::Visits::visit_record))]
 fn push_fields(
     table: &mut Writer<Vec<u8>>,
     fields: &VisitFields,
