@@ -8,5 +8,5 @@ returns c =
     on_ok_weaker c.push_pieces.result
     (λ e. e ∙ (λ i. string_bytes c.args.page.now ++ pieces_text
     (Markup (codes "<tr><td>") ∷ Container visit.container ∷ Markup (codes "</td><td class='m'>") ∷ SizeText visit.size_type
-    ∷ Markup (codes "</td><td>") ∷ Markup (c.load_mark.ensures i) ∷ Markup (codes "</td><td") ∷ []))))
+    ∷ Markup (codes "</td><td>") ∷ Markup (c.load_mark.ensures i) ∷ Markup (codes "</td><td") ∷ [])))
     c.push_pieces.ensures

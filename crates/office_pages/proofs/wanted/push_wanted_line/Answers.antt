@@ -11,5 +11,5 @@ returns c =
     (Markup (codes "<tr><td><a href='/pages/work/") ∷ Part vessel ∷ Markup (codes "/") ∷ Part voyage ∷ Markup (codes "/")
     ∷ Markup (c.side_word.ensures i) ∷ Markup (codes "'>") ∷ Markup (c.side_name.ensures i) ∷ Markup (codes "</a></td><td>")
     ∷ Text vessel ∷ Markup (codes " ") ∷ Text voyage ∷ Markup (codes "</td><td class='m'>") ∷ Text c.args.port.now
-    ∷ Markup (codes "</td></tr>\n") ∷ []))))
+    ∷ Markup (codes "</td></tr>\n") ∷ [])))
     c.push_pieces.ensures

@@ -11,5 +11,5 @@ returns c =
     (Markup (codes "<h1><small>") ∷ Markup (c.side_name.ensures i) ∷ Markup (codes " work of</small> ") ∷ Text vessel
     ∷ Markup (codes " ") ∷ Text voyage ∷ Markup (codes "</h1>\n<p class='beside'><a href='/pages/lists/") ∷ Part vessel
     ∷ Markup (codes "/") ∷ Part voyage ∷ Markup (codes "/") ∷ Markup (c.side_word.ensures i)
-    ∷ Markup (codes "'>The whole list</a></p>\n") ∷ []))))
+    ∷ Markup (codes "'>The whole list</a></p>\n") ∷ [])))
     c.push_pieces.ensures

@@ -9,5 +9,5 @@ returns c =
     (λ e. e ∙ (λ i. string_bytes c.args.page.now ++ pieces_text
     (Markup (codes "<tr><td class='m'>") ∷ SlotText standing.slot ∷ Markup (codes "</td><td>") ∷ Container standing.container
     ∷ Markup (codes "</td><td class='m'>") ∷ SizeText standing.size_type ∷ Markup (codes "</td><td>")
-    ∷ Markup (c.load_mark.ensures i) ∷ Markup (codes "</td></tr>\n") ∷ []))))
+    ∷ Markup (c.load_mark.ensures i) ∷ Markup (codes "</td></tr>\n") ∷ [])))
     c.push_pieces.ensures
