@@ -1,0 +1,5 @@
+use Rattle.office_report_data.proofs.MemberLemmas.{block_put}
+use Rattle.office_report_data.proofs.blocks.block_value.Goals as goal
+
+pub returns : goal.returns
+returns c = block_put _ _ _ _ c.new-members.ensures.empty c.in_ok-put_size.ensures c.in_ok-put_use.ensures
