@@ -1,5 +1,5 @@
 -- The report on a container as JSON: an object with each member always, null where there is nothing.
-use Rattle.std.specs.Prelude.{ℕ, List, [], ◌∷◌, codes}
+use Rattle.std.specs.Prelude.{[], ◌∷◌, codes}
 use Rattle.serde_json.specs.Data.{Data, null, string, number, unsigned, object, member, no_members}
 use Rattle.edi_syntax.specs.Moments.{moment_text}
 use Rattle.terminal_core.specs.State.{LineContent, LineKey}

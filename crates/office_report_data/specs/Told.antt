@@ -75,14 +75,13 @@ shown view (blocks report) =
     in_view view (blocks_text report) (compact_text (blocks_data report)) (blocks_table report) (blocks_page report)
 shown view (ticket report) =
     in_view view (told_text report) (compact_text (ticket_data report)) (told_text report) (ticket_page report)
-shown view (taken partner number reply) =
-    text_or_page view (answer_text (codes "repeat") number partner reply) (reply_page partner number reply)
-shown view (waiting partner number next) =
-    text_or_page view (waiting_text next number partner) (waiting_page partner number next)
-shown view (contrl partner number kept plain) = text_or_page view plain (contrl_page partner number kept)
+shown view (taken code number reply) =
+    text_or_page view (answer_text (codes "repeat") number code reply) (reply_page code number reply)
+shown view (waiting code number next) = text_or_page view (waiting_text next number code) (waiting_page code number next)
+shown view (contrl code number kept plain) = text_or_page view plain (contrl_page code number kept)
 shown view (picture page) = text_or_page view page (picture_view page)
 shown view (start terminal report) = office_page terminal report
 shown view (block letter rows) = yard_page rows (Some letter)
-shown view (expected container lists) = expected_page container lists
-shown view (found typed stays partner lists) = found_page typed stays partner lists
+shown view (expected named lists) = expected_page named lists
+shown view (found typed stays code lists) = found_page typed stays code lists
 shown view (text bytes) = bytes

@@ -56,10 +56,10 @@ abbrev pub days_field : (entry : CivilMoment) → Option Departure → List ℕ
 days_field entry departure = field_of (λ exit. signed_decimal (day_number exit.moment -ℤ day_number entry)) departure
 
 -- the columns of a visit in their order, the passages by four each
-unfoldable pub visit_record : (number size_type load : List ℕ) → (entry : List (List ℕ)) → (slot booking gross : List ℕ)
+unfoldable pub visit_record : (visit size_type load : List ℕ) → (entry : List (List ℕ)) → (slot booking gross : List ℕ)
     → (exit : List (List ℕ)) → (days : List ℕ) → List (List ℕ)
-visit_record number size_type load entry slot booking gross exit days =
-    number ∷ size_type ∷ load ∷ (entry ++ (slot ∷ booking ∷ gross ∷ (exit ++ (days ∷ []))))
+visit_record visit size_type load entry slot booking gross exit days =
+    visit ∷ size_type ∷ load ∷ (entry ++ (slot ∷ booking ∷ gross ∷ (exit ++ (days ∷ []))))
 
 unfoldable pub visit_fields : SetupContent → VisitContent → List (List ℕ)
 visit_fields setup visit =
@@ -77,7 +77,7 @@ fields_content fields = string_bytes fields.way ∷ string_bytes fields.partner 
 
 -- each is what it says of the visit
 pub record AreOfVisit (visit : VisitContent) (fields : VisitFields) : Type 0 where
-  pub number : string_bytes fields.number ≡ decimal visit.number
+  pub counted : string_bytes fields.number ≡ decimal visit.number
   pub size : string_bytes fields.size ≡ visit.size_type
   pub slot : string_bytes fields.slot ≡ slot_name visit.arrival.slot
   pub booking : string_bytes fields.booking ≡ visit.booking

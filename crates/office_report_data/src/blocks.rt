@@ -49,7 +49,6 @@ fn block_text(alloc: Global, row: BlockRow) -> Result<String, AllocError>
     value.to_string(alloc)
 }
 
-#[tactic(auto, using(crate::proofs::MemberLemmas::block_whole))]
 fn block_value(alloc: Global, row: BlockRow) -> Result<Value, AllocError>
     ensures { IfOk result (λ value. view value ≡ block_data row) }
 {

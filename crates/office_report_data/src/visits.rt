@@ -72,7 +72,6 @@ fn visit_text(alloc: Global, setup: &Setup, visit: &Visit) -> Result<String, All
     value.to_string(alloc)
 }
 
-#[tactic(auto, using(crate::proofs::MemberLemmas::visit_whole))]
 fn visit_value(alloc: Global, setup: &Setup, visit: &Visit) -> Result<Value, AllocError>
     ensures { IfOk result
         (λ value. view value ≡ visit_data (setup_content setup.now) (visit_content visit.now)) }
