@@ -63,9 +63,12 @@ block_fact slot = pieces_text
     (Markup (codes "<dt>Block</dt><dd><a href='/pages/picture#block-") ∷ LetterPart slot.block ∷ Markup (codes "'>")
     ∷ Letter slot.block ∷ Markup (codes " in the picture</a></dd>\n") ∷ [])
 
+abbrev pub stay_lines : (booking : List ℕ) → (kilos : ℕ) → Slot → List ℕ
+stay_lines booking kilos slot = booking_fact booking ++ gross_fact kilos ++ block_fact slot
+
 abbrev pub stay_facts : Option StayContent → List ℕ
 stay_facts None = []
-stay_facts (Some stay) = booking_fact stay.booking ++ gross_fact stay.kilos ++ block_fact stay.slot
+stay_facts (Some stay) = stay_lines stay.booking stay.kilos stay.slot
 
 abbrev pub facts_view : ContainerContent → List ℕ
 facts_view report =

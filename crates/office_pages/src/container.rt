@@ -1,7 +1,7 @@
 //! The page of a container.
 ghost use Rattle.std.specs.{Option.option_map, Prelude.{◌≡◌, ◌++◌, map, IfOk, OnOk, Some, string_bytes}};
 ghost use Rattle.office_reports.specs.{Containers.{container_content, stay_content}, Passages.passage_content, Visits.visits_content};
-ghost use Rattle.office_pages.specs.Container.{block_fact, booking_fact, booking_line, container_body, container_page, expected_view, facts_view, gross_fact, passage_fact, passage_label, place_by, place_section, place_view, size_fact, stay_facts, wanted_view};
+ghost use Rattle.office_pages.specs.Container.{block_fact, booking_fact, booking_line, container_body, container_page, expected_view, facts_view, gross_fact, passage_fact, passage_label, place_by, place_section, place_view, size_fact, stay_facts, stay_lines, visits_view, wanted_view};
 ghost use Rattle.terminal_core.specs.Listings.{line_entry};
 
 use crate::frame::push_top;
@@ -53,6 +53,18 @@ fn push_container(
     push_place(alloc, page, report)?;
     push_facts(alloc, page, report)?;
     push_wanted(alloc, page, &report.stay, expected)?;
+    push_past(alloc, page, visits)
+}
+
+/// Appends its visits.
+fn push_past(
+    alloc: Global,
+    page: &mut String,
+    visits: &Option<VisitsReport<'_>>,
+) -> Result<(), AllocError>
+    ensures { OnOk result (string_bytes page.new
+        ≡ string_bytes page.old ++ visits_view (option_map visits_content visits.now)) }
+{
     match visits {
         Some(visits) => push_visits(alloc, page, visits),
         None => Ok(()),
@@ -237,13 +249,24 @@ fn push_stay(alloc: Global, page: &mut String, stay: &Option<Stay<'_>>) -> Resul
         ≡ string_bytes page.old ++ stay_facts (option_map stay_content stay.now)) }
 {
     match stay {
-        Some(stay) => {
-            push_booking(alloc, page, stay.booking)?;
-            push_gross(alloc, page, stay.kilos)?;
-            push_block(alloc, page, stay.slot)
-        }
+        Some(stay) => push_stay_facts(alloc, page, stay.booking, stay.kilos, stay.slot),
         None => Ok(()),
     }
+}
+
+fn push_stay_facts(
+    alloc: Global,
+    page: &mut String,
+    booking: &str,
+    kilos: u32,
+    slot: Slot,
+) -> Result<(), AllocError>
+    ensures { OnOk result
+        (string_bytes page.new ≡ string_bytes page.old ++ stay_lines booking.now kilos slot) }
+{
+    push_booking(alloc, page, booking)?;
+    push_gross(alloc, page, kilos)?;
+    push_block(alloc, page, slot)
 }
 
 fn push_booking(alloc: Global, page: &mut String, booking: &str) -> Result<(), AllocError>
