@@ -1,4 +1,4 @@
-ghost use Rattle.std.specs.{Io.KnownBytes.Appends, Prelude.{◌≡◌, List, ℕ, true, OnOk, OnErr}};
+ghost use Rattle.std.specs.{Io.KnownBytes.Appends, Prelude.{◌≡◌, true, OnOk, OnErr}};
 ghost use Rattle.office_commands.specs.{Command.DemoEnds, Demo.port_failures, Telling.open_text};
 ghost use Rattle.office_commands.specs.Ending.{Tells, Prints, status_of, store_text, stream_text, outcome_status, outcome_text};
 ghost use Rattle.office_replies.specs.{Fronts.AppendsFront, Streams.port_bytes};
