@@ -17,7 +17,7 @@ use Rattle.office_report_data.specs.Told.{ReportContent, shown}
 use Rattle.office_loading.specs.Closed.{last_closed}
 use Rattle.office_history.specs.After.{machine_after}
 use Rattle.office_rows.specs.Rows.{Rows}
-use Rattle.office_archives.specs.{Standing.{IsBeyond, NamesNoneAway, StandsBeside}, Telling.{AreAsked, IsOfNumber, TellsTogether, json_beside, shown_beside}}
+use Rattle.office_archives.specs.{Standing.{IsBeyond, NamesNoneAway, StandsBeside}, Telling.{AreAsked, IsOfNumber, TellsTogether, shown_beside}}
 use Rattle.office_archives.{specs.Together.{LeadsTogether, LooksTogether, ShowsBeside, TellsBeside}, proofs.{Noted.{asked_end, no_note}, Together.looks_on}}
 use Rattle.office_archives.proofs.Beside.{calls_beside, container_beside, expected_beside, here_beside, list_beside, neither_beside, nobody_beside, number_beside, tells_so}
 use Rattle.office_archives.proofs.Standing.{beyond_answered, beyond_left}
@@ -116,25 +116,14 @@ module _ {S A : Type 0} (g : Ghosts S) (are : List Archive → A → Type 0) (ol
 
   -- no archive is told of
   nothing_beside : (view : View) (told : Option (List ℕ)) (what : Option ReportContent) → AreAsked what → told ≡ option_map (shown view) what → told ≡ shown_beside 0 view what
+  unfolding shown
   nothing_beside Text told what asks is = is
   nothing_beside Csv told what asks is = is
   nothing_beside Page told what asks is = is ∙ sym (no_note (option_map (shown Page) what) (asked_end what asks))
   nothing_beside Json told None asks is = is
-  nothing_beside Json told (Some (value.container report lists visits)) asks is = is ∙ json_of
-    where
-      json_of : option_map (shown Json) (Some (value.container report lists visits)) ≡ json_beside 0 (Some (value.container report lists visits))
-      unfolding shown
-      json_of = refl
-  nothing_beside Json told (Some (value.visits report)) asks is = is ∙ json_of
-    where
-      json_of : option_map (shown Json) (Some (value.visits report)) ≡ json_beside 0 (Some (value.visits report))
-      unfolding shown
-      json_of = refl
-  nothing_beside Json told (Some (value.calls lists)) asks is = is ∙ json_of
-    where
-      json_of : option_map (shown Json) (Some (value.calls lists)) ≡ json_beside 0 (Some (value.calls lists))
-      unfolding shown
-      json_of = refl
+  nothing_beside Json told (Some (value.container report lists visits)) asks is = is
+  nothing_beside Json told (Some (value.visits report)) asks is = is
+  nothing_beside Json told (Some (value.calls lists)) asks is = is
   nothing_beside Json told (Some other) asks is = absurd asks
 
   -- what the desk reports, desk and archives report
