@@ -5,3 +5,5 @@ pub mod CallLemmas
 pub mod Waits
 pub mod Markup
 mod Pages
+pub mod ReplyLemmas
+pub mod InterchangeLemmas

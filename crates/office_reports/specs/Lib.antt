@@ -27,3 +27,6 @@ pub mod PictureLaws
 pub mod Markup
 pub mod Picture
 pub mod Views
+pub mod Interchanges
+pub mod InterchangeLines
+pub mod ReplyValues

@@ -19,6 +19,7 @@ mod drawing;
 mod drawn_containers;
 mod fixed;
 mod grids;
+mod interchanges;
 mod keys;
 pub mod laws;
 mod lists;
@@ -26,6 +27,7 @@ mod metrics;
 mod partners;
 mod passages;
 mod query;
+pub mod replies;
 pub mod texts;
 mod tickets;
 mod visits;
@@ -41,6 +43,9 @@ pub use container_lines::{container_report, container_text};
 pub use containers::{ContainerReport, Stay, container_of, open_lines_of};
 pub use drawing::picture;
 pub use fixed::field_text;
+pub use interchanges::{
+    InterchangeReport, LineFacts, LineOutcome, MessageRow, facts_of, interchange_of, messages_of,
+};
 pub use keys::{AccountKey, number_of, passed_of, read_account_key, read_query, read_sender_key};
 pub use lists::{ListReport, ListedLine, lines_on, list_name, list_of, list_report, list_text};
 pub use metrics::{Versions, metrics_report, ready};
