@@ -7,3 +7,4 @@ pub mod Markup
 mod Pages
 pub mod ReplyLemmas
 pub mod InterchangeLemmas
+pub mod LastLemmas

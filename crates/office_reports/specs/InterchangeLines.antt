@@ -36,6 +36,9 @@ word_part word = codes " " ++ word
 unfoldable pub named_part : (name word : List ℕ) → List ℕ
 named_part name word = word_part name ++ word_part word
 
+unfoldable pub line_end : List ℕ
+line_end = codes "\n"
+
 -- ---- its text: a line of a message
 
 abbrev pub container_part : Option BoxNumber → List ℕ
@@ -100,7 +103,7 @@ outcome_part (Some outcome) =
 
 -- at a place from 0: the line's number from 1, what it was read as, and what became of it
 abbrev pub row_text : (place : ℕ) → FactsContent → Option OutcomeContent → List ℕ
-row_text place facts outcome = decimal (place + 1) ++ read_part facts ++ outcome_part outcome ++ codes "\n"
+row_text place facts outcome = decimal (place + 1) ++ read_part facts ++ outcome_part outcome ++ line_end
 
 abbrev pub lines_from : (place : ℕ) → List LineContent → List OutcomeContent → List ℕ
 lines_from place [] outcomes = []
@@ -116,11 +119,14 @@ call_part (Some call) = named_part call.vessel call.voyage
 abbrev pub replaces_part : Bool → List ℕ
 replaces_part replaces = if replaces then word_part (codes "REPLACES") else []
 
+unfoldable pub message_front : (reference : List ℕ) → List ℕ
+message_front reference = codes "MESSAGE" ++ word_part reference
+
 -- MESSAGE REFERENCE KIND, the call that it is about, and whether it replaces the call's list
 abbrev pub accepted_text : (reference : List ℕ) → MessageContent → List OutcomeContent → List ℕ
 accepted_text reference message outcomes =
-    codes "MESSAGE" ++ word_part reference ++ word_part (kind_name message.kind) ++ call_part message.call
-    ++ replaces_part message.replaces ++ codes "\n" ++ lines_from 0 message.lines outcomes
+    message_front reference ++ word_part (kind_name message.kind) ++ call_part message.call
+    ++ replaces_part message.replaces ++ line_end ++ lines_from 0 message.lines outcomes
 
 -- MESSAGE REFERENCE REJECTED FAULT
 abbrev pub rejected_text : (reference : List ℕ) → MessageFault → List ℕ
@@ -140,8 +146,10 @@ head_line code number None = line (codes "INTERCHANGE" ∷ code ∷ decimal numb
 head_line code number (Some next) =
     line (codes "INTERCHANGE" ∷ code ∷ decimal number ∷ codes "WAITING" ∷ codes "FOR" ∷ decimal next ∷ [])
 
--- each message, and then the text as it is kept, each byte as the character of its number
+-- TEXT, and the text as it is kept, each byte as the character of its number
+unfoldable pub kept_part : (text : List ℕ) → List ℕ
+kept_part text = codes "TEXT\n" ++ encode_utf8_all text ++ codes "\n"
+
 abbrev pub interchange_text : InterchangeContent → List ℕ
 interchange_text report =
-    head_line report.code report.number report.next ++ flat_map message_text report.messages ++ codes "TEXT\n"
-    ++ encode_utf8_all report.text ++ codes "\n"
+    head_line report.code report.number report.next ++ flat_map message_text report.messages ++ kept_part report.text

@@ -30,3 +30,4 @@ pub mod Views
 pub mod Interchanges
 pub mod InterchangeLines
 pub mod ReplyValues
+pub mod Last

@@ -1,8 +1,8 @@
 //! The text of the report on an interchange.
-ghost use Rattle.std.specs.{List.flat_map, Option.option_map, Prelude.{◌≡◌, ◌+◌, ◌++◌, ◌∷◌, [], codes, decimal, encode_utf8_all, map, slice_get, IfOk, OnOk, string_bytes}, Result.result_map_both};
+ghost use Rattle.std.specs.{List.flat_map, Option.option_map, Prelude.{◌≡◌, ◌+◌, ◌<◌, ◌^◌, ◌++◌, ◌∷◌, [], codes, decimal, map, slice_get, Some, IfOk, OnOk, string_bytes}};
 ghost use Rattle.edi_messages.specs.Owned.{call_content, line_content, message_content};
 ghost use Rattle.office_reports.specs.{Interchanges.{facts_content, facts_of, interchange_content, outcome_content, row_content}, Names.line};
-ghost use Rattle.office_reports.specs.InterchangeLines.{accepted_text, call_part, container_part, fault_part, gross_part, head_line, interchange_text, kind_name, line_fault_name, lines_from, message_text, moment_part, named_part, outcome_part, outcome_word, read_part, read_text, rejected_text, replaces_part, row_text, size_part, slot_part, stated_part, text_part, word_if_any, word_part};
+ghost use Rattle.office_reports.specs.InterchangeLines.{accepted_text, call_part, container_part, fault_part, gross_part, head_line, interchange_text, kept_part, kind_name, line_end, line_fault_name, message_front, lines_from, message_text, moment_part, named_part, outcome_part, outcome_word, read_part, replaces_part, row_text, size_part, slot_part, stated_part, text_part, word_if_any, word_part};
 
 use crate::interchanges::{InterchangeReport, LineFacts, LineOutcome, MessageRow, facts_of};
 use crate::texts::{load_name, moment_text, number_text, push_line, size_text, slot_text};
@@ -18,10 +18,7 @@ use std::alloc::{AllocError, Global};
 ///
 /// A line is `n[ BOX][ SIZE FULL][ MOMENT][ SLOT s][ BOOKING b][ GROSS w][ PORT p][ FAULT f]` and what became of it: `DONE`
 /// and the slot, `GONE`, `LISTED`, or `REFUSED`, the reason and the container on top.
-pub fn interchange_text(
-    alloc: Global,
-    report: &InterchangeReport<'_>,
-) -> Result<String, AllocError>
+pub fn interchange_text(alloc: Global, report: &InterchangeReport<'_>) -> Result<String, AllocError>
     ensures { IfOk result (λ text. string_bytes text ≡ interchange_text (interchange_content report.now)) }
 {
     let mut text = String::new(alloc);
@@ -56,7 +53,11 @@ fn push_taken_head(
         ++ line (codes "INTERCHANGE" ∷ code.now ∷ decimal number ∷ codes "TAKEN" ∷ [])) }
 {
     let digits = number.to_string(alloc)?;
-    push_line(alloc, text, &["INTERCHANGE", code, digits.as_str(), "TAKEN"])
+    push_line(
+        alloc,
+        text,
+        &["INTERCHANGE", code, digits.as_str(), "TAKEN"],
+    )
 }
 
 fn push_waiting_head(
@@ -86,10 +87,9 @@ fn push_waiting_head(
 }
 
 /// Appends the text that is kept, each byte as the character of its number.
-#[tactic(auto, using(crate::proofs::InterchangeLemmas::three_more))]
+#[tactic(auto, using(crate::proofs::InterchangeLemmas::three_pushed), unfolding(crate::specs::InterchangeLines::kept_part))]
 fn push_kept(alloc: Global, text: &mut String, kept: &[u8]) -> Result<(), AllocError>
-    ensures { OnOk result (string_bytes text.new
-        ≡ string_bytes text.old ++ codes "TEXT\n" ++ encode_utf8_all kept.now ++ codes "\n") }
+    ensures { OnOk result (string_bytes text.new ≡ string_bytes text.old ++ kept_part kept.now) }
 {
     let shown = text_of(alloc, kept)?;
     text.push_str("TEXT\n")?;
@@ -147,12 +147,20 @@ fn push_accepted(
     ensures { OnOk result (string_bytes text.new ≡ string_bytes text.old
         ++ accepted_text reference.now (message_content message.now) (map outcome_content outcomes.now)) }
 {
-    push_named(text, "MESSAGE", reference)?;
+    push_front(text, reference)?;
     push_word(text, kind_name(message.kind))?;
     push_call(text, &message.call)?;
     push_replaces(text, message.replaces)?;
-    text.push_str("\n")?;
+    push_end(text)?;
     push_lines(alloc, text, &message.lines, outcomes)
+}
+
+#[tactic(auto, using(crate::proofs::InterchangeLemmas::two_pushed), unfolding(crate::specs::InterchangeLines::message_front))]
+fn push_front(text: &mut String, reference: &str) -> Result<(), AllocError>
+    ensures { OnOk result (string_bytes text.new ≡ string_bytes text.old ++ message_front reference.now) }
+{
+    text.push_str("MESSAGE")?;
+    push_word(text, reference)
 }
 
 fn push_call(text: &mut String, call: &Option<Call>) -> Result<(), AllocError>
@@ -187,10 +195,24 @@ fn push_lines(
 {
     let mut place = 0;
     for line in lines {
-        push_row(alloc, text, place, facts_of(line), outcomes.get(place).copied())?;
+        push_row(
+            alloc,
+            text,
+            place,
+            facts_of(line),
+            outcome_at(outcomes, place),
+        )?;
         place += 1;
     }
     Ok(())
+}
+
+/// What became of the line at that place, counted from 0.
+#[tactic(auto, using(crate::proofs::InterchangeLemmas::mapped_at))]
+fn outcome_at<'a>(outcomes: &[LineOutcome<'a>], place: usize) -> Option<LineOutcome<'a>>
+    ensures { option_map outcome_content result ≡ slice_get (map outcome_content outcomes.now) place }
+{
+    outcomes.get(place).copied()
 }
 
 /// Appends the row of the line at that place, counted from 0.
@@ -201,7 +223,7 @@ fn push_row(
     facts: LineFacts<'_>,
     outcome: Option<LineOutcome<'_>>,
 ) -> Result<(), AllocError>
-    requires { place < 2 ^ 63 }
+    requires { place + 1 < 2 ^ 64 }
     ensures { OnOk result (string_bytes text.new ≡ string_bytes text.old
         ++ row_text place (facts_content facts) (option_map outcome_content outcome)) }
 {
@@ -209,7 +231,7 @@ fn push_row(
     text.push_str(digits.as_str())?;
     push_read(alloc, text, facts)?;
     push_outcome(text, outcome)?;
-    text.push_str("\n")
+    push_end(text)
 }
 
 fn push_read(alloc: Global, text: &mut String, facts: LineFacts<'_>) -> Result<(), AllocError>
@@ -255,11 +277,7 @@ fn push_size(
     }
 }
 
-fn push_moment(
-    alloc: Global,
-    text: &mut String,
-    moment: Option<Moment>,
-) -> Result<(), AllocError>
+fn push_moment(alloc: Global, text: &mut String, moment: Option<Moment>) -> Result<(), AllocError>
     ensures { OnOk result (string_bytes text.new ≡ string_bytes text.old ++ moment_part moment) }
 {
     match moment {
@@ -346,11 +364,14 @@ fn push_became(text: &mut String, outcome: LineOutcome<'_>) -> Result<(), AllocE
 fn outcome_word(name: &str) -> &'static str
     ensures { result.now ≡ outcome_word name.now }
 {
-    match name {
-        "done" => "DONE",
-        "gone" => "GONE",
-        "refused" => "REFUSED",
-        _ => "LISTED",
+    if name == "done" {
+        "DONE"
+    } else if name == "gone" {
+        "GONE"
+    } else if name == "refused" {
+        "REFUSED"
+    } else {
+        "LISTED"
     }
 }
 
@@ -363,9 +384,16 @@ fn push_word_if_any(text: &mut String, word: &str) -> Result<(), AllocError>
     push_word(text, word)
 }
 
+#[tactic(auto, unfolding(crate::specs::InterchangeLines::line_end))]
+pub(crate) fn push_end(text: &mut String) -> Result<(), AllocError>
+    ensures { OnOk result (string_bytes text.new ≡ string_bytes text.old ++ line_end) }
+{
+    text.push_str("\n")
+}
+
 /// Appends a name and a word, each after a space.
 #[tactic(auto, unfolding(crate::specs::InterchangeLines::named_part))]
-fn push_named(text: &mut String, name: &str, word: &str) -> Result<(), AllocError>
+pub(crate) fn push_named(text: &mut String, name: &str, word: &str) -> Result<(), AllocError>
     ensures { OnOk result (string_bytes text.new ≡ string_bytes text.old ++ named_part name.now word.now) }
 {
     push_word(text, name)?;
@@ -373,8 +401,8 @@ fn push_named(text: &mut String, name: &str, word: &str) -> Result<(), AllocErro
 }
 
 /// Appends a word after a space.
-#[tactic(auto, unfolding(crate::specs::InterchangeLines::word_part))]
-fn push_word(text: &mut String, word: &str) -> Result<(), AllocError>
+#[tactic(auto, using(crate::proofs::InterchangeLemmas::two_pushed), unfolding(crate::specs::InterchangeLines::word_part))]
+pub(crate) fn push_word(text: &mut String, word: &str) -> Result<(), AllocError>
     ensures { OnOk result (string_bytes text.new ≡ string_bytes text.old ++ word_part word.now) }
 {
     text.push_str(" ")?;

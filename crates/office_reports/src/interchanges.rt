@@ -1,5 +1,5 @@
 //! What came with an interchange: its text, what each line was read as, and what became of it.
-ghost use Rattle.std.specs.{Option.option_map, Prelude.{◌≡◌, ◌≤◌, length, map, encode_utf8_all, IfOk, string_bytes}, Result.result_map_both};
+ghost use Rattle.std.specs.{Option.option_map, Prelude.{◌≡◌, ◌≤◌, length, map, encode_utf8_all, slice_get, IfOk, string_bytes}, Result.result_map_both};
 ghost use Rattle.edi_syntax.specs.{Envelope.header_of, Envelopes.envelope_segments, Frames.{message, messages_left}, Header.preparation, Interchange.most_bytes, Messages.message_reference};
 ghost use Rattle.edi_messages.specs.{Message.{ordered, reading}, Owned.{entry_content, line_content, message_content, order_content}};
 ghost use Rattle.office_reports.specs.Interchanges.{entry_facts, facts_content, facts_of, interchange_content, interchange_of, message_row, outcome_content, outcome_of, outcomes_in, row_content, rows_at, rows_from, rows_of};
@@ -159,11 +159,19 @@ fn rows_from<'a>(
     let mut rows = Vec::new(alloc);
     let mut place = 0;
     while let Some(frame) = frames.next() {
-        let row = message_row(alloc, codes, opened, &frame, replies.get(place))?;
+        let row = message_row(alloc, codes, opened, &frame, reply_at(replies, place))?;
         rows.push(row)?;
         place += 1;
     }
     Ok(rows)
+}
+
+/// What the reply has at that place, counted from 0.
+#[tactic(auto, using(crate::proofs::InterchangeLemmas::mapped_at))]
+fn reply_at(replies: &[Value], place: usize) -> Option<&Value>
+    ensures { option_map (λ value. view value.now) result ≡ slice_get (map view replies.now) place }
+{
+    replies.get(place)
 }
 
 fn message_row<'a>(
@@ -210,10 +218,7 @@ fn reading_of(
     }
 }
 
-fn outcomes_in(
-    alloc: Global,
-    reply: Option<&Value>,
-) -> Result<Vec<LineOutcome<'_>>, AllocError>
+fn outcomes_in(alloc: Global, reply: Option<&Value>) -> Result<Vec<LineOutcome<'_>>, AllocError>
     ensures { IfOk result (λ outcomes. map outcome_content outcomes.items
         ≡ outcomes_in (option_map (λ value. view value.now) reply.entry)) }
 {
