@@ -1,5 +1,5 @@
 -- The interchanges that came last, and what became of each (our own).
-use Rattle.std.specs.Prelude.{ℕ, zero, suc, Bool, not, List, [], ◌∷◌, ◌++◌, count_by, filter, length, map, sum_by, codes, decimal, slice_get, if◌then◌else◌, Option, None, Some, Result, Ok, Err}
+use Rattle.std.specs.Prelude.{ℕ, zero, suc, Bool, not, List, [], ◌∷◌, ◌++◌, count_by, filter, length, map, codes, decimal, slice_get, if◌then◌else◌, Option, None, Some, Result, Ok, Err}
 use Rattle.std.specs.{List.{flat_map, list_any}, Option.option_map, Str.bytes_eq}
 use Rattle.edi_messages.specs.{Message.MessageContent, declared.codes.PartnerKind.PartnerKind, declared.message.MessageFault.MessageFault}
 use Rattle.edi_messages.specs.declared.order.OrderKind.{OrderKind}
@@ -24,11 +24,9 @@ is_accepted message = bytes_eq (text_in (codes "result") message) (codes "accept
 abbrev pub is_refused : Data → Bool
 is_refused line = bytes_eq (text_in (codes "outcome") line) (codes "refused")
 
-abbrev pub refused_count : Data → ℕ
-refused_count message = count_by is_refused (items_in (codes "lines") message)
-
-abbrev pub done_count : Data → ℕ
-done_count message = count_by (λ line. not (is_refused line)) (items_in (codes "lines") message)
+-- the lines of messages; one that was rejected has none
+abbrev pub lines_of : List Data → List Data
+lines_of messages = flat_map (items_in (codes "lines")) messages
 
 -- why lines were refused, or the message was rejected
 abbrev pub reasons_of : List Data → List (List ℕ)
@@ -54,8 +52,8 @@ pub record SettledContent : Type 0 where
 
 abbrev pub settled_by : List Data → SettledContent
 settled_by messages = record {
-  done = sum_by done_count messages;
-  refused = sum_by refused_count messages;
+  done = count_by (λ line. not (is_refused line)) (lines_of messages);
+  refused = count_by is_refused (lines_of messages);
   rejected = count_by (λ message. not (is_accepted message)) messages;
   reasons = firsts_after [] (flat_map refusals_in messages);
 }

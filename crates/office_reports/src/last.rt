@@ -1,9 +1,9 @@
 //! The interchanges that came last, and what became of each.
-ghost use Rattle.std.specs.{List.{flat_map, list_any}, Option.option_map, Prelude.{◌≡◌, ◌++◌, [], codes, count_by, filter, map, not, sum_by, IfOk, OnOk}, Result.result_map_both, Str.bytes_eq};
+ghost use Rattle.std.specs.{List.{flat_map, list_any}, Option.option_map, Prelude.{◌≡◌, ◌++◌, [], codes, count_by, filter, map, not, IfOk, OnOk}, Result.result_map_both, Str.bytes_eq};
 ghost use Rattle.edi_messages.specs.Owned.{message_content};
 ghost use Rattle.office_admission.specs.Setups.{setup_content};
 ghost use Rattle.office_reports.specs.{Interchanges.{row_content, rows_of}, ReplyValues.items_in};
-ghost use Rattle.office_reports.specs.Last.{account_of, arrival_content, done_count, first_kind, firsts_after, is_accepted, is_refused, kind_in, last_content, last_of, last_row_content, reasons_of, refusals_in, refused_count, row_by, settled_by, settled_content};
+ghost use Rattle.office_reports.specs.Last.{account_of, arrival_content, first_kind, firsts_after, is_accepted, is_refused, kind_in, last_content, last_of, last_row_content, lines_of, reasons_of, refusals_in, row_by, settled_by, settled_content};
 ghost use Rattle.serde_json.specs.{Data.null, View.view};
 
 use crate::interchanges::{MessageRow, messages_of};
@@ -50,9 +50,9 @@ pub struct LastRow<'a> {
 #[derive(Drop)]
 pub struct Settled<'a> {
     /// How many lines were done.
-    pub done: u128,
+    pub done: usize,
     /// How many were refused.
-    pub refused: u128,
+    pub refused: usize,
     /// How many messages were rejected.
     pub rejected: usize,
     /// Why, each reason and fault once.
@@ -169,44 +169,47 @@ fn settled_if_taken(alloc: Global, reply: &Option<Value>) -> Result<Option<Settl
 fn settled_by(alloc: Global, messages: &[Value]) -> Result<Settled<'_>, AllocError>
     ensures { IfOk result (λ settled. settled_content settled ≡ settled_by (map view messages.now)) }
 {
+    let lines = lines_of(alloc, messages)?;
     let refusals = refusals_of(alloc, messages)?;
     Ok(Settled {
-        done: done_sum(messages),
-        refused: refused_sum(messages),
+        done: done_count(&lines),
+        refused: refused_count(&lines),
         rejected: rejected_count(messages),
         reasons: firsts_of(alloc, &refusals)?,
     })
 }
 
-fn done_sum(messages: &[Value]) -> u128
-    ensures { result ≡ sum_by done_count (map view messages.now) }
+/// The lines of all messages.
+fn lines_of(alloc: Global, messages: &[Value]) -> Result<Vec<&Value>, AllocError>
+    ensures { IfOk result
+        (λ lines. map (λ line. view line.now) lines.items ≡ lines_of (map view messages.now)) }
 {
-    let mut sum = 0;
+    let mut lines = Vec::new(alloc);
     for message in messages {
-        sum += done_count(items_in(message, "lines")) as u128;
+        push_all(&mut lines, items_in(message, "lines"))?;
     }
-    sum
+    Ok(lines)
 }
 
-fn refused_sum(messages: &[Value]) -> u128
-    ensures { result ≡ sum_by refused_count (map view messages.now) }
+fn push_all<'a>(lines: &mut Vec<&'a Value>, others: &'a [Value]) -> Result<(), AllocError>
+    ensures { OnOk result (map (λ line. view line.now) lines.new.items
+        ≡ map (λ line. view line.now) lines.old.items ++ map view others.now) }
 {
-    let mut sum = 0;
-    for message in messages {
-        sum += refused_count(items_in(message, "lines")) as u128;
+    for line in others {
+        lines.push(line)?;
     }
-    sum
+    Ok(())
 }
 
 /// How many lines were not refused.
-fn done_count(lines: &[Value]) -> usize
-    ensures { result ≡ count_by (λ line. not (is_refused line)) (map view lines.now) }
+fn done_count(lines: &[&Value]) -> usize
+    ensures { result ≡ count_by (λ line. not (is_refused line)) (map (λ line. view line.now) lines.now) }
 {
     lines.iter().filter(|line| !is_refused(line)).count()
 }
 
-fn refused_count(lines: &[Value]) -> usize
-    ensures { result ≡ count_by is_refused (map view lines.now) }
+fn refused_count(lines: &[&Value]) -> usize
+    ensures { result ≡ count_by is_refused (map (λ line. view line.now) lines.now) }
 {
     lines.iter().filter(|line| is_refused(line)).count()
 }

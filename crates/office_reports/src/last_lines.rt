@@ -37,13 +37,13 @@ fn push_row(alloc: Global, text: &mut String, row: &LastRow<'_>) -> Result<(), A
     ensures { OnOk result (string_bytes text.new ≡ string_bytes text.old ++ last_line (last_row_content row.now)) }
 {
     text.push_str(row.code)?;
-    push_number(alloc, text, u128::from(row.number))?;
+    push_number(alloc, text, row.number as usize)?;
     push_kind(text, row.kind)?;
     push_settled(alloc, text, &row.settled)?;
     push_end(text)
 }
 
-fn push_number(alloc: Global, text: &mut String, number: u128) -> Result<(), AllocError>
+fn push_number(alloc: Global, text: &mut String, number: usize) -> Result<(), AllocError>
     ensures { OnOk result (string_bytes text.new ≡ string_bytes text.old ++ word_part (decimal number)) }
 {
     let digits = number.to_string(alloc)?;
@@ -83,7 +83,7 @@ fn push_counts(alloc: Global, text: &mut String, settled: &Settled<'_>) -> Resul
     push_word(text, "REFUSED")?;
     push_number(alloc, text, settled.refused)?;
     push_word(text, "REJECTED")?;
-    push_number(alloc, text, settled.rejected as u128)?;
+    push_number(alloc, text, settled.rejected)?;
     push_words(text, &settled.reasons)
 }
 

@@ -1,8 +1,0 @@
-use Rattle.std.proofs.Common.{◌≡◌, ◌≤◌, ◌*◌, ◌^◌, map, take, sum_by}
-use Rattle.serde_json.specs.View.{view}
-use Rattle.office_reports.specs.Last.{done_count}
-use Rattle.office_reports.proofs.last.done_sum.Given as goal
-
-abbrev pub invariant-loop-message : goal.invariant-loop-message
-invariant-loop-message l =
-    (l.sum ≡ sum_by done_count (map view (take l.message-index l.messages))) × (l.sum ≤ l.message-index * 2 ^ 64)
