@@ -1,3 +1,4 @@
 pub mod FloatLemmas
 pub mod MemberLemmas
 pub mod WholeLemmas
+pub mod LastFloats

@@ -12,3 +12,5 @@ pub mod Partners
 pub mod Blocks
 pub mod Tickets
 pub mod Told
+pub mod Interchanges
+pub mod Last
