@@ -5,7 +5,7 @@ use Rattle.edi_syntax.specs.Moments.{CivilMoment, moment_text}
 use Rattle.edi_messages.specs.{Message.{LineContent, MessageContent}, Purposes.CallContent, declared.line.LineFault.LineFault}
 use Rattle.edi_messages.specs.declared.message.MessageFault.{MessageFault}
 use Rattle.office_replies.specs.Names.{message_fault_name}
-use Rattle.serde_json.specs.{Data.{Data, array, bool, null, string, number, unsigned, object, member, no_members}, View.items_of}
+use Rattle.serde_json.specs.{Data.{Data, array, boolean, null, string, number, unsigned, object, member, no_members}, View.items_of}
 use Rattle.office_reports.specs.{InterchangeLines.{kind_name, line_fault_name}, Interchanges.{FactsContent, InterchangeContent, MessageRowContent, OutcomeContent, facts_of}}
 use Rattle.office_reports.specs.Names.{slot_name}
 use Rattle.office_report_data.specs.{Rows.rows_data, Words.{container_or_null, load_word, number_or_null, or_null, text_or_null}}
@@ -49,7 +49,7 @@ abbrev pub message_object : (call fault kind : Data) → (lines : List Data) →
 message_object call fault kind lines reference replaces =
     object (member (codes "call") call (member (codes "fault") fault (member (codes "kind") kind
     (member (codes "lines") (array (items_of lines)) (member (codes "reference") (string reference)
-    (member (codes "replaces") (bool replaces) no_members))))))
+    (member (codes "replaces") (boolean replaces) no_members))))))
 
 -- what it orders; or why it is rejected, and no lines
 abbrev pub read_data : (reference : List ℕ) → List OutcomeContent → Result MessageContent MessageFault → Data
