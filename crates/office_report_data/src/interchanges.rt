@@ -146,7 +146,7 @@ fn lines_value(
     let mut place = 0;
     for line in lines {
         let outcome = outcome_value(alloc, outcome_at(outcomes, place))?;
-        values.push(line_value(alloc, place, facts_of(line), &outcome)?)?;
+        values.push(line_value(alloc, place, &facts_of(line), &outcome)?)?;
         place += 1;
     }
     Ok(Value::Array(values))
@@ -162,7 +162,7 @@ fn outcome_at<'a>(outcomes: &[LineOutcome<'a>], place: usize) -> Option<LineOutc
 
 fn outcome_value(alloc: Global, outcome: Option<LineOutcome<'_>>) -> Result<Value, AllocError>
     ensures { IfOk result
-        (λ value. view value ≡ or_null outcome_data (option_map outcome_content outcome)) }
+        (λ value. view value ≡ or_null outcome_data (option_map outcome_content outcome.entry)) }
 {
     match outcome {
         Some(outcome) => settled_value(alloc, outcome),
@@ -171,7 +171,7 @@ fn outcome_value(alloc: Global, outcome: Option<LineOutcome<'_>>) -> Result<Valu
 }
 
 fn settled_value(alloc: Global, outcome: LineOutcome<'_>) -> Result<Value, AllocError>
-    ensures { IfOk result (λ value. view value ≡ outcome_data (outcome_content outcome)) }
+    ensures { IfOk result (λ value. view value ≡ outcome_data (outcome_content outcome.entry)) }
 {
     let blocker = text_or_null(alloc, outcome.blocker)?;
     let reason = text_or_null(alloc, outcome.reason)?;
@@ -187,11 +187,11 @@ fn settled_value(alloc: Global, outcome: LineOutcome<'_>) -> Result<Value, Alloc
 fn line_value(
     alloc: Global,
     place: usize,
-    facts: LineFacts<'_>,
+    facts: &LineFacts<'_>,
     outcome: &Value,
 ) -> Result<Value, AllocError>
     requires { place + 1 < 2 ^ 64 }
-    ensures { IfOk result (λ value. view value ≡ line_object place (facts_content facts) (view outcome.now)) }
+    ensures { IfOk result (λ value. view value ≡ line_object place (facts_content facts.now) (view outcome.now)) }
 {
     let booking = text_or_null(alloc, facts.booking)?;
     let container = container_or_null(alloc, facts.container)?;

@@ -199,7 +199,7 @@ fn push_lines(
             alloc,
             text,
             place,
-            facts_of(line),
+            &facts_of(line),
             outcome_at(outcomes, place),
         )?;
         place += 1;
@@ -220,12 +220,12 @@ fn push_row(
     alloc: Global,
     text: &mut String,
     place: usize,
-    facts: LineFacts<'_>,
+    facts: &LineFacts<'_>,
     outcome: Option<LineOutcome<'_>>,
 ) -> Result<(), AllocError>
     requires { place + 1 < 2 ^ 64 }
     ensures { OnOk result (string_bytes text.new ≡ string_bytes text.old
-        ++ row_text place (facts_content facts) (option_map outcome_content outcome)) }
+        ++ row_text place (facts_content facts.now) (option_map outcome_content outcome.entry)) }
 {
     let digits = (place + 1).to_string(alloc)?;
     text.push_str(digits.as_str())?;
@@ -234,8 +234,8 @@ fn push_row(
     push_end(text)
 }
 
-fn push_read(alloc: Global, text: &mut String, facts: LineFacts<'_>) -> Result<(), AllocError>
-    ensures { OnOk result (string_bytes text.new ≡ string_bytes text.old ++ read_part (facts_content facts)) }
+fn push_read(alloc: Global, text: &mut String, facts: &LineFacts<'_>) -> Result<(), AllocError>
+    ensures { OnOk result (string_bytes text.new ≡ string_bytes text.old ++ read_part (facts_content facts.now)) }
 {
     push_container(alloc, text, facts.container)?;
     push_size(alloc, text, facts.size_type, facts.is_laden)?;
@@ -302,8 +302,8 @@ fn push_slot(alloc: Global, text: &mut String, slot: Option<Slot>) -> Result<(),
 }
 
 /// Appends what is stated of the container, and the line's fault.
-fn push_stated(alloc: Global, text: &mut String, facts: LineFacts<'_>) -> Result<(), AllocError>
-    ensures { OnOk result (string_bytes text.new ≡ string_bytes text.old ++ stated_part (facts_content facts)) }
+fn push_stated(alloc: Global, text: &mut String, facts: &LineFacts<'_>) -> Result<(), AllocError>
+    ensures { OnOk result (string_bytes text.new ≡ string_bytes text.old ++ stated_part (facts_content facts.now)) }
 {
     push_text(text, "BOOKING", facts.booking)?;
     push_gross(alloc, text, facts.kilos)?;
@@ -343,7 +343,7 @@ fn push_fault(text: &mut String, fault: Option<LineFault>) -> Result<(), AllocEr
 /// Appends what became of a line, if something did.
 fn push_outcome(text: &mut String, outcome: Option<LineOutcome<'_>>) -> Result<(), AllocError>
     ensures { OnOk result (string_bytes text.new
-        ≡ string_bytes text.old ++ outcome_part (option_map outcome_content outcome)) }
+        ≡ string_bytes text.old ++ outcome_part (option_map outcome_content outcome.entry)) }
 {
     match outcome {
         Some(outcome) => push_became(text, outcome),
@@ -353,7 +353,7 @@ fn push_outcome(text: &mut String, outcome: Option<LineOutcome<'_>>) -> Result<(
 
 fn push_became(text: &mut String, outcome: LineOutcome<'_>) -> Result<(), AllocError>
     ensures { OnOk result (string_bytes text.new
-        ≡ string_bytes text.old ++ outcome_part (Some (outcome_content outcome))) }
+        ≡ string_bytes text.old ++ outcome_part (Some (outcome_content outcome.entry))) }
 {
     push_word(text, outcome_word(outcome.name))?;
     push_word_if_any(text, outcome.slot)?;
