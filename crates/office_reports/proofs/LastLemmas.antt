@@ -5,7 +5,7 @@ use Rattle.edi_messages.specs.declared.codes.PartnerKind.{PartnerKind}
 use Rattle.office_admission.specs.{Setups.setup_content, declared.setup.Account.Account, declared.setup.Setup.Setup}
 use Rattle.office_reports.specs.Last.{account_of}
 
-content_of : Account → List ℕ × PartnerKind
+abbrev content_of : Account → List ℕ × PartnerKind
 content_of account = (string_bytes account.code, account.kind)
 
 -- the account of a number

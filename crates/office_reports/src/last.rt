@@ -287,5 +287,10 @@ fn firsts_of<'a>(alloc: Global, names: &[&'a str]) -> Result<Vec<&'a str>, Alloc
 fn is_among(names: &[&str], name: &str) -> bool
     ensures { result ≡ list_any (bytes_eq name.now) (map (λ one. one.now) names.now) }
 {
-    names.iter().any(|one| name == *one)
+    for one in names {
+        if name == *one {
+            return true;
+        }
+    }
+    false
 }
