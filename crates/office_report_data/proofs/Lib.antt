@@ -1,4 +1,3 @@
 pub mod FloatLemmas
 pub mod MemberLemmas
 pub mod WholeLemmas
-pub mod LastFloats

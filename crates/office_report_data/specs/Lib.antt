@@ -12,5 +12,3 @@ pub mod Partners
 pub mod Blocks
 pub mod Tickets
 pub mod Told
-pub mod Interchanges
-pub mod Last
