@@ -18,16 +18,9 @@ pub fn last_text(alloc: Global, report: &LastReport<'_>) -> Result<String, Alloc
     let mut text = String::new(alloc);
     push_line(alloc, &mut text, &["LAST"])?;
     push_rows(alloc, &mut text, &report.rows)?;
-    push_count(alloc, &mut text, report.rows.len())?;
+    let count = report.rows.len().to_string(alloc)?;
+    push_line(alloc, &mut text, &[count.as_str(), "INTERCHANGES"])?;
     Ok(text)
-}
-
-fn push_count(alloc: Global, text: &mut String, count: usize) -> Result<(), AllocError>
-    ensures { OnOk result
-        (string_bytes text.new ≡ string_bytes text.old ++ line (decimal count ∷ codes "INTERCHANGES" ∷ [])) }
-{
-    let digits = count.to_string(alloc)?;
-    push_line(alloc, text, &[digits.as_str(), "INTERCHANGES"])
 }
 
 fn push_rows(alloc: Global, text: &mut String, rows: &[LastRow<'_>]) -> Result<(), AllocError>
