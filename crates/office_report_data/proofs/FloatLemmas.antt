@@ -13,7 +13,7 @@ use Rattle.office_report_data.specs.Work.{job_data, size_or_null, slot_or_null}
 
 -- ---- what may be null
 
-text_has_none : (text : List ℕ) → has_float (text_or_null text) ≡ false
+pub text_has_none : (text : List ℕ) → has_float (text_or_null text) ≡ false
 text_has_none [] = refl
 text_has_none (b ∷ bs) = refl
 
@@ -21,14 +21,14 @@ chosen_has_none : (b : Bool) (n : ℕ) → has_float (cond b null (number (unsig
 chosen_has_none true n = refl
 chosen_has_none false n = refl
 
-number_has_none : (n : ℕ) → has_float (number_or_null n) ≡ false
+pub number_has_none : (n : ℕ) → has_float (number_or_null n) ≡ false
 number_has_none n = chosen_has_none (n == 0) n
 
 integer_has_none : (z : ℤ) → has_float (number (of_integer z)) ≡ false
 integer_has_none (pos n) = refl
 integer_has_none (negsuc n) = refl
 
-option_has_none : {X : Type 0} (shown : X → Data) (thing : Option X) → ((x : X) → has_float (shown x) ≡ false)
+pub option_has_none : {X : Type 0} (shown : X → Data) (thing : Option X) → ((x : X) → has_float (shown x) ≡ false)
     → has_float (or_null shown thing) ≡ false
 option_has_none shown None each = refl
 option_has_none shown (Some x) each = each x

@@ -27,3 +27,7 @@ pub mod PictureLaws
 pub mod Markup
 pub mod Picture
 pub mod Views
+pub mod Interchanges
+pub mod InterchangeLines
+pub mod ReplyValues
+pub mod Last

@@ -19,13 +19,18 @@ mod drawing;
 mod drawn_containers;
 mod fixed;
 mod grids;
+mod interchange_lines;
+mod interchanges;
 mod keys;
+mod last;
+mod last_lines;
 pub mod laws;
 mod lists;
 mod metrics;
 mod partners;
 mod passages;
 mod query;
+pub mod replies;
 pub mod texts;
 mod tickets;
 mod visits;
@@ -41,7 +46,13 @@ pub use container_lines::{container_report, container_text};
 pub use containers::{ContainerReport, Stay, container_of, open_lines_of};
 pub use drawing::picture;
 pub use fixed::field_text;
+pub use interchange_lines::{interchange_text, kind_name, line_fault_name};
+pub use interchanges::{
+    InterchangeReport, LineFacts, LineOutcome, MessageRow, facts_of, interchange_of, messages_of,
+};
 pub use keys::{AccountKey, number_of, passed_of, read_account_key, read_query, read_sender_key};
+pub use last::{Arrival, LastReport, LastRow, Settled, last_of};
+pub use last_lines::last_text;
 pub use lists::{ListReport, ListedLine, lines_on, list_name, list_of, list_report, list_text};
 pub use metrics::{Versions, metrics_report, ready};
 pub use partners::{
