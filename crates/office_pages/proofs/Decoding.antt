@@ -7,6 +7,6 @@ is_text bytes text is utf8 = rw (is, is_utf8-from_IsUtf8 bytes utf8) refl
 
 pub is_no_text : (bytes : List ℕ) → (IsUtf8 bytes → ⊥) → text_by bytes ≡ None
 is_no_text bytes none = elim (cases_Bool (is_utf8 bytes)) [
-  | inl yes ↦ absurd (none (IsUtf8-from_is_utf8 bytes yes))
-  | inr no ↦ rw no refl
+  | inl is ↦ absurd (none (IsUtf8-from_is_utf8 bytes is))
+  | inr not ↦ rw not refl
 ]

@@ -8,7 +8,7 @@ returns c =
     let front = string_bytes c.args.page.now in
     let none = codes "Something waits of each partner." in
     let page1 = string_bytes c.push_expected_head.new.page in
-    let count = c.expected_count.ensures ∙ ap (λ rows. count_by is_expected (map row_content rows)) c.deref.ensures.value in
+    let count = c.expected_count-count.ensures ∙ ap (λ rows. count_by is_expected (map row_content rows)) c.deref.ensures.value in
     let is1 = c.in_ok-push_expected_head.ensures ∙ ap (λ n. front ++ expected_head n) count in
     on_ok_weaker c.push_expected_table.result
     (λ e. onto front _ _ page1 (string_bytes c.push_expected_table.new.page) is1

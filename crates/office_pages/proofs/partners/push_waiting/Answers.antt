@@ -8,7 +8,7 @@ returns c =
     let front = string_bytes c.args.page.now in
     let report = partners_content c.args.report.now in
     let page1 = string_bytes c.push_waiting_head.new.page in
-    let count = c.waiting_count.ensures ∙ ap (λ rows. count_by is_waiting (map row_content rows)) c.deref.ensures.value in
+    let count = c.waiting_count-count.ensures ∙ ap (λ rows. count_by is_waiting (map row_content rows)) c.deref.ensures.value in
     let is1 = c.in_ok-push_waiting_head.ensures ∙ ap (λ n. front ++ waiting_head n report.waiting) count in
     on_ok_weaker c.push_waiting_table.result
     (λ e. onto front _ _ page1 (string_bytes c.push_waiting_table.new.page) is1

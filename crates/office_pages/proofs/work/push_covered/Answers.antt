@@ -11,7 +11,7 @@ returns c =
     let state = codes "<b class='s wait'>under another</b>" in
     let order = codes ", by slot, from the top down" in
     let none = codes "Nothing is under another." in
-    let count = c.covered_count.ensures in
+    let count = c.covered_count-count.ensures in
     on_ok_weaker c.push_covered_table.result
     (λ e. onto front _ _ (string_bytes c.push_section_head.new.page) (string_bytes c.push_covered_table.new.page) c.in_ok-push_section_head.ensures e
     ∙ (λ i. front ++ (section_head state (count i) order
