@@ -1,0 +1,6 @@
+pub mod Characters
+pub mod NumberText
+pub mod ContainerNumber
+pub mod SizeText
+pub mod SizeCode
+pub mod SlotName

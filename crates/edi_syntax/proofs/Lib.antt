@@ -1,0 +1,14 @@
+pub mod BlockLemmas
+pub mod TallyLemmas
+pub mod SegmentLemmas
+pub mod SegmentsLemmas
+pub mod PartLemmas
+pub mod AdviceLemmas
+pub mod ReaderLemmas
+pub mod DigitLemmas
+pub mod PositionLemmas
+pub mod CutLemmas
+pub mod BehindLemmas
+pub mod PieceLemmas
+pub mod FrontLemmas
+pub mod TokenLemmas

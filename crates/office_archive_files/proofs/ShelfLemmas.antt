@@ -1,0 +1,38 @@
+-- What a connection to an archive shows.
+use Rattle.std.proofs.Common.{◌≡◌, inl, ℕ, List, [], None, Option, Some, refl, sym, subst, ◌∙◌}
+use Rattle.sqlite_disk.specs.declared.Disk.{Ghosts as DiskGhosts}
+use Rattle.sqlite_trees.specs.declared.store.Store.{Ghosts}
+use Rattle.sqlite.specs.{Files.{file_state, over_files}, Held.{Held, state}, Recovery.Image, State.HasCleanDisk, declared.FileStore.FileStore}
+use Rattle.office_rows.specs.{Stored.HasRows, Tables.office_schema}
+use Rattle.office_commands.specs.Opening.{Shows, ShowsHeld}
+use Rattle.office_parts.specs.Archives.{Archive}
+use Rattle.office_closing.specs.{Changes.empty_register, Register.{RegisterContent, register_content}, declared.register.Register.Register}
+use Rattle.office_archives.specs.{Shelves.{AreShelved, IsOpenAt, IsOpenIfAny, NamesAll}, declared.opened.Opened.Opened}
+use Rattle.office_archive_files.specs.Shelves.{HoldArchiveAt}
+
+-- it was opened on the files, and then only read
+pub opened_at : {D : Type 0} {g : DiskGhosts D} (image : Image) (list : List Archive) (place : ℕ) (found conn : Held (FileStore D g)) → (HasCleanDisk (file_state found) → ShowsHeld image found)
+    → (HasCleanDisk (file_state conn) → HasCleanDisk (file_state found)) → (HasCleanDisk (file_state conn) → (file_state conn).committed ≡ (file_state found).committed) → HoldArchiveAt image place list → IsOpenAt over_files list place conn
+opened_at image list place found conn shows clean_before same hold clean now_open archive at =
+    let holds = hold archive at in
+    let shown = shows (clean_before clean) holds.db office_schema holds.held holds.are.lists in
+    record { has = subst (HasRows archive.rows) (sym (same clean ∙ shown)) holds.are; kept_once = holds.kept_once }
+
+-- what was only read shows what the files held
+pub shown_after : {S : Type 0} (g : Ghosts S) (image : Image) (found conn : Held S) → (HasCleanDisk (state g conn) → HasCleanDisk (state g found)) → (HasCleanDisk (state g conn) → (state g conn).committed ≡ (state g found).committed) → Shows g image found → Shows g image conn
+shown_after g image found conn clean_before same shows clean db schema held lists = same clean ∙ shows (clean_before clean) db schema held lists
+
+-- ---- a store of which nothing was put away
+
+-- whatever its file holds, it is none of no archives
+pub none_held : (image : Image) (place : ℕ) → HoldArchiveAt image place []
+none_held image place archive at = let never : None ≡ Some archive = at in absurd cc
+
+-- an empty register names no archives
+pub none_shelved : {S F : Type 0} (g : Ghosts S) (is_known : ℕ → Type 0) (holds : List Archive → F → Type 0) (shelf : F) (names : Register) (opened : Option (Opened S g)) → holds [] shelf → register_content names ≡ empty_register → opened ≡ None → AreShelved g is_known holds [] shelf names opened
+none_shelved g is_known holds shelf names opened on_shelf empty none = record {
+  on_shelf = on_shelf;
+  are_named = subst (λ (r : RegisterContent). NamesAll r []) (sym empty)
+      (record { counted = refl; named = λ partner number from. refl; lists = λ call side. tt; of_calls = λ name. inl refl });
+  one_open = subst (IsOpenIfAny g is_known []) (sym none) tt;
+}

@@ -1,0 +1,9 @@
+pub mod Shelves
+pub mod Archives
+pub mod Closing
+pub mod Whole
+pub mod Listing
+pub mod Naming
+pub mod ClosedStores
+pub mod Stops
+pub mod ClosedFiles

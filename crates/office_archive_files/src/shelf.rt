@@ -1,0 +1,231 @@
+ghost use Rattle.std.specs.Prelude.{◌≡◌, ℕ, IfErr, IfOk, List, string_bytes};
+ghost use Rattle.office_archive_files.specs.{Archives.{IsNamedAt, PassesAt, SaysNoArchive, going_on, segments_at}, declared.shelf.Found.Found};
+ghost use Rattle.office_archive_files.specs.Shelves.{HoldArchiveAt};
+ghost use Rattle.office_archives.specs.Shelves.{IsOpenAt};
+ghost use Rattle.office_loading.specs.Closed.{closed_content};
+ghost use Rattle.office_parts.specs.Archives.{Archive};
+ghost use Rattle.office_closing.specs.Register.{RegisterContent, register_content};
+ghost use Rattle.office_admission.specs.Setups.{setup_content};
+ghost use Rattle.sqlite.specs.{Files.over_files, WalFiles.image_at};
+
+use crate::is_archive::{archive_at, is_register_of, is_same_office, reaches};
+use office_admission::Setup;
+use office_archives::{Looked, Shelf};
+use office_closing::{Register, Segment};
+use office_commands::{beside_path, found_at, look_there, place_of, read_history};
+use office_loading::Closed;
+use office_tables::TableFault;
+use sqlite::{Error, ErrorCode, FileFrom, FileStore, Start, Unknown};
+use std::alloc::{AllocError, Global};
+
+/// An archive that is missing, can't be read, or is not the store's own archive of its place. No statement of the office
+/// has this error: it is about names of tables.
+pub const NO_ARCHIVE: Error = Error::SqliteFailure(ErrorCode::BadName);
+
+/// What is found under the name of an archive.
+#[derive(Clone, Copy, Debug, PartialEq, Eq)]
+pub enum Found {
+    /// The archive.
+    Archive,
+    /// No file.
+    Nothing,
+    /// Another file, or one that can't be read.
+    Other,
+}
+
+/// What tells which archives of a store are there.
+pub trait Finds {
+    /// Of the store with this register that is found of the archive at a place.
+    ghost is_found: { Self → RegisterContent → ℕ → Found → Type 0 };
+
+    /// What is found of the archive at a place, of which the store's register names the file. It is only read.
+    fn look_at(&self, names: &Register, place: u16, file: &str) -> Result<Found, AllocError>
+        ensures { IfOk result (is_found self.now (register_content names.now) place) };
+}
+
+/// What the files of an archive hold as they are opened, and which archive it is: nothing is said of the others. So what is
+/// proved for any `B: ArchiveStart` is proved for each archive of a store, whatever its files hold.
+pub trait ArchiveStart: Start {
+    /// The place of the archive among those of its store, the first at 1.
+    ghost place: { ℕ };
+
+    /// The same of the same files, for another opening.
+    fn another(&self) -> Self
+        ensures { result ≡ self.now };
+}
+
+impl ArchiveStart for Unknown {
+    ghost place = { 1 };
+
+    fn another(&self) -> Unknown {
+        Unknown
+    }
+}
+
+/// The archives of a store in files, beside the store.
+#[derive(Drop)]
+pub struct FileShelf<'a, B: ArchiveStart> {
+    rt: &'a HostRuntime,
+    // The path of the store.
+    store: String,
+    // The terminal of the store, and its accounts.
+    setup: Setup,
+    start: B,
+}
+
+/// An archive as its store names it.
+#[derive(Drop)]
+struct Named {
+    path: String,
+    // What its own register says is closed of it.
+    closed: Closed,
+    // The numbers that it closed.
+    segments: Vec<Segment>,
+    // The number of its newest visit.
+    visits: u32,
+}
+
+impl<'a, B: ArchiveStart> FileShelf<'a, B> {
+    /// The archives of the store at a path, which has this terminal and these accounts.
+    pub fn new(rt: &'a HostRuntime, store: String, setup: Setup, start: B) -> FileShelf<'a, B>
+        ensures store { result.store ≡ store }
+        ensures setup { result.setup ≡ setup }
+    {
+        FileShelf {
+            rt,
+            store,
+            setup,
+            start,
+        }
+    }
+
+    /// The archive at a place, to be only read: NO_ARCHIVE if it is not there, or not its own; Memory says nothing of it.
+    pub(crate) fn own_archive(
+        &self,
+        names: &Register,
+        place: u16,
+    ) -> Result<Looked<FileStore<FileFrom<B>>>, TableFault>
+        ensures opened { IfOk result (λ archive. place ≡ B.place → (list : List Archive) →
+            HoldArchiveAt (image_at B.Start) B.place list → IsOpenAt over_files list place archive.conn) }
+        ensures fault { IfErr result (SaysNoArchive NO_ARCHIVE) }
+    {
+        match self.opened(names, place) {
+            Ok(archive) => Ok(archive),
+            Err(TableFault::Memory) => Err(TableFault::Memory),
+            Err(_) => Err(TableFault::Store(NO_ARCHIVE)),
+        }
+    }
+
+    /// The archive at a place, to be only read. Another fault than Memory says that it is not there, or not its own.
+    fn opened(
+        &self,
+        names: &Register,
+        place: u16,
+    ) -> Result<Looked<FileStore<FileFrom<B>>>, TableFault>
+        ensures opened { IfOk result (λ archive. (list : List Archive) → HoldArchiveAt (image_at B.Start) place list →
+            IsOpenAt over_files list place archive.conn) }
+        ensures passes { IfOk result (λ archive. PassesAt over_files (image_at B.Start) (string_bytes self.now.store)
+            (setup_content self.now.setup) (register_content names.now) place archive.conn) }
+    {
+        let named = self.named(names, place)?;
+        let mut archive = look_there(self.rt, named.path.as_str(), self.start.another())?;
+        let (setup, beside) = archive.load(self.rt.alloc(), &named.closed)?;
+        if is_same_office(&setup, &self.setup) && reaches(&beside, &named.segments, named.visits) {
+            Ok(archive)
+        } else {
+            Err(TableFault::Store(NO_ARCHIVE))
+        }
+    }
+
+    /// The archive at a place as the store's register and its own say, if its own is that of this place.
+    fn named(&self, names: &Register, place: u16) -> Result<Named, TableFault>
+        ensures { IfOk result (λ named. IsNamedAt (string_bytes self.now.store) (register_content names.now) place
+            (closed_content named.closed) named.segments.items named.visits) }
+    {
+        let alloc = self.rt.alloc();
+        let Some(archive) = archive_at(&names.archives, place) else {
+            return Err(TableFault::Store(NO_ARCHIVE));
+        };
+        let path = beside_path(alloc, self.store.as_str(), archive.file.as_str())?;
+        let Some(own) = read_history(self.rt, path.as_str())? else {
+            return Err(TableFault::Store(NO_ARCHIVE));
+        };
+        let own_name = place_of(self.store.as_str()).name;
+        if !is_register_of(&own, names, place, going_on(names, own_name)) {
+            return Err(TableFault::Store(NO_ARCHIVE));
+        }
+        let closed = own.closed(alloc)?;
+        let segments = segments_of(alloc, &names.segments, place)?;
+        let visits = archive.visits;
+        Ok(Named {
+            path,
+            closed,
+            segments,
+            visits,
+        })
+    }
+}
+
+/// The name of the file of the store that goes on: of this one, or of the one for which its register is marked.
+fn going_on<'a>(register: &'a Register, file: &'a str) -> &'a str
+    ensures { result.now ≡ going_on (register_content register.now) file.now }
+{
+    match &register.closed_for {
+        Some(store) => store.as_str(),
+        None => file,
+    }
+}
+
+/// The segments of the archive at a place.
+fn segments_of(alloc: Global, segments: &[Segment], place: u16) -> Result<Vec<Segment>, AllocError>
+    ensures { IfOk result (λ found. found.items ≡ segments_at place segments.now) }
+{
+    let mut found = Vec::new(alloc);
+    for segment in segments {
+        if segment.archive == place {
+            found.push(*segment)?;
+        }
+    }
+    Ok(found)
+}
+
+impl<B: ArchiveStart> Finds for FileShelf<'_, B> {
+    ghost use Rattle.std.specs.Prelude.{string_bytes};
+    ghost use Rattle.office_admission.specs.Setups.{setup_content};
+    ghost use Rattle.office_archive_files.specs.Listing.{IsFoundAt};
+    ghost use Rattle.sqlite.specs.WalFiles.{image_at};
+
+    ghost is_found = { λ shelf names place.
+        IsFoundAt ⟦<FileStore<FileFrom<B>> as sqlite_trees::store::Store>⟧ (image_at B.Start) (string_bytes shelf.store)
+        (setup_content shelf.setup) names place };
+
+    fn look_at(&self, names: &Register, place: u16, file: &str) -> Result<Found, AllocError> {
+        let path = beside_path(self.rt.alloc(), self.store.as_str(), file)?;
+        if let Ok(None) = found_at(self.rt, path.as_str()) {
+            return Ok(Found::Nothing);
+        }
+        match self.opened(names, place) {
+            Ok(_) => Ok(Found::Archive),
+            Err(TableFault::Memory) => Err(AllocError),
+            Err(_) => Ok(Found::Other),
+        }
+    }
+}
+
+impl<B: ArchiveStart> Shelf<FileStore<FileFrom<B>>> for FileShelf<'_, B> {
+    ghost use Rattle.std.specs.Prelude.{◌≡◌};
+    ghost use Rattle.office_archive_files.specs.Shelves.{HoldArchiveAt};
+    ghost use Rattle.sqlite.specs.WalFiles.{image_at};
+
+    ghost is_known = { λ place. place ≡ B.place };
+
+    ghost holds = { λ list shelf. HoldArchiveAt (image_at B.Start) B.place list };
+
+    fn open(
+        &mut self,
+        names: &Register,
+        place: u16,
+    ) -> Result<Looked<FileStore<FileFrom<B>>>, TableFault> {
+        self.own_archive(names, place)
+    }
+}

@@ -1,0 +1,153 @@
+-- A desk of which nothing was put away, and no archives: what it is asked is answered as desk and archives answer together.
+use Rattle.std.{specs.Prelude.{◌&&◌, is_some, nat_le, string_bytes}, proofs.lemmas.Bool.{and_parts, leb-true}}
+use Rattle.std.proofs.Common.{◌≡◌, ℕ, zero, suc, ◌≤◌, List, [], ◌∷◌, Bool, true, false, Option, None, Some, Result, refl, sym, ap, subst, ◌∙◌, length, arith}
+use Rattle.sqlite.specs.{Held.state, Tree.Trees}
+use Rattle.sqlite_trees.specs.declared.store.Store.{Ghosts}
+use Rattle.edi_messages.specs.Owned.{call_content}
+use Rattle.terminal_core.specs.State.{TerminalState}
+use Rattle.office_admission.specs.Setups.{SetupContent, setup_content}
+use Rattle.office_desk.{specs.{Calls.{Leads, Looks}, Desks.IsSound, Looking.DeskShows, declared.desk.Desk.Desk}, proofs.LookLemmas.looks_nowhere}
+use Rattle.office_desk.specs.Reports.{DeskTells, TellsOf, TellsReplyOf, contrl_for_partner, partner_called, ticket_of}
+use Rattle.office_parts.specs.{Archives.{Archive, Hold, archive_of, reply_by}, Away.{AreAway, lines_away}, Naming.AreHere, OwnTerminal.own_terminal}
+use Rattle.office_parts.specs.{OwnLists.{ListName, list_name, rows_without_lists, without_lists}, Parts.{AreClosed, Archived}}
+use Rattle.office_replies.specs.{Events.Event, declared.deliver.Response.Response}
+use Rattle.office_reports.specs.{Looking.{Look, of_archive, report, texts_after}, declared.query.NotNow.NotNow, declared.query.Query.Query}
+use Rattle.office_loading.specs.Closed.{last_closed}
+use Rattle.office_history.specs.After.{machine_after}
+use Rattle.office_rows.specs.Rows.{Rows}
+use Rattle.office_archives.{specs.{Standing.{IsBeyond, NamesNoneAway, StandsBeside}, Telling.{IsOfNumber, TellsTogether}}, proofs.Together.looks_on}
+use Rattle.office_archives.{specs.Together.{LeadsTogether, LooksTogether, ShowsBeside, TellsBeside}, proofs.Standing.{beyond_answered, beyond_left}}
+use Rattle.office_archives.proofs.Beside.{calls_beside, container_beside, list_beside, neither_beside, nobody_beside, number_beside, tells_so}
+use Rattle.office_reports.specs.declared.query.Query.TheVariants as query
+
+-- ---- what no archives hold
+
+-- no list is away
+away_none : (archives : List Archive) (away : ListName → Bool) (content : SetupContent) (es : List Event) (own : Rows) → archives ≡ [] → AreAway archives away content es own → (list : ListName) → away list ≡ false
+away_none archives away content es own none are list = by (away list) refl
+  where
+    by : (gone : Bool) → away list ≡ gone → gone ≡ false
+    by true e =
+        let put = are.kept list e in
+        let never : None ≡ Some put.kept = sym (ap (λ l. lines_away l list) none) ∙ put.are in
+        absurd cc
+    by false e = refl
+
+all_here : (away : ListName → Bool) → ((list : ListName) → away list ≡ false) → (lists : List ListName) → AreHere away lists
+all_here away none [] = tt
+all_here away none (list ∷ lists) = (none list, all_here away none lists)
+
+-- no number is closed
+closed_none : (archives : List Archive) (archived : Archived) → archives ≡ [] → AreClosed archived → Hold archives archived → (partner : ℕ) → archived.last_closed partner ≡ 0
+closed_none archives archived none closed hold partner = by (archived.last_closed partner) refl
+  where
+    by : (last : ℕ) → archived.last_closed partner ≡ last → last ≡ 0
+    by zero e = refl
+    by (suc n) e =
+        let high : suc n ≤ archived.last_closed partner = omega (arith, e) in
+        let low : 1 ≤ suc n = omega arith in
+        let told = closed.replied partner (suc n) low high in
+        let its = hold.replies partner (suc n) low high in
+        let never : false ≡ true = ap is_some (ap (λ l. reply_by l partner (suc n)) (sym none) ∙ its) ∙ told in
+        absurd cc
+
+-- ---- a delivery
+
+pub alone_leads : {S A : Type 0} (g : Ghosts S) (is_sound : A → Type 0) (are : List Archive → A → Type 0) (old : Desk S g) (a : A) (sent : List ℕ) (given : Response) (new : Desk S g) → Leads g old sent given new → ((list : List Archive) → are list a → list ≡ [])
+    → LeadsTogether g is_sound are old a sent given new a
+alone_leads g is_sound are old a sent given new leads empty = record {
+  answers = λ sound whole content es stand. (beyond_answered g stand.list content es old sent given new stand.stands leads sound (far stand.list (empty stand.list stand.these)) (none stand.list content es stand.stands (empty stand.list stand.these))).0;
+  stand = λ sound content es stand.
+      record { list = stand.list; these = stand.these; stands = (beyond_answered g stand.list content es old sent given new stand.stands leads sound (far stand.list (empty stand.list stand.these)) (none stand.list content es stand.stands (empty stand.list stand.these))).1 };
+  crash = λ sound clean content es stand. beyond_left g stand.list content es old sent given new stand.stands leads sound clean (far stand.list (empty stand.list stand.these)) (none stand.list content es stand.stands (empty stand.list stand.these));
+  setup = leads.setup;
+  closed = leads.closed;
+  stays = leads.stays;
+  noted = leads.noted;
+  these = λ list they. they;
+  alone = λ nothing. leads;
+}
+  where
+    far : (list : List Archive) → list ≡ [] → IsBeyond g list old sent
+    far list is place admits = ap (λ l. archive_of l place.0 place.1) is
+
+    none : (list : List Archive) (content : SetupContent) (es : List Event) (stands : StandsBeside g list content es old) → list ≡ [] → NamesNoneAway g list content es old stands sent
+    none list content es stands is place admits = all_here stands.away (away_none list stands.away content es stands.own is stands.lists) _
+
+-- ---- a look
+
+zero_or_above : (n : ℕ) → (nat_le 1 n && nat_le n 0) ≡ false
+zero_or_above n = by (nat_le 1 n && nat_le n 0) refl
+  where
+    by : (both : Bool) → (nat_le 1 n && nat_le n 0) ≡ both → both ≡ false
+    by true e =
+        let parts = and_parts (nat_le 1 n) (nat_le n 0) e in
+        let low = leb-true 1 n parts.0 in
+        let high = leb-true n 0 parts.1 in
+        absurd (omega (arith, low, high))
+    by false e = refl
+
+module _ {S A : Type 0} (g : Ghosts S) (are : List Archive → A → Type 0) (old : Desk S g) (a : A) (empty : (list : List Archive) → are list a → list ≡ []) where
+  -- what a number's partner has, whoever that is
+  number_alone : (asked : Query) (code : List ℕ) (n : ℕ) (found : Option (List ℕ)) → IsOfNumber asked code n → ((rows : Rows) (terminal : TerminalState) → TellsOf (setup_content old.setup) terminal rows asked found → partner_called (setup_content old.setup) code ≡ None → found ≡ None)
+      → DeskTells g old asked found → TellsBeside g are old a asked found
+  number_alone asked code n found is nothing tells content es stand = by (partner_called (setup_content old.setup) code) refl
+    where
+      stands : StandsBeside g stand.list content es old
+      stands = stand.stands
+
+      rows : Rows
+      rows = rows_without_lists stands.away stands.rows
+
+      terminal : TerminalState
+      terminal = without_lists stands.away (own_terminal stands.archived.stays (machine_after content es).terminal)
+
+      by : (called : Option ℕ) → partner_called (setup_content old.setup) code ≡ called → TellsTogether content es stand.list stand.stands.archived stand.stands.whole asked found
+      by None e = nobody_beside g are old a asked code n found is (nothing rows terminal (tells.office rows terminal stands.holds) e) (λ other_rows other_terminal holds. e) content es stand
+      by (Some p) e =
+          let closed : last_closed old.closed p ≡ 0 = stands.knows.numbers p ∙ closed_none stand.list stands.archived (empty stand.list stand.these) stands.parts.closed stands.hold p in
+          number_beside g are old a asked code n p found is e (ap (λ last. nat_le 1 n && nat_le n last) closed ∙ zero_or_above n) tells content es stand
+
+  -- what the desk reports, desk and archives report
+  pub alone_tells : (asked : Query) (found : Option (List ℕ)) → IsSound g old → DeskTells g old asked found → TellsBeside g are old a asked found
+  alone_tells (query.Visits container) found sound told = container_beside g are old a (query.Visits container) found found 0 tt (λ list these. sym (ap length (empty list these))) told refl
+  alone_tells (query.Container container) found sound told = container_beside g are old a (query.Container container) found found 0 tt (λ list these. sym (ap length (empty list these))) told refl
+  alone_tells query.Calls found sound told =
+      calls_beside g are old a found found false 0 (λ e list these name. ap (λ l. lines_away l name) (empty list these)) (λ e list these. let never : false ≡ true = e in absurd cc) (λ list these. refl) told refl
+  alone_tells (query.List call side) found sound told =
+      list_beside g are old a old (query.List call side) (call_content call) side found (refl, refl) sound (looks_nowhere g old)
+      (λ list content es these stands. away_none list stands.away content es stands.own (empty list these) stands.lists (list_name (call_content call) side)) told
+  alone_tells (query.Work call side) found sound told =
+      list_beside g are old a old (query.Work call side) (call_content call) side found (refl, refl) sound (looks_nowhere g old)
+      (λ list content es these stands. away_none list stands.away content es stands.own (empty list these) stands.lists (list_name (call_content call) side)) told
+  alone_tells (query.Reply code n) found sound told =
+      number_alone (query.Reply code n) (string_bytes code) n found (refl, refl)
+      (λ rows terminal is none. subst (λ called. TellsReplyOf rows (string_bytes code) n called found) none is) told
+  alone_tells (query.Contrl code n) found sound told =
+      number_alone (query.Contrl code n) (string_bytes code) n found (refl, refl)
+      (λ rows terminal is none. is ∙ ap (contrl_for_partner rows n) none) told
+  alone_tells (query.Ticket code n) found sound told =
+      number_alone (query.Ticket code n) (string_bytes code) n found (refl, refl)
+      (λ rows terminal is none. is ∙ ap (ticket_of terminal.visits rows (string_bytes code) n) none) told
+  alone_tells other found sound told = neither_beside g are old a other found tt told
+
+  shows : (look : Look) (found : Option (List ℕ)) → IsSound g old → DeskShows g old look found → ShowsBeside g are old a look found
+  shows (report asked) found sound told = alone_tells asked found sound told
+  shows (texts_after from) found sound told = (told, λ content es stand. empty stand.list stand.these)
+  shows (of_archive place asked) found sound told = λ content es stand. record {
+    tells = λ place_is.
+        let many : length stand.list ≡ 0 = ap length (empty stand.list stand.these) in
+        absurd (omega (arith, place_is.0, place_is.1, many));
+    nothing = λ no. told;
+  }
+
+  pub alone_looks : (is_sound : A → Type 0) (look : Look) (found : Result (Option (List ℕ)) NotNow) (new : Desk S g) → (IsSound g old → (db : Trees) → (state g old.conn).may_leave db → db ≡ (state g old.conn).committed.trees) → Looks g old look found new
+      → LooksTogether g is_sound are old a look found new a
+  alone_looks is_sound look found new settled looks = record {
+    told = λ sound whole. tells_so found (λ told. shows look told (looks.looks.stays sound)) (looks.told sound);
+    looks = looks_on g are old new a a settled looks.looks (λ list they. they);
+    noted = looks.noted;
+    cause = λ sound here rows terminal holds. looks.cause sound rows terminal holds;
+    is_open = looks.is_open;
+    alone = λ nothing. looks;
+  }

@@ -1,0 +1,280 @@
+-- What desk and archives tell, from whatever events after which they stand.
+use Rattle.std.specs.{Prelude.{Contains, IsPermutation, filter, ◌&&◌, is_some, nat_le, String, string_bytes}, Ordering.eq_by_cmp, declared.alloc.Global.Global}
+use Rattle.std.proofs.Common.{◌≡◌, ℕ, List, [], ◌∷◌, ◌++◌, Bool, true, false, cond, Option, Some, map, refl, sym, ap, subst, ◌∙◌, ◌<◌, ◌≤◌, length, None, Result, Ok, Err, arith}
+use Rattle.std.proofs.{lemmas.List.Elements.Contains-append_right, lemmas.List.Sorted.IsPermutation-sym, lemmas.Bool.{leb-false, leb-true, and_parts}}
+use Rattle.box6346.specs.declared.box_number.BoxNumber.{BoxNumber}
+use Rattle.edi_messages.specs.{Owned.call_content, Purposes.CallContent, declared.call.Call.Call}
+use Rattle.terminal_core.specs.{Changes.TerminalRows, Drop.is_pending, State.{LineKey, Lines, TerminalState, line_key, line_of}, declared.lines.Side.Side}
+use Rattle.terminal_core.{specs.declared.lines.LineState.TheVariants.Done, proofs.Lined.{keys_total, order, same_key, tied_self}}
+use Rattle.office_replies.specs.Events.{Event}
+use Rattle.office_rows.specs.{ByKey.{AreListedOnce, line_entry, lines_by}, Rows.{ListingContent, Rows}}
+use Rattle.office_admission.specs.Setups.{SetupContent, setup_content}
+use Rattle.office_reports.specs.{declared.query.Query.Query, Listed.AreListed, Lists.HasLine, Work.{is_open_entry, job_of, jobs_text, work_found, work_head}}
+use Rattle.office_reports.specs.{Looking.Tells, declared.query.NotNow.NotNow}
+use Rattle.office_history.{specs.After.{machine_after, content_after}, proofs.Loads.lines_same}
+use Rattle.office_parts.specs.{Archives.{Archive, archive_of}, Parts.{Archived, ArePartsAfter}, Away.{AreAway, lines_away}, Bringing.{is_list, is_of, lines_of}}
+use Rattle.office_parts.{specs.{OwnLists.{ListName, list_name, list_of, rows_without_lists, without_lists}, OwnTerminal.own_terminal}, proofs.Takings.own_rows}
+use Rattle.office_parts.proofs.KeepingLemmas.{away_done}
+use Rattle.office_archives.specs.{ListsAway.{AreLinesIfAway, TellsByLines, FindsIfAway}, Keeping.IsClosedIn, Together.{StandTogether, TellsBeside}}
+use Rattle.office_archives.specs.Telling.{IsOfList, TellsTogether, HasListAway, IsOfContainer, IsOfNeither, IsOfNumber, TellsClosed, archives_with_lists, with_archives}
+use Rattle.office_archives.proofs.{Brought.kept_so, Standing.{closed_here, closed_told}}
+use Rattle.office_archives.proofs.Filled.{Entry, first_in, listed_alike, filled_container, filled_list, filled_neither, filled_number, filled_visits}
+use Rattle.office_archives.proofs.Told.{container_told, list_told, nobody_told, number_told, others_told}
+use Rattle.sqlite_trees.specs.declared.store.Store.{Ghosts}
+use Rattle.office_loading.specs.Closed.{last_closed}
+use Rattle.office_desk.specs.{Calls.OnlyLooks, Desks.IsSound, Offices.DeskHolds, Reports.{DeskTells, TellsNext, TellsOf, partner_called}}
+use Rattle.office_desk.specs.declared.desk.Desk.{Desk}
+use Rattle.std.specs.FinMap as finite_map
+use Rattle.office_reports.specs.declared.query.Query.TheVariants as query
+
+-- ==== AwayTold: What is told of a list that is away, by its lines as they were put away.
+
+-- ---- the lines of a list among all lines
+
+-- under a key of the list they have what all have
+found_on : (key : LineKey) (lines : List ListingContent) → finite_map.find order key (map line_entry (filter (is_of (list_of key)) lines)) ≡ finite_map.find order key (map line_entry lines)
+found_on key [] = refl
+found_on key (line ∷ lines) = by (eq_by_cmp order key (line_entry line).0) (is_of (list_of key) line) refl refl (found_on key lines)
+  where
+    its : List ListingContent
+    its = filter (is_of (list_of key)) lines
+
+    by : (tie is : Bool) → eq_by_cmp order key (line_entry line).0 ≡ tie → is_of (list_of key) line ≡ is → finite_map.find order key (map line_entry its) ≡ finite_map.find order key (map line_entry lines)
+        → finite_map.find order key (map line_entry (cond is (line ∷ its) its)) ≡ cond tie (Some (line_entry line).1) (finite_map.find order key (map line_entry lines))
+    by true true t e rest = ap (λ b. cond b (Some (line_entry line).1) (finite_map.find order key (map line_entry its))) t
+    by true false t e rest =
+        let itself : is_of (list_of key) line ≡ true = ap (λ k. is_list (list_of k) (list_name line.call line.side)) (same_key key (line_entry line).0 t) ∙ tied_self (list_name line.call line.side) in
+        let no : true ≡ false = sym itself ∙ e in
+        absurd cc
+    by false true t e rest = ap (λ b. cond b (Some (line_entry line).1) (finite_map.find order key (map line_entry its))) t ∙ rest
+    by false false t e rest = rest
+
+-- and so have these, in whatever order
+found_in : (call : CallContent) (side : Side) (container : BoxNumber) (lines back : List ListingContent) → AreListedOnce back → IsPermutation (filter (is_of (list_name call side)) lines) back
+    → finite_map.get (lines_by back) (line_key call side container) ≡ finite_map.get (lines_by lines) (line_key call side container)
+found_in call side container lines back once same =
+    let key : LineKey = line_key call side container in
+    let its : List ListingContent = filter (is_of (list_name call side)) lines in
+    ap (λ (l : Lines). finite_map.get l key) (sym (lines_same back its once (IsPermutation-sym _ _ same)))
+    ∙ finite_map.get-from_entries keys_total (map line_entry its) key
+    ∙ found_on key lines
+    ∙ sym (finite_map.get-from_entries keys_total (map line_entry lines) key)
+
+-- ---- what is left to do of lines that are done
+
+abbrev AreDone : List Entry → Type 0
+AreDone list = (entry : Entry) → Contains list entry → entry.1.state ≡ Done
+
+none_open : (list : List Entry) → AreDone list → filter is_open_entry list ≡ []
+none_open [] done = refl
+none_open (entry ∷ list) done =
+    ap (λ s. cond (is_pending s) (entry ∷ filter is_open_entry list) (filter is_open_entry list)) (done entry (first_in entry list))
+    ∙ none_open list (λ other inside. done other (Contains-append_right (entry ∷ []) list other inside))
+
+-- nothing is, in whatever yard
+work_alike : (one other : TerminalState) (call : CallContent) (side : Side) (list : List Entry) → AreDone list → work_found one call side list ≡ work_found other call side list
+work_alike one other call side [] done = refl
+work_alike one other call side (entry ∷ list) done =
+    let none = none_open (entry ∷ list) done in
+    ap (λ (left : List Entry). Some (work_head call side ++ jobs_text side (map (job_of one) left))) none
+    ∙ sym (ap (λ (left : List Entry). Some (work_head call side ++ jobs_text side (map (job_of other) left))) none)
+
+-- ---- a list that is away
+
+module _ (content : SetupContent) (es : List Event) (archives : List Archive) (archived : Archived) (own whole : Rows) (away : ListName → Bool) (parts : ArePartsAfter content es archived own whole) (are : AreAway archives away content es own) (lines : List ListingContent) where
+  abbrev state : TerminalState
+  state = (machine_after content es).terminal
+
+  -- a terminal of these lines has of it what the whole has
+  line_there : (call : CallContent) (side : Side) (mine : TerminalState) → AreLinesIfAway archives away (list_name call side) (Some lines) → AreListedOnce lines → mine.lines ≡ lines_by lines → (container : BoxNumber) → line_of mine call side container ≡ line_of state call side container
+  line_there call side mine gone once has container =
+      let key : LineKey = line_key call side container in
+      let kept = are.kept (list_name call side) gone.0 in
+      ap (λ (l : Lines). finite_map.get l key) has
+      ∙ found_in call side container own.lines lines once (kept_so archives (list_name call side) kept.kept lines (lines_of (list_name call side) own) kept.are gone.1 kept.same)
+      ∙ ap (λ (r : TerminalRows). finite_map.get r.lines key) (own_rows content es archived own whole parts)
+
+  all_done : (call : CallContent) (side : Side) (list : List Entry) → away (list_name call side) ≡ true → AreListed (HasLine state call side) list → AreDone list
+  all_done call side list gone listed entry inside = away_done content es archives away archived own whole parts are (line_key call side entry.0) entry.1 (listed.only entry.0 entry.1 inside) gone
+
+  here : (call asked : CallContent) (side on : Side) → (asked ≡ call) × (on ≡ side) → AreLinesIfAway archives away (list_name call side) (Some lines) → AreLinesIfAway archives away (list_name asked on) (Some lines)
+  here call asked side on is gone = subst (λ (q : CallContent × Side). AreLinesIfAway archives away (list_name q.0 q.1) (Some lines)) (λ i. (sym is.0 i, sym is.1 i)) gone
+
+  pub told_by_lines : (asked : Query) (call : CallContent) (side : Side) (found : Option (List ℕ)) → IsOfList asked call side → AreLinesIfAway archives away (list_name call side) (Some lines) → TellsByLines lines asked found → TellsTogether content es archives archived whole asked found
+  told_by_lines (query.List asked on) call side found is gone told =
+      let its = here call (call_content asked) side on is gone in
+      let there = line_there (call_content asked) on told.state its told.once told.lines_are in
+      record {
+        rows = whole;
+        after = parts.after;
+        tells = record { list = told.tells.list; listed = listed_alike told.state state (call_content asked) on there told.tells.list told.tells.listed; is = told.tells.is };
+      }
+  told_by_lines (query.Work asked on) call side found is gone told =
+      let its = here call (call_content asked) side on is gone in
+      let there = line_there (call_content asked) on told.state its told.once told.lines_are in
+      let listed = listed_alike told.state state (call_content asked) on there told.tells.list told.tells.listed in
+      record {
+        rows = whole;
+        after = parts.after;
+        tells = record {
+          list = told.tells.list;
+          listed = listed;
+          is = told.tells.is ∙ work_alike told.state state (call_content asked) on told.tells.list (all_done (call_content asked) on told.tells.list its.0 listed);
+        };
+      }
+  told_by_lines other call side found is gone told = absurd is
+
+-- ==== Beside: What desk and archives tell, from whatever events after which they stand.
+
+-- there is no number 0
+none_zero : (content : SetupContent) (es : List Event) (archives : List Archive) (archived : Archived) (whole : Rows) (asked : Query) (code : List ℕ) (n : ℕ) (found : Option (List ℕ)) → IsOfNumber asked code n → n < 1 → TellsTogether content es archives archived whole asked found
+none_zero content es archives archived whole (query.Reply partner k) code n found is none = λ low. absurd (omega (arith, low, none, is.1))
+none_zero content es archives archived whole (query.Contrl partner k) code n found is none = λ low. absurd (omega (arith, low, none, is.1))
+none_zero content es archives archived whole (query.Ticket partner k) code n found is none = λ low by_numbers copies. absurd (omega (arith, low, none, is.1))
+none_zero content es archives archived whole other code n found is none = absurd is
+
+module _ {S A : Type 0} (g : Ghosts S) (are : List Archive → A → Type 0) (old : Desk S g) (a : A) where
+  abbrev Mine : (content : SetupContent) (es : List Event) → StandTogether g are content es old a → TerminalState
+  Mine content es stand = own_terminal stand.stands.archived.stays (machine_after content es).terminal
+
+  -- what the desk tells, of the rows that it has
+  told_here : (content : SetupContent) (es : List Event) (stand : StandTogether g are content es old a) (asked : Query) (found : Option (List ℕ)) → DeskTells g old asked found
+      → TellsOf (content_after content es) (without_lists stand.stands.away (Mine content es stand)) (rows_without_lists stand.stands.away stand.stands.rows) asked found
+  told_here content es stand asked found told =
+      let stands = stand.stands in
+      let mine = without_lists stands.away (Mine content es stand) in
+      let left = rows_without_lists stands.away stands.rows in
+      subst (λ k. TellsOf k mine left asked found) (sym stands.now_is) (told.office left mine stands.holds)
+
+  -- and with the lists that are away
+  filled_here : (content : SetupContent) (es : List Event) (stand : StandTogether g are content es old a) (asked : Query) (found : Option (List ℕ)) → IsOfContainer asked → DeskTells g old asked found
+      → TellsOf (content_after content es) (Mine content es stand) stand.stands.rows asked found
+  filled_here content es stand (query.Visits container) found is told =
+      let s = stand.stands in
+      filled_visits s.away (content_after content es) (Mine content es stand) s.rows container found (told_here content es stand (query.Visits container) found told)
+  filled_here content es stand (query.Container container) found is told =
+      let s = stand.stands in
+      filled_container s.away (content_after content es) (Mine content es stand) s.rows container found (away_done content es stand.list s.away s.archived s.own s.whole s.parts s.lists) (told_here content es stand (query.Container container) found told)
+  filled_here content es stand other found is told = absurd is
+
+  pub called_here : (content : SetupContent) (es : List Event) (stand : StandTogether g are content es old a) (code : List ℕ) (p : ℕ) → partner_called (setup_content old.setup) code ≡ Some p → partner_called (content_after content es) code ≡ Some p
+  called_here content es stand code p called = ap (λ k. partner_called k code) stand.stands.now_is ∙ called
+
+  -- the desk knows who has a code
+  pub nobody_here : (content : SetupContent) (es : List Event) (stand : StandTogether g are content es old a) (code : List ℕ) → ((rows : Rows) (terminal : TerminalState) → DeskHolds g old rows terminal → partner_called (setup_content old.setup) code ≡ None)
+      → partner_called (content_after content es) code ≡ None
+  nobody_here content es stand code nobody =
+      let s = stand.stands in
+      ap (λ k. partner_called k code) s.now_is ∙ nobody (rows_without_lists s.away s.rows) (without_lists s.away (own_terminal s.archived.stays (machine_after content es).terminal)) s.holds
+
+  pub neither_beside : (asked : Query) (found : Option (List ℕ)) → IsOfNeither asked → DeskTells g old asked found → TellsBeside g are old a asked found
+  neither_beside asked found is told content es stand =
+      let s = stand.stands in
+      others_told content es stand.list s.archived s.own s.whole s.rows s.parts s.is_own asked found is
+      (filled_neither s.away (content_after content es) (Mine content es stand) s.rows asked found is (told_here content es stand asked found told))
+
+  pub container_beside : (asked : Query) (told found : Option (List ℕ)) (count : ℕ) → IsOfContainer asked → ((list : List Archive) → are list a → count ≡ length list) → DeskTells g old asked told → found ≡ with_archives count told → TellsBeside g are old a asked found
+  container_beside asked told found count is counted tells same content es stand =
+      let s = stand.stands in
+      subst (TellsTogether content es stand.list s.archived s.whole asked) (ap (λ k. with_archives k told) (sym (counted stand.list stand.these)) ∙ sym same)
+      (container_told content es stand.list s.archived s.own s.whole s.rows s.parts s.is_own asked told s.hold is (filled_here content es stand asked told is tells))
+
+  -- of lists those that are not away, and how many archives there are, if lists were put away
+  pub calls_beside : (told found : Option (List ℕ)) (put_away : Bool) (count : ℕ) → (put_away ≡ false → (list : List Archive) → are list a → (name : ListName) → lines_away list name ≡ None) → (put_away ≡ true → (list : List Archive) → are list a → HasListAway list)
+      → ((list : List Archive) → are list a → count ≡ archives_with_lists list put_away) → DeskTells g old query.Calls told → found ≡ with_archives count told → TellsBeside g are old a query.Calls found
+  calls_beside told found put_away count none some counted tells same content es stand =
+      let s = stand.stands in
+      record {
+        away = s.away;
+        were_put_away = λ list e. ap is_some (s.lists.kept list e).are;
+        put_away = put_away;
+        none = λ e. none e stand.list stand.these;
+        some = λ e. some e stand.list stand.these;
+        told = same ∙ ap (λ k. with_archives k told) (counted stand.list stand.these) ∙ ap (with_archives (archives_with_lists stand.list put_away)) (told_here content es stand query.Calls told tells);
+      }
+
+  -- a list that is not away, by a desk that was looked at
+  pub list_beside : (mid : Desk S g) (asked : Query) (call : CallContent) (side : Side) (found : Option (List ℕ)) → IsOfList asked call side → IsSound g mid → OnlyLooks g old mid → FindsIfAway g are old a (list_name call side) None → DeskTells g mid asked found → TellsBeside g are old a asked found
+  list_beside mid asked call side found is sound looks here tells content es stand =
+      let s = stand.stands in
+      let mine = Mine content es stand in
+      let left = rows_without_lists s.away s.rows in
+      let now : content_after content es ≡ setup_content mid.setup = s.now_is ∙ ap setup_content (sym looks.setup) in
+      let told = subst (λ k. TellsOf k (without_lists s.away mine) left asked found) (sym now) (tells.office left (without_lists s.away mine) (looks.holds sound left (without_lists s.away mine) s.holds)) in
+      list_told content es stand.list s.archived s.own s.whole s.rows s.parts s.is_own asked found call side is
+      (filled_list s.away (content_after content es) mine s.rows asked found call side is (here stand.list content es stand.these s) told)
+
+  -- one that is away, by its lines
+  pub away_beside : (asked : Query) (call : CallContent) (side : Side) (lines : List ListingContent) (found : Option (List ℕ)) → IsOfList asked call side → FindsIfAway g are old a (list_name call side) (Some lines) → TellsByLines lines asked found → TellsBeside g are old a asked found
+  away_beside asked call side lines found is away tells content es stand =
+      let s = stand.stands in
+      told_by_lines content es stand.list s.archived s.own s.whole s.away s.parts s.lists lines asked call side found is (away stand.list content es stand.these s) tells
+
+  pub number_beside : (asked : Query) (code : List ℕ) (n p : ℕ) (found : Option (List ℕ)) → IsOfNumber asked code n → partner_called (setup_content old.setup) code ≡ Some p → (nat_le 1 n && nat_le n (last_closed old.closed p)) ≡ false → DeskTells g old asked found
+      → TellsBeside g are old a asked found
+  number_beside asked code n p found is called open_ tells content es stand = by (nat_le 1 n) refl
+    where
+      by : (from_one : Bool) → nat_le 1 n ≡ from_one → TellsTogether content es stand.list stand.stands.archived stand.stands.whole asked found
+      by false e = none_zero content es stand.list stand.stands.archived stand.stands.whole asked code n found is (leb-false 1 n e)
+      by true e =
+          let s = stand.stands in
+          let beyond : nat_le n (last_closed old.closed p) ≡ false = sym (ap (λ b. b && nat_le n (last_closed old.closed p)) e) ∙ open_ in
+          let far = leb-false n (last_closed old.closed p) beyond in
+          number_told content es stand.list s.archived s.own s.whole s.rows s.parts s.is_own code p n (called_here content es stand code p called) asked found is (omega (arith, far, s.knows.numbers p))
+          (filled_number s.away (content_after content es) (Mine content es stand) s.rows asked found code n is (told_here content es stand asked found tells))
+
+  pub nobody_beside : (asked : Query) (code : List ℕ) (n : ℕ) (found : Option (List ℕ)) → IsOfNumber asked code n → found ≡ None → ((rows : Rows) (terminal : TerminalState) → DeskHolds g old rows terminal → partner_called (setup_content old.setup) code ≡ None)
+      → TellsBeside g are old a asked found
+  nobody_beside asked code n found is none nobody content es stand =
+      let s = stand.stands in
+      subst (TellsTogether content es stand.list s.archived s.whole asked) (sym none)
+      (nobody_told content es stand.list s.archived s.own s.whole s.rows s.parts s.is_own code n asked is (nobody_here content es stand code nobody))
+
+  pub closed_beside : (asked : Query) (code : List ℕ) (n p : ℕ) (found : Option (List ℕ)) → IsOfNumber asked code n → partner_called (setup_content old.setup) code ≡ Some p → (nat_le 1 n && nat_le n (last_closed old.closed p)) ≡ true
+      → ((list : List Archive) → are list a → IsClosedIn list p n → TellsClosed list asked code p n found) → TellsBeside g are old a asked found
+  closed_beside asked code n p found is called closed tells content es stand =
+      let s = stand.stands in
+      let both = and_parts (nat_le 1 n) (nat_le n (last_closed old.closed p)) closed in
+      let low : 1 ≤ n = leb-true 1 n both.0 in
+      let reach = leb-true n (last_closed old.closed p) both.1 in
+      let high : n ≤ s.archived.last_closed p = omega (arith, reach, s.knows.numbers p) in
+      let here = called_here content es stand code p called in
+      closed_told content es stand.list s.archived s.own s.whole s.given s.parts s.hold code p n here low high asked found is
+      (tells stand.list stand.these (closed_here content es stand.list s.archived s.own s.whole s.given s.parts s.hold code p n here low high))
+
+  -- a number that the desk knows for closed is closed in an archive
+  pub closed_there : (code : List ℕ) (n p : ℕ) → partner_called (setup_content old.setup) code ≡ Some p → 1 ≤ n → n ≤ last_closed old.closed p → (content : SetupContent) (es : List Event) (stand : StandTogether g are content es old a) → IsClosedIn stand.list p n
+  closed_there code n p called low reach content es stand =
+      let s = stand.stands in
+      let high : n ≤ s.archived.last_closed p = omega (arith, reach, s.knows.numbers p) in
+      closed_here content es stand.list s.archived s.own s.whole s.given s.parts s.hold code p n (called_here content es stand code p called) low high
+
+  -- a number that the desk doesn't know for closed is closed in none
+  pub open_there : (n p : ℕ) → last_closed old.closed p < n → (content : SetupContent) (es : List Event) (stand : StandTogether g are content es old a) → archive_of stand.list p n ≡ None
+  open_there n p beyond content es stand =
+      let s = stand.stands in
+      s.hold.none_beyond p n (omega (arith, beyond, s.knows.numbers p))
+
+-- it is asked neither of a container, of lists, nor of a number
+pub is_neither : (asked : Query) → ((container : BoxNumber) → asked ≡ query.Visits container → ⊥) → ((container : BoxNumber) → asked ≡ query.Container container → ⊥) → (asked ≡ query.Calls → ⊥) → ((call : Call) (side : Side) → asked ≡ query.List call side → ⊥) → ((call : Call) (side : Side) → asked ≡ query.Work call side → ⊥)
+    → ((code : String Global) (number : ℕ) → asked ≡ query.Reply code number → ⊥)
+    → ((code : String Global) (number : ℕ) → asked ≡ query.Contrl code number → ⊥) → ((code : String Global) (number : ℕ) → asked ≡ query.Ticket code number → ⊥) → IsOfNeither asked
+is_neither (query.Visits container) visits there calls list work reply contrl ticket = visits container refl
+is_neither (query.Container container) visits there calls list work reply contrl ticket = there container refl
+is_neither query.Calls visits there calls list work reply contrl ticket = calls refl
+is_neither (query.List call side) visits there calls list work reply contrl ticket = list call side refl
+is_neither (query.Work call side) visits there calls list work reply contrl ticket = work call side refl
+is_neither (query.Reply code number) visits there calls list work reply contrl ticket = reply code number refl
+is_neither (query.Contrl code number) visits there calls list work reply contrl ticket = contrl code number refl
+is_neither (query.Ticket code number) visits there calls list work reply contrl ticket = ticket code number refl
+is_neither other visits there calls list work reply contrl ticket = tt
+
+-- ---- whatever is looked at
+
+pub tells_so : {P Q : Option (List ℕ) → Type 0} (found : Result (Option (List ℕ)) NotNow) → ((told : Option (List ℕ)) → P told → Q told) → Tells P found → Tells Q found
+tells_so (Ok told) so is = so told is
+tells_so (Err refusal) so is = tt
+
+pub none_there : (list : List Archive) (count : ℕ) → count ≡ length list → count ≡ 0 → list ≡ []
+none_there [] count many none = refl
+none_there (archive ∷ list) count many none = absurd (omega (arith, many, none))

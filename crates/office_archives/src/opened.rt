@@ -1,0 +1,9 @@
+use crate::looked::Looked;
+use sqlite::Alter;
+
+/// An archive that is open: its place in the order of closing, and what it is read by.
+#[derive(Drop)]
+pub struct Opened<S: Alter> {
+    pub(crate) place: u16,
+    pub(crate) archive: Looked<S>,
+}

@@ -1,0 +1,15 @@
+use Rattle.std.proofs.Common.{[], ◌∷◌, take}
+use Rattle.sqlite.specs.Held.{state}
+use Rattle.office_rows.specs.Stored.{HasEmpty}
+use Rattle.office_tables.proofs.MadeLemmas.{creates_of, makes_one}
+use Rattle.office_closing.{specs.Tables.{register_tables, archive_table}, proofs.Created.created_archive}
+use Rattle.office_closing.proofs.WriteTexts as texts
+use Rattle.office_closing.proofs.creating.create_archive.Goals as goal
+
+pub returns-clause-creates : goal.returns-clause-creates
+returns-clause-creates g c =
+    let old = state g.S.Store c.args.tx.now.conn.now in
+    let new = state g.S.Store c.execute.new.self.conn.now in
+    creates_of (archive_table ∷ []) (HasEmpty (take 0 register_tables)) (HasEmpty (take 1 register_tables)) old new _ c.execute.ensures.survives (λ clean inside.
+    let ran = c.in_ok-execute.ensures.runs clean inside in
+    (ran.1, (λ has. created_archive old new c.in_ok-execute.field-0 has ran.0), makes_one texts.create_archive archive_table texts.archive_anew.0 texts.archive_anew.1 texts.archive_defined old new c.in_ok-execute.field-0 ran.0))

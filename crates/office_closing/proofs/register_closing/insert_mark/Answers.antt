@@ -1,0 +1,15 @@
+use Rattle.std.proofs.Common.{Ok}
+use Rattle.sqlite.specs.{Held.state, State.Executes}
+use Rattle.office_closing.{specs.{Changes.{unmarked, marked_for}, Stored.{HasWhole, file_values}}, proofs.{Committing.writes_of, Inserted.inserted_closed_for}}
+use Rattle.office_closing.proofs.WriteTexts as texts
+use Rattle.office_closing.proofs.register_closing.insert_mark.Goals as goal
+
+pub returns-clause-writes : goal.returns-clause-writes
+returns-clause-writes g c =
+    let old = state g.S.Store c.args.tx.now.conn.now in
+    let new = state g.S.Store c.execute.new.self.conn.now in
+    let one = c.args.file.now in
+    writes_of HasWhole unmarked (marked_for one) old new _ c.execute.ensures.survives (λ clean inside.
+    let ran = c.in_ok-execute.ensures.runs clean inside in
+    let h : Executes texts.insert_closed_for (file_values one) old new (Ok c.in_ok-execute.field-0) = rw (c.characters.ensures) at ran.0 in
+    (ran.1, λ content has. inserted_closed_for old new content c.in_ok-execute.field-0 has one h))

@@ -1,0 +1,8 @@
+use Rattle.std.proofs.Common.{◌∙◌, ap}
+use Rattle.clap.specs.Simple.{app_of_fields}
+use Rattle.office_command_line.specs.Commands.{demo_app}
+use Rattle.office_command_line.proofs.builders.demo_command.Goals as goal
+
+pub returns-clause-app : goal.returns-clause-app
+unfolding demo_app
+returns-clause-app c = ap app_of_fields c.after_help.ensures ∙ ap app_of_fields c.about.ensures ∙ c.new.ensures.app

@@ -1,0 +1,9 @@
+use Rattle.std.proofs.Common.{◌∙◌, ap, Some}
+use Rattle.clap.specs.{Words.{Rule, rule_of}, declared.builder.ArgAction.TheVariants.Set, declared.builder.arg.Arg.Arg}
+use Rattle.office_command_line.proofs.builders.word_if_any.Goals as goal
+
+pub returns : goal.returns
+returns c = record {
+  rule = ap rule_of c.help.ensures ∙ ap rule_of c.action.ensures ∙ ap (λ (r : Rule). record r { action = Some Set }) c.new.ensures.rule;
+  local = ap (λ (a : Arg). a.global) c.help.ensures ∙ ap (λ (a : Arg). a.global) c.action.ensures ∙ c.new.ensures.optional.1;
+}

@@ -1,0 +1,17 @@
+mod DemoGiven
+mod Leaving
+mod OpenedLemmas
+mod StreamLemmas
+mod Alike
+mod ReportLemmas
+mod DeliverLemmas
+mod AccountLemmas
+mod OpenLemmas
+mod LookingLemmas
+mod ServingLemmas
+mod ServeLemmas
+mod MigratingLemmas
+mod TextLemmas
+mod KeptTextLemmas
+mod WholeLemmas
+mod RefusingLemmas

@@ -1,0 +1,36 @@
+use Rattle.std.proofs.{Common.{◌≡◌, true, inr, sym, subst, ◌∙◌}, lemmas.Result.err_from_is_err_and}
+use Rattle.sqlite.specs.{Files.over_files, WalFiles.image_at}
+use Rattle.office_closing.specs.{Register.{is_newer_than, register_content}, declared.register.Register.Register}
+use Rattle.office_commands.{specs.Beside.OpensWith, proofs.RefusingLemmas.{older_over, refused_names, refused_opening, unloaded_over}}
+use Rattle.office_commands.proofs.offices.open_to_look.Goals as goal
+
+-- It shows what the files held, and was loaded by the register that was read.
+pub returns-else-is_older-clause-opened : goal.returns-else-is_older-clause-opened
+returns-else-is_older-clause-opened g c =
+    let office = c.join.result in
+    let opens = c.join.ensures c.in_ok-looked.looked.inner.conn (image_at g.S.Start) c.in_ok-looked.ensures.found c.in-Ok.ensures.loaded in
+    let its = subst (λ (r : Register). OpensWith over_files g.M.ArchivesBeside.hold g.A.Archives.are (image_at g.S.Start) (register_content r) (office.desk, office.archives)) c.in-Ok.ensures.register opens in
+    (register_content c.in_ok-register.register, its)
+
+-- ---- why it is not opened
+
+pub returns-in_err-looked-clause-refused : goal.returns-in_err-looked-clause-refused
+returns-in_err-looked-clause-refused g c =
+    let p = err_from_is_err_and c.from_residual.result c.from_residual.ensures.1 in
+    rw (p.1, p.2) (refused_opening over_files (image_at g.S.Start) ⊥ _ c.in_err-looked.ensures.refused)
+
+pub returns-in_err-register-clause-refused : goal.returns-in_err-register-clause-refused
+returns-in_err-register-clause-refused g c =
+    let p = err_from_is_err_and c.from_residual-in_err-register.result c.from_residual-in_err-register.ensures.1 in
+    rw (p.1, p.2) (refused_names over_files (image_at g.S.Start) ⊥ _ c.in_err-register.ensures.refused)
+
+pub returns-in-Err-clause-refused : goal.returns-in-Err-clause-refused
+returns-in-Err-clause-refused g c =
+    inr (unloaded_over over_files (image_at g.S.Start) c.in_ok-looked.looked.inner.conn c.load_office.new.looked.inner.conn (register_content c.in_ok-register.register) c.load_office.result c.in-Err.fault c.in_ok-looked.ensures.found c.in_ok-register.ensures.sound c.load_office.ensures.reads c.in-Err.ensures.refused)
+
+-- what was loaded awaits a number that had been taken
+pub returns-then-is_older-clause-refused : goal.returns-then-is_older-clause-refused
+returns-then-is_older-clause-refused g c =
+    let loaded = c.in-Ok.loaded in
+    let newer = subst (λ (r : Register). is_newer_than loaded.there.nexts.items (register_content r) ≡ true) c.in-Ok.ensures.register (sym c.is_older.ensures ∙ c.if-is_older.true) in
+    older_over over_files (image_at g.S.Start) c.in_ok-looked.looked.inner.conn c.load_office.new.looked.inner.conn (register_content c.in_ok-register.register) loaded.there.nexts.items c.in_ok-looked.ensures.found c.in_ok-register.ensures.sound c.in-Ok.ensures.reads c.in-Ok.ensures.loaded.nexts newer

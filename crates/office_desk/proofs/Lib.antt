@@ -1,0 +1,10 @@
+pub mod AccountLemmas
+pub mod OwnNumbers
+pub mod HoldLemmas
+pub mod DeliverLemmas
+pub mod Faults
+pub mod RunLoads
+pub mod KeptLemmas
+pub mod PageLemmas
+pub mod LookLemmas
+pub mod NextLemmas

@@ -1,0 +1,4 @@
+pub mod SendingLemmas
+pub mod SenderLemmas
+pub mod Givens
+pub mod Wrong

@@ -1,0 +1,12 @@
+pub mod Names
+pub mod Kinds
+pub mod Findings
+pub mod InOrder
+pub mod Messages
+pub mod Told
+pub mod Blocks
+pub mod Entries
+pub mod Said
+pub mod Wrong
+pub mod PartnerFaults
+pub mod Tallies

@@ -1,0 +1,13 @@
+pub mod Kept
+pub mod ByKeys
+pub mod Runs
+pub mod Afters
+pub mod Places
+pub mod Ground
+pub mod KeptNumbers
+pub mod Accounted
+pub mod Lawful
+pub mod Loads
+pub mod Offices
+pub mod Alike
+pub mod Once

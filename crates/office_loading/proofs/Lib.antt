@@ -1,0 +1,16 @@
+pub mod MissingLemmas
+pub mod SettingQuery
+pub mod LackingLemmas
+pub mod RowLemmas
+pub mod WaitingQuery
+pub mod VersionLemmas
+pub mod StreamLemmas
+pub mod OfficeLemmas
+pub mod OlderOffice
+pub mod Kept
+pub mod Keyed
+pub mod Offices
+pub mod TextQuery
+pub mod TakenLemmas
+pub mod StandingLemmas
+pub mod MigratedLemmas

@@ -1,0 +1,3 @@
+pub mod Shown
+mod Splitting
+mod Titled

@@ -1,0 +1,10 @@
+pub mod Addresses
+pub mod Drawn
+pub mod Fixed
+pub mod Laws
+pub mod Links
+pub mod Meanings
+pub mod Pages
+pub mod Titles
+pub mod Typed
+pub mod Words

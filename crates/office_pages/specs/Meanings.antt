@@ -1,0 +1,85 @@
+-- What the names in a reply mean (our own).
+use Rattle.std.specs.{Prelude.{ℕ, Bool, ◌||◌, List, [], ◌∷◌, ◌++◌, codes, nat_eq, if◌then◌else◌}, List.{flat_map, starts_with}}
+use Rattle.office_reports.specs.Fields.{field_text}
+use Rattle.office_pages.specs.declared.meanings.Meaning.{Meaning}
+
+-- ---- the names, and the sentences of docs/PROFILE.md without their marks
+
+pub record Meant : Type 0 where
+  pub name : List ℕ
+  pub sentence : List ℕ
+
+abbrev pub means : List ℕ → List ℕ → Meant
+means name sentence = record { name = name; sentence = sentence }
+
+-- a name and its meaning as the code has them
+abbrev pub meant : Meaning → Meant
+meant what = record { name = what.0.now; sentence = what.1.now }
+
+-- the faults of a message
+unfoldable pub message_faults : List Meant
+message_faults =
+    means (codes "OtherType") (codes "S009 is none of the three types")
+    ∷ means (codes "NoBgm") (codes "the heading has no BGM")
+    ∷ means (codes "Code") (codes "1001 is no code of that type that the partner may send")
+    ∷ means (codes "Function") (codes "1225 is neither empty nor 9, and is not 5 under the code of a list")
+    ∷ means (codes "NoTransport") (codes "a COPRAR or COARRI without such a TDT, or whose voyage or vessel is outside the limits")
+    ∷ means (codes "NoEquipment") (codes "no container")
+    ∷ means (codes "EquipmentCount") (codes "6066 isn't the number of EQD segments")
+    ∷ means (codes "TooMany") (codes "over 999 containers")
+    ∷ []
+
+-- the faults of a line, and the other reasons why an order is refused
+unfoldable pub reasons : List Meant
+reasons =
+    means (codes "Form") (codes "the number has not its form")
+    ∷ means (codes "CheckDigit") (codes "its check digit is wrong")
+    ∷ means (codes "Size") (codes "the size-type has not its form, or its length isn't taken")
+    ∷ means (codes "Moment") (codes "its text is not of its format, or of no moment of the calendar")
+    ∷ means (codes "SlotText") (codes "the slot's name has not its form; for a Move also, if none is named")
+    ∷ means (codes "AlreadyIn") (codes "the container is in the yard")
+    ∷ means (codes "NotIn") (codes "the container isn't in the yard")
+    ∷ means (codes "AlreadyListed") (codes "it is on that list of that call, done or not (of a replacement: done, or listed by an earlier line of it)")
+    ∷ means (codes "NotListed") (codes "it isn't on the call's list")
+    ∷ means (codes "ListLineDone") (codes "it was loaded, or discharged, on that call before")
+    ∷ means (codes "Buried") (codes "another container stands on it, which blocker names")
+    ∷ means (codes "NoSlot") (codes "the slot that is asked for isn't in the yard")
+    ∷ means (codes "SlotKind") (codes "a twenty asks for an even bay, or a forty for an odd one")
+    ∷ means (codes "Taken") (codes "another container covers a cell of that slot")
+    ∷ means (codes "OnAir") (codes "nothing below that slot can carry it")
+    ∷ means (codes "OnEmpty") (codes "the container is full, and one that would carry it there is empty; an empty one would fit")
+    ∷ means (codes "NoRoom") (codes "no slot was asked for, and none fits")
+    ∷ means (codes "VisitLimit") (codes "as many visits were recorded as the set-up allows")
+    ∷ []
+
+-- ---- which of them a reply has
+
+-- a part stands in a text, at its front or further on
+abbrev pub stands_in : List ℕ → List ℕ → Bool
+stands_in part [] = starts_with nat_eq [] part
+stands_in part (c ∷ text) = starts_with nat_eq (c ∷ text) part || stands_in part text
+
+-- a member of a reply with that name as its value
+abbrev pub mark : List ℕ → List ℕ → List ℕ
+mark member name = codes "\"" ++ member ++ codes "\":\"" ++ name ++ codes "\""
+
+-- ---- how they are reported
+
+abbrev pub meaning_entry : Meant → List ℕ
+meaning_entry what = codes "<dt>" ++ field_text what.name ++ codes "</dt>\n<dd>" ++ field_text what.sentence ++ codes "</dd>\n"
+
+-- a name is reported if the reply gives it in that member
+abbrev pub meaning_view : List ℕ → List ℕ → Meant → List ℕ
+meaning_view member text what = if stands_in (mark member what.name) text then meaning_entry what else []
+
+abbrev pub meaning_entries : List ℕ → List ℕ
+meaning_entries text =
+    flat_map (meaning_view (codes "fault") text) message_faults ++ flat_map (meaning_view (codes "reason") text) reasons
+
+-- entries between their tags; nothing without an entry
+abbrev pub framed : List ℕ → List ℕ → List ℕ → List ℕ
+framed front [] back = []
+framed front (c ∷ entries) back = front ++ (c ∷ entries) ++ back
+
+abbrev pub meanings_view : List ℕ → List ℕ
+meanings_view text = framed (codes "<h2>What the names mean</h2>\n<dl>\n") (meaning_entries text) (codes "</dl>\n")

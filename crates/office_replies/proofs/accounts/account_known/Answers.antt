@@ -1,0 +1,8 @@
+use Rattle.std.proofs.Common.{rules}
+use Rattle.serde_json.proofs.OnLiterals.{serde_json_on_literals}
+use Rattle.office_replies.specs.AccountAnswers.{account_known_text}
+use Rattle.office_replies.proofs.accounts.account_known.Goals as goal
+
+pub returns : goal.returns
+unfolding serde_json_on_literals account_known_text
+returns c = search rules

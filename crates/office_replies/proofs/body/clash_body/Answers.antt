@@ -1,0 +1,8 @@
+use Rattle.std.proofs.Common.{rules}
+use Rattle.serde_json.proofs.OnLiterals.{serde_json_on_literals}
+use Rattle.office_replies.specs.Bodies.{clash_text}
+use Rattle.office_replies.proofs.body.clash_body.Goals as goal
+
+pub returns : goal.returns
+unfolding serde_json_on_literals clash_text
+returns c = search rules

@@ -1,0 +1,7 @@
+pub mod Standings
+pub mod Listing
+pub mod Parting
+pub mod CallLemmas
+pub mod Waits
+pub mod Markup
+mod Pages

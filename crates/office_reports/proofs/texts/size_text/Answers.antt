@@ -1,0 +1,6 @@
+use Rattle.std.proofs.{Common.◌∙◌, lemmas.Result.IfOk-weaker}
+use Rattle.office_reports.proofs.Standings.{size_same}
+use Rattle.office_reports.proofs.texts.size_text.Goals as goal
+
+pub returns : goal.returns
+returns c = IfOk-weaker c.text_of.result _ _ (λ text e. e ∙ size_same c.text.result c.text.ensures.size ∙ c.text.ensures.same) c.text_of.ensures

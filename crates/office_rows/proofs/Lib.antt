@@ -1,0 +1,10 @@
+pub mod Creating
+pub mod WriteLemmas
+pub mod Writing
+pub mod Reading
+pub mod BareReading
+pub mod Written
+pub mod Listed
+pub mod Placed
+pub mod Ordered
+pub mod InPlace

@@ -1,0 +1,16 @@
+pub mod Tables
+pub mod Rows
+pub mod Values
+pub mod Layouts
+pub mod Stored
+pub mod Effects
+pub mod Opening
+pub mod Steps
+pub mod Shown
+pub mod ByKey
+pub mod Opened
+pub mod Bare
+pub mod Migrated
+pub mod Office
+pub mod Places
+pub mod InPlace

@@ -1,0 +1,14 @@
+use Rattle.std.proofs.Common.{[], ◌∷◌, take}
+use Rattle.sqlite.specs.Held.{state}
+use Rattle.office_rows.{specs.{Tables.{office_tables, block_table}, Rows.no_rows, Stored.{HasEmpty, HasRows}}, proofs.Reading.created_block}
+use Rattle.office_tables.proofs.MadeLemmas.{creates_of, makes_one, block_anew}
+use Rattle.office_rows.proofs.Creating as texts
+use Rattle.office_tables.proofs.creating.create_block.Goals as goal
+
+pub returns-clause-creates : goal.returns-clause-creates
+returns-clause-creates g c =
+    let old = state g.S.Store c.args.tx.now.conn.now in
+    let new = state g.S.Store c.execute.new.self.conn.now in
+    creates_of (block_table ∷ []) (HasEmpty (take 6 office_tables)) (HasRows no_rows) old new _ c.execute.ensures.survives (λ clean inside.
+    let ran = c.in_ok-execute.ensures.runs clean inside in
+    (ran.1, (λ has. created_block old new c.in_ok-execute.field-0 has ran.0), makes_one texts.create_block block_table block_anew.0 block_anew.1 texts.block_defined old new c.in_ok-execute.field-0 ran.0))

@@ -1,0 +1,14 @@
+use Rattle.std.proofs.Common.{[], ◌∷◌, take}
+use Rattle.sqlite.specs.Held.{state}
+use Rattle.office_rows.{specs.{Tables.{office_tables, interchange_table}, Stored.HasEmpty}, proofs.Reading.created_interchange}
+use Rattle.office_tables.proofs.MadeLemmas.{creates_of, makes_one, interchange_anew}
+use Rattle.office_rows.proofs.Creating as texts
+use Rattle.office_tables.proofs.creating.create_interchange.Goals as goal
+
+pub returns-clause-creates : goal.returns-clause-creates
+returns-clause-creates g c =
+    let old = state g.S.Store c.args.tx.now.conn.now in
+    let new = state g.S.Store c.execute.new.self.conn.now in
+    creates_of (interchange_table ∷ []) (HasEmpty (take 1 office_tables)) (HasEmpty (take 2 office_tables)) old new _ c.execute.ensures.survives (λ clean inside.
+    let ran = c.in_ok-execute.ensures.runs clean inside in
+    (ran.1, (λ has. created_interchange old new c.in_ok-execute.field-0 has ran.0), makes_one texts.create_interchange interchange_table interchange_anew.0 interchange_anew.1 texts.interchange_defined old new c.in_ok-execute.field-0 ran.0))

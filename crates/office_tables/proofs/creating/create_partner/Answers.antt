@@ -1,0 +1,14 @@
+use Rattle.std.proofs.Common.{[], ◌∷◌, take}
+use Rattle.sqlite.specs.Held.{state}
+use Rattle.office_rows.{specs.{Tables.{office_tables, partner_table}, Stored.HasEmpty}, proofs.Reading.created_partner}
+use Rattle.office_tables.proofs.MadeLemmas.{creates_of, makes_one, partner_anew}
+use Rattle.office_rows.proofs.Creating as texts
+use Rattle.office_tables.proofs.creating.create_partner.Goals as goal
+
+pub returns-clause-creates : goal.returns-clause-creates
+returns-clause-creates g c =
+    let old = state g.S.Store c.args.tx.now.conn.now in
+    let new = state g.S.Store c.execute.new.self.conn.now in
+    creates_of (partner_table ∷ []) (HasEmpty (take 0 office_tables)) (HasEmpty (take 1 office_tables)) old new _ c.execute.ensures.survives (λ clean inside.
+    let ran = c.in_ok-execute.ensures.runs clean inside in
+    (ran.1, (λ has. created_partner old new c.in_ok-execute.field-0 has ran.0), makes_one texts.create_partner partner_table partner_anew.0 partner_anew.1 texts.partner_defined old new c.in_ok-execute.field-0 ran.0))

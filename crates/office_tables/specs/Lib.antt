@@ -1,0 +1,11 @@
+pub mod Faults
+pub mod Opened
+pub mod Answers
+pub mod Kept
+pub mod Order
+pub mod Writes
+pub mod Reading
+pub mod Taken
+pub mod Taking
+pub mod DeliveryReading
+pub mod Writing

@@ -1,0 +1,13 @@
+pub mod Open
+pub mod Whole
+pub mod Indexed
+pub mod Lined
+pub mod Placing
+pub mod Noted
+pub mod Changing
+pub mod Applying
+pub mod Formed
+pub mod Removed
+pub mod Dropping
+pub mod Rising
+pub mod OpenRows

@@ -1,0 +1,17 @@
+pub mod Rows
+pub mod State
+pub mod Listings
+pub mod LineIndexes
+pub mod Versions
+pub mod Step
+pub mod Wholeness
+pub mod Codes
+pub mod Index
+pub mod Calls
+pub mod Restoring
+pub mod Counts
+pub mod Changes
+pub mod RowForms
+pub mod Forms
+pub mod Drop
+pub mod OneByOne
