@@ -382,7 +382,7 @@ def beside_a_scanner(top, crate, wanted):
         if rest.split()[1:2] in (['us'], ['us,']):
             times[name] = float(rest.split()[0])
         elif name == 'instructions a byte':
-            counts.append(Row('%s, a megabyte' % crate, name, float(rest.split()[0]), None, '60'))
+            counts.append(Row('%s, a megabyte' % crate, name, float(rest.split()[0]), None, '55'))
     if 'C scanner' not in times:
         return [Row('a megabyte: crates/%s/bench.sh failed' % crate, 'us', None)]
     return [

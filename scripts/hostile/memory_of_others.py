@@ -33,6 +33,8 @@ PRINTING = 20               # more allocations than printing takes that nothing 
 
 # what a command may tell that had no memory
 WANTS = {('', 'store: Memory\n', 3), ('', 'setup: Memory\n', 1), ('', 'cannot read\n', 3), ('', '', 3)}
+# what `serve` tells, too, as it begins to listen
+NO_PORT = ('', 'cannot listen\n', 3)
 # and what `deliver` prints that takes nothing then
 LEFT = {('{"answer":"not now"}\n', '', 3), ('{"answer":"cut","fault":"Memory"}\n', '', 3)}
 
@@ -217,7 +219,7 @@ def serve(refusing, before, requests, refused, counted, name):
     office, server = deepcopy(before), Server(refusing, len(requests), refused)
     what = '%s, allocation %d' % (name, refused)
     if not server.line:
-        if server.end() not in WANTS:
+        if server.end() not in WANTS | {NO_PORT}:
             raise Different(what + ', not opened')
         counted[name + ': told that memory ran out'] += 1
         return refusing.allocations()

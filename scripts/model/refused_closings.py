@@ -349,14 +349,17 @@ def try_registers(room, day):
 
 
 def try_older(room, day):
-    """Registers of before lists were put away, and of before they said what had been taken, without tables of that: the next
-    closing makes them."""
-    for missing in (['taken'], ['settled', 'taken']):
-        try_without(room, day, missing)
+    """Registers of before they said what had been taken."""
+    try_without(room, day, ['taken'])
+
+
+def try_oldest(room, day):
+    """Registers of before lists were put away."""
+    try_without(room, day, ['settled', 'taken'])
 
 
 def try_without(room, day, missing):
-    """Registers that lack these tables."""
+    """Registers that lack these tables: the next closing makes them."""
     room.make('office.db', day)
     room.copy('office.db', 'first.db')
     room.close('office.db', 'first.db')
@@ -404,6 +407,6 @@ def try_all(beside):
     """Each in a folder of its own."""
     for trial in (
             try_files, try_copies, try_orders, try_lacking, try_marks, try_beside, try_registers, try_put_back, try_older,
-            try_unreadable):
+            try_oldest, try_unreadable):
         with tempfile.TemporaryDirectory(prefix='beside-') as folder:
             trial(Room(beside, folder), Day(trial.__name__))

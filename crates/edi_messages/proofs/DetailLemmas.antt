@@ -2,7 +2,8 @@
 use Rattle.std.specs.{List.find, Option.{option_map, option_map_or, option_or}, Str.bytes_eq}
 use Rattle.std.proofs.Common.{◌≡◌, ◌&&◌, ◌||◌, ℕ, zero, suc, Bool, true, false, cond, IsTrue, List, [], ◌∷◌, get_or, codes, Option, Some, None, refl, sym, ap, ◌∙◌}
 use Rattle.edi_syntax.specs.{Moments.CivilMoment, Text.{Content, has_tag, component_of, element_of}}
-use Rattle.edi_messages.specs.{Orders.{digits_wanted, moment_of_length, moment_stated}, Parts.{is_qualified, states_moment}}
+use Rattle.edi_messages.specs.{Orders.{digits_wanted, moment_of_length, moment_stated}, Parts.{is_qualified, states_moment}, Types.{type_named, message_type_of}}
+use Rattle.edi_messages.specs.declared.message.MessageType.{MessageType}
 
 -- ---- what is kept of the first of what is sought
 
@@ -46,6 +47,12 @@ value_of_first : (segment : Content) (values : List (List ℕ)) (k : ℕ) → el
 value_of_first segment values k e =
     value_in_place segment.elements 0 k ∙ ap (λ (v : List (List ℕ)). get_or v k []) e
 
+-- the same, of the second element
+value_of_second : (segment : Content) (values : List (List ℕ)) (k : ℕ) → element_of segment 2 ≡ values →
+    get_or (get_or segment.elements 1 []) k [] ≡ get_or values k []
+value_of_second segment values k e =
+    value_in_place segment.elements 1 k ∙ ap (λ (v : List (List ℕ)). get_or v k []) e
+
 -- ---- values that were met one after the other
 
 pub two_values : (all behind rest : List (List ℕ)) (first second : List ℕ) →
@@ -56,6 +63,48 @@ pub three_values : (all behind further rest : List (List ℕ)) (first second thi
     all ≡ first ∷ behind → behind ≡ second ∷ further → further ≡ third ∷ rest → all ≡ first ∷ second ∷ third ∷ rest
 three_values all behind further rest first second third one two three =
     two_values all behind further first second one two ∙ ap (λ (v : List (List ℕ)). first ∷ second ∷ v) three
+
+pub four_values : (all behind further last rest : List (List ℕ)) (first second third fourth : List ℕ) →
+    all ≡ first ∷ behind → behind ≡ second ∷ further → further ≡ third ∷ last → last ≡ fourth ∷ rest →
+    all ≡ first ∷ second ∷ third ∷ fourth ∷ rest
+four_values all behind further last rest first second third fourth one two three four =
+    three_values all behind further last first second third one two three
+    ∙ ap (λ (v : List (List ℕ)). first ∷ second ∷ third ∷ v) four
+
+-- ---- a type
+
+-- the message type of a name, a version, a release and an agency
+abbrev pub type_among : List ℕ → List ℕ → List ℕ → List ℕ → Option MessageType
+type_among name version release agency =
+    cond (bytes_eq version (codes "D") && bytes_eq release (codes "95B") && bytes_eq agency (codes "UN")) (type_named name) None
+
+type_by_parts : (name version release agency n v r a : List ℕ) → name ≡ n → version ≡ v → release ≡ r → agency ≡ a →
+    type_among name version release agency ≡ type_among n v r a
+type_by_parts name version release agency n v r a same_name same_version same_release same_agency =
+    rw (same_name, same_version, same_release, same_agency) refl
+
+-- by the values of its second element
+pub type_by_values : (segment : Content) (values : List (List ℕ)) → element_of segment 2 ≡ values →
+    message_type_of segment ≡ type_among (get_or values 0 []) (get_or values 1 []) (get_or values 2 []) (get_or values 3 [])
+type_by_values segment values e =
+    type_by_parts (component_of segment 2 1) (component_of segment 2 2) (component_of segment 2 3) (component_of segment 2 4)
+    (get_or values 0 []) (get_or values 1 []) (get_or values 2 []) (get_or values 3 [])
+    (value_of_second segment values 0 e) (value_of_second segment values 1 e)
+    (value_of_second segment values 2 e) (value_of_second segment values 3 e)
+
+without_agency : (of_version of_release : Bool) (named : Option MessageType) → cond (of_version && of_release && false) named None ≡ None
+without_agency true true named = refl
+without_agency true false named = refl
+without_agency false true named = refl
+without_agency false false named = refl
+
+-- none, where there is no fourth value
+pub type_of_no_agency : (segment : Content) (values : List (List ℕ)) → element_of segment 2 ≡ values → get_or values 3 [] ≡ [] →
+    message_type_of segment ≡ None
+type_of_no_agency segment values e missing =
+    type_by_values segment values e
+    ∙ ap (type_among (get_or values 0 []) (get_or values 1 []) (get_or values 2 [])) missing
+    ∙ without_agency (bytes_eq (get_or values 1 []) (codes "D")) (bytes_eq (get_or values 2 []) (codes "95B")) (type_named (get_or values 0 []))
 
 -- ---- a moment
 

@@ -9,7 +9,7 @@ use Rattle.edi_syntax.specs.{Moments.{CivilMoment, is_moment, are_moment_digits,
 use Rattle.edi_messages.specs.Faults.{voyage_of, vessel_of, names_call, call_named, call_if_named, call_in, transport, order_kind_of, purpose_of, fault_of, message_function, beginning, is_original, is_replacement, is_list, names_list, replaces_list, applies}
 use Rattle.edi_messages.specs.{Forms.{is_name_if_any, IsFormedCall, IsFormedEntry, IsFormedOrder, OrdersWell, OrdersAreFormed}, Texts.is_name}
 use Rattle.edi_messages.specs.{Message.{line_read, line_of, is_container_group, lines_of, MessageContent, message_of, judged_message}, Laws.ReplacingIsOfAList}
-use Rattle.edi_messages.specs.Orders.{OrderContent, EntryContent, number_text, size_text, is_laden, location, names_slot, name_kept, booking, port, digits_wanted, moment_of_length, moment_stated, then_read, line_fault_of, read_number, read_size, read_moment, read_slot, read_slot_if_named, read_entry, order_of}
+use Rattle.edi_messages.specs.Orders.{OrderContent, number_text, size_text, location, names_slot, name_kept, booking, port, digits_wanted, moment_stated, then_read, line_fault_of, read_number, read_size, read_moment, read_entry, order_of}
 use Rattle.edi_messages.specs.{Parts.{EquipmentGroup, groups_of, is_qualified, states_moment}, Purposes.{CallContent, Purpose, purpose_with, kind_of, call_of}}
 use Rattle.edi_messages.specs.{declared.line.LineFault.LineFault, declared.line.LineFault.TheVariants.{Moment, Size, SlotText}, declared.codes.Codes.Codes}
 use Rattle.edi_messages.specs.{declared.message.MessageFault.MessageFault, declared.message.MessageFault.TheVariants.{Code, OtherType, NoBgm, Function}}
@@ -20,8 +20,6 @@ use Rattle.box6346.specs.declared.box_number.NumberFault as number_fault
 use Rattle.box6346.specs.declared.size_type.SizeFault as size_fault
 use Rattle.edi_messages.specs.Orders as order
 use Rattle.edi_messages.specs.Purposes as purpose
-
--- ==== OrderForms: What a message orders has its form.
 
 -- what is read, if it is, is such
 abbrev Gives : {T : Type 0} → (T → Type 0) → Result T LineFault → Type 0

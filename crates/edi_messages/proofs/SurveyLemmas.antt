@@ -2,12 +2,12 @@
 use Rattle.std.specs.{List.{list_all, find, list_any}, Borrow.Bor, Option.{option_map, option_map_or, option_and_then, is_none, option_or, ok_or}, Str.bytes_eq}
 use Rattle.std.specs.{Prelude.{if◌then◌else◌, Result, Ok, Err, zip, decimal}, Char.{is_ascii_uppercase, is_ascii_digit}, Int.from_bool}
 use Rattle.std.{specs.Result.{result_err, result_map_both}, proofs.lemmas.Bool.{and_parts, cases_Bool, eqb-true, true≢false, and_from, le-leb}}
-use Rattle.std.proofs.Common.{◌≡◌, ℕ, ◌&&◌, true, List, length, nat_le, zero, suc, ◌<◌, [], ◌∷◌, get_or, arith, Bool, false, cond, None, Some, refl, ◌==◌, Option, eq-eqb, inl, inr, not, sym, ap, ◌+◌, ◌≤◌, ◌||◌, count_by, codes, ◌∙◌, ◌%◌, ◌^◌, ◌++◌, map}
+use Rattle.std.proofs.Common.{◌≡◌, ℕ, ◌&&◌, true, List, length, zero, suc, ◌<◌, [], ◌∷◌, get_or, arith, Bool, false, cond, None, Some, refl, ◌==◌, Option, eq-eqb, inl, inr, not, sym, ap, ◌+◌, ◌≤◌, ◌||◌, count_by, codes, ◌∙◌, ◌%◌, ◌^◌, ◌++◌, map}
 use Rattle.std.proofs.{lemmas.List.Folds.{sum_by-zero, list_all-append}, lemmas.Fmt.decimal_by_steps}
-use Rattle.edi_syntax.specs.{Characters.{is_printable, is_data_byte}, Segment.value_of_length, Text.Content, Messages.{Message, before_trailer, ends_message}}
+use Rattle.edi_syntax.specs.{Characters.is_data_byte, Segment.value_of_length, Text.Content, Messages.{Message, before_trailer, ends_message}}
 use Rattle.edi_syntax.specs.{Moments.CivilMoment, Spelling.{Writing, nothing_written, with_segment, segments_text}, Written.with_segments}
 use Rattle.edi_syntax.proofs.AdviceLemmas.{writes_segments}
-use Rattle.edi_messages.specs.{Texts.is_name, CodeText.{is_code, texts_of}, declared.order.OrderKind.OrderKind, Codes.{code_text, order_meant, meanings}}
+use Rattle.edi_messages.specs.{CodeText.{is_code, texts_of}, declared.order.OrderKind.OrderKind, Codes.{code_text, order_meant, meanings}}
 use Rattle.edi_messages.specs.Purposes.{CallContent, Purpose, purpose_with, gate_in, gate_out, yard_move, discharge_list, load_list, discharge_report, load_report, kind_of}
 use Rattle.edi_messages.specs.Faults.{document_name, beginning, transport, names_call, call_named, call_if_named, speaks_of_call, purpose_of, applies}
 use Rattle.edi_messages.specs.{Types.message_type_of, Walks.{counted_on, heading_fault_of}, declared.code.CodeTable.CodeTable, declared.codes.Codes.Codes}
@@ -28,11 +28,6 @@ use Rattle.box6346.specs.declared.box_number.NumberFault as number_fault
 use Rattle.box6346.specs.declared.size_type.SizeFault as size_fault
 use Rattle.edi_messages.specs.Purposes as purpose
 use Rattle.edi_messages.specs.Orders as order
-
--- ==== Names: A name is printable.
-
-pub name_printable : (text : List ℕ) → is_name text ≡ true → list_all is_printable text ≡ true
-name_printable text named = (and_parts (nat_le 1 (length text) && nat_le (length text) 35) (list_all is_printable text) named).1
 
 -- ==== CodeTexts: Where all texts are codes, each of them is one.
 

@@ -14,6 +14,9 @@ use edi_syntax::{Component, Segment};
 /// The most containers that a message may have.
 pub(crate) const MOST_CONTAINERS: u64 = 999;
 
+/// The most bytes that a name may have.
+pub(crate) const LONGEST_NAME: usize = 35;
+
 /// The lowest fault of the heading.
 pub(crate) fn heading_fault(survey: &Survey<'_>, codes: &Codes) -> Option<MessageFault>
     ensures { result ≡ heading_fault_of codes.now (message survey.now.frame) }
@@ -141,7 +144,7 @@ pub(crate) fn is_name(component: Component<'_>) -> bool
     ensures { result ≡ is_name (value component.entry) }
 {
     let len = component.len();
-    1 <= len && len <= 35 && component.is_printable()
+    1 <= len && len <= LONGEST_NAME && component.is_printable()
 }
 
 pub(crate) fn is_container(segment: &Segment<'_>) -> bool

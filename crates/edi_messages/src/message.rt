@@ -1,4 +1,4 @@
-ghost use Rattle.std.specs.{Option.option_map, Prelude.{◌≡◌, ◌++◌, ◌∷◌, [], IfSome, IsSomeAnd, IfNone, Some, map, IfOk, IfErr, MatchResult, Ok}};
+ghost use Rattle.std.specs.{Option.option_map, Prelude.{◌≡◌, ◌++◌, ◌∷◌, ◌&&◌, [], codes, IfSome, IsSomeAnd, IfNone, None, Some, map, IfOk, IfErr, MatchResult, Ok, if◌then◌else◌}, Str.bytes_eq};
 ghost use Rattle.edi_messages.specs.{ErrorCodes.message_error, Message.{line_of, lines_of, reading}, Owned.{call_content, line_content, message_content}};
 ghost use Rattle.edi_messages.specs.{Purposes.{kind_of, call_of}, Spans.{group_content, call_spanned, purpose_spanned}, Types.{type_named, message_type_of}};
 ghost use Rattle.edi_syntax.specs.{Segment.{content, value}, Frames.{message, message_segments_left}};
@@ -44,11 +44,26 @@ pub enum MessageType {
 pub(crate) fn message_type(header: &Segment<'_>) -> Option<MessageType>
     ensures { result ≡ message_type_of (content header.now) }
 {
-    if is_value(header.component(2, 2), b"D")
-        && is_value(header.component(2, 3), b"95B")
-        && is_value(header.component(2, 4), b"UN")
-    {
-        type_named(header.component(2, 1))
+    let mut identity = header.components(2);
+    let name = identity.next()?;
+    let version = identity.next()?;
+    let release = identity.next()?;
+    let agency = identity.next()?;
+    type_identified(name, version, release, agency)
+}
+
+/// The message type of that identity: a name, in a version and release of the directory of an agency.
+fn type_identified(
+    name: Component<'_>,
+    version: Component<'_>,
+    release: Component<'_>,
+    agency: Component<'_>,
+) -> Option<MessageType>
+    ensures { result ≡ if bytes_eq (value version.entry) (codes "D") && bytes_eq (value release.entry) (codes "95B")
+        && bytes_eq (value agency.entry) (codes "UN") then type_named (value name.entry) else None }
+{
+    if is_value(version, b"D") && is_value(release, b"95B") && is_value(agency, b"UN") {
+        type_named(name)
     } else {
         None
     }

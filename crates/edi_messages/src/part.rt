@@ -1,17 +1,17 @@
-ghost use Rattle.std.specs.{List.list_all, Option.{option_map, option_or}, Str.bytes_eq};
-ghost use Rattle.std.specs.Prelude.{IsTrue, ◌≡◌, ◌∷◌, [], codes, false, MatchOption, IfNone, IfSome, Option, Some, None, if◌then◌else◌, IfOk, string_bytes};
+ghost use Rattle.std.specs.{Option.{option_map, option_or}, Str.bytes_eq};
+ghost use Rattle.std.specs.Prelude.{◌≡◌, ◌∷◌, [], codes, false, MatchOption, IfNone, IfSome, Option, Some, None, if◌then◌else◌, IfOk, string_bytes};
 ghost use Rattle.edi_messages.specs.{Faults.{names_call, call_in, purpose_of}, Orders.{booking, port, name_kept}, Owned.call_content, Walks.from_end};
 ghost use Rattle.edi_messages.specs.Parts.{is_equipment, ends_group, before_end, heading, part_left, is_qualified, states_weight};
 ghost use Rattle.edi_messages.specs.{Purposes.{kind_of, call_of}, Spans.{call_spanned, purpose_spanned, group_content}};
-ghost use Rattle.edi_syntax.specs.{Characters.is_printable, Segment.{content, value}, Frames.{message, message_segments_left}};
+ghost use Rattle.edi_syntax.specs.{Segment.{content, value}, Frames.{message, message_segments_left}};
 
 use crate::call::{Call, CallSpan, PurposeSpan};
 use crate::codes::Codes;
-use crate::faults::{is_name, names_call, order_kind};
+use crate::faults::{LONGEST_NAME, names_call, order_kind};
 use crate::line::Group;
 use crate::order::OrderKind;
 use crate::survey::Survey;
-use edi_syntax::{Component, MessageSegments, Segment};
+use edi_syntax::{Component, MessageSegments, Segment, are_printable};
 use std::alloc::{AllocError, Global};
 
 /// What the message is for.
@@ -185,42 +185,42 @@ pub(crate) fn keep_first_places<'a>(
     }
 }
 
-/// The text of a printable value.
-fn own_text(alloc: Global, component: Component<'_>) -> Result<String, AllocError>
-    requires { IsTrue (list_all is_printable (value component)) }
-    ensures { IfOk result (λ text. string_bytes text ≡ value component.entry) }
+/// The text of a value that is a name. A value that is none is kept as empty.
+fn own_name(alloc: Global, component: Component<'_>) -> Result<String, AllocError>
+    ensures { IfOk result (λ text. string_bytes text ≡ name_kept (value component.entry)) }
 {
-    let Some(bytes) = component.plain() else {
-        return own_text_by_bytes(alloc, component);
-    };
-    match str::from_utf8(bytes) {
-        Ok(text) => String::from_str(alloc, text),
-        Err(_) => own_text_by_bytes(alloc, component),
+    match component.plain() {
+        Some(bytes) => name_text(alloc, bytes),
+        None => own_name_by_bytes(alloc, component),
     }
 }
 
 /// The same, also if the text has release characters.
-fn own_text_by_bytes(alloc: Global, component: Component<'_>) -> Result<String, AllocError>
-    requires { IsTrue (list_all is_printable (value component)) }
-    ensures { IfOk result (λ text. string_bytes text ≡ value component.entry) }
-{
-    let mut bytes = Vec::with_capacity(alloc, component.len())?;
-    component.value_into(&mut bytes)?;
-    match String::from_utf8(bytes) {
-        Ok(text) => Ok(text),
-        Err(_) => Err(AllocError),
-    }
-}
-
-/// The text of a value that is a name. A value that is none is kept as empty.
-#[tactic(auto, using(crate::proofs::SurveyLemmas::name_printable))]
-fn own_name(alloc: Global, component: Component<'_>) -> Result<String, AllocError>
+fn own_name_by_bytes(alloc: Global, component: Component<'_>) -> Result<String, AllocError>
     ensures { IfOk result (λ text. string_bytes text ≡ name_kept (value component.entry)) }
 {
-    if is_name(component) {
-        own_text(alloc, component)
-    } else {
-        Ok(String::new(alloc))
+    let mut name = [0; LONGEST_NAME];
+    let mut len = 0;
+    for byte in component.bytes() {
+        if len == LONGEST_NAME {
+            return Ok(String::new(alloc));
+        }
+        name[len] = byte;
+        len += 1;
+    }
+    name_text(alloc, &name[..len])
+}
+
+/// The text of bytes that are a name, else an empty one.
+fn name_text(alloc: Global, bytes: &[u8]) -> Result<String, AllocError>
+    ensures { IfOk result (λ text. string_bytes text ≡ name_kept bytes.now) }
+{
+    if bytes.is_empty() || bytes.len() > LONGEST_NAME || !are_printable(bytes) {
+        return Ok(String::new(alloc));
+    }
+    match str::from_utf8(bytes) {
+        Ok(text) => String::from_str(alloc, text),
+        Err(_) => Err(AllocError),
     }
 }
 
@@ -228,8 +228,8 @@ fn own_name(alloc: Global, component: Component<'_>) -> Result<String, AllocErro
 pub(crate) fn own_call(alloc: Global, call: CallSpan<'_>) -> Result<Call, AllocError>
     ensures { IfOk result (λ owned. call_content owned ≡ call_spanned call.entry) }
 {
-    let vessel = own_text(alloc, call.transport.component(8, 1))?;
-    let voyage = own_text(alloc, call.transport.component(2, 1))?;
+    let vessel = own_name(alloc, call.transport.component(8, 1))?;
+    let voyage = own_name(alloc, call.transport.component(2, 1))?;
     Ok(Call { vessel, voyage })
 }
 

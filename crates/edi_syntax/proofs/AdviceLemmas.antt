@@ -14,8 +14,6 @@ use Rattle.edi_syntax.proofs.{SegmentsLemmas.{segments_sound, segments_complete,
 use Rattle.edi_syntax.proofs.SegmentLemmas.{MeansUnreleased, token_means}
 use mathlib.Core.HLevel.{Σ_prop_path}
 
--- ==== AdviceLemmas: The service characters that an advice names, and the text of an interchange that has one.
-
 service_from : (c : ServiceCharacters) × IsTrue (may_be_used c) → Service
 service_from (c, usable) = record { component = c.component; element = c.element; release = c.release; terminator = c.terminator; distinct = usable }
 

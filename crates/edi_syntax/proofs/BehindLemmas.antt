@@ -11,8 +11,6 @@ use Rattle.edi_syntax.specs.Streams.{HasNone, AreCuts, Feeds, FeedsAll, stream_o
 use Rattle.edi_syntax.proofs.CutLemmas.{no_fault, grows, nothing_open, first_is_one}
 use Rattle.edi_syntax.specs.Positions as positions
 
--- ==== BehindLemmas: Bytes that come after nine of an interchange: no advice can begin any more.
-
 -- ---- more bytes
 
 pub record Grown (text bytes : List ℕ) : Type 0 where

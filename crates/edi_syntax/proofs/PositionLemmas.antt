@@ -12,8 +12,6 @@ use Rattle.edi_syntax.specs.{declared.position.Reading.Reading, declared.cutter.
 use Rattle.edi_syntax.proofs.SegmentLemmas.{service_distinct, released_data, element_token, terminator_token, body_sound, segment_found, segment_complete, mapped_some, mapped_suc, cond_none}
 use Rattle.edi_syntax.proofs.{SegmentsLemmas.tag_is_no_break, AdviceLemmas.same_service}
 
--- ==== PositionLemmas: The positions that bytes of segments lead to, and the texts of segments.
-
 pub refused_stays : (s : Service) (bytes : List ℕ) → position_after s Refused bytes ≡ Refused
 unfolding position_after
 refused_stays s [] = refl

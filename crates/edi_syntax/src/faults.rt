@@ -6,7 +6,10 @@ ghost use Rattle.edi_syntax.specs.Messages.{messages_in, are_messages, is_refere
 
 use crate::envelope::Envelope;
 use crate::frames::{is_of_functional_group, message_end};
-use crate::head::{Head, control_number, is_count, is_known_syntax, names_partners, preparation};
+use crate::head::{
+    Head, control_number, is_count, is_known_syntax, is_printable_element, names_partners,
+    preparation,
+};
 use crate::{CheckedSegments, Component, Segment, Segments, SyntaxFault};
 
 /// Reads the text of an interchange: the first fault that applies to the whole text, or the envelope if none does.
@@ -243,6 +246,13 @@ fn is_reference(component: Component<'_>) -> bool
 
 /// The five components of the message identifier can be printed.
 fn is_printable_identity(header: Segment<'_>) -> bool
+    ensures { result ≡ is_printable_identity (content header.entry) }
+{
+    is_printable_element(&header, 2) || are_five_printable(header)
+}
+
+/// The same, also if there are components after the fifth.
+fn are_five_printable(header: Segment<'_>) -> bool
     ensures { result ≡ is_printable_identity (content header.entry) }
 {
     header.component(2, 1).is_printable()

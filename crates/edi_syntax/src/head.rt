@@ -160,7 +160,7 @@ pub(crate) fn names_partners(header: &Segment<'_>) -> bool
 }
 
 /// Each value of the element can be printed.
-fn is_printable_element(segment: &Segment<'_>, element: usize) -> bool
+pub(crate) fn is_printable_element(segment: &Segment<'_>, element: usize) -> bool
     requires { 0 < element }
     ensures { result ≡ is_printable_element (content segment.now) element }
 {

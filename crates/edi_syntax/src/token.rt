@@ -102,14 +102,20 @@ impl TokenTable {
             (end_of self.now.service false (drop result bytes.now)) }
     {
         let mut at = 0;
-        while at + 1 < bytes.len() {
+        while at + 3 < bytes.len() {
             if !self.token(bytes[at]).stays_unreleased() {
                 return at;
             }
             if !self.token(bytes[at + 1]).stays_unreleased() {
                 return at + 1;
             }
-            at += 2;
+            if !self.token(bytes[at + 2]).stays_unreleased() {
+                return at + 2;
+            }
+            if !self.token(bytes[at + 3]).stays_unreleased() {
+                return at + 3;
+            }
+            at += 4;
         }
         at
     }

@@ -7,6 +7,9 @@ use crate::component::Component;
 use std::alloc::{AllocError, Global};
 use std::marker::Model;
 
+/// How much room a text gets when its first segment begins: that of an acknowledgement of one message.
+const ROOM: usize = 256;
+
 /// Writes segments under the default service characters: releases only before service characters, no empty components
 /// or elements at an end, no line breaks. If memory is refused, what is written is as it was.
 #[derive(Drop)]
@@ -43,6 +46,9 @@ impl SegmentWriter {
         ensures ok { OnOk result (self.new ≡ with_tag self.old tag.now) }
         ensures err { OnErr result (self.new ≡ self.old) }
     {
+        if self.text.as_slice().is_empty() {
+            self.text.reserve(ROOM)?;
+        }
         self.text.extend_from_slice(tag)?;
         self.kept = self.text.as_slice().len();
         self.is_open = true;

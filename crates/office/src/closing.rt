@@ -1,8 +1,9 @@
+use crate::archive_paths::names;
 use crate::causes::{Audience, Words, tell_store, tell_with, tell_words};
 use crate::history::{tell_closed, tell_open, tell_register};
 use crate::links::followed;
 use crate::long_work::{Work, tell_long};
-use crate::new_archive::{CopyFault, forget, names, prepare};
+use crate::new_archive::{CopyFault, forget, prepare};
 use crate::watch::of_number;
 use office_archive_files::{CloseCommandFault, OfFour, UnknownFile, close_whole};
 use office_closing::{CloseFault, File, FileFault, Numbers, PutAway, Refusal};

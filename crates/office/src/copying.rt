@@ -23,7 +23,7 @@ pub(crate) fn copy_file<D: Disk, W: Write>(file: &mut D, writer: &mut W) -> Resu
     copy_parts(file, length, writer)
 }
 
-/// Copies the first bytes of a file of a store, so many, into a writer.
+/// Copies the first `length` bytes of a file of a store into a writer.
 fn copy_parts<D: Disk, W: Write>(file: &mut D, length: usize, writer: &mut W) -> Result<()>
     requires { IsTrue (D.Disk.is_usable file.old) }
     ensures copied { IsTrue (D.Disk.is_clean file.new) →
@@ -41,7 +41,7 @@ fn copy_parts<D: Disk, W: Write>(file: &mut D, length: usize, writer: &mut W) ->
     Ok(())
 }
 
-/// Copies so many bytes of a file of a store, from an offset on, into a writer.
+/// Copies `count` bytes of a file of a store, from offset `at` on, into a writer.
 fn copy_part<D: Disk, W: Write>(file: &mut D, at: usize, count: usize, writer: &mut W) -> Result<()>
     requires usable { IsTrue (D.Disk.is_usable file.old) }
     requires some { 0 < count }

@@ -4,6 +4,7 @@
 //! standard input to tables in memory. Its texts and exit statuses are tested; what its commands are made of is proved.
 #![tactic(auto)]
 
+mod archive_paths;
 mod causes;
 mod closing;
 mod command;

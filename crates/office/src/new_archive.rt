@@ -1,8 +1,13 @@
+ghost use Rattle.std.specs.{Prelude.{◌≡◌, ◌++◌, ℕ, List, codes, false, true, MatchOption}, IoError.error_kind};
+ghost use Rattle.office.specs.Copying.{fault_of};
+ghost use Rattle.office_closing.specs.Sound.{is_file_name};
+
+use crate::archive_paths::{draft_path, free_path, is_taken};
 use crate::copying::copy_file;
 use crate::long_work::Watched;
 use office_archive_files::{FileArchives, InUnknownFiles};
 use office_archives::{ArchivedDesk, Archives};
-use office_closing::{MOST_ARCHIVES, Register, is_file_name};
+use office_closing::{Register, is_file_name};
 use office_commands::{
     FileOffice, Left, OpenFault, beside_path, leave_office, leave_whole, open_found, open_office,
     place_of, read_history, register_path,
@@ -39,6 +44,8 @@ impl From<AllocError> for CopyFault {
 }
 
 impl From<io::Error> for CopyFault {
+    ghost from_gives = { λ error made. made ≡ fault_of (error_kind error) };
+
     fn from(error: io::Error) -> CopyFault {
         match error.kind() {
             ErrorKind::OutOfMemory => CopyFault::Memory,
@@ -130,11 +137,21 @@ fn noted_archive(rt: &HostRuntime, store: &str) -> Result<Option<String>, CopyFa
         Err(error) if error.kind() == ErrorKind::OutOfMemory => return Err(CopyFault::Memory),
         Err(_) => return Ok(None),
     };
-    match text.as_str().strip_suffix("\n") {
-        Some(name) if is_file_name(name.as_bytes()) => {
-            Ok(Some(beside_path(rt.alloc(), store, name)?))
-        }
-        _ => Ok(None),
+    match noted_name(text.as_str()) {
+        Some(name) => Ok(Some(beside_path(rt.alloc(), store, name)?)),
+        None => Ok(None),
+    }
+}
+
+/// The name in a note: that of a file, and a line feed.
+fn noted_name(note: &str) -> Option<&str>
+    ensures { MatchOption result
+        ((name : List ℕ) → note.now ≡ name ++ codes "\n" → is_file_name name ≡ false)
+        (λ name. (note.now ≡ name.now ++ codes "\n") × (is_file_name name.now ≡ true)) }
+{
+    match note.strip_suffix("\n") {
+        Some(name) if is_file_name(name.as_bytes()) => Some(name),
+        _ => None,
     }
 }
 
@@ -295,90 +312,7 @@ fn make_like(rt: &HostRuntime, path: &str, other: &str) -> Result<File, CopyFaul
     Ok(file)
 }
 
-// ---- paths
-
-/// The path under which a file is written before it gets its own.
-fn draft_path(alloc: Global, path: &str) -> Result<String, AllocError> {
-    format!(in alloc; "{path}-begun")
-}
-
-/// The path of the archive of this number of a store: for `office.db` that of `office-0001.db`, and so on.
-fn numbered_path(alloc: Global, store: &str, number: usize) -> Result<String, AllocError> {
-    let name = place_of(store).name;
-    let stem = name.strip_suffix(".db").unwrap_or(name);
-    let name = format!(in alloc; "{stem}-{number:04}.db")?;
-    beside_path(alloc, store, name.as_str())
-}
-
-/// The first path that is free for an archive: the store's register, if there is one, does not name it, and nothing is there.
-fn free_path(
-    rt: &HostRuntime,
-    store: &str,
-    register: Option<&Register>,
-) -> Result<String, CopyFault> {
-    for number in 1..=MOST_ARCHIVES {
-        let path = numbered_path(rt.alloc(), store, number)?;
-        if !names(register, path.as_str()) && is_free(rt, path.as_str(), register)? {
-            return Ok(path);
-        }
-    }
-    Err(CopyFault::Names)
-}
-
-/// Whether a register names the archive at a path.
-pub(crate) fn names(register: Option<&Register>, archive: &str) -> bool {
-    let name = place_of(archive).name;
-    match register {
-        Some(register) => register
-            .archives
-            .iter()
-            .any(|archive| archive.file.as_str() == name),
-        None => false,
-    }
-}
-
-/// Whether an archive with its files can be made at a path: none of them is there, or only the copy of the store's register that a
-/// closing made before it was stopped.
-fn is_free(rt: &HostRuntime, path: &str, register: Option<&Register>) -> Result<bool, CopyFault> {
-    if is_taken_with_log(rt, path)? {
-        return Ok(false);
-    }
-    let own = register_path(rt.alloc(), path)?;
-    if is_taken(rt, own.as_str())? {
-        return is_copied(rt, path, register);
-    }
-    Ok(!is_taken_with_log(rt, own.as_str())?)
-}
-
-/// Whether the register beside a path tells the same as the store's.
-fn is_copied(rt: &HostRuntime, path: &str, register: Option<&Register>) -> Result<bool, CopyFault> {
-    let Some(register) = register else {
-        return Ok(false);
-    };
-    match read_history(rt, path) {
-        Ok(Some(copy)) => Ok(copy.closed_for.is_none() && copy.tells_same(register)),
-        Err(TableFault::Memory) => Err(CopyFault::Memory),
-        _ => Ok(false),
-    }
-}
-
-/// Whether anything is at a path, or at that of its log.
-fn is_taken_with_log(rt: &HostRuntime, path: &str) -> Result<bool, CopyFault> {
-    let log = format!(in rt.alloc(); "{path}-wal")?;
-    Ok(is_taken(rt, path)? || is_taken(rt, log.as_str())?)
-}
-
-/// Whether anything is at a path, or that can't be found out.
-fn is_taken(rt: &HostRuntime, path: &str) -> Result<bool, CopyFault> {
-    match fs::symlink_metadata(rt, path) {
-        Ok(_) => Ok(true),
-        Err(error) => match error.kind() {
-            ErrorKind::NotFound => Ok(false),
-            ErrorKind::OutOfMemory => Err(CopyFault::Memory),
-            _ => Ok(true),
-        },
-    }
-}
+// ---- files
 
 /// Removes the drafts of an archive and of its register, if they are there.
 fn remove_drafts(rt: &HostRuntime, archive: &str) -> Result<(), CopyFault> {

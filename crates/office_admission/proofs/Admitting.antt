@@ -13,8 +13,6 @@ use Rattle.office_admission.specs.Admission.{admission, by_header, by_recipient,
 use Rattle.office_admission.specs.Refusals.{error_of, refusal_of, refusal_to, plain_refusal, rejection, RefusedSurely}
 use Rattle.office_replies.specs.declared.deliver.Response.TheVariants as response
 
--- ==== Admitting: What the head of a text, and its body, tell of its admission.
-
 pub syntax_refused : (P : Parties) (text : List ℕ) (fault : SyntaxFault) → fault_of text ≡ Some fault → admission P text ≡ Err (Syntax fault)
 syntax_refused P text fault e = ap (by_header P (header_of (segments_in text))) e
 

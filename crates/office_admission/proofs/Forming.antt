@@ -21,8 +21,6 @@ use Rattle.yard_core.specs.{Plan.IsPlan, YardMap.YardMap}
 use Rattle.edi_syntax.specs.declared.interchange.SyntaxFault.TheVariants as syntax
 use Rattle.std.specs.FinMap as finite_map
 
--- ==== Forming: What an interchange leaves is well formed.
-
 -- ---- the header
 
 abbrev IsControl : ℕ → Type 0

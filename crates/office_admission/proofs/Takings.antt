@@ -1,6 +1,6 @@
 -- What is taken, where it is known what partner it is of and that it is an interchange.
 use Rattle.std.specs.{Result.{MatchResult, result_err}, Prelude.{◌&&◌, ◌||◌, slice_get}, List.find, Option.{option_and_then, option_map_or}, Str.bytes_eq}
-use Rattle.std.proofs.Common.{◌≡◌, ℕ, suc, ◌==◌, true, false, cond, List, [], ◌∷◌, length, Some, Result, Ok, Err, OnOk, IfOk, eq-eqb, refl, sym, ap, subst, ◌∙◌, ◌≤◌, ◌++◌, Bool, Option, None, map, All, arith, not, codes, is_none, zero, ◌<◌}
+use Rattle.std.proofs.Common.{◌≡◌, ℕ, suc, ◌==◌, true, false, cond, List, [], ◌∷◌, length, Some, Result, Ok, Err, OnOk, IfOk, eq-eqb, refl, sym, ap, subst, ◌∙◌, ◌≤◌, ◌++◌, Bool, Option, None, All, arith, not, codes, is_none, zero, ◌<◌}
 use Rattle.std.proofs.{lemmas.List.{append-nil, length-map}, lemmas.Option.none-some, lemmas.List.Elements.{All-map, All-weaker}, lemmas.Bool.and_parts}
 use Rattle.std.proofs.lemmas.Slice.Eq.{bytes_eq-Decides}
 use Rattle.edi_syntax.specs.{Moments.CivilMoment, Text.Content, Interchange.segments_in, Envelope.{header_of, messages_of}, Header.preparation}
@@ -11,7 +11,7 @@ use Rattle.edi_messages.{specs.{declared.codes.PartnerKind.PartnerKind, Forms.{I
 use Rattle.edi_messages.specs.Orders.{EntryContent, OrderContent, gate_in, gate_out, move, list_discharge, list_load, discharge, load}
 use Rattle.edi_messages.specs.declared.message.MessageFault.TheVariants.{Function, OtherType, NoBgm, Code, NoTransport, NoEquipment, EquipmentCount, TooMany}
 use Rattle.edi_messages.specs.Faults.{beginning, message_function, is_original, is_replacement, is_list, names_list, replaces_list, order_kind_of, purpose_of, applies, fault_of}
-use Rattle.edi_messages.proofs.OrderForms.{IsCivil, orders_are_formed}
+use Rattle.edi_messages.proofs.{OrderForms.{IsCivil, orders_are_formed}, WalkLemmas.heading_faultless}
 use Rattle.partner_core.specs.Numbered.{with_number}
 use Rattle.terminal_core.specs.{State.{TerminalState, IsWhole}, declared.change.Source.Source, Rows.ChangeContent, Versions.newest, declared.lines.Side.Side}
 use Rattle.terminal_core.specs.{OneByOne.GoOneByOne, Changes.{TerminalRows, rows_of, rows_with_all, AreApplicable}, declared.change.Version.Version}
@@ -25,8 +25,6 @@ use Rattle.office_admission.specs.Taking.{MachineState, machine_of, rejection_by
 use Rattle.office_admission.specs.Readings.{reading_by, unweighed_entry, unweighed_order, unweighed_line, unweighed_reading, is_list_replaced, applies_first, FirstVersionRejectsByItsFaults}
 use Rattle.office_admission.proofs.{Contents.{same_parties, same_kinds}, Adding.{admitted_still, admitted_told}}
 use Rattle.edi_messages.specs.declared.message.MessageFault.TheVariants as message
-
--- ==== Takings: What is taken, where it is known what partner it is of and that it is an interchange.
 
 -- ---- a machine and its set-up
 
@@ -299,7 +297,7 @@ read_fault : (codes : Codes) (opened : CivilMoment) (message : Message) (fault :
 read_fault codes opened message (Some fault) e =
     ap (λ f. result_err (judged_message f (option_map_or (λ purpose. Ok (message_of purpose opened message)) (purpose_of codes message) (Err Code)))) e
 read_fault codes opened message None e =
-    let found = purpose_there codes message e in
+    let found = purpose_there codes message (heading_faultless codes message e) in
     let is : reading codes opened message ≡ Ok (message_of found.0 opened message) = rw (e, found.1) refl in
     ap result_err is
 

@@ -6,3 +6,4 @@ pub mod GoingOnLemmas
 pub mod StopLemmas
 pub mod OpenedLemmas
 pub mod FileLemmas
+pub mod PassingLemmas

@@ -1,5 +1,5 @@
 -- Which archive is that of a place of a store.
-use Rattle.std.specs.{Prelude.{◌≡◌, ℕ, ◌+◌, ◌-◌, ◌<◌, ◌==◌, nat_lt, List, filter, length, Some, slice_get, take, IsTrue}, List.AllByRecursion, Option.unwrap_or}
+use Rattle.std.specs.{Prelude.{◌≡◌, ℕ, ◌+◌, ◌-◌, ◌==◌, nat_lt, List, filter, length, Some, slice_get, true, IsTrue}, List.list_all, Option.unwrap_or}
 use Rattle.sqlite.specs.{Held.{Held, state}, Recovery.Image, State.HasCleanDisk, declared.error.Error.Error}
 use Rattle.sqlite_trees.specs.declared.store.Store.{Ghosts}
 use Rattle.terminal_core.specs.State.{TerminalState, last_number}
@@ -7,7 +7,7 @@ use Rattle.office_rows.specs.{Rows.Rows, Shown.AreNexts, Stored.HasRows, Tables.
 use Rattle.office_loading.specs.{Closed.ClosedContent, Tables.LoadsOwn}
 use Rattle.office_admission.specs.Setups.{SetupContent}
 use Rattle.office_commands.specs.{Opening.Shows, Paths.IsNameOf}
-use Rattle.office_closing.specs.{Lists.SettledListContent, Register.{ArchiveContent, RegisterContent, closed_by}, Sound.is_sound}
+use Rattle.office_closing.specs.{Copies.AreFirst, Lists.SettledListContent, Register.{ArchiveContent, RegisterContent, closed_by, is_passed}, Sound.is_sound}
 use Rattle.office_closing.specs.declared.register.Segment.{Segment}
 use Rattle.office_tables.specs.{declared.table_fault.TableFault.TableFault, declared.table_fault.TableFault.TheVariants.{Memory, Store}}
 
@@ -16,22 +16,18 @@ use Rattle.office_tables.specs.{declared.table_fault.TableFault.TableFault, decl
 pub record IsRegisterAt (store : List ℕ) (place : ℕ) (names own : RegisterContent) : Type 0 where
   pub marked : own.closed_for ≡ Some store
   pub before : length own.archives + 1 ≡ place
-  pub archives : own.archives ≡ take (length own.archives) names.archives
+  pub archives : AreFirst own.archives names.archives
   pub segments : own.segments ≡ filter (λ (segment : Segment). nat_lt segment.archive place) names.segments
   pub lists : own.lists ≡ filter (λ (list : SettledListContent). nat_lt list.archive place) names.lists
 
 -- it is of the store's terminal, and its accounts are the first of the store's
 pub record IsOfOffice (archive store : SetupContent) : Type 0 where
   pub terminal : archive.terminal ≡ store.terminal
-  pub accounts : archive.partners ≡ take (length archive.partners) store.partners
-
--- the last number of this segment is below the next one of its partner
-abbrev pub IsBelowNext : List ℕ → Segment → Type 0
-IsBelowNext nexts segment = (next : ℕ) × (slice_get nexts (segment.partner - 1) ≡ Some next) × (segment.last < next)
+  pub accounts : AreFirst archive.partners store.partners
 
 -- it keeps all numbers of these segments, and its newest visit has that number
 pub record Reaches (segments : List Segment) (visits : ℕ) (nexts : List ℕ) (terminal : TerminalState) : Type 0 where
-  pub below : AllByRecursion (IsBelowNext nexts) segments
+  pub below : list_all (is_passed nexts) segments ≡ true
   pub newest : last_number terminal.visits ≡ visits
 
 -- ---- what is looked at before an archive is read

@@ -1,12 +1,14 @@
 -- What the command that puts history away does to the four files that it opens.
-use Rattle.std.specs.Prelude.{◌≡◌, ◌≢◌, ◌⊎◌, ⊤, ℕ, Bool, true, false, IsTrue, ◌==◌, List, length, Result, IfOk}
+use Rattle.std.specs.Prelude.{◌≡◌, ◌≢◌, ◌⊎◌, ⊤, ℕ, Bool, true, false, IsTrue, ◌==◌, List, length, Result, Ok, Err, IfOk}
 use Rattle.sqlite_trees.specs.declared.store.Store.{Ghosts}
 use Rattle.sqlite.specs.{Held.{Held, state}, Recovery.Image, State.HasCleanDisk}
 use Rattle.office_rows.specs.Tables.{no_schema}
 use Rattle.office_tables.specs.{Opened.AreMissing, Faults.IsOfStoreOr}
+use Rattle.office_tables.specs.declared.table_fault.TableFault.{TableFault}
 use Rattle.office_commands.specs.{Opening.{HoldsNoTables, Shows}, Paths.IsNameOf}
+use Rattle.office_archive_files.specs.declared.closing.CloseCommandFault.{CloseCommandFault, TheVariants.{Folder, Close}}
 use Rattle.office_closing.specs.{Changes.empty_register, Tables.register_tables, Transactions.{IsSettled, Makes}, Closes.{ArePutAway, Closes}, Copies.FileNames}
-use Rattle.office_closing.specs.{Files.{AreClean, AreIdle, files}, declared.faults.CloseFault.CloseFault, declared.faults.File.File, Register.RegisterContent}
+use Rattle.office_closing.specs.{Files.{AreClean, AreIdle, files}, declared.faults.CloseFault.CloseFault, declared.faults.File.{File, TheVariants.Archive}, Register.RegisterContent}
 use Rattle.office_closing.specs.{declared.faults.Refusal.TheVariants.Register, declared.planning.PutAway.PutAway, Sound.IsSound, Stored.HasRegister}
 use Rattle.office_closing.specs.declared.faults.CloseFault.TheVariants as fault
 
@@ -23,16 +25,18 @@ module _ {S : Type 0} (g : Ghosts S) where
     pub some : (state g found).committed.schema ≢ no_schema
     pub same : (state g conn).committed ≡ (state g found).committed
 
-  -- the tables of an empty register were made in what was committed of a connection, which had none of them
-  pub record MakesRegister (found conn : Held S) : Type 0 where
+  -- the tables of an empty register were made in what was committed of a connection, which had none of them, and it is told that
+  -- the register names no archive
+  pub record MakesRegister (names_none : Bool) (found conn : Held S) : Type 0 where
     pub before : Held S
     pub same : (state g before).committed ≡ (state g found).committed
     pub missing : AreMissing register_tables (state g found).committed.schema
     pub makes : Makes empty_register (state g before) (state g conn)
+    pub tells : IsTrue names_none
 
   -- one or the other, the other only if it may
-  abbrev pub MayMakeRegister : (may_make : Bool) → (found conn : Held S) → Type 0
-  MayMakeRegister may_make found conn = KeepsRegister found conn ⊎ (IsTrue may_make × MakesRegister found conn)
+  abbrev pub MayMakeRegister : (may_make names_none : Bool) → (found conn : Held S) → Type 0
+  MayMakeRegister may_make names_none found conn = KeepsRegister found conn ⊎ (IsTrue may_make × MakesRegister names_none found conn)
 
   -- of whatever sound register is committed, it is told whether it names no archive
   abbrev pub TellsNone : (conn : Held S) → (names_none : Bool) → Type 0
@@ -47,9 +51,16 @@ module _ {S : Type 0} (g : Ghosts S) where
     pub shows : Shows g image found
     pub empty : HasCleanDisk (state g found) → HoldsNoTables image → (state g found).committed.schema ≡ no_schema
     pub clean : HasCleanDisk (state g conn) → HasCleanDisk (state g found)
-    pub made : HasCleanDisk (state g conn) → MayMakeRegister may_make found conn
+    pub made : HasCleanDisk (state g conn) → MayMakeRegister may_make names_none found conn
     pub tells : HasCleanDisk (state g conn) → TellsNone found names_none
     pub settled : HasCleanDisk (state g conn) → IsSettled (state g conn)
+
+-- whether a closing goes on, by whether the archive lies beside its store: in another folder it is refused, and a fault is of the
+-- archive
+abbrev pub checked_folder : Result Bool TableFault → Result (Unit {0}) CloseCommandFault
+checked_folder (Ok true) = Ok tt
+checked_folder (Ok false) = Err Folder
+checked_folder (Err why) = Err (Close (fault.File (record { file = Archive; fault = why })))
 
 -- why one of the files is not opened: memory was refused, the file failed or is damaged; or the archive lacks its register,
 -- which may not be made

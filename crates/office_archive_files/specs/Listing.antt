@@ -5,7 +5,7 @@ use Rattle.sqlite.specs.{Held.{Held, state}, Recovery.Image, State.HasCleanDisk}
 use Rattle.sqlite_trees.specs.declared.store.Store.{Ghosts}
 use Rattle.office_closing.specs.{Register.{ArchiveContent, RegisterContent, closed_by}, Sound.is_sound}
 use Rattle.office_admission.specs.Setups.{SetupContent}
-use Rattle.office_commands.specs.Beside.{IsSetUpHeld}
+use Rattle.office_commands.specs.Beside.{IsOfDayHeld, IsSetUpHeld}
 use Rattle.office_archive_files.specs.{Archives.PassesAt, declared.shelf.Found.Found}
 use Rattle.office_archive_files.specs.declared.shelf.Found.TheVariants as found
 
@@ -40,7 +40,8 @@ listing_text count lines = cond (count == 0) (codes "none\n") lines
 abbrev pub listing_status : (count : ℕ) → ℕ
 listing_status count = cond (count == 0) 1 0
 
--- The lines of the archives that a sound register names are printed: of the store at a path, whose set-up is what its files held.
+-- The lines of the archives that a sound register names are printed: of the store at a path, whose set-up is what its files held,
+-- and which is of no day before that register.
 pub record IsListed {S T : Type 0} (g : Ghosts S) (h : Ghosts T) (held image : Image) (path : List ℕ)
     (prints : (text : List ℕ) (wanted : ℕ) → Type 0) : Type 0 where
   pub store : SetupContent
@@ -48,6 +49,7 @@ pub record IsListed {S T : Type 0} (g : Ghosts S) (h : Ghosts T) (held image : I
   pub sound : IsTrue (is_sound names)
   pub looked : Held S
   pub store_is : HasCleanDisk (state g looked) → IsSetUpHeld held (closed_by names) store
+  pub of_day : HasCleanDisk (state g looked) → IsOfDayHeld held names
   pub lines : List ℕ
   pub follow : FollowIn (IsFoundAt h image path store names) names.archives [] lines
   pub printed : prints (listing_text (length names.archives) lines) (listing_status (length names.archives))

@@ -38,7 +38,7 @@ pub fn archives_over<S: Start, B: ArchiveStart, W: Write>(
     Ok(print_listing(writer, count, lines.as_str()))
 }
 
-/// Prints the lines of so many archives, or `none`, and answers the exit status.
+/// Prints the lines of `count` archives, or `none`, and answers the exit status.
 fn print_listing<W: Write>(writer: &mut Port<W>, count: usize, lines: &str) -> u8
     ensures { Prints writer.old.failed writer.new.failed writer.new.flushed (W.contents writer.old.inner)
         (W.contents writer.new.inner) (listing_text count lines.now) (listing_status count) result }

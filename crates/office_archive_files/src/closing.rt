@@ -1,5 +1,5 @@
 ghost use Rattle.std.specs.Prelude.{◌≡◌, ⊤, false, true, IfErr, IfNone, IfOk, IfSome, IsTrue, OnErr};
-ghost use Rattle.office_archive_files.specs.Closing.{AreOpened, ClosesOver, Images, IsOfOpening, MayMakeRegister, ShowsRegister, TellsNone};
+ghost use Rattle.office_archive_files.specs.Closing.{AreOpened, ClosesOver, Images, IsOfOpening, MayMakeRegister, ShowsRegister, TellsNone, checked_folder};
 ghost use Rattle.office_commands.specs.Opening.{HoldsNoTables, Shows};
 ghost use Rattle.office_closing.specs.{Files.{AreIdle, files}, Transactions.IsSettled};
 ghost use Rattle.office_tables.specs.Faults.{IsOfStore, IsOfStoreOr};
@@ -158,7 +158,7 @@ pub fn close_over<
         }) store.now archive.now
         ended.0.store ended.0.register ended.0.archive ended.0.archive_register ended.1) }
 {
-    check_folder(rt, store, archive)?;
+    check_folder(is_beside(rt, store, archive))?;
     let files = open_files(rt, store, archive, of)?;
     Ok(close_files(rt.alloc(), store, archive, files))
 }
@@ -258,9 +258,11 @@ pub fn close_alike<S: Alter + Drop, F: ClosingFile<S> + Drop>(
     close_over(rt, store, archive, of)
 }
 
-/// Refuses an archive that lies in another folder than its store.
-fn check_folder(rt: &HostRuntime, store: &str, archive: &str) -> Result<(), CloseCommandFault> {
-    match is_beside(rt, store, archive) {
+/// Refuses an archive that lies in another folder than its store, or of which that could not be found out.
+fn check_folder(is_beside: Result<bool, TableFault>) -> Result<(), CloseCommandFault>
+    ensures { result ≡ checked_folder is_beside }
+{
+    match is_beside {
         Ok(true) => Ok(()),
         Ok(false) => Err(CloseCommandFault::Folder),
         Err(fault) => {
@@ -354,7 +356,7 @@ fn make_tables<S: Alter>(
     ensures idle { (state S.Store conn.new).in_transaction ≡ false }
     ensures clean { HasCleanDisk (state S.Store conn.new) → HasCleanDisk (state S.Store conn.old) }
     ensures made { HasCleanDisk (state S.Store conn.new) → IfOk result (λ found. IfSome found (λ names_none.
-        MayMakeRegister S.Store may_make conn.old conn.new)) }
+        MayMakeRegister S.Store may_make names_none conn.old conn.new)) }
     ensures settled { HasCleanDisk (state S.Store conn.new) → IfOk result (λ found. IfSome found (λ names_none.
         IsSettled (state S.Store conn.new))) }
     ensures tells { HasCleanDisk (state S.Store conn.new) → IfOk result (λ found.

@@ -1,11 +1,12 @@
-ghost use Rattle.std.specs.Prelude.{◌≡◌, ℕ, IfErr, IfOk, List, string_bytes};
-ghost use Rattle.office_archive_files.specs.{Archives.{IsNamedAt, PassesAt, SaysNoArchive, going_on, segments_at}, declared.shelf.Found.Found};
+ghost use Rattle.std.specs.Prelude.{◌≡◌, ◌≢◌, ◌↔◌, ℕ, IfErr, IfOk, List, string_bytes};
+ghost use Rattle.office_archive_files.specs.{Archives.{IsNamedAt, PassesAt, SaysNoArchive, going_on, segments_at}, declared.shelf.Found.{Found, TheVariants.Other}};
 ghost use Rattle.office_archive_files.specs.Shelves.{HoldArchiveAt};
 ghost use Rattle.office_archives.specs.Shelves.{IsOpenAt};
 ghost use Rattle.office_loading.specs.Closed.{closed_content};
 ghost use Rattle.office_parts.specs.Archives.{Archive};
 ghost use Rattle.office_closing.specs.Register.{RegisterContent, register_content};
 ghost use Rattle.office_admission.specs.Setups.{setup_content};
+ghost use Rattle.office_tables.specs.declared.table_fault.TableFault.TheVariants.{Memory};
 ghost use Rattle.sqlite.specs.{Files.over_files, WalFiles.image_at};
 
 use crate::is_archive::{archive_at, is_register_of, is_same_office, reaches};
@@ -33,7 +34,7 @@ pub enum Found {
     Other,
 }
 
-/// What tells which archives of a store are there.
+/// What knows which archives of a store are there.
 pub trait Finds {
     /// Of the store with this register that is found of the archive at a place.
     ghost is_found: { Self → RegisterContent → ℕ → Found → Type 0 };
@@ -111,8 +112,7 @@ impl<'a, B: ArchiveStart> FileShelf<'a, B> {
     {
         match self.opened(names, place) {
             Ok(archive) => Ok(archive),
-            Err(TableFault::Memory) => Err(TableFault::Memory),
-            Err(_) => Err(TableFault::Store(NO_ARCHIVE)),
+            Err(fault) => Err(as_no_archive(fault)),
         }
     }
 
@@ -166,6 +166,30 @@ impl<'a, B: ArchiveStart> FileShelf<'a, B> {
     }
 }
 
+/// The fault that is told of an archive which was not opened for this one: that it is not there, or not its own. Memory says
+/// nothing of it.
+fn as_no_archive(fault: TableFault) -> TableFault
+    ensures says { SaysNoArchive NO_ARCHIVE result }
+    ensures memory { (result ≡ Memory) ↔ (fault ≡ Memory) }
+{
+    match fault {
+        TableFault::Memory => TableFault::Memory,
+        _ => TableFault::Store(NO_ARCHIVE),
+    }
+}
+
+/// What is found under the name of an archive that was not opened for this fault: another file, but that memory was refused says
+/// nothing of it.
+fn as_other(fault: &TableFault) -> Result<Found, AllocError>
+    ensures other { IfOk result (λ found. (found ≡ Other) × (fault.now ≢ Memory)) }
+    ensures memory { IfErr result (λ _. fault.now ≡ Memory) }
+{
+    match fault {
+        TableFault::Memory => Err(AllocError),
+        _ => Ok(Found::Other),
+    }
+}
+
 /// The name of the file of the store that goes on: of this one, or of the one for which its register is marked.
 fn going_on<'a>(register: &'a Register, file: &'a str) -> &'a str
     ensures { result.now ≡ going_on (register_content register.now) file.now }
@@ -204,11 +228,12 @@ impl<B: ArchiveStart> Finds for FileShelf<'_, B> {
         if let Ok(None) = found_at(self.rt, path.as_str()) {
             return Ok(Found::Nothing);
         }
-        match self.opened(names, place) {
-            Ok(_) => Ok(Found::Archive),
-            Err(TableFault::Memory) => Err(AllocError),
-            Err(_) => Ok(Found::Other),
-        }
+        let fault = match self.opened(names, place) {
+            Ok(_) => return Ok(Found::Archive),
+            Err(fault) => fault,
+        };
+        let found = as_other(&fault)?;
+        Ok(found)
     }
 }
 

@@ -1,6 +1,6 @@
 -- An account more, to a desk over a store's own rows and the archives beside it.
 use Rattle.std.specs.{Prelude.{get_or, IsSorted}, List.range_with_len, List.Sorted.IsPermutation, Ordering.nat_cmp, declared.alloc.Global.Global}
-use Rattle.std.proofs.Common.{◌≡◌, ℕ, ◌+◌, ◌<◌, inl, inr, List, [], ◌∷◌, ◌++◌, length, map, Option, None, Some, String, refl, sym, ap, ap₂, subst, ◌∙◌, arith, is_lt, Greater}
+use Rattle.std.proofs.Common.{◌≡◌, ℕ, ◌+◌, ◌<◌, inl, inr, List, [], ◌∷◌, ◌++◌, length, map, Option, None, Some, String, sym, ap, ap₂, subst, ◌∙◌, arith, is_lt, Greater}
 use Rattle.std.proofs.{lemmas.Bool.Decides.nat_tests, lemmas.List.FromFn.{length-range_with_len, get_or-range_with_len}, lemmas.List.Sorted.IsPermutation-refl}
 use Rattle.sqlite.specs.{Effect.Database, Held.state, Tree.Trees}
 use Rattle.sqlite_trees.specs.declared.store.Store.{Ghosts}

@@ -1,5 +1,7 @@
 -- What desk and archives tell, from whatever events after which they stand.
-use Rattle.std.specs.{Prelude.{Contains, IsPermutation, filter, ◌&&◌, is_some, nat_le, String, string_bytes}, Ordering.eq_by_cmp, declared.alloc.Global.Global}
+use Rattle.std.specs.Prelude.{Contains, IsPermutation, filter, ◌&&◌, is_some, nat_le, String}
+use Rattle.std.specs.Ordering.{eq_by_cmp}
+use Rattle.std.specs.declared.alloc.Global.{Global}
 use Rattle.std.proofs.Common.{◌≡◌, ℕ, List, [], ◌∷◌, ◌++◌, Bool, true, false, cond, Option, Some, map, refl, sym, ap, subst, ◌∙◌, ◌<◌, ◌≤◌, length, None, Result, Ok, Err, arith}
 use Rattle.std.proofs.{lemmas.List.Elements.Contains-append_right, lemmas.List.Sorted.IsPermutation-sym, lemmas.Bool.{leb-false, leb-true, and_parts}}
 use Rattle.box6346.specs.declared.box_number.BoxNumber.{BoxNumber}
@@ -22,7 +24,10 @@ use Rattle.office_archives.proofs.Filled.{Entry, first_in, listed_alike, filled_
 use Rattle.office_archives.proofs.Told.{container_told, list_told, nobody_told, number_told, others_told}
 use Rattle.sqlite_trees.specs.declared.store.Store.{Ghosts}
 use Rattle.office_loading.specs.Closed.{last_closed}
-use Rattle.office_desk.specs.{Calls.OnlyLooks, Desks.IsSound, Offices.DeskHolds, Reports.{DeskTells, TellsNext, TellsOf, partner_called}}
+use Rattle.office_desk.specs.Calls.{OnlyLooks}
+use Rattle.office_desk.specs.Desks.{IsSound}
+use Rattle.office_desk.specs.Offices.{DeskHolds}
+use Rattle.office_desk.specs.Reports.{DeskTells, TellsOf, partner_called}
 use Rattle.office_desk.specs.declared.desk.Desk.{Desk}
 use Rattle.std.specs.FinMap as finite_map
 use Rattle.office_reports.specs.declared.query.Query.TheVariants as query

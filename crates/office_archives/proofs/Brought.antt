@@ -24,8 +24,6 @@ use Rattle.office_archives.proofs.{Filled.{no_list, some_list, of_whole}, Togeth
 use Rattle.box6346.specs.declared.box_number.BoxNumber.{BoxNumber}
 use Rattle.office_reports.specs.declared.query.Query.TheVariants as query
 
--- ==== Brought: Lists that are brought back into a store.
-
 -- what was put away as these lines is a list of them
 pub kept_so : (archives : List Archive) (list : ListName) (kept back : List ListingContent) (lines : List ListingContent) → lines_away archives list ≡ Some kept → lines_away archives list ≡ Some back → IsPermutation lines kept → IsPermutation lines back
 kept_so archives list kept back lines e f same = let one : kept ≡ back = let both : Some kept ≡ Some back = sym e ∙ f in cc in subst (IsPermutation lines) one same

@@ -1,6 +1,6 @@
 -- What was written of a store and its archives, file by file, is the journal of all.
 use Rattle.std.{specs.{Prelude.{◌-◌, drop, IfSome}, Io.KnownBytes.Appends}, proofs.{lemmas.List.length-append, lemmas.List.Concat.flat_map-append}}
-use Rattle.std.proofs.Common.{◌≡◌, ℕ, zero, suc, ◌+◌, List, [], ◌∷◌, ◌++◌, length, Option, None, Some, Result, Ok, Err, IfOk, IsTrue, refl, sym, ap, subst, ◌∙◌, arith}
+use Rattle.std.proofs.Common.{◌≡◌, ℕ, zero, suc, ◌+◌, List, [], ◌∷◌, ◌++◌, length, Option, None, Some, Result, Ok, Err, IfOk, refl, sym, ap, subst, ◌∙◌, arith}
 use Rattle.sqlite.specs.{Held.{Held, state}, Effect.Database, State.{State, HasCleanDisk}}
 use Rattle.sqlite_trees.specs.declared.store.Store.{Ghosts}
 use Rattle.office_rows.specs.{Rows.{Interchange, Rows}, Stored.HasRows}

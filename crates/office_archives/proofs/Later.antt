@@ -23,8 +23,6 @@ use Rattle.office_reports.specs.Tickets.{is_source, is_opened_by, exit_moment_by
 use Rattle.office_parts.proofs.{Takings.visits_same, Splits.{Has, has_contained}}
 use Rattle.std.specs.FinMap as finite_map
 
--- ==== Later: What comes later opens and closes no visit of an interchange that was taken.
-
 -- ---- what becomes next is another interchange
 
 abbrev pub visits_told : Source → MachineState → List VisitContent

@@ -19,8 +19,6 @@ use Rattle.office_archives.specs.declared.passing.Passing.{Passing}
 use Rattle.sqlite_rules.proofs.ListLemmas.{has_last, has_front}
 use Rattle.sqlite_trees.specs.declared.store.Store as store
 
--- ==== PartQuery: The query of a file's texts: what it means, and what it finds.
-
 abbrev pub select_part : List ℕ
 select_part = codes "SELECT body, partner, number FROM interchange ORDER BY rowid"
 

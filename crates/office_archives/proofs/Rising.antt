@@ -1,9 +1,12 @@
 -- Lists that are put into a register: of each list the lines are those that were put there last.
 use Rattle.std.specs.{Prelude.{IsTrue, filter, ◌&&◌, ◌==◌, fold, nat_le, nat_lt}, Option.{option_and_then, option_or}, declared.alloc.Global.Global}
-use Rattle.std.specs.{List.{AllByRecursion, list_all}, Cmp.IsTotalOrder, Cmp.Lexicographic.{bytes_decides, slice_cmp}, Str.bytes_eq}
+use Rattle.std.specs.List.{AllByRecursion, list_all}
+use Rattle.std.specs.Cmp.Lexicographic.{bytes_decides, slice_cmp}
+use Rattle.std.specs.Str.{bytes_eq}
 use Rattle.std.{specs.Ordering.{is_lt, nat_cmp, ordering_reverse, ordering_then}, proofs.lemmas.Bool.{and_parts, eqb-true, leb-true}}
 use Rattle.std.proofs.Common.{◌≡◌, ℕ, ◌≤◌, List, true, Option, None, Some, is_some, option_map, string_bytes, String, refl, sym, ap, subst, ◌∙◌, [], ◌∷◌, ◌++◌, Bool, map, false, cond, arith, Ordering, Less, Equal, Greater, is_gt}
-use Rattle.std.proofs.{lemmas.Bool.Decides.nat_tests, lemmas.Cmp.{nat_cmp_total, nat_list_cmp_total, on_total, then_total, tied_itself, upto}}
+use Rattle.std.proofs.lemmas.Bool.Decides.{nat_tests}
+use Rattle.std.proofs.lemmas.Cmp.{nat_cmp_total, nat_list_cmp_total, tied_itself, upto}
 use Rattle.sqlite.specs.{Held.{Held, state}, State.HasCleanDisk}
 use Rattle.sqlite_trees.specs.declared.store.Store.{Ghosts}
 use Rattle.office_rows.specs.{Rows.Rows, Stored.HasRows}

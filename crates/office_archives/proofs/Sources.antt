@@ -24,8 +24,6 @@ use Rattle.office_archives.specs.{Visits.{departure_by, visit_by, visits_by, IsW
 use Rattle.office_archives.specs.Laws.{ClosingsGoOldestFirst, NothingWentAtFirst}
 use Rattle.office_parts.{specs.OwnTerminal.{own_visits, is_own}, proofs.Splits.{Has, contained_has, has_contained, has_filtered}}
 
--- ==== Sources: An interchange opens and closes visits in its own name: those of another stay as they are.
-
 -- ---- lists of visits
 
 module _ (mine : Source) where

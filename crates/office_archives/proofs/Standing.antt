@@ -37,8 +37,6 @@ use Rattle.office_reports.specs.{declared.query.Query.Query, Tickets.ticket_text
 use Rattle.office_replies.specs.declared.deliver.Response.TheVariants as response
 use Rattle.office_reports.specs.declared.query.Query.TheVariants as query
 
--- ==== Standing: A delivery under a number that is not closed, to a desk over a store's own rows.
-
 -- ---- the machine
 
 pub machine_is : (content : SetupContent) (es : List Event) → machine_with (content_after content es) (machine_after content es).terminal ≡ machine_after content es

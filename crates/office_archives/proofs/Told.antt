@@ -29,8 +29,6 @@ use Rattle.office_closing.specs.Sound.{are_in_order, are_rising, are_sound_archi
 use Rattle.office_reports.specs.declared.query.Query.TheVariants as query
 use Rattle.office_parts.specs.Archives as parts
 
--- ==== Told: What a store's rows and its archives tell, and what the rows after the events tell.
-
 -- ---- closed interchanges wait for nothing
 
 -- where a number is beyond what is closed, none that waits for it is closed

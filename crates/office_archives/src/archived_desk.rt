@@ -12,6 +12,7 @@ ghost use Rattle.office_history.specs.After.{content_after};
 ghost use Rattle.office_parts.specs.Archives.{Archive};
 ghost use Rattle.office_reports.specs.{Looking.{of_archive, report, texts_after}, declared.query.Query.Query, declared.query.Query.TheVariants.Calls};
 ghost use Rattle.office_replies.specs.Events.{Event};
+ghost use Rattle.office_tables.specs.declared.table_fault.TableFault.TheVariants.{Version};
 ghost use Rattle.sqlite.specs.{Held.state, State.HasCleanDisk};
 
 use crate::archives::{Archives, answer_closed, partner_called, tell_closed, with_archives};
@@ -291,6 +292,10 @@ impl<S: Alter + Drop, A: Archives + Drop> ArchivedDesk<S, A> {
         ensures looks { LooksTogether S.Store A.is_sound A.are self.old.desk self.old.archives (texts_after from)
             (result_map_both (option_map (λ lines. lines.items)) (λ refusal. refusal) result) self.new.desk
             self.new.archives }
+
+        // Beside archives the desk keeps why.
+        ensures put_away { (list : List Archive) → A.are list self.old.archives → (list ≡ [] → ⊥) →
+            self.new.desk.last_fault ≡ Some Version }
     {
         if self.archives.count() == 0 {
             return self.desk.texts(alloc, from);

@@ -1,4 +1,4 @@
-ghost use Rattle.std.specs.{Option.{option_and_then, option_map}, Prelude.{◌≡◌, ◌++◌, ◌∷◌, [], IfOk, is_some, string_bytes, nat_lt, filter, map, OnOk}};
+ghost use Rattle.std.specs.{Option.{option_and_then, option_map}, Prelude.{◌≡◌, IfOk, is_some, string_bytes, nat_lt, filter, map}};
 ghost use Rattle.office_archives.specs.{Keeping.{IsReportOf, IsTicketOf}, Shelves.register_before};
 ghost use Rattle.office_loading.specs.Closed.{closed_content};
 ghost use Rattle.office_tables.specs.{DeliveryReading.OnlyReads, Reading.Reads};
@@ -7,9 +7,9 @@ ghost use Rattle.office_closing.specs.{Register.{ArchiveContent, archive_content
 ghost use Rattle.office_rows.specs.{Rows.Rows, Stored.HasRows};
 ghost use Rattle.sqlite.specs.{Held.state, State.HasCleanDisk};
 
-use office_closing::{Archive, Register, Segment, is_sound};
+use office_closing::{Archive, Register, Segment, copied_archive, is_sound};
 use office_desk::tell;
-use office_loading::{Closed, load_own};
+use office_loading::{Closed, append, load_own};
 use office_reports::{Query, ticket};
 use office_tables::{Kept, TableFault, kept};
 use sqlite::{Alter, Connection};
@@ -112,7 +112,7 @@ fn archives_before(
     let mut earlier = Vec::new(alloc);
     for archive in archives {
         if archive.place < place {
-            append(&mut earlier, copy_of(alloc, archive)?)?;
+            append(&mut earlier, copied_archive(alloc, archive)?)?;
         }
     }
     Ok(earlier)
@@ -133,24 +133,4 @@ fn segments_before(
         }
     }
     Ok(earlier)
-}
-
-/// An equal archive.
-fn copy_of(alloc: Global, archive: &Archive) -> Result<Archive, AllocError>
-    ensures { IfOk result (λ copy. archive_content copy ≡ archive_content archive.now) }
-{
-    let file = String::from_str(alloc, archive.file.as_str())?;
-    Ok(Archive {
-        place: archive.place,
-        file,
-        visits: archive.visits,
-    })
-}
-
-/// One more at the end.
-fn append<T: Drop>(records: &mut Vec<T>, one: T) -> Result<(), AllocError>
-    ensures { OnOk result (records.new.items ≡ records.old.items ++ one ∷ []) }
-{
-    records.push(one)?;
-    Ok(())
 }

@@ -26,8 +26,6 @@ use Rattle.office_closing.specs.declared.faults.File.TheVariants as file
 use Rattle.office_closing.specs.declared.faults.CloseFault.TheVariants as fault
 use Rattle.office_closing.proofs.FileLemmas as lemma
 
--- ==== ClosesLemmas: Where a closing ends, and what it leaves there.
-
 -- ---- reading
 
 read_failed : {X Y E : Type 0} (old new : State) (fault : E) → IsRead {T = X} old new (Err fault) → IsRead {T = Y} old new (Err fault)

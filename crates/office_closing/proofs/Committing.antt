@@ -17,8 +17,6 @@ use Rattle.sqlite_value.specs.{Keys.ascending, declared.keys.Key.Key}
 use Rattle.office_closing.specs.declared.register_reading.Later.TheVariants as later
 use Rattle.office_closing.proofs.WriteTexts as texts
 
--- ==== Committing: What calls in a transaction come to, one after the other, and what the whole one commits.
-
 -- the trees of a database that has the register store it
 pub stores : (content : RegisterContent) (db : Database) → HasWhole content db → StoresRegister content db.trees
 stores content db has = record { schema = refl; listed = has.listed; archives = has.archives; segments = has.segments; closed_for = has.closed_for; lists = has.lists; taken = has.taken }

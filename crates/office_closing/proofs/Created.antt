@@ -1,6 +1,8 @@
 -- What each statement that makes a table makes of an empty database.
-use Rattle.std.{specs.List.list_all, proofs.{lemmas.List.Sorted.IsPermutation-refl, lemmas.Bool.{cases_Bool, and_parts}, lemmas.Bool.Decides.nat_tests}}
-use Rattle.std.proofs.Common.{◌≡◌, ℕ, List, [], ◌∷◌, None, Ok, false, ap, sym, subst, ◌∙◌, zero, suc, ◌+◌, ◌<◌, ◌==◌, ◌&&◌, ◌++◌, inl, inr, true, length, take, drop, set, get_or, max, nat_le, nat_lt, if◌then◌else◌, refl, ap₂, add-one, arith, Option, Some, fold}
+use Rattle.std.specs.List.{list_all}
+use Rattle.std.proofs.lemmas.Bool.{cases_Bool, and_parts}
+use Rattle.std.proofs.lemmas.Bool.Decides.{nat_tests}
+use Rattle.std.proofs.Common.{◌≡◌, ℕ, List, [], ◌∷◌, None, Ok, false, ap, sym, subst, ◌∙◌, zero, suc, ◌+◌, ◌<◌, ◌==◌, ◌&&◌, ◌++◌, inl, inr, true, length, take, drop, set, get_or, max, nat_le, nat_lt, if◌then◌else◌, refl, ap₂, add-one, arith, Some, fold}
 use Rattle.std.proofs.{lemmas.List.{take_more, get_or-set_same, get_or-set_other}, lemmas.List.Recursion.{and_at, max_push}, Math.Seq.drop-cons}
 use Rattle.std.proofs.lemmas.Slice.Eq.{bytes_eq-Decides}
 use Rattle.sqlite.specs.{Effect.{Database, IsDatabase}, Schema.Schema, Table.Table, Does.{Tally, lacks_sequence}, Command.TheVariants.{CreateTable, Nothing}}
@@ -17,8 +19,6 @@ use Rattle.office_admission.specs.Limits.{most_partners}
 use Rattle.edi_messages.specs.Purposes.{CallContent}
 use Rattle.terminal_core.specs.{State.side_code, declared.lines.Side.Side, declared.lines.Side.TheVariants.{Load, Discharge}}
 use Rattle.office_closing.proofs.WriteTexts as texts
-
--- ==== Created: What each statement that makes a table makes of an empty database.
 
 -- a sound database lists its tables
 pub listed_by : {schema : Schema} (db : Database) → db.schema ≡ schema → IsDatabase db → Lists (db.trees catalog_tree) schema

@@ -356,9 +356,6 @@ module _ (names : FileNames) (old mid : Files) (plan : Plan) (rests : AreResting
   pub register_committed : AreClean mid → (held : Held) → AreHeld held old → HasRegister held.register mid.register.committed
   register_committed = register_there
 
-  pub is_judged : AreClean mid → (held : Held) → AreHeld held old → IsJudged held names plan
-  is_judged = found
-
 -- ==== LeftLemmas: What is left of a store that is cleared of interchanges, then of visits, and then of lists.
 
 module _ (closing : Closing) where

@@ -4,18 +4,21 @@ use Rattle.std.specs.{Option.option_map, Ordering.{nat_cmp, is_eq, ordering_then
 use Rattle.std.specs.{declared.cmp.Ordering.TheVariants.{Less, Equal, Greater}, Cmp.Lexicographic.{slice_cmp, nat_list_cmp_total, texts_ties}}
 use Rattle.std.proofs.Common.{◌≡◌, ◌≤◌, inl, inr, List, [], ◌∷◌, Bool, true, cond, refl, sym, subst, arith, ℕ, ◌<◌, ◌++◌, length, get_or, map, false, Option, None, Some, ap, ◌∙◌}
 use Rattle.std.proofs.lemmas.List.Sorted.{Contains-permutation, IsPermutation-cons, IsPermutation-refl, IsPermutation-remove, IsPermutation-sym, IsPermutation-trans, sum_by-IsPermutation}
-use Rattle.std.proofs.{lemmas.Map.Made.Contains-tail, lemmas.List.append-nil, lemmas.List.Concat.flat_map-append}
-use Rattle.std.proofs.lemmas.List.Elements.{Contains-push, Contains-push_cases, Contains-append_left, filter-append}
+use Rattle.std.proofs.lemmas.Map.Made.{Contains-tail}
+use Rattle.std.proofs.lemmas.List.{append-nil}
+use Rattle.std.proofs.lemmas.List.Elements.{Contains-push, Contains-push_cases, Contains-append_left}
 use Rattle.sqlite_rules.{specs.Lists.Has, proofs.ProbeLemmas.{has_mapped, mapped_has}}
-use Rattle.sqlite_rules.proofs.ListLemmas.{has_either, has_left, has_right, all_from, all_has, contains_had, has_contained, has_filtered, has_kept, some_from, some_has}
+use Rattle.sqlite_rules.proofs.ListLemmas.{has_either, has_left, has_right, all_has, contains_had, has_contained, has_filtered, has_kept, some_from, some_has}
 use Rattle.terminal_core.specs.{State.{side_code, LineContent, LineKey}, declared.lines.LineState.TheVariants.Done, declared.lines.Listing.Listing}
 use Rattle.terminal_core.{specs.{declared.lines.Side.Side, declared.lines.Side.TheVariants.{Load, Discharge}, Listings.lines_of}, proofs.Whole.contained}
 use Rattle.terminal_core.proofs.{Indexed.{some_counted, found_is}, Lined.{same_key, tied_self, order, keys_total}}
 use Rattle.office_history.proofs.{Kept.{count_more, head_in, tail_in, found_only}, ByKeys.{sides, finds, key_of, line_tied, said}}
 use Rattle.edi_messages.specs.Purposes.{CallContent}
 use Rattle.office_rows.specs.{Rows.{ListingContent, listing_content}, ByKey.{AreListedOnce, line_entry, lines_by}, Effects.is_line}
-use Rattle.office_closing.specs.{Texts.{line_text, lines_text}, Lists.{SettledListContent, list_content}, declared.settled_lists.SettledList.SettledList}
-use Rattle.office_closing.specs.{Found.{AreAllDone, HasLineOf, IsFoundAs, TellsDone, list_on}, Going.{AreDone, AreNamedOnce, IsAmong, lines_on, name_of}}
+use Rattle.office_closing.specs.Lists.{SettledListContent, list_content}
+use Rattle.office_closing.specs.declared.settled_lists.SettledList.{SettledList}
+use Rattle.office_closing.specs.Found.{AreAllDone, HasLineOf, IsFoundAs, list_on}
+use Rattle.office_closing.specs.Going.{AreDone, AreNamedOnce, IsAmong, lines_on, name_of}
 use Rattle.office_parts.specs.{Bringing.is_of, Named.named_list_content, OwnLists.{ListName, list_name}, declared.naming.NamedList.NamedList}
 use Rattle.sqlite_trees.proofs.ListLemmas.{map-map}
 use Rattle.std.specs.FinMap as finite_map
@@ -138,32 +141,6 @@ named_tied named line = (
 -- ---- the text of a list
 
 module _ (list : ListName) where
-  on_more : (lines : List ListingContent) (line : ListingContent) (is : Bool) → is_of list line ≡ is → lines_on list (lines ++ line ∷ []) ≡ lines_on list lines ++ cond is (line ∷ []) []
-  on_more lines line is e = filter-append (is_of list) lines (line ∷ []) ∙ ap (λ b. lines_on list lines ++ cond b (line ∷ []) []) e
-
-  pub tells_none : TellsDone [] list []
-  tells_none = record { done = tt; is_text = refl }
-
-  pub tells_same : (lines : List ListingContent) (line : ListingContent) (text : List ℕ) → is_of list line ≡ false → TellsDone lines list text → TellsDone (lines ++ line ∷ []) list text
-  tells_same lines line text other tells =
-      let same : lines_on list (lines ++ line ∷ []) ≡ lines_on list lines = on_more lines line false other ∙ append-nil (lines_on list lines) in
-      record { done = subst AreAllDone (sym same) tells.done; is_text = tells.is_text ∙ ap lines_text (sym same) }
-
-  pub tells_more : (lines : List ListingContent) (line : ListingContent) (text more : List ℕ) → is_of list line ≡ true → line.state ≡ Done → more ≡ text ++ line_text line → TellsDone lines list text → TellsDone (lines ++ line ∷ []) list more
-  tells_more lines line text more own done is tells =
-      let all : lines_on list (lines ++ line ∷ []) ≡ lines_on list lines ++ line ∷ [] = on_more lines line true own in
-      record {
-        done = subst AreAllDone (sym all) (all_from (λ (l : ListingContent). l.state ≡ Done) _ (λ l has. elim (has_either (lines_on list lines) (line ∷ []) l has) [
-          | inl before ↦ all_has (λ (l : ListingContent). l.state ≡ Done) _ l tells.done before
-          | inr last ↦ elim last [ inl same ↦ ap (λ (l : ListingContent). l.state) same ∙ done | inr none ↦ absurd none ]
-        ]));
-        is_text =
-            is ∙ ap (λ t. t ++ line_text line) tells.is_text
-            ∙ ap (λ t. lines_text (lines_on list lines) ++ t) (sym (append-nil (line_text line)))
-            ∙ sym (flat_map-append line_text (lines_on list lines) (line ∷ []))
-            ∙ ap lines_text (sym all);
-      }
-
   -- a line of it that is not done
   pub not_all : (lines : List ListingContent) (line : ListingContent) → Contains lines line → is_of list line ≡ true → (line.state ≡ Done → ⊥) → AreAllDone (lines_on list lines) → ⊥
   not_all lines line inside own unlike all =
@@ -204,13 +181,6 @@ module _ (lines : List ListingContent) (named : List ListName) (archive : ℕ) w
 
   abbrev pub IsSeen : List SettledListContent → ListName → Type 0
   IsSeen found list = AreAllDone (lines_on list lines) → ¬ Contains named list → IsAmong found list
-
-  pub none_found : AreFoundOf lines named archive [] []
-  none_found = record {
-    each = λ one inside. absurd (has_contained [] one inside);
-    all = λ line inside. absurd (has_contained [] line inside);
-    once = tt;
-  }
 
   seen_more : (seen : List ListingContent) (line : ListingContent) (found : List SettledListContent) → ((l : ListingContent) → Contains seen l → IsSeen found (list_on l)) → IsSeen found (list_on line)
       → (l : ListingContent) → Contains (seen ++ line ∷ []) l → IsSeen found (list_on l)

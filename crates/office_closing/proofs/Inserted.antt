@@ -19,7 +19,6 @@ use Rattle.office_closing.specs.{declared.register.Segment.Segment, Changes.{wit
 use Rattle.office_closing.specs.{Lists.{SettledListContent, comes_before, put_list}, Register.{ArchiveContent, RegisterContent, is_of, last_closed}}
 use Rattle.office_closing.specs.{Stored.{HasWhole, archive_values, segment_values, file_values, list_values}, Sound.{is_sound, is_within, IsOfAccount}}
 use Rattle.office_closing.proofs.Created.{listed_by, last_pushed}
-use Rattle.terminal_core.specs.State.{side_code}
 use Rattle.office_closing.proofs.WriteTexts as texts
 
 -- ==== Inserting: What inserting a row makes of its table.

@@ -1,7 +1,6 @@
 -- The journal of all files, with one archive more.
 use Rattle.std.proofs.Common.{◌≡◌, ℕ, ◌+◌, ◌≤◌, zero, suc, List, [], ◌∷◌, ◌++◌, map, filter, length, drop, refl, sym, ap, subst, ◌∙◌, arith}
 use Rattle.std.proofs.{lemmas.List.{drop_at, length-map, map-append}, lemmas.List.Elements.filter-append}
-use Rattle.partner_core.specs.Deliveries.{Delivery}
 use Rattle.office_rows.specs.Rows.{Interchange}
 use Rattle.office_parts.specs.{Archives.Archive, ArchiveJournal.{body_of, carried_on, journal_beyond, texts_added, texts_beyond}, Closing.is_beyond}
 use Rattle.office_parts.{specs.{Copies.{closed_after, is_above}, InOrder.as_delivery, Journal.text_of}, proofs.Files.{above_twice, deliveries_beyond}}

@@ -23,8 +23,6 @@ use Rattle.office_tables.specs.{DeliveryReading.OnlyReads, Reading.Reads, declar
 use Rattle.office_tables.proofs.WriteLemmas.{nothing_read, same_unchanged}
 use Rattle.office_closing.specs.declared.planning.Stage.TheVariants as stage
 
--- ==== JudgeLemmas: What a plan says of the rows and the registers of store and archive.
-
 -- ---- texts
 
 all_pushed : {A : Type 0} (P : A → Type 0) (xs : List A) (x : A) → AllByRecursion P xs → P x → AllByRecursion P (xs ++ x ∷ [])

@@ -1,6 +1,7 @@
 mod ClearLemmas
 mod NumberLemmas
 mod FileLemmas
+pub mod FirstLemmas
 mod PlanLemmas
 mod ArrivingLemmas
 mod ArrivalQuery

@@ -1,5 +1,8 @@
 -- Rows that are deleted in turn.
-use Rattle.std.{specs.{Prelude.{nat_le, nat_lt, Contains, IsTrue}, List.list_any, List.Sorted.IsPermutation}, proofs.lemmas.Bool.Decides.nat_tests}
+use Rattle.std.specs.Prelude.{nat_le, nat_lt, Contains}
+use Rattle.std.specs.List.{list_any}
+use Rattle.std.specs.List.Sorted.{IsPermutation}
+use Rattle.std.proofs.lemmas.Bool.Decides.{nat_tests}
 use Rattle.std.proofs.Common.{◌≡◌, ◌⊎◌, inl, inr, ℕ, ◌+◌, ◌≤◌, List, [], ◌∷◌, ◌++◌, Bool, true, false, cond, not, ◌&&◌, ◌||◌, ◌==◌, filter, refl, sym, ap, ◌∙◌, arith, ◌<◌, Result, Ok, Err, get_or, length, map, take, subst}
 use Rattle.std.proofs.{lemmas.List.Elements.filter_agree, lemmas.List.Folds.list_any-append, lemmas.List.{map-append, map_more, take-map}}
 use Rattle.std.proofs.lemmas.List.Sorted.{Contains-permutation, IsPermutation-sym, IsPermutation-trans}
@@ -17,11 +20,6 @@ use Rattle.office_admission.specs.Setups.{SetupContent}
 use Rattle.office_loading.specs.{Closed.ClosedContent, Tables.LoadsOwn}
 use Rattle.office_history.proofs.{Loads.{numbered_rise, line_one, visit_one}, Kept.{Rises, rising_same, same_records, shown_in}}
 use Rattle.office_closing.proofs.ClearLemmas as lemma
-use Rattle.terminal_core.specs.declared.visits.Way.TheVariants as way
-use Rattle.terminal_core.specs.declared.lines.LineState.TheVariants as line_state
-use Rattle.terminal_core.specs.declared.lines.Side.TheVariants as side
-
--- ==== NumberLemmas: Rows that are deleted in turn.
 
 filter_twice : {A : Type 0} (p q : A → Bool) (xs : List A) → filter q (filter p xs) ≡ filter (λ x. p x && q x) xs
 filter_twice p q [] = refl

@@ -1,8 +1,8 @@
 -- What an archive closes, by its numbers and by its segments.
 use Rattle.std.specs.{Prelude.{◌↔◌, Contains, None, All, slice_get, nat_le, nat_lt}, List.{AllByRecursion, list_any, range_with_len}}
-use Rattle.std.proofs.Common.{◌≡◌, inl, inr, ℕ, suc, ◌<◌, ◌≤◌, ◌==◌, ◌||◌, List, [], ◌∷◌, Bool, true, false, cond, not, filter, get_or, refl, sym, ap, ap₂, subst, ◌∙◌, arith, ◌⊎◌, ◌+◌, ◌-◌, ◌&&◌, max, ◌++◌, if◌then◌else◌, map, length, take, drop, length-append, Ok, Err, IsTrue}
+use Rattle.std.proofs.Common.{◌≡◌, inl, inr, ℕ, suc, ◌<◌, ◌≤◌, ◌==◌, ◌||◌, List, [], ◌∷◌, Bool, true, false, cond, not, filter, get_or, refl, sym, ap, ap₂, subst, ◌∙◌, arith, ◌⊎◌, ◌+◌, ◌-◌, ◌&&◌, max, ◌++◌, if◌then◌else◌, map, length, Ok, Err, IsTrue}
 use Rattle.std.proofs.{lemmas.Bool.{cases_Bool, eqb-true, le-leb, leb-true, and_parts, eq-eqb, lt-ltb, ltb-true}, lemmas.Bool.Decides.nat_tests}
-use Rattle.std.proofs.lemmas.List.{get_or_default, get_or-map, get_or_append_left, length-map, map-append, take_all, take-append-drop, append-nil}
+use Rattle.std.proofs.lemmas.List.{get_or_default, append-nil}
 use Rattle.std.proofs.{lemmas.List.Elements.{filter_passes, recursion_from_All}, lemmas.Option.same_Some}
 use Rattle.terminal_core.{specs.{Rows.VisitContent, State.{AreNumbered, last_from, last_number}}, proofs.Whole.{found_at, same_index}}
 use Rattle.office_rows.specs.Rows.{Interchange, Rows, Partner}
@@ -11,7 +11,7 @@ use Rattle.office_parts.{specs.OwnTerminal.{own_visits, IsOverOrStays, MayStay},
 use Rattle.office_closing.specs.{declared.comparing.Numbers.Numbers, Comparing.{IsComparedAs, IsOfFile}, Visits.{AreToGo, GoesBelow}, Files.Files}
 use Rattle.office_closing.specs.{Deleting.{all_but, without_visits, goes, is_of, is_among}, declared.register.Segment.Segment, declared.faults.Refusal.Refusal}
 use Rattle.office_closing.specs.{Laws.{Raises, ComparedIsHeld, ClearingLeavesTheRest, ClearedIsCarried}, Register.{last_closed, RegisterContent}}
-use Rattle.office_closing.specs.Copies.{AreAtMost, ClosesNone, closes_some, numbers_from, segment_of, segments_of, FileNames, IsOpened, OfficeContent, AreFirst}
+use Rattle.office_closing.specs.Copies.{AreAtMost, ClosesNone, closes_some, numbers_from, segment_of, segments_of, FileNames, IsOpened, OfficeContent}
 use Rattle.office_closing.specs.{declared.faults.CloseFault.CloseFault, Planning.IsRefused, Arriving.{HasAll, HasFirst, HasTexts, arrivals}}
 use Rattle.office_closing.specs.Refusing.{HasReason, HasUnfit, HasUnread, IsOfComparing, IsOfOpening, IsOfOrdering, IsOfThis, IsOtherwise, IsUnopened, IsWhy, HaveNoNexts}
 use Rattle.office_closing.specs.{Steps.{IsOfWriting, StepsIf}, Transactions.{Becomes, HasBecome}, Closes.{Held, IsFaultIn, Tells}, declared.faults.File.File}
@@ -174,9 +174,6 @@ or_right false b e = e
 or_parts : (a b : Bool) → (a || b) ≡ true → (a ≡ true) ⊎ (b ≡ true)
 or_parts true b e = inl refl
 or_parts false b e = inr e
-
-none_is : (n : ℕ) → n ≤ 0 → n ≡ 0
-none_is n h = omega (arith, h)
 
 -- the numbers from that one on
 abbrev pub AreFrom : (before : ℕ → ℕ) → List Numbers → Type 0
@@ -407,31 +404,7 @@ module _ (held : Held) (names : FileNames) (files : Files) where
       no_more file.ArchiveRegister why is = is
   ordering_tells Wants so fault.Memory is = tt
 
--- ==== CopyLemmas: Lists that are compared from their front.
-
--- ---- the first of others
-
-module _ {A B : Type 0} (f : A → B) (xs ys : List A) where
-  -- those that are the first are no more
-  pub first_no_more : AreFirst (map f xs) (map f ys) → length xs ≤ length ys
-  first_no_more first =
-      omega (arith, ap length first.1, length-append (map f xs) first.0, length-map xs f, length-map ys f)
-
-  -- and each is the one at its place
-  pub first_same : AreFirst (map f xs) (map f ys) → (i : ℕ) (x y : A) → i < length xs → x ≡ get_or xs i x → y ≡ get_or ys i y → f x ≡ f y
-  first_same first i x y within here there =
-      let long = first_no_more first in
-      ap f here ∙ sym (get_or-map f xs i x (f x) within)
-      ∙ sym (get_or_append_left (map f xs) first.0 (f x) i (omega (arith, within, length-map xs f)))
-      ∙ ap (λ l. get_or l i (f x)) (sym first.1) ∙ get_or-map f ys i y (f x) (omega (arith, within, long)) ∙ sym (ap f there)
-
-  pub are_the_first : (i : ℕ) → length xs ≤ i → i ≤ length xs → map f (take i xs) ≡ map f (take i ys) → AreFirst (map f xs) (map f ys)
-  are_the_first i high low same = (
-    map f (drop i ys),
-    ap (map f) (sym (take-append-drop i ys)) ∙ map-append f (take i ys) (drop i ys) ∙ ap (λ l. l ++ map f (drop i ys)) (sym same ∙ ap (map f) (take_all i xs high)),
-  )
-
--- ---- numbers that are at most others
+-- ==== Numbers that are at most others.
 
 pub most_no_more : (numbers others : List ℕ) → AreAtMost numbers others → length numbers ≤ length others
 most_no_more [] others most = omega arith

@@ -19,8 +19,6 @@ use Rattle.office_closing.specs.Tables.{archive_table, segment_table, closed_for
 use Rattle.office_tables.specs.{declared.table_fault.TableFault.TableFault, Faults.{IsOfStore, IsOfStoreOr}}
 use Rattle.office_tables.proofs.WritesLemmas.{of_store_weaker, of_store_alone}
 
--- ==== SoundLemmas: The tables show a sound register in one way, and it fits the types of a register.
-
 -- ---- numbers
 
 equal_of : (m n : ℕ) → (m == n) ≡ true → m ≡ n

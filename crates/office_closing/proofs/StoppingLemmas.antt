@@ -1,6 +1,6 @@
 -- What a stop of a closing leaves, and that a closing goes on from there.
 use Rattle.std.specs.{Prelude.{◌&&◌, nat_le}, List.{AllByRecursion, list_all}, Ordering.{is_lt, ordering_reverse}}
-use Rattle.std.proofs.Common.{◌≡◌, ◌⊎◌, inl, inr, ℕ, ◌+◌, ◌≤◌, ◌==◌, List, [], ◌∷◌, ◌++◌, Bool, true, false, cond, not, filter, length, Option, None, Some, Result, Ordering, Less, refl, sym, ap, ap₂, subst, ◌∙◌, arith}
+use Rattle.std.proofs.Common.{◌≡◌, ◌⊎◌, inl, inr, ℕ, ◌+◌, ◌≤◌, ◌==◌, List, [], ◌∷◌, ◌++◌, Bool, true, false, cond, not, filter, length, Option, None, Some, Result, Less, refl, sym, ap, ap₂, subst, ◌∙◌, arith}
 use Rattle.std.proofs.lemmas.Bool.{and_parts, eqb-true, eq-eqb, leb-true}
 use Rattle.sqlite.specs.{Effect.Database, Tree.Trees}
 use Rattle.sqlite_trees.specs.declared.store.Store.{Ghosts}

@@ -224,10 +224,6 @@ pub record IsReadUpTo (call : CallContent) (side : Side) (text : List ℕ) (line
   pub left : HasLines call side text → HasLines call side rest
 
 module _ (call : CallContent) (side : Side) where
-  -- before the first line
-  pub read_nothing : (text : List ℕ) → IsReadUpTo call side text [] text
-  read_nothing text = record { read = refl; own = tt; left = λ h. h }
-
   -- what a text that begins with a line has after it
   after_first : (piece after : List ℕ) (lines : List ListingContent) → All IsInside piece →
       IsTextOf call side (piece ++ 10 ∷ after) lines →
@@ -273,12 +269,6 @@ module _ (call : CallContent) (side : Side) where
   pub refused_rest : (rest : List ℕ) → ((i : ℕ) → i < length rest → get_or rest i 0 ≢ 10) → length rest ≢ 0 →
       HasLines call side rest → ⊥
   refused_rest rest inside some there = refused_lines rest there.lines (All-from_get_or IsInside rest 0 inside) some there.theirs
-
-  -- at the end of the text
-  pub read_all : (text : List ℕ) (lines : List ListingContent) (rest : List ℕ) → length rest ≡ 0 →
-      IsReadUpTo call side text lines rest → IsTextOf call side text lines
-  read_all text lines [] none all = (all.read ∙ append-nil (lines_text lines), all.own)
-  read_all text lines (b ∷ rest) none all = absurd (omega arith)
 
 -- ==== ReadingLemmas: What a line without its line feed is read as.
 

@@ -1,7 +1,7 @@
 -- The lists that texts that wait name, account by account and number by number.
 use Rattle.std.specs.{Prelude.{Contains, IsPermutation, ◌==◌, count_by, IsSorted, ◌&&◌, nat_lt, find, string_bytes}, List.{range_with_len, flat_map}}
 use Rattle.std.{specs.{List.Sorted.IsNonDecreasing, Ordering.nat_cmp, Option.option_map}, proofs.lemmas.List.Elements.Contains-get_or}
-use Rattle.std.proofs.Common.{◌≡◌, ℕ, List, length, true, sym, ap, subst, ◌∙◌, zero, suc, ◌+◌, ◌<◌, ◌≤◌, inl, inr, [], ◌∷◌, ◌++◌, map, take, get_or, Bool, cond, refl, arith, Option, None, Some, Result, Ok}
+use Rattle.std.proofs.Common.{◌≡◌, ℕ, List, length, true, sym, ap, subst, ◌∙◌, zero, suc, ◌+◌, ◌<◌, ◌≤◌, inl, inr, [], ◌∷◌, ◌++◌, map, take, get_or, Bool, cond, refl, arith, Option, None, Some, Ok}
 use Rattle.std.proofs.{lemmas.List.{nil_from_length, get_or-map, length-map, take_more, append-nil}, lemmas.List.FromFn.get_or-range_with_len}
 use Rattle.std.proofs.lemmas.List.Sorted.{IsPermutation-sym, IsPermutation-trans, length_permutation, Contains-permutation, IsNonDecreasingBy-from_sort, IsPermutation-map, sum_by-IsPermutation, IsPermutation-append}
 use Rattle.std.proofs.{lemmas.Bool.{cases_order, eqb-true, eq-eqb, and_parts, lt-ltb, ltb-true}, lemmas.List.Concat.flat_map-append}
@@ -12,7 +12,6 @@ use Rattle.edi_messages.specs.{Purposes.CallContent, declared.codes.PartnerKind.
 use Rattle.terminal_core.specs.{Forms.{IsFormedLine, IsFormedPort, IsWellFormed}, State.{TerminalState, side_code}, declared.lines.LineState.TheVariants.Done}
 use Rattle.terminal_core.{specs.{declared.lines.Side.Side, Versions.newest}, proofs.{Indexed.one_place, Whole.found_at}}
 use Rattle.office_rows.specs.{ByKey.{AreListedOnce, lines_by}, Rows.{ListingContent, Rows, Partner, Interchange}, Shown.AreNexts, Effects.is_pair}
-use Rattle.office_rows.proofs.Creating.{keep_then, on_ok, quiet_then}
 use Rattle.office_admission.specs.{Setups.{SetupContent, setup_content}, SetupAccounts.partner_kinds, declared.setup.Setup.Setup}
 use Rattle.office_history.{specs.{After.AreKeptOnce, Cascade.text_in}, proofs.{ByKeys.{key_of, said}, Kept.{Rises, above, fewer, head_in, one_at, rising_same}}}
 use Rattle.office_closing.specs.{Texts.IsOfList, Lists.SettledListContent, Found.list_on}
@@ -20,9 +19,12 @@ use Rattle.office_closing.specs.Going.{AreDone, GoesAs, IsAmong, IsDone, MayGo, 
 use Rattle.office_closing.specs.Waiting.{AreWaitedFor, HasWaiting, HaveNexts, WaitsBeyond, lists_beyond, lists_if_any, lists_under}
 use Rattle.office_closing.proofs.FoundLemmas.{own_list, line_under, sides_same, flat_has, has_flat}
 use Rattle.office_parts.specs.{Bringing.is_of, OwnLists.{ListName, list_name}, Naming.interchange_lists}
-use Rattle.sqlite.{specs.State.State, proofs.Callers.unchanged_then}
-use Rattle.office_tables.specs.{Answers.IsKept, Reading.Reads, declared.interchanges.Kept.Kept, declared.table_fault.TableFault.TableFault}
-use Rattle.office_tables.{specs.DeliveryReading.OnlyReads, proofs.WriteLemmas.{one_read, only_on, only_then, text_kept, was_clean}}
+use Rattle.sqlite.specs.State.{State}
+use Rattle.office_tables.specs.Answers.{IsKept}
+use Rattle.office_tables.specs.Reading.{Reads}
+use Rattle.office_tables.specs.declared.interchanges.Kept.{Kept}
+use Rattle.office_tables.specs.DeliveryReading.{OnlyReads}
+use Rattle.office_tables.proofs.WriteLemmas.{one_read, only_on, only_then, text_kept}
 use Rattle.office_loading.specs.Waiting.{is_waiting, waiting_in, waiting_numbers}
 use Rattle.std.specs.FinMap as finite_map
 
@@ -314,17 +316,6 @@ numbers_more f all i low =
     ∙ ap (flat_map f) (sym (take_more all i 0 low))
 
 -- ---- reading
-
--- what may read nothing more, after a call that reads
-pub read_then : {X Y : Type 0} {a b c : State} {x : X} {result : Result Y TableFault} → Reads a b (Ok x) → OnlyReads b c result → Reads a c result
-read_then {a} {b} {c} {result} p q = record {
-  unchanged = λ clean.
-      let first = p.unchanged (was_clean q clean) in
-      on_ok result (unchanged_then a b c first) (q.reads.unchanged clean first.0.is_open);
-  keeps = λ clean. keep_then a b c (p.keeps (was_clean q clean)) (q.reads.keeps clean);
-  mode = λ outside. q.reads.mode (p.mode outside);
-  survives = quiet_then a b c p.survives q.reads.survives;
-}
 
 -- one read more
 pub one_more : {X Y Z : Type 0} {a b c : State} {x : X} {y : Y} (z : Z) → OnlyReads a b (Ok x) → Reads b c (Ok y) → OnlyReads a c (Ok z)

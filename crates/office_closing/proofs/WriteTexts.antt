@@ -22,8 +22,6 @@ use Rattle.sqlite_trees.specs.{declared.error.StoreError.StoreError, declared.er
 use Rattle.office_loading.{specs.Tables.{FailsTable, ReadsTable}, proofs.VersionLemmas.same_rows}
 use Rattle.office_closing.specs.declared.register_reading.Later.TheVariants as later
 
--- ==== WriteTexts: What the texts mean that make the tables, and those that write.
-
 -- ---- tables
 
 abbrev pub create_archive : List ℕ
@@ -440,13 +438,13 @@ as_many : (db : Database) (xs ys : List (List ℕ)) → ShowsFiles db xs → Sho
 as_many db xs ys shown that =
     sym (length-map ys file_values) ∙ length_permutation _ _ (same_rows closed_for_table (0 ∷ []) (0 ∷ []) (λ r. refl) db (map file_values xs) (map file_values ys) shown that) ∙ length-map xs file_values
 
-module _ (db : Database) {Z : Type 0} (files : List (String Z)) (shown : ShowsFiles db (map string_bytes files)) (texts : AllByRecursion IsUtf8 (map string_bytes files)) where
+module _ (db : Database) {A : Type 0} (file_of : A → List ℕ) (files : List A) (shown : ShowsFiles db (map file_of files)) (texts : AllByRecursion IsUtf8 (map file_of files)) where
   too_many : (fault : TableFault) → IsOfStoreOr (1 < length files) fault → FailsMark db fault
   too_many = of_store_weaker (1 < length files) _ (λ many file that text.
-      let same : length (if_any file) ≡ length files = as_many db _ _ shown that ∙ length-map files string_bytes in
+      let same : length (if_any file) ≡ length files = as_many db _ _ shown that ∙ length-map files file_of in
       omega (arith, short file))
 
-  pub reads_mark : (result : Result (Option (String Z)) TableFault) → IfOk result (λ file. map string_bytes files ≡ if_any (option_map string_bytes file)) → IfErr result (λ fault. IsOfStoreOr (1 < length files) fault)
+  pub reads_mark : {Z : Type 0} (result : Result (Option (String Z)) TableFault) → IfOk result (λ file. map file_of files ≡ if_any (option_map string_bytes file)) → IfErr result (λ fault. IsOfStoreOr (1 < length files) fault)
       → ReadsMark db result
   reads_mark (Ok file) same many = (subst (ShowsFiles db) same shown, one_text (option_map string_bytes file) (subst (AllByRecursion IsUtf8) same texts))
   reads_mark (Err fault) same many = too_many fault many

@@ -6,6 +6,10 @@ use Rattle.office_tables.specs.{Faults.IsOfStore, declared.table_fault.TableFaul
 use Rattle.office_parts.specs.{LeftOver.rows_without, OwnLists.{ListName, rows_without_lists}}
 use Rattle.office_closing.specs.Deleting.{with_visits_that}
 
+-- the most rows that one transaction deletes (our own)
+abbrev pub most_at_once : ℕ
+most_at_once = 1000
+
 -- ---- what may be left
 
 -- rows without some of the interchanges that go, and with all else

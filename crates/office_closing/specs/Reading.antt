@@ -4,7 +4,7 @@ use Rattle.std.specs.List.{AllByRecursion}
 use Rattle.sqlite.specs.{Order.Row, Effect.Database}
 use Rattle.office_rows.specs.Shown.{ShowsTable, columns_at}
 use Rattle.office_tables.specs.{declared.table_fault.TableFault.TableFault, Faults.IsOfStoreOr}
-use Rattle.office_closing.specs.{declared.register.Register.Register, declared.register.Segment.Segment, Lists.SettledListContent, Sound.IsSound}
+use Rattle.office_closing.specs.{declared.register.Register.Register, declared.register.Segment.Segment, declared.register_rows.ClosedFor.ClosedFor, Lists.SettledListContent, Sound.IsSound}
 use Rattle.office_closing.specs.{Register.{ArchiveContent, RegisterContent, register_content}, Tables.{archive_table, segment_table, closed_for_table, Layout}}
 use Rattle.office_closing.specs.Stored.{ShowsLists, ShowsRegister, archive_values, segment_values, file_values, list_values, if_any}
 
@@ -31,6 +31,10 @@ SaysArchive row archive = (columns_at (0 ∷ 1 ∷ 2 ∷ []) row ≡ archive_val
 
 abbrev pub SaysSegment : Row → Segment → Type 0
 SaysSegment row segment = (columns_at (0 ∷ 1 ∷ 2 ∷ []) row ≡ segment_values segment) × FitsSegment segment
+
+-- the file of the row that marks an archive
+abbrev pub closed_for_file : ClosedFor → List ℕ
+closed_for_file row = string_bytes row.file
 
 abbrev pub SaysFile : Row → List ℕ → Type 0
 SaysFile row file = (columns_at (0 ∷ []) row ≡ file_values file) × IsUtf8 file

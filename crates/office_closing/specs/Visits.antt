@@ -1,7 +1,9 @@
 -- Which visits go at a closing.
 use Rattle.std.specs.Prelude.{◌≡◌, ◌≢◌, ◌↔◌, ℕ, ◌<◌, true, List, Contains, is_some}
 use Rattle.terminal_core.specs.{Rows.VisitContent, State.last_number}
-use Rattle.office_closing.specs.{declared.visits.VisitFault.VisitFault, declared.visits.VisitFault.TheVariants.{Differs, Memory}}
+use Rattle.office_closing.specs.{declared.faults.CloseFault.CloseFault, declared.visits.VisitFault.VisitFault, declared.visits.VisitFault.TheVariants.{Differs, Memory}}
+use Rattle.office_closing.specs.declared.faults.CloseFault.TheVariants as fault
+use Rattle.office_closing.specs.declared.faults.Refusal.TheVariants as refusal
 
 -- the visit goes: the copy has it as the store does, it is over, and its number is below the store's newest
 pub record GoesBelow (newest : ℕ) (copy : List VisitContent) (visit : VisitContent) : Type 0 where
@@ -33,3 +35,8 @@ abbrev pub IsCauseOf : (own copy : List VisitContent) → VisitFault → Type 0
 IsCauseOf own copy (Differs number) =
     (visit : VisitContent) × (visit.number ≡ number) × Contains own visit × IsOtherwiseOver copy visit
 IsCauseOf own copy Memory = Unit {0}
+
+-- why nothing is put away then: the archive is refused for that visit, or memory was refused
+abbrev pub fault_of_visit : VisitFault → CloseFault
+fault_of_visit (Differs number) = fault.Archive (refusal.Visit number)
+fault_of_visit Memory = fault.Memory

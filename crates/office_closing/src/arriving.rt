@@ -94,7 +94,7 @@ fn likeness_of_queries<S: Alter, A: Alter>(
     Err(fault_in(File::Archive, Error::SqliteFailure(ErrorCode::OutOfMemory)))
 }
 
-/// How all texts stand to each other, if the next rows tell it; None if both show the same text.
+/// How all texts compare, if the next rows show it; None if both show the same text.
 fn likeness_at(own: Option<&Row>, copy: Option<&Row>) -> Option<Likeness>
     ensures { TellsRows (option_copied own.entry) (option_copied copy.entry) result }
 {

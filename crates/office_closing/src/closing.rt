@@ -1,13 +1,12 @@
-ghost use Rattle.std.specs.Prelude.{◌≡◌, ◌<◌, ◌≤◌, [], ◌∷◌, false, map, true, OnOk, OnErr, IfOk, IfErr, IsTrue};
+ghost use Rattle.std.specs.Prelude.{◌≡◌, ◌<◌, ◌≤◌, ◌+◌, ◌-◌, [], ◌∷◌, false, map, min, true, IfOk, IfErr};
 ghost use Rattle.edi_messages.specs.Owned.{call_content};
-ghost use Rattle.office_closing.specs.{Clearing.{Clears, IsWithoutSome, IsWithoutSomeLists, IsWithoutSomeVisits}, Files.{AreClean, AreIdle, files}};
+ghost use Rattle.office_closing.specs.{Clearing.{Clears, most_at_once, IsWithoutSome, IsWithoutSomeLists, IsWithoutSomeVisits}, Files.{AreClean, AreIdle, files}};
 ghost use Rattle.office_closing.specs.{Closes.{ArePutAway, Closes, IsLeft, cleared, closing_content}, Judging.AreResting, Refusing.IsFileOf};
 ghost use Rattle.office_closing.specs.{Deleting.{Deletes, all_but, goes, is_one_of, without_interchange, without_visits}, Lists.list_content};
 ghost use Rattle.office_closing.specs.{Steps.{StepsIf, is_unmarked, is_unraised}, Changes.{closed_with, marked_for, unchanged, unmarked}};
 ghost use Rattle.office_closing.specs.Register.{archive_content};
-ghost use Rattle.office_tables.specs.{Writing.IsUndone, Faults.IsOfStore};
 ghost use Rattle.office_parts.specs.{Bringing.is_list, OwnLists.{list_name, rows_without_lists}, LeftOver.rows_without};
-ghost use Rattle.sqlite.specs.{Held.state, State.{HasCleanDisk, Shows, Survives}};
+ghost use Rattle.sqlite.specs.Held.{state};
 ghost use Rattle.office_closing.specs.declared.faults.CloseFault.TheVariants as close_fault;
 
 use crate::comparing::Numbers;
@@ -16,7 +15,7 @@ use crate::judging::judge;
 use crate::planning::{Plan, PutAway, Stage, is_unmarked, is_unraised, put_away};
 use crate::{Archive, Segment, SettledList, characters, close_with, mark, side_code};
 use edi_messages::Call;
-use office_tables::{TableFault, integer};
+use office_tables::{TableFault, commit, integer};
 use sqlite::{Alter, Connection, Transaction};
 use std::alloc::Global;
 use terminal_core::Side;
@@ -214,6 +213,7 @@ fn clear_numbers<S: Alter>(conn: &mut Connection<S>, numbers: Numbers) -> Result
 /// The last number of a batch of those above one and up to another.
 fn batch_end(from: u32, to: u32) -> u32
     requires { from < to }
+    ensures exact { result ≡ from + min (to - from) most_at_once }
     ensures above { from < result }
     ensures within { result ≤ to }
 {
@@ -258,7 +258,7 @@ pub fn clear_visits<S: Alter>(conn: &mut Connection<S>, visits: &[u32]) -> Resul
     prove!(is_idle);
     let mut rest = visits;
     while !rest.is_empty() {
-        let (batch, behind) = rest.split_at(rest.len().min(VISIT_BATCH));
+        let (batch, behind) = rest.split_at(visit_batch(rest.len()));
         clear_visit_batch(conn, batch)?;
         rest = behind;
     }
@@ -267,6 +267,13 @@ pub fn clear_visits<S: Alter>(conn: &mut Connection<S>, visits: &[u32]) -> Resul
 
 /// The most visits that one transaction deletes.
 const VISIT_BATCH: usize = 1000;
+
+/// How many of the visits that are left the next transaction deletes.
+fn visit_batch(left: usize) -> usize
+    ensures { result ≡ min left most_at_once }
+{
+    left.min(VISIT_BATCH)
+}
 
 /// Deletes the visits of these numbers in one transaction, wholly or not at all.
 fn clear_visit_batch<S: Alter>(conn: &mut Connection<S>, visits: &[u32]) -> Result<(), TableFault>
@@ -324,25 +331,6 @@ fn clear_list<S: Alter>(conn: &mut Connection<S>, list: &SettledList) -> Result<
     let mut tx = conn.transaction();
     delete_list(&mut tx, &list.call, list.side)?;
     commit(tx)
-}
-
-/// Commits what a transaction deleted, or nothing of it.
-fn commit<S: Alter>(tx: Transaction<'_, S>) -> Result<(), TableFault>
-    ensures ended { (state S.Store tx.exit.0.now).in_transaction ≡ false }
-    ensures ok { HasCleanDisk (state S.Store tx.exit.0.now) →
-        OnOk result (Shows (state S.Store tx.entry.conn.now) (state S.Store tx.exit.0.now)
-        (state S.Store tx.entry.conn.now).now (state S.Store tx.entry.conn.now).now false) }
-    ensures was_open { HasCleanDisk (state S.Store tx.exit.0.now) → IsTrue (state S.Store tx.exit.0.now).is_open →
-        IsTrue (state S.Store tx.entry.conn.now).is_open }
-    ensures err { HasCleanDisk (state S.Store tx.exit.0.now) → IsTrue (state S.Store tx.entry.conn.now).in_transaction →
-        IsTrue (state S.Store tx.exit.0.now).is_open →
-        OnErr result (IsUndone (state S.Store tx.entry.conn.now) (state S.Store tx.exit.0.now)) }
-    ensures survives { Survives (state S.Store tx.entry.conn.now) (state S.Store tx.exit.0.now)
-        (λ db. db ≡ (state S.Store tx.entry.conn.now).now.trees) }
-    ensures fault { IfErr result IsOfStore }
-{
-    tx.commit()?;
-    Ok(())
 }
 
 /// Removes the row of a partner's interchange.

@@ -1,7 +1,9 @@
 ghost use Rattle.std.specs.Prelude.{◌≡◌};
+ghost use Rattle.office_closing.specs.Visits.{fault_of_visit};
 ghost use Rattle.office_closing.specs.declared.faults.CloseFault.TheVariants as fault;
 
 use crate::comparing::Difference;
+use crate::visits::VisitFault;
 use office_tables::TableFault;
 use std::alloc::AllocError;
 use thiserror::Error;
@@ -78,5 +80,16 @@ impl From<Refusal> for CloseFault {
 
     fn from(why: Refusal) -> CloseFault {
         CloseFault::Archive(why)
+    }
+}
+
+impl From<VisitFault> for CloseFault {
+    ghost from_gives = { λ why made. made ≡ fault_of_visit why };
+
+    fn from(why: VisitFault) -> CloseFault {
+        match why {
+            VisitFault::Differs(number) => CloseFault::Archive(Refusal::Visit(number)),
+            VisitFault::Memory => CloseFault::Memory,
+        }
     }
 }

@@ -47,7 +47,7 @@ pub fn stops_are_on_the_way<S: Alter, R: Alter, A: Alter, M: Alter>()
     ensures { StopsAreOnTheWay S.Store R.Store A.Store M.Store }
 {}
 
-/// What a stop leaves of a closing that is on its way is taken when it is called again: the registers tell the stage from which
+/// What a stop leaves of a closing that is on its way is taken when it is called again: the registers say the stage from which
 /// it goes on.
 pub fn stopped_closings_go_on()
     ensures { StoppedClosingsGoOn }

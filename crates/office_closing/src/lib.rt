@@ -39,11 +39,13 @@ pub use faults::{CloseFault, File, FileFault, Refusal};
 pub use going::done_lists;
 pub use list_reading::read_list;
 pub use list_writing::{list_text, push_line};
-pub use planning::PutAway;
-pub use register::{Archive, Register, Segment};
+pub use planning::{PutAway, are_first_accounts};
+pub use register::{
+    Archive, Register, Segment, copied_archive, is_passed, is_same_archive, is_same_segment,
+};
 pub use register_closing::{characters, close_with, mark};
 pub use register_reading::read_register;
 pub use settled_lists::{SettledList, copied_list, is_same_list, side_code};
 pub use sound::{MOST_ARCHIVES, is_file_name, is_sound};
-pub use visits::{VisitFault, visits_to_go};
+pub use visits::{VisitFault, newest_number, visits_to_go};
 pub use waiting::lists_waited_for;

@@ -1,8 +1,9 @@
 ghost use Rattle.std.specs.Prelude.{◌≡◌, ◌↔◌, true, Contains, IfOk, filter, map};
 ghost use Rattle.office_closing.specs.{Copies.{is_put_away_with, office_content}, Planning.{AreFor, AreInBoth}, Lists.list_content};
 
-use crate::planning::{Opened, append};
+use crate::planning::Opened;
 use crate::{SettledList, copied_list, is_same_list};
+use office_loading::append;
 use std::alloc::{AllocError, Global};
 
 /// The lists that the store's register is to get with an archive: those that are done. If it has other archives than the

@@ -12,10 +12,10 @@ use crate::comparing::Numbers;
 use crate::faults::{CloseFault, Refusal};
 use crate::lists::{lists_in_both, lists_to_register};
 use crate::taken::taken_to_register;
-use crate::visits::{VisitFault, newest_number, visits_to_go};
+use crate::visits::{newest_number, visits_to_go};
 use crate::{Archive, Register, Segment, SettledList, done_lists, is_file_name, is_sound};
 use office_admission::{Account, MOST_PARTNERS, Setup};
-use office_loading::Closed;
+use office_loading::{Closed, append};
 use office_parts::NamedList;
 use std::alloc::{AllocError, Global};
 use terminal_core::Terminal;
@@ -286,15 +286,15 @@ fn is_same_office(own: &Opened, copy: &Opened) -> bool
     ensures { (result ≡ true) ↔ IsSameOffice (office_content own.now) (office_content copy.now) }
 {
     copy.setup.terminal.as_bytes() == own.setup.terminal.as_bytes()
-        && are_first(
+        && are_first_accounts(
             copy.setup.partners.as_slice(),
             own.setup.partners.as_slice(),
         )
         && copy.nexts.len() <= MOST_PARTNERS
 }
 
-/// Whether these accounts are the first of those.
-fn are_first(accounts: &[Account], others: &[Account]) -> bool
+/// Whether these accounts are the first of those: the same codes and kinds, in the same order.
+pub fn are_first_accounts(accounts: &[Account], others: &[Account]) -> bool
     ensures { (result ≡ true) ↔ AreFirst (account_contents accounts.now) (account_contents others.now) }
 {
     if accounts.len() > others.len() {
@@ -344,11 +344,8 @@ fn gone_visits(alloc: Global, own: &Opened, copy: &Opened) -> Result<Vec<u32>, C
     ensures err { IfErr result (λ fault. (names : FileNames) →
         IsRefused (office_content own.now) (office_content copy.now) names fault) }
 {
-    match visits_to_go(alloc, own.terminal.visits(), copy.terminal.visits()) {
-        Ok(numbers) => Ok(numbers),
-        Err(VisitFault::Differs(number)) => Err(CloseFault::Archive(Refusal::Visit(number))),
-        Err(VisitFault::Memory) => Err(CloseFault::Memory),
-    }
+    let numbers = visits_to_go(alloc, own.terminal.visits(), copy.terminal.visits())?;
+    Ok(numbers)
 }
 
 /// What is closed of each account.
@@ -368,14 +365,6 @@ pub(crate) fn numbers_to_close(
         append(&mut numbers, Numbers { partner, from, to })?;
     }
     Ok(numbers)
-}
-
-/// One more at the end.
-pub(crate) fn append<T: Drop>(all: &mut Vec<T>, one: T) -> Result<(), AllocError>
-    ensures { OnOk result (all.new.items ≡ all.old.items ++ one ∷ []) }
-{
-    all.push(one)?;
-    Ok(())
 }
 
 /// The archive as the store's register is to name it.

@@ -7,7 +7,7 @@ ghost use Rattle.office_closing.specs.Register.{archive_content, register_conten
 use crate::settled_lists::{SettledList, are_same_lists, is_of_list, put_lists};
 use edi_messages::Call;
 use office_admission::MOST_PARTNERS;
-use office_loading::Closed;
+use office_loading::{Closed, append};
 use std::alloc::{AllocError, Global};
 use terminal_core::Side;
 
@@ -138,7 +138,7 @@ impl Register {
             (unmarked (register_content self))) }
     {
         let mut archives = self.archives;
-        append(&mut archives, copy_of(alloc, archive)?)?;
+        append(&mut archives, copied_archive(alloc, archive)?)?;
         let mut all = self.segments;
         append_all(&mut all, segments)?;
         let mut settled = self.lists;
@@ -165,8 +165,9 @@ impl Register {
     }
 }
 
-/// Whether the next number of its account is above the last one of a segment.
-fn is_passed(nexts: &[u32], segment: Segment) -> bool
+/// Whether the next number of its account, of those of all accounts in the order of their ids, is above the last one of a
+/// segment.
+pub fn is_passed(nexts: &[u32], segment: Segment) -> bool
     ensures { result ≡ is_passed nexts.now segment }
 {
     let partner = usize::from(segment.partner);
@@ -186,8 +187,8 @@ fn last_numbers(alloc: Global, segments: &[Segment]) -> Result<Vec<u32>, AllocEr
     Ok(last)
 }
 
-/// An equal archive.
-fn copy_of(alloc: Global, archive: &Archive) -> Result<Archive, AllocError>
+/// What a register says of an archive, once more.
+pub fn copied_archive(alloc: Global, archive: &Archive) -> Result<Archive, AllocError>
     ensures { IfOk result (λ copy. archive_content copy ≡ archive_content archive.now) }
 {
     let file = String::from_str(alloc, archive.file.as_str())?;
@@ -196,14 +197,6 @@ fn copy_of(alloc: Global, archive: &Archive) -> Result<Archive, AllocError>
         file,
         visits: archive.visits,
     })
-}
-
-/// One more at the end.
-fn append<T: Drop>(records: &mut Vec<T>, one: T) -> Result<(), AllocError>
-    ensures { OnOk result (records.new.items ≡ records.old.items ++ one ∷ []) }
-{
-    records.push(one)?;
-    Ok(())
 }
 
 /// All of these at the end.
@@ -230,7 +223,8 @@ fn are_same_archives(one: &[Archive], other: &[Archive]) -> bool
     true
 }
 
-fn is_same_archive(one: &Archive, other: &Archive) -> bool
+/// Whether two registers say the same of an archive: its place, its file and its newest visit.
+pub fn is_same_archive(one: &Archive, other: &Archive) -> bool
     ensures { (result ≡ true) ↔ (archive_content one.now ≡ archive_content other.now) }
 {
     one.place == other.place
@@ -252,7 +246,8 @@ fn are_same_segments(one: &[Segment], other: &[Segment]) -> bool
     true
 }
 
-fn is_same_segment(one: Segment, other: Segment) -> bool
+/// Whether two segments are of the same account and archive, up to the same number.
+pub fn is_same_segment(one: Segment, other: Segment) -> bool
     ensures { (result ≡ true) ↔ (one ≡ other) }
 {
     one.partner == other.partner && one.archive == other.archive && one.last == other.last

@@ -1,7 +1,7 @@
 ghost use Rattle.std.specs.{Prelude.{◌≡◌, ◌<◌, [], ◌∷◌, ⊤, IfOk, IfErr, IsTrue, IsUtf8, map, length, string_bytes, true}, Option.option_map};
 ghost use Rattle.office_loading.specs.{Decoded.itself, Tables.ReadsTable};
 ghost use Rattle.office_closing.specs.{Lists.list_content, Register.{archive_content, register_content}, Sound.{is_sound, IsSound}};
-ghost use Rattle.office_closing.specs.Reading.{FitsArchive, FitsSegment, FitsList, ShowsArchives, ShowsSegments, ShowsFiles, ReadsMark, ReadsTables, ReadsRegister};
+ghost use Rattle.office_closing.specs.Reading.{FitsArchive, FitsSegment, FitsList, ShowsArchives, ShowsSegments, ShowsFiles, ReadsMark, ReadsTables, ReadsRegister, closed_for_file};
 ghost use Rattle.office_closing.specs.Stored.{HasRegister, ShowsLists, ShowsTaken, if_any};
 ghost use Rattle.office_closing.specs.Tables.{archive_table, segment_table, closed_for_table, settled_table, taken_table, Layout, whole, has_table, asking, register_schema, schema_in};
 ghost use Rattle.office_rows.specs.{Shown.ShowsTable, Tables.no_schema};
@@ -9,9 +9,10 @@ ghost use Rattle.office_tables.specs.{Faults.{IsOfStore, IsOfStoreOr}, Reading.{
 ghost use Rattle.sqlite.specs.{Held.state, State.{HasCleanDisk, Shown}};
 
 use crate::register::{Archive, Register, Segment};
-use crate::register_rows::read_all;
+use crate::register_rows::ClosedFor;
 use crate::settled_lists::SettledList;
 use crate::sound::is_sound;
+use office_loading::read_all;
 use office_tables::TableFault;
 use sqlite::{Alter, Connection, Error, Row};
 use sqlite_resolve::CompileError;
@@ -205,15 +206,18 @@ fn read_closed_for<S: Alter>(
     ensures version { IfErr result (IsOfStoreOr ⊤) }
     ensures reads { Reads (state S.Store conn.old) (state S.Store conn.new) result }
 {
-    let files = read_files(alloc, conn)?;
-    one_at_most(files)
+    let rows = read_files(alloc, conn)?;
+    one_at_most(rows)
 }
 
 /// The files that the table of them names.
-fn read_files<S: Alter>(alloc: Global, conn: &mut Connection<S>) -> Result<Vec<String>, TableFault>
+fn read_files<S: Alter>(
+    alloc: Global,
+    conn: &mut Connection<S>,
+) -> Result<Vec<ClosedFor>, TableFault>
     ensures read { HasCleanDisk (state S.Store conn.new) → (layout : Layout) →
         (state S.Store conn.old).now.schema ≡ schema_in layout →
-        ReadsTable string_bytes IsUtf8 (ShowsFiles (state S.Store conn.old).now) result }
+        ReadsTable closed_for_file IsUtf8 (ShowsFiles (state S.Store conn.old).now) result }
     ensures version { IfErr result (IsOfStoreOr ⊤) }
     ensures reads { Reads (state S.Store conn.old) (state S.Store conn.new) result }
 {
@@ -221,16 +225,18 @@ fn read_files<S: Alter>(alloc: Global, conn: &mut Connection<S>) -> Result<Vec<S
     read_all(alloc, &rows)
 }
 
-/// The one that there is, if any: Damaged if there are more.
-fn one_at_most(mut files: Vec<String>) -> Result<Option<String>, TableFault>
-    ensures ok { IfOk result (λ file. map string_bytes files.items ≡ if_any (option_map string_bytes file)) }
-    ensures err { IfErr result (λ fault. IsOfStoreOr (1 < length files.items) fault) }
+/// The file of the one row that there is, if any: Damaged if there are more.
+fn one_at_most(mut rows: Vec<ClosedFor>) -> Result<Option<String>, TableFault>
+    ensures ok { IfOk result (λ file. map closed_for_file rows.items ≡ if_any (option_map string_bytes file)) }
+    ensures err { IfErr result (λ fault. IsOfStoreOr (1 < length rows.items) fault) }
 {
-    let file = files.pop();
-    if files.is_empty() {
-        Ok(file)
-    } else {
-        Err(TableFault::Damaged)
+    let last = rows.pop();
+    if !rows.is_empty() {
+        return Err(TableFault::Damaged);
+    }
+    match last {
+        Some(row) => Ok(Some(row.file)),
+        None => Ok(None),
     }
 }
 

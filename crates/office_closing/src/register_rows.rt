@@ -1,49 +1,12 @@
-ghost use Rattle.std.specs.Prelude.{◌≡◌, ◌++◌, ◌∷◌, [], ◌^◌, OnOk, string_bytes};
-ghost use Rattle.office_loading.specs.{Columns.{SaysNumber, SaysSide, SaysText}, Decoded.{Decodes, DecodesAll, IsSaid, ReadsAs, fault_of_column, itself}};
-ghost use Rattle.office_closing.specs.{Lists.list_content, Reading.{SaysArchive, SaysSegment, SaysFile, SaysList}, Register.archive_content};
-ghost use Rattle.sqlite.specs.Order.{Row as Columns, column};
+ghost use Rattle.office_loading.specs.Decoded.{IsSaid};
+ghost use Rattle.office_closing.specs.{Lists.list_content, Reading.{SaysArchive, SaysSegment, SaysFile, SaysList, closed_for_file}, Register.archive_content};
 
 use crate::register::{Archive, Segment};
 use crate::settled_lists::SettledList;
 use edi_messages::Call;
+use office_loading::{Record, number_at, short_at, side_at, text_at};
 use office_tables::TableFault;
-use sqlite::types::ValueRef;
-use sqlite::{Error, ErrorCode, Row};
-use std::alloc::{AllocError, Global};
-use terminal_core::Side;
-
-/// What a row of a table says.
-pub(crate) trait Record: Sized + Drop {
-    // the columns say this
-    ghost says: { Columns → Self → Type 0 };
-
-    // the columns say something
-    ghost is_said: { Columns → Type 0 };
-
-    /// Reads a row: Damaged if no record has its columns.
-    fn read(row: &Row) -> Result<Self, TableFault>
-        ensures { Decodes says is_said row.now result };
-}
-
-/// The records of all rows.
-pub(crate) fn read_all<T: Record>(alloc: Global, rows: &[Row]) -> Result<Vec<T>, TableFault>
-    ensures { DecodesAll T.says T.is_said rows.now result }
-{
-    let mut records = Vec::new(alloc);
-    for row in rows {
-        let record = T::read(row)?;
-        append(&mut records, record)?;
-    }
-    Ok(records)
-}
-
-/// One more at the end.
-fn append<T: Drop>(records: &mut Vec<T>, one: T) -> Result<(), AllocError>
-    ensures { OnOk result (records.new.items ≡ records.old.items ++ one ∷ []) }
-{
-    records.push(one)?;
-    Ok(())
-}
+use sqlite::Row;
 
 impl Record for Archive {
     ghost says = { λ row read. SaysArchive row (archive_content read) };
@@ -99,68 +62,19 @@ impl Record for SettledList {
     }
 }
 
-impl Record for String {
-    ghost says = { λ row read. SaysFile row (string_bytes read) };
+/// The row that marks an archive: the file of the store for which it was closed.
+#[derive(Drop)]
+pub(crate) struct ClosedFor {
+    pub file: String,
+}
+
+impl Record for ClosedFor {
+    ghost says = { λ row read. SaysFile row (closed_for_file read) };
 
     ghost is_said = { IsSaid SaysFile };
 
-    fn read(row: &Row) -> Result<String, TableFault> {
+    fn read(row: &Row) -> Result<ClosedFor, TableFault> {
         let file = text_at(row, 0)?;
-        Ok(file)
-    }
-}
-
-/// The number in a column.
-fn number_at(row: &Row, at: usize) -> Result<u32, TableFault>
-    ensures { ReadsAs itself (SaysNumber (2 ^ 32)) (column row.now at) result }
-{
-    match row.get_ref(at) {
-        Ok(ValueRef::Int(number)) => match u32::try_from(number) {
-            Ok(number) => Ok(number),
-            Err(_) => Err(TableFault::Damaged),
-        },
-        _ => Err(TableFault::Damaged),
-    }
-}
-
-/// The number in a column, of 16 bits.
-fn short_at(row: &Row, at: usize) -> Result<u16, TableFault>
-    ensures { ReadsAs itself (SaysNumber (2 ^ 16)) (column row.now at) result }
-{
-    let number = number_at(row, at)?;
-    match u16::try_from(number) {
-        Ok(short) => Ok(short),
-        Err(_) => Err(TableFault::Damaged),
-    }
-}
-
-/// Which of a call's lists.
-fn side_at(row: &Row, at: usize) -> Result<Side, TableFault>
-    ensures { ReadsAs itself SaysSide (column row.now at) result }
-{
-    match number_at(row, at)? {
-        1 => Ok(Side::Load),
-        2 => Ok(Side::Discharge),
-        _ => Err(TableFault::Damaged),
-    }
-}
-
-/// The text in a column.
-fn text_at(row: &Row, at: usize) -> Result<String, TableFault>
-    ensures { ReadsAs string_bytes SaysText (column row.now at) result }
-{
-    match row.get(at) {
-        Ok(text) => Ok(text),
-        Err(error) => Err(fault_of_column(error)),
-    }
-}
-
-/// What a column that can't be read is to a caller of the tables.
-fn fault_of_column(error: Error) -> TableFault
-    ensures { result ≡ fault_of_column error }
-{
-    match error {
-        Error::SqliteFailure(ErrorCode::OutOfMemory) => TableFault::Memory,
-        _ => TableFault::Damaged,
+        Ok(ClosedFor { file })
     }
 }

@@ -3,8 +3,8 @@ ghost use Rattle.office_admission.specs.Limits.{most_partners};
 ghost use Rattle.office_closing.specs.{Copies.{is_with, office_content, taken_of}, Planning.IsTakenFor};
 
 use crate::Segment;
-use crate::planning::{Opened, append, numbers_to_close, segments_of};
-use office_loading::Closed;
+use crate::planning::{Opened, numbers_to_close, segments_of};
+use office_loading::{Closed, append};
 use std::alloc::{AllocError, Global};
 
 /// What the store's register is to get as taken with an archive: all that the store has taken. If it has other archives than

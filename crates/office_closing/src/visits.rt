@@ -4,6 +4,7 @@ ghost use Rattle.office_closing.specs.declared.visits.VisitFault.TheVariants.{Di
 ghost use Rattle.terminal_core.specs.{Restoring.{AreRising, numbers_of}, Rows.{VisitContent, visit_content}, State.{AreNumbered, last_number}};
 
 use box6346::Slot;
+use office_loading::append;
 use std::alloc::{AllocError, Global};
 use terminal_core::{Arrival, Departure, Visit};
 use thiserror::Error;
@@ -47,13 +48,6 @@ pub fn visits_to_go(alloc: Global, own: &[Visit], copy: &[Visit]) -> Result<Vec<
     Ok(gone)
 }
 
-fn append(numbers: &mut Vec<u32>, number: u32) -> Result<(), AllocError>
-    ensures { OnOk result (numbers.new.items ≡ numbers.old.items ++ number ∷ []) }
-{
-    numbers.push(number)?;
-    Ok(())
-}
-
 /// The numbers of visits, in their order.
 fn numbers_of(alloc: Global, visits: &[Visit]) -> Result<Vec<u32>, AllocError>
     ensures { IfOk result (λ v. v.items ≡ numbers_of visits.now) }
@@ -62,7 +56,7 @@ fn numbers_of(alloc: Global, visits: &[Visit]) -> Result<Vec<u32>, AllocError>
 }
 
 /// The number of the newest visit, 0 if there is none.
-pub(crate) fn newest_number(visits: &[Visit]) -> u32
+pub fn newest_number(visits: &[Visit]) -> u32
     ensures { result ≡ last_number (map visit_content visits.now) }
 {
     match visits.last() {

@@ -1,8 +1,8 @@
 -- What the words of a command line ask for.
 use Rattle.std.specs.{Prelude.{◌≡◌, ℕ, Bool, true, false, ◌&&◌, nat_le, List, [], Option, None, Some, codes, if◌then◌else◌}, Str.bytes_eq}
 use Rattle.std.specs.Option.{option_map, option_map_or, option_and_then}
-use Rattle.clap.specs.{Words.{Row, Text, first_of, subcommand_of, kind_of, fault_of, IsAmong}, declared.error.kind.ErrorKind.ErrorKind}
-use Rattle.clap.specs.declared.error.kind.ErrorKind.TheVariants.{DisplayHelp, DisplayVersion}
+use Rattle.clap.specs.{Words.{Row, Text, first_of, subcommand_of, kind_of, fault_of, IsAmong}, declared.error.Error.Error, declared.error.kind.ErrorKind.ErrorKind}
+use Rattle.clap.specs.declared.error.kind.ErrorKind.TheVariants.{DisplayHelp, DisplayVersion, OutOfMemory}
 use Rattle.edi_syntax.specs.Numbers.{number_of}
 use Rattle.office_command_line.specs.{Commands.office_app, declared.command_reading.CommandFault.CommandFault, declared.command_reading.Request.Request}
 use Rattle.office_command_line.specs.declared.command_reading.CommandFault.TheVariants.{Words, Values, Memory}
@@ -225,6 +225,14 @@ request_of_words words = request_met (subcommand_of office_app words)
 -- `clap` takes the words, and they ask for that
 abbrev pub WordsAsk : List Text → RequestContent → Type 0
 WordsAsk words what = (fault_of office_app words ≡ []) × (request_of_words words ≡ Some what)
+
+abbrev pub is_of_memory : ErrorKind → Bool
+is_of_memory OutOfMemory = true
+is_of_memory _ = false
+
+-- what is told of a fault that `clap` finds
+abbrev pub fault_told : Error → CommandFault
+fault_told error = if is_of_memory (kind_of error) then Memory else Words error
 
 -- why words ask for nothing: a fault that `clap` finds in them, a call for help or for the version being one; or it
 -- takes them, and they are no request; or memory was refused

@@ -1,6 +1,6 @@
 ghost use Rattle.std.specs.{Option.option_map, Prelude.{◌≡◌, IfOk, IfErr, map}};
 ghost use Rattle.clap.specs.Words.{found_of, rows_of, subcommand_rows_of, first_of};
-ghost use Rattle.office_command_line.specs.Requests.{request_content, init_request, account_request, migrate_request, close_request, explain_asked, deliver_request, serve_request, report_request, report_said, report_with, archives_with, texts_asked, from_said, request_by, request_met, is_set, kind_said, usage_line, wants_key, RefusesWords, RefusesMet, WordsAsk, number_if_any, number_upto};
+ghost use Rattle.office_command_line.specs.Requests.{request_content, init_request, account_request, migrate_request, close_request, explain_asked, deliver_request, serve_request, report_request, report_said, report_with, archives_with, texts_asked, from_said, request_by, request_met, is_set, kind_said, usage_line, wants_key, RefusesWords, RefusesMet, WordsAsk, fault_told, number_if_any, number_upto};
 
 use crate::builders::office_command;
 use clap::error::ErrorKind;
@@ -155,10 +155,17 @@ pub fn read_command<'a>(alloc: Global, words: &'a [&'a str]) -> Result<Request<'
     };
     match office.try_get_matches_from(words) {
         Ok(matches) => request_in(&matches),
-        Err(error) => match error.kind() {
-            ErrorKind::OutOfMemory => Err(CommandFault::Memory),
-            _ => Err(CommandFault::Words(error)),
-        },
+        Err(error) => Err(fault_in(error)),
+    }
+}
+
+/// Why `clap` gives no matches.
+fn fault_in(error: Error) -> CommandFault
+    ensures { result ≡ fault_told error }
+{
+    match error.kind() {
+        ErrorKind::OutOfMemory => CommandFault::Memory,
+        _ => CommandFault::Words(error),
     }
 }
 

@@ -1,5 +1,5 @@
 -- What the demonstration's stream leaves behind where it ends before the input.
-use Rattle.std.proofs.Common.{◌≡◌, ◌<◌, ℕ, Bool, true, List, [], Result, Ok, Err, rules}
+use Rattle.std.proofs.Common.{◌≡◌, ◌<◌, ℕ, Bool, true, [], Result, Err, rules}
 use Rattle.sqlite_trees.specs.{View.doubt, declared.memory.MemStore.MemStore}
 use Rattle.sqlite.specs.{Held.state, State.HasCleanDisk, Steps.over_memory, declared.connection.Connection.Connection}
 use Rattle.office_admission.specs.Setups.{setup_content}

@@ -1,5 +1,6 @@
 -- What a connection to files shows.
-use Rattle.std.proofs.{Common.{◌≡◌, inl, inr, [], length, true, false, Result, Ok, Err, IfOk, arith, refl, ap, sym, subst}, Math.Logic.∥∥₁_elim}
+use Rattle.std.proofs.Common.{◌≡◌, inl, inr, [], length, true, false, arith, refl, ap, sym, subst}
+use Rattle.std.proofs.Math.Logic.{∥∥₁_elim}
 use Rattle.sqlite_disk.specs.declared.Disk.{Ghosts}
 use Rattle.sqlite_catalog.{specs.Listing.Lists, proofs.ReadLemmas.lists_once}
 use Rattle.sqlite_trees.specs.{Props.Trees-set, Sound.is_sound_list, Objects.catalog_tree}
@@ -48,8 +49,3 @@ shows_no_tables image conn empty shows (inr (db, held, lists)) = ap (λ (d : Dat
 pub never_missing : AreMissing office_tables office_schema → ⊥
 unfolding same_name
 never_missing missing = let none : true ≡ false = missing.0 in absurd cc
-
--- what follows from two facts of a result
-pub if_both : {X E : Type 0} {P Q R : X → Type 0} (r : Result X E) → ((x : X) → P x → Q x → R x) → IfOk r P → IfOk r Q → IfOk r R
-if_both (Ok x) f p q = f x p q
-if_both (Err e) f p q = p

@@ -1,5 +1,6 @@
 -- What a desk tells, by a set-up that only says the same, and by the tables that the files held.
-use Rattle.std.{specs.Prelude.string_bytes, proofs.Common.{◌≡◌, inl, inr, ℕ, List, Option, Some, option_map, Result, Ok, Err, IfOk, ap, sym, subst, ◌∙◌}}
+use Rattle.std.specs.Prelude.{string_bytes}
+use Rattle.std.proofs.Common.{◌≡◌, inl, inr, ℕ, List, Option, Some, option_map, ap, sym, subst, ◌∙◌}
 use Rattle.sqlite.specs.{Effect.Database, Held.state, Tree.Trees}
 use Rattle.sqlite_trees.specs.declared.store.Store.{Ghosts}
 use Rattle.terminal_core.specs.State.{TerminalState}
@@ -88,11 +89,6 @@ told_over g db desk asked found over none told =
       loads = subst (λ (d : Database). Loads d content terminal) over.shows whole;
       tells = λ rows has. told.office rows terminal (over.office.holds rows (subst (HasRows rows) (sym over.shows) has));
     }
-
--- what follows of a result from what holds of it if something else does
-pub if_held : {T E : Type 0} (Held : Type 0) (P Q : T → Type 0) (r : Result T E) → ((value : T) → P value → Q value) → (Held → IfOk r P) → IfOk r (λ value. Held → Q value)
-if_held Held P Q (Ok value) also told = λ held. also value (told held)
-if_held Held P Q (Err e) also told = tt
 
 -- what was found was printed in whole lines
 pub printed_found : {T : Type 0} (prints : List ℕ → ℕ → Type 0) (bytes : T → List ℕ) (found : Option T) (text : T) (lines printed : List ℕ) → found ≡ Some text

@@ -1,5 +1,5 @@
 -- Requests that are served of a store and its archives.
-use Rattle.std.proofs.Common.{◌≡◌, ◌⊎◌, inl, inr, ℕ, List, [], ◌∷◌, ◌++◌, Option, Some, Result, refl, sym, ap, subst, ◌∙◌}
+use Rattle.std.proofs.Common.{◌≡◌, ◌⊎◌, inl, inr, ℕ, List, [], ◌∷◌, ◌++◌, Option, Result, refl, sym, ap, subst, ◌∙◌}
 use Rattle.sqlite.specs.{Held.state, Recovery.Image, Tree.Trees}
 use Rattle.sqlite_trees.specs.declared.store.Store.{Ghosts}
 use Rattle.office_replies.specs.{Adding.with_added, Delivering.with_answered, Events.{Event, added, delivered}, declared.accounts.AccountAnswer.AccountAnswer}

@@ -1,5 +1,5 @@
 -- What is said of a stream by how it came out, and of one to a desk of which nothing was put away.
-use Rattle.std.proofs.Common.{◌≡◌, ◌≢◌, ◌≤◌, ◌<◌, inl, inr, ℕ, ◌+◌, ◌-◌, ◌^◌, ◌++◌, min, List, [], ◌∷◌, Option, true, false, Result, Ok, Err, IfOk, IfErr, OnOk, arith}
+use Rattle.std.proofs.Common.{◌≡◌, ◌≢◌, ◌≤◌, ◌<◌, ℕ, ◌+◌, ◌-◌, ◌^◌, ◌++◌, min, List, [], ◌∷◌, true, false, Result, Ok, Err, IfErr, OnOk, arith}
 use Rattle.sqlite.specs.Recovery.{Image}
 use Rattle.office_replies.specs.{Delivering.{AreAnswered, AnswersEach, LeadsOn, with_answered, events_behind}, Events.Event, declared.deliver.Response.Response}
 use Rattle.office_replies.specs.{declared.deliver.Worst.Worst, Faults.MatchFault, declared.stream.StreamFault.StreamFault}

@@ -1,5 +1,5 @@
 -- A store that is opened on its files, beside its archives.
-use Rattle.std.specs.Prelude.{◌≡◌, false, List, [], Ok, IfSome, IsTrue}
+use Rattle.std.specs.Prelude.{◌≡◌, ℕ, false, List, [], Ok, IfSome, IsTrue}
 use Rattle.sqlite.specs.{Files.HoldsDatabase, Held.{Held, state}, Recovery.Image, State.HasCleanDisk, Tree.Trees}
 use Rattle.sqlite_trees.specs.declared.store.Store.{Ghosts}
 use Rattle.office_replies.specs.Events.{Event}
@@ -45,6 +45,12 @@ abbrev pub IsSetUpHeld : Image → ClosedContent → SetupContent → Type 0
 IsSetUpHeld image closed setup =
     (db : Trees) → HoldsTables image db →
     (terminal : TerminalState) × LoadsOwn closed (record { schema = office_schema; trees = db }) setup terminal
+
+-- whatever rows of an office the files held, they are of no day before that register, by their partners' next numbers
+abbrev pub IsOfDayHeld : Image → RegisterContent → Type 0
+IsOfDayHeld image names =
+    (db : Trees) (rows : Rows) → HoldsTables image db → HasRows rows (record { schema = office_schema; trees = db }) →
+    (nexts : List ℕ) × AreNexts rows nexts × (is_newer_than nexts names ≡ false)
 
 -- A desk was opened over that connection: if it is sound, the disk was clean, the desk is over the office that the tables show,
 -- and a crash leaves what is committed.

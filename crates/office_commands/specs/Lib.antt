@@ -12,6 +12,7 @@ pub mod Looking
 pub mod Serving
 pub mod ServingBeside
 pub mod Senders
+pub mod Noting
 pub mod Migrating
 pub mod Printing
 pub mod Whole

@@ -21,7 +21,7 @@ pub const TURNS: u64 = 100_000_000;
 
 /// Delivers the interchanges of a reader to a desk, writes the answer to each as a line, and answers the exit status: 0
 /// if each was taken, repeated or waits, 1 if one was refused, and 3 if reading or writing failed, or one could not be
-/// answered now. `errors` takes what is told of a fault; before that, `notes` is told how the stream came out.
+/// answered now. `errors` takes the line of a fault; before that, `notes` gets how the stream came out.
 pub fn deliver_to<D: Deliver, N: Notes, R: Read, W: Write, E: Write>(
     alloc: Global,
     desk: &mut D,
@@ -48,7 +48,7 @@ pub fn deliver_to<D: Deliver, N: Notes, R: Read, W: Write, E: Write>(
 }
 
 /// Delivers the interchanges of a reader to a desk, whatever desk it is, as `deliver_to` does, and gives it back as it was
-/// left. `notes` is told of each.
+/// left. `notes` gets each.
 pub fn deliver_noted<D: Report + Faults + Tallied, N: Notes, R: Read, W: Write, E: Write>(
     alloc: Global,
     desk: D,
@@ -94,7 +94,7 @@ pub fn deliver_desk<S: Alter + Drop, A: Archives + Drop, N: Notes, R: Read, W: W
 }
 
 /// Delivers the interchanges of a reader to the store at a path, with its archives, as `deliver_to` does, and answers the exit
-/// status. `notes` is told of each. The office is given back as it was left, or why it did not open, which was reported.
+/// status. `notes` gets each. The office is given back as it was left, or why it did not open, which was reported.
 pub fn deliver_over<
     S: Start,
     A: Archives + Drop,
@@ -114,7 +114,7 @@ pub fn deliver_over<
     errors: &mut Port<E>,
 ) -> (u8, Result<FileOffice<S, A>, OpenFault>)
     // From whatever events the files held what is left of the rows, if the archives hold the rest, the lines are the answers of
-    // that office, as far as the archives told the truth, and what was answered outlasts a crash. And what each delivery did,
+    // that office, if the archives are sound, and what was answered outlasts a crash. And what each delivery did,
     // whatever the files held.
     ensures ends { IfOk result.1 (λ office. FromOpened over_files M.hold A.are (image_at S.Start) (λ opened.
         StreamEnds (LeavesPorts (ports reader.old writer.old) (ports reader.new writer.new))

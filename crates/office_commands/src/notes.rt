@@ -1,4 +1,5 @@
 ghost use Rattle.std.specs.Prelude.{◌≡◌};
+ghost use Rattle.office_commands.specs.Noting.{account_note, delivery_note};
 
 use crate::telling::{Faults, Tallied};
 use edi_syntax::{Head, interchange_text};
@@ -11,10 +12,10 @@ use office_reports::{NotNow, Query, Report};
 use office_tables::TableFault;
 use std::alloc::{AllocError, Global};
 
-/// What notes for a person what is done. It is told of each call of the desk, of each connection, and of a stream's end, and
+/// What notes for a person what is done. It gets each call of the desk, of each connection, and of a stream's end, and
 /// nothing that it does changes an answer.
 pub trait Notes {
-    /// Whether anybody reads it. If not, it is not told how deliveries and accounts were answered.
+    /// Whether anybody reads it. If not, it gets no answers of deliveries and accounts.
     fn is_on(&self) -> bool;
 
     /// The desk is asked now.
@@ -116,7 +117,7 @@ impl Sender {
     }
 }
 
-/// What is asked while it may be noted: what it is made of answers, and it tells what was done.
+/// What is asked while it may be noted: what it is made of answers, and it notes what was done.
 #[derive(Drop)]
 pub(crate) struct Noted<'a, D, N> {
     desk: D,
@@ -138,29 +139,16 @@ impl<'a, D: Report + Faults + Tallied, N: Notes> Noted<'a, D, N> {
         desk
     }
 
-    /// Tells how a text was answered.
+    /// Notes how a text was answered.
     fn note_delivery(&self, alloc: Global, delivered: &[u8], response: &Response) {
-        let note = match response {
-            Response::Taken(_) => DeliveryNote::Taken(self.desk.last_taken()),
-            Response::Repeat(_) => DeliveryNote::Repeat,
-            Response::Waiting(_) => DeliveryNote::Waiting,
-            Response::Clash(_) => DeliveryNote::Clash,
-            Response::Refused(fault) => DeliveryNote::Refused(*fault),
-            Response::RefusedWithContrl { fault, .. } => DeliveryNote::Refused(*fault),
-            Response::NotNow => DeliveryNote::NotNow(self.why()),
-        };
+        let note = delivery_note(response, self.desk.last_taken(), self.why());
         let sender = Sender::of(alloc, delivered);
         self.notes.delivered(sender.as_ref(), &note);
     }
 
-    /// Tells how an account was answered.
+    /// Notes how an account was answered.
     fn note_account(&self, code: &[u8], answer: &AccountAnswer) {
-        let note = match answer {
-            AccountAnswer::Added { .. } => AccountNote::Added,
-            AccountAnswer::Known { .. } => AccountNote::Known,
-            AccountAnswer::Refused(fault) => AccountNote::Refused(*fault),
-            AccountAnswer::NotNow => AccountNote::NotNow(self.why()),
-        };
+        let note = account_note(answer, self.why());
         self.notes.enrolled(code, &note);
     }
 
@@ -170,6 +158,34 @@ impl<'a, D: Report + Faults + Tallied, N: Notes> Noted<'a, D, N> {
             fault: self.desk.last_fault(),
             is_nameless: self.desk.is_nameless(),
         }
+    }
+}
+
+/// How a delivery that was answered so is noted: if it was taken, with what became of it, and if it could not be answered now,
+/// with the reason.
+fn delivery_note<'a>(response: &Response, taken: Tally, why: WhyNotNow<'a>) -> DeliveryNote<'a>
+    ensures { result ≡ delivery_note taken why.entry response.now }
+{
+    match response {
+        Response::Taken(_) => DeliveryNote::Taken(taken),
+        Response::Repeat(_) => DeliveryNote::Repeat,
+        Response::Waiting(_) => DeliveryNote::Waiting,
+        Response::Clash(_) => DeliveryNote::Clash,
+        Response::Refused(fault) => DeliveryNote::Refused(*fault),
+        Response::RefusedWithContrl { fault, .. } => DeliveryNote::Refused(*fault),
+        Response::NotNow => DeliveryNote::NotNow(why),
+    }
+}
+
+/// How an account that was asked for is noted, if it was answered so: with the reason, if that could not be answered now.
+fn account_note<'a>(answer: &AccountAnswer, why: WhyNotNow<'a>) -> AccountNote<'a>
+    ensures { result ≡ account_note why.entry answer.now }
+{
+    match answer {
+        AccountAnswer::Added { .. } => AccountNote::Added,
+        AccountAnswer::Known { .. } => AccountNote::Known,
+        AccountAnswer::Refused(fault) => AccountNote::Refused(*fault),
+        AccountAnswer::NotNow => AccountNote::NotNow(why),
     }
 }
 

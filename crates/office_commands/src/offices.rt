@@ -1,8 +1,8 @@
-ghost use Rattle.std.specs.Prelude.{◌≡◌, ◌≢◌, false, List, [], IfErr, IfOk, IsTrue, None};
+ghost use Rattle.std.specs.{Prelude.{◌≡◌, ◌≢◌, false, List, [], IfErr, IfOk, IsTrue, None}, Option.{option_map, unwrap_or}};
 ghost use Rattle.office_archives.specs.Shelves.{NamesAll};
-ghost use Rattle.office_commands.specs.{Beside.{IsLoaded, IsSetUpHeld, OpensWith}, Opening.{Shows, ShowsHeld}};
+ghost use Rattle.office_commands.specs.{Beside.{IsLoaded, IsOfDayHeld, IsSetUpHeld, OpensWith}, Opening.{Shows, ShowsHeld}};
 ghost use Rattle.office_commands.specs.Refusing.{IsMarked, IsOfRegister, IsRefused, IsUnloaded, IsUnopened};
-ghost use Rattle.office_closing.specs.{Register.{RegisterContent, closed_by, is_newer_than, register_content}, Sound.is_sound};
+ghost use Rattle.office_closing.specs.{Changes.empty_register, Register.{RegisterContent, closed_by, is_newer_than, register_content}, Sound.is_sound};
 ghost use Rattle.office_loading.specs.Closed.{closed_content};
 ghost use Rattle.office_parts.specs.Archives.{Archive};
 ghost use Rattle.office_admission.specs.Setups.{setup_content};
@@ -132,9 +132,18 @@ pub(crate) fn read_names(rt: &HostRuntime, store: &str) -> Result<Register, Open
     ensures refused { IfErr result (IsOfRegister ⊥) }
 {
     match read_history(rt, store) {
-        Ok(Some(register)) => Ok(register),
-        Ok(None) => Ok(no_archives(rt.alloc())),
+        Ok(found) => Ok(or_no_archives(rt.alloc(), found)),
         Err(fault) => Err(OpenFault::Register(fault)),
+    }
+}
+
+/// The register that was found, an empty one if there is none.
+fn or_no_archives(alloc: Global, found: Option<Register>) -> Register
+    ensures { register_content result ≡ unwrap_or (option_map register_content found) empty_register }
+{
+    match found {
+        Some(register) => register,
+        None => no_archives(alloc),
     }
 }
 
@@ -160,6 +169,8 @@ pub fn look_at_office<S: Start>(
     ensures sound { IfOk result (λ looked. IsTrue (is_sound (register_content looked.1))) }
     ensures setup { IfOk result (λ looked. HasCleanDisk (file_state looked.0.conn) →
         IsSetUpHeld (image_at S.Start) (closed_by (register_content looked.1)) (setup_content looked.2)) }
+    ensures of_day { IfOk result (λ looked. HasCleanDisk (file_state looked.0.conn) →
+        IsOfDayHeld (image_at S.Start) (register_content looked.1)) }
     ensures refused { IfErr result (IsRefused ⟦<FileStore<FileFrom<S>> as sqlite_trees::store::Store>⟧ (image_at S.Start) ⊥) }
 {
     let mut looked = match look_there(rt, store, start) {

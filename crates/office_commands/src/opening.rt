@@ -1,4 +1,4 @@
-ghost use Rattle.std.specs.Prelude.{◌≡◌, ◌≤◌, ℕ, List, [], length, false, IfErr, IfOk, not};
+ghost use Rattle.std.specs.Prelude.{◌≡◌, ◌↔◌, ◌≤◌, ℕ, List, [], length, false, IfErr, IfOk, Some, not};
 ghost use Rattle.office_commands.specs.{Opening.{HoldsNoTables, HoldsTables, ShowsHeld, OpensEmpty}, Serving.{EnrolsWhile, LeadsWhile}};
 ghost use Rattle.office_desk.specs.Crashes.{Leaves};
 ghost use Rattle.office_rows.specs.Tables.{no_schema};
@@ -139,7 +139,7 @@ pub fn open_desk(alloc: Global, setup: &Setup) -> Result<Desk<MemStore>, TableFa
     Desk::open(alloc, conn, Closed::nothing(alloc))
 }
 
-/// What tells whether a store's file has a name still.
+/// What knows whether a store's file has a name still.
 pub trait Names: Drop {
     ghost use Rattle.std.specs.Prelude.{Bool};
 
@@ -171,10 +171,21 @@ impl Names for StoreFile {
     ghost says = { λ file answer. Unit {0} };
 
     fn has_name(&self) -> bool {
-        match &self.file {
-            Some(file) => names_of(file) > 0,
-            None => true,
-        }
+        let names = match &self.file {
+            Some(file) => Some(names_of(file)),
+            None => None,
+        };
+        is_named(names)
+    }
+}
+
+/// Whether a file with so many names has one; one that couldn't be opened counts as one with a name.
+fn is_named(names: Option<u64>) -> bool
+    ensures { (result ≡ false) ↔ (names ≡ Some 0) }
+{
+    match names {
+        Some(count) => count > 0,
+        None => true,
     }
 }
 

@@ -1,7 +1,7 @@
-ghost use Rattle.std.specs.Prelude.{◌≡◌, ◌==◌, ◌++◌, codes, length, ⊤, IfErr, IfOk, IfSome, IsTrue, option_map, string_bytes};
-ghost use Rattle.office_commands.specs.{History.{IsHistory, has_no_tables, history_in}, Paths.{HasNoSlash, IsBeside, path_of}};
+ghost use Rattle.std.specs.{Prelude.{◌≡◌, ◌==◌, ◌++◌, codes, false, length, nat_lt, None, Ok, Err, ⊤, IfErr, IfOk, IfSome, IsTrue, option_map, string_bytes}, Fs.{IsFile, file_type, metadata_len}};
+ghost use Rattle.office_commands.specs.{History.{IsHistory, has_no_tables, history_in}, Paths.{HasNoSlash, IsBeside, path_of, unfound}};
 ghost use Rattle.office_closing.specs.{Changes.empty_register, Register.register_content, Sound.is_sound};
-ghost use Rattle.office_tables.specs.Faults.{IsOfStore, IsOfStoreOr};
+ghost use Rattle.office_tables.specs.{Faults.{IsOfStore, IsOfStoreOr}, declared.table_fault.TableFault.TheVariants.Store};
 
 use crate::opening::{NO_STORE, look_there};
 use office_closing::Register;
@@ -114,8 +114,20 @@ pub fn has_no_tables(fault: &TableFault) -> bool
 pub fn is_there(rt: &HostRuntime, path: &str) -> Result<bool, TableFault>
     ensures { IfErr result IsOfStore }
 {
-    match found_at(rt, path)? {
-        Some(found) if found.is_file() => Ok(found.len() > 0),
+    is_filled(found_at(rt, path)?)
+}
+
+/// Whether what is found at a path is a file that isn't empty.
+///
+/// Store if it is no file.
+fn is_filled(found: Option<Metadata>) -> Result<bool, TableFault>
+    ensures none { found ≡ None → result ≡ Ok false }
+    ensures file { IfSome found (λ there. IsFile (file_type there) → result ≡ Ok (nat_lt 0 (metadata_len there))) }
+    ensures other { IfSome found (λ there. ¬ IsFile (file_type there) → result ≡ Err (Store NO_STORE)) }
+    ensures fault { IfErr result IsOfStore }
+{
+    match found {
+        Some(there) if there.is_file() => Ok(there.len() > 0),
         Some(_) => Err(TableFault::Store(NO_STORE)),
         None => Ok(false),
     }
@@ -129,9 +141,19 @@ pub fn found_at(rt: &HostRuntime, path: &str) -> Result<Option<Metadata>, TableF
 {
     match fs::metadata(rt, path) {
         Ok(found) => Ok(Some(found)),
-        Err(error) if error.kind() == ErrorKind::NotFound => Ok(None),
-        Err(error) if error.kind() == ErrorKind::OutOfMemory => Err(TableFault::Memory),
-        Err(_) => Err(TableFault::Store(NO_STORE)),
+        Err(error) => unfound(error.kind()),
+    }
+}
+
+/// What a path that can't be looked at is answered with, by the kind of error: none if nothing is there, else a fault.
+fn unfound(kind: ErrorKind) -> Result<Option<Metadata>, TableFault>
+    ensures exact { result ≡ unfound NO_STORE kind }
+    ensures fault { IfErr result IsOfStore }
+{
+    match kind {
+        ErrorKind::NotFound => Ok(None),
+        ErrorKind::OutOfMemory => Err(TableFault::Memory),
+        _ => Err(TableFault::Store(NO_STORE)),
     }
 }
 

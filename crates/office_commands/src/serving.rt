@@ -30,7 +30,7 @@ pub struct Service<'a> {
     pub site: &'a Site,
 }
 
-/// Serves the store at a path, with its archives, over HTTP: one request of each connection, until so many were accepted. It
+/// Serves the store at a path, with its archives, over HTTP: one request of each connection, until `count` were accepted. It
 /// prints a line as soon as it listens, and one in the end, and answers the exit status and the office as it was left: 0, or
 /// 3 if it can't listen, which is reported, or printing failed. A fault is that of `open_office`: then it did not listen,
 /// reported nothing and wrote nothing, since there is no desk.
@@ -44,7 +44,7 @@ pub fn serve_over<S: Start, A: Archives + Drop, M: ArchivesBeside<A>, N: Notes, 
     writer: &mut Port<W>,
     errors: &mut Port<E>,
 ) -> Result<(u8, Named<FileOffice<S, A>, StoreFile>), OpenFault>
-    // What was printed and told, and how many calls at most were made for requests. From whatever events the files held what is
+    // What was printed and noted, and how many calls at most were made for requests. From whatever events the files held what is
     // left of the rows, if the archives hold the rest, each delivery and each account is answered by that office at its place,
     // or `not now`, and what was answered outlasts a crash. And what each call did, whatever the files held.
     ensures ok { IfOk result (λ ended. FromOpened over_files M.hold A.are (image_at S.Start) (λ opened.

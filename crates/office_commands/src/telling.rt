@@ -37,7 +37,7 @@ fn print_whole<W: Write>(writer: &mut Port<W>, bytes: &[u8]) -> io::Result<()>
     writer.flush()
 }
 
-/// Tells a store's fault, and answers its exit status.
+/// Prints a store's fault, and answers its exit status.
 pub fn tell_fault<E: Write>(errors: &mut Port<E>, fault: &TableFault) -> u8
     ensures told { Tells errors.new.failed (E.contents errors.old.inner) (E.contents errors.new.inner)
         (store_text fault.now) }
@@ -64,7 +64,7 @@ pub fn tell_open_fault<E: Write>(errors: &mut Port<E>, fault: &OpenFault) -> u8
     }
 }
 
-/// Tells why a stream was left, if it was, and answers its exit status.
+/// Prints why a stream was left, if it was, and answers its exit status.
 pub fn tell_outcome<E: Write>(errors: &mut Port<E>, outcome: Result<Worst, StreamFault>) -> u8
     ensures told { Tells errors.new.failed (E.contents errors.old.inner) (E.contents errors.new.inner)
         (outcome_text outcome) }
@@ -79,7 +79,7 @@ pub fn tell_outcome<E: Write>(errors: &mut Port<E>, outcome: Result<Worst, Strea
     }
 }
 
-/// Tells a text. If that fails, only the exit status is left to tell.
+/// Prints a text. If that fails, only the exit status says it.
 pub fn tell<E: Write>(errors: &mut Port<E>, text: &str)
     ensures { Tells errors.new.failed (E.contents errors.old.inner) (E.contents errors.new.inner) text.now }
 {
@@ -144,7 +144,7 @@ pub fn demonstrate<R: Read, W: Write, E: Write>(
     }
 }
 
-/// What tells why it last answered `not now`.
+/// What knows why it last answered `not now`.
 pub trait Faults {
     /// The fault for which it last did so.
     fn last_fault(&self) -> Option<&TableFault>;
@@ -181,7 +181,7 @@ impl<S: Alter, A: Archives> HasTerminal for ArchivedDesk<S, A> {
     }
 }
 
-/// What tells what became of the interchanges that it took last.
+/// What knows what became of the interchanges that it took last.
 pub trait Tallied {
     /// What became of the one that was delivered, and of those that had waited for it.
     fn last_taken(&self) -> Tally;

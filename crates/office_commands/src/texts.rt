@@ -187,7 +187,7 @@ fn print_all<S: Alter, T: Alter + Drop, F: Shelf<T>, W: Write>(
     }
 }
 
-/// Ends what was printed, where so many of the texts that were to be passed over there are not: flushed, or `none`.
+/// Ends what was printed, where fewer texts are there than were to be passed over: flushed, or `none`.
 fn end_texts<W: Write>(writer: &mut Port<W>, left: u32) -> u8
     ensures { EndsTexts left (W.contents writer.old.inner) (W.contents writer.new.inner) writer.new.failed
         writer.new.flushed result }

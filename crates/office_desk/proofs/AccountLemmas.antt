@@ -1,6 +1,6 @@
 -- What a desk answers to an account that is to be added, and what it holds after it.
 use Rattle.std.specs.{List.range_with_len, Prelude.{slice_get, OnErr, OnOk, Result, Ok, Err, slice_index_or, slice_set}, declared.alloc.Global.Global}
-use Rattle.std.proofs.Common.{◌≡◌, ℕ, ◌+◌, ◌-◌, ◌<◌, Bool, true, false, cond, map, List, [], ◌∷◌, ◌++◌, length, Option, None, Some, get_or, option_map, inl, inr, refl, sym, ap, ap₂, subst, ◌∙◌, arith, ◌≤◌, String, string_bytes, codes}
+use Rattle.std.proofs.Common.{◌≡◌, ℕ, ◌+◌, ◌-◌, ◌<◌, true, cond, map, List, [], ◌∷◌, ◌++◌, length, Option, None, Some, get_or, option_map, inl, inr, refl, sym, ap, ap₂, subst, ◌∙◌, arith, ◌≤◌, String, string_bytes, codes}
 use Rattle.std.proofs.{lemmas.List.{length-append, map-append, length-map}, lemmas.List.FromFn.map-range_with_len_more, lemmas.Simd.map-map}
 use Rattle.std.proofs.lemmas.Option.{slice_get-get_or, slice_get-map}
 use Rattle.sqlite.specs.{Effect.Database, Tree.Trees, State.State, Held.state}
@@ -9,7 +9,9 @@ use Rattle.edi_messages.specs.declared.codes.PartnerKind.{PartnerKind}
 use Rattle.partner_core.{specs.{Deliveries.{run, delivery}, Numbered.with_number}, proofs.Keepings.with_number-below}
 use Rattle.terminal_core.specs.State.{TerminalState}
 use Rattle.office_replies.specs.{Events.{Event, added}, declared.accounts.AccountAnswer.AccountAnswer, declared.accounts.AccountFault.TheVariants.Partner}
-use Rattle.office_replies.specs.{Bodies.{answer_text, waiting_text}, Contents.content_of, Delivering.{AreAnswered, LeadsOn, with_answered}}
+use Rattle.office_replies.specs.Bodies.{answer_text}
+use Rattle.office_replies.specs.Contents.{content_of}
+use Rattle.office_replies.specs.Delivering.{AreAnswered, LeadsOn, with_answered}
 use Rattle.office_replies.specs.declared.deliver.Response.{Response}
 use Rattle.office_rows.specs.{Effects.with_partner, Rows.Rows, Stored.{HasRows, StoresRows}}
 use Rattle.office_admission.specs.{Kinds.kind_named, SetupAccounts.account_contents, Parties.{partner_codes, partner_from, partner_kinds}, Given.IsGiven}
@@ -27,8 +29,6 @@ use Rattle.office_desk.specs.{declared.desk.Desk.Desk, Answers.{answer_by_model,
 use Rattle.partner_core.specs.Answers as told
 use Rattle.office_replies.specs.declared.deliver.Response.TheVariants as response
 
--- ==== AccountLemmas: What a desk answers to an account that is to be added, and what it holds after it.
-
 -- ---- the answer
 
 -- a code and a kind of their forms are answered by the accounts
@@ -36,13 +36,6 @@ pub asked : (accounts : List AccountPair) (code kind : List ℕ) (own : PartnerK
     account_answer accounts code kind ≡ by_number accounts own (partner_from 1 code (map (λ (account : AccountPair). account.0) accounts))
 asked accounts code kind own coded named =
     ap (λ b. cond b (by_kind accounts code (kind_named kind)) (refused_for Partner)) coded ∙ ap (by_kind accounts code) named
-
-pub not_named : (accounts : List AccountPair) (code kind : List ℕ) → kind_named kind ≡ None → account_answer accounts code kind ≡ refused_for Partner
-not_named accounts code kind none = by (is_party_code code)
-  where
-    by : (coded : Bool) → cond coded (by_kind accounts code (kind_named kind)) (refused_for Partner) ≡ refused_for Partner
-    by true = ap (by_kind accounts code) none
-    by false = refl
 
 -- ---- the accounts of a set-up
 
@@ -182,10 +175,6 @@ given_left (Err fault) content old new grown with_it same was is = subst IsGiven
 pub taken_is : (body : String Global) (reply : List ℕ) (number : ℕ) (code : List ℕ) → string_bytes body ≡ answer_text (codes "taken") number code reply →
     content_of (response.Taken body) ≡ answer_by_model code number (told.Taken (Some reply))
 taken_is body reply number code is = rw is refl
-
-pub waiting_is : (body : String Global) (next number : ℕ) (code : List ℕ) → string_bytes body ≡ waiting_text next number code →
-    content_of (response.Waiting body) ≡ answer_by_model code number (told.Waiting next)
-waiting_is body next number code is = rw is refl
 
 -- ---- a run
 

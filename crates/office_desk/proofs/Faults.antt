@@ -36,8 +36,6 @@ use Rattle.office_rows.specs.Tables as table
 use Rattle.office_reports.specs.declared.query.Query.TheVariants as query
 use Rattle.office_replies.specs.declared.deliver.Response.TheVariants as response
 
--- ==== Faults: Why a call fails over the rows of an office.
-
 -- ---- the next numbers
 
 none_high : (id : ℕ) (partners : List Partner) (accounts : List (List ℕ × PartnerKind)) → AreAccounts id partners accounts → (p : Partner) → Has partners p → p.next ≤ 1000000000

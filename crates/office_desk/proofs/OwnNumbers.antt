@@ -1,7 +1,7 @@
 -- What a store keeps of its partners' interchanges, of which some were put away: by number, and by what its tables show.
 use Rattle.std.specs.{Prelude.{slice_get, nat_le, if◌then◌else◌, find, filter, Contains}, Option.{unwrap_or, option_map, option_and_then}}
 use Rattle.std.{specs.{List.{range_with_len, AllByRecursion}, List.Sorted.IsPermutation}, proofs.{lemmas.Option.slice_get-map, lemmas.Bool.cases_order}}
-use Rattle.std.proofs.Common.{◌≡◌, ℕ, ◌-◌, ◌≤◌, List, [], Ok, Err, Some, refl, sym, ap, subst, ◌∙◌, string_bytes, ◌+◌, ◌∷◌, ◌++◌, Result, ap₂, ◌⊎◌, zero, suc, ◌<◌, inl, inr, length, map, All, Option, None, is_some, true, arith}
+use Rattle.std.proofs.Common.{◌≡◌, ℕ, ◌-◌, ◌≤◌, List, [], Ok, Err, Some, refl, sym, ap, subst, ◌∙◌, string_bytes, ◌+◌, ◌∷◌, ◌++◌, Result, ap₂, ◌⊎◌, zero, suc, ◌<◌, inl, inr, length, map, Option, None, is_some, true, arith}
 use Rattle.std.proofs.{lemmas.List.Elements.All-contains, lemmas.List.Sorted.{IsPermutation-sym, Contains-permutation}}
 use Rattle.edi_syntax.specs.{Text.Content, Interchange.{interchange_of, segments_in}, Envelope.header_of, Header.control_number}
 use Rattle.partner_core.{specs.{Numbered.with_number, Deliveries.{Delivery, delivery, first_text, run}, Order.state}, proofs.Keepings.with_number-below}

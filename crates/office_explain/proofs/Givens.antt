@@ -21,16 +21,6 @@ pub one_more : {A : Type 0} (xs : List A) (i : ℕ) (d x : A) → i < length xs 
 one_more xs i d x low at = take_more xs i d low ∙ ap (λ z. take i xs ++ z ∷ []) (sym at)
 
 module _ {A B C : Type 0} (g : A → B) (f : B → Option C) where
-  -- each one's answer
-  pub said_more : (xs : List A) (i : ℕ) (d x : A) (cs : List C) (c : C) → i < length xs → x ≡ get_or xs i d → f (g x) ≡ Some c → map f (map g (take i xs)) ≡ map Some cs
-      → map f (map g (take (i + 1) xs)) ≡ map Some (cs ++ c ∷ [])
-  said_more xs i d x cs c low at here before =
-      ap (λ l. map f (map g l)) (one_more xs i d x low at) ∙ ap (map f) (map-append g (take i xs) (x ∷ [])) ∙ map-append f (map g (take i xs)) (g x ∷ [])
-      ∙ ap₂ (λ (a b : List (Option C)). a ++ b) before (ap (λ (o : Option C). o ∷ []) here) ∙ sym (map-append Some cs (c ∷ []))
-
-  pub said_all : (xs : List A) (i : ℕ) (cs : List C) → length xs ≤ i → map f (map g (take i xs)) ≡ map Some cs → map f (map g xs) ≡ map Some cs
-  said_all xs i cs low said = ap (λ l. map f (map g l)) (sym (take_all i xs low)) ∙ said
-
   pub none_said : (xs : List A) (i : ℕ) (d x : A) → i < length xs → x ≡ get_or xs i d → f (g x) ≡ None → (cs : List C) → ¬ (map f (map g xs) ≡ map Some cs)
   none_said [] i d x low at here cs same = absurd (omega arith)
   none_said (y ∷ xs) zero d x low at here [] same = absurd (cc)
@@ -61,9 +51,6 @@ module _ {A B C : Type 0} (g : A → B) (f : B → Option C) where
         append_none : (l : List C) → l ++ [] ≡ l
         append_none [] = refl
         append_none (y ∷ l) = ap (λ r. y ∷ r) (append_none l)
-
-  pub kept_all : (xs : List A) (i : ℕ) (cs : List C) → length xs ≤ i → cs ≡ filter_map f (map g (take i xs)) → cs ≡ filter_map f (map g xs)
-  kept_all xs i cs low kept = kept ∙ ap (λ l. filter_map f (map g l)) (take_all i xs low)
 
 -- ---- the first and the others
 

@@ -6,12 +6,10 @@ use Rattle.edi_syntax.specs.{Moments.CivilMoment, Messages.Message}
 use Rattle.edi_messages.specs.{Faults.{beginning, order_kind_of, purpose_of, applies, fault_of}, Message.{MessageContent, judged_message, message_of, reading}}
 use Rattle.edi_messages.specs.{Types.message_type_of, declared.codes.Codes.Codes, declared.message.MessageFault.MessageFault}
 use Rattle.edi_messages.specs.declared.message.MessageFault.TheVariants.{OtherType, NoBgm, Code, Function, NoTransport, NoEquipment, EquipmentCount, TooMany, Memory}
-use Rattle.edi_messages.proofs.SurveyLemmas.{purpose_there}
+use Rattle.edi_messages.proofs.{SurveyLemmas.purpose_there, WalkLemmas.heading_faultless}
 use Rattle.office_explain.specs.{Kinds.{is_of_order, may_send}, Blocks.{AreBlocks, HasOnlyBreaks, IsAllIfCut, IsApart, IsBlock, IsToldFirst}, Told.Explains}
 use Rattle.office_explain.specs.{declared.explaining.Block.Block, declared.explaining.Told.Told, declared.explaining.Told.TheVariants.{Cut, Refused, Read}}
 use Rattle.office_explain.specs.{declared.partners.Partners.Partners, InOrder.InOrder}
-
--- ==== SendingLemmas: A message names no order of a sender's codes exactly if the fault that it is rejected for is of its type, its BGM or its code.
 
 abbrev is_order_fault : Option MessageFault → Bool
 is_order_fault fault = option_map_or is_of_order fault false
@@ -66,7 +64,7 @@ rejected codes opened message fault e =
 accepted : (codes : Codes) (opened : CivilMoment) (message : Message) → fault_of codes message ≡ None
     → (content : MessageContent) × (reading codes opened message ≡ Ok content)
 accepted codes opened message e =
-    let found = purpose_there codes message e in
+    let found = purpose_there codes message (heading_faultless codes message e) in
     (message_of found.0 opened message, rw (e, found.1) refl)
 
 abbrev IsFault : Result MessageContent MessageFault → MessageFault → Type 0

@@ -10,3 +10,4 @@ pub mod Said
 pub mod Wrong
 pub mod PartnerFaults
 pub mod Tallies
+pub mod Headings

@@ -1,5 +1,5 @@
 -- How many interchanges of a file fare how: the last line that is printed of a file, and of several what to do with them.
-use Rattle.std.specs.Prelude.{◌≡◌, ◌==◌, ◌++◌, ℕ, Bool, true, false, count_by, not, nat_lt, List, codes, decimal, length, if◌then◌else◌}
+use Rattle.std.specs.Prelude.{◌==◌, ◌++◌, ℕ, Bool, true, false, count_by, not, nat_lt, List, codes, decimal, length, if◌then◌else◌}
 use Rattle.office_explain.specs.{Messages.are_faultless, Told.is_faultless, declared.explaining.Block.Block, declared.explaining.Told.Told}
 use Rattle.office_explain.specs.declared.explaining.Told.TheVariants.{Cut, Refused, Read}
 
@@ -44,7 +44,3 @@ advice_for blocks =
 -- what stands after the blocks of a file
 abbrev pub tally_said : List Block → List ℕ
 tally_said blocks = tally_line blocks ++ advice_for blocks
-
--- the text ends so
-abbrev pub EndsSo : (end text : List ℕ) → Type 0
-EndsSo end text = (front : List ℕ) × (text ≡ front ++ end)

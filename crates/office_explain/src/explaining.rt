@@ -1,4 +1,4 @@
-//! What is told of the interchanges of a file, one after the other.
+//! What is said of the interchanges of a file, one after the other.
 ghost use Rattle.std.specs.Prelude.{◌≡◌, ◌≤◌, IfOk, IfErr, ◌+◌, ◌<◌, IfSome, IfNone, drop, length};
 ghost use Rattle.edi_syntax.specs.{Cuts.IsInterchange, Reading.breaks_len};
 ghost use Rattle.office_explain.specs.{Blocks.{HasOnlyBreaks, IsApart, IsBlock, IsToldFirst}, Told.{BeginsWithInterchange, IsCutFor, Explains}};
@@ -15,7 +15,7 @@ use std::alloc::{AllocError, Global};
 /// What is reported of an interchange.
 #[derive(Drop)]
 pub enum Told {
-    /// It can't be told apart from what follows, and nothing after it is read.
+    /// It can't be parted from what follows, and nothing after it is read.
     Cut(Finding),
     /// It is refused.
     Refused(Finding),
@@ -23,7 +23,7 @@ pub enum Told {
     Read(Reading),
 }
 
-/// What is reported of an interchange of a file, as `Display` writes it in whole lines.
+/// What is reported of an interchange of a file. `Display` writes what follows its heading, in whole lines.
 #[derive(Drop)]
 pub struct Block<'a> {
     /// Its number in the file, from 1.
@@ -32,7 +32,7 @@ pub struct Block<'a> {
     pub before: usize,
     /// Up to which byte of the file it goes.
     pub end: usize,
-    /// Its bytes; of one that can't be told apart all that is left of the file.
+    /// Its bytes; of one that can't be parted all that is left of the file.
     pub text: &'a [u8],
     pub told: Told,
 }
@@ -72,7 +72,7 @@ impl Block<'_> {
         }
     }
 
-    /// It can't be told apart.
+    /// It can't be parted.
     pub(crate) fn is_cut(&self) -> bool
         ensures { result ≡ is_cut self.now.told }
     {
@@ -127,7 +127,7 @@ fn first_from(file: &[u8], from: usize) -> usize
     file.len()
 }
 
-/// What is told of the front of a text, and of how many of its bytes: of an interchange, or of all if none can be told
+/// What is said of the front of a text, and of how many of its bytes: of an interchange, or of all if none can be told
 /// apart.
 #[tactic(auto, using(crate::proofs::SendingLemmas::not_cut))]
 fn told_first(alloc: Global, partners: &Partners, text: &[u8]) -> Result<(usize, Told), AllocError>
@@ -141,7 +141,7 @@ fn told_first(alloc: Global, partners: &Partners, text: &[u8]) -> Result<(usize,
     }
 }
 
-/// How many bytes the first interchange of a text has, or why it can't be told apart. `None`: the text ends within it. An
+/// How many bytes the first interchange of a text has, or why it can't be parted. `None`: the text ends within it. An
 /// error is that memory was refused.
 fn first_len(alloc: Global, text: &[u8]) -> Result<Result<usize, Option<CutFault>>, AllocError>
     requires { breaks_len text.now ≡ 0 }

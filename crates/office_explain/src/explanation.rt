@@ -1,17 +1,18 @@
 //! What is printed of a whole file.
 ghost use Rattle.std.specs.Prelude.{◌≡◌, ◌++◌, IfOk, OnOk, string_bytes};
-ghost use Rattle.office_explain.specs.{Blocks.{AreBlocks, IsExplanation, Says, are_faultless, none_said}, Told.is_faultless};
-ghost use Rattle.office_explain.specs.Tallies.{EndsSo, advice_for, count_of, is_cut, is_faulty, is_refused, plural, tally_line, tally_said};
+ghost use Rattle.office_explain.specs.{Blocks.{AreBlocks, IsExplanation, Says, are_faultless, none_said}};
+ghost use Rattle.office_explain.specs.{Headings.ListsBlocks, Told.is_faultless};
+ghost use Rattle.office_explain.specs.Tallies.{advice_for, count_of, is_cut, is_faulty, is_refused, plural, tally_line, tally_said};
 
 use crate::explaining::{Block, explain_from};
+use crate::headings::push_block;
 use crate::partners::Partners;
 use std::alloc::{AllocError, Global};
-use std::fmt::Write;
 
 /// What is printed of a file.
 #[derive(Drop)]
 pub struct Explanation {
-    /// What is told of each of its interchanges, in whole lines.
+    /// What is said of each of its interchanges, in whole lines.
     pub text: String,
     /// No fault was found.
     pub is_faultless: bool,
@@ -32,7 +33,7 @@ pub fn explain_file(
     Ok(Explanation { text, is_faultless })
 }
 
-/// What is told of each interchange of a file, in order.
+/// What is said of each interchange of a file, in order.
 #[tactic(auto, using(crate::proofs::SendingLemmas::are_all, crate::proofs::SendingLemmas::goes_on))]
 fn blocks_of<'a>(
     alloc: Global,
@@ -66,17 +67,17 @@ fn text_of(alloc: Global, file: &[u8], blocks: &[Block<'_>]) -> Result<String, A
 
 /// The lines of the blocks, one after the other, and how many interchanges of the file fare how.
 fn block_lines(alloc: Global, blocks: &[Block<'_>]) -> Result<String, AllocError>
-    ensures { IfOk result (λ text. EndsSo (tally_said blocks.now) (string_bytes text)) }
+    ensures { IfOk result (λ text. ListsBlocks blocks.now (tally_said blocks.now) (string_bytes text)) }
 {
     let mut text = String::new(alloc);
-    for block in blocks {
-        write!(text, "{block}")?;
+    'all: for block in blocks {
+        push_block(alloc, &mut text, block)?;
     }
     push_tally(alloc, &mut text, blocks)?;
     Ok(text)
 }
 
-/// What is told of a file that has no interchange.
+/// What is said of a file that has no interchange.
 fn none_in(file: &[u8]) -> &'static str
     ensures { result.now ≡ none_said file.now }
 {
@@ -119,7 +120,7 @@ fn plural(count: usize) -> &'static str
     if count == 1 { "" } else { "s" }
 }
 
-/// What is told of several.
+/// What is said of several.
 fn advice_for(blocks: &[Block<'_>]) -> &'static str
     ensures { result.now ≡ advice_for blocks.now }
 {

@@ -1,19 +1,18 @@
 //! A fault, with what it is called, its place and what is expected there; and how they are written.
 ghost use Rattle.std.specs.Prelude.{◌≡◌, ◌<◌};
-ghost use Rattle.office_replies.specs.Names.{message_fault_name};
 ghost use Rattle.office_explain.specs.{Names.{cut_name, line_fault_name}, Findings.IsFound};
 
 use crate::segments::{PlacedSegment, Span};
 use edi_messages::{CodeTable, Codes, LineFault, MessageFault, PartnerKind};
 use edi_syntax::characters::is_printable;
 use edi_syntax::{Component, CutFault};
-use office_replies::Fault;
+use office_replies::{Fault, message_fault_name};
 use std::fmt;
 
 /// What has a fault, and which. Messages are counted from 1 in their interchange, lines in their message.
 #[derive(Clone, Copy, PartialEq, Eq, Debug)]
 pub enum Subject {
-    /// What can't be told apart as an interchange: the file is cut there. `None`: it ends within an interchange.
+    /// What can't be parted as an interchange: the file is cut there. `None`: it ends within an interchange.
     Cut(Option<CutFault>),
     /// An interchange that is refused.
     Interchange(Fault),
@@ -44,7 +43,7 @@ impl Subject {
 #[derive(Clone, Copy)]
 pub struct Refused {
     pub fault: Fault,
-    /// The error code (0085) of the CONTRL that tells it, if one does.
+    /// The error code (0085) of the CONTRL that reports it, if one does.
     pub contrl: Option<u8>,
 }
 
@@ -53,7 +52,7 @@ pub struct Refused {
 pub struct Finding {
     /// What has which fault.
     pub subject: Subject,
-    /// The error code (0085) that a CONTRL tells for it, if one does.
+    /// The error code (0085) that a CONTRL has for it, if one does.
     pub contrl: Option<u8>,
     /// The number of the segment in the text, from 1.
     pub segment: usize,
@@ -133,23 +132,6 @@ fn cut_name(fault: Option<CutFault>) -> &'static str
         Some(CutFault::Service) => "Service",
         Some(CutFault::Segment) => "Segment",
         Some(CutFault::Memory) => "Memory",
-    }
-}
-
-/// The name of a fault of a message, as a reply gives it.
-fn message_fault_name(fault: MessageFault) -> &'static str
-    ensures { result.now ≡ message_fault_name fault }
-{
-    match fault {
-        MessageFault::OtherType => "OtherType",
-        MessageFault::NoBgm => "NoBgm",
-        MessageFault::Code => "Code",
-        MessageFault::Function => "Function",
-        MessageFault::NoTransport => "NoTransport",
-        MessageFault::NoEquipment => "NoEquipment",
-        MessageFault::EquipmentCount => "EquipmentCount",
-        MessageFault::TooMany => "TooMany",
-        MessageFault::Memory => "Memory",
     }
 }
 

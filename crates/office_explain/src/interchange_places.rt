@@ -8,7 +8,7 @@ use edi_syntax::head::is_count;
 use edi_syntax::{CutFault, MOST_BYTES, Service, SyntaxFault};
 use office_replies::Fault;
 
-/// The finding of what can't be told apart as an interchange, which would begin with the text.
+/// The finding of what can't be parted as an interchange, which would begin with the text.
 pub(crate) fn cut_finding(text: &[u8], fault: Option<CutFault>) -> Finding
     ensures { IsFound text.now (Subject.Cut fault) None result }
 {
@@ -97,7 +97,7 @@ fn unended_after(text: &[u8], front: Front<'_>) -> Wrong {
     unended_within(text, front.whole, front.rest)
 }
 
-/// Where a text ends too soon within a segment, after so many whole ones.
+/// Where a text ends too soon within a segment, after `whole` others.
 fn unended_within(text: &[u8], whole: usize, rest: &[u8]) -> Wrong {
     let words = "the rest of the segment, up to its terminator: the text ends here";
     Wrong {

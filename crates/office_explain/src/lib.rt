@@ -9,6 +9,7 @@ mod explaining;
 mod explanation;
 mod files;
 mod finding;
+mod headings;
 mod interchange_places;
 mod message_places;
 mod opening;

@@ -93,7 +93,7 @@ fn count_with_tag(segments: &[PlacedSegment<'_>], tag: &[u8]) -> usize {
     count
 }
 
-/// The container after so many.
+/// The container after `passed` others.
 fn container_after<'a>(segments: &[PlacedSegment<'a>], passed: usize) -> Option<PlacedSegment<'a>> {
     let mut left = passed;
     for segment in segments {

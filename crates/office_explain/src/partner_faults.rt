@@ -22,7 +22,7 @@ pub enum PartnerFault {
     Number,
 }
 
-/// What is wrong with the partner of a record, which comes after so many others of a file, its header among them. `None`:
+/// What is wrong with the partner of a record, which comes after `before` others of a file, its header among them. `None`:
 /// nothing is, or the record is of no partner, or a field up to it isn't UTF-8.
 pub fn partner_fault(
     alloc: Global,

@@ -170,7 +170,7 @@ fn is_one(segment: PlacedSegment<'_>, other: Option<PlacedSegment<'_>>) -> bool 
     }
 }
 
-/// Writes a segment that is passed over, of a text that stands after so many bytes of its file.
+/// Writes a segment that is passed over, of a text that begins at byte `before` of its file.
 pub(crate) fn write_passed<W: fmt::Write>(
     passed: &PassedOver,
     text: &[u8],

@@ -1,4 +1,4 @@
-//! How what is told of an interchange is written.
+//! How what is said of an interchange after its heading is written.
 
 use crate::beginnings::known_beginning;
 use crate::explaining::{Block, Told};
@@ -13,19 +13,12 @@ use std::fmt;
 
 impl fmt::Display for Block<'_> {
     fn fmt<W: fmt::Write>(&self, f: &mut fmt::Formatter<W>) -> fmt::Result {
-        let number = self.number;
-        let first = self.before.saturating_add(1);
-        write!(f, "interchange {number}, from byte {first}: ")?;
         match &self.told {
             Told::Cut(finding) => {
-                f.write_str("cut, and nothing after it is read\n")?;
                 write_finding(finding, self.text, self.before, f)?;
                 write_beginning(self.text, f)
             }
-            Told::Refused(finding) => {
-                f.write_str("refused, and nothing of it is kept\n")?;
-                write_finding(finding, self.text, self.before, f)
-            }
+            Told::Refused(finding) => write_finding(finding, self.text, self.before, f),
             Told::Read(reading) => write_reading(reading, self.text, self.before, f),
         }
     }
@@ -39,19 +32,17 @@ fn write_beginning<W: fmt::Write>(text: &[u8], f: &mut fmt::Formatter<W>) -> fmt
     }
 }
 
-/// Writes what is told of an interchange that is read.
+/// Writes what is said of an interchange that is read, from its sender on.
 fn write_reading<W: fmt::Write>(
     reading: &Reading,
     text: &[u8],
     before: usize,
     f: &mut fmt::Formatter<W>,
 ) -> fmt::Result {
-    let number = reading.number;
     let sender = ShortText::of_bytes(reading.sender.as_slice());
     let kind = kind_name(reading.kind);
     let recipient = ShortText::of_bytes(reading.recipient.as_slice());
-    write!(f, "number {number} of {sender}, ")?;
-    write!(f, "of the kind {kind}, to {recipient}\n")?;
+    write!(f, "{sender}, of the kind {kind}, to {recipient}\n")?;
     if reading.is_faultless() {
         f.write_str("  no fault\n")?;
     }
@@ -66,7 +57,7 @@ fn write_reading<W: fmt::Write>(
     Ok(())
 }
 
-/// Writes what is told of a message that is read, by its number.
+/// Writes what is said of a message that is read, by its number.
 fn write_message<W: fmt::Write>(
     read: &MessageRead,
     number: usize,
@@ -81,7 +72,7 @@ fn write_message<W: fmt::Write>(
     write_lines(read, number, text, before, f)
 }
 
-/// Writes what is told of the lines of a message, by its number.
+/// Writes what is said of the lines of a message, by its number.
 fn write_lines<W: fmt::Write>(
     read: &MessageRead,
     number: usize,
@@ -225,7 +216,7 @@ fn write_bytes<W: fmt::Write>(words: &str, bytes: &[u8], f: &mut fmt::Formatter<
     write!(f, "{words}{shown}")
 }
 
-/// Writes a finding of a text that stands after so many bytes of its file.
+/// Writes a finding of a text that begins at byte `before` of its file.
 fn write_finding<W: fmt::Write>(
     finding: &Finding,
     text: &[u8],

@@ -15,7 +15,7 @@ use edi_messages::{Codes, Line, Message, MessageFault, PartnerKind, message_erro
 use edi_syntax::{Component, Envelope, Frame, Frames, Moment};
 use std::alloc::{AllocError, Global};
 
-/// What is told of an interchange that is read.
+/// What is said of an interchange that is read.
 #[derive(Drop)]
 pub struct Reading {
     /// The number that its control reference writes.
@@ -26,11 +26,11 @@ pub struct Reading {
     pub recipient: Vec<u8>,
     /// What its sender is, or is taken for.
     pub kind: PartnerKind,
-    /// What is told of its messages, in their order.
+    /// What is said of its messages, in their order.
     pub messages: Vec<MessageTold>,
 }
 
-/// What is told of a message.
+/// What is said of a message.
 #[derive(Drop)]
 pub enum MessageTold {
     /// It is rejected.
@@ -39,18 +39,18 @@ pub enum MessageTold {
     Read(MessageRead),
 }
 
-/// What is told of a message that is read.
+/// What is said of a message that is read.
 #[derive(Drop)]
 pub struct MessageRead {
     /// What it orders, as a delivery of it reads it.
     pub message: Message,
     /// What of its heading was passed over.
     pub passed: Vec<PassedOver>,
-    /// What is told of each of its lines, in their order.
+    /// What is said of each of its lines, in their order.
     pub notes: Vec<LineNote>,
 }
 
-/// What is told of a line, beside what it orders.
+/// What is said of a line, beside what it orders.
 #[derive(Drop)]
 pub enum LineNote {
     /// Its fault.
@@ -112,7 +112,7 @@ fn is_order(line: &Line) -> bool
     }
 }
 
-/// What is told of an interchange that is read. An error is that memory was refused.
+/// What is said of an interchange that is read. An error is that memory was refused.
 pub(crate) fn reading_of(
     alloc: Global,
     partners: &Partners,
@@ -158,7 +158,7 @@ fn sender_kind(alloc: Global, partners: &Partners, opened: &Opened<'_>) -> Partn
     }
 }
 
-/// What is told of the messages of an interchange, whose segments are placed.
+/// What is said of the messages of an interchange, whose segments are placed.
 fn messages_told(
     alloc: Global,
     text: &[u8],
@@ -175,7 +175,7 @@ fn messages_told(
     Ok(told)
 }
 
-/// What is told of messages, in an interchange of that moment.
+/// What is said of messages, in an interchange of that moment.
 #[tactic(auto, using(crate::proofs::SendingLemmas::none_yet, crate::proofs::SendingLemmas::one_more, crate::proofs::SendingLemmas::all_told))]
 fn messages_from(
     alloc: Global,
@@ -212,7 +212,7 @@ struct MessagePlace<'p, 'a> {
     segments: &'p [PlacedSegment<'a>],
 }
 
-/// What is told of a message from a partner with these codes, in an interchange of that moment.
+/// What is said of a message from a partner with these codes, in an interchange of that moment.
 fn message_told(
     alloc: Global,
     place: MessagePlace<'_, '_>,
@@ -232,7 +232,7 @@ fn message_told(
     }
 }
 
-/// What is told of a message that is rejected for that fault; for want of memory nothing is.
+/// What is said of a message that is rejected for that fault; out of memory, nothing is.
 fn message_rejected(
     place: MessagePlace<'_, '_>,
     codes: &Codes,
@@ -254,7 +254,7 @@ fn message_rejected(
     }
 }
 
-/// What is told of the lines of a message, beside what they order.
+/// What is said of the lines of a message, beside what they order.
 #[tactic(auto, using(crate::proofs::SendingLemmas::none_yet, crate::proofs::SendingLemmas::one_more, crate::proofs::SendingLemmas::all_told))]
 fn notes_of(
     alloc: Global,
@@ -274,7 +274,7 @@ fn notes_of(
     Ok(notes)
 }
 
-/// What is told of a line, whose number and segments are given, the equipment first.
+/// What is said of a line, whose number and segments are given, the equipment first.
 fn note_of(
     alloc: Global,
     place: MessagePlace<'_, '_>,

@@ -301,9 +301,6 @@ find_mapped p f same (x ∷ xs) = ap (λ b. cond b (Some (f x)) (find p (map f x
 with_line : (lines : Lines) (key : LineKey) (o : Option LineContent) (line : LineContent) → o ≡ Some line → with_line_done lines key o ≡ finite_map.insert lines key (as_done line)
 with_line lines key o line e = ap (with_line_done lines key) e
 
-abbrev by_key : TerminalRows → List PlaceContent → List ListingContent → TerminalRows
-by_key terminal places lines = record terminal { places = standing_by places; lines = lines_by lines }
-
 change_agrees : (rows : Rows) (change : ChangeContent) → ArePlacedOnce rows.places → AreListedOnce rows.lines → IsApplicable (terminal_rows rows) change → AreRowsByKey (with_change change rows) (rows_with (terminal_rows rows) change)
 change_agrees rows (visit_opened visit) placed listed fits = record { same = refl; placed_once = placed; listed_once = listed }
 change_agrees rows (visit_closed number departure) placed listed fits = record { same = refl; placed_once = placed; listed_once = listed }

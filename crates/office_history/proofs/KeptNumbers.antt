@@ -5,14 +5,17 @@ use Rattle.std.proofs.Common.{◌≡◌, ℕ, List, [], ◌∷◌, ◌++◌, Non
 use Rattle.std.proofs.lemmas.Bool.{cases_order, eq-eqb, ne_eqb, cond-true, cond-false}
 use Rattle.std.proofs.lemmas.List.Sorted.{IsPermutation-sym, Contains-permutation, sum_by-IsPermutation}
 use Rattle.partner_core.specs.{ByPlace.{taken_by_place, AreNumbered, FoldsByPlace}, Deliveries.Delivery, Machine.Taking, Order.{state, reply_of}}
-use Rattle.partner_core.proofs.{ByPlace.rules_by_place, Orders.{option_or-none, none_of}}
+use Rattle.partner_core.proofs.ByPlace.{rules_by_place}
+use Rattle.partner_core.proofs.Orders.{option_or-none}
 use Rattle.terminal_core.specs.{Changes.rows_of, Versions.newest, declared.change.Version.Version, declared.change.Version.TheVariants.{First, Second, Third}}
 use Rattle.terminal_core.proofs.{Indexed.{found_is, one_place}, Whole.contained}
 use Rattle.office_replies.specs.Events.{Event, migrated}
 use Rattle.office_admission.specs.{Setups.SetupContent, Accounts.content_after, Admission.number_said, Deliveries.deliveries_of}
 use Rattle.office_admission.{specs.Taking.{MachineState, interchange_taken_by}, proofs.Adding.{content_on, migration_adds}}
 use Rattle.office_rows.specs.{Rows.{Rows, Partner, Interchange}, Migrated.{migrated_settings, migrated_rows}, Opening.settings_in, Effects.is_pair}
-use Rattle.office_rows.specs.{Values.{number_value, interchange_values}, Opened.{NumberKept, number_kept}, Office.{AreAccounts, AreWaiting, AreKept}}
+use Rattle.office_rows.specs.Values.{number_value, interchange_values}
+use Rattle.office_rows.specs.Opened.{NumberKept, number_kept}
+use Rattle.office_rows.specs.Office.{AreAccounts, AreKept}
 use Rattle.office_history.specs.After.{opening_of, migration_in, taking_in, AreRowsOf, AreAfterBy, AreAfter, AreKeptOnce, accounts_from, reply_if_any, reply_in}
 use Rattle.office_history.{specs.{Laws.MigrationGoesOn, Cascade.text_in}, proofs.Places.{numbered, taking_unmigrated, taking_migrated, moved}}
 use Rattle.office_history.proofs.Kept.{taken_by, Rise, Has, IsWithinRuns, IsComplete, all_kept, fewer, found_only, head_in, tail_in}
@@ -150,72 +153,6 @@ module _ (count : ℕ) (runs : ℕ → ℕ) (high : (p : ℕ) → runs p ≤ 999
   abbrev next : ℕ → ℕ
   next p = runs p + 1
 
-  abbrev AreWithin : List NumberKept → Type 0
-  AreWithin ns = AllByRecursion (IsWithinRuns count runs) ns
-
-  within_both : (ns ms : List NumberKept) → AreWithin ns → AreWithin ms → AreWithin (ns ++ ms)
-  within_both [] ms one two = two
-  within_both (n ∷ ns) ms one two = (one.0, within_both ns ms one.1 two)
-
-  taken_within : (p from many : ℕ) → 1 ≤ p → p ≤ count → 1 ≤ from → from + many ≤ runs p + 1 → AreWithin (map (taken_by p) (range_with_len from many))
-  taken_within p from zero one most low below = tt
-  taken_within p from (suc many) one most low below = (
-    record {
-      partner_low = one;
-      partner_high = most;
-      low = low;
-      high = omega (arith, below, high p);
-      taken = λ within. refl;
-      waits = λ far. absurd (omega (arith, far, below));
-    },
-    taken_within p (from + 1) many one most (omega arith) (omega (arith, below)),
-  )
-
-  waiting_within : (p above : ℕ) (ns : List NumberKept) → 1 ≤ p → p ≤ count → runs p + 1 ≤ above → AreWaiting p above ns → AreWithin ns
-  waiting_within p above [] one most beyond wait = tt
-  waiting_within p above (n ∷ ns) one most beyond wait =
-      let own : n.partner ≡ p = wait.0 in
-      let far : above < n.number = wait.2 in
-      let own_run : runs n.partner ≡ runs p = ap runs own in (
-        record {
-          partner_low = omega (arith, own, one);
-          partner_high = omega (arith, own, most);
-          low = omega (arith, far);
-          high = wait.3;
-          taken = λ within. absurd (omega (arith, within, own_run, far, beyond));
-          waits = λ later. (omega (arith, own_run, far, beyond), wait.1);
-        },
-        waiting_within p n.number ns one most (omega (arith, far, beyond)) wait.4,
-      )
-
-  kept_within : (id : ℕ) (accounts : List (List ℕ × PartnerKind)) (ns : List NumberKept) → 1 ≤ id → id + length accounts ≡ count + 1 → AreKept (accounts_from id next accounts) ns → AreWithin ns
-  kept_within id [] ns one ends kept = subst AreWithin (sym kept) tt
-  kept_within id (account ∷ accounts) ns one ends kept =
-      let its = kept.3 in
-      let many : ℕ = runs id + 1 - 1 in
-      let most : id ≤ count = omega (arith, ends) in
-      let taken : AreWithin (map (taken_by id) (range_with_len 1 many)) = taken_within id 1 many one most (omega arith) (omega arith) in
-      let own = within_both (map (taken_by id) (range_with_len 1 many)) its.waiting taken (waiting_within id (runs id + 1) its.waiting one most (omega arith) its.wait) in
-      subst AreWithin (sym (kept.2 ∙ ap (λ l. l ++ kept.1) its.are))
-      (within_both _ kept.1 own (kept_within (id + 1) accounts kept.1 (omega arith) (omega (arith, ends)) kept.4))
-
-  kept_has : (id : ℕ) (accounts : List (List ℕ × PartnerKind)) (ns : List NumberKept) (p k : ℕ) → AreKept (accounts_from id next accounts) ns → id ≤ p → p < id + length accounts → 1 ≤ k → k ≤ runs p → Has p k ns
-  kept_has id [] ns p k kept low below one within = absurd (omega (arith, low, below))
-  kept_has id (account ∷ accounts) ns p k kept low below one within =
-      let its = kept.3 in
-      let many : ℕ = runs id + 1 - 1 in
-      elim (cases_order id p) [
-        | inl same ↦
-            let own_run : runs id ≡ runs p = ap runs same in
-            let taken : Has id k (map (taken_by id) (range_with_len 1 many)) = has_taken id k 1 many one (omega (arith, within, own_run)) in
-            subst (Has p k) (sym (kept.2 ∙ ap (λ l. l ++ kept.1) its.are))
-            (subst (λ q. Has q k ((map (taken_by id) (range_with_len 1 many) ++ its.waiting) ++ kept.1)) same (has_left id k _ kept.1 (has_left id k _ its.waiting taken)))
-        | inr o ↦ elim o [
-          | inl less ↦ subst (Has p k) (sym kept.2) (has_right p k kept.0 kept.1 (kept_has (id + 1) accounts kept.1 p k kept.4 (omega (arith, less)) (omega (arith, below)) one within))
-          | inr more ↦ absurd (omega (arith, more, low))
-        ]
-      ]
-
 -- ---- by partner and number
 
 -- up to its partner's run each number was taken, the next is not there, and those beyond wait
@@ -249,56 +186,6 @@ pub has_in : (zs : List Interchange) (p k : ℕ) → Has p k (map number_kept zs
 has_in [] p k has = absurd has
 has_in (z ∷ zs) p k (inl here) = (z, head_in z zs, here.0, here.1)
 has_in (z ∷ zs) p k (inr later) = let rest = has_in zs p k later in (rest.0, tail_in z rest.0 zs rest.1, rest.2, rest.3)
-
-module _ (count : ℕ) (runs : ℕ → ℕ) (rows : Rows) (zs : List Interchange) (same : IsPermutation rows.interchanges zs) (once : AreKeptOnce rows.interchanges)
-    (all : AllByRecursion (IsWithinRuns count runs) (map number_kept zs)) (has : (p k : ℕ) → 1 ≤ k → k ≤ runs p → Has p k (map number_kept zs)) where
-  its_within : (i : Interchange) → Contains rows.interchanges i → IsWithinRuns count runs (number_kept i)
-  its_within i inside =
-      let there = Contains-permutation rows.interchanges zs i same inside in
-      within_at (IsWithinRuns count runs) zs i there.0 all there.1 there.2
-
-  its_found : (p k : ℕ) → 1 ≤ k → k ≤ runs p → (i : Interchange) × (find (is_pair p k) rows.interchanges ≡ Some i) × Contains rows.interchanges i × (i.partner ≡ p) × (i.number ≡ k)
-  its_found p k one within =
-      let there = has_in zs p k (has p k one within) in
-      let inside = Contains-permutation zs rows.interchanges there.0 (IsPermutation-sym rows.interchanges zs same) there.1 in
-      (there.0, found_only (is_pair p k) rows.interchanges there.0 (once p k) inside (is_pair_at p k there.0 there.2 there.3), inside, there.2, there.3)
-
-  text_range : (p k : ℕ) (text : List ℕ) (o : Option Interchange) → find (is_pair p k) rows.interchanges ≡ o → option_map (λ (i : Interchange). i.body) o ≡ Some text → (1 ≤ p) × (p ≤ count) × (1 ≤ k) × (k ≤ 999999999)
-  text_range p k text None e is = absurd cc
-  text_range p k text (Some i) e is =
-      let pair = found_pair rows p k i e in
-      let its = its_within i pair.0 in
-      (omega (arith, its.partner_low, pair.1), omega (arith, its.partner_high, pair.1), omega (arith, its.low, pair.2), omega (arith, its.high, pair.2))
-
-  none_next : (p : ℕ) (o : Option Interchange) → find (is_pair p (runs p + 1)) rows.interchanges ≡ o → option_map (λ (i : Interchange). i.body) o ≡ None
-  none_next p None e = refl
-  none_next p (Some i) e =
-      let pair = found_pair rows p (runs p + 1) i e in
-      let own_run : runs i.partner ≡ runs p = ap runs pair.1 in
-      let its = (its_within i pair.0).waits (omega (arith, own_run, pair.2)) in
-      absurd (omega (arith, its.0, own_run, pair.2))
-
-  none_yet : (p k : ℕ) (o : Option Interchange) → find (is_pair p k) rows.interchanges ≡ o → runs p < k → option_and_then (λ (i : Interchange). reply_if_any i.reply) o ≡ None
-  none_yet p k None e far = refl
-  none_yet p k (Some i) e far =
-      let pair = found_pair rows p k i e in
-      let own_run : runs i.partner ≡ runs p = ap runs pair.1 in
-      let its = (its_within i pair.0).waits (omega (arith, own_run, pair.2, far)) in
-      none_of (reply_if_any i.reply) (replies i.reply ∙ its.1)
-
-  pub keeps_numbers : KeepsNumbers count runs rows
-  keeps_numbers = record {
-    once = once;
-    within = λ p k text e. text_range p k text (find (is_pair p k) rows.interchanges) refl e;
-    there = λ p k one within. ap (λ o. is_some (option_map (λ (i : Interchange). i.body) o)) (its_found p k one within).1;
-    taken = λ p k one within.
-        let found = its_found p k one within in
-        let own_run : runs found.0.partner ≡ runs p = ap runs found.3 in
-        ap (λ o. is_some (option_and_then (λ (i : Interchange). reply_if_any i.reply) o)) found.1
-        ∙ replies found.0.reply ∙ (its_within found.0 found.2).taken (omega (arith, own_run, found.4, within));
-    free = λ p. none_next p (find (is_pair p (runs p + 1)) rows.interchanges) refl;
-    waits = λ p k far. none_yet p k (find (is_pair p k) rows.interchanges) refl far;
-  }
 
 -- ---- in the order of partners and numbers
 

@@ -14,8 +14,6 @@ use Rattle.office_rows.specs.Rows.{Rows}
 use Rattle.office_history.specs.After.{with_earlier_event, migration_in, taking_by, taking_in, content_after, deliveries_of, opening_of, AreRowsOf}
 use Rattle.office_history.{specs.Laws.IsFor, proofs.Afters.GoesOn}
 
--- ==== Places: The rules by place: what holds of the rules of each version holds of them, and where they stay as they are.
-
 -- ---- what holds of the rules of each version
 
 -- the step by place is one by the old rules or one by the new
@@ -65,10 +63,6 @@ taking_delivered version content es sent = ap (taking_by version content) (deliv
 pub taking_added : (version : Version) (content : SetupContent) (es : List Event) (code kind : List ℕ) → taking_in version content (es ++ added code kind ∷ []) ≡ taking_in version content es
 unfolding taking_in
 taking_added version content es code kind = ap (taking_by version content) (added_stays es code kind)
-
-pub no_rules_before : (version : Version) (content : SetupContent) → taking_in version content [] ≡ interchange_taken_by version
-unfolding taking_in
-no_rules_before version content = refl
 
 -- ---- a migration
 

@@ -20,8 +20,6 @@ use Rattle.office_history.proofs.ByKeys.{changes_agree, count_mapped, find_mappe
 use Rattle.sqlite.specs.{declared.types.Value.TheVariants.Text, Collation.TheVariants.Binary, Order.{Row, column}, Table.Table, Effect.Database, Query.key_cmp}
 use Rattle.sqlite_value.{specs.{Keys.ascending, Order.value_cmp}, proofs.OrderLemmas.{value_cmp_total, value_cmp-Int, value_cmp-Text}}
 
--- ==== Runs: What taking a run of interchanges makes of the rows.
-
 -- ---- what changes leave alone
 
 pub record SameBeside (old new : Rows) : Type 0 where

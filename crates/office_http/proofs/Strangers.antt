@@ -1,6 +1,6 @@
 -- What a stranger asks for.
 use Rattle.std.specs.Str.{bytes_eq}
-use Rattle.std.proofs.Common.{◌≡◌, ℕ, List, [], Bool, true, false, ◌&&◌, cond, map, codes, Option, None, Some, Result, Ok, Err, inl, inr, refl, sym, ap, subst, ◌∙◌}
+use Rattle.std.proofs.Common.{◌≡◌, ℕ, List, [], Bool, true, false, ◌&&◌, cond, map, codes, Option, None, Some, Result, Err, inl, inr, refl, sym, ap, subst, ◌∙◌}
 use Rattle.httparse.specs.{Grammar.RequestHead, Spans.name_and_value}
 use Rattle.office_http.specs.{Fields.values_of, Requests.{AsksAt, AsksWith, LacksMemory, refused_in, StrangersAreRefused}, Routes.endpoint_of, Targets.view_of}
 use Rattle.office_http.specs.Sites.{fetch_passes, host_passes, leads_to, origin_passes, site_passes, stranger, TellingNothingPasses, unless_stranger}

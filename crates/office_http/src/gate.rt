@@ -14,7 +14,7 @@ use std::time::{Duration, Instant};
 /// How many are served at most before the system is asked again.
 const RUN: u32 = 16;
 
-/// What is told of the listener.
+/// What the system reports of the listener.
 const LISTENER: Token = Token(usize::MAX);
 
 /// An address at which connections are accepted, and those that are open: 256 at most, which wait side by side and hold 64 MiB
@@ -44,8 +44,9 @@ pub struct Gate {
 }
 
 impl Gate {
-    ghost use Rattle.std.specs.Prelude.{◌≡◌, IfOk};
-    ghost use Rattle.office_http.specs.Gates.{IsFresh};
+    ghost use Rattle.std.specs.Prelude.{◌≡◌, ◌≤◌, ◌-◌, ◌+◌, ◌^◌, min, IfOk};
+    ghost use Rattle.slab.specs.Slab.{slab_len};
+    ghost use Rattle.office_http.specs.Gates.{is_full, IsFresh, KeepsBound};
 
     /// Listens at an address, with all that it takes to wait there. None is accepted yet. Fails if the address can't be had,
     /// or the system or memory refuses what it takes.
@@ -79,9 +80,9 @@ impl Gate {
         })
     }
 
-    /// So many are accepted from now on.
+    /// `count` are accepted from now on.
     pub(crate) fn expect(&mut self, count: u32)
-        ensures { self.new.left ≡ count }
+        ensures { self.new ≡ record self.old { left = count } }
     {
         self.left = count;
     }
@@ -146,11 +147,13 @@ impl Gate {
     }
 
     /// Whether one waits to be accepted, and there is no room.
-    fn is_full(&self) -> bool {
+    fn is_full(&self) -> bool
+        ensures { result ≡ is_full self.now }
+    {
         self.is_asked && self.left > 0 && self.lines.len() >= self.most
     }
 
-    /// Waits till more can be done, and notes what the system tells.
+    /// Waits till more can be done, and notes what the system reports.
     fn listen(&mut self, now: Instant) -> Result<()> {
         self.served = 0;
         self.heard = now;
@@ -183,8 +186,11 @@ impl Gate {
     }
 
     /// Accepts those that wait, as long as there is room.
-    fn accept(&mut self, now: Instant) {
-        for _ in 0..MOST_OPEN {
+    fn accept(&mut self, now: Instant)
+        ensures bound { KeepsBound self.old self.new }
+        ensures left { self.new.left ≤ self.old.left }
+    {
+        'waiting: for _ in 0..MOST_OPEN {
             if !self.is_asked || self.left == 0 || self.lines.len() >= self.most {
                 return;
             }
@@ -207,13 +213,18 @@ impl Gate {
     }
 
     /// One more was accepted.
-    fn count(&mut self) {
+    fn count(&mut self)
+        ensures { self.new ≡ record self.old { accepted = min (self.old.accepted + 1) (2 ^ 32 - 1); left = self.old.left - 1 } }
+    {
         self.accepted = self.accepted.saturating_add(1);
         self.left = self.left.saturating_sub(1);
     }
 
     /// Opens a connection that was accepted. False if it can't be had.
-    fn admit(&mut self, stream: TcpStream, now: Instant) -> bool {
+    fn admit(&mut self, stream: TcpStream, now: Instant) -> bool
+        ensures rest { self.new ≡ record self.old { lines = self.new.lines } }
+        ensures lines { slab_len self.new.lines.slots ≤ slab_len self.old.lines.slots + 1 }
+    {
         if stream.set_nonblocking(true).is_err() {
             return false;
         }

@@ -53,17 +53,17 @@ pub(crate) struct Peer {
     pub(crate) moved: Instant,
     /// Whether a read or a write may bring something now.
     pub(crate) is_awake: bool,
-    /// What the system is asked to tell of it, and under which key.
+    /// What the system is asked to report of it, and under which key.
     watched: Option<(usize, Interest)>,
 }
 
 impl Peer {
-    /// Whether the system tells of it.
+    /// Whether the system reports on it.
     pub(crate) fn is_watched(&self) -> bool {
         self.watched.is_some()
     }
 
-    /// Has the system tell when there is more to read or to write.
+    /// Has the system report when there is more to read or to write.
     fn watch(&mut self, registry: &Registry, key: usize, interest: Interest) -> Result<()> {
         if self.watched == Some((key, interest)) {
             return Ok(());
@@ -79,8 +79,13 @@ impl Peer {
 }
 
 impl Line {
-    /// A connection that was just accepted, after so many others.
-    pub(crate) fn new(alloc: Global, stream: TcpStream, place: u32, now: Instant) -> Line {
+    ghost use Rattle.std.specs.{Duration.as_nanos, Option.option_copied, Prelude.◌≡◌, Time.instant_nanos};
+    ghost use Rattle.office_http.specs.Lines.{held_for, is_awake, is_as_old, IsAdvanced, IsGivenUp, IsJustAccepted, IsWidened, left_of, patience_of, peer_of, silent_since};
+
+    /// A connection that was just accepted, by its place among all.
+    pub(crate) fn new(alloc: Global, stream: TcpStream, place: u32, now: Instant) -> Line
+        ensures { IsJustAccepted place now result }
+    {
         Line::Asking(Asking {
             peer: Peer {
                 stream,
@@ -95,7 +100,9 @@ impl Line {
         })
     }
 
-    fn peer(&self) -> Option<&Peer> {
+    fn peer(&self) -> Option<&Peer>
+        ensures { option_copied result ≡ peer_of self.now }
+    {
         match self {
             Line::Asking(asking) => Some(&asking.peer),
             Line::Ready(ready) => Some(&ready.peer),
@@ -106,14 +113,16 @@ impl Line {
     }
 
     /// Whether a read or a write may bring something now.
-    fn is_awake(&self) -> bool {
+    fn is_awake(&self) -> bool
+        ensures { result ≡ is_awake self.now }
+    {
         match self.peer() {
             Some(peer) => peer.is_awake,
             None => false,
         }
     }
 
-    /// Has the system tell when there is more to read or to write, unless nothing is awaited of the peer.
+    /// Has the system report when there is more to read or to write, unless nothing is awaited of the peer.
     pub(crate) fn watch(&mut self, registry: &Registry, key: usize) -> Result<()> {
         match self {
             Line::Asking(asking) => asking.peer.watch(registry, key, Interest::READABLE),
@@ -134,23 +143,31 @@ impl Line {
     }
 
     /// When a byte last moved of one of which something is awaited.
-    pub(crate) fn silent_since(&self) -> Option<Instant> {
+    pub(crate) fn silent_since(&self) -> Option<Instant>
+        ensures { result ≡ silent_since self.now }
+    {
         match self {
-            Line::Ready(_) => None,
-            _ => self.peer().map(|peer| peer.moved),
+            Line::Asking(asking) => Some(asking.peer.moved),
+            Line::Telling(telling) => Some(telling.peer.moved),
+            Line::Parting(parting) => Some(parting.peer.moved),
+            Line::Ready(_) | Line::Over => None,
         }
     }
 
     /// Whether it was accepted so long before that moment.
-    pub(crate) fn is_as_old(&self, age: Duration, moment: Instant) -> bool {
+    pub(crate) fn is_as_old(&self, age: Duration, moment: Instant) -> bool
+        ensures { result ≡ is_as_old self.now (as_nanos age) (instant_nanos moment) }
+    {
         match self.peer() {
-            Some(peer) => moment.duration_since(peer.accepted) >= age,
+            Some(peer) => moment.duration_since(peer.accepted).as_nanos() >= age.as_nanos(),
             None => false,
         }
     }
 
     /// How many bytes are held for it.
-    pub(crate) fn held(&self) -> usize {
+    pub(crate) fn held(&self) -> usize
+        ensures { result ≡ held_for self.now }
+    {
         match self {
             Line::Asking(asking) => asking.asked.capacity(),
             Line::Ready(ready) => ready.held(),
@@ -167,8 +184,10 @@ impl Line {
         }
     }
 
-    /// Has so many bytes held for it, if the bound of all allows it, where `held` are held of all.
-    pub(crate) fn widen(&mut self, size: usize, held: usize) {
+    /// Has `size` bytes held for it, if the bound of all allows it, where `held` are held of all.
+    pub(crate) fn widen(&mut self, size: usize, held: usize)
+        ensures { IsWidened size held self.old self.new }
+    {
         if let Line::Asking(asking) = self {
             let _ = widen(&mut asking.asked, size, held);
         }
@@ -176,7 +195,9 @@ impl Line {
 
     /// How long nothing has to be done for it: not at all, if a read or a write may bring something or the peer took too long.
     /// For one that can be served nothing has to be done here.
-    pub(crate) fn left(&self, now: Instant) -> Duration {
+    pub(crate) fn left(&self, now: Instant) -> Duration
+        ensures { as_nanos result ≡ left_of self.now (instant_nanos now) }
+    {
         if self.is_awake() {
             Duration::ZERO
         } else {
@@ -185,7 +206,9 @@ impl Line {
     }
 
     /// How long the peer may still take.
-    fn patience(&self, now: Instant) -> Duration {
+    fn patience(&self, now: Instant) -> Duration
+        ensures { as_nanos result ≡ patience_of self.now (instant_nanos now) }
+    {
         match self {
             Line::Asking(asking) => asking.left(now),
             Line::Telling(telling) => telling.left(now),
@@ -195,7 +218,9 @@ impl Line {
     }
 
     /// Nothing is waited for any more: a request is served as far as it came, a response is cut.
-    pub(crate) fn given_up(self, alloc: Global) -> Line {
+    pub(crate) fn given_up(self, alloc: Global) -> Line
+        ensures { IsGivenUp self result }
+    {
         match self {
             Line::Asking(asking) => Line::Ready(asking.late(alloc)),
             Line::Ready(ready) => Line::Ready(ready),
@@ -204,6 +229,7 @@ impl Line {
     }
 
     /// Reads and writes what is possible without waiting, by way of a buffer, or is given up if it took too long by that moment.
+    #[tactic(auto, using(crate::proofs::Advancing::stays, crate::proofs::Advancing::heard_is, crate::proofs::Advancing::given_up_after))]
     pub(crate) fn advanced(
         self,
         alloc: Global,
@@ -211,7 +237,9 @@ impl Line {
         buffer: &mut [u8],
         now: Instant,
         heard: Instant,
-    ) -> Line {
+    ) -> Line
+        ensures { IsAdvanced self result }
+    {
         let line = match self {
             Line::Asking(asking) if asking.peer.is_awake => asking.heard(alloc, site, buffer, now),
             Line::Telling(telling) if telling.peer.is_awake => telling.told(buffer, now),
@@ -241,6 +269,7 @@ impl Asking {
     ghost use Rattle.std.specs.Duration.{as_nanos};
     ghost use Rattle.std.specs.Time.{instant_nanos};
     ghost use Rattle.office_http.specs.Deadlines.{nanos_left, request_seconds};
+    ghost use Rattle.office_http.specs.Lines.{HasGrown, IsCutTo, IsHeard};
     ghost use Rattle.office_http.specs.declared.wanted.Tail.TheVariants.{Late};
 
     /// How long the request may still take.
@@ -267,8 +296,11 @@ impl Asking {
     }
 
     /// Reads what has come of the request, as far as there is room.
-    fn heard(mut self, alloc: Global, site: &Site, buffer: &mut [u8], now: Instant) -> Line {
-        for _ in 0..TURN {
+    #[tactic(auto, using(crate::proofs::Advancing::same_peer, crate::proofs::Advancing::same_as, crate::proofs::Advancing::grown_none, crate::proofs::Advancing::grown_more))]
+    fn heard(mut self, alloc: Global, site: &Site, buffer: &mut [u8], now: Instant) -> Line
+        ensures { IsHeard self result }
+    {
+        'reads: for _ in 0..TURN {
             let room = self.asked.capacity().saturating_sub(self.asked.len());
             if room == 0 {
                 return Line::Asking(self);
@@ -293,7 +325,11 @@ impl Asking {
     }
 
     /// Takes more of a request, for which there is room. Whether it is whole, or can't be held.
-    fn is_decided_by(&mut self, alloc: Global, site: &Site, bytes: &[u8]) -> bool {
+    #[tactic(auto, using(crate::proofs::Advancing::grown_none))]
+    fn is_decided_by(&mut self, alloc: Global, site: &Site, bytes: &[u8]) -> bool
+        ensures peer { self.new.peer ≡ self.old.peer }
+        ensures asked { HasGrown self.old.asked.items self.new.asked.items }
+    {
         let Ok(()) = self.asked.extend_from_slice(bytes) else {
             return true;
         };
@@ -323,6 +359,7 @@ impl Asking {
     fn late(mut self, alloc: Global) -> Ready
         ensures peer { result.peer ≡ self.peer }
         ensures tail { result.tail ≡ Late }
+        ensures front { IsCutTo self.asked.items result.asked.items }
     {
         let mut front = ArrayVec::<u8, FRONT>::new();
         let end = self.asked.len().min(FRONT);
@@ -342,7 +379,7 @@ pub(crate) struct Ready {
 }
 
 impl Ready {
-    ghost use Rattle.std.specs.Prelude.{◌≡◌};
+    ghost use Rattle.std.specs.{Prelude.◌≡◌, Vec.vec_capacity};
 
     /// What was asked, and what follows it.
     pub(crate) fn inlet(&self) -> Inlet<'_>
@@ -353,12 +390,16 @@ impl Ready {
     }
 
     /// How many were accepted before it, and it itself.
-    pub(crate) fn place(&self) -> u32 {
+    pub(crate) fn place(&self) -> u32
+        ensures { result ≡ self.now.peer.place }
+    {
         self.peer.place
     }
 
     /// How many bytes are held for it.
-    pub(crate) fn held(&self) -> usize {
+    pub(crate) fn held(&self) -> usize
+        ensures { result ≡ vec_capacity self.now.asked }
+    {
         self.asked.capacity()
     }
 

@@ -1,3 +1,7 @@
+ghost use Rattle.std.specs.{Prelude.{◌≡◌, ◌≤◌, ◌+◌, ◌-◌, ◌^◌, ◌==◌, min, true, false}, Vec.vec_capacity};
+ghost use Rattle.slab.specs.Slab.{slab_len};
+ghost use Rattle.office_http.specs.{Held.most_held, Lines.{held_by, IsAdded}};
+
 use crate::held::{MOST_HELD, widen};
 use crate::line::{Line, Ready};
 use crate::site::Site;
@@ -50,18 +54,28 @@ impl Lines {
     }
 
     /// How many are open.
-    pub(crate) fn len(&self) -> usize {
+    pub(crate) fn len(&self) -> usize
+        ensures { result ≡ slab_len self.now.slots }
+    {
         self.slots.len()
     }
 
     /// Whether none is open.
-    pub(crate) fn is_empty(&self) -> bool {
+    pub(crate) fn is_empty(&self) -> bool
+        ensures { result ≡ (slab_len self.now.slots == 0) }
+    {
         self.slots.is_empty()
     }
 
     /// One more is open. False: memory is refused, and it is closed.
-    pub(crate) fn add(&mut self, line: Line) -> bool {
-        self.slots.insert(line).is_ok()
+    pub(crate) fn add(&mut self, line: Line) -> bool
+        ensures added { result ≡ true → IsAdded line self.old.slots self.new.slots }
+        ensures refused { result ≡ false → self.new.slots.slots ≡ self.old.slots.slots }
+    {
+        match self.slots.insert(line) {
+            Ok(_) => true,
+            Err(_) => false,
+        }
     }
 
     /// Something has changed at the socket of a key.
@@ -179,17 +193,25 @@ impl Lines {
         }
     }
 
-    /// Widens what is held beside them to so many bytes, where so many are held besides. False, if the bound of all doesn't allow
+    /// Widens what is held beside them to `size` bytes, where `beside` are held besides. False, if the bound of all doesn't allow
     /// that or memory is refused.
-    pub(crate) fn widen(&mut self, bytes: &mut Vec<u8>, size: usize, beside: usize) -> bool {
+    pub(crate) fn widen(&mut self, bytes: &mut Vec<u8>, size: usize, beside: usize) -> bool
+        ensures items { bytes.new.items ≡ bytes.old.items }
+        ensures bound { result ≡ true
+            → held_by self.new.slots + beside + vec_capacity bytes.old + size ≤ most_held }
+        ensures room { result ≡ true → size ≤ vec_capacity bytes.new }
+        ensures refused { result ≡ false → vec_capacity bytes.new ≡ vec_capacity bytes.old }
+    {
         let beside = beside.saturating_add(bytes.capacity());
         self.make_room(None, size, beside) && widen(bytes, size, self.held().saturating_add(beside))
     }
 
-    /// Gives up those that have been silent longest, but not that one, till so many bytes more may be held. False: no other holds
+    /// Gives up those that have been silent longest, but not that one, till `size` bytes more may be held. False: no other holds
     /// any.
-    fn make_room(&mut self, except: Option<usize>, size: usize, beside: usize) -> bool {
-        for _ in 0..=MOST_OPEN {
+    fn make_room(&mut self, except: Option<usize>, size: usize, beside: usize) -> bool
+        ensures { result ≡ true → size ≤ most_held - (held_by self.new.slots + beside) }
+    {
+        'others: for _ in 0..=MOST_OPEN {
             let held = self.held().saturating_add(beside);
             if size <= MOST_HELD.saturating_sub(held) {
                 return true;
@@ -202,9 +224,12 @@ impl Lines {
     }
 
     /// How many bytes are held.
-    fn held(&self) -> usize {
+    #[tactic(auto, using(crate::proofs::HeldLemmas::held_more, crate::proofs::HeldLemmas::held_all))]
+    fn held(&self) -> usize
+        ensures { result ≡ min (held_by self.now.slots) (2 ^ 64 - 1) }
+    {
         let mut held: usize = 0;
-        for key in 0..self.slots.capacity() {
+        'keys: for key in 0..self.slots.capacity() {
             if let Some(line) = self.slots.get(key) {
                 held = held.saturating_add(line.held());
             }

@@ -38,9 +38,9 @@ pub(crate) enum Request {
     Explain(Vec<u8>),
     /// A report, shown so.
     Report(View, ReportKind, Query),
-    /// A page of the kept texts, after so many.
+    /// A page of the kept texts, and how many come before it.
     Texts(u32),
-    /// A page that tells why there is no report.
+    /// A page that says why there is no report.
     Noticed(Notice),
     /// Nothing that the office could do.
     Refused(Refusal),
@@ -113,7 +113,7 @@ fn refused_in(view: View, refusal: Refusal) -> Request
     }
 }
 
-/// Where there is nothing a text is refused, and a page tells why.
+/// Where there is nothing a text is refused, and a page says why.
 fn nothing_in(view: View, notice: Notice) -> Request
     ensures { result ≡ nothing_in view notice }
 {
@@ -123,7 +123,7 @@ fn nothing_in(view: View, notice: Notice) -> Request
     }
 }
 
-/// Reads the body that the fields of a head tell of.
+/// Reads the body that the fields of a head announce.
 fn read_post<R: Read>(
     alloc: Global,
     reader: &mut Port<R>,
@@ -148,7 +148,7 @@ fn read_post<R: Read>(
     }
 }
 
-/// Reads the body that the fields of a head tell of, for the partner that a path names.
+/// Reads the body that the fields of a head announce, for the partner that a path names.
 fn read_own_post<R: Read>(
     alloc: Global,
     reader: &mut Port<R>,
@@ -180,7 +180,7 @@ fn read_own_post<R: Read>(
     }
 }
 
-/// Reads the body that the fields of a head tell of, to be explained.
+/// Reads the body that the fields of a head announce, to be explained.
 fn read_explained<R: Read>(
     alloc: Global,
     reader: &mut Port<R>,
@@ -203,7 +203,7 @@ fn read_explained<R: Read>(
     Ok(explained(posted))
 }
 
-/// Reads past the body that the fields of a head tell of, and names the account of a path.
+/// Reads past the body that the fields of a head announce, and names the account of a path.
 fn read_account<R: Read>(
     alloc: Global,
     reader: &mut Port<R>,
@@ -248,7 +248,7 @@ fn named_account(alloc: Global, path: &str) -> Request
     }
 }
 
-/// The texts after so many, or nothing is found.
+/// The texts after a number of them, or nothing is found.
 fn texts_asked(from: Option<u32>) -> Request
     ensures { result ≡ texts_asked from }
 {

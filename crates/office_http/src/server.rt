@@ -16,10 +16,10 @@ use std::io;
 use std::rt::Clock;
 use std::time::Instant;
 
-/// Accepts so many connections, which wait side by side, and answers one request of each, one at a time, as soon as it is
+/// Accepts `count` connections, which wait side by side, and answers one request of each, one at a time, as soon as it is
 /// whole. A connection that fails is passed over, and so is one whose first byte doesn't come within two seconds, whose
 /// request isn't whole within ten, or which doesn't take its response within ten. By the path of a partner a number may be
-/// above its next one by `ahead`, or by any where there is no bound. What watches is told of each connection as soon as it
+/// above its next one by `ahead`, or by any where there is no bound. What watches gets each connection as soon as it
 /// is answered. In the end nothing is listened at.
 pub fn serve_on<C: Clock, D: Report + AddAccount + OfTerminal, H: Watch>(
     alloc: Global,
@@ -31,10 +31,10 @@ pub fn serve_on<C: Clock, D: Report + AddAccount + OfTerminal, H: Watch>(
     desk: &mut D,
     watch: &mut H,
 )
-    // At most the calls of so many requests are made of the desk.
+    // At most the calls of `count` requests are made of the desk.
     ensures steps { AtMost D.leads D.enrols D.looks (calls_of count) desk.old desk.new }
 
-    // What watches is told of no more.
+    // What watches gets no more.
     ensures noted { NotesAtMost H.notes count watch.old watch.new }
 {
     gate.expect(count);

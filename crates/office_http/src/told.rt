@@ -27,10 +27,11 @@ pub(crate) struct Telling {
 }
 
 impl Telling {
-    ghost use Rattle.std.specs.Prelude.{◌≡◌};
+    ghost use Rattle.std.specs.Prelude.{◌≡◌, ◌≤◌, length};
     ghost use Rattle.std.specs.Duration.{as_nanos};
-    ghost use Rattle.std.specs.Time.{instant_nanos};
+    ghost use Rattle.std.specs.{Time.instant_nanos, Vec.vec_capacity};
     ghost use Rattle.office_http.specs.Deadlines.{nanos_left, response_seconds};
+    ghost use Rattle.office_http.specs.Lines.{IsTold};
 
     /// That is left of a response.
     pub(crate) fn new(mut peer: Peer, rest: Vec<u8>, now: Instant) -> Telling
@@ -58,13 +59,17 @@ impl Telling {
     }
 
     /// How many bytes are held for it.
-    pub(crate) fn held(&self) -> usize {
+    pub(crate) fn held(&self) -> usize
+        ensures { result ≡ vec_capacity self.now.told }
+    {
         self.told.capacity()
     }
 
     /// Writes what is left of the response, as far as it is taken, and then takes leave.
-    pub(crate) fn told(mut self, buffer: &mut [u8], now: Instant) -> Line {
-        for _ in 0..TURN {
+    pub(crate) fn told(mut self, buffer: &mut [u8], now: Instant) -> Line
+        ensures { IsTold self result }
+    {
+        'writes: for _ in 0..TURN {
             if self.taken >= self.told.len() {
                 return self.depart(buffer, now);
             }
@@ -84,7 +89,10 @@ impl Telling {
     }
 
     /// All is written. What isn't watched yet is read once it is.
-    fn depart(self, buffer: &mut [u8], now: Instant) -> Line {
+    fn depart(self, buffer: &mut [u8], now: Instant) -> Line
+        requires { length self.told.items ≤ self.taken }
+        ensures { IsTold self result }
+    {
         let mut peer = self.peer;
         let _ = peer.stream.shutdown(Shutdown::Write);
         peer.is_awake = peer.is_watched();
@@ -113,15 +121,24 @@ pub(crate) struct Parting {
 }
 
 impl Parting {
+    ghost use Rattle.std.specs.Prelude.{◌≡◌};
+    ghost use Rattle.std.specs.Duration.{as_nanos};
+    ghost use Rattle.std.specs.Time.{instant_nanos};
+    ghost use Rattle.office_http.specs.Lines.{IsParted, parting_left};
+
     /// How long the peer may still take.
-    pub(crate) fn left(&self, now: Instant) -> Duration {
+    pub(crate) fn left(&self, now: Instant) -> Duration
+        ensures { as_nanos result ≡ parting_left self.now (instant_nanos now) }
+    {
         self.deadline.left(now).min(self.silence.left(now))
     }
 
     /// Reads what the peer still sends after its request, up to 4 MiB and until a second brings nothing or the response's
     /// time is over, since closing a connection with unread input could take the response away from the peer.
-    pub(crate) fn parted(mut self, buffer: &mut [u8], now: Instant) -> Line {
-        for _ in 0..TURN {
+    pub(crate) fn parted(mut self, buffer: &mut [u8], now: Instant) -> Line
+        ensures { IsParted self result }
+    {
+        'reads: for _ in 0..TURN {
             match self.peer.stream.read(&mut *buffer) {
                 Ok(count) if count > 0 && self.surplus < MOST_PARTING_BYTES => {
                     self.surplus = self.surplus.saturating_add(count);
@@ -151,10 +168,14 @@ pub(crate) struct Outlet<'a> {
 }
 
 impl<'a> Outlet<'a> {
-    ghost use Rattle.std.specs.Prelude.{◌≡◌, if◌then◌else◌};
+    ghost use Rattle.std.specs.{Prelude.{◌≡◌, [], false, if◌then◌else◌}, Vec.vec_capacity};
 
     /// To a connection, beside the others.
-    pub(crate) fn new(alloc: Global, ready: &'a Ready, lines: &'a mut Lines) -> Outlet<'a> {
+    pub(crate) fn new(alloc: Global, ready: &'a Ready, lines: &'a mut Lines) -> Outlet<'a>
+        ensures asked { result.asked ≡ vec_capacity ready.now.asked }
+        ensures kept { result.kept.items ≡ [] }
+        ensures begun { result.is_begun ≡ false }
+    {
         Outlet {
             stream: ready.stream(),
             lines,
@@ -173,7 +194,16 @@ impl<'a> Outlet<'a> {
 }
 
 impl Write for Outlet<'_> {
-    fn write(&mut self, buf: &[u8]) -> Result<usize> {
+    ghost use Rattle.std.specs.{Io.{WritesAtMost, KnownBytes.WriteAppends}, Prelude.{◌≡◌, None, true}};
+    ghost use Rattle.office_http.specs.Lines.{IsKept};
+
+    fn write(&mut self, buf: &[u8]) -> Result<usize>
+        ensures bound { WritesAtMost result buf.now }
+        ensures bytes { WriteAppends None None result buf.now }
+        ensures begun { self.new.is_begun ≡ true }
+        ensures kept { IsKept self.old.kept.items self.new.kept.items buf.now result }
+        ensures asked { self.new.asked ≡ self.old.asked }
+    {
         self.is_begun = true;
         if self.kept.is_empty() {
             let mut stream = self.stream;
@@ -193,7 +223,9 @@ impl Write for Outlet<'_> {
         }
     }
 
-    fn flush(&mut self) -> Result<()> {
+    fn flush(&mut self) -> Result<()>
+        ensures { self.new ≡ self.old }
+    {
         Ok(())
     }
 }

@@ -334,17 +334,8 @@ module _ (rows : List Setting) (content : SetupContent) (are : rows ≡ settings
   pub names_so : names_of rows ≡ setting_names
   names_so = ap names_of are
 
-  pub terminal_so : slice_get (values_of rows) 6 ≡ Some content.terminal
-  terminal_so = ap (λ (r : List Setting). slice_get (values_of r) 6) are
-
-  pub version_so : slice_get (values_of rows) 7 ≡ Some tables_version
-  version_so = ap (λ (r : List Setting). slice_get (values_of r) 7) are
-
   pub limit_so : slice_get (values_of rows) 8 ≡ Some (decimal content.visit_limit)
   limit_so = ap (λ (r : List Setting). slice_get (values_of r) 8) are
-
-  pub codes_so : code_values (values_of rows) ≡ table_texts content.codes
-  codes_so = ap (λ (r : List Setting). code_values (values_of r)) are
 
 pub ten_long : (rows : List Setting) → names_of rows ≡ setting_names → length rows ≡ 10
 ten_long rows named = sym (length-map rows (λ (row : Setting). row.name)) ∙ ap length named

@@ -31,8 +31,6 @@ use Rattle.office_rows.proofs.BareReading as bare_texts
 use Rattle.box6346.specs.NumberText as container
 use Rattle.box6346.specs.SizeText as size
 
--- ==== LackingLemmas: The query of the settings, where the table of that name lacks one of the two columns.
-
 module _ (schema : Schema) (at : ℕ) (table : Table) (named : table_named schema (codes "setting") ≡ Some at) (there : slice_get schema.tables at ≡ Some table) where
   abbrev here : Bound
   here = record { name = codes "setting"; table = at; slot = 1; shared = [] }

@@ -8,7 +8,8 @@ use Rattle.terminal_core.specs.{State.{AreNumbered, TerminalState, LineContent, 
 use Rattle.terminal_core.specs.{declared.restoring.RestoreFault.TheVariants.{Unsound, Memory}, declared.lines.Side.Side, Forms.IsFormedLine}
 use Rattle.terminal_core.{specs.{Listings.{line_content, key_of, lines_of}, Restoring.AreRowsOf}, proofs.{Formed.{by_key_lists, lists_by_key}, Whole.contained}}
 use Rattle.terminal_core.proofs.Lined.{line_first, line_none}
-use Rattle.office_loading.specs.{Checks.{visits_after, AreOwnVisits, taken_beyond, numbers_beyond, AreKeptBeyond}, Accounts.{accounts_in, AreWholeAccounts}}
+use Rattle.office_loading.specs.Checks.{visits_after, AreOwnVisits, taken_beyond, AreKeptBeyond}
+use Rattle.office_loading.specs.Accounts.{accounts_in, AreWholeAccounts}
 use Rattle.office_loading.specs.Formed.{MayFollow, IsSoundVisit, IsSoundLine, AreSoundVisits, AreSoundLines, AreByLetter, AreTerminal, RefusesTerminal}
 use Rattle.office_loading.specs.{Closed.{ClosedContent, nothing_closed}, Contents.{partner_content, number_content, setting_content, opened_rows}}
 use Rattle.office_loading.specs.{OwnOffice.{AreOwnNumbers, IsOwnOffice, IsClosedBelow, NothingClosedIsAnOffice}, Said.AreSettings, Refusals.RefusesTables}

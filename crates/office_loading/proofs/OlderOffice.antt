@@ -20,8 +20,6 @@ use Rattle.office_tables.specs.Faults.{IsOfStoreOr}
 use Rattle.sqlite_rules.{specs.Lists.Has, proofs.ListLemmas.{has_contained, contains_had}}
 use Rattle.terminal_core.specs.declared.restoring.RestoreFault.TheVariants as restoring
 
--- ==== OlderOffice: The rows of an office of version 1 or 2 can be read, and in one way.
-
 abbrev is_older : List ℕ → Bool
 is_older value = bytes_eq value (version_text First) || bytes_eq value (version_text Second)
 

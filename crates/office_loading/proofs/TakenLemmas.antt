@@ -11,8 +11,6 @@ use Rattle.office_loading.specs.{Texts.{is_after, is_from, has_reached, AreTexts
 use Rattle.office_loading.specs.{declared.page.TextsPage.TextsPage, Writing.{WritesAll, WritesRow, written_if}}
 use Rattle.office_loading.proofs.TextQuery.{AreRead, page_full, page_whole, more_lines}
 
--- ==== TakenLemmas: A row that a page takes, or leaves.
-
 pub row_taken : (most : ℕ) (row : Row) (old new : TextsPage) (taken : Bool) → taken ≡ true → TakesRow most row old new taken
     → (text : List ℕ) × (column row 0 ≡ Blob text) × (has_room most old.lines.items old.count text ≡ true) × Adds text old new
 row_taken most row old new true is h = (h.text, h.is, h.room, h.takes)

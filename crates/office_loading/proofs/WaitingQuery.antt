@@ -25,8 +25,6 @@ use Rattle.sqlite_rules.{specs.Lists.Has, proofs.ListLemmas.contains_had}
 use Rattle.edi_syntax.proofs.SegmentLemmas.{mapped_some}
 use Rattle.std.specs.FinMap as finite_map
 
--- ==== WaitingQuery: What the query of the interchanges that wait means, and what it finds.
-
 abbrev pub select_waiting : List ℕ
 select_waiting = codes "SELECT number FROM interchange WHERE partner = ?1 AND number > ?2"
 

@@ -12,7 +12,7 @@ use sqlite::{Error, ErrorCode, Row};
 use terminal_core::{LineState, Side, Way};
 
 /// The number in a column.
-pub(crate) fn number_at(row: &Row, at: usize) -> Result<u32, TableFault>
+pub fn number_at(row: &Row, at: usize) -> Result<u32, TableFault>
     ensures { ReadsAs itself (SaysNumber (2 ^ 32)) (column row.now at) result }
 {
     match row.get_ref(at) {
@@ -25,7 +25,7 @@ pub(crate) fn number_at(row: &Row, at: usize) -> Result<u32, TableFault>
 }
 
 /// The number in a column, of 16 bits.
-pub(crate) fn short_at(row: &Row, at: usize) -> Result<u16, TableFault>
+pub fn short_at(row: &Row, at: usize) -> Result<u16, TableFault>
     ensures { ReadsAs itself (SaysNumber (2 ^ 16)) (column row.now at) result }
 {
     let number = number_at(row, at)?;
@@ -57,7 +57,7 @@ pub(crate) fn bytes_at(row: &Row, at: usize) -> Result<&[u8], TableFault>
 }
 
 /// The text in a column.
-pub(crate) fn text_at(row: &Row, at: usize) -> Result<String, TableFault>
+pub fn text_at(row: &Row, at: usize) -> Result<String, TableFault>
     ensures { ReadsAs string_bytes SaysText (column row.now at) result }
 {
     match row.get(at) {
@@ -112,7 +112,7 @@ pub(crate) fn laden_at(row: &Row, at: usize) -> Result<bool, TableFault>
 }
 
 /// Which of a call's lists.
-pub(crate) fn side_at(row: &Row, at: usize) -> Result<Side, TableFault>
+pub fn side_at(row: &Row, at: usize) -> Result<Side, TableFault>
     ensures { ReadsAs itself SaysSide (column row.now at) result }
 {
     match number_at(row, at)? {

@@ -26,6 +26,7 @@ mod table_reading;
 mod writing;
 
 pub use closed::Closed;
+pub use columns::{number_at, short_at, side_at, text_at};
 pub use loading::{load, load_own, nexts};
 pub use migrating::migrate;
 pub use numbers::{NumberRow, PartnerRow};
@@ -33,6 +34,6 @@ pub use older::{load_old, read_older_tables};
 pub use page::{MOST_PAGE_BYTES, TextsPage};
 pub use reading::texts_from;
 pub use restoring::{OpenedTables, restore};
-pub use rows::waiting_numbers;
+pub use rows::{Record, append, read_all, waiting_numbers};
 pub use settings::Setting;
 pub use writing::{Written, flush, write_row, write_texts};

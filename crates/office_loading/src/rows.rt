@@ -22,7 +22,7 @@ use terminal_core::{Listing, Place, Visit};
 use yard_core::Block;
 
 /// What a row of a table says.
-pub(crate) trait Record: Sized + Drop {
+pub trait Record: Sized + Drop {
     // the columns say this
     ghost says: { Columns → Self → Type 0 };
 
@@ -35,7 +35,7 @@ pub(crate) trait Record: Sized + Drop {
 }
 
 /// The records of all rows.
-pub(crate) fn read_all<T: Record>(alloc: Global, rows: &[Row]) -> Result<Vec<T>, TableFault>
+pub fn read_all<T: Record>(alloc: Global, rows: &[Row]) -> Result<Vec<T>, TableFault>
     ensures { DecodesAll T.says T.is_said rows.now result }
 {
     let mut records = Vec::new(alloc);
@@ -47,7 +47,7 @@ pub(crate) fn read_all<T: Record>(alloc: Global, rows: &[Row]) -> Result<Vec<T>,
 }
 
 /// One more at the end.
-pub(crate) fn append<T: Drop>(records: &mut Vec<T>, one: T) -> Result<(), AllocError>
+pub fn append<T: Drop>(records: &mut Vec<T>, one: T) -> Result<(), AllocError>
     ensures { OnOk result (records.new.items ≡ records.old.items ++ one ∷ []) }
 {
     records.push(one)?;

@@ -1,13 +1,13 @@
 -- The pieces of a text between bytes of one kind: its lines, and the words of a line.
-use Rattle.std.{specs.{List.{join_by, onto_first, flat_map, slice_split}, Char.is_ascii_digit}, proofs.lemmas.Bool.{ne_eqb, cases_Bool, and_parts}}
-use Rattle.std.proofs.Common.{◌≡◌, ◌≢◌, ℕ, ◌<◌, ◌==◌, false, List, [], ◌∷◌, ◌++◌, length, get_or, inl, inr, refl, sym, ap, ◌∙◌, append_assoc, eq-eqb, true, ◌&&◌, take, Err, if◌then◌else◌}
+use Rattle.std.specs.List.{join_by, onto_first, flat_map, slice_split}
+use Rattle.std.proofs.lemmas.Bool.{ne_eqb, cases_Bool}
+use Rattle.std.proofs.Common.{◌≡◌, ◌≢◌, ℕ, ◌<◌, ◌==◌, false, List, [], ◌∷◌, ◌++◌, length, get_or, inl, inr, refl, sym, ap, ◌∙◌, append_assoc, eq-eqb, true, ◌&&◌, Err, if◌then◌else◌}
 use Rattle.std.proofs.{lemmas.List.append-nil, lemmas.List.Elements.All-from_get_or}
 use Rattle.std.proofs.lemmas.List.Splits.{slice_split_none, slice_split_at, slice_split-cons_yes, slice_split-cons_no}
 use Rattle.office_pages.specs.{Pages.count_view, Words.lines}
-use Rattle.box6346.specs.{ContainerNumber.number_of, NumberText.{has_form, names_container}}
+use Rattle.box6346.specs.ContainerNumber.{number_of}
+use Rattle.box6346.specs.NumberText.{has_form}
 use Rattle.box6346.specs.declared.box_number.NumberFault.TheVariants as fault
-
--- ==== Splitting: The pieces of a text between bytes of one kind: its lines, and the words of a line.
 
 module _ (c : ℕ) where
   abbrev pub pieces : List ℕ → List (List ℕ)
@@ -96,8 +96,3 @@ form_of text is = elim (cases_Bool (has_form text)) [
   | inl form ↦ form
   | inr none ↦ absurd (let e = rw none at is in cc)
 ]
-
-front_of : (text : List ℕ) → has_form text ≡ true → names_container (take 10 text) ≡ true
-front_of text form =
-    (and_parts (length text == 11) (names_container (take 10 text))
-    (and_parts (length text == 11 && names_container (take 10 text)) (is_ascii_digit (get_or text 10 0)) form).0).1

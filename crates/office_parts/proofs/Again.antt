@@ -1,6 +1,6 @@
 -- The journal, delivered again.
 use Rattle.std.{specs.{Prelude.{take, drop}, List.AllByRecursion}, proofs.lemmas.List.{append-nil, drop_at}}
-use Rattle.std.proofs.Common.{◌≡◌, inl, inr, ℕ, ◌+◌, List, [], ◌∷◌, ◌++◌, length, map, Option, None, Some, refl, sym, ap, subst, ◌∙◌, append_assoc}
+use Rattle.std.proofs.Common.{◌≡◌, inl, inr, ℕ, ◌+◌, List, [], ◌∷◌, ◌++◌, length, map, None, refl, sym, ap, subst, ◌∙◌, append_assoc}
 use Rattle.edi_syntax.specs.Interchange.{interchange_of}
 use Rattle.partner_core.{specs.{Machine.Taking, Deliveries.{Delivery, delivery, first_text}, Order.state, Answers.answer_of}, proofs.Orders.none_of}
 use Rattle.terminal_core.specs.{Changes.rows_of, Versions.newest}

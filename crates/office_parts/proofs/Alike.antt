@@ -11,8 +11,6 @@ use Rattle.office_parts.specs.{Kept.{kept_after, kept, IsFirst, KeptAdds, KeptAr
 use Rattle.edi_syntax.specs.Bytes.{line_feed}
 use Rattle.office_loading.specs.Pages.{lines_of, IsFull, IsPage}
 
--- ==== Alike: Lists of deliveries with the same texts kept and the same order come to the same.
-
 pub record Alike (ds es : List Delivery) : Type 0 where
   pub firsts : (q j : ℕ) → first_text ds q j ≡ first_text es q j
   pub orders : order ds ≡ order es

@@ -15,8 +15,6 @@ use Rattle.office_parts.specs.Archives.{Archive, reaches, archive_of, text_by, r
 use Rattle.office_parts.proofs.Splits.{or_some, or_assoc, count_both, split_counts, split_finds, found_tested, found_in_half, Has, has_contained, contained_has, has_left, has_right, has_filtered, had_both, had_filtered, has_pushed}
 use Rattle.office_parts.proofs.Orders.{body_there, reply_there, there_if_replied, found_whole, once_here}
 
--- ==== Closings: A closing moves rows from the store to its archives.
-
 -- ---- visits
 
 pub not_true : (b : Bool) → not b ≡ true → b ≡ false

@@ -1,7 +1,10 @@
 -- An order at the store's own terminal, beside the visits that were put away.
-use Rattle.std.specs.{Prelude.{find, count_by, filter, Contains, slice_index_or}, Option.{option_map, option_and_then, option_or}, List.AllByRecursion}
-use Rattle.std.{specs.Ordering.{nat_cmp, ordering_then}, proofs.{lemmas.Bool.cases_order, lemmas.List.Folds.find-append, lemmas.Bool.Decides.nat_tests}}
-use Rattle.std.proofs.Common.{◌≡◌, ℕ, ◌+◌, List, [], ◌∷◌, Bool, true, false, cond, Option, None, Some, Result, Ok, Err, refl, sym, ap, ◌∙◌, arith, nat_le, ◌<◌, ◌≤◌, inl, inr, ◌++◌, is_some, subst, ◌⊎◌, zero, suc, length, map, ap₂, Less, Equal, is_lt}
+use Rattle.std.specs.Prelude.{find, count_by, filter}
+use Rattle.std.specs.Option.{option_map, option_and_then, option_or}
+use Rattle.std.specs.List.{AllByRecursion}
+use Rattle.std.proofs.lemmas.Bool.{cases_order}
+use Rattle.std.proofs.lemmas.List.Folds.{find-append}
+use Rattle.std.proofs.Common.{◌≡◌, ℕ, ◌+◌, List, [], ◌∷◌, Bool, true, false, cond, Option, None, Some, Result, Ok, Err, refl, sym, ap, ◌∙◌, arith, nat_le, ◌<◌, ◌≤◌, inl, inr, ◌++◌, is_some, subst, ◌⊎◌, map}
 use Rattle.box6346.specs.{declared.box_number.BoxNumber.BoxNumber, declared.slot.Slot.Slot}
 use Rattle.edi_messages.specs.{Purposes.CallContent, Orders.{EntryContent, OrderContent, gate_in, gate_out, move, list_discharge, list_load, discharge, load}}
 use Rattle.yard_core.specs.{YardMap.YardMap, Decisions.{Refusal, yard_without, yard_with_move}, declared.placements.Placement.Placement}
@@ -23,8 +26,6 @@ use Rattle.office_rows.specs.{Rows.{Interchange, Rows}, Effects.is_pair, Values.
 use Rattle.office_history.{specs.{After.{opening_of, taking_in, reply_if_any, reply_in, AreKeptOnce}, Cascade.text_in}, proofs.Accounted.{within, answers}}
 use Rattle.office_history.proofs.{Lawful.used_adds, Kept.{Rise, fewer}, Runs.{is_pair_at, InTurn, is_before}, KeptNumbers.{apart, pair_order}}
 use Rattle.office_loading.specs.Checks.{numbers_beyond}
-
--- ==== Orders: An order at the store's own terminal, beside the visits that were put away.
 
 -- ---- counting
 

@@ -1,7 +1,9 @@
 -- Rows of which some were put away: what a database shows of them are a store's own.
-use Rattle.std.specs.{Prelude.{Contains, codes, count_by, filter, not, nat_le}, List.AllByRecursion, List.Sorted.IsPermutation, Cmp.Lexicographic.slice_cmp}
-use Rattle.std.{specs.Ordering.{nat_cmp, ordering_then}, proofs.{lemmas.Bool.{leb-true, leb-false}, lemmas.Bool.Decides.nat_tests}}
-use Rattle.std.proofs.Common.{◌≡◌, suc, ◌⊎◌, ℕ, ◌+◌, ◌<◌, ◌≤◌, inl, inr, List, [], ◌∷◌, length, map, All, Bool, true, false, cond, refl, sym, ap, subst, ◌∙◌, arith, Ordering, Equal, Greater, is_lt}
+use Rattle.std.specs.Prelude.{Contains, codes, count_by, filter, not, nat_le}
+use Rattle.std.specs.List.{AllByRecursion}
+use Rattle.std.specs.List.Sorted.{IsPermutation}
+use Rattle.std.proofs.lemmas.Bool.{leb-true, leb-false}
+use Rattle.std.proofs.Common.{◌≡◌, suc, ◌⊎◌, ℕ, ◌+◌, ◌<◌, ◌≤◌, inl, inr, List, [], ◌∷◌, length, map, All, Bool, true, false, cond, refl, sym, ap, subst, ◌∙◌, arith, Equal}
 use Rattle.std.proofs.lemmas.List.Elements.{All-cons, All-nil}
 use Rattle.std.proofs.lemmas.List.Sorted.{IsPermutation-refl, IsPermutation-sym, Contains-permutation, sum_by-IsPermutation}
 use Rattle.sqlite.specs.Effect.{Database}

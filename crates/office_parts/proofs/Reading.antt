@@ -28,8 +28,6 @@ use Rattle.edi_messages.specs.Purposes as purpose
 use Rattle.edi_messages.specs.declared.message.MessageFault.TheVariants as fault
 use Rattle.edi_messages.specs.declared.order.OrderKind.TheVariants as order
 
--- ==== Reading: The orders of a message are all of the list that it names.
-
 pub here_parts : (away : ListName → Bool) (xs ys : List ListName) → AreHere away (xs ++ ys) → AreHere away xs × AreHere away ys
 here_parts away [] ys here = (tt, here)
 here_parts away (x ∷ xs) ys here = let rest = here_parts away xs ys here.1 in ((here.0, rest.0), rest.1)

@@ -1,7 +1,9 @@
 -- Lists that are split in two by a test, of which one at most passes another.
 use Rattle.std.specs.{Prelude.{Contains, find, filter, not, count_by, ◌==◌}, Option.option_or, List.AllByRecursion, Str.bytes_eq}
 use Rattle.std.proofs.Common.{◌≡◌, ◌⊎◌, ℕ, ◌+◌, ◌≤◌, inl, inr, List, [], ◌∷◌, ◌++◌, map, Bool, true, false, cond, Option, None, Some, is_some, zero, suc, refl, sym, ap, ap₂, subst, ◌∙◌, arith, ◌<◌, is_none, length}
-use Rattle.std.proofs.{lemmas.List.Sums.{sum_by-cons, sum_by-append}, lemmas.Option.same_Some, lemmas.Bool.{and_parts, eqb-true}}
+use Rattle.std.proofs.lemmas.List.Sums.{sum_by-append}
+use Rattle.std.proofs.lemmas.Option.{same_Some}
+use Rattle.std.proofs.lemmas.Bool.{and_parts, eqb-true}
 use Rattle.std.proofs.lemmas.List.Elements.{filter-append}
 use Rattle.office_history.proofs.Kept.{head_in, tail_in, count_more}
 use Rattle.box6346.specs.declared.box_number.BoxNumber.{BoxNumber}
@@ -10,8 +12,6 @@ use Rattle.terminal_core.specs.Rows.{VisitContent, ChangeContent, visit_opened, 
 use Rattle.terminal_core.specs.Changes.{visit_with_departure, TerminalRows, rows_with, rows_with_all, is_numbered, AreApplicable}
 use Rattle.terminal_core.proofs.Open.{kept_number, last_pushed}
 use Rattle.office_parts.specs.{OwnTerminal.{is_own, own_visits, IsOverOrStays, MayStay, IsOfOwn}, Laws.{ChangesAreOfOwn, OwnTerminalsAreSound}}
-
--- ==== Splits: Lists that are split in two by a test, of which one at most passes another.
 
 -- ---- options
 
@@ -128,10 +128,6 @@ module _ {A : Type 0} (p q : A → Bool) where
           let not_ : not (q i) ≡ true = found_tested p opposite xs i there in
           let no : not true ≡ true = sym (ap not has) ∙ not_ in
           cc
-
-  -- and what is found in a half is found in the whole
-  pub half_found : (xs : List A) (i : A) → count_by p xs ≤ 1 → find p (filter q xs) ≡ Some i → find p xs ≡ Some i
-  half_found xs i few e = sym (split_finds xs few) ∙ ap (λ o. option_or o (find p (filter opposite xs))) e
 
 -- ---- having
 

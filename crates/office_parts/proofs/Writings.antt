@@ -35,8 +35,6 @@ use Rattle.office_replies.specs.Events.{Event}
 use Rattle.office_loading.specs.Closed.{ClosedContent}
 use Rattle.std.specs.FinMap as finite_map
 
--- ==== Writings: What interchanges that name no list that was put away write: to the rows without them as to those with them.
-
 -- ---- the rows give the terminal
 
 module _ (away : ListName → Bool) where

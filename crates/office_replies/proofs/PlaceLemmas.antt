@@ -36,12 +36,6 @@ left_stripped q bytes [] left =
     ap without_breaks (sym left.0 ∙ sym (append-nil (without_breaks bytes))) ∙ twice ∙ ap without_breaks (append-nil bytes) ∙ left.0
 left_stripped q bytes (text ∷ texts) (behind, is, cut, left) = left_stripped q behind texts left
 
--- what is left over is no longer than all
-left_within : (q bytes : List ℕ) (texts : List (List ℕ)) → CutsFrom (LeavesOver q) bytes texts → length q ≤ length bytes
-left_within q bytes [] left = omega (arith, ap length left.0, stripped_length bytes)
-left_within q bytes (text ∷ texts) (behind, is, cut, left) =
-    omega (arith, left_within q behind texts left, ap length cut, length-append text behind, stripped_length bytes)
-
 -- ---- before a piece
 
 piece_whole : (place : Place) (rest : List ℕ) (at_rest : Bool) → (with_piece place rest at_rest).whole ≡ place.whole

@@ -19,6 +19,6 @@ pub use accounts::{AccountAnswer, AccountFault, AddAccount, account_added, accou
 pub use body::{clash_body, refused_body, reply, taken_body, text_of, waiting_body};
 pub use deliver::{Deliver, Fault, Response, Worst};
 pub use line::Cut;
-pub use message_report::{LineReport, MessageReport, MessageVerdict};
+pub use message_report::{LineReport, MessageReport, MessageVerdict, message_fault_name};
 pub use port::{Gathered, Port, Sink, Source};
 pub use stream::{StreamFault, answer_account, run_stream};

@@ -36,8 +36,8 @@ pub(crate) fn reason_name(reason: Reason) -> &'static str
     }
 }
 
-/// The name of a message's fault.
-pub(crate) fn message_fault_name(fault: MessageFault) -> &'static str
+/// The name of a message's fault, as a reply gives it.
+pub fn message_fault_name(fault: MessageFault) -> &'static str
     ensures { result.now ≡ message_fault_name fault }
 {
     match fault {

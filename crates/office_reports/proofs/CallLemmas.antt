@@ -16,8 +16,6 @@ use Rattle.office_reports.{specs.{declared.work.Job.Job, declared.lists.ListedLi
 use Rattle.std.specs.FinMap as finite_map
 use Rattle.std.specs.FinMap.Entries as entries
 
--- ==== CallLemmas: The lists that have lines, by one line more.
-
 abbrev Entry : Type 0
 Entry = LineKey × LineContent
 

@@ -21,9 +21,6 @@ pub one_more : (text front rest rest' : List ℕ) (byte : ℕ) → decoded_part 
     decoded_part text ≡ behind (front ++ byte ∷ []) (decoded_part rest')
 one_more text front rest rest' byte before is = before ∙ ap (behind front) is ∙ one_before front byte (decoded_part rest')
 
-pub none_left : (text front rest : List ℕ) → decoded_part text ≡ behind front (decoded_part rest) → decoded_part rest ≡ None → None ≡ decoded_part text
-none_left text front rest before is = sym (before ∙ ap (behind front) is)
-
 -- ==== Parting: The parts of a key.
 
 -- no byte is a slash

@@ -1,4 +1,4 @@
-//! Where a container is: what the report on it tells.
+//! Where a container is: what the report on it says.
 ghost use Rattle.std.specs.{List.prefix_len, Option.option_map, Prelude.{◌≡◌, ◌≤◌, IfOk, Some, length, map}};
 ghost use Rattle.office_admission.specs.Setups.{setup_content};
 ghost use Rattle.office_reports.specs.Containers.{blocker_in, by_visit, container_content, container_of, gone_by, stay_by, stay_content};

@@ -24,7 +24,7 @@ pub fn lookups_are_one()
     ensures partners { PartnersReportsAreOne }
 {}
 
-/// What is told of a container's visits, and of an interchange, has the text of the report on it.
+/// The values of a container's visits, and of an interchange, have the text of the report on it.
 pub fn texts_stay()
     ensures visits { VisitTextsStay }
     ensures tickets { TicketTextsStay }

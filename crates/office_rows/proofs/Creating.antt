@@ -1,6 +1,6 @@
 -- What the texts mean that make the tables.
 use Rattle.std.{specs.{Ordering.{is_eq, match_ordering}, List.list_any, List.Sorted.IsPermutation}, proofs.{lemmas.Cmp.tied_itself, lemmas.List.take_more}}
-use Rattle.std.proofs.Common.{◌≡◌, ℤ, inl, inr, List, [], ◌∷◌, ◌++◌, map, filter, Bool, true, false, not, ◌||◌, cond, Ordering, Less, Equal, Greater, refl, sym, ap, ◌∙◌, true≢false, ◌⊎◌, IsTrue, Result, Ok, Err, OnOk, IfOk, subst, ℕ, slice_get, Some, None, Contains, arith, codes, zero, suc, ◌+◌, take, length, append_assoc, add-zero}
+use Rattle.std.proofs.Common.{◌≡◌, ℤ, inl, inr, List, [], ◌∷◌, ◌++◌, map, filter, Bool, true, false, not, ◌||◌, cond, Ordering, Less, Equal, Greater, refl, sym, ap, ◌∙◌, true≢false, ◌⊎◌, IsTrue, Result, Ok, Err, OnOk, IfOk, subst, ℕ, slice_get, Some, None, Contains, arith, codes, zero, suc, ◌+◌, take, length, add-zero}
 use Rattle.std.proofs.{lemmas.Bool.{and_parts, or_parts, not-true, cases_Bool}, lemmas.Option.{slice_get_within, get_or_from_slice_get}}
 use Rattle.std.proofs.lemmas.List.Sorted.{IsPermutation-refl, IsPermutation-sym, IsPermutation-trans, IsPermutation-cons, IsPermutation-middle, IsPermutation-append, IsPermutation-append_right, list_any-IsPermutation, Contains-permutation, length_permutation}
 use Rattle.sqlite_value.{specs.{declared.value.Value.TheVariants.Int, Order.{Row, value_cmp}}, proofs.OrderLemmas.value_cmp_total}
@@ -8,15 +8,18 @@ use Rattle.sqlite_trees.{specs.{Tree.{rowid, has_rowid, put_row, without_rowid},
 use Rattle.sqlite_trees.proofs.ListLemmas.{filter_all, filter_same, all_of, ascending-filter, all-filter}
 use Rattle.sqlite_rules.{specs.{Lists.Has, Edit.{id_in, put_all, without_all, is_taken, are_fresh, have_rowids}}, proofs.TableLemmas.int_is}
 use Rattle.sqlite_rules.proofs.{ListLemmas.{all_has, all_from, some_has, some_from, has_filtered, has_kept, has_contained, contains_had}, PlaceLemmas.tied_same}
-use Rattle.sqlite.specs.State.{State, Shows, IsUnchanged, IsRolledBack, KeepsCommit, Survives, Shown, ShowsRows, FailsToQuery, FailsToShow, IsNotRun, CommitsShowing}
-use Rattle.sqlite.specs.{Effect.Database, declared.error.Error.Error, Clock.timed, Listing.understood, Command.TheVariants.CreateTable}
+use Rattle.sqlite.specs.State.{State, Shows, IsUnchanged, IsRolledBack, KeepsCommit, Survives}
+use Rattle.sqlite.specs.Effect.{Database}
+use Rattle.sqlite.specs.Listing.{understood}
+use Rattle.sqlite.specs.Command.TheVariants.{CreateTable}
 use Rattle.sqlite.{specs.Compile.table_defined_by, proofs.{StateLemmas.survives_then, Callers.{IsPlain, command_of, statement_of}}}
-use Rattle.office_rows.specs.{Stored.{HasRows, StoresRows}, Rows.{Rows, Partner, Setting}, Steps.{Steps, Turns}}
+use Rattle.office_rows.specs.Stored.{HasRows, StoresRows}
+use Rattle.office_rows.specs.Rows.{Rows}
+use Rattle.office_rows.specs.Steps.{Steps, Turns}
 use Rattle.office_rows.specs.Tables.{partner_table, interchange_table, visit_table, place_table, listing_table, setting_table, block_table, no_schema, schema_of}
-use Rattle.office_rows.specs.Opening.{partners_from, setting_row, settings_named, with_partners, with_settings, with_blocks}
+use Rattle.office_rows.specs.Opening.{partners_from, setting_row, settings_named}
 use Rattle.sqlite_tied.specs.Compute.{everything}
 use Rattle.edi_messages.specs.declared.codes.PartnerKind.{PartnerKind}
-use Rattle.yard_core.specs.declared.plan.Block.{Block}
 use Rattle.sqlite_trees.specs.declared.store.Shape.TheVariants as shape
 
 -- ==== EditLemmas: What one edit does to the rows of a table, in any order.
@@ -169,12 +172,6 @@ steps_turn P rows change a b c p q = record { now = λ h. q.rows rows (p.now h);
 
 -- ==== ReadLemmas: From the rows of an answer to the records.
 
-pub shown_same : (sql : List ℕ) (params : Row) (old new : State) (rows : List Row) → IsPlain (understood old.now.schema sql) → Shown sql params old new rows → IsUnchanged old new
-unfolding Shown
-shown_same sql params old new rows plain h =
-    let none = (subst IsPlain h.1.is plain).0 in
-    (subst (ShowsRows old new sql h.0 (timed params h.0.formats h.1.now) rows) none h.2).3
-
 pub has_mapped : {A B : Type 0} (f : A → B) (xs : List A) (y : B) → Has (map f xs) y → (x : A) × Has xs x × (y ≡ f x)
 has_mapped f [] y h = absurd h
 has_mapped f (x ∷ xs) y (inl same) = (x, inl refl, same)
@@ -192,30 +189,6 @@ some_first f xs (z ∷ ys) y same some =
     let there = has_contained _ y (Contains-permutation _ _ y (IsPermutation-sym _ _ same) (contains_had (z ∷ ys) y (inl is))) in
     let r = has_mapped f xs y there in
     (r.0, contains_had xs r.0 r.1, r.2)
-
--- ---- a query commits nothing, whether it answers or fails
-
-pub failed_keeps : (sql : List ℕ) (params : Row) (old new : State) (e : Error) → IsPlain (understood old.now.schema sql) → FailsToQuery sql params old new e → KeepsCommit old new
-unfolding FailsToQuery IsNotRun
-failed_keeps sql params old new e plain (inl (inl stopped)) = stops_keep old new (inl stopped.1)
-failed_keeps sql params old new e plain (inl (inr failed)) = stops_keep old new (inr failed.3)
-failed_keeps sql params old new e plain (inr h) =
-    let none = (subst IsPlain h.1.is plain).0 in
-    stops_keep old new (inl (subst (FailsToShow old new sql h.0 (timed params h.0.formats h.1.now) e) none h.2).3)
-
-pub query_survives : (sql : List ℕ) (params : Row) (old new : State) → IsPlain (understood old.now.schema sql) → Survives old new (CommitsShowing sql params old) → Survives old new (λ _. ⊥)
-unfolding CommitsShowing
-query_survives sql params old new plain s = record {
-  clean = s.clean;
-  shield = s.shield;
-  counts = s.counts;
-  limit = s.limit;
-  closes = s.closes;
-  crash = λ clean db left. elim (s.crash clean db left) [
-    | inl before ↦ inl before
-    | inr made ↦ absurd (let none = (subst IsPlain made.1.is plain).0 in let e = rw none at made.2 in cc)
-  ];
-}
 
 -- ==== Creating: What the texts mean that make the tables.
 
@@ -341,24 +314,3 @@ partners_then id [] account = rw add-zero refl
 partners_then id (a ∷ accounts) account =
     let same : id + 1 + length accounts ≡ id + suc (length accounts) = omega arith in
     ap (λ l. (record { id = id; code = a.0; kind = a.1; next = 1 }) ∷ l) (rw same at (partners_then (id + 1) accounts account))
-
--- ---- steps that add rows
-
-module _ (a b c : State) where
-  pub more_settings : (done more : List Setting) → Steps (with_settings done) a b → Steps (with_settings more) b c → Steps (with_settings (done ++ more)) a c
-  more_settings done more p q =
-      let first = with_settings done in
-      let second = with_settings more in
-      steps_same (λ rows. second (first rows)) (with_settings (done ++ more)) a c (λ rows. ap (λ l. record rows { settings = l }) (append_assoc rows.settings done more)) (steps_then first second a b c p q)
-
-  pub more_partners : (done more : List Partner) → Steps (with_partners done) a b → Steps (with_partners more) b c → Steps (with_partners (done ++ more)) a c
-  more_partners done more p q =
-      let first = with_partners done in
-      let second = with_partners more in
-      steps_same (λ rows. second (first rows)) (with_partners (done ++ more)) a c (λ rows. ap (λ l. record rows { partners = l }) (append_assoc rows.partners done more)) (steps_then first second a b c p q)
-
-  pub more_blocks : (done more : List Block) → Steps (with_blocks done) a b → Steps (with_blocks more) b c → Steps (with_blocks (done ++ more)) a c
-  more_blocks done more p q =
-      let first = with_blocks done in
-      let second = with_blocks more in
-      steps_same (λ rows. second (first rows)) (with_blocks (done ++ more)) a c (λ rows. ap (λ l. record rows { blocks = l }) (append_assoc rows.blocks done more)) (steps_then first second a b c p q)

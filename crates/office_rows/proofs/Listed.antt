@@ -45,9 +45,6 @@ finds_pair old new answer layout is interchanges held p n h =
     (answer_is params texts.select_kept_tests 2 texts.select_kept_shown old.now.trees answer refl (read.answer Null))
 
 module _ (old new : State) (rows : Rows) (answer : List Row) (has : HasRows rows old.now) where
-  pub finds_kept : (p n : ℕ) → Shown texts.select_kept (number_value p ∷ number_value n ∷ []) old new answer → IsPermutation (map kept_values (filter (is_pair p n) rows.interchanges)) answer
-  finds_kept p n h = finds_pair old new answer weighed has.schema rows.interchanges has.rows_are.interchanges p n h
-
   pub finds_next : (id : ℕ) → Shown texts.select_next (number_value id ∷ []) old new answer → IsPermutation (map next_values (filter (λ p. p.id == id) rows.partners)) answer
   finds_next id h =
       let params = number_value id ∷ [] in

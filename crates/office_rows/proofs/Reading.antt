@@ -11,8 +11,6 @@ use Rattle.sqlite_catalog.specs.{Change.{created, next_tree, KeepsRows}, Listing
 use Rattle.sqlite_trees.specs.Objects.{catalog_tree}
 use Rattle.office_rows.proofs.Creating as texts
 
--- ==== Reading: What the texts mean that read.
-
 abbrev pub select_partner : List ℕ
 select_partner = codes "SELECT id, code, kind, next FROM partner ORDER BY id"
 

@@ -1,10 +1,19 @@
 -- From what a statement means to the rows of its table.
-use Rattle.std.specs.{List.{flat_map, filter_map, list_all, AllByRecursion}, List.Sorted.IsPermutation, Str.bytes_eq, Ordering.{nat_cmp, on}, Prelude.IsSorted}
+use Rattle.std.specs.List.{flat_map, filter_map, list_all}
+use Rattle.std.specs.List.Sorted.{IsPermutation}
+use Rattle.std.specs.Str.{bytes_eq}
+use Rattle.std.specs.Ordering.{nat_cmp, on}
+use Rattle.std.specs.Prelude.{IsSorted}
 use Rattle.std.{specs.Cmp.Lexicographic.slice_cmp, proofs.{lemmas.Bool.cases_Bool, lemmas.Bool.Decides.nat_tests, lemmas.Int.ints}}
 use Rattle.std.proofs.Common.{◌≡◌, ◌≢◌, ◌⊎◌, ℕ, ◌==◌, ℤ, pos, negsuc, inl, inr, List, [], ◌∷◌, map, filter, slice_get, Bool, true, false, cond, Some, None, Result, Ok, Err, refl, sym, ap, subst, ◌∙◌, length, ◌/◌, arith, is_eq, is_lt, int_cmp, fold, MatchBool, if◌then◌else◌, ◌++◌, append-nil, drop, not}
 use Rattle.std.proofs.{lemmas.List.Sorted.{IsPermutation-map, IsPermutation-trans, IsPermutation-cons, IsPermutation-middle}, lemmas.Map.Text.is_eq-slice_cmp}
-use Rattle.sqlite.specs.{Collation.TheVariants.Binary, declared.types.Value.Value, declared.types.Value.TheVariants.{Null, Int, Text}, Order.{Row, column}}
-use Rattle.sqlite.specs.{Term.{Term, Env, lit, eval_all, holds}, Ops.{unary, binary, is_true}, Query.{Query, inner, end, IsAnswer, output, Output, key_cmp}}
+use Rattle.sqlite.specs.Collation.TheVariants.{Binary}
+use Rattle.sqlite.specs.declared.types.Value.{Value}
+use Rattle.sqlite.specs.declared.types.Value.TheVariants.{Null, Int, Text}
+use Rattle.sqlite.specs.Order.{Row}
+use Rattle.sqlite.specs.Term.{Term, lit, eval_all, holds}
+use Rattle.sqlite.specs.Ops.{unary, binary, is_true}
+use Rattle.sqlite.specs.Query.{Query, inner, end, IsAnswer, output, Output, key_cmp}
 use Rattle.sqlite.specs.{Program.overlay, Table.Table, Kind.TheVariants.Integer, Source.TheVariants.Values, Command.TheVariants.{Insert, Update, Delete}}
 use Rattle.sqlite.specs.{Tree.Trees, Effect.{Database, IsDatabase, value_rows}, Does.{Tally, Does, OnRows, AtPlace}, State.{State, mode_of, Writes}}
 use Rattle.sqlite.{specs.Rows.{Written, Task, stamped, CountsIn, count_of, higher, rowids_for, sequence, Gives}, proofs.Callers.one_step}
@@ -18,8 +27,6 @@ use Rattle.sqlite_rules.specs.Action.{works, work_by, pairs, deed_for, Writes as
 use Rattle.sqlite_catalog.specs.Listing.{Lists}
 use Rattle.office_rows.specs.{Tables.office_schema, Stored.{Holds, columns_of}}
 use Rattle.office_rows.proofs.Creating.{put_all_fresh, put_all_shaped, without_all_shaped, updated, deleted}
-
--- ==== WriteLemmas: From what a statement means to the rows of its table.
 
 -- ---- values
 
@@ -115,10 +122,6 @@ module _ (params : Row) (tests : List Term) where
       (subst (λ k. IsPermutation k a.ordered) kept a.same, a.sorted, a.shown)
 
 -- ---- writes
-
--- what a write leaves of the tables that it is not about
-abbrev pub KeepsOthers : Table → Trees → Trees → Type 0
-KeepsOthers table old new = AllByRecursion (λ t. t.tree ≢ table.tree → new t.tree ≡ old t.tree) office_schema.tables
 
 pub record Edits (table : Table) (edit : Edit) (old new : Database) : Type 0 where
   pub schema : new.schema ≡ office_schema

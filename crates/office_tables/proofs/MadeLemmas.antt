@@ -22,8 +22,6 @@ use Rattle.sqlite_ast.specs.declared.Statement.TheVariants as written
 use Rattle.sqlite_resolve.specs.Define as define
 use Rattle.office_rows.proofs.Creating as texts
 
--- ==== MadeLemmas: A text that makes a table, run on a database of any schema: the table was not there.
-
 -- ---- the text
 
 abbrev is_new : Statement → Bool

@@ -16,8 +16,6 @@ use Rattle.office_rows.proofs.{WriteLemmas.{cast_null, cast_int, equal_numbers, 
 use Rattle.office_tables.{specs.{Kept.with_kept_reply, Order.KeepsOrder}, proofs.KeyLemmas.new_key}
 use Rattle.office_rows.proofs.Writing as texts
 
--- ==== PairLemmas: An interchange that is inserted is the only one of its partner and number.
-
 any_map : {X Y : Type 0} (p : Y → Bool) (f : X → Y) (xs : List X) → list_any p (map f xs) ≡ list_any (λ x. p (f x)) xs
 any_map p f [] = refl
 any_map p f (x ∷ xs) = ap (λ b. p (f x) || b) (any_map p f xs)

@@ -28,4 +28,4 @@ pub use terminal::{
     delete_line, delete_place, insert_line, insert_listing, insert_place, insert_visit, integer,
     set_done, set_exit, set_slot,
 };
-pub use writing::{write_account, write_early, write_run};
+pub use writing::{commit, write_account, write_early, write_run};

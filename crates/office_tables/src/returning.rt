@@ -1,9 +1,9 @@
 ghost use Rattle.std.specs.Prelude.{◌≡◌, ◌≤◌, [], ◌∷◌, false, length, map, OnOk, OnErr, IfErr, IsTrue};
-ghost use Rattle.office_tables.specs.{Writing.{IsUndone, IsWholeInOrder, WritesWhole}, Faults.IsOfStore, Writes.{Writes, WritesIfOpen}};
+ghost use Rattle.office_tables.specs.{Writing.{IsWholeInOrder, WritesWhole}, Writes.{Writes, WritesIfOpen}};
 ghost use Rattle.office_rows.specs.{Opening.with_lines, Rows.listing_content};
-ghost use Rattle.sqlite.specs.{Held.state, State.{HasCleanDisk, Shows, Survives}};
+ghost use Rattle.sqlite.specs.{Held.state, State.{HasCleanDisk, Survives}};
 
-use crate::{TableFault, insert_listing};
+use crate::{TableFault, commit, insert_listing};
 use sqlite::{Alter, Connection, Transaction};
 use terminal_core::Listing;
 
@@ -62,23 +62,4 @@ fn insert_one<S: Alter>(tx: &mut Transaction<'_, S>, line: &Listing) -> Result<(
 {
     let port = line.port.as_str();
     insert_listing(tx, &line.call, line.side, line.container, port, line.state)
-}
-
-/// Commits what a transaction wrote, or nothing of it.
-fn commit<S: Alter>(tx: Transaction<'_, S>) -> Result<(), TableFault>
-    ensures ended { (state S.Store tx.exit.0.now).in_transaction ≡ false }
-    ensures ok { HasCleanDisk (state S.Store tx.exit.0.now) →
-        OnOk result (Shows (state S.Store tx.entry.conn.now) (state S.Store tx.exit.0.now)
-        (state S.Store tx.entry.conn.now).now (state S.Store tx.entry.conn.now).now false) }
-    ensures was_open { HasCleanDisk (state S.Store tx.exit.0.now) → IsTrue (state S.Store tx.exit.0.now).is_open →
-        IsTrue (state S.Store tx.entry.conn.now).is_open }
-    ensures err { HasCleanDisk (state S.Store tx.exit.0.now) → IsTrue (state S.Store tx.entry.conn.now).in_transaction →
-        IsTrue (state S.Store tx.exit.0.now).is_open →
-        OnErr result (IsUndone (state S.Store tx.entry.conn.now) (state S.Store tx.exit.0.now)) }
-    ensures survives { Survives (state S.Store tx.entry.conn.now) (state S.Store tx.exit.0.now)
-        (λ db. db ≡ (state S.Store tx.entry.conn.now).now.trees) }
-    ensures fault { IfErr result IsOfStore }
-{
-    tx.commit()?;
-    Ok(())
 }

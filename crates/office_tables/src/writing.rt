@@ -164,7 +164,7 @@ pub fn write_account<S: Alter>(
 }
 
 /// Commits what a transaction wrote, or nothing of it.
-fn commit<S: Alter>(tx: Transaction<'_, S>) -> Result<(), TableFault>
+pub fn commit<S: Alter>(tx: Transaction<'_, S>) -> Result<(), TableFault>
     ensures ended { (state S.Store tx.exit.0.now).in_transaction ≡ false }
     ensures ok { HasCleanDisk (state S.Store tx.exit.0.now) →
         OnOk result (Shows (state S.Store tx.entry.conn.now) (state S.Store tx.exit.0.now)

@@ -70,9 +70,6 @@ order_after-append before (d ∷ ds) es =
 -- ---- rules by place
 
 module _ {S : Type 0} (number_of : List ℕ → ℕ) (before : List Delivery) (old new : Taking S) where
-  by_place : Taking S
-  by_place = taken_by_place number_of before old new
-
   by_old : (p k : ℕ) (text : List ℕ) (s : S) → number_of text ≡ k → k ≤ run before p → taken_by_place number_of before old new s p text ≡ old s p text
   by_old p k text s is low =
       let l : number_of text ≤ run before p = omega arith in

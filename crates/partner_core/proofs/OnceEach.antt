@@ -1,5 +1,8 @@
 -- Order has each partner's run once each, in number order.
-use Rattle.std.{specs.{Prelude.{Option, None, Some, ◌==◌, is_some, All, AllPairs, filter}, Option.option_or, List.list_any}, proofs.lemmas.List.append-nil}
+use Rattle.std.specs.Prelude.{None, Some, ◌==◌, is_some, All, AllPairs, filter}
+use Rattle.std.specs.Option.{option_or}
+use Rattle.std.specs.List.{list_any}
+use Rattle.std.proofs.lemmas.List.{append-nil}
 use Rattle.std.proofs.Common.{◌≡◌, ◌≢◌, ℕ, ◌+◌, ◌-◌, ◌<◌, ◌≤◌, inl, inr, Bool, true, false, cond, List, [], ◌∷◌, ◌++◌, refl, sym, ◌∙◌, ap, arith, zero, suc, ◌&&◌, ◌||◌, append_assoc}
 use Rattle.std.proofs.lemmas.Bool.{cases_Bool, cases_order, cond-false, cond-true, eqb-true, eq-eqb, ne_eqb, and_parts, and_from, and_left, and_right, false_from_ne_true, cases_eq, or_cases, or_left, or_right}
 use Rattle.std.proofs.{lemmas.List.Elements.{All-nil, All-cons, All-append, All-weaker, filter-append}, lemmas.List.Kept.AllPairs-cons}
@@ -108,9 +111,6 @@ numbers_made_next-nothing : (ds : List Delivery) (d : Delivery) → run (ds ++ d
 numbers_made_next-nothing ds d h =
     let none : run ds d.partner - run ds d.partner ≡ 0 = omega arith in
     numbers_made_next-to ds d (run ds d.partner) h ∙ ap (numbers_above d.partner (run ds d.partner)) none
-
-cond_none : {A : Type 0} (b : Bool) (x : A) (o : Option A) → b ≡ true → cond b (Some x) o ≡ None → ⊥
-cond_none b x o h e = cc
 
 module _ {S : Type 0} (taken : Taking S) (opening : S) (ds : List Delivery) (d : Delivery) where
   order-stays : run (ds ++ d ∷ []) d.partner ≡ run ds d.partner → order (ds ++ d ∷ []) ≡ order ds

@@ -1,6 +1,6 @@
 -- What the changes of a step find.
 use Rattle.std.specs.{Prelude.{find, filter, ◌&&◌, ◌==◌}, Char.is_ascii_uppercase, Str.bytes_eq, Ordering.eq_by_cmp}
-use Rattle.std.proofs.Common.{◌≡◌, ℕ, ◌+◌, ◌≤◌, ◌<◌, List, [], ◌∷◌, ◌++◌, length, Bool, true, false, cond, Option, None, Some, Result, Ok, Err, is_some, is_none, refl, sym, ap, ◌∙◌, arith, subst, map, IsTrue, inl, inr, nat_le}
+use Rattle.std.proofs.Common.{◌≡◌, ℕ, ◌+◌, ◌≤◌, ◌<◌, List, [], ◌∷◌, ◌++◌, Bool, true, false, cond, Option, None, Some, Result, Ok, Err, is_some, is_none, refl, sym, ap, ◌∙◌, arith, subst, map, IsTrue, inl, inr, nat_le}
 use Rattle.std.proofs.{lemmas.Bool.{eq-eqb, ne_eqb, and_parts, le-leb}, lemmas.Option.{same_Some, none-some}, lemmas.List.Elements.Contains-push_cases}
 use Rattle.box6346.specs.{SizeCode.length_of, declared.box_number.BoxNumber.BoxNumber, declared.slot.Slot.Slot, SlotName.IsNamed}
 use Rattle.edi_syntax.specs.Moments.{CivilMoment}
@@ -22,8 +22,6 @@ use Rattle.terminal_core.{specs.OneByOne.GoOneByOne, proofs.Open.{there_placed, 
 use Rattle.terminal_core.proofs.{Indexed.{find_skips, find_meets, mapped_at}, Lined.{order, keys_total, same_key}, Whole.{contained, found_at}, Noted.key_parts}
 use Rattle.terminal_core.proofs.Changing.{new_place, new_slot, Comes, comes, brought, goes, shifts, numbered_from, found, turned_entered, turned_departed, entered_keeps, departed_keeps, either, placed_by, Turns, KeepsLines, turned_step}
 use Rattle.std.specs.FinMap as finite_map
-
--- ==== Applying: What the changes of a step find.
 
 -- ---- numbers
 

@@ -1,7 +1,6 @@
 -- What the changes of a step make of the rows.
 use Rattle.std.{specs.{Prelude.{find, filter, ◌&&◌, not, ◌==◌}, Option.option_map, Str.bytes_eq, Map.update}, proofs.lemmas.Bool.{eq-eqb, ne_eqb}}
 use Rattle.std.proofs.Common.{◌≡◌, ℕ, ◌+◌, ◌≤◌, ◌<◌, List, [], ◌∷◌, ◌++◌, length, map, Bool, true, false, cond, Option, None, Some, Result, Ok, Err, is_some, is_none, refl, sym, ap, ◌∙◌, arith, ◌≢◌, ◌-◌, ◌%◌, inl}
-use Rattle.std.proofs.lemmas.Option.{slice_get_within}
 use Rattle.box6346.specs.{SizeCode.length_of, declared.box_number.BoxNumber.BoxNumber, declared.size_type.Length.Length, declared.slot.Slot.Slot}
 use Rattle.box6346.specs.declared.size_type.Length.TheVariants.{Twenty, Forty}
 use Rattle.edi_syntax.specs.Moments.{CivilMoment}
@@ -20,8 +19,6 @@ use Rattle.terminal_core.specs.Changes.{Standing, TerminalRows, standing_in, sta
 use Rattle.terminal_core.proofs.Open.{same_bytes, in_placed_map, in_removed_map, there_placed, moved_as, and_true, closed_open, find_last, find_new, open_of}
 use Rattle.terminal_core.proofs.Indexed.{found_is, count_keeps, count_skips, find_skips, find_meets, some_of, none_there}
 use Rattle.std.specs.FinMap as finite_map
-
--- ==== Changing: What the changes of a step make of the rows.
 
 -- ---- what the yard decides
 

@@ -14,8 +14,6 @@ use Rattle.terminal_core.{specs.Index.{AreIndexed, if_open}, proofs.{Lined.{orde
 use Rattle.terminal_core.proofs.Open.{same_self}
 use Rattle.std.specs.FinMap as finite_map
 
--- ==== Dropping: What dropping leaves.
-
 -- ---- keys
 
 pub both_true : (a b : Bool) → (a && b) ≡ true → (a ≡ true) × (b ≡ true)
@@ -146,11 +144,6 @@ drop_applicable state call side = applies call side (finite_map.entries state.li
 abbrev is_gone : CallContent → Side → LineKey → List Entry → Bool
 is_gone call side key [] = false
 is_gone call side key (e ∷ es) = cond (is_open_on call side e) (cond (eq_by_cmp order key e.0) true (is_gone call side key es)) (is_gone call side key es)
-
-again : {A : Type 0} (a b : Bool) (o : Option A) → cond a None (cond b None o) ≡ cond b None (cond a None o)
-again true true o = refl
-again true false o = refl
-again false b o = refl
 
 none_again : {A : Type 0} (a b : Bool) (o : Option A) → cond b None (cond a None o) ≡ cond (cond a true b) None o
 none_again true true o = refl

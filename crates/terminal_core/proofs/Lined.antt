@@ -1,9 +1,13 @@
 -- The lines of rows: where one is found, one more, and one that is done.
-use Rattle.std.specs.{Option.option_map, Prelude.{slice_get, slice_set, nat_le, ◌&&◌, string_bytes, count_by, find}, declared.cmp.Ordering.Ordering, Map.lookup}
+use Rattle.std.specs.Option.{option_map}
+use Rattle.std.specs.Prelude.{slice_get, slice_set, ◌&&◌, string_bytes, count_by, find}
+use Rattle.std.specs.declared.cmp.Ordering.{Ordering}
+use Rattle.std.specs.Map.{lookup}
 use Rattle.std.specs.{Ordering.{nat_cmp, eq_by_cmp, is_eq, ordering_then}, declared.cmp.Ordering.TheVariants.{Less, Equal, Greater}, Str.bytes_eq}
 use Rattle.std.{specs.{Cmp.{IsTotalOrder, eq_by_cmp_equiv}, Cmp.Lexicographic.{slice_cmp, nat_list_cmp_total, texts_ties}}, proofs.lemmas.Cmp.lists_total}
 use Rattle.std.proofs.Common.{◌≡◌, ℕ, ◌+◌, ◌≤◌, ◌<◌, List, [], ◌∷◌, ◌++◌, true, false, cond, Option, None, Some, Result, Ok, refl, sym, ap, subst, ◌∙◌, append-nil, append_assoc, zero, suc, length, map, Bool, arith, get_or, take, nat_lt, slice_index_or}
-use Rattle.std.proofs.{lemmas.Bool.{lt-leb, le-leb, leb-true, leb-false, ltb-true, ltb-false}, lemmas.Option.{slice_get-get_or, slice_get_within, same_Some}}
+use Rattle.std.proofs.lemmas.Bool.{lt-leb, ltb-true, ltb-false}
+use Rattle.std.proofs.lemmas.Option.{slice_get-get_or, slice_get_within, same_Some}
 use Rattle.std.proofs.lemmas.List.{map-append, take_more}
 use Rattle.box6346.specs.{declared.box_number.BoxNumber.BoxNumber, declared.slot.Slot.Slot}
 use Rattle.edi_syntax.specs.Moments.{CivilMoment}
@@ -29,9 +33,6 @@ use Rattle.std.specs.FinMap as finite_map
 pub follows : (a b : StepResult) (now : TerminalState) (answer : Outcome) (old new : List ChangeContent) → a ≡ b → Follows b now answer old new → Follows a now answer old new
 follows a b now answer old new e f = record { state = f.state ∙ sym (ap (λ s. s.state) e); outcome = f.outcome ∙ sym (ap (λ s. s.outcome) e); changes = f.changes ∙ sym (ap (λ s. old ++ s.changes) e) }
 
-pub nothing_done : (state : TerminalState) (reason : Reason) (changes : List ChangeContent) → Follows (with_refusal state reason) state (Refused reason) changes changes
-nothing_done state reason changes = record { state = refl; outcome = refl; changes = sym (append-nil changes) }
-
 -- the yard stayed
 yard_stays : (state : TerminalState) (y : YardMap) (reason : Reason) (changes : List ChangeContent) → y ≡ state.yard → Follows (with_refusal state reason) (record state { yard = y }) (Refused reason) changes changes
 yard_stays state y reason changes e = record { state = ap (λ (v : YardMap). record state { yard = v }) e; outcome = refl; changes = sym (append-nil changes) }
@@ -40,9 +41,6 @@ yard_stays state y reason changes e = record { state = ap (λ (v : YardMap). rec
 
 not_full : (state : TerminalState) → last_number state.visits < state.limit → is_full state ≡ false
 not_full state room = lt-leb state.limit (last_number state.visits) room
-
-full : (state : TerminalState) → state.limit ≤ last_number state.visits → is_full state ≡ true
-full state none = le-leb state.limit (last_number state.visits) none
 
 entered_is : (state : TerminalState) (way : Way) (source : Source) (entry : EntryContent) (r : Result (YardMap × Slot) Refusal) → last_number state.visits < state.limit → yard_with_entry newest state.yard entry ≡ r
     → after_entry newest state way source entry ≡ after_entry_at state way source entry r
@@ -292,20 +290,6 @@ pub line_added : (rows : List Listing) (line : Listing) → finite_map.get (line
 line_added rows line none =
     ap finite_map.from_entries (map-append line_entry rows (line ∷ []))
     ∙ finite_map.from_entries_push keys_total keys_apart (map line_entry rows) (key_of line) (line_content line) (sym (finite_map.get-from_entries keys_total (map line_entry rows) (key_of line)) ∙ none)
-
--- one place further
-pub none_before : (call : CallContent) (side : Side) (container : BoxNumber) (rows : List Listing) (place : ℕ) (row : Listing) → slice_get rows place ≡ Some row → is_line call side container row ≡ false
-    → NoneBefore call side container rows place → NoneBefore call side container rows (place + 1)
-none_before call side container rows place row at isnt none k other low there =
-    elim (nat_le place k) as (λ w. nat_le place k ≡ w → is_line call side container other ≡ false) [
-      | true ↦ λ e.
-          let far : place ≤ k = leb-true place k e in
-          let same : place ≡ k = omega arith in
-          let met : Some row ≡ Some other = sym at ∙ ap (slice_get rows) same ∙ there in
-          let is : row ≡ other = cc in
-          sym (ap (is_line call side container) is) ∙ isnt
-      | false ↦ λ e. let near : k < place = leb-false place k e in none k other near there
-    ] refl
 
 -- ---- what the calls on lists do
 

@@ -1,8 +1,11 @@
 -- Where the lines of the vessels' lists are said to stand.
-use Rattle.std.specs.{Prelude.{OnErr, ◌&&◌, ◌==◌, slice_get, slice_set, string_bytes, find, reverse}, Str.bytes_eq, Map.lookup, Cmp.eq_by_cmp_equiv}
+use Rattle.std.specs.Prelude.{OnErr, ◌&&◌, ◌==◌, slice_get, string_bytes, find, reverse}
+use Rattle.std.specs.Str.{bytes_eq}
+use Rattle.std.specs.Map.{lookup}
+use Rattle.std.specs.Cmp.{eq_by_cmp_equiv}
 use Rattle.std.{specs.{Ordering.eq_by_cmp, Slice.IsItemAt}, proofs.lemmas.Bool.{and_parts, eqb-true, eq-eqb}}
 use Rattle.std.proofs.Common.{◌≡◌, ℕ, ◌+◌, ◌<◌, zero, suc, List, [], ◌∷◌, ◌++◌, length, map, take, get_or, ◌⊎◌, Bool, true, false, cond, Option, None, Some, Result, Ok, Err, refl, sym, ap, ◌∙◌, arith, subst, inl, inr, option_map, Bor}
-use Rattle.std.proofs.lemmas.Option.{same_Some, none-some, slice_get-get_or, slice_get-map, slice_get_past}
+use Rattle.std.proofs.lemmas.Option.{same_Some, none-some, slice_get-map, slice_get_past}
 use Rattle.std.proofs.lemmas.List.{take_more, length-take-le, map-append, reverse-append, length-map}
 use Rattle.box6346.specs.declared.box_number.BoxNumber.{BoxNumber}
 use Rattle.edi_messages.specs.{Purposes.CallContent, Owned.call_content, declared.call.Call.Call}
@@ -14,8 +17,6 @@ use Rattle.terminal_core.{specs.{Rows.{VisitContent, visit_content}, Step.closed
 use Rattle.terminal_core.proofs.{Lined.{order, keys_total, same_key, line_tied, line_none, read_at}, Indexed.{at_most_one, pushed_at, mapped_at, next_rows}}
 use Rattle.terminal_core.proofs.Whole.{content_at}
 use Rattle.std.specs.FinMap as finite_map
-
--- ==== Noted: Where the lines of the vessels' lists are said to stand.
 
 -- what holds holds where it failed
 pub always : {A E : Type 0} {P : Type 0} (r : Result A E) → P → OnErr r P
@@ -118,12 +119,6 @@ module _ (rows : List Listing) (indexes : AllIndexes) (noted : AreNoted rows ind
   isnt_line k row at not =
       elim (is_line call side container row) as (λ v. is_line call side container row ≡ v → v ≡ false) [ true ↦ λ is. absurd (not (said k row at is)) | false ↦ λ e. refl ] refl
 
-  pub none_said : index_in indexes call side container ≡ None → NoneBefore call side container rows (length rows)
-  none_said none k row low at = isnt_line k row at (λ is. none-some k (sym none ∙ is))
-
-  pub none_past : (row_index : ℕ) → index_in indexes call side container ≡ Some row_index → slice_get rows row_index ≡ None → NoneBefore call side container rows (length rows)
-  none_past row_index is past k row low at = isnt_line k row at (λ also. none-some row (sym past ∙ ap (slice_get rows) (same_Some row_index k (sym is ∙ also)) ∙ at))
-
   pub none_there : (row_index : ℕ) (other : Listing) → index_in indexes call side container ≡ Some row_index → slice_get rows row_index ≡ Some other → is_line call side container other ≡ false → NoneBefore call side container rows (length rows)
   none_there row_index other is there isnt k row low at =
       elim (is_line call side container row) as (λ v. is_line call side container row ≡ v → v ≡ false) [
@@ -201,24 +196,6 @@ next_noted rows i row old new low at none noted notes =
     let P : List Listing → Type 0 = λ r. AreNoted r new in
     let Q : ℕ → Type 0 = NotesIndex old new (call_content row.call) row.side row.container in
     subst P (sym longer) (one_noted (take i rows) row old new (line_none (call_content row.call) row.side row.container (take i rows) none) noted (subst Q (sym long) notes))
-
--- ---- a row that is done
-
-set_at : {A : Type 0} (xs : List A) (i : ℕ) (y : A) (k : ℕ) (w : A) → slice_get (slice_set xs i y) k ≡ Some w → ((k ≡ i) × (y ≡ w)) ⊎ (slice_get xs k ≡ Some w)
-set_at [] i y k w at = inr at
-set_at (x ∷ xs) zero y zero w at = inl (refl, same_Some y w at)
-set_at (x ∷ xs) zero y (suc k) w at = inr at
-set_at (x ∷ xs) (suc i) y zero w at = inr at
-set_at (x ∷ xs) (suc i) y (suc k) w at = elim (set_at xs i y k w at) [ inl here ↦ inl (ap suc here.0, here.1) | inr there ↦ inr there ]
-
-pub done_noted : (rows : List Listing) (indexes : AllIndexes) (row_index : ℕ) (read done : Listing) → AreNoted rows indexes → row_index < length rows → read ≡ get_or rows row_index read
-    → call_content done.call ≡ call_content read.call → done.side ≡ read.side → done.container ≡ read.container → AreNoted (slice_set rows row_index done) indexes
-done_noted rows indexes row_index read done noted low is calls sides boxes k row at = elim (set_at rows row_index done k row at) [
-  | inl here ↦ (let P : Listing → Type 0 = λ r. index_in indexes (call_content r.call) r.side r.container ≡ Some k in
-      subst P here.1 (ap (λ (c : CallContent). index_in indexes c done.side done.container) calls ∙ ap (λ s. index_in indexes (call_content read.call) s done.container) sides
-      ∙ ap (index_in indexes (call_content read.call) read.side) boxes ∙ noted row_index read (slice_get-get_or rows row_index read low ∙ ap Some (sym is)) ∙ ap Some (sym here.0)))
-  | inr there ↦ noted k row there
-]
 
 -- ---- copies
 

@@ -34,9 +34,6 @@ module _ (call : CallContent) (side : Side) (b : BoxNumber) where
   pub pending_of : Option LineContent → Bool
   pending_of o = option_map_or (λ (l : LineContent). is_pending l.state) o false
 
-  on_row : Listing → Bool
-  on_row row = is_side row.side side && (bytes_eq (string_bytes row.call.voyage) call.voyage && bytes_eq (string_bytes row.call.vessel) call.vessel)
-
   parts : (x s v w p : Bool) → ((x && (s && (v && (w && p)))) ≡ ((((x && s) && v) && w) && p))
   parts true true true true p = refl
   parts true true true false p = refl

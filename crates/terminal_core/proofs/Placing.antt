@@ -20,8 +20,6 @@ use Rattle.terminal_core.proofs.Indexed.{counted_more, some_counted, none_before
 use Rattle.std.specs.FinMap as finite_map
 use Rattle.yard_core.specs.declared.yard.YardFault.TheVariants as yard
 
--- ==== Placing: Places that are taken one after another, in the order of their tiers.
-
 -- ---- a yard that lacks only boxes as high as this one, or higher
 
 module _ (plan : List Block) (all now : Box → Option Placement) (s : Placement) (kept : (q : Box) (t : Placement) → now q ≡ Some t → all q ≡ Some t)

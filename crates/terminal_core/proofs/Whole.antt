@@ -1,6 +1,6 @@
 -- What an order leaves is whole.
 use Rattle.std.{specs.{Prelude.{filter, ◌&&◌, ◌||◌, not, find, slice_get, slice_set, Contains}, Str.bytes_eq, List.list_any}, proofs.Math.Bool.or-true}
-use Rattle.std.proofs.Common.{◌≡◌, ℕ, ◌+◌, ◌≤◌, ◌<◌, List, [], ◌∷◌, ◌++◌, length, map, Bool, true, false, cond, None, Some, is_some, is_none, refl, sym, ap, ◌∙◌, arith, subst, length-append, zero, suc, ◌-◌, inl, inr, take, get_or, set, eqb}
+use Rattle.std.proofs.Common.{◌≡◌, ℕ, ◌+◌, ◌≤◌, ◌<◌, List, [], ◌∷◌, ◌++◌, length, map, Bool, true, false, cond, None, Some, is_some, is_none, refl, sym, ap, ◌∙◌, arith, subst, zero, suc, ◌-◌, inl, inr, take, get_or, set, eqb}
 use Rattle.std.proofs.{lemmas.List.{length-map, map-append, take_more, get_or-set_same, get_or-set_other}, lemmas.Bool.{cases_order, eqb-true, eq-eqb, ne_eqb}}
 use Rattle.std.proofs.lemmas.Option.{none-some, slice_get-get_or, slice_get_within, get_or_from_slice_get, same_Some}
 use Rattle.std.proofs.lemmas.List.Folds.{list_any_more, Any-from_list_any, list_any-from_Any}
@@ -12,8 +12,6 @@ use Rattle.terminal_core.specs.State.{last_number, TerminalState, Lines, is_in, 
 use Rattle.terminal_core.specs.{declared.change.Place.Place, Restoring.{AreRising, Names, numbers_of, AreNamed}}
 use Rattle.terminal_core.proofs.Open.{told_entered, told_departed, told_moved, moved_as, in_placed, in_removed, same_bytes, planned, find_one_more, count_one_more, none_counted, find_mapped, count_mapped, closed_open, numbered_one_more, numbered_closed, last_pushed, last_closed, or_turned, and_true, last_highest}
 use Rattle.std.specs.FinMap as finite_map
-
--- ==== Whole: What an order leaves is whole.
 
 pub whole_empty : (plan : List Block) (yard : YardMap) (limit : ℕ) (visits : List VisitContent) (lines : Lines) → IsPlan plan → yard.plan ≡ plan → yard.boxes ≡ finite_map.empty
     → IsSound yard.plan (placement_of yard.boxes) → visits ≡ [] → IsWhole (record { yard = yard; limit = limit; visits = visits; lines = lines })

@@ -13,8 +13,6 @@ use Rattle.yard_core.specs.{Columns.{column_at, column_of, near_of, first_cell, 
 use Rattle.yard_core.{specs.Decisions.{slot_at, slots_in_bay, slots_in_block, slots_in_tier, every_slot}, proofs.Decides.IsReady-open}
 use Rattle.yard_core.proofs.Cells.{place, bounds, column_below, first_in_column, first_in_plan}
 
--- ==== LeastHeights: The least heights of the blocks' columns, and that no slot below them is open.
-
 on_ground : (plan : List Block) (position : ℕ) (h : LeastHeight) → slice_get (map ground_height plan) position ≡ Some h → h.height ≡ 0
 on_ground plan position h here =
     elim (slice_get plan position) as (λ o. option_map ground_height o ≡ Some h → h.height ≡ 0) [

@@ -1,15 +1,18 @@
--- The names of a call are printable.
-use Rattle.std.proofs.lemmas.Bool.{and_parts}
+-- The names of a call are kept as they are.
+use Rattle.std.{specs.Prelude.string_bytes, proofs.{Common.{◌≡◌, ℕ, List, true, refl, ap, ◌∙◌}, lemmas.Bool.and_parts}}
 use Rattle.edi_syntax.specs.Segment.{content}
-use Rattle.edi_messages.{specs.{Texts.is_name, Faults.{vessel_of, voyage_of}}, proofs.SurveyLemmas.name_printable}
+use Rattle.edi_messages.specs.{Texts.is_name, Faults.{vessel_of, voyage_of}, Orders.name_kept}
 use Rattle.edi_messages.proofs.part.own_call.Goals as goal
 
-pub own_text-requires : goal.own_text-requires
-own_text-requires c =
-    let segment = content c.args.call.transport in
-    rw c.component.ensures (name_printable (vessel_of segment) (and_parts (is_name (voyage_of segment)) (is_name (vessel_of segment)) c.args.call.named).1)
+named_so : (text : List ℕ) → is_name text ≡ true → name_kept text ≡ text
+named_so text named = rw named refl
 
-pub own_text-requires-2 : goal.own_text-requires-2
-own_text-requires-2 c =
+pub returns : goal.returns
+returns c =
     let segment = content c.args.call.transport in
-    rw c.component-2.ensures (name_printable (voyage_of segment) (and_parts (is_name (voyage_of segment)) (is_name (vessel_of segment)) c.args.call.named).0)
+    let names = and_parts (is_name (voyage_of segment)) (is_name (vessel_of segment)) c.args.call.named in
+    let vessel : string_bytes c.in_ok-vessel.vessel ≡ vessel_of segment =
+    c.in_ok-vessel.ensures ∙ ap name_kept c.component.ensures ∙ named_so (vessel_of segment) names.1 in
+    let voyage : string_bytes c.in_ok-voyage.voyage ≡ voyage_of segment =
+    c.in_ok-voyage.ensures ∙ ap name_kept c.component-2.ensures ∙ named_so (voyage_of segment) names.0 in
+    rw (vessel, voyage) refl

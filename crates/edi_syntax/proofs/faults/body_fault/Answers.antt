@@ -2,7 +2,7 @@
 use Rattle.std.{specs.{List.list_all, Str.bytes_eq}, proofs.Common.{◌≡◌, ℕ, List, ◌∷◌, [], true, false, refl, sym, ap, ◌∙◌}}
 use Rattle.std.proofs.lemmas.Bool.{not-true, not-false}
 use Rattle.edi_syntax.specs.{Segment.{content, segments_left}, Header.test_indicator, Messages.{are_messages, messages_in, is_counted, is_referenced}}
-use Rattle.edi_syntax.proofs.{TallyLemmas.{tally_none, tally_some}, faults.body_fault.Goals.{In-Some, In-None}}
+use Rattle.edi_syntax.proofs.TallyLemmas.{tally_none, tally_some}
 use Rattle.edi_syntax.proofs.faults.body_fault.Goals as goal
 
 pub returns-in-None : goal.returns-in-None

@@ -1,4 +1,5 @@
-use Rattle.std.{specs.Io.KnownBytes.Appends, proofs.Common.{◌≡◌, ◌∙◌, ◌++◌, ◌+◌, ℕ, List, Option, IsTrue, rules, arith, ap, subst, sym, take, drop}}
+use Rattle.std.specs.Io.KnownBytes.{Appends}
+use Rattle.std.proofs.Common.{◌≡◌, ◌∙◌, ◌++◌, ◌+◌, ℕ, List, Option, arith, subst, sym, take, drop}
 use Rattle.std.proofs.{Math.Seq.take-add, KnownBytes.Appends-trans}
 use Rattle.office.proofs.copying.copy_parts.Goals as goal
 

@@ -1,4 +1,4 @@
-use Rattle.std.proofs.{Common.{◌≡◌, ◌==◌, inl, inr, length, not, rules, sym, ap, subst, ◌∙◌, arith}, lemmas.List.length-map, lemmas.Result.err_from_is_err_and}
+use Rattle.std.proofs.{Common.{◌≡◌, ◌==◌, inl, inr, length, not, rules, refl, sym, ap, subst, ◌∙◌, arith}, lemmas.List.length-map, lemmas.Result.err_from_is_err_and}
 use Rattle.sqlite.specs.{Effect.Database, Held.state, State.HasCleanDisk}
 use Rattle.office_tables.specs.Opened.{AreMissing}
 use Rattle.office_closing.specs.{Register.{RegisterContent, archive_content, register_content}, Stored.HasRegister, Tables.register_tables}
@@ -47,6 +47,7 @@ returns-in_ok-create_register-in-Err-clause-made g c clean =
         same = same;
         missing = subst (λ (d : Database). AreMissing register_tables d.schema) same new.1;
         makes = c.in_ok-create_register-in-Err.ensures.ok clean;
+        tells = refl;
       },
     )
 

@@ -14,7 +14,7 @@ returns-in-Some-clause-shows g c =
       shows = c.in_ok-conn.ensures.shows;
       empty = c.in_ok-conn.ensures.empty;
       clean = c.make_tables.ensures.clean;
-      made = λ clean. subst (λ (o : Option Bool). IfSome o (λ _. MayMakeRegister g.S.Store c.args.may_make found conn)) c.in-Some.is (c.in_ok-names_none.ensures.made clean);
+      made = λ clean. subst (λ (o : Option Bool). IfSome o (λ names_none. MayMakeRegister g.S.Store c.args.may_make names_none found conn)) c.in-Some.is (c.in_ok-names_none.ensures.made clean);
       tells = λ clean. subst (λ (o : Option Bool). IfSome o (TellsNone g.S.Store found)) c.in-Some.is (c.in_ok-names_none.ensures.tells clean);
       settled = λ clean. subst (λ (o : Option Bool). IfSome o (λ _. IsSettled (state g.S.Store conn))) c.in-Some.is (c.in_ok-names_none.ensures.settled clean);
     }

@@ -1,4 +1,4 @@
-use Rattle.std.proofs.Common.{◌≡◌, true, false, Err, Ok, sym, ap, ◌∙◌, arith}
+use Rattle.std.proofs.Common.{◌≡◌, true, false, Ok, sym, ap, ◌∙◌, arith}
 use Rattle.sqlite.specs.{Held.state, Given.row_if, State.HasCleanDisk}
 use Rattle.office_loading.specs.Closed.{last_closed}
 use Rattle.office_closing.specs.Arriving.{stops_at}

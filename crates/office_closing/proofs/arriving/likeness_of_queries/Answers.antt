@@ -1,5 +1,5 @@
 use Rattle.std.proofs.{Common.{Ok, None, Some, option_copied, subst}, lemmas.Result.err_from_is_err_and}
-use Rattle.sqlite.specs.{Given.row_if, Held.state, State.HasCleanDisk}
+use Rattle.sqlite.specs.Given.{row_if}
 use Rattle.office_loading.specs.Closed.{last_closed}
 use Rattle.office_closing.{specs.Arriving.TellsRows, proofs.FileLemmas.{of_copy, of_own}}
 use Rattle.office_closing.proofs.ArrivingLemmas.{goes_on, no_damage, none_shown, on_any, on_clean, on_failed, on_none, on_then, told_by}

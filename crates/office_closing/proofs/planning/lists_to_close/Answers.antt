@@ -1,5 +1,4 @@
 use Rattle.std.proofs.Common.{map, refl, ap, subst}
-use Rattle.office_parts.specs.Named.{named_list_content}
 use Rattle.office_closing.{specs.{Lists.list_content, Copies.office_content, Planning.AreInBoth}, proofs.ClearLemmas.registers_for}
 use Rattle.office_closing.proofs.planning.lists_to_close.Goals as goal
 

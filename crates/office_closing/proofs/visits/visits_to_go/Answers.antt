@@ -34,7 +34,7 @@ loop-visit-preserved c =
     let alike = one_alike newest copy done after v more c.in_ok-goes.ensures.alike c.loop-visit.invariant.1 in
     elim c.if-branch.branch [
       | then-branch+in_ok-append w ↦
-          rw w.gone-is (one_goes newest copy done after v more before w.append.new.numbers.items (c.in_ok-goes.ensures.ok.0 w.if-branch.true) w.in_ok-append.ensures c.loop-visit.invariant.0, alike)
+          rw w.gone-is (one_goes newest copy done after v more before w.append.new.records.items (c.in_ok-goes.ensures.ok.0 w.if-branch.true) w.in_ok-append.ensures c.loop-visit.invariant.0, alike)
       | else-branch w ↦
           let stays : ¬ GoesBelow newest copy v = λ it. (let e : true ≡ false = sym (c.in_ok-goes.ensures.ok.1 it) ∙ w.if-branch.false in absurd cc) in
           rw w.gone-is (one_stays newest copy done after v more before stays c.loop-visit.invariant.0, alike)

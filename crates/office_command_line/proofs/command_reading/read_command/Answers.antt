@@ -1,7 +1,8 @@
-use Rattle.std.proofs.{Common.{◌≡◌, ◌∙◌, List, [], Option, IfOk, IfErr, Some, inl, inr, ap, map, sym, subst}, lemmas.Result.{IfErr-weaker, IfOk-weaker}}
-use Rattle.clap.specs.{Simple.is_simple, Words.{App, Row, Text, subcommand_of, subcommand_rows_of, kind_of, fault_of, IsAmong, is_simple_and_free}}
+use Rattle.std.proofs.{Common.{◌≡◌, ◌∙◌, ◌⊎◌, List, [], Option, IfOk, IfErr, Some, true, false, if◌then◌else◌, inl, inr, ap, map, sym, subst}, lemmas.Result.{IfErr-weaker, IfOk-weaker}}
+use Rattle.clap.specs.{Simple.is_simple, Words.{App, Row, Text, subcommand_of, subcommand_rows_of, kind_of, fault_of, IsAmong, is_simple_and_free}, declared.error.Error.Error}
+use Rattle.clap.specs.declared.error.kind.ErrorKind.TheVariants.{OutOfMemory}
 use Rattle.office_command_line.specs.Commands.{office_app, init_app, deliver_app, serve_app, report_app, texts_app, account_app, migrate_app, close_app, explain_app, demo_app}
-use Rattle.office_command_line.specs.Requests.{request_content, request_met, request_of_words, RefusesMet, RefusesWords, WordsAsk}
+use Rattle.office_command_line.specs.Requests.{request_content, request_met, request_of_words, RefusesMet, RefusesWords, WordsAsk, fault_told, is_of_memory}
 use Rattle.office_command_line.specs.declared.command_reading.CommandFault.{CommandFault}
 use Rattle.office_command_line.specs.declared.command_reading.CommandFault.TheVariants.{Words, Values, Memory}
 use Rattle.office_command_line.proofs.command_reading.read_command.Goals as goal
@@ -38,15 +39,24 @@ returns-in-Ok-try_get_matches_from-clause-err c =
     IfErr-weaker c.request_in.result (RefusesMet (subcommand_of office_app words)) (RefusesWords words) (refuses words taken)
     (subst P found c.request_in.ensures.err)
 
-pub returns : goal.returns
+told : (words : List Text) (error : Error) → (kind_of error ≡ OutOfMemory) ⊎ IsAmong (kind_of error) (fault_of office_app words) →
+    RefusesWords words (fault_told error)
+told words error (inl memory) =
+    subst (λ kind. RefusesWords words (if is_of_memory kind then Memory else Words error)) (sym memory) tt
+told words error (inr among) =
+    elim (is_of_memory (kind_of error)) as (λ is. RefusesWords words (if is then Memory else Words error)) [ true ↦ tt | false ↦ among ]
+
+pub returns-in-Err : goal.returns-in-Err
 unfolding office_app init_app deliver_app serve_app report_app texts_app account_app migrate_app close_app explain_app demo_app
-returns c =
+returns-in-Err c =
     let words : List Text = map (λ w. w.now) c.args.words.now in
     let is_office = c.in-Ok.ensures in
+    let found : (kind_of c.in-Err.error ≡ OutOfMemory) ⊎ IsAmong (kind_of c.in-Err.error) (fault_of office_app words) =
+    elim (c.in-Err.ensures.kinds (ap is_simple_and_free is_office)) [
+      | inl memory ↦ inl memory
+      | inr among ↦ inr (subst (λ (a : App). IsAmong (kind_of c.in-Err.error) (fault_of a words)) is_office among)
+    ] in
     record {
       ok = tt;
-      err = elim (c.in-Err.ensures.kinds (ap is_simple_and_free is_office)) [
-        | inl memory ↦ absurd (c.in_default-kind.not-OutOfMemory (c.kind.ensures ∙ memory))
-        | inr among ↦ subst (λ (a : App). IsAmong (kind_of c.in-Err.error) (fault_of a words)) is_office among
-      ];
+      err = subst (RefusesWords words) (sym c.fault_in.ensures) (told words c.in-Err.error found);
     }

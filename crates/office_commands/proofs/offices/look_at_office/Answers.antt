@@ -1,11 +1,22 @@
-use Rattle.std.proofs.{Common.{inl, inr, ap, sym, ◌∙◌}, lemmas.Result.err_from_is_err_and}
+use Rattle.std.proofs.{Common.{◌≡◌, false, inl, inr, ap, sym, subst, ◌∙◌}, lemmas.Result.err_from_is_err_and}
 use Rattle.sqlite.specs.{Files.over_files, WalFiles.image_at}
+use Rattle.office_rows.specs.{Stored.HasRows, Tables.office_schema}
+use Rattle.office_tables.proofs.WriteLemmas.{was_clean}
 use Rattle.office_closing.specs.Register.{is_newer_than, register_content}
 use Rattle.office_commands.proofs.RefusingLemmas.{older_over, refused_names, unloaded_over}
 use Rattle.office_commands.proofs.offices.look_at_office.Goals as goal
 
 pub returns-clause-setup : goal.returns-clause-setup
 returns-clause-setup g c = c.in-Ok-read_setup.ensures.setup (image_at g.S.Start) c.in-Ok.ensures.found
+
+-- What it awaits had not been taken as an archive was closed.
+pub returns-clause-of_day : goal.returns-clause-of_day
+returns-clause-of_day g c = λ clean db rows held has.
+    let nexts = c.in-Ok-read_setup.read.1.nexts.items in
+    let names = register_content c.in_ok-register.register in
+    let is = c.in-Ok.ensures.found (was_clean c.in-Ok-read_setup.ensures.reads clean) db office_schema held.held held.lists in
+    let of_day : is_newer_than nexts names ≡ false = ap (λ n. is_newer_than n names) (sym c.deref.ensures.value) ∙ sym c.is_newer_than.ensures ∙ c.if-is_newer_than.false in
+    (nexts, c.in-Ok-read_setup.ensures.nexts clean rows (subst (HasRows rows) (sym is) has), of_day)
 
 -- ---- why it is not opened
 

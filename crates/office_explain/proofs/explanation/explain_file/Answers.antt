@@ -1,5 +1,5 @@
 -- It is made of the blocks that were found.
-use Rattle.std.proofs.Common.{ap, subst, string_bytes, sym, ◌∙◌}
+use Rattle.std.proofs.Common.{ap, subst, string_bytes, ◌∙◌}
 use Rattle.office_explain.specs.Blocks.{Says, are_faultless}
 use Rattle.office_explain.proofs.explanation.explain_file.Goals as goal
 

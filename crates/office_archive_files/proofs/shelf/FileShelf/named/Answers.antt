@@ -1,7 +1,6 @@
-use Rattle.std.{specs.Prelude.{IfSome, IsTrue, string_bytes}, proofs.Common.{◌≡◌, ◌-◌, Some, slice_get, option_map, rules, refl, sym, ap, subst, ◌∙◌}}
+use Rattle.std.proofs.Common.{◌≡◌, ◌-◌, Some, slice_get, option_map, rules, refl, ap, subst, ◌∙◌}
 use Rattle.std.proofs.lemmas.Option.{slice_get-map}
-use Rattle.office_closing.specs.{Register.{archive_content, register_content}, Sound.is_sound}
-use Rattle.office_commands.specs.Paths.{path_of}
+use Rattle.office_closing.specs.Register.{archive_content, register_content}
 use Rattle.office_archive_files.specs.Archives.{IsRegisterAt}
 use Rattle.office_archive_files.proofs.shelf.FileShelf.named.Goals as goal
 
@@ -17,7 +16,7 @@ returns g c =
       own = register_content c.in-Some-2.own;
       archive = archive_content archive;
       own_sound = search rules;
-      register = subst (λ file. IsRegisterAt file c.args.place (register_content names) (register_content c.in-Some-2.own)) c.going_on.ensures (c.if-not-is_register_of.ensures refl);
+      register = subst (λ file. IsRegisterAt file c.args.place (register_content names) (register_content c.in-Some-2.own)) c.going_on.ensures (c.if-not-is_register_of.ensures.0 refl);
       is_one = slice_get-map archive_content names.archives.items (c.args.place - 1) ∙ ap (option_map archive_content) is_one;
       closed_is = c.in_ok-closed.ensures;
       segments_are = search rules;

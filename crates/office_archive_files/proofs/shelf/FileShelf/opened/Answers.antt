@@ -30,8 +30,8 @@ returns-then-reaches-clause-passes g c =
         terminal = beside.terminal;
         nexts = beside.nexts.items;
         named = c.in_ok-named.ensures;
-        office = c.is_same_office.ensures (search rules);
-        reaches = subst (λ segments. Reaches segments named.visits beside.nexts.items beside.terminal) c.deref.ensures.value (c.reaches.ensures (search rules));
+        office = c.is_same_office.ensures.0 (search rules);
+        reaches = subst (λ segments. Reaches segments named.visits beside.nexts.items beside.terminal) c.deref.ensures.value (c.reaches.ensures.0 (search rules));
       };
       loads = λ clean schema.
           let same = (c.in_ok-setup.ensures.reads.unchanged clean).0.committed_is in

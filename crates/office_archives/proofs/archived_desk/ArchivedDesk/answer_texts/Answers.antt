@@ -11,6 +11,7 @@ returns-then-count-eq0 g c =
     record {
       looks = alone_looks g.S.Store g.A.Archives.are self.desk self.archives (λ list these. none_there list c.count.result (c.count.ensures list these) c.if-count-eq0.true)
           g.A.Archives.is_sound (texts_after c.args.from) _ c.texts.new.self (λ sound db left. g.met.S.Store.settled self.desk.conn.store db sound.1 left) c.texts.ensures;
+      put_away = λ list these some. absurd (some (none_there list c.count.result (c.count.ensures list these) c.if-count-eq0.true));
     }
 
 pub returns : goal.returns
@@ -27,4 +28,5 @@ returns g c =
         is_open = λ clean. tt;
         alone = λ none. absurd (omega (arith, c.if-count-eq0.false, c.count.ensures _ none));
       };
+      put_away = λ list these some. noted.fault;
     }

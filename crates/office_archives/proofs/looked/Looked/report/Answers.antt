@@ -1,5 +1,4 @@
 use Rattle.std.proofs.Common.{not, option_map, string_bytes, ap, subst, ◌∙◌, IfOk}
-use Rattle.sqlite.specs.Held.{state}
 use Rattle.office_rows.specs.{Rows.Rows, Stored.HasRows}
 use Rattle.office_history.specs.After.{AreKeptOnce}
 use Rattle.office_tables.proofs.WriteLemmas.{was_open}
