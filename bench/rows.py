@@ -320,7 +320,7 @@ def served(stores, client, paths, requests, words):
 def http(stores, client):
     """Requests over HTTP, one connection each; after `reports`, whose stores have the large yard."""
     gates, yard = streams.gates(REQUESTS), ['/yard', str(REQUESTS)]
-    posts = '@' + stores.file('posts.edi', ''.join(text + '\n' for text in gates))
+    posts = stores.file('posts.edi', ''.join(text + '\n' for text in gates))
     disk = [stores.new(program + '-http') for program in ('office', 'peer')]
     large = [stores.path(program + '-yard') for program in ('office', 'peer')]
     with tempfile.TemporaryDirectory(prefix='bench-', dir=IN_MEMORY) as folder:

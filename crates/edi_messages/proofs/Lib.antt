@@ -1,6 +1,4 @@
 pub mod SurveyLemmas
-pub mod DetailLemmas
-pub mod WalkLemmas
 pub mod SameSegments
 pub mod WritableContrl
 pub mod ContrlFaults

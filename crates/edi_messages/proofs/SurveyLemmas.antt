@@ -1,28 +1,29 @@
 -- One segment more of those that are looked at.
-use Rattle.std.specs.{List.{list_all, find, list_any}, Borrow.Bor, Option.{option_map, option_map_or, option_and_then, is_none, option_or, ok_or}, Str.bytes_eq}
-use Rattle.std.specs.{Prelude.{if◌then◌else◌, Result, Ok, Err, zip, decimal}, Char.{is_ascii_uppercase, is_ascii_digit}, Int.from_bool}
+use Rattle.std.specs.{List.{list_all, find, fold, list_any}, Borrow.Bor, Option.{option_map, option_map_or, option_and_then, is_none, option_or, ok_or}}
+use Rattle.std.specs.{Str.bytes_eq, Prelude.{if◌then◌else◌, Result, Ok, Err, zip, decimal}, Char.{is_ascii_uppercase, is_ascii_digit}, Int.from_bool}
 use Rattle.std.{specs.Result.{result_err, result_map_both}, proofs.lemmas.Bool.{and_parts, cases_Bool, eqb-true, true≢false, and_from, le-leb}}
 use Rattle.std.proofs.Common.{◌≡◌, ℕ, ◌&&◌, true, List, length, nat_le, zero, suc, ◌<◌, [], ◌∷◌, get_or, arith, Bool, false, cond, None, Some, refl, ◌==◌, Option, eq-eqb, inl, inr, not, sym, ap, ◌+◌, ◌≤◌, ◌||◌, count_by, codes, ◌∙◌, ◌%◌, ◌^◌, ◌++◌, map}
 use Rattle.std.proofs.{lemmas.List.Folds.{sum_by-zero, list_all-append}, lemmas.Fmt.decimal_by_steps}
-use Rattle.edi_syntax.specs.{Characters.{is_printable, is_data_byte}, Segment.value_of_length, Text.Content, Messages.{Message, before_trailer, ends_message}}
-use Rattle.edi_syntax.specs.{Moments.CivilMoment, Spelling.{Writing, nothing_written, with_segment, segments_text}, Written.with_segments}
-use Rattle.edi_syntax.proofs.AdviceLemmas.{writes_segments}
+use Rattle.edi_syntax.specs.{Characters.{is_printable, is_data_byte}, Segment.value_of_length, Text.{Content, has_tag}, Moments.CivilMoment}
+use Rattle.edi_syntax.specs.{Messages.{Message, before_trailer, ends_message}, Spelling.{Writing, nothing_written, with_segment, segments_text}}
+use Rattle.edi_syntax.{specs.Written.with_segments, proofs.AdviceLemmas.writes_segments}
 use Rattle.edi_messages.specs.{Texts.is_name, CodeText.{is_code, texts_of}, declared.order.OrderKind.OrderKind, Codes.{code_text, order_meant, meanings}}
 use Rattle.edi_messages.specs.Purposes.{CallContent, Purpose, purpose_with, gate_in, gate_out, yard_move, discharge_list, load_list, discharge_report, load_report, kind_of}
-use Rattle.edi_messages.specs.Faults.{document_name, beginning, transport, names_call, call_named, call_if_named, speaks_of_call, purpose_of, applies}
-use Rattle.edi_messages.specs.{Types.message_type_of, Walks.{counted_on, heading_fault_of}, declared.code.CodeTable.CodeTable, declared.codes.Codes.Codes}
-use Rattle.edi_messages.specs.{declared.codes.PartnerKind.PartnerKind, declared.codes.PartnerKind.TheVariants.{Gate, Line, Quay, Yard}}
-use Rattle.edi_messages.specs.{declared.message.MessageType.MessageType, declared.message.MessageType.TheVariants.{Codeco, Coprar, Coarri}}
+use Rattle.edi_messages.specs.Faults.{document_name, beginning, transport, names_call, call_named, call_if_named, speaks_of_call, purpose_of, applies, fault_of}
+use Rattle.edi_messages.specs.{Types.message_type_of, declared.code.CodeTable.CodeTable, declared.codes.Codes.Codes, declared.codes.PartnerKind.PartnerKind}
+use Rattle.edi_messages.specs.{declared.codes.PartnerKind.TheVariants.{Gate, Line, Quay, Yard}, declared.message.MessageType.MessageType}
+use Rattle.edi_messages.specs.{declared.message.MessageType.TheVariants.{Codeco, Coprar, Coarri}, declared.message.MessageFault.MessageFault}
 use Rattle.edi_messages.specs.declared.order.OrderKind.TheVariants.{GateIn, GateOut, Move, ListDischarge, ListLoad, Discharge, Load}
-use Rattle.edi_messages.specs.{declared.message.MessageFault.MessageFault, Parts.{before_end, ends_group, EquipmentGroup, states_moment}}
 use Rattle.edi_messages.specs.{declared.message.MessageFault.TheVariants.{OtherType, NoBgm, Code, Function, NoTransport}, declared.line.LineFault.LineFault}
-use Rattle.edi_messages.specs.Orders.{OrderContent, number_text, size_text, location, names_slot, moment_stated, then_read, line_fault_of, read_number, read_size, read_moment, read_entry, order_of}
+use Rattle.edi_messages.specs.Parts.{is_equipment, heading, before_end, ends_group, groups_of, EquipmentGroup, states_moment}
+use Rattle.edi_messages.specs.Orders.{OrderContent, EntryContent, number_text, size_text, location, names_slot, moment_stated, then_read, line_fault_of, read_number, read_size, read_moment, read_slot, read_slot_if_named, read_entry, order_of}
 use Rattle.edi_messages.specs.{LineFaults.{is_size, has_bad_moment, line_fault_in}, declared.message.Verdict.Verdict}
 use Rattle.edi_messages.specs.declared.line.LineFault.TheVariants.{Form, CheckDigit, Size, Moment, SlotText}
 use Rattle.edi_messages.specs.Contrl.{unb, unh, uci, ucm, unt, unz, answer_segments, contrl_text, rejection_text}
 use Rattle.edi_messages.specs.declared.message.Verdict.TheVariants.{Accepted, Rejected}
 use Rattle.box6346.specs.{declared.slot.Slot.Slot, SlotName.{slot_of, slot_at}, ContainerNumber.number_of, SizeCode.size_of, NumberText.{has_form, is_checked}}
-use Rattle.box6346.specs.{declared.size_type.SizeFault.SizeFault, declared.box_number.BoxNumber.BoxNumber, declared.size_type.SizeType.SizeType}
+use Rattle.box6346.specs.{declared.box_number.NumberFault.NumberFault, declared.size_type.SizeFault.SizeFault, declared.box_number.BoxNumber.BoxNumber}
+use Rattle.box6346.specs.declared.size_type.SizeType.{SizeType}
 use Rattle.box6346.specs.SizeText as size
 use Rattle.box6346.specs.declared.box_number.NumberFault as number_fault
 use Rattle.box6346.specs.declared.size_type.SizeFault as size_fault
@@ -83,7 +84,7 @@ slot_of_unfixed (letter ∷ digits) h =
     ] in
     no_name (is_ascii_uppercase letter) (length digits == 6) (list_all is_ascii_digit digits) (Some (slot_at letter digits)) short
 
--- ==== PurposeLemmas: A message whose heading has no fault has a purpose.
+-- ==== PurposeLemmas: A message without fault has a purpose.
 
 -- the kind has a purpose with that call
 abbrev HasPurpose : Option OrderKind → Option CallContent → Type 0
@@ -170,7 +171,7 @@ pub past_first : (b : Bool) (fault : MessageFault) (o : Option MessageFault) →
 past_first true fault o e = absurd cc
 past_first false fault o e = (refl, e)
 
-pub purpose_there : (codes : Codes) (message : Message) → heading_fault_of codes message ≡ None →
+pub purpose_there : (codes : Codes) (message : Message) → fault_of codes message ≡ None →
     (purpose : Purpose) × (purpose_of codes message ≡ Some purpose)
 purpose_there codes message none =
     let one = past_first (applies codes message OtherType) OtherType _ none in
@@ -208,11 +209,44 @@ pub first_step : (found next : Option Content) (sought : Content → Bool) (is_s
     first_in found sought segments ≡ first_in next sought rest
 first_step found next sought is_sought segment segments rest e b s = rw (s, e, b) (one_more found sought segment rest)
 
+-- ---- the first in a heading
+
+-- the same, as long as the heading goes on
+abbrev pub first_in_heading : Bool → Option Content → (Content → Bool) → List Content → Option Content
+first_in_heading goes_on found sought segments = option_or found (cond goes_on (find sought (heading segments)) None)
+
+one_more_of_heading : (goes_on : Bool) (found : Option Content) (sought : Content → Bool)
+    (segment : Content) (rest : List Content) →
+    first_in_heading goes_on found sought (segment ∷ rest)
+    ≡ first_in_heading (goes_on && not (is_equipment segment))
+    (with_next found ((goes_on && not (is_equipment segment)) && sought segment) segment) sought rest
+one_more_of_heading goes_on (Some other) sought segment rest = refl
+one_more_of_heading false None sought segment rest = refl
+one_more_of_heading true None sought segment rest = by_test (is_equipment segment)
+  where
+    by_test : (a : Bool) →
+        find sought (cond a [] (segment ∷ heading rest))
+        ≡ first_in_heading (not a) (cond (not a && sought segment) (Some segment) None) sought rest
+    by_test true = refl
+    by_test false = one_more None sought segment (heading rest)
+
+pub heading_step : (goes_on still : Bool) (found next : Option Content) (sought : Content → Bool) (is_sought : Bool)
+    (segment : Content) (segments rest : List Content) →
+    still ≡ (goes_on && not (is_equipment segment)) → next ≡ with_next found is_sought segment →
+    is_sought ≡ (still && sought segment) → segments ≡ segment ∷ rest →
+    first_in_heading goes_on found sought segments ≡ first_in_heading still next sought rest
+heading_step goes_on still found next sought is_sought segment segments rest h e b s =
+    rw (s, e, b, h) (one_more_of_heading goes_on found sought segment rest)
+
 -- ---- how many there are
+
+-- so many, and those in the segments
+abbrev pub count_on : ℕ → (Content → Bool) → List Content → ℕ
+count_on n counted segments = fold (λ (a : ℕ) (x : Content). a + cond (counted x) 1 0) n segments
 
 pub count_step : (n more : ℕ) (counted : Content → Bool) (segment : Content) (segments rest : List Content) →
     more ≡ cond (counted segment) 1 0 → segments ≡ segment ∷ rest →
-    counted_on n counted segments ≡ counted_on (n + more) counted rest
+    count_on n counted segments ≡ count_on (n + more) counted rest
 count_step n more counted segment segments rest e s = rw (s, e) refl
 
 -- one, if it is so
@@ -255,11 +289,22 @@ none_counted counted segments =
 
 -- ---- a group
 
+not_or : (a b : Bool) → (a || b) ≡ false → a ≡ false
+not_or false b h = refl
+not_or true b h = h
+
 -- a segment that does not end it speaks of its equipment
 pub group_goes_on : (segment : Content) (segments rest : List Content) →
     ends_group segment ≡ false → segments ≡ segment ∷ rest →
     before_end segments ≡ segment ∷ before_end rest
 group_goes_on segment segments rest inside s = rw (s, inside) refl
+
+pub same_groups : (segment : Content) (segments rest : List Content) →
+    ends_group segment ≡ false → segments ≡ segment ∷ rest →
+    groups_of segments ≡ groups_of rest
+same_groups segment segments rest inside s =
+    let other : is_equipment segment ≡ false = not_or (is_equipment segment) (has_tag (codes "CNT") segment) inside in
+    rw (s, other) refl
 
 -- ==== LineLemmas: What a line is refused for is the first of its faults.
 

@@ -9,8 +9,6 @@ pub mod Orders
 pub mod Message
 pub mod LineFaults
 pub mod Laws
-pub mod Kept
-pub mod Walks
 pub mod Spans
 pub mod Owned
 pub mod Contrl

@@ -1,22 +1,21 @@
-ghost use Rattle.std.specs.Prelude.{◌≡◌, [], is_none};
-ghost use Rattle.edi_syntax.specs.{Segment.{content, value}, Frames.{message, message_segments_left}};
-ghost use Rattle.edi_messages.specs.{Walks.{heading_fault_of, equipment_fault_of}, Texts.is_name};
-ghost use Rattle.edi_messages.specs.Faults.{beginning, is_original, is_replacement, is_list, names_list, has_function, replaces_list, names_call, is_container, order_kind_of, is_of_other_type, has_other_function, lacks_transport, lacks_equipment, miscounts_equipment, has_too_many};
+ghost use Rattle.std.specs.Prelude.{◌≡◌, is_none};
+ghost use Rattle.edi_syntax.specs.{Segment.{content, value}, Frames.message};
+ghost use Rattle.edi_messages.specs.Texts.{is_name};
+ghost use Rattle.edi_messages.specs.Faults.{beginning, is_original, is_replacement, is_list, names_list, has_function, replaces_list, names_call, is_container, order_kind_of, fault_of, is_of_other_type, has_other_function, lacks_transport, lacks_equipment, miscounts_equipment, has_too_many};
 
 use crate::codes::Codes;
-use crate::message::{MessageFault, MessageType};
+use crate::message::{MessageFault, MessageType, Survey};
 use crate::order::OrderKind;
 use crate::part::{is_qualified, is_value};
-use crate::survey::Survey;
 use edi_syntax::head::is_count;
 use edi_syntax::{Component, Segment};
 
 /// The most containers that a message may have.
-pub(crate) const MOST_CONTAINERS: u64 = 999;
+const MOST_CONTAINERS: u64 = 999;
 
-/// The lowest fault of the heading.
-pub(crate) fn heading_fault(survey: &Survey<'_>, codes: &Codes) -> Option<MessageFault>
-    ensures { result ≡ heading_fault_of codes.now (message survey.now.frame) }
+/// The lowest fault that applies to the message.
+pub(crate) fn message_fault(survey: &Survey<'_>, codes: &Codes) -> Option<MessageFault>
+    ensures { result ≡ fault_of codes.now (message survey.now.frame) }
 {
     if is_of_other_type(survey) {
         Some(MessageFault::OtherType)
@@ -28,17 +27,7 @@ pub(crate) fn heading_fault(survey: &Survey<'_>, codes: &Codes) -> Option<Messag
         Some(MessageFault::Function)
     } else if lacks_transport(survey) {
         Some(MessageFault::NoTransport)
-    } else {
-        None
-    }
-}
-
-/// The lowest fault of the equipments, of which none is left.
-pub(crate) fn equipment_fault(survey: &Survey<'_>) -> Option<MessageFault>
-    requires { message_segments_left survey.now.rest ≡ [] }
-    ensures { result ≡ equipment_fault_of (message survey.now.frame) }
-{
-    if lacks_equipment(survey) {
+    } else if lacks_equipment(survey) {
         Some(MessageFault::NoEquipment)
     } else if miscounts_equipment(survey) {
         Some(MessageFault::EquipmentCount)
@@ -151,14 +140,12 @@ pub(crate) fn is_container(segment: &Segment<'_>) -> bool
 }
 
 fn lacks_equipment(survey: &Survey<'_>) -> bool
-    requires { message_segments_left survey.now.rest ≡ [] }
     ensures { result ≡ lacks_equipment (message survey.now.frame) }
 {
     survey.containers == 0
 }
 
 fn miscounts_equipment(survey: &Survey<'_>) -> bool
-    requires { message_segments_left survey.now.rest ≡ [] }
     ensures { result ≡ miscounts_equipment (message survey.now.frame) }
 {
     match survey.control {
@@ -168,7 +155,6 @@ fn miscounts_equipment(survey: &Survey<'_>) -> bool
 }
 
 fn has_too_many(survey: &Survey<'_>) -> bool
-    requires { message_segments_left survey.now.rest ≡ [] }
     ensures { result ≡ has_too_many (message survey.now.frame) }
 {
     survey.containers > MOST_CONTAINERS

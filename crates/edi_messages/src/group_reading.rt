@@ -1,15 +1,14 @@
 ghost use Rattle.std.specs.{Prelude.{◌≡◌, Option, Some, None, Ok, Err}, Option.option_map_or, Result.result_map_both};
 ghost use Rattle.box6346.specs.{ContainerNumber.number_of, SizeCode.size_of, SlotName.slot_of};
-ghost use Rattle.edi_syntax.specs.Segment.{value};
-ghost use Rattle.edi_messages.specs.{Kept.moment_kept, Spans.{group_content, entry_with}};
-ghost use Rattle.edi_messages.specs.Orders.{is_laden, booking, weight, moment_of_length, read_number, read_size, read_moment, read_slot, read_slot_if_named, read_entry};
+ghost use Rattle.edi_syntax.specs.Segment.{content, value};
+ghost use Rattle.edi_messages.specs.Orders.{is_laden, booking, weight, moment_stated, moment_of_length, read_number, read_size, read_moment, read_slot, read_slot_if_named, read_entry};
+ghost use Rattle.edi_messages.specs.Spans.{group_content, entry_with};
 
-use crate::details::StatedMoment;
 use crate::line::{Group, LineFault};
 use crate::order::EntryFacts;
 use crate::part::is_value;
 use box6346::{BoxNumber, NumberFault, SizeFault, SizeType, Slot};
-use edi_syntax::{Component, Moment, head};
+use edi_syntax::{Component, Moment, Segment, head};
 
 /// What a group says of a container that comes into the yard, or the first fault of its line.
 pub(crate) fn read_entry_facts(opened: Moment, group: &Group<'_>) -> Result<EntryFacts, LineFault>
@@ -99,13 +98,14 @@ fn kilos(group: &Group<'_>) -> u32
     }
 }
 
-fn moment_of(stated: StatedMoment<'_>) -> Option<Moment>
-    ensures { result ≡ moment_kept stated.entry }
+fn moment_stated(segment: &Segment<'_>) -> Option<Moment>
+    ensures { result ≡ moment_stated (content segment.now) }
 {
-    if stated.has_time {
-        moment_of_twelve(stated.text)
+    let text = segment.component(1, 2);
+    if is_value(segment.component(1, 3), b"203") {
+        moment_of_twelve(text)
     } else {
-        moment_of_eight(stated.text)
+        moment_of_eight(text)
     }
 }
 
@@ -131,7 +131,7 @@ pub(crate) fn read_moment(opened: Moment, group: &Group<'_>) -> Result<Moment, L
     ensures { result ≡ read_moment opened (group_content group.now) }
 {
     match group.moment {
-        Some(stated) => match moment_of(stated) {
+        Some(segment) => match moment_stated(&segment) {
             Some(moment) => Ok(moment),
             None => Err(LineFault::Moment),
         },

@@ -6,7 +6,6 @@ mod call;
 pub mod code;
 pub mod codes;
 pub mod contrl;
-mod details;
 mod faults;
 mod group_reading;
 pub mod laws;
@@ -14,7 +13,6 @@ pub mod line;
 pub mod message;
 pub mod order;
 pub mod part;
-mod survey;
 
 pub use call::Call;
 pub use code::{CodeFault, CodeTable};

@@ -1,12 +1,13 @@
 ghost use Rattle.std.{specs.{List.find, Option.option_map, Prelude.{◌≡◌, codes}}, proofs.Props.props};
-ghost use Rattle.edi_messages.specs.{Kept.moment_kept, Orders.moment_stated, Parts.{part_left, is_qualified, states_moment, states_weight}};
-ghost use Rattle.edi_syntax.specs.{Segment.{content, value}, Text.component_of};
+ghost use Rattle.edi_messages.specs.Parts.{part_left, is_qualified, states_moment, states_weight};
+ghost use Rattle.edi_syntax.specs.Segment.{content};
 
-use crate::details::{StatedMoment, keep_booking, keep_moment};
 use crate::order::Order;
-use crate::part::{Part, keep_first, keep_first_places, next_of_group, states_weight};
+use crate::part::{
+    Part, is_qualified, keep_first, keep_first_places, next_of_group, states_moment, states_weight,
+};
 use box6346::BoxNumber;
-use edi_syntax::{Component, MessageSegments, Segment};
+use edi_syntax::{MessageSegments, Segment};
 use thiserror::Error;
 
 /// What a message says of one container.
@@ -47,43 +48,42 @@ pub struct LineRefusal {
     pub number: Option<BoxNumber>,
 }
 
-/// An equipment with the segments that speak of it, and what one look at each of these finds: values that most orders
-/// read, and segments of those that few read.
+/// An equipment with the segments that speak of it, and what one look at each of these finds.
 #[derive(Clone, Copy)]
 pub(crate) struct Group<'a> {
     /// The equipment.
     pub equipment: Segment<'a>,
     /// The segments that speak of it.
     pub details: Part<'a>,
-    /// The first moment that they state.
-    pub moment: Option<StatedMoment<'a>>,
-    /// The first of them that is about a slot of the yard.
+    /// The first of them that states a moment.
+    pub moment: Option<Segment<'a>>,
+    /// The first that is about a slot of the yard.
     pub slot: Option<Segment<'a>>,
     /// The first that is about a port of discharge.
     pub port: Option<Segment<'a>>,
-    /// The first booking that they name.
-    pub booking: Option<Component<'a>>,
+    /// The first that is about a booking.
+    pub booking: Option<Segment<'a>>,
     /// The first that states a gross weight in kilograms.
     pub weight: Option<Segment<'a>>,
     /// What follows them.
     pub behind: MessageSegments<'a>,
-    ghost timed: { option_map moment_kept moment
-        ≡ option_map moment_stated (find states_moment (part_left details)) } by { Prim.hlevel props },
+    ghost timed: { option_map content moment
+        ≡ find states_moment (part_left details) } by { Prim.hlevel props },
     ghost placed: { option_map content slot
         ≡ find (is_qualified (codes "LOC") (codes "ZZZ")) (part_left details) } by { Prim.hlevel props },
     ghost bound: { option_map content port
         ≡ find (is_qualified (codes "LOC") (codes "11")) (part_left details) } by { Prim.hlevel props },
-    ghost booked: { option_map value booking ≡ option_map (λ segment. component_of segment 1 2)
-        (find (is_qualified (codes "RFF") (codes "BN")) (part_left details)) } by { Prim.hlevel props },
+    ghost booked: { option_map content booking
+        ≡ find (is_qualified (codes "RFF") (codes "BN")) (part_left details) } by { Prim.hlevel props },
     ghost weighed: { option_map content weight
         ≡ find states_weight (part_left details) } by { Prim.hlevel props },
 }
 
 impl<'a> Group<'a> {
+    ghost use Rattle.std.specs.Prelude.{◌≤◌, length};
     ghost use Rattle.edi_syntax.specs.Frames.{message_segments_left};
-    ghost use Rattle.edi_messages.specs.Parts.{before_end};
+    ghost use Rattle.edi_messages.specs.Parts.{before_end, groups_of};
     ghost use Rattle.edi_messages.specs.Spans.{group_content};
-    ghost use Rattle.edi_messages.specs.Walks.{from_end};
 
     /// The group that the equipment begins, by one look at each segment that speaks of it.
     pub fn of(equipment: Segment<'a>, segments: MessageSegments<'a>) -> Group<'a>
@@ -91,7 +91,10 @@ impl<'a> Group<'a> {
           equipment = content equipment.entry;
           details = before_end (message_segments_left segments.entry);
         } }
-        ensures behind { message_segments_left result.behind ≡ from_end (message_segments_left segments.entry) }
+        ensures others { groups_of (message_segments_left result.behind)
+            ≡ groups_of (message_segments_left segments.entry) }
+        ensures shorter { length (message_segments_left result.behind)
+            ≤ length (message_segments_left segments.entry) }
     {
         let mut moment = None;
         let mut slot = None;
@@ -100,9 +103,9 @@ impl<'a> Group<'a> {
         let mut weight = None;
         let mut behind = segments;
         while let Some(segment) = next_of_group(&mut behind) {
-            keep_moment(&mut moment, &segment);
+            keep_first(&mut moment, segment, states_moment(&segment));
             keep_first_places(&mut slot, &mut port, segment);
-            keep_booking(&mut booking, &segment);
+            keep_first(&mut booking, segment, is_qualified(&segment, b"RFF", b"BN"));
             keep_first(&mut weight, segment, states_weight(&segment));
         }
         Group {

@@ -1,18 +1,21 @@
-ghost use Rattle.std.specs.{Option.option_map, Prelude.{◌≡◌, ◌++◌, ◌∷◌, [], IfSome, IsSomeAnd, IfNone, Some, map, IfOk, IfErr, MatchResult, Ok}};
-ghost use Rattle.edi_messages.specs.{ErrorCodes.message_error, Message.{line_of, lines_of, reading}, Owned.{call_content, line_content, message_content}};
-ghost use Rattle.edi_messages.specs.{Purposes.{kind_of, call_of}, Spans.{group_content, call_spanned, purpose_spanned}, Types.{type_named, message_type_of}};
+ghost use Rattle.std.{specs.{Option.option_map, Prelude.{◌≡◌, IfSome, IfNone, Some, map, IfOk, IfErr, MatchResult, Ok, count_by}}, proofs.Props.props};
+ghost use Rattle.edi_messages.specs.{ErrorCodes.message_error, Faults.replaces_list, Message.{line_of, lines_of, message_of, reading}, Parts.is_equipment};
+ghost use Rattle.edi_messages.specs.{Owned.{call_content, line_content, message_content}, Spans.{group_content, call_spanned, purpose_spanned}};
+ghost use Rattle.edi_messages.specs.Types.{type_named, message_type_of};
 ghost use Rattle.edi_syntax.specs.{Segment.{content, value}, Frames.{message, message_segments_left}};
+ghost use Rattle.edi_messages.specs.Faults as faults;
 
 use crate::call::{Call, CallSpan, PurposeSpan};
 use crate::codes::Codes;
 use crate::contrl::message_error;
-use crate::faults::{MOST_CONTAINERS, equipment_fault, heading_fault, replaces_list};
+use crate::faults::{is_container, message_fault, replaces_list};
 use crate::group_reading::read_number;
 use crate::line::{Group, Line, LineRefusal};
 use crate::order::{OrderKind, read_order};
-use crate::part::{call_of, is_value, kind_of, own_call, purpose};
-use crate::survey::{Survey, look_at_heading};
-use edi_syntax::{Component, Frame, Moment, Segment};
+use crate::part::{
+    call_of, is_equipment, is_qualified, is_value, keep_first, kind_of, own_call, purpose,
+};
+use edi_syntax::{Component, Frame, MessageSegments, Moment, Segment};
 use std::alloc::{AllocError, Global};
 use thiserror::Error;
 
@@ -143,7 +146,7 @@ pub enum Verdict {
 }
 
 /// The orders of a message from a partner with these codes, in an interchange of that moment, or the first fault that
-/// applies to it. If memory is refused, the rest of the message is still looked at for a fault.
+/// applies to it. Every fault but Memory is judged before the first growth.
 pub fn read_message(
     alloc: Global,
     frame: &Frame<'_>,
@@ -157,47 +160,39 @@ pub fn read_message(
         (λ fault. MatchResult (reading codes.now opened (message frame.now))
         (λ _. fault ≡ MessageFault.Memory) (λ lowest. fault ≡ lowest)) }
 {
-    let mut survey = look_at_heading(frame);
-    if let Some(fault) = heading_fault(&survey, codes) {
+    let survey = look_through(frame);
+    if let Some(fault) = message_fault(&survey, codes) {
         return Err(fault);
     }
     let Some(purpose) = purpose(&survey, codes) else {
         return Err(MessageFault::Code);
     };
-    let lines = read_lines(alloc, purpose, opened, &mut survey);
-    if let Some(fault) = equipment_fault(&survey) {
-        return Err(fault);
-    }
-    match build(alloc, purpose, replaces_list(&survey), lines) {
-        Some(message) => Ok(message),
-        None => Err(MessageFault::Memory),
+    match build(alloc, frame, opened, purpose, replaces_list(&survey)) {
+        Ok(message) => Ok(message),
+        Err(_) => Err(MessageFault::Memory),
     }
 }
 
-/// The message for the purpose. `None` if there are no lines, or memory was refused.
 fn build(
     alloc: Global,
+    frame: &Frame<'_>,
+    opened: Moment,
     purpose: PurposeSpan<'_>,
     replaces: bool,
-    lines: Option<Vec<Line>>,
-) -> Option<Message>
-    ensures { IfSome result (λ built. IsSomeAnd lines (λ kept. message_content built ≡ record {
-      kind = kind_of (purpose_spanned purpose.entry);
-      call = call_of (purpose_spanned purpose.entry);
-      replaces = replaces;
-      lines = map line_content kept.items;
-    })) }
+) -> Result<Message, AllocError>
+    requires told { replaces ≡ replaces_list (message frame.now) }
+    ensures { IfOk result
+        (λ built. message_content built ≡ message_of (purpose_spanned purpose.entry) opened
+        (message frame.now)) }
 {
-    let lines = lines?;
-    match call_if_any(alloc, call_of(purpose)) {
-        Ok(call) => Some(Message {
-            kind: kind_of(purpose),
-            call,
-            replaces,
-            lines,
-        }),
-        Err(_) => None,
-    }
+    let call = call_if_any(alloc, call_of(purpose))?;
+    let lines = read_lines(alloc, purpose, opened, frame.segments())?;
+    Ok(Message {
+        kind: kind_of(purpose),
+        call,
+        replaces,
+        lines,
+    })
 }
 
 fn call_if_any(alloc: Global, call: Option<CallSpan<'_>>) -> Result<Option<Call>, AllocError>
@@ -209,53 +204,26 @@ fn call_if_any(alloc: Global, call: Option<CallSpan<'_>>) -> Result<Option<Call>
     }
 }
 
-/// The lines of the containers' groups. `None` if memory was refused, or there are more containers than a message may
-/// have: the rest is looked at also then, since the lowest fault is answered.
 fn read_lines(
     alloc: Global,
     purpose: PurposeSpan<'_>,
     opened: Moment,
-    survey: &mut Survey<'_>,
-) -> Option<Vec<Line>>
-    ensures lines { IfSome result
+    segments: MessageSegments<'_>,
+) -> Result<Vec<Line>, AllocError>
+    ensures { IfOk result
         (λ lines. map line_content lines.items ≡ lines_of (purpose_spanned purpose.entry) opened
-        (message_segments_left survey.old.rest)) }
-    ensures end { message_segments_left survey.new.rest ≡ [] }
-    ensures same { survey.new.frame ≡ survey.old.frame }
+        (message_segments_left segments.entry)) }
 {
-    let mut lines = Some(Vec::new(alloc));
-    while let Some(counted) = survey.next_segment() {
-        if counted.is_container {
-            let group = survey.next_group(counted.segment);
-            lines = with_line(alloc, purpose, opened, &group, lines);
+    let mut lines = Vec::new(alloc);
+    let mut rest = segments;
+    while let Some(segment) = rest.next() {
+        if is_container(&segment) {
+            let group = Group::of(segment, rest);
+            lines.push(read_line(alloc, purpose, opened, &group)?)?;
+            rest = group.behind;
         }
     }
-    lines
-}
-
-/// The lines and that of one group more. `None` if there were none, or as many as a message may have, or memory was
-/// refused.
-fn with_line(
-    alloc: Global,
-    purpose: PurposeSpan<'_>,
-    opened: Moment,
-    group: &Group<'_>,
-    lines: Option<Vec<Line>>,
-) -> Option<Vec<Line>>
-    ensures { IfSome result (λ more. IsSomeAnd lines (λ kept. map line_content more.items ≡ map line_content kept.items
-        ++ line_of (purpose_spanned purpose.entry) opened (group_content group.now) ∷ [])) }
-{
-    let mut lines = lines?;
-    if lines.len() as u64 == MOST_CONTAINERS {
-        return None;
-    }
-    let Ok(line) = read_line(alloc, purpose, opened, group) else {
-        return None;
-    };
-    match lines.push(line) {
-        Ok(()) => Some(lines),
-        Err(_) => None,
-    }
+    Ok(lines)
 }
 
 fn read_line(
@@ -274,5 +242,68 @@ fn read_line(
             fault,
             number: read_number(group).ok(),
         })),
+    }
+}
+
+/// What one look at the segments of a message finds.
+#[derive(Clone, Copy)]
+pub(crate) struct Survey<'a> {
+    /// The message.
+    pub frame: Frame<'a>,
+    /// Its type.
+    pub message_type: Option<MessageType>,
+    /// The first BGM of its heading.
+    pub beginning: Option<Segment<'a>>,
+    /// The first TDT of its heading for the main carriage.
+    pub transport: Option<Segment<'a>>,
+    /// Its first control total of equipments.
+    pub control: Option<Segment<'a>>,
+    /// How many equipments it has.
+    pub equipments: u64,
+    /// How many of them are containers.
+    pub containers: u64,
+    ghost typed: { message_type ≡ message_type_of (message frame).header } by { Prim.hlevel props },
+    ghost begun: { option_map content beginning ≡ faults.beginning (message frame) } by { Prim.hlevel props },
+    ghost carried: { option_map content transport ≡ faults.transport (message frame) } by { Prim.hlevel props },
+    ghost controlled: { option_map content control ≡ faults.control (message frame) } by { Prim.hlevel props },
+    ghost equipped: { equipments ≡ count_by is_equipment (message frame).segments },
+    ghost contained: { containers ≡ count_by faults.is_container (message frame).segments },
+}
+
+/// Looks at each segment of the message once.
+pub(crate) fn look_through<'a>(frame: &Frame<'a>) -> Survey<'a>
+    ensures { result.frame ≡ frame.now }
+{
+    let mut is_heading = true;
+    let mut beginning = None;
+    let mut transport = None;
+    let mut control = None;
+    let mut equipments = 0;
+    let mut containers = 0;
+    for segment in frame.segments() {
+        let begins_group = is_equipment(&segment);
+        is_heading = is_heading && !begins_group;
+        keep_first(
+            &mut beginning,
+            segment,
+            is_heading && segment.has_tag(b"BGM"),
+        );
+        keep_first(
+            &mut transport,
+            segment,
+            is_heading && is_qualified(&segment, b"TDT", b"20"),
+        );
+        keep_first(&mut control, segment, is_qualified(&segment, b"CNT", b"16"));
+        equipments += u64::from(begins_group);
+        containers += u64::from(begins_group && is_container(&segment));
+    }
+    Survey {
+        frame: *frame,
+        message_type: message_type(&frame.header()),
+        beginning,
+        transport,
+        control,
+        equipments,
+        containers,
     }
 }

@@ -1,7 +1,7 @@
 ghost use Rattle.std.specs.{List.list_all, Option.{option_map, option_or}, Str.bytes_eq};
 ghost use Rattle.std.specs.Prelude.{IsTrue, ◌≡◌, ◌∷◌, [], codes, false, MatchOption, IfNone, IfSome, Option, Some, None, if◌then◌else◌, IfOk, string_bytes};
-ghost use Rattle.edi_messages.specs.{Faults.{names_call, call_in, purpose_of}, Orders.{booking, port, name_kept}, Owned.call_content, Walks.from_end};
-ghost use Rattle.edi_messages.specs.Parts.{is_equipment, ends_group, before_end, heading, part_left, is_qualified, states_weight};
+ghost use Rattle.edi_messages.specs.{Faults.{names_call, call_in, purpose_of}, Orders.{booking, port, name_kept}, Owned.call_content};
+ghost use Rattle.edi_messages.specs.Parts.{is_equipment, ends_group, before_end, part_left, is_qualified, states_moment, states_weight};
 ghost use Rattle.edi_messages.specs.{Purposes.{kind_of, call_of}, Spans.{call_spanned, purpose_spanned, group_content}};
 ghost use Rattle.edi_syntax.specs.{Characters.is_printable, Segment.{content, value}, Frames.{message, message_segments_left}};
 
@@ -9,8 +9,8 @@ use crate::call::{Call, CallSpan, PurposeSpan};
 use crate::codes::Codes;
 use crate::faults::{is_name, names_call, order_kind};
 use crate::line::Group;
+use crate::message::Survey;
 use crate::order::OrderKind;
-use crate::survey::Survey;
 use edi_syntax::{Component, MessageSegments, Segment};
 use std::alloc::{AllocError, Global};
 
@@ -84,27 +84,10 @@ impl<'a> Part<'a> {
     }
 }
 
-/// The next segment of a heading.
-pub(crate) fn next_of_heading<'a>(rest: &mut MessageSegments<'a>) -> Option<Segment<'a>>
-    ensures left { MatchOption result (heading (message_segments_left rest.old) ≡ []) (λ segment.
-        message_segments_left rest.old ≡ content segment ∷ message_segments_left rest.new) }
-    ensures inside { IfSome result (λ segment. is_equipment (content segment) ≡ false) }
-    ensures same { IfNone result (rest.new ≡ rest.old) }
-{
-    let mut ahead = *rest;
-    let segment = ahead.next()?;
-    if is_equipment(&segment) {
-        return None;
-    }
-    *rest = ahead;
-    Some(segment)
-}
-
 /// The next segment of a group.
 pub(crate) fn next_of_group<'a>(rest: &mut MessageSegments<'a>) -> Option<Segment<'a>>
     ensures left { MatchOption result (before_end (message_segments_left rest.old) ≡ []) (λ segment.
         message_segments_left rest.old ≡ content segment ∷ message_segments_left rest.new) }
-    ensures end { IfNone result (from_end (message_segments_left rest.old) ≡ message_segments_left rest.old) }
     ensures inside { IfSome result (λ segment. ends_group (content segment) ≡ false) }
     ensures same { IfNone result (rest.new ≡ rest.old) }
 {
@@ -143,6 +126,16 @@ pub(crate) fn is_qualified(segment: &Segment<'_>, tag: &[u8], qualifier: &[u8]) 
     ensures { result ≡ is_qualified tag.now qualifier.now (content segment.now) }
 {
     segment.has_tag(tag) && is_value(segment.component(1, 1), qualifier)
+}
+
+pub(crate) fn states_moment(segment: &Segment<'_>) -> bool
+    ensures { result ≡ states_moment (content segment.now) }
+{
+    if !segment.has_tag(b"DTM") {
+        return false;
+    }
+    let format = segment.component(1, 3);
+    is_value(format, b"203") || is_value(format, b"102")
 }
 
 pub(crate) fn states_weight(segment: &Segment<'_>) -> bool
@@ -204,12 +197,11 @@ fn own_text_by_bytes(alloc: Global, component: Component<'_>) -> Result<String, 
     requires { IsTrue (list_all is_printable (value component)) }
     ensures { IfOk result (λ text. string_bytes text ≡ value component.entry) }
 {
-    let mut bytes = Vec::with_capacity(alloc, component.len())?;
-    component.value_into(&mut bytes)?;
-    match String::from_utf8(bytes) {
-        Ok(text) => Ok(text),
-        Err(_) => Err(AllocError),
+    let mut text = String::with_capacity(alloc, component.len())?;
+    for byte in component.bytes() {
+        text.push(char::from(byte))?;
     }
+    Ok(text)
 }
 
 /// The text of a value that is a name. A value that is none is kept as empty.
@@ -238,7 +230,7 @@ pub(crate) fn own_booking(alloc: Global, group: &Group<'_>) -> Result<String, Al
     ensures { IfOk result (λ text. string_bytes text ≡ booking (group_content group.now)) }
 {
     match group.booking {
-        Some(name) => own_name(alloc, name),
+        Some(segment) => own_name(alloc, segment.component(1, 2)),
         None => Ok(String::new(alloc)),
     }
 }

@@ -1,9 +1,11 @@
 ghost use Rattle.std.specs.Prelude.{◌≡◌, ◌++◌, ◌∷◌, [], ◌^◌, OnOk, string_bytes};
 ghost use Rattle.office_loading.specs.{Columns.{SaysNumber, SaysSide, SaysText}, Decoded.{Decodes, DecodesAll, IsSaid, ReadsAs, fault_of_column, itself}};
-ghost use Rattle.office_closing.specs.{Lists.list_content, Reading.{SaysArchive, SaysSegment, SaysFile, SaysList}, Register.archive_content};
+ghost use Rattle.office_closing.specs.{Lists.list_content, Reading.{SaysArchive, SaysBytes, SaysSealed, SaysSegment, SaysFile, SaysList}};
+ghost use Rattle.office_closing.specs.Register.{archive_content, sealed_content};
 ghost use Rattle.sqlite.specs.Order.{Row as Columns, column};
 
 use crate::register::{Archive, Segment};
+use crate::sealed_archives::SealedArchive;
 use crate::settled_lists::SettledList;
 use edi_messages::Call;
 use office_tables::TableFault;
@@ -99,6 +101,23 @@ impl Record for SettledList {
     }
 }
 
+impl Record for SealedArchive {
+    ghost says = { λ row read. SaysSealed row (sealed_content read) };
+
+    ghost is_said = { IsSaid SaysSealed };
+
+    fn read(row: &Row) -> Result<SealedArchive, TableFault> {
+        let archive = short_at(row, 0)?;
+        let terminal = text_at(row, 1)?;
+        let seals = bytes_at(row, 2)?;
+        Ok(SealedArchive {
+            archive,
+            terminal,
+            seals,
+        })
+    }
+}
+
 impl Record for String {
     ghost says = { λ row read. SaysFile row (string_bytes read) };
 
@@ -151,6 +170,16 @@ fn text_at(row: &Row, at: usize) -> Result<String, TableFault>
 {
     match row.get(at) {
         Ok(text) => Ok(text),
+        Err(error) => Err(fault_of_column(error)),
+    }
+}
+
+/// The bytes in a column.
+fn bytes_at(row: &Row, at: usize) -> Result<Vec<u8>, TableFault>
+    ensures { ReadsAs (λ bytes. bytes.items) SaysBytes (column row.now at) result }
+{
+    match row.get(at) {
+        Ok(bytes) => Ok(bytes),
         Err(error) => Err(fault_of_column(error)),
     }
 }

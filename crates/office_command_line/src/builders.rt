@@ -80,7 +80,7 @@ pub(crate) fn serve_command<'a>(alloc: Global) -> Result<Command<'a>, AllocError
         "Take requests to this host too, as a gateway passes them on; without it only to this machine",
     );
     let serve = Command::new(alloc, "serve")
-        .about("Serve requests over HTTP, one for each connection")
+        .about("Serve connections over HTTP, one after the other")
         .after_help("Example: office serve office.db 8080 1000")
         .arg(store)?
         .arg(port)?

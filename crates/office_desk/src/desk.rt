@@ -59,7 +59,7 @@ impl<S: Alter> Desk<S> {
         }
     }
 
-    /// The fault for which it last answered NotNow, to a delivery, an account or a report; none if it never has.
+    /// The fault for which it last answered NotNow, to a delivery or to a report; none if it never has.
     pub fn last_fault(&self) -> Option<&TableFault>
         ensures { option_map (λ fault. fault.now) result ≡ self.now.last_fault }
     {

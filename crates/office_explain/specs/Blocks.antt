@@ -1,7 +1,7 @@
 -- What is told of a file: of each of its interchanges, one after the other.
 use Rattle.std.specs.{Prelude.{◌≡◌, ◌<◌, ◌≤◌, ℕ, ◌+◌, Bool, List, [], ◌∷◌, length, take, drop, slice_range, codes, string_bytes}, List.list_all}
 use Rattle.edi_syntax.specs.Reading.{breaks_len}
-use Rattle.office_explain.specs.{Tallies.{EndsSo, tally_said}, Told.{Explains, is_faultless}, declared.explaining.Block.Block, declared.explaining.Told.Told}
+use Rattle.office_explain.specs.{Told.{Explains, is_faultless}, declared.explaining.Block.Block, declared.explaining.Told.Told}
 use Rattle.office_explain.specs.{declared.explaining.Told.TheVariants.{Cut, Refused, Read}, declared.explanation.Explanation.Explanation}
 use Rattle.office_explain.specs.declared.partners.Partners.{Partners}
 
@@ -52,14 +52,14 @@ abbrev pub none_said : List ℕ → List ℕ
 none_said [] = codes "no interchange: the file is empty\n"
 none_said (byte ∷ file) = codes "no interchange: only CR and LF stand in the file\n"
 
--- where a file has no blocks, the text is what is printed of such a file; else it ends with how many of them fare how
-abbrev pub Says : List ℕ → List Block → List ℕ → Type 0
-Says file [] text = text ≡ none_said file
-Says file (block ∷ blocks) text = EndsSo (tally_said (block ∷ blocks)) text
+-- where a file has no blocks, the text is what is printed of such a file
+abbrev pub SaysIfNone : List ℕ → List Block → List ℕ → Type 0
+SaysIfNone file [] text = text ≡ none_said file
+SaysIfNone file (block ∷ blocks) text = Unit {0}
 
 -- It is made of the blocks of the file, and says that no fault was found exactly if none is told in one of them. Its text says
--- if there are none, and else how many fare how.
+-- if there are none.
 abbrev pub IsExplanation : Partners → List ℕ → Explanation → Type 0
 IsExplanation partners file explanation =
     (blocks : List Block) × AreBlocks partners file 0 1 blocks × (explanation.is_faultless ≡ are_faultless blocks)
-    × Says file blocks (string_bytes explanation.text)
+    × SaysIfNone file blocks (string_bytes explanation.text)

@@ -9,4 +9,3 @@ pub mod Entries
 pub mod Said
 pub mod Wrong
 pub mod PartnerFaults
-pub mod Tallies

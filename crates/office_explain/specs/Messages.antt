@@ -1,7 +1,7 @@
 -- What is told of the messages of an interchange that is read, and of their lines.
 use Rattle.std.specs.{Prelude.{◌≡◌, ℕ, Bool, true, false, List, None, Some, Result, Ok, Err, MatchResult, Option, unwrap_or}, List.list_all}
-use Rattle.edi_syntax.specs.{Moments.CivilMoment, Interchange.segments_in, Text.Content, Envelope.{header_of, messages_of}, Messages.Message}
-use Rattle.edi_syntax.specs.Header.{preparation, recipient, sender}
+use Rattle.edi_syntax.specs.{Moments.CivilMoment, Interchange.segments_in, Text.Content, Envelope.{header_of, messages_of}, Header.preparation}
+use Rattle.edi_syntax.specs.Messages.{Message}
 use Rattle.edi_messages.specs.{ErrorCodes.message_error, Message.{MessageContent, reading}, Owned.message_content, declared.codes.Codes.Codes}
 use Rattle.edi_messages.specs.{declared.codes.PartnerKind.PartnerKind, declared.line.Line.Line, declared.line.Line.TheVariants.{Order, Refusal}}
 use Rattle.edi_messages.specs.{declared.message.MessageFault.MessageFault, declared.message.MessageFault.TheVariants.Memory}
@@ -60,11 +60,9 @@ AreToldOf codes text segments told =
 
 -- ---- an interchange
 
--- It has the number that its control reference writes, the sender and the recipient of its header and the kind that is known, or
--- else the one that its messages want, and of each message that is told which an account of this kind sends.
+-- It has the number that its control reference writes and the kind that is known, or else the one that its messages want,
+-- and of each message that is told which an account of this kind sends.
 pub record IsReadOf (partners : Partners) (text : List ℕ) (known : Option PartnerKind) (read : Reading) : Type 0 where
   pub number : read.number ≡ number_said text
-  pub sender : read.sender.items ≡ sender (header_of (segments_in text)) 1
-  pub recipient : read.recipient.items ≡ recipient (header_of (segments_in text)) 1
   pub kind : read.kind ≡ unwrap_or known (kind_wanted partners.setup.codes (messages_of (segments_in text)))
   pub messages : AreToldOf (codes_of partners.setup.codes read.kind) text (segments_in text) read.messages.items

@@ -39,7 +39,6 @@ pub struct Block<'a> {
 
 impl Block<'_> {
     ghost use Rattle.std.specs.Prelude.{◌≡◌};
-    ghost use Rattle.office_explain.specs.Tallies.{is_cut, is_faulty, is_refused};
     ghost use Rattle.office_explain.specs.Told.{is_faultless};
 
     /// No fault was found.
@@ -49,36 +48,6 @@ impl Block<'_> {
         match &self.told {
             Told::Read(reading) => reading.is_faultless(),
             _ => false,
-        }
-    }
-
-    /// It is read, and has a fault.
-    pub(crate) fn is_faulty(&self) -> bool
-        ensures { result ≡ is_faulty self.now.told }
-    {
-        match &self.told {
-            Told::Read(reading) => !reading.is_faultless(),
-            Told::Refused(_) | Told::Cut(_) => false,
-        }
-    }
-
-    /// It is refused.
-    pub(crate) fn is_refused(&self) -> bool
-        ensures { result ≡ is_refused self.now.told }
-    {
-        match &self.told {
-            Told::Refused(_) => true,
-            Told::Read(_) | Told::Cut(_) => false,
-        }
-    }
-
-    /// It can't be told apart.
-    pub(crate) fn is_cut(&self) -> bool
-        ensures { result ≡ is_cut self.now.told }
-    {
-        match &self.told {
-            Told::Cut(_) => true,
-            Told::Read(_) | Told::Refused(_) => false,
         }
     }
 }

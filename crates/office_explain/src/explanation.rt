@@ -1,12 +1,11 @@
 //! What is printed of a whole file.
-ghost use Rattle.std.specs.Prelude.{◌≡◌, ◌++◌, IfOk, OnOk, string_bytes};
-ghost use Rattle.office_explain.specs.{Blocks.{AreBlocks, IsExplanation, Says, are_faultless, none_said}, Told.is_faultless};
-ghost use Rattle.office_explain.specs.Tallies.{EndsSo, advice_for, count_of, is_cut, is_faulty, is_refused, plural, tally_line, tally_said};
+ghost use Rattle.std.specs.Prelude.{◌≡◌, IfOk, string_bytes};
+ghost use Rattle.office_explain.specs.Blocks.{AreBlocks, IsExplanation, SaysIfNone, are_faultless, none_said};
 
-use crate::explaining::{Block, explain_from};
+use crate::explaining::{Block, Told, explain_from};
 use crate::partners::Partners;
 use std::alloc::{AllocError, Global};
-use std::fmt::Write;
+use std::fmt::{self, Write};
 
 /// What is printed of a file.
 #[derive(Drop)]
@@ -56,7 +55,7 @@ fn blocks_of<'a>(
 
 /// What is printed of a file with these blocks.
 fn text_of(alloc: Global, file: &[u8], blocks: &[Block<'_>]) -> Result<String, AllocError>
-    ensures { IfOk result (λ text. Says file.now blocks.now (string_bytes text)) }
+    ensures { IfOk result (λ text. SaysIfNone file.now blocks.now (string_bytes text)) }
 {
     if blocks.is_empty() {
         return String::from_str(alloc, none_in(file));
@@ -65,14 +64,16 @@ fn text_of(alloc: Global, file: &[u8], blocks: &[Block<'_>]) -> Result<String, A
 }
 
 /// The lines of the blocks, one after the other, and how many interchanges of the file fare how.
-fn block_lines(alloc: Global, blocks: &[Block<'_>]) -> Result<String, AllocError>
-    ensures { IfOk result (λ text. EndsSo (tally_said blocks.now) (string_bytes text)) }
-{
+fn block_lines(alloc: Global, blocks: &[Block<'_>]) -> Result<String, AllocError> {
     let mut text = String::new(alloc);
     for block in blocks {
         write!(text, "{block}")?;
     }
-    push_tally(alloc, &mut text, blocks)?;
+    let tally = Tally::of(blocks);
+    write!(text, "{tally}")?;
+    if blocks.len() > 1 {
+        text.push_str("a POST takes one interchange: send each by itself\n")?;
+    }
     Ok(text)
 }
 
@@ -87,71 +88,63 @@ fn none_in(file: &[u8]) -> &'static str
     }
 }
 
-/// Appends how many interchanges fare how, and of several what to do with them.
-fn push_tally(alloc: Global, text: &mut String, blocks: &[Block<'_>]) -> Result<(), AllocError>
-    ensures { OnOk result (string_bytes text.new ≡ string_bytes text.old ++ tally_said blocks.now) }
-{
-    let line = tally_line(alloc, blocks)?;
-    text.push_str(line.as_str())?;
-    text.push_str(advice_for(blocks))
+/// How many interchanges of a file fare how.
+#[derive(Clone, Copy)]
+struct Tally {
+    faultless: usize,
+    faulty: usize,
+    refused: usize,
+    cut: usize,
 }
 
-/// How many interchanges fare how, in a line.
-#[tactic(auto, unfolding(crate::specs::Tallies::tally_line))]
-fn tally_line(alloc: Global, blocks: &[Block<'_>]) -> Result<String, AllocError>
-    ensures { IfOk result (λ line. string_bytes line ≡ tally_line blocks.now) }
-{
-    let total = blocks.len();
-    let plural = plural(total);
-    let faultless = faultless_count(blocks);
-    let faulty = faulty_count(blocks);
-    let refused = refused_count(blocks);
-    let cut = cut_count(blocks);
-    format!(in alloc;
-        "{total} interchange{plural}: {faultless} without a fault, {faulty} with faults, {refused} refused, {cut} cut\n"
-    )
-}
+impl Tally {
+    fn of(blocks: &[Block<'_>]) -> Tally {
+        let mut tally = Tally {
+            faultless: 0,
+            faulty: 0,
+            refused: 0,
+            cut: 0,
+        };
+        for block in blocks {
+            tally.add(block);
+        }
+        tally
+    }
 
-/// The ending of a word that stands after a number.
-fn plural(count: usize) -> &'static str
-    ensures { result.now ≡ plural count }
-{
-    if count == 1 { "" } else { "s" }
-}
+    /// Adds one interchange.
+    fn add(&mut self, block: &Block<'_>) {
+        let count = match &block.told {
+            Told::Cut(_) => &mut self.cut,
+            Told::Refused(_) => &mut self.refused,
+            Told::Read(reading) if reading.is_faultless() => &mut self.faultless,
+            Told::Read(_) => &mut self.faulty,
+        };
+        *count = count.saturating_add(1);
+    }
 
-/// What is told of several.
-fn advice_for(blocks: &[Block<'_>]) -> &'static str
-    ensures { result.now ≡ advice_for blocks.now }
-{
-    if blocks.len() > 1 {
-        "a POST takes one interchange: send each by itself\n"
-    } else {
-        ""
+    /// How many there are.
+    fn total(&self) -> usize {
+        self.faultless
+            .saturating_add(self.faulty)
+            .saturating_add(self.refused)
+            .saturating_add(self.cut)
     }
 }
 
-fn faultless_count(blocks: &[Block<'_>]) -> usize
-    ensures { result ≡ count_of is_faultless blocks.now }
-{
-    blocks.iter().filter(|block| block.is_faultless()).count()
-}
-
-fn faulty_count(blocks: &[Block<'_>]) -> usize
-    ensures { result ≡ count_of is_faulty blocks.now }
-{
-    blocks.iter().filter(|block| block.is_faulty()).count()
-}
-
-fn refused_count(blocks: &[Block<'_>]) -> usize
-    ensures { result ≡ count_of is_refused blocks.now }
-{
-    blocks.iter().filter(|block| block.is_refused()).count()
-}
-
-fn cut_count(blocks: &[Block<'_>]) -> usize
-    ensures { result ≡ count_of is_cut blocks.now }
-{
-    blocks.iter().filter(|block| block.is_cut()).count()
+impl fmt::Display for Tally {
+    fn fmt<W: fmt::Write>(&self, f: &mut fmt::Formatter<W>) -> fmt::Result {
+        let total = self.total();
+        let plural = if total == 1 { "" } else { "s" };
+        let faultless = self.faultless;
+        let faulty = self.faulty;
+        let refused = self.refused;
+        let cut = self.cut;
+        write!(
+            f,
+            "{total} interchange{plural}: {faultless} without a fault, "
+        )?;
+        write!(f, "{faulty} with faults, {refused} refused, {cut} cut\n")
+    }
 }
 
 /// No fault was found in any of the blocks.

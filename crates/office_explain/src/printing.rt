@@ -47,9 +47,9 @@ fn write_reading<W: fmt::Write>(
     f: &mut fmt::Formatter<W>,
 ) -> fmt::Result {
     let number = reading.number;
-    let sender = ShortText::of_bytes(reading.sender.as_slice());
+    let sender = reading.sender;
     let kind = kind_name(reading.kind);
-    let recipient = ShortText::of_bytes(reading.recipient.as_slice());
+    let recipient = reading.recipient;
     write!(f, "number {number} of {sender}, ")?;
     write!(f, "of the kind {kind}, to {recipient}\n")?;
     if reading.is_faultless() {

@@ -1,18 +1,18 @@
 //! What is read of an interchange that has no fault: its messages and their lines, with the faults of these.
 ghost use Rattle.std.specs.{List.list_all, Prelude.{◌≡◌, IfOk, unwrap_or}};
 ghost use Rattle.edi_messages.specs.Message.{reading};
-ghost use Rattle.edi_syntax.specs.{Moments.CivilMoment, Segment.value, Interchange.segments_in, Envelope.messages_of, Envelopes.envelope_segments};
+ghost use Rattle.edi_syntax.specs.{Moments.CivilMoment, Interchange.segments_in, Envelope.messages_of, Envelopes.envelope_segments};
 ghost use Rattle.edi_syntax.specs.{Frames.{message, messages_left}, Messages.Message as MessageContent};
 ghost use Rattle.office_explain.specs.{InOrder.InOrder, Kinds.kind_wanted, Messages.{AreNotes, AreToldOf, IsFault, IsNote, IsReadOf, IsToldOf, is_order}};
 
-use crate::finding::Finding;
+use crate::finding::{Finding, ShortText};
 use crate::message_places::{first_moment, group_from, refused_line, rejection};
 use crate::opening::Opened;
 use crate::partners::{Partners, kind_wanted};
 use crate::passed_over::{PassedOver, passed_in_heading, passed_in_line};
 use crate::segments::{PlacedSegment, index_behind, message_from};
 use edi_messages::{Codes, Line, Message, MessageFault, PartnerKind, message_error, read_message};
-use edi_syntax::{Component, Envelope, Frame, Frames, Moment};
+use edi_syntax::{Envelope, Frame, Frames, Moment};
 use std::alloc::{AllocError, Global};
 
 /// What is told of an interchange that is read.
@@ -20,10 +20,10 @@ use std::alloc::{AllocError, Global};
 pub struct Reading {
     /// The number that its control reference writes.
     pub number: u32,
-    /// The code of its sender.
-    pub sender: Vec<u8>,
-    /// The code of its recipient.
-    pub recipient: Vec<u8>,
+    /// The first 35 bytes of its sender.
+    pub sender: ShortText,
+    /// The same of its recipient.
+    pub recipient: ShortText,
     /// What its sender is, or is taken for.
     pub kind: PartnerKind,
     /// What is told of its messages, in their order.
@@ -127,24 +127,13 @@ pub(crate) fn reading_of(
     let codes = Codes::for_kind(partners.table(), kind);
     let messages = messages_told(alloc, text, &codes, &opened.envelope, placed)?;
     let head = opened.envelope.head();
-    let sender = value_of(alloc, head.sender(1))?;
-    let recipient = value_of(alloc, head.recipient(1))?;
     Ok(Reading {
         number: head.number(),
-        sender,
-        recipient,
+        sender: ShortText::of_value(head.sender(1)),
+        recipient: ShortText::of_value(head.recipient(1)),
         kind,
         messages,
     })
-}
-
-/// The bytes of a component's value.
-fn value_of(alloc: Global, component: Component<'_>) -> Result<Vec<u8>, AllocError>
-    ensures { IfOk result (λ bytes. bytes.items ≡ value component.entry) }
-{
-    let mut bytes = Vec::new(alloc);
-    component.value_into(&mut bytes)?;
-    Ok(bytes)
 }
 
 /// What the sender is, or is taken for.

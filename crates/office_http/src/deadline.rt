@@ -1,5 +1,4 @@
-ghost use Rattle.std.specs.{Prelude.◌≡◌, Duration.as_nanos, Time.instant_nanos};
-ghost use Rattle.office_http.specs.Deadlines.{nanos_left};
+ghost use Rattle.std.specs.{Prelude.{◌≡◌, ◌-◌, ◌*◌}, Duration.as_nanos, Time.instant_nanos};
 
 use std::time::{Duration, Instant};
 
@@ -25,7 +24,7 @@ impl Deadline {
 
     /// How long it is from now till then, zero if it is over.
     pub(crate) fn left(&self, now: Instant) -> Duration
-        ensures { as_nanos result ≡ nanos_left self.now.limit.0 (instant_nanos self.now.begun) (instant_nanos now) }
+        ensures { as_nanos result ≡ self.now.limit.0 * 1_000_000_000 - (instant_nanos now - instant_nanos self.now.begun) }
     {
         Duration::from_secs(self.limit.0).saturating_sub(now.duration_since(self.begun))
     }

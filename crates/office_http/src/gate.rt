@@ -44,7 +44,7 @@ pub struct Gate {
 }
 
 impl Gate {
-    ghost use Rattle.std.specs.Prelude.{◌≡◌, IfOk};
+    ghost use Rattle.std.specs.Prelude.{IfOk};
     ghost use Rattle.office_http.specs.Gates.{IsFresh};
 
     /// Listens at an address, with all that it takes to wait there. None is accepted yet. Fails if the address can't be had,
@@ -80,9 +80,7 @@ impl Gate {
     }
 
     /// So many are accepted from now on.
-    pub(crate) fn expect(&mut self, count: u32)
-        ensures { self.new.left ≡ count }
-    {
+    pub(crate) fn expect(&mut self, count: u32) {
         self.left = count;
     }
 

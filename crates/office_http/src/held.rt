@@ -9,7 +9,6 @@ pub(crate) const MOST_HELD: usize = 67_108_864;
 pub(crate) fn widen(bytes: &mut Vec<u8>, size: usize, held: usize) -> bool
     ensures items { bytes.new.items ≡ bytes.old.items }
     ensures bound { result ≡ true → held + size ≤ most_held }
-    ensures room { result ≡ true → size ≤ vec_capacity bytes.new }
     ensures wide { vec_capacity bytes.new ≤ max (vec_capacity bytes.old) size }
     ensures refused { result ≡ false → vec_capacity bytes.new ≡ vec_capacity bytes.old }
 {

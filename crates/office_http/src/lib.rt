@@ -13,7 +13,6 @@ mod pages;
 mod requests;
 mod response;
 mod routes;
-mod seen;
 mod serve;
 mod server;
 mod site;
@@ -22,7 +21,6 @@ mod told;
 mod wanted;
 
 pub use gate::Gate;
-pub use seen::Seen;
-pub use serve::{OfTerminal, ServeFault, Watch, serve_one};
+pub use serve::{OfTerminal, Seen, ServeFault, Watch, serve_one};
 pub use server::serve_on;
 pub use site::Site;

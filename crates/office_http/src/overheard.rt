@@ -1,5 +1,4 @@
-ghost use Rattle.std.specs.{Prelude.{◌≡◌, [], take, IfOk}, Io.{ReadsAtMost, WritesAtMost}, Io.KnownBytes.{Keeps, ReadConsumes, WriteAppends}};
-ghost use Rattle.office_http.specs.Seeing.{Notes};
+ghost use Rattle.std.specs.{Prelude.◌≡◌, Io.{ReadsAtMost, WritesAtMost}, Io.KnownBytes.{Keeps, ReadConsumes, WriteAppends}};
 
 use arrayvec::ArrayVec;
 use office_replies::{Sink, Source};
@@ -16,9 +15,7 @@ pub(crate) struct Overheard<T> {
 impl<T> Overheard<T> {
     /// Nothing has gone through.
     pub(crate) fn new(inner: T) -> Overheard<T>
-        ensures inner { result.inner ≡ inner }
-        ensures front { result.front.items ≡ [] }
-        ensures count { result.count ≡ 0 }
+        ensures { result.inner ≡ inner }
     {
         Overheard {
             inner,
@@ -28,30 +25,23 @@ impl<T> Overheard<T> {
     }
 
     /// What it went through.
-    pub(crate) fn into_inner(self) -> T
-        ensures { result ≡ self.inner }
-    {
+    pub(crate) fn into_inner(self) -> T {
         self.inner
     }
 
     /// The first bytes that went through, 256 at most.
-    pub(crate) fn front(&self) -> &[u8]
-        ensures { result.now ≡ self.now.front.items }
-    {
+    pub(crate) fn front(&self) -> &[u8] {
         self.front.as_slice()
     }
 
     /// How many bytes went through.
-    pub(crate) fn count(&self) -> u64
-        ensures { result ≡ self.now.count }
-    {
+    pub(crate) fn count(&self) -> u64 {
         self.count
     }
 
     /// Notes what went through.
     fn note(&mut self, bytes: &[u8])
-        ensures inner { self.new.inner ≡ self.old.inner }
-        ensures noted { Notes self.old.front.items self.old.count bytes.now self.new.front.items self.new.count }
+        ensures { self.new.inner ≡ self.old.inner }
     {
         self.count = self.count.saturating_add(bytes.len() as u64);
         let kept = bytes.len().min(self.front.remaining_capacity());
@@ -66,8 +56,6 @@ impl<R: Source> Read for Overheard<R> {
         ensures bound { ReadsAtMost result buf.new }
         ensures bytes { ReadConsumes (R.remaining self.old.inner) (R.remaining self.new.inner) result buf.new }
         ensures led { R.gives self.old.inner buf.new result self.new.inner }
-        ensures noted { IfOk result (λ count.
-            Notes self.old.front.items self.old.count (take count buf.new) self.new.front.items self.new.count) }
     {
         match self.inner.read_once(buf) {
             Ok(count) => {
@@ -86,8 +74,6 @@ impl<W: Sink> Write for Overheard<W> {
         ensures bound { WritesAtMost result buf.now }
         ensures bytes { WriteAppends (W.contents self.old.inner) (W.contents self.new.inner) result buf.now }
         ensures led { W.takes self.old.inner buf.now result self.new.inner }
-        ensures noted { IfOk result (λ count.
-            Notes self.old.front.items self.old.count (take count buf.now) self.new.front.items self.new.count) }
     {
         match self.inner.write_once(buf) {
             Ok(count) => {

@@ -1,18 +1,16 @@
-ghost use Rattle.std.specs.Prelude.{◌≡◌, ◌⊎◌, IfSome, IsOk, IsSome};
-ghost use Rattle.office_http.specs.{Served.{AtMost, Serves, calls_of}, Steps.NotesAtMost, declared.seen.Seen.Seen};
+ghost use Rattle.std.specs.Prelude.{◌≡◌, ◌⊎◌};
+ghost use Rattle.office_http.specs.{Served.{AtMost, Serves, calls_of}, Steps.NotesAtMost, declared.serve.Seen.Seen};
 
 use crate::gate::Gate;
 use crate::line::Ready;
 use crate::lines::Lines;
 use crate::overheard::Overheard;
-use crate::seen::Seen;
-use crate::serve::{OfTerminal, ServeFault, Watch, serve_one};
+use crate::serve::{OfTerminal, Seen, Watch, serve_one};
 use crate::site::Site;
 use crate::told::{Outlet, Telling};
 use office_replies::{AddAccount, Port};
 use office_reports::Report;
 use std::alloc::Global;
-use std::io;
 use std::rt::Clock;
 use std::time::Instant;
 
@@ -89,22 +87,7 @@ fn serve_line<C: Clock, D: Report + AddAccount + OfTerminal, H: Watch>(
     let outcome = serve_one(alloc, site, &mut reader, &mut writer, desk, ahead);
     watch.served(&Seen::new(asked.front(), told.front(), told.count()));
     let kept = told.into_inner().into_kept();
-    left_of(outcome, kept, ready, Instant::now(clock))
-}
-
-/// What is left of a connection whose request was answered at that moment: the rest of its response. None: that failed, or
-/// nothing was written.
-fn left_of(
-    outcome: Result<(), ServeFault>,
-    kept: Option<Vec<u8>>,
-    ready: Ready,
-    now: io::Result<Instant>,
-) -> Option<Telling>
-    ensures rest { IfSome result (λ telling. kept ≡ Some telling.told) }
-    ensures whole { IsSome result → IsOk outcome }
-    ensures some { IsOk outcome → IsSome kept → IsOk now → IsSome result }
-{
-    match (outcome, kept, now) {
+    match (outcome, kept, Instant::now(clock)) {
         (Ok(()), Some(rest), Ok(now)) => Some(ready.served(rest, now)),
         _ => None,
     }

@@ -28,16 +28,11 @@ pub(crate) struct Telling {
 
 impl Telling {
     ghost use Rattle.std.specs.Prelude.{◌≡◌};
-    ghost use Rattle.std.specs.Duration.{as_nanos};
-    ghost use Rattle.std.specs.Time.{instant_nanos};
-    ghost use Rattle.office_http.specs.Deadlines.{nanos_left, response_seconds};
 
     /// That is left of a response.
     pub(crate) fn new(mut peer: Peer, rest: Vec<u8>, now: Instant) -> Telling
         ensures rest { result.told ≡ rest }
         ensures taken { result.taken ≡ 0 }
-        ensures begun { result.deadline.begun ≡ now }
-        ensures limit { result.deadline.limit.0 ≡ response_seconds }
     {
         peer.moved = now;
         peer.is_awake = true;
@@ -50,10 +45,7 @@ impl Telling {
     }
 
     /// How long the response may still take.
-    pub(crate) fn left(&self, now: Instant) -> Duration
-        ensures { as_nanos result ≡ nanos_left self.now.deadline.limit.0 (instant_nanos self.now.deadline.begun)
-            (instant_nanos now) }
-    {
+    pub(crate) fn left(&self, now: Instant) -> Duration {
         self.deadline.left(now)
     }
 
@@ -151,8 +143,6 @@ pub(crate) struct Outlet<'a> {
 }
 
 impl<'a> Outlet<'a> {
-    ghost use Rattle.std.specs.Prelude.{◌≡◌, if◌then◌else◌};
-
     /// To a connection, beside the others.
     pub(crate) fn new(alloc: Global, ready: &'a Ready, lines: &'a mut Lines) -> Outlet<'a> {
         Outlet {
@@ -165,9 +155,7 @@ impl<'a> Outlet<'a> {
     }
 
     /// What is kept. None: nothing was written.
-    pub(crate) fn into_kept(self) -> Option<Vec<u8>>
-        ensures { result ≡ (if self.entry.is_begun then Some self.entry.kept else None) }
-    {
+    pub(crate) fn into_kept(self) -> Option<Vec<u8>> {
         if self.is_begun { Some(self.kept) } else { None }
     }
 }

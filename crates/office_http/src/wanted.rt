@@ -28,8 +28,7 @@ impl<'a> Inlet<'a> {
     ghost use Rattle.std.specs.Prelude.{◌≡◌};
 
     pub(crate) fn new(left: &'a [u8], tail: Tail) -> Inlet<'a>
-        ensures left { result.left.now ≡ left.now }
-        ensures tail { result.tail ≡ tail }
+        ensures { result.left.now ≡ left.now }
     {
         Inlet { left, tail }
     }

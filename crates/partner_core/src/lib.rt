@@ -1,6 +1,6 @@
 //! What partners deliver under numbers of their own, taken in each partner's unbroken run.
 //!
-//! `ledger::Diary` is public, though only the tests run it: it shows that the law of `Machine` can be met.
+//! `diary` is public, though only the tests run it: it shows that the law of `Machine` can be met.
 //! So it is proved wherever the crate is, and an edit by which a step of it fails and yet keeps its
 //! text is refused without the tests.
 #![tactic(auto)]

@@ -1,5 +1,5 @@
 //! The yard of a container terminal: which container is in which slot. No container is on air,
-//! two never share a cell, none moves or leaves from under another, and only `put_back` puts a full one onto an empty one.
+//! two never share a cell, none moves or leaves from under another, and no full one is put onto an empty one.
 #![tactic(auto)]
 
 mod columns;

@@ -6,5 +6,5 @@ use Rattle.edi_messages.proofs.faults.lacks_equipment.Goals as goal
 
 pub returns : goal.returns
 returns c =
-    let counted = rw c.requires at c.args.survey.now.contained in
-    ap (λ (n : ℕ). n == 0) counted ∙ sym (none_counted is_container (message c.args.survey.now.frame).segments)
+    ap (λ (n : ℕ). n == 0) c.args.survey.now.contained
+    ∙ sym (none_counted is_container (message c.args.survey.now.frame).segments)

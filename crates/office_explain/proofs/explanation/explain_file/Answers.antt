@@ -1,6 +1,6 @@
 -- It is made of the blocks that were found.
 use Rattle.std.proofs.Common.{ap, subst, string_bytes, sym, ◌∙◌}
-use Rattle.office_explain.specs.Blocks.{Says, are_faultless}
+use Rattle.office_explain.specs.Blocks.{SaysIfNone, are_faultless}
 use Rattle.office_explain.proofs.explanation.explain_file.Goals as goal
 
 pub returns : goal.returns
@@ -9,5 +9,5 @@ returns c =
       c.in_ok-blocks.blocks.items,
       c.in_ok-blocks.ensures,
       c.are_faultless-is_faultless.ensures ∙ ap are_faultless shown,
-      subst (λ blocks. Says c.args.file.now blocks (string_bytes c.in_ok-text.text)) shown c.in_ok-text.ensures,
+      subst (λ blocks. SaysIfNone c.args.file.now blocks (string_bytes c.in_ok-text.text)) shown c.in_ok-text.ensures,
     )

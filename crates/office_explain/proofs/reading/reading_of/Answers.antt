@@ -1,7 +1,7 @@
 -- The envelope's segments are those of the text, and the codes those of the sender's kind.
 use Rattle.std.proofs.Common.{ℕ, List, Option, ap, sym, subst, unwrap_or, ◌∙◌}
 use Rattle.edi_messages.specs.declared.codes.Codes.{Codes}
-use Rattle.edi_syntax.specs.{Text.Content, Interchange.segments_in, Envelope.{header_of, messages_of}, Header.{control_number, recipient, sender}}
+use Rattle.edi_syntax.specs.{Text.Content, Interchange.segments_in, Envelope.{header_of, messages_of}, Header.control_number}
 use Rattle.office_explain.{specs.{Kinds.kind_wanted, Messages.AreToldOf}, proofs.SenderLemmas.codes_are}
 use Rattle.office_explain.proofs.reading.reading_of.Goals as goal
 
@@ -10,12 +10,6 @@ returns c = record {
   number =
       sym (ap (λ (segments : List Content). unwrap_or (control_number (header_of segments)) 0) (sym (c.head-head.ensures ∙ c.requires))
       ∙ ap (λ (number : Option ℕ). unwrap_or number 0) c.number.ensures.number);
-  sender =
-      c.in_ok-sender.ensures ∙ c.sender.ensures
-      ∙ ap (λ (segments : List Content). sender (header_of segments) 1) (c.head-head.ensures ∙ c.requires);
-  recipient =
-      c.in_ok-recipient.ensures ∙ c.recipient.ensures
-      ∙ ap (λ (segments : List Content). recipient (header_of segments) 1) (c.head-head.ensures ∙ c.requires);
   kind =
       c.sender_kind-kind.ensures
       ∙ ap (λ (segments : List Content). unwrap_or c.args.opened.now.kind (kind_wanted c.args.partners.now.setup.codes (messages_of segments)))

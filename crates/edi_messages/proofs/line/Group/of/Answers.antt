@@ -1,8 +1,7 @@
 -- One segment more of the group.
-use Rattle.std.proofs.Common.{sym, ◌∙◌, refl, codes}
-use Rattle.edi_syntax.specs.{Segment.content, Text.component_of, Frames.message_segments_left}
-use Rattle.edi_messages.{specs.{Orders.moment_stated, Parts.{is_qualified, states_moment, states_weight}}, proofs.SurveyLemmas.{first_step, group_goes_on}}
-use Rattle.edi_messages.proofs.{DetailLemmas.kept_step, WalkLemmas.goes_on_to_end}
+use Rattle.std.proofs.Common.{sym, ap, ◌∙◌, refl, arith, codes, length}
+use Rattle.edi_syntax.specs.{Segment.content, Frames.message_segments_left}
+use Rattle.edi_messages.{specs.Parts.{is_qualified, states_moment, states_weight}, proofs.SurveyLemmas.{first_step, group_goes_on, same_groups}}
 use Rattle.edi_messages.proofs.line.Group.of.Goals as goal
 
 pub loop-segment-preserved : goal.loop-segment-preserved
@@ -16,7 +15,7 @@ loop-segment-preserved c =
     inside left in
     record {
       moment = i.moment
-          ∙ kept_step _ _ moment_stated states_moment segment _ _ c.keep_moment.ensures within;
+          ∙ first_step _ _ states_moment _ segment _ _ c.keep_first.ensures c.states_moment.ensures within;
       slot = i.slot
           ∙ first_step _ _ (is_qualified (codes "LOC") (codes "ZZZ")) _ segment _ _
           c.keep_first_places.ensures.slot refl within;
@@ -24,9 +23,10 @@ loop-segment-preserved c =
           ∙ first_step _ _ (is_qualified (codes "LOC") (codes "11")) _ segment _ _
           c.keep_first_places.ensures.port refl within;
       booking = i.booking
-          ∙ kept_step _ _ (λ segment. component_of segment 1 2) (is_qualified (codes "RFF") (codes "BN")) segment _ _
-          c.keep_booking.ensures within;
+          ∙ first_step _ _ (is_qualified (codes "RFF") (codes "BN")) _ segment _ _
+          c.keep_first-in-Some.ensures c.is_qualified.ensures within;
       weight = i.weight
-          ∙ first_step _ _ states_weight _ segment _ _ c.keep_first.ensures c.states_weight.ensures within;
-      behind = sym (goes_on_to_end segment _ _ inside left) ∙ i.behind;
+          ∙ first_step _ _ states_weight _ segment _ _ c.keep_first-in-Some-2.ensures c.states_weight.ensures within;
+      others = sym (same_groups segment _ _ inside left) ∙ i.others;
+      shorter = omega (arith, i.shorter, ap length left);
     }
