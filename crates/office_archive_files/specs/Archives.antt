@@ -8,7 +8,8 @@ use Rattle.office_loading.specs.{Closed.ClosedContent, Tables.LoadsOwn}
 use Rattle.office_admission.specs.Setups.{SetupContent}
 use Rattle.office_commands.specs.{Opening.Shows, Paths.IsNameOf}
 use Rattle.office_closing.specs.{Copies.AreFirst, Lists.SettledListContent, Register.{ArchiveContent, RegisterContent, closed_by, is_passed}, Sound.is_sound}
-use Rattle.office_closing.specs.declared.register.Segment.{Segment}
+use Rattle.office_closing.specs.{Seals.HasSeals, declared.register.Segment.Segment}
+use Rattle.office_history.specs.After.{AreKeptOnce}
 use Rattle.office_tables.specs.{declared.table_fault.TableFault.TableFault, declared.table_fault.TableFault.TheVariants.{Memory, Store}}
 
 -- An archive's own register is that of the archive at a place of the store whose register names the archives: it is marked for
@@ -78,6 +79,13 @@ pub record PassesAt {S : Type 0} (g : Ghosts S) (image : Image) (path : List ℕ
       LoadsOwn read.closed (state g conn).committed read.content read.terminal
   pub are_nexts : HasCleanDisk (state g conn) → (rows : Rows) → HasRows rows (state g conn).committed →
       AreNexts rows read.nexts
+
+-- and it keeps what the store's register has sealed with it
+pub record PassesWithSeals {S : Type 0} (g : Ghosts S) (image : Image) (path : List ℕ) (store : SetupContent)
+    (names : RegisterContent) (place : ℕ) (conn : Held S) : Type 0 where
+  pub passes : PassesAt g image path store names place conn
+  pub seals : HasCleanDisk (state g conn) → (rows : Rows) → HasRows rows (state g conn).committed →
+      AreKeptOnce rows.interchanges → HasSeals names place rows
 
 -- a fault with this error says that the archive of a place is not there, or not its own; out of memory says nothing of it
 abbrev pub SaysNoArchive : (no_archive : Error) → TableFault → Type 0

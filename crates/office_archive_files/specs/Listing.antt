@@ -6,7 +6,7 @@ use Rattle.sqlite_trees.specs.declared.store.Store.{Ghosts}
 use Rattle.office_closing.specs.{Register.{ArchiveContent, RegisterContent, closed_by}, Sound.is_sound}
 use Rattle.office_admission.specs.Setups.{SetupContent}
 use Rattle.office_commands.specs.Beside.{IsOfDayHeld, IsSetUpHeld}
-use Rattle.office_archive_files.specs.{Archives.PassesAt, declared.shelf.Found.Found}
+use Rattle.office_archive_files.specs.{Archives.{PassesAt, PassesWithSeals}, declared.shelf.Found.Found}
 use Rattle.office_archive_files.specs.declared.shelf.Found.TheVariants as found
 
 -- what is found under the name of an archive, in a word
@@ -23,7 +23,7 @@ archive_line archive found =
 module _ {S : Type 0} (g : Ghosts S) (image : Image) (path : List ℕ) (store : SetupContent) (names : RegisterContent) where
   -- as the archive of that place only what a connection showed as such is found
   abbrev pub IsFoundAt : (place : ℕ) → Found → Type 0
-  IsFoundAt place found.Archive = (conn : Held S) × PassesAt g image path store names place conn
+  IsFoundAt place found.Archive = (conn : Held S) × PassesWithSeals g image path store names place conn
   IsFoundAt place found.Nothing = Unit {0}
   IsFoundAt place found.Other = Unit {0}
 

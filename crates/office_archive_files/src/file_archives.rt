@@ -4,9 +4,9 @@ ghost use Rattle.office_archives.specs.Shelves.{IsOpenAt};
 ghost use Rattle.office_parts.specs.Archives.{Archive};
 ghost use Rattle.sqlite.specs.{Files.over_files, WalFiles.image_at};
 
-use crate::shelf::{ArchiveStart, FileShelf, NO_ARCHIVE};
+use crate::shelf::{ArchiveStart, FileShelf};
 use edi_messages::Call;
-use office_archives::{Archives, Looked, ManyArchives, Shelf};
+use office_archives::{Archives, Looked, ManyArchives, NO_ARCHIVE, Shelf};
 use office_closing::Register;
 use office_reports::Query;
 use office_tables::{Kept, TableFault};
@@ -146,8 +146,8 @@ impl<'a> Archives for FileArchives<'a> {
         self.archives.place_of(partner, number)
     }
 
-    fn has_lists(&self) -> bool {
-        self.archives.has_lists()
+    fn has_lists(&self, count: usize) -> bool {
+        self.archives.has_lists(count)
     }
 
     fn lines(

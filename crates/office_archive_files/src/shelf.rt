@@ -1,6 +1,6 @@
 ghost use Rattle.std.specs.Prelude.{◌≡◌, ◌≢◌, ◌↔◌, ℕ, IfErr, IfOk, List, string_bytes};
-ghost use Rattle.office_archive_files.specs.{Archives.{IsNamedAt, PassesAt, SaysNoArchive, going_on, segments_at}, declared.shelf.Found.{Found, TheVariants.Other}};
-ghost use Rattle.office_archive_files.specs.Shelves.{HoldArchiveAt};
+ghost use Rattle.office_archive_files.specs.{Archives.{IsNamedAt, PassesAt, SaysNoArchive, going_on, segments_at, PassesWithSeals}, declared.shelf.Found.Found};
+ghost use Rattle.office_archive_files.specs.{declared.shelf.Found.TheVariants.Other, Shelves.HoldArchiveAt};
 ghost use Rattle.office_archives.specs.Shelves.{IsOpenAt};
 ghost use Rattle.office_loading.specs.Closed.{closed_content};
 ghost use Rattle.office_parts.specs.Archives.{Archive};
@@ -11,17 +11,13 @@ ghost use Rattle.sqlite.specs.{Files.over_files, WalFiles.image_at};
 
 use crate::is_archive::{archive_at, is_register_of, is_same_office, reaches};
 use office_admission::Setup;
-use office_archives::{Looked, Shelf};
+use office_archives::{Looked, NO_ARCHIVE, Shelf};
 use office_closing::{Register, Segment};
 use office_commands::{beside_path, found_at, look_there, place_of, read_history};
 use office_loading::Closed;
 use office_tables::TableFault;
-use sqlite::{Error, ErrorCode, FileFrom, FileStore, Start, Unknown};
+use sqlite::{FileFrom, FileStore, Start, Unknown};
 use std::alloc::{AllocError, Global};
-
-/// An archive that is missing, can't be read, or is not the store's own archive of its place. No statement of the office
-/// has this error: it is about names of tables.
-pub const NO_ARCHIVE: Error = Error::SqliteFailure(ErrorCode::BadName);
 
 /// What is found under the name of an archive.
 #[derive(Clone, Copy, Debug, PartialEq, Eq)]
@@ -137,6 +133,23 @@ impl<'a, B: ArchiveStart> FileShelf<'a, B> {
         }
     }
 
+    /// The archive at a place, as `opened` gives it, with all its seals: NO_ARCHIVE if it has others.
+    fn sealed(
+        &self,
+        names: &Register,
+        place: u16,
+    ) -> Result<Looked<FileStore<FileFrom<B>>>, TableFault>
+        ensures passes { IfOk result (λ archive. PassesWithSeals over_files (image_at B.Start) (string_bytes self.now.store)
+            (setup_content self.now.setup) (register_content names.now) place archive.conn) }
+    {
+        let mut archive = self.opened(names, place)?;
+        if archive.has_seals(self.rt.alloc(), names, place)? {
+            Ok(archive)
+        } else {
+            Err(TableFault::Store(NO_ARCHIVE))
+        }
+    }
+
     /// The archive at a place as the store's register and its own say, if its own is that of this place.
     fn named(&self, names: &Register, place: u16) -> Result<Named, TableFault>
         ensures { IfOk result (λ named. IsNamedAt (string_bytes self.now.store) (register_content names.now) place
@@ -228,7 +241,7 @@ impl<B: ArchiveStart> Finds for FileShelf<'_, B> {
         if let Ok(None) = found_at(self.rt, path.as_str()) {
             return Ok(Found::Nothing);
         }
-        let fault = match self.opened(names, place) {
+        let fault = match self.sealed(names, place) {
             Ok(_) => return Ok(Found::Archive),
             Err(fault) => fault,
         };

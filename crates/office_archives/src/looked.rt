@@ -4,7 +4,7 @@ use crate::former_store::{report_by, ticket_by};
 use crate::passing::Rest;
 use crate::writing::write_part;
 use office_admission::Setup;
-use office_closing::{Register, read_register};
+use office_closing::{Register, has_seal_of, has_seals, read_register};
 use office_desk::{Beside, Desk, load_beside};
 use office_loading::Closed;
 use office_replies::Port;
@@ -31,6 +31,8 @@ impl<S: Alter> Looked<S> {
     ghost use Rattle.office_archives.specs.Parts.{LeavesPort, WritesPart};
     ghost use Rattle.office_archives.specs.Texts.{HasInOrder};
     ghost use Rattle.office_closing.specs.Register.{RegisterContent, register_content};
+    ghost use Rattle.office_closing.specs.Seals.{HasSealOf, HasSeals};
+    ghost use Rattle.std.specs.Prelude.{true};
     ghost use Rattle.office_closing.specs.Sound.{IsSound, is_sound};
     ghost use Rattle.office_closing.specs.Stored.{HasRegister};
     ghost use Rattle.office_history.specs.After.{AreKeptOnce};
@@ -79,6 +81,42 @@ impl<S: Alter> Looked<S> {
         let is_idle = self.conn.is_autocommit();
         prove!(is_idle);
         read_register(alloc, &mut self.conn)
+    }
+
+    /// Whether it keeps all that a register has sealed with the archive at a place, as `has_seals` tells.
+    pub fn has_seals(
+        &mut self,
+        alloc: Global,
+        register: &Register,
+        place: u16,
+    ) -> Result<bool, TableFault>
+        ensures has { HasCleanDisk (state S.Store self.new.conn) → IfOk result (λ has. has ≡ true → (rows : Rows) →
+            HasRows rows (state S.Store self.old.conn).committed → AreKeptOnce rows.interchanges →
+            HasSeals (register_content register.now) place rows) }
+        ensures reads { Reads (state S.Store self.old.conn) (state S.Store self.new.conn) result }
+    {
+        let is_idle = self.conn.is_autocommit();
+        prove!(is_idle);
+        has_seals(alloc, &mut self.conn, register, place)
+    }
+
+    /// Whether it keeps what a register has sealed together with a partner's number, with the archive at a place, as `has_seal_of` tells.
+    pub(crate) fn has_seal_of(
+        &mut self,
+        alloc: Global,
+        register: &Register,
+        place: u16,
+        partner: u16,
+        number: u32,
+    ) -> Result<bool, TableFault>
+        ensures has { HasCleanDisk (state S.Store self.new.conn) → IfOk result (λ has. has ≡ true → (rows : Rows) →
+            HasRows rows (state S.Store self.old.conn).committed → AreKeptOnce rows.interchanges →
+            HasSealOf (register_content register.now) place partner number rows) }
+        ensures reads { Reads (state S.Store self.old.conn) (state S.Store self.new.conn) result }
+    {
+        let is_idle = self.conn.is_autocommit();
+        prove!(is_idle);
+        has_seal_of(alloc, &mut self.conn, register, place, partner, number)
     }
 
     /// The interchange that is kept for a partner and a number.

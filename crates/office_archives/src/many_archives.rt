@@ -1,6 +1,10 @@
-ghost use Rattle.std.specs.Prelude.{◌≡◌, ℕ, IfOk, List, None};
-ghost use Rattle.office_archives.specs.Shelves.{AreShelved, IsOpenAt, IsSoundIfAny};
+ghost use Rattle.std.specs.Prelude.{◌≡◌, ◌<◌, ◌≤◌, ◌++◌, ℕ, [], ◌∷◌, IfOk, IsTrue, List, OnOk, length};
+ghost use Rattle.office_archives.specs.Shelves.{AreShelved, IsLastSound, IsOpenAt, IsOpenIfKnown, index_at, left_open, most_open, with_room};
+ghost use Rattle.office_closing.specs.{Register.register_content, Seals.HasSealOf};
+ghost use Rattle.office_history.specs.After.{AreKeptOnce};
 ghost use Rattle.office_parts.specs.Archives.{Archive};
+ghost use Rattle.office_rows.specs.{Rows.Rows, Stored.HasRows};
+ghost use Rattle.sqlite.specs.{Held.state, State.HasCleanDisk};
 
 use crate::archives::Archives;
 use crate::former_store::closed_before;
@@ -10,9 +14,16 @@ use edi_messages::Call;
 use office_closing::{Register, read_list};
 use office_reports::Query;
 use office_tables::{Kept, TableFault};
-use sqlite::Alter;
-use std::alloc::Global;
+use sqlite::{Alter, Error, ErrorCode};
+use std::alloc::{AllocError, Global};
 use terminal_core::{Listing, Side};
+
+/// An archive that is missing, can't be read, or is not the store's own archive of its place. No statement of the office
+/// has this error: it is about names of tables.
+pub const NO_ARCHIVE: Error = Error::SqliteFailure(ErrorCode::BadName);
+
+/// The most archives that are open at a time.
+const MOST_OPEN: usize = 4;
 
 /// Where the archives of a store are kept: each is opened by its place in the order in which they were closed.
 pub trait Shelf<S: Alter> {
@@ -30,63 +41,162 @@ pub trait Shelf<S: Alter> {
         ensures same { (list : List Archive) → holds list self.old → holds list self.new };
 }
 
-/// The archives of a store on a shelf. The one that was asked last stays open; another takes its place when it is asked.
+/// The archives of a store on a shelf. Those that were asked last stay open, up to four; then the one that was asked longest
+/// ago gives way.
 #[derive(Drop)]
 pub struct ManyArchives<S: Alter, F: Shelf<S>> {
+    alloc: Global,
     shelf: F,
     register: Register,
-    opened: Option<Opened<S>>,
+    // In the order in which they were asked last.
+    opened: Vec<Opened<S>>,
 }
 
 impl<S: Alter, F: Shelf<S>> ManyArchives<S, F> {
     /// The archives that the store's register names, none of them open.
-    pub fn new(shelf: F, register: Register) -> ManyArchives<S, F>
+    pub fn new(alloc: Global, shelf: F, register: Register) -> ManyArchives<S, F>
         ensures shelf { result.shelf ≡ shelf }
         ensures register { result.register ≡ register }
-        ensures opened { result.opened ≡ None }
+        ensures opened { result.opened.items ≡ [] }
     {
         ManyArchives {
+            alloc,
             shelf,
             register,
-            opened: None,
+            opened: Vec::new(alloc),
         }
     }
 }
 
 impl<S: Alter + Drop, F: Shelf<S>> ManyArchives<S, F> {
-    /// The archive at a place: the one that is open, or else it is opened. No other stays open.
+    /// The archive at a place: the open one, which is taken out of those that are open, or else it is opened. Of the others
+    /// stay open as many as leave room for it.
     fn take_out(&mut self, place: u16) -> Result<Opened<S>, TableFault>
         ensures place { IfOk result (λ opened. opened.place ≡ place) }
         ensures opened { IfOk result (λ opened. F.is_known place → (list : List Archive) →
-            AreShelved S.Store F.is_known F.holds list self.old.shelf self.old.register self.old.opened →
+            AreShelved S.Store F.is_known F.holds list self.old.shelf self.old.register self.old.opened.items →
             IsOpenAt S.Store list place opened.archive.conn) }
-        ensures none { self.new.opened ≡ None }
-        ensures register { self.new.register ≡ self.old.register }
-        ensures shelf { (list : List Archive) → F.holds list self.old.shelf → F.holds list self.new.shelf }
+        ensures left { self.new.opened.items ≡ left_open place self.old.opened.items }
+        ensures room { length self.old.opened.items ≤ most_open → length self.new.opened.items < most_open }
+        ensures same { (list : List Archive) →
+            AreShelved S.Store F.is_known F.holds list self.old.shelf self.old.register self.old.opened.items →
+            AreShelved S.Store F.is_known F.holds list self.new.shelf self.new.register self.new.opened.items }
     {
-        if let Some(opened) = self.opened.take() {
-            if opened.place == place {
-                return Ok(opened);
+        match index_at(&self.opened, place) {
+            Some(index) => Ok(self.opened.remove(index)),
+            None => {
+                make_room(&mut self.opened);
+                let archive = self.shelf.open(&self.register, place)?;
+                Ok(Opened {
+                    place,
+                    archive,
+                    is_sealed: false,
+                })
             }
         }
-        let archive = self.shelf.open(&self.register, place)?;
-        Ok(Opened { place, archive })
+    }
+
+    /// The archive at a place, as `take_out` gives it, if it keeps what is sealed together with a partner's number: NO_ARCHIVE
+    /// if it keeps something else, and then it is closed.
+    fn take_with_seal(
+        &mut self,
+        place: u16,
+        partner: u16,
+        number: u32,
+    ) -> Result<Opened<S>, TableFault>
+        ensures place { IfOk result (λ opened. opened.place ≡ place) }
+        ensures sealed { IfOk result (λ opened. HasCleanDisk (state S.Store opened.archive.conn) →
+            IsTrue (state S.Store opened.archive.conn).is_open → (rows : Rows) →
+            HasRows rows (state S.Store opened.archive.conn).committed → AreKeptOnce rows.interchanges →
+            HasSealOf (register_content self.old.register) place partner number rows) }
+        ensures opened { IfOk result (λ opened. F.is_known place → (list : List Archive) →
+            AreShelved S.Store F.is_known F.holds list self.old.shelf self.old.register self.old.opened.items →
+            IsOpenAt S.Store list place opened.archive.conn) }
+        ensures left { self.new.opened.items ≡ left_open place self.old.opened.items }
+        ensures room { length self.old.opened.items ≤ most_open → length self.new.opened.items < most_open }
+        ensures same { (list : List Archive) →
+            AreShelved S.Store F.is_known F.holds list self.old.shelf self.old.register self.old.opened.items →
+            AreShelved S.Store F.is_known F.holds list self.new.shelf self.new.register self.new.opened.items }
+    {
+        let mut opened = self.take_out(place)?;
+        let has = opened
+            .archive
+            .has_seal_of(self.alloc, &self.register, place, partner, number)?;
+        if has {
+            Ok(opened)
+        } else {
+            Err(TableFault::Store(NO_ARCHIVE))
+        }
+    }
+
+    /// The archive at a place, as `take_out` gives it, if all its seals are right: NO_ARCHIVE if one is not, and then it is
+    /// closed. While it stays open they are looked at once.
+    fn take_with_seals(&mut self, place: u16) -> Result<Opened<S>, TableFault>
+        ensures place { IfOk result (λ opened. opened.place ≡ place) }
+        ensures opened { IfOk result (λ opened. F.is_known place → (list : List Archive) →
+            AreShelved S.Store F.is_known F.holds list self.old.shelf self.old.register self.old.opened.items →
+            IsOpenAt S.Store list place opened.archive.conn) }
+        ensures left { self.new.opened.items ≡ left_open place self.old.opened.items }
+        ensures room { length self.old.opened.items ≤ most_open → length self.new.opened.items < most_open }
+        ensures same { (list : List Archive) →
+            AreShelved S.Store F.is_known F.holds list self.old.shelf self.old.register self.old.opened.items →
+            AreShelved S.Store F.is_known F.holds list self.new.shelf self.new.register self.new.opened.items }
+    {
+        let mut opened = self.take_out(place)?;
+        if opened.is_sealed {
+            return Ok(opened);
+        }
+        let has = opened.archive.has_seals(self.alloc, &self.register, place)?;
+        if has {
+            opened.is_sealed = true;
+            Ok(opened)
+        } else {
+            Err(TableFault::Store(NO_ARCHIVE))
+        }
+    }
+
+    /// Keeps an archive open as the one that was asked last; it is closed if memory is refused.
+    fn put_back(&mut self, opened: Opened<S>) -> Result<(), AllocError>
+        ensures last { OnOk result (self.new.opened.items ≡ self.old.opened.items ++ opened ∷ []) }
+        ensures same { (list : List Archive) →
+            AreShelved S.Store F.is_known F.holds list self.old.shelf self.old.register self.old.opened.items →
+            length self.old.opened.items < most_open → IsOpenIfKnown S.Store F.is_known list opened →
+            AreShelved S.Store F.is_known F.holds list self.new.shelf self.new.register self.new.opened.items }
+    {
+        self.opened.push(opened)?;
+        Ok(())
+    }
+}
+
+/// The index of the archive at a place among those that are open.
+fn index_at<S: Alter>(opened: &[Opened<S>], place: u16) -> Option<usize>
+    ensures { result ≡ index_at place opened.now }
+{
+    opened.iter().position(|one| one.place == place)
+}
+
+/// Closes the archive that was asked longest ago, if the most are open.
+fn make_room<S: Alter + Drop>(opened: &mut Vec<Opened<S>>)
+    ensures { opened.new.items ≡ with_room opened.old.items }
+{
+    if opened.len() >= MOST_OPEN {
+        opened.remove(0);
     }
 }
 
 impl<S: Alter + Drop, F: Shelf<S>> Archives for ManyArchives<S, F> {
-    ghost is_sound = { λ archives. IsSoundIfAny S.Store F.is_known archives.opened };
+    ghost is_sound = { λ archives. IsLastSound S.Store F.is_known archives.opened.items };
 
     ghost are = { λ list archives.
-        AreShelved S.Store F.is_known F.holds list archives.shelf archives.register archives.opened };
+        AreShelved S.Store F.is_known F.holds list archives.shelf archives.register archives.opened.items };
 
     fn kept(&mut self, partner: u16, number: u32) -> Result<Kept, TableFault> {
         let Some(place) = self.register.archive_of(partner, number) else {
             return Err(TableFault::Damaged);
         };
-        let mut opened = self.take_out(place)?;
+        let mut opened = self.take_with_seal(place, partner, number)?;
         let found = opened.archive.kept(partner, number)?;
-        self.opened = Some(opened);
+        self.put_back(opened)?;
         match found {
             Some(kept) => Ok(kept),
             None => Err(TableFault::Damaged),
@@ -104,11 +214,11 @@ impl<S: Alter + Drop, F: Shelf<S>> Archives for ManyArchives<S, F> {
             return Err(TableFault::Damaged);
         };
         let closed = closed_before(alloc, &self.register, place)?;
-        let mut opened = self.take_out(place)?;
+        let mut opened = self.take_with_seal(place, partner, number)?;
         let ticket = opened
             .archive
             .ticket(alloc, &closed, code, partner, number)?;
-        self.opened = Some(opened);
+        self.put_back(opened)?;
         Ok(ticket)
     }
 
@@ -119,9 +229,9 @@ impl<S: Alter + Drop, F: Shelf<S>> Archives for ManyArchives<S, F> {
         query: &Query,
     ) -> Result<Option<String>, TableFault> {
         let closed = closed_before(alloc, &self.register, place)?;
-        let mut opened = self.take_out(place)?;
+        let mut opened = self.take_with_seals(place)?;
         let found = opened.archive.report(alloc, &closed, query)?;
-        self.opened = Some(opened);
+        self.put_back(opened)?;
         Ok(found)
     }
 
@@ -129,8 +239,8 @@ impl<S: Alter + Drop, F: Shelf<S>> Archives for ManyArchives<S, F> {
         self.register.archive_of(partner, number)
     }
 
-    fn has_lists(&self) -> bool {
-        self.register.has_lists()
+    fn has_lists(&self, count: usize) -> bool {
+        self.register.has_lists(count)
     }
 
     fn lines(

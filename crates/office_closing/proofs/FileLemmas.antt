@@ -12,10 +12,10 @@ use Rattle.office_closing.specs.{declared.faults.File.File, declared.faults.File
 use Rattle.office_closing.specs.Comparing.{kept_text, kept_reply, IsSameKept, IsToldAlike, IsComparedAs, HasUnfitAmong, IsOfEither, IsOfFile}
 use Rattle.office_closing.specs.{Deleting.{is_of, is_among, all_but, goes, is_one_of, with_visits_that, without_visits}, Stored.HasRegister, Copies.FileNames}
 use Rattle.office_closing.specs.{Lists.{SettledListContent, list_content}, Changes.{closed_with, marked_for, unchanged, unmarked}, Transactions.IsSettled}
-use Rattle.office_closing.specs.{Register.{RegisterContent, archive_content}, declared.faults.CloseFault.CloseFault, declared.planning.Plan.Plan}
-use Rattle.office_closing.specs.{declared.planning.Stage.Stage, Clearing.{Clears, IsWithoutSome, IsWithoutSomeLists, IsWithoutSomeVisits}}
+use Rattle.office_closing.specs.{Register.{RegisterContent, archive_content, sealed_content}, declared.faults.CloseFault.CloseFault}
+use Rattle.office_closing.specs.{declared.planning.Plan.Plan, declared.planning.Stage.Stage, Files.{AreClean, AreRead, Files}}
+use Rattle.office_closing.specs.{Clearing.{Clears, IsWithoutSome, IsWithoutSomeLists, IsWithoutSomeVisits}, Judging.{AreResting, IsJudged, IsResting}}
 use Rattle.office_closing.specs.Closes.{AreHeld, Closing, HasArchive, Held, IsAtStage, IsLeft, IsMarkedNow, StoresLeftRows, StoresMarked, StoresRaised, cleared, closing_content, raised_register}
-use Rattle.office_closing.specs.{Files.{AreClean, AreRead, Files}, Judging.{AreResting, IsJudged, IsResting}}
 use Rattle.office_closing.{specs.Steps.{IsAsBefore, StepsIf, is_unmarked, is_unraised}, proofs.ClearLemmas.{clears_failed, clears_then, clears_weaker}}
 use Rattle.office_closing.proofs.NumberLemmas.{lists_none, and_both, deleted_none, deleted_twice, or_parts, whole_is_some, whole_is_some_visits, with_all, with_both}
 use Rattle.sqlite.{specs.{Effect.Database, State.{State, HasCleanDisk, IsUnchanged, Survives}, Tree.Trees}, proofs.StateLemmas.survives_then}
@@ -299,7 +299,7 @@ module _ (names : FileNames) (old mid : Files) (plan : Plan) (rests : AreResting
   -- ---- the store's register
 
   abbrev RaiseSteps : {X : Type 0} → State → Result X CloseFault → Type 0
-  RaiseSteps end result = StepsIf (is_unraised plan.stage) unchanged (closed_with (archive_content plan.archive) plan.segments.items (map list_content plan.lists.items) plan.taken.items) mid.register end result
+  RaiseSteps end result = StepsIf (is_unraised plan.stage) unchanged (closed_with (archive_content plan.archive) plan.segments.items (map list_content plan.lists.items) plan.taken.items (map sealed_content plan.sealed.items)) mid.register end result
 
   module _ {X : Type 0} (end : State) (result : Result X CloseFault) (steps : RaiseSteps end result) where
     pub raise_survives : (new : Files) → (HasCleanDisk end → AreClean mid) → (HasCleanDisk end → (held : Held) → AreHeld held old → IsMarkedNow held names new.archive_register) → Survives old.register end (StoresRaised names old new)

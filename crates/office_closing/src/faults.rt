@@ -44,8 +44,10 @@ pub enum Refusal {
     Register,
     /// The archive keeps something else under this number.
     Interchange(Difference),
-    /// The texts that the archive has, closed or waiting, are not the first of the store's in the order in which they arrived, or not all of them, where all are wanted.
+    /// The texts that the archive has, closed or waiting, are not the first of the store's in the order in which they arrived.
     Order,
+    /// The archive keeps something else than the store's register has sealed with it.
+    Seals,
     /// The visit of this number is over in the archive, and the store has another one.
     Visit(u32),
 }

@@ -1,7 +1,11 @@
-ghost use Rattle.office_loading.specs.Decoded.{IsSaid};
-ghost use Rattle.office_closing.specs.{Lists.list_content, Reading.{SaysArchive, SaysSegment, SaysFile, SaysList, closed_for_file}, Register.archive_content};
+ghost use Rattle.office_loading.specs.{Decoded.{IsSaid, Decodes, DecodesAll, ReadsAs, fault_of_column, itself}, Columns.{SaysNumber, SaysSide, SaysText}};
+ghost use Rattle.office_closing.specs.{Lists.list_content, Reading.{SaysArchive, SaysSegment, SaysFile, SaysList, closed_for_file, SaysBytes, SaysSealed}};
+ghost use Rattle.office_closing.specs.Register.{archive_content, sealed_content};
+ghost use Rattle.std.specs.Prelude.{◌≡◌, ◌++◌, ◌∷◌, [], ◌^◌, OnOk, string_bytes};
+ghost use Rattle.sqlite.specs.Order.{Row as Columns, column};
 
 use crate::register::{Archive, Segment};
+use crate::sealed_archives::SealedArchive;
 use crate::settled_lists::SettledList;
 use edi_messages::Call;
 use office_loading::{Record, number_at, short_at, side_at, text_at};
@@ -58,6 +62,23 @@ impl Record for SettledList {
             side,
             archive,
             lines,
+        })
+    }
+}
+
+impl Record for SealedArchive {
+    ghost says = { λ row read. SaysSealed row (sealed_content read) };
+
+    ghost is_said = { IsSaid SaysSealed };
+
+    fn read(row: &Row) -> Result<SealedArchive, TableFault> {
+        let archive = short_at(row, 0)?;
+        let terminal = text_at(row, 1)?;
+        let seals = bytes_at(row, 2)?;
+        Ok(SealedArchive {
+            archive,
+            terminal,
+            seals,
         })
     }
 }

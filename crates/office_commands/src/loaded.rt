@@ -1,7 +1,7 @@
-ghost use Rattle.std.specs.Prelude.{◌≡◌, IfErr, IfOk, IsTrue, string_bytes};
+ghost use Rattle.std.specs.Prelude.{◌≡◌, not, IfErr, IfOk, IsTrue, string_bytes};
 ghost use Rattle.sqlite.specs.{Held.state, State.HasCleanDisk};
 ghost use Rattle.office_admission.specs.{Given.IsGiven, Setups.setup_content};
-ghost use Rattle.office_closing.specs.{Register.{closed_by, is_newer_than, register_content}, Sound.is_sound};
+ghost use Rattle.office_closing.specs.{Register.{closed_by, is_newer_than, is_of_terminal, register_content}, Sound.is_sound};
 ghost use Rattle.office_commands.specs.{Beside.IsLoaded, Refusing.IsUnloaded};
 ghost use Rattle.office_loading.specs.Closed.{closed_content};
 ghost use Rattle.office_rows.specs.Tables.{office_schema};
@@ -43,10 +43,17 @@ impl Loaded {
     {
         self.register.is_newer_than(&self.there.nexts)
     }
+
+    /// Whether its register is of another terminal's store.
+    pub(crate) fn is_of_other(&self) -> bool
+        ensures { result ≡ not (is_of_terminal (setup_content self.now.setup).terminal (register_content self.now.register)) }
+    {
+        !self.register.is_of_terminal(self.setup.terminal.as_str())
+    }
 }
 
-/// What the tables of the store at a path hold, of which its register says what is closed. What may still refuse a store once
-/// its register was read is done here, and only reads.
+/// What the tables of the store at a path hold, of which its register says what is closed. All that may refuse a store once it
+/// is open is done here, and only reads.
 ///
 /// Version if no setting names this version; Damaged if the rows are those of no office; Store and Memory say nothing of the
 /// rows.

@@ -3,7 +3,7 @@ ghost use Rattle.office_archives.specs.Shelves.{NamesAll};
 ghost use Rattle.office_commands.specs.{Beside.{IsLoaded, IsOfDayHeld, IsSetUpHeld, OpensWith}, Opening.{Shows, ShowsHeld}};
 ghost use Rattle.office_commands.specs.Refusing.{IsMarked, IsOfRegister, IsRefused, IsUnloaded, IsUnopened};
 ghost use Rattle.office_closing.specs.{Changes.empty_register, Register.{RegisterContent, closed_by, is_newer_than, register_content}, Sound.is_sound};
-ghost use Rattle.office_loading.specs.Closed.{closed_content};
+ghost use Rattle.office_loading.specs.{Closed.closed_content, Tables.LoadsOwn};
 ghost use Rattle.office_parts.specs.Archives.{Archive};
 ghost use Rattle.office_admission.specs.Setups.{setup_content};
 ghost use Rattle.office_rows.specs.{Rows.Rows, Shown.AreNexts, Stored.HasRows, Tables.office_schema};
@@ -42,6 +42,9 @@ pub enum OpenFault {
     /// It is of a day before its register: it awaits an interchange that had been taken as an archive was closed.
     #[error("the store is older than the register of its archives")]
     Older,
+    /// The register is of another terminal's store: an archive that it names was closed of that.
+    #[error("the register of the archives is another store's")]
+    Other,
 }
 
 impl From<AllocError> for OpenFault {
@@ -74,12 +77,9 @@ pub fn open_office<S: Start, A: Archives, M: ArchivesBeside<A>>(
     let mut looked = look_at_store(rt, store, start)?;
     let register = read_unmarked(rt, store)?;
     match load_office(rt.alloc(), store, &mut looked, register) {
-        Ok(loaded) => {
-            if loaded.is_older() {
-                return Err(OpenFault::Older);
-            }
-            Ok(join(looked, loaded, beside))
-        }
+        Ok(loaded) if loaded.is_of_other() => Err(OpenFault::Other),
+        Ok(loaded) if loaded.is_older() => Err(OpenFault::Older),
+        Ok(loaded) => Ok(join(looked, loaded, beside)),
         Err(fault) => Err(OpenFault::Store(fault)),
     }
 }
@@ -100,12 +100,9 @@ pub fn open_to_look<S: Start, A: Archives, M: ArchivesBeside<A>>(
     let mut looked = look_at_store(rt, store, start)?;
     let register = read_names(rt, store)?;
     match load_office(rt.alloc(), store, &mut looked, register) {
-        Ok(loaded) => {
-            if loaded.is_older() {
-                return Err(OpenFault::Older);
-            }
-            Ok(join(looked, loaded, beside))
-        }
+        Ok(loaded) if loaded.is_of_other() => Err(OpenFault::Other),
+        Ok(loaded) if loaded.is_older() => Err(OpenFault::Older),
+        Ok(loaded) => Ok(join(looked, loaded, beside)),
         Err(fault) => Err(OpenFault::Store(fault)),
     }
 }
@@ -178,14 +175,14 @@ pub fn look_at_office<S: Start>(
         Err(fault) => return Err(OpenFault::Store(fault)),
     };
     let register = read_names(rt, store)?;
-    let (setup, there) = match read_setup(rt.alloc(), &mut looked, &register) {
-        Ok(read) => read,
-        Err(fault) => return Err(OpenFault::Store(fault)),
-    };
-    if register.is_newer_than(&there.nexts) {
-        return Err(OpenFault::Older);
+    match read_setup(rt.alloc(), &mut looked, &register) {
+        Ok((setup, _)) if !register.is_of_terminal(setup.terminal.as_str()) => {
+            Err(OpenFault::Other)
+        }
+        Ok((_, there)) if register.is_newer_than(&there.nexts) => Err(OpenFault::Older),
+        Ok((setup, _)) => Ok((looked, register, setup)),
+        Err(fault) => Err(OpenFault::Store(fault)),
     }
-    Ok((looked, register, setup))
 }
 
 /// The set-up that the tables of a store hold, of which its register says what is closed, and what is kept in memory beside
@@ -199,6 +196,10 @@ fn read_setup<S: Alter>(
     ensures setup { (image : Image) → Shows S.Store image looked.old.conn → IfOk result (λ read.
         HasCleanDisk (state S.Store looked.new.conn) →
         IsSetUpHeld image (closed_by (register_content register.now)) (setup_content read.0)) }
+    ensures loads { HasCleanDisk (state S.Store looked.new.conn) →
+        (state S.Store looked.old.conn).committed.schema ≡ office_schema →
+        IfOk result (λ read. LoadsOwn (closed_by (register_content register.now)) (state S.Store looked.old.conn).committed
+        (setup_content read.0) read.1.terminal) }
     ensures nexts { HasCleanDisk (state S.Store looked.new.conn) → IfOk result (λ read. (rows : Rows) →
         HasRows rows (state S.Store looked.old.conn).committed → AreNexts rows read.1.nexts.items) }
     ensures refused { HasCleanDisk (state S.Store looked.new.conn) → IsTrue (state S.Store looked.new.conn).is_open →

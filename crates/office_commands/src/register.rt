@@ -1,4 +1,5 @@
-ghost use Rattle.std.specs.{Prelude.{◌≡◌, ◌==◌, ◌++◌, codes, false, length, nat_lt, None, Ok, Err, ⊤, IfErr, IfOk, IfSome, IsTrue, option_map, string_bytes}, Fs.{IsFile, file_type, metadata_len}};
+ghost use Rattle.std.specs.Prelude.{◌≡◌, ◌==◌, ◌++◌, codes, false, length, nat_lt, None, Ok, Err, ⊤, IfErr, IfOk, IfSome, IsTrue, option_map, string_bytes};
+ghost use Rattle.std.specs.Fs.{IsFile, file_type, metadata_len};
 ghost use Rattle.office_commands.specs.{History.{IsHistory, has_no_tables, history_in}, Paths.{HasNoSlash, IsBeside, path_of, unfound}};
 ghost use Rattle.office_closing.specs.{Changes.empty_register, Register.register_content, Sound.is_sound};
 ghost use Rattle.office_tables.specs.{Faults.{IsOfStore, IsOfStoreOr}, declared.table_fault.TableFault.TheVariants.Store};
@@ -86,6 +87,7 @@ pub fn no_archives(alloc: Global) -> Register
         segments: Vec::new(alloc),
         lists: Vec::new(alloc),
         taken: Vec::new(alloc),
+        sealed: Vec::new(alloc),
         closed_for: None,
     }
 }

@@ -44,12 +44,9 @@ pub fn texts_over<S: Start, T: Alter + Drop, F: Shelf<T> + Drop, M: ShelfBeside<
     let mut looked = look_at_store(rt, store, start)?;
     let register = read_names(rt, store)?;
     match load_office(rt.alloc(), store, &mut looked, register) {
-        Ok(loaded) => {
-            if loaded.is_older() {
-                return Err(OpenFault::Older);
-            }
-            Ok(print_loaded(rt.alloc(), looked, loaded, beside, from, writer))
-        }
+        Ok(loaded) if loaded.is_of_other() => Err(OpenFault::Other),
+        Ok(loaded) if loaded.is_older() => Err(OpenFault::Older),
+        Ok(loaded) => Ok(print_loaded(rt.alloc(), looked, loaded, beside, from, writer)),
         Err(fault) => Err(OpenFault::Store(fault)),
     }
 }

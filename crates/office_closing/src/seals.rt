@@ -1,0 +1,150 @@
+//! Whether a file keeps what a register has sealed with an archive.
+ghost use Rattle.std.specs.Prelude.{◌≡◌, IfOk, IfSome, Some, ◌<◌, ◌*◌, drop, filter, nat_lt, take, true};
+ghost use Rattle.office_closing.specs.{Deleting.is_of, Register.{last_closed, register_content}, declared.register.Segment.Segment};
+ghost use Rattle.office_closing.specs.Seals.{HasSealOf, HasSeals, closed_at, piece_with, seal_at, seal_bytes, seal_index, seals_count};
+ghost use Rattle.office_history.specs.After.{AreKeptOnce};
+ghost use Rattle.office_rows.specs.{Rows.Rows, Stored.HasRows};
+ghost use Rattle.office_tables.specs.Reading.{Reads};
+ghost use Rattle.sqlite.specs.{Held.state, State.HasCleanDisk};
+
+use crate::comparing::Numbers;
+use crate::register::{Register, Segment};
+use crate::sealed_archives::sealed_with;
+use crate::sealing::{MOST_SEALED, SEAL_BYTES, seals_of};
+use office_tables::TableFault;
+use sqlite::{Alter, Connection};
+use std::alloc::{AllocError, Global};
+
+/// Whether a file keeps all that a register has sealed with the archive at a place; also if the register has no seals
+/// of it, as one that an older program closed. It changes nothing.
+///
+/// Damaged if a reply is no text; Store and Memory say nothing of the rows.
+pub fn has_seals<S: Alter>(
+    alloc: Global,
+    conn: &mut Connection<S>,
+    register: &Register,
+    place: u16,
+) -> Result<bool, TableFault>
+    ensures has { HasCleanDisk (state S.Store conn.new) → IfOk result (λ has. has ≡ true → (rows : Rows) →
+        HasRows rows (state S.Store conn.old).now → AreKeptOnce rows.interchanges →
+        HasSeals (register_content register.now) place rows) }
+    ensures reads { Reads (state S.Store conn.old) (state S.Store conn.new) result }
+{
+    let Some(sealed) = sealed_with(&register.sealed, place) else {
+        return Ok(true);
+    };
+    let closing = closed_at(alloc, &register.segments, place)?;
+    let seals = seals_of(alloc, conn, &closing)?;
+    Ok(seals.as_slice() == sealed.seals.as_slice())
+}
+
+/// Whether a file keeps what a register has sealed together with a partner's number, with the archive at a place; also if the register has no seals of that. It changes nothing.
+///
+/// Damaged if a reply is no text; Store and Memory say nothing of the rows.
+pub fn has_seal_of<S: Alter>(
+    alloc: Global,
+    conn: &mut Connection<S>,
+    register: &Register,
+    place: u16,
+    partner: u16,
+    number: u32,
+) -> Result<bool, TableFault>
+    ensures has { HasCleanDisk (state S.Store conn.new) → IfOk result (λ has. has ≡ true → (rows : Rows) →
+        HasRows rows (state S.Store conn.old).now → AreKeptOnce rows.interchanges →
+        HasSealOf (register_content register.now) place partner number rows) }
+    ensures reads { Reads (state S.Store conn.old) (state S.Store conn.new) result }
+{
+    let Some(sealed) = sealed_with(&register.sealed, place) else {
+        return Ok(true);
+    };
+    let closing = closed_at(alloc, &register.segments, place)?;
+    let Some((piece, seal)) = seal_at(&closing, &sealed.seals, partner, number) else {
+        return Ok(false);
+    };
+    let own = seals_of(alloc, conn, &[piece])?;
+    Ok(own.as_slice() == seal)
+}
+
+/// The numbers that the archive at a place closed.
+fn closed_at(alloc: Global, segments: &[Segment], place: u16) -> Result<Vec<Numbers>, AllocError>
+    ensures { IfOk result (λ closed. closed.items ≡ closed_at place segments.now) }
+{
+    let mut closed = Vec::new(alloc);
+    for segment in segments {
+        if segment.archive == place {
+            closed.push(Numbers {
+                partner: segment.partner,
+                from: last_before(segments, place, segment.partner),
+                to: segment.last,
+            })?;
+        }
+    }
+    Ok(closed)
+}
+
+/// The last number of a partner that was closed before the archive at a place was.
+fn last_before(segments: &[Segment], place: u16, partner: u16) -> u32
+    ensures { result ≡ last_closed (filter (λ (one : Segment). nat_lt one.archive place) segments.now) partner }
+{
+    let mut last = 0;
+    for segment in segments {
+        if segment.archive < place && segment.partner == partner && segment.last > last {
+            last = segment.last;
+        }
+    }
+    last
+}
+
+/// Of the seals of these numbers the one of a partner's number, with the numbers that have it together; none if there is none.
+fn seal_at<'a>(
+    closing: &[Numbers],
+    seals: &'a [u8],
+    partner: u16,
+    number: u32,
+) -> Option<(Numbers, &'a [u8])>
+    ensures { IfSome result (λ found. seal_at closing.now seals.now partner number
+        ≡ Some (record { piece = found.0; seal = found.1.now })) }
+{
+    let mut rest = seals;
+    for numbers in closing {
+        if is_of(*numbers, partner, number) {
+            return sealed_among(*numbers, rest, number);
+        }
+        rest = rest.get(SEAL_BYTES * seals_count(*numbers)..)?;
+    }
+    None
+}
+
+/// Whether a partner's number is one of these.
+fn is_of(numbers: Numbers, partner: u16, number: u32) -> bool
+    ensures { result ≡ is_of partner number numbers }
+{
+    partner == numbers.partner && numbers.from < number && number <= numbers.to
+}
+
+/// How many seals these numbers have.
+fn seals_count(numbers: Numbers) -> usize
+    ensures { result ≡ seals_count numbers }
+{
+    let count = numbers.to.saturating_sub(numbers.from) as usize;
+    (count + (MOST_SEALED as usize - 1)) / MOST_SEALED as usize
+}
+
+/// Of the seals of a partner's numbers, and others after them, the one of this number.
+fn sealed_among(numbers: Numbers, seals: &[u8], number: u32) -> Option<(Numbers, &[u8])>
+    requires { numbers.from < number }
+    ensures piece { IfSome result (λ found. found.0 ≡ piece_with numbers number) }
+    ensures seal { IfSome result (λ found.
+        found.1.now ≡ take seal_bytes (drop (seal_bytes * seal_index numbers number) seals.now)) }
+{
+    let index = (number - numbers.from - 1) / MOST_SEALED;
+    let from = numbers.from + MOST_SEALED * index;
+    let piece = Numbers {
+        partner: numbers.partner,
+        from,
+        to: from.saturating_add(MOST_SEALED).min(numbers.to),
+    };
+    let at = SEAL_BYTES * index as usize;
+    let seal = seals.get(at..at + SEAL_BYTES)?;
+    Some((piece, seal))
+}
