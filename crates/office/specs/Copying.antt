@@ -1,7 +1,8 @@
 -- Why a closing gets no archive.
 use Rattle.std.specs.declared.io.ErrorKind.{ErrorKind}
-use Rattle.office.specs.{declared.new_archive.CopyFault.CopyFault, declared.new_archive.CopyFault.TheVariants.{Files, Memory, Room}}
 use Rattle.std.specs.declared.io.ErrorKind.TheVariants as kind
+use Rattle.office.specs.declared.new_archive.CopyFault.{CopyFault}
+use Rattle.office.specs.declared.new_archive.CopyFault.TheVariants.{Files, Memory, Room}
 
 -- what an error of a file is told as, by its kind
 abbrev pub fault_of : ErrorKind → CopyFault

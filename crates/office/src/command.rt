@@ -307,7 +307,7 @@ fn is_newest(rt: &HostRuntime, path: &str) -> bool {
     )
 }
 
-/// `serve DB PORT COUNT [--log] [--ahead N] [--host NAME]`: serves that many connections at a port of this machine, one after the other. It
+/// `serve DB PORT COUNT [--log] [--ahead N] [--host NAME]`: serves that many connections at a port of this machine, which wait side by side. It
 /// writes a line for each to the standard error if that is a terminal, or if a log is wanted.
 pub(crate) fn serve<W: Write, E: Write>(
     rt: &HostRuntime,

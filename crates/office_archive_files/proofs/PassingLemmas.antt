@@ -1,6 +1,7 @@
 -- Lists of those that pass a test, compared one after the other.
-use Rattle.std.{specs.Prelude.{◌↔◌, filter, slice_get}, proofs.lemmas.List.{length-drop, drop_all}}
+use Rattle.std.specs.Prelude.{◌↔◌, filter, slice_get}
 use Rattle.std.proofs.Common.{◌≡◌, ℕ, zero, suc, ◌+◌, ◌==◌, ◌≤◌, List, [], ◌∷◌, Bool, true, false, None, Some, length, drop, ◌++◌, ◌<◌, refl, sym, ap, ◌∙◌, add-one, arith}
+use Rattle.std.proofs.lemmas.List.{length-drop, drop_all}
 
 module _ {A : Type 0} where
   -- from the element at an index on

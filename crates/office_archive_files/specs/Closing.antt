@@ -3,13 +3,13 @@ use Rattle.std.specs.Prelude.{◌≡◌, ◌≢◌, ◌⊎◌, ⊤, ℕ, Bool, t
 use Rattle.sqlite_trees.specs.declared.store.Store.{Ghosts}
 use Rattle.sqlite.specs.{Held.{Held, state}, Recovery.Image, State.HasCleanDisk}
 use Rattle.office_rows.specs.Tables.{no_schema}
-use Rattle.office_tables.specs.{Opened.AreMissing, Faults.IsOfStoreOr, declared.table_fault.TableFault.TableFault}
+use Rattle.office_tables.specs.{Opened.AreMissing, Faults.IsOfStoreOr}
+use Rattle.office_tables.specs.declared.table_fault.TableFault.{TableFault}
 use Rattle.office_commands.specs.{Opening.{HoldsNoTables, Shows}, Paths.IsNameOf}
-use Rattle.office_archive_files.specs.{declared.closing.CloseCommandFault.CloseCommandFault, declared.closing.CloseCommandFault.TheVariants.{Folder, Close}}
+use Rattle.office_archive_files.specs.declared.closing.CloseCommandFault.{CloseCommandFault, TheVariants.{Folder, Close}}
 use Rattle.office_closing.specs.{Changes.empty_register, Tables.register_tables, Transactions.{IsSettled, Makes}, Closes.{ArePutAway, Closes}, Copies.FileNames}
-use Rattle.office_closing.specs.{Files.{AreClean, AreIdle, files}, declared.faults.CloseFault.CloseFault, declared.faults.File.File, Register.RegisterContent}
-use Rattle.office_closing.specs.{declared.faults.File.TheVariants.Archive, declared.faults.Refusal.TheVariants.Register, declared.planning.PutAway.PutAway}
-use Rattle.office_closing.specs.{Sound.IsSound, Stored.HasRegister}
+use Rattle.office_closing.specs.{Files.{AreClean, AreIdle, files}, declared.faults.CloseFault.CloseFault, declared.faults.File.{File, TheVariants.Archive}, Register.RegisterContent}
+use Rattle.office_closing.specs.{declared.faults.Refusal.TheVariants.Register, declared.planning.PutAway.PutAway, Sound.IsSound, Stored.HasRegister}
 use Rattle.office_closing.specs.declared.faults.CloseFault.TheVariants as fault
 
 -- what the four files held

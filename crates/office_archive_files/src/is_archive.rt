@@ -1,5 +1,4 @@
-ghost use Rattle.std.specs.{Prelude.{◌≡◌, ◌↔◌, ◌⊎◌, ◌<◌, ◌-◌, true, MatchOption, Some, filter, length, map, nat_lt, slice_get, string_bytes}, List.list_all};
-ghost use Rattle.std.specs.Option.{option_map};
+ghost use Rattle.std.specs.{Prelude.{◌≡◌, ◌↔◌, ◌⊎◌, ◌<◌, ◌-◌, true, MatchOption, Some, filter, length, map, nat_lt, slice_get, string_bytes}, List.list_all, Option.option_map};
 ghost use Rattle.office_archive_files.specs.Archives.{IsOfOffice, IsRegisterAt, Reaches};
 ghost use Rattle.office_closing.specs.{Copies.AreFirst, Lists.{SettledListContent, list_content}, Register.{archive_content, is_passed, register_content}};
 ghost use Rattle.office_closing.specs.declared.register.Segment.{Segment};

@@ -1,6 +1,7 @@
 -- What a delivery does to a desk and the archives beside it.
-use Rattle.std.{specs.Prelude.{nat_le, None, IsTrue}, proofs.lemmas.Bool.{leb-true, leb-false}}
+use Rattle.std.specs.Prelude.{nat_le, None, IsTrue}
 use Rattle.std.proofs.Common.{◌≡◌, ℕ, ◌≤◌, inl, List, [], ◌∷◌, ◌++◌, true, false, Result, Ok, Err, sym, refl, ap, subst, ◌∙◌, arith, ◌+◌, ◌-◌, ◌<◌}
+use Rattle.std.proofs.lemmas.Bool.{leb-true, leb-false}
 use Rattle.sqlite.specs.{Held.{Held, state}, State.HasCleanDisk, Tree.Trees, Effect.Database}
 use Rattle.sqlite_trees.specs.declared.store.Store.{Ghosts}
 use Rattle.edi_syntax.specs.Interchange.{interchange_of}
@@ -9,7 +10,10 @@ use Rattle.office_replies.specs.{Contents.content_of, Delivering.{Delivers, with
 use Rattle.office_replies.specs.declared.deliver.Response.{Response}
 use Rattle.office_loading.specs.Closed.{closed_content, last_closed}
 use Rattle.office_rows.{specs.{Rows.Rows, Stored.StoresRows}, proofs.Creating.stores}
-use Rattle.office_admission.specs.{Parties.parties_of, Setups.{SetupContent, parties_in, setup_content}, Admission.admission, Refusals.RefusedSurely}
+use Rattle.office_admission.specs.Parties.{parties_of}
+use Rattle.office_admission.specs.Setups.{SetupContent, parties_in, setup_content}
+use Rattle.office_admission.specs.Admission.{admission}
+use Rattle.office_admission.specs.Refusals.{RefusedSurely}
 use Rattle.office_admission.specs.Taking.{MachineState, machine_of}
 use Rattle.office_tables.specs.declared.table_fault.TableFault.{TableFault}
 use Rattle.terminal_core.specs.{Versions.newest, State.TerminalState}
@@ -19,8 +23,10 @@ use Rattle.office_parts.proofs.Orders.{archives_answered, closed_within}
 use Rattle.office_history.specs.{After.{content_after, deliveries_of, machine_after, machine_with}, Laws.{AddsNoRow, IsFor, answer_model_of}}
 use Rattle.office_history.proofs.{Lawful.{now_same, used_adds}, Accounted.within}
 use Rattle.office_desk.specs.{Answers.{AnswersNext, answer_at, answer_by_model, answer_to, code_of}, Calls.{Leads, OnlyLooks}, Desks.IsSound}
-use Rattle.office_desk.{specs.{Noting.{HasFault, IsNow, NotesFault}, Offices.{DeskHolds, HoldsOffice}, declared.desk.Desk.Desk}, proofs.HoldLemmas.machine_same}
-use Rattle.office_desk.proofs.DeliverLemmas.{not_now_surely, notes_none, parties_same}
+use Rattle.office_desk.specs.Noting.{HasFault, IsNow, NotesFault}
+use Rattle.office_desk.specs.Offices.{DeskHolds, HoldsOffice}
+use Rattle.office_desk.specs.declared.desk.Desk.{Desk}
+use Rattle.office_desk.proofs.{DeliverLemmas.{not_now_surely, notes_none, parties_same}, HoldLemmas.machine_same}
 use Rattle.office_archives.specs.{Answering.AnswersClosed, Bringing.{BringsTogether, StandsWith, named_by}}
 use Rattle.office_archives.specs.Standing.{IsBeyond, KnowsClosed, NamesNoneAway, StandsBeside}
 use Rattle.office_archives.specs.Together.{IsBesideAfter, LeadsTogether, LeavesDelivered, StandTogether, OnlyLooksTogether}

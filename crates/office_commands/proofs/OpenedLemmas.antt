@@ -1,5 +1,6 @@
 -- What a connection to files shows.
-use Rattle.std.proofs.{Common.{◌≡◌, inl, inr, [], length, true, false, arith, refl, ap, sym, subst}, Math.Logic.∥∥₁_elim}
+use Rattle.std.proofs.Common.{◌≡◌, inl, inr, [], length, true, false, arith, refl, ap, sym, subst}
+use Rattle.std.proofs.Math.Logic.{∥∥₁_elim}
 use Rattle.sqlite_disk.specs.declared.Disk.{Ghosts}
 use Rattle.sqlite_catalog.{specs.Listing.Lists, proofs.ReadLemmas.lists_once}
 use Rattle.sqlite_trees.specs.{Props.Trees-set, Sound.is_sound_list, Objects.catalog_tree}

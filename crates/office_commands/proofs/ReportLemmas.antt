@@ -1,5 +1,6 @@
 -- What a desk tells, by a set-up that only says the same, and by the tables that the files held.
-use Rattle.std.{specs.Prelude.string_bytes, proofs.Common.{◌≡◌, inl, inr, ℕ, List, Option, Some, option_map, ap, sym, subst, ◌∙◌}}
+use Rattle.std.specs.Prelude.{string_bytes}
+use Rattle.std.proofs.Common.{◌≡◌, inl, inr, ℕ, List, Option, Some, option_map, ap, sym, subst, ◌∙◌}
 use Rattle.sqlite.specs.{Effect.Database, Held.state, Tree.Trees}
 use Rattle.sqlite_trees.specs.declared.store.Store.{Ghosts}
 use Rattle.terminal_core.specs.State.{TerminalState}

@@ -9,8 +9,10 @@ use Rattle.office_reports.specs.{Looking.{Look, of_archive, report, texts_after,
 use Rattle.office_admission.specs.{Setups.SetupContent, Accounts.{content_after, content_with}}
 use Rattle.office_history.specs.After.{SaysSame}
 use Rattle.office_http.specs.{Served.{AtMost, calls_of}, Steps.{Step, delivery, account, look, with_step, events_after, StepLeads, StepsLead}}
-use Rattle.office_desk.specs.{Calls.{Leads, Enrols, Looks}, Crashes.IsAfter, Desks.{IsSound, OpensAt, StandsFor}, Looking.{DeskShows, ShowsAfter}}
-use Rattle.office_desk.{specs.declared.desk.Desk.Desk, proofs.OwnNumbers.answers_alike}
+use Rattle.office_desk.specs.Calls.{Leads, Enrols, Looks}
+use Rattle.office_desk.specs.Crashes.{IsAfter}
+use Rattle.office_desk.specs.Desks.{IsSound, OpensAt, StandsFor}
+use Rattle.office_desk.{specs.{Looking.{DeskShows, ShowsAfter}, declared.desk.Desk.Desk}, proofs.OwnNumbers.answers_alike}
 use Rattle.office_commands.{specs.{Delivering.StandsAlike, Opening.BeginsAt, Ending.{Prints, Tells as TellsText}}, proofs.Alike.{account_alike, answer_alike}}
 use Rattle.office_commands.specs.Serving.{EndsServing, listening_line, served_line, IsServed, AreServed, postponed_event, HasNoEvent, MayBeThere, LeadsNamed, EnrolsNamed, AreServedBy, IsServedAlone}
 use Rattle.office_commands.proofs.{ReportLemmas.after_alike, StreamLemmas.stand_alike}

@@ -1,7 +1,11 @@
 -- What the files of a store hold that was left whole.
 use Rattle.std.proofs.Common.{◌≡◌, inl, inr, List, refl, sym, subst}
 use Rattle.sqlite_disk.specs.{declared.Disk.Ghosts, declared.Files.Files}
-use Rattle.sqlite.specs.{Closing.{HoldsAlone, IsCopied}, Files.{file_state, over_files}, Held.Held, Recovery.Image, declared.FileStore.FileStore}
+use Rattle.sqlite.specs.Closing.{HoldsAlone, IsCopied}
+use Rattle.sqlite.specs.Files.{file_state, over_files}
+use Rattle.sqlite.specs.Held.{Held}
+use Rattle.sqlite.specs.Recovery.{Image}
+use Rattle.sqlite.specs.declared.FileStore.{FileStore}
 use Rattle.office_replies.specs.Events.{Event}
 use Rattle.office_admission.specs.Setups.{SetupContent}
 use Rattle.office_desk.specs.{Crashes.IsAfter, Desks.StandsFor, declared.desk.Desk.Desk}

@@ -1,8 +1,10 @@
 -- Where a file lies.
-use Rattle.std.specs.{Prelude.{◌≡◌, ◌≢◌, ◌<◌, ℕ, ◌++◌, List, ◌∷◌, length, get_or, Option, None, Some, Result, Ok, Err}, declared.fs.attrs.Metadata.Metadata}
-use Rattle.std.specs.{declared.io.ErrorKind.ErrorKind, declared.io.ErrorKind.TheVariants.{NotFound, OutOfMemory}}
+use Rattle.std.specs.Prelude.{◌≡◌, ◌≢◌, ◌<◌, ℕ, ◌++◌, List, ◌∷◌, length, get_or, Option, None, Some, Result, Ok, Err}
+use Rattle.std.specs.declared.{fs.attrs.Metadata.Metadata, io.ErrorKind.ErrorKind}
+use Rattle.std.specs.declared.io.ErrorKind.TheVariants.{NotFound, OutOfMemory}
 use Rattle.sqlite.specs.declared.error.Error.{Error}
-use Rattle.office_tables.specs.{declared.table_fault.TableFault.TableFault, declared.table_fault.TableFault.TheVariants.{Memory, Store}}
+use Rattle.office_tables.specs.declared.table_fault.TableFault.{TableFault}
+use Rattle.office_tables.specs.declared.table_fault.TableFault.TheVariants.{Memory, Store}
 
 -- its folder, a slash and its name
 abbrev pub path_of : Option (List ℕ) → List ℕ → List ℕ

@@ -52,8 +52,8 @@ impl Loaded {
     }
 }
 
-/// What the tables of the store at a path hold, of which its register says what is closed. All that may refuse a store once it
-/// is open is done here, and only reads.
+/// What the tables of the store at a path hold, of which its register says what is closed. What may still refuse a store once
+/// its register was read is done here, and only reads.
 ///
 /// Version if no setting names this version; Damaged if the rows are those of no office; Store and Memory say nothing of the
 /// rows.

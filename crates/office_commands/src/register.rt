@@ -1,5 +1,4 @@
-ghost use Rattle.std.specs.Prelude.{◌≡◌, ◌==◌, ◌++◌, codes, false, length, nat_lt, None, Ok, Err, ⊤, IfErr, IfOk, IfSome, IsTrue, option_map, string_bytes};
-ghost use Rattle.std.specs.Fs.{IsFile, file_type, metadata_len};
+ghost use Rattle.std.specs.{Prelude.{◌≡◌, ◌==◌, ◌++◌, codes, false, length, nat_lt, None, Ok, Err, ⊤, IfErr, IfOk, IfSome, IsTrue, option_map, string_bytes}, Fs.{IsFile, file_type, metadata_len}};
 ghost use Rattle.office_commands.specs.{History.{IsHistory, has_no_tables, history_in}, Paths.{HasNoSlash, IsBeside, path_of, unfound}};
 ghost use Rattle.office_closing.specs.{Changes.empty_register, Register.register_content, Sound.is_sound};
 ghost use Rattle.office_tables.specs.{Faults.{IsOfStore, IsOfStoreOr}, declared.table_fault.TableFault.TheVariants.Store};

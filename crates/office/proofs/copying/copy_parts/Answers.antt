@@ -1,5 +1,6 @@
-use Rattle.std.{specs.Io.KnownBytes.Appends, proofs.{Common.{◌≡◌, ◌∙◌, ◌++◌, ◌+◌, ℕ, List, Option, arith, subst, sym, take, drop}, Math.Seq.take-add}}
-use Rattle.std.proofs.KnownBytes.{Appends-trans}
+use Rattle.std.specs.Io.KnownBytes.{Appends}
+use Rattle.std.proofs.Common.{◌≡◌, ◌∙◌, ◌++◌, ◌+◌, ℕ, List, Option, arith, subst, sym, take, drop}
+use Rattle.std.proofs.{Math.Seq.take-add, KnownBytes.Appends-trans}
 use Rattle.office.proofs.copying.copy_parts.Goals as goal
 
 -- what was appended twice is the front of the file up to the end of the second part

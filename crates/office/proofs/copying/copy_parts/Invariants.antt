@@ -1,4 +1,5 @@
-use Rattle.std.{specs.Io.KnownBytes.Appends, proofs.Common.{◌-◌, ◌≡◌, ◌<◌, ◌≤◌, ◌+◌, ℕ, List, IsTrue, length, take, ◌*◌}}
+use Rattle.std.specs.Io.KnownBytes.{Appends}
+use Rattle.std.proofs.Common.{◌-◌, ◌≡◌, ◌<◌, ◌≤◌, ◌+◌, ℕ, List, IsTrue, length, take, ◌*◌}
 use Rattle.office.proofs.copying.copy_parts.Given as goal
 
 abbrev pub invariant-loop-at : goal.invariant-loop-at

@@ -1,5 +1,4 @@
-use Rattle.std.proofs.{Common.{◌≡◌, ◌==◌, inl, inr, length, not, rules, refl, sym, ap, subst, ◌∙◌, arith}, lemmas.List.length-map}
-use Rattle.std.proofs.lemmas.Result.{err_from_is_err_and}
+use Rattle.std.proofs.{Common.{◌≡◌, ◌==◌, inl, inr, length, not, rules, refl, sym, ap, subst, ◌∙◌, arith}, lemmas.List.length-map, lemmas.Result.err_from_is_err_and}
 use Rattle.sqlite.specs.{Effect.Database, Held.state, State.HasCleanDisk}
 use Rattle.office_tables.specs.Opened.{AreMissing}
 use Rattle.office_closing.specs.{Register.{RegisterContent, archive_content, register_content}, Stored.HasRegister, Tables.register_tables}

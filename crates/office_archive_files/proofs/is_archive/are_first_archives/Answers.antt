@@ -1,5 +1,6 @@
 use Rattle.std.proofs.Common.{◌≡◌, false, true, refl, arith, rules}
-use Rattle.office_closing.{specs.Register.archive_content, proofs.FirstLemmas.{are_the_first, first_no_more, first_same}}
+use Rattle.office_closing.specs.Register.{archive_content}
+use Rattle.office_closing.proofs.FirstLemmas.{are_the_first, first_no_more, first_same}
 use Rattle.office_archive_files.proofs.is_archive.are_first_archives.Goals as goal
 
 pub returns-then-archives-others : goal.returns-then-archives-others

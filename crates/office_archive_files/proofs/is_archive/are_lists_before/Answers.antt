@@ -1,5 +1,6 @@
-use Rattle.std.{specs.{Prelude.slice_get, Option.option_map}, proofs.{lemmas.List.length-map, lemmas.Option.{slice_get-map, slice_get_read, slice_get_within}}}
+use Rattle.std.specs.{Prelude.{slice_get}, Option.option_map}
 use Rattle.std.proofs.Common.{◌≡◌, ◌<◌, ◌≤◌, ◌+◌, ℕ, Bool, Some, List, true, false, nat_lt, length, map, get_or, arith, rules, refl, sym, ap, subst, ◌∙◌}
+use Rattle.std.proofs.lemmas.{List.length-map, Option.{slice_get-map, slice_get_read, slice_get_within}}
 use Rattle.office_closing.specs.{Lists.{SettledListContent, list_content}, declared.settled_lists.SettledList.SettledList}
 use Rattle.office_archive_files.proofs.PassingLemmas.{GoOn, goes_on_with, goes_on_without, is_the_next, none_is_left}
 use Rattle.office_archive_files.proofs.is_archive.are_lists_before.Goals.{then-other-place+else-not-is_at, else-other-place}

@@ -1,5 +1,6 @@
-use Rattle.std.{specs.Prelude.slice_get, proofs.lemmas.Option.{slice_get-get_or, slice_get_within}}
+use Rattle.std.specs.Prelude.{slice_get}
 use Rattle.std.proofs.Common.{◌≡◌, ◌<◌, ◌≤◌, ◌+◌, ℕ, Bool, Some, true, false, nat_lt, length, get_or, arith, rules, refl, sym, ap, subst, ◌∙◌}
+use Rattle.std.proofs.lemmas.Option.{slice_get-get_or, slice_get_within}
 use Rattle.office_closing.specs.declared.register.Segment.{Segment}
 use Rattle.office_archive_files.proofs.PassingLemmas.{GoOn, goes_on_with, goes_on_without, is_the_next, none_is_left}
 use Rattle.office_archive_files.proofs.is_archive.are_segments_before.Goals.{then-segment-place+else-not-is_segment_at, else-segment-place}

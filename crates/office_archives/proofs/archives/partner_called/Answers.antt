@@ -1,5 +1,9 @@
-use Rattle.std.proofs.{Common.{◌≡◌, ◌≤◌, length, refl, sym, ap, subst, ◌∙◌, arith}, lemmas.List.length-map}
-use Rattle.office_admission.specs.{Limits.most_partners, Setups.account_contents, declared.setup.Setup.Setup, Parties.{partner_codes, partner_from}}
+use Rattle.std.proofs.Common.{◌≡◌, ◌≤◌, length, refl, sym, ap, subst, ◌∙◌, arith}
+use Rattle.std.proofs.lemmas.List.{length-map}
+use Rattle.office_admission.specs.Limits.{most_partners}
+use Rattle.office_admission.specs.Setups.{account_contents}
+use Rattle.office_admission.specs.declared.setup.Setup.{Setup}
+use Rattle.office_admission.specs.Parties.{partner_codes, partner_from}
 use Rattle.office_desk.proofs.Faults.{called}
 use Rattle.office_archives.proofs.archives.partner_called.Goals as goal
 

@@ -1,4 +1,6 @@
-use Rattle.std.{specs.{Option.{option_map, unwrap_or}, Prelude.{IfSome, IsTrue}}, proofs.Common.{Option, None, Some, refl, subst, sym}}
+use Rattle.std.specs.Option.{option_map, unwrap_or}
+use Rattle.std.specs.Prelude.{IfSome, IsTrue}
+use Rattle.std.proofs.Common.{Option, None, Some, refl, subst, sym}
 use Rattle.office_closing.specs.{Changes.empty_register, Register.{RegisterContent, register_content}, Sound.is_sound, declared.register.Register.Register}
 use Rattle.office_commands.proofs.offices.read_names.Goals as goal
 

@@ -1,4 +1,5 @@
-use Rattle.std.proofs.{Common.{◌≡◌, ◌-◌, Some, slice_get, option_map, rules, refl, ap, subst, ◌∙◌}, lemmas.Option.slice_get-map}
+use Rattle.std.proofs.Common.{◌≡◌, ◌-◌, Some, slice_get, option_map, rules, refl, ap, subst, ◌∙◌}
+use Rattle.std.proofs.lemmas.Option.{slice_get-map}
 use Rattle.office_closing.specs.Register.{archive_content, register_content}
 use Rattle.office_archive_files.specs.Archives.{IsRegisterAt}
 use Rattle.office_archive_files.proofs.shelf.FileShelf.named.Goals as goal
