@@ -9,7 +9,7 @@ use Rattle.sqlite.specs.{Files.{file_state, over_files}, Held.{Held, state}, Rec
 use Rattle.office_rows.specs.{Stored.HasRows, Tables.office_schema}
 use Rattle.office_commands.specs.Opening.{Shows, ShowsHeld}
 use Rattle.office_closing.specs.{Changes.empty_register, Register.{RegisterContent, register_content}, declared.register.Register.Register}
-use Rattle.office_archives.specs.{Shelves.{AreShelved, IsKeptAs, IsOpenAt, IsOpenIfKnown, NamesAll}, declared.opened.Opened.Opened}
+use Rattle.office_archives.specs.{Shelves.{AreSealed, AreShelved, IsKeptAs, IsOpenAt, IsOpenIfKnown, NamesAll}, declared.opened.Opened.Opened}
 use Rattle.office_archive_files.specs.Shelves.{HoldArchiveAt}
 
 -- it was opened on the files, and then only read
@@ -44,4 +44,5 @@ none_shelved g is_known holds shelf names opened on_shelf empty none = record {
   are_named = subst (λ (r : RegisterContent). NamesAll r []) (sym empty) none_named;
   few_open = subst (λ l. length l ≤ 4) (sym none) (omega arith);
   are_open = subst (AllByRecursion (IsOpenIfKnown g is_known [])) (sym none) tt;
+  are_sealed = subst (AreSealed g (register_content names)) (sym none) tt;
 }

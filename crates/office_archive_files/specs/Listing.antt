@@ -1,12 +1,12 @@
 -- The lines that list a store's archives.
-use Rattle.std.specs.Prelude.{◌≡◌, ℕ, ◌==◌, false, cond, List, [], ◌∷◌, ◌++◌, length, codes, decimal, IsTrue}
+use Rattle.std.specs.Prelude.{◌≡◌, ℕ, ◌==◌, true, false, cond, List, [], ◌∷◌, ◌++◌, length, codes, decimal, IsTrue}
 use Rattle.office_reports.specs.Names.{line}
 use Rattle.sqlite.specs.{Held.{Held, state}, Recovery.Image, State.HasCleanDisk}
 use Rattle.sqlite_trees.specs.declared.store.Store.{Ghosts}
 use Rattle.office_closing.specs.{Register.{ArchiveContent, RegisterContent, closed_by}, Sound.is_sound}
 use Rattle.office_admission.specs.Setups.{SetupContent}
 use Rattle.office_commands.specs.Beside.{IsOfDayHeld, IsSetUpHeld}
-use Rattle.office_archive_files.specs.{Archives.{PassesAt, PassesWithSeals}, declared.shelf.Found.Found}
+use Rattle.office_archive_files.specs.{Archives.IsSealedAt, declared.shelf.Found.Found}
 use Rattle.office_archive_files.specs.declared.shelf.Found.TheVariants as found
 
 -- what is found under the name of an archive, in a word
@@ -21,9 +21,9 @@ archive_line archive found =
     line (codes "ARCHIVE" ∷ decimal archive.place ∷ archive.file ∷ codes "VISITS" ∷ decimal archive.visits ∷ word_of found ∷ [])
 
 module _ {S : Type 0} (g : Ghosts S) (image : Image) (path : List ℕ) (store : SetupContent) (names : RegisterContent) where
-  -- as the archive of that place only what a connection showed as such is found
+  -- as the archive of that place only what a connection showed as such is found, with all its seals
   abbrev pub IsFoundAt : (place : ℕ) → Found → Type 0
-  IsFoundAt place found.Archive = (conn : Held S) × PassesWithSeals g image path store names place conn
+  IsFoundAt place found.Archive = IsSealedAt g image path store names place true
   IsFoundAt place found.Nothing = Unit {0}
   IsFoundAt place found.Other = Unit {0}
 

@@ -3,20 +3,21 @@ use Rattle.std.specs.{Prelude.{IsTrue, filter, ◌&&◌, ◌==◌, fold, nat_le,
 use Rattle.std.specs.{Option.{option_and_then, option_or, unwrap_or}, List.{AllByRecursion, list_all, position, position_or_len}, Str.bytes_eq}
 use Rattle.std.specs.{Cmp.Lexicographic.{bytes_decides, slice_cmp}, Ordering.{is_lt, nat_cmp, ordering_reverse, ordering_then}, Cmp.IsTotalOrder}
 use Rattle.std.proofs.{lemmas.Bool.{and_parts, eqb-true, leb-true, le-leb, leb-false, ltb-true}, lemmas.Bool.Decides.nat_tests, lemmas.List.Edits.length-remove}
-use Rattle.std.proofs.Common.{◌≡◌, ℕ, ◌≤◌, List, true, Option, None, Some, is_some, option_map, string_bytes, String, refl, sym, ap, subst, ◌∙◌, [], ◌∷◌, ◌++◌, Bool, map, false, cond, arith, Ordering, Less, Equal, Greater, is_gt, ◌<◌, drop, length, take, zero, suc}
+use Rattle.std.proofs.Common.{◌≡◌, ℕ, ◌≤◌, List, true, Option, None, Some, is_some, option_map, string_bytes, String, Result, refl, sym, ap, subst, ◌∙◌, [], ◌∷◌, ◌++◌, Bool, map, false, cond, arith, Ordering, Less, Equal, Greater, is_gt, ◌<◌, drop, length, take, zero, suc}
 use Rattle.std.proofs.{lemmas.Cmp.{nat_cmp_total, nat_list_cmp_total, tied_itself, upto, on_total, then_total}, lemmas.List.{length-append, length-drop}}
 use Rattle.std.proofs.{lemmas.List.Quantifiers.position-Some, lemmas.Option.{cond_some, same_Some, slice_get_read}}
 use Rattle.sqlite.specs.{Held.{Held, state}, State.HasCleanDisk}
 use Rattle.sqlite_trees.specs.declared.store.Store.{Ghosts}
 use Rattle.office_rows.specs.{Rows.Rows, Stored.HasRows}
-use Rattle.office_tables.specs.{Answers.{IsKept, IsNextOf}, declared.interchanges.Kept.Kept}
+use Rattle.office_tables.specs.{Answers.{IsKept, IsNextOf}, DeliveryReading.OnlyReads, declared.interchanges.Kept.Kept, declared.table_fault.TableFault.TableFault}
+use Rattle.office_tables.proofs.WriteLemmas.{was_clean, was_open}
 use Rattle.office_history.specs.After.{AreKeptOnce, reply_in, content_after, machine_after}
 use Rattle.office_parts.{specs.{Archives.{Archive, archive_of}, OwnTerminal.{own_terminal, MayStay}}, proofs.{Takings.visits_same, Splits.open_kept}}
-use Rattle.office_closing.specs.{Register.register_content, declared.register.Register.Register, Sound.{are_rising, may_be_list}}
+use Rattle.office_closing.specs.{Register.register_content, Seals.HasSeals, declared.register.Register.Register, Sound.{are_rising, may_be_list}}
 use Rattle.office_closing.specs.Lists.{SettledListContent, comes_before, is_of_list, lines_of_list, list_cmp, lists_among, put_list, put_lists}
 use Rattle.office_closing.proofs.SoundLemmas.{list_total}
 use Rattle.office_desk.{specs.Reports.{TellsOf, TellsNext, partner_called}, proofs.Faults.reply_of_kept}
-use Rattle.office_archives.specs.Shelves.{AreShelved, IsLastSound, IsOpenAt, IsOpenIfKnown, IsSoundIfAny, NamesAll, archive_at, left_open, with_room}
+use Rattle.office_archives.specs.Shelves.{AreSealed, AreShelved, IsLastSound, IsOpenAt, IsOpenIfKnown, IsSealedIfSaid, IsSoundIfAny, LeavesOpen, NamesAll, ShowsSo, archive_at, left_open, with_room}
 use Rattle.office_archives.specs.{declared.opened.Opened.Opened, Reporting.{IsOfWhatStands, WhatStandsIsToldAlike}}
 use Rattle.box6346.specs.declared.box_number.BoxNumber.{BoxNumber}
 use Rattle.edi_messages.specs.{Owned.call_content, declared.call.Call.Call, Purposes.CallContent, Texts.is_name}
@@ -100,16 +101,32 @@ module _ {S : Type 0} (g : Ghosts S) (place : ℕ) (opened : List (Opened S g)) 
       by None e = room (nat_le 4 (length opened)) refl
       by (Some i) e = let less = length-remove opened i (within i e) in omega (arith, few, less)
 
-module _ {S F : Type 0} (g : Ghosts S) (is_known : ℕ → Type 0) (holds : List Archive → F → Type 0) (list : List Archive) (shelf after : F) (names still : Register) where
+module _ {S F : Type 0} (g : Ghosts S) (is_known : ℕ → Type 0) (holds : List Archive → F → Type 0) (shelf after : F) (names still : Register) where
+  -- those that stay open have the seals that they are said to have
+  sealed_left : (place : ℕ) (opened left : List (Opened S g)) → AreSealed g (register_content names) opened → still ≡ names → left ≡ left_open place opened → AreSealed g (register_content still) left
+  sealed_left place opened left are same is =
+      subst (λ r. AreSealed g (register_content r) left) (sym same) (subst (AreSealed g (register_content names)) (sym is) (left_all g place opened (IsSealedIfSaid g (register_content names)) are))
+
   -- what is named and shelved stays so beside the one that is asked
-  pub shelved_left : (place : ℕ) (opened left : List (Opened S g)) → AreShelved g is_known holds list shelf names opened → still ≡ names → holds list after → left ≡ left_open place opened → AreShelved g is_known holds list after still left
-  shelved_left place opened left are same on_shelf is = record {
+  shelved_left : (list : List Archive) (place : ℕ) (opened left : List (Opened S g)) → AreShelved g is_known holds list shelf names opened → still ≡ names → holds list after → left ≡ left_open place opened → AreShelved g is_known holds list after still left
+  shelved_left list place opened left are same on_shelf is = record {
     on_shelf = on_shelf;
     are_named = subst (λ r. NamesAll (register_content r) list) (sym same) are.are_named;
     few_open = let few = left_few g place opened are.few_open in let e = ap length is in omega (arith, few, e);
     are_open = subst (AllByRecursion (IsOpenIfKnown g is_known list)) (sym is) (left_all g place opened (IsOpenIfKnown g is_known list) are.are_open);
+    are_sealed = sealed_left place opened left are.are_sealed same is;
   }
 
+  pub leaves_open : (place : ℕ) (opened left : List (Opened S g)) → still ≡ names → ((list : List Archive) → holds list shelf → holds list after) → left ≡ left_open place opened → LeavesOpen g is_known holds place shelf after names still opened left
+  leaves_open place opened left same holds_still is = record {
+    named = same;
+    left = is;
+    room = λ few. subst (λ l. length l < 4) (sym is) (left_few g place opened few);
+    sealed = λ are. sealed_left place opened left are same is;
+    same = λ list are. shelved_left list place opened left are same (holds_still list are.on_shelf) is;
+  }
+
+module _ {S F : Type 0} (g : Ghosts S) (is_known : ℕ → Type 0) (holds : List Archive → F → Type 0) (list : List Archive) (shelf after : F) (names still : Register) where
   -- so it does with those that are open, and with one more
   pub shelved_same : (opened another : List (Opened S g)) → AreShelved g is_known holds list shelf names opened → still ≡ names → holds list after → another ≡ opened → AreShelved g is_known holds list after still another
   shelved_same opened another are same on_shelf is = record {
@@ -117,15 +134,18 @@ module _ {S F : Type 0} (g : Ghosts S) (is_known : ℕ → Type 0) (holds : List
     are_named = subst (λ r. NamesAll (register_content r) list) (sym same) are.are_named;
     few_open = subst (λ l. length l ≤ 4) (sym is) are.few_open;
     are_open = subst (AllByRecursion (IsOpenIfKnown g is_known list)) (sym is) are.are_open;
+    are_sealed = subst (λ r. AreSealed g (register_content r) another) (sym same) (subst (AreSealed g (register_content names)) (sym is) are.are_sealed);
   }
 
   pub shelved_more : (opened another : List (Opened S g)) (one : Opened S g) → AreShelved g is_known holds list shelf names opened → still ≡ names → holds list after → another ≡ opened ++ one ∷ [] → length opened < 4 → IsOpenIfKnown g is_known list one
-      → AreShelved g is_known holds list after still another
-  shelved_more opened another one are same on_shelf is few open_ = record {
+      → IsSealedIfSaid g (register_content names) one → AreShelved g is_known holds list after still another
+  shelved_more opened another one are same on_shelf is few open_ sealed = record {
     on_shelf = on_shelf;
     are_named = subst (λ r. NamesAll (register_content r) list) (sym same) are.are_named;
     few_open = let many = ap length is ∙ length-append opened (one ∷ []) in omega (arith, few, many);
     are_open = subst (AllByRecursion (IsOpenIfKnown g is_known list)) (sym is) (all_both (IsOpenIfKnown g is_known list) opened (one ∷ []) are.are_open (open_, tt));
+    are_sealed = subst (λ r. AreSealed g (register_content r) another) (sym same)
+        (subst (AreSealed g (register_content names)) (sym is) (all_both (IsSealedIfSaid g (register_content names)) opened (one ∷ []) are.are_sealed (sealed, tt)));
   }
 
 -- the place of a number's archive is where it stands
@@ -139,6 +159,31 @@ pub open_still : {S : Type 0} (g : Ghosts S) (list : List Archive) (place : ℕ)
 open_still g list place before after first was_open same is clean now_open archive at =
     let there = is (first clean) (was_open clean now_open) archive at in
     record { has = subst (HasRows archive.rows) (sym (same clean now_open)) there.has; kept_once = there.kept_once }
+
+-- what it shows is so as before
+pub shows_still : {S : Type 0} (g : Ghosts S) (IsSo : Rows → Type 0) (before after : Held S) → (HasCleanDisk (state g after) → HasCleanDisk (state g before)) → (HasCleanDisk (state g after) → IsTrue (state g after).is_open → IsTrue (state g before).is_open)
+    → (HasCleanDisk (state g after) → IsTrue (state g after).is_open → (state g after).committed ≡ (state g before).committed) → ShowsSo g before IsSo → ShowsSo g after IsSo
+shows_still g IsSo before after first was_open same is clean now_open rows has once = is (first clean) (was_open clean now_open) rows (subst (HasRows rows) (same clean now_open) has) once
+
+-- One was taken out and looked at, and nothing was committed: it is put back as it was.
+module _ {S : Type 0} (g : Ghosts S) (opened : Opened S g) (after : Held S) (first : HasCleanDisk (state g after) → HasCleanDisk (state g opened.archive.conn)) (was_open_ : HasCleanDisk (state g after) → IsTrue (state g after).is_open → IsTrue (state g opened.archive.conn).is_open)
+    (same : HasCleanDisk (state g after) → IsTrue (state g after).is_open → (state g after).committed ≡ (state g opened.archive.conn).committed) where
+  pub known_still : (is_known : ℕ → Type 0) (list : List Archive) (place : ℕ) → opened.place ≡ place → (is_known place → IsOpenAt g list place opened.archive.conn) → is_known opened.place → IsOpenAt g list opened.place after
+  known_still is_known list place at is known =
+      open_still g list opened.place opened.archive.conn after first was_open_ same
+      (subst (λ there. IsOpenAt g list there opened.archive.conn) (sym at) (is (subst is_known at known)))
+
+  pub sealed_still : (names still : Register) → still ≡ names → IsSealedIfSaid g (register_content names) opened → opened.is_sealed ≡ true → ShowsSo g after (HasSeals (register_content still) opened.place)
+  sealed_still names still named sealed said =
+      subst (λ r. ShowsSo g after (HasSeals (register_content r) opened.place)) (sym named)
+      (shows_still g (HasSeals (register_content names) opened.place) opened.archive.conn after first was_open_ same (sealed said))
+
+-- so it does if it was only read
+pub open_read : {S X : Type 0} (g : Ghosts S) (list : List Archive) (place : ℕ) (before after : Held S) {result : Result X TableFault} → OnlyReads (state g before) (state g after) result → IsOpenAt g list place before → IsOpenAt g list place after
+open_read g list place before after reads = open_still g list place before after (λ clean. was_clean reads clean) (λ clean now_open. was_open reads clean now_open) (λ clean now_open. (reads.reads.keeps clean).committed now_open)
+
+pub shows_read : {S X : Type 0} (g : Ghosts S) (IsSo : Rows → Type 0) (before after : Held S) {result : Result X TableFault} → OnlyReads (state g before) (state g after) result → ShowsSo g before IsSo → ShowsSo g after IsSo
+shows_read g IsSo before after reads = shows_still g IsSo before after (λ clean. was_clean reads clean) (λ clean now_open. was_open reads clean now_open) (λ clean now_open. (reads.reads.keeps clean).committed now_open)
 
 some_mapped : (o : Option (String Global)) → is_some (option_map string_bytes o) ≡ is_some o
 some_mapped None = refl

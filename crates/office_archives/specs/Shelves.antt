@@ -1,16 +1,16 @@
 -- The archives of a store, of which some are open.
-use Rattle.std.specs.Prelude.{◌≡◌, ◌⊎◌, ◌==◌, ℕ, ◌+◌, ◌-◌, ◌≤◌, nat_le, nat_lt, List, [], ◌∷◌, ◌++◌, drop, filter, length, remove, take, Option, None, Some, slice_get, IsTrue, if◌then◌else◌}
+use Rattle.std.specs.Prelude.{◌≡◌, ◌⊎◌, ◌==◌, ℕ, ◌+◌, ◌-◌, ◌≤◌, ◌<◌, true, nat_le, nat_lt, List, [], ◌∷◌, ◌++◌, drop, filter, length, remove, take, Option, None, Some, slice_get, IsTrue, if◌then◌else◌}
 use Rattle.std.specs.{List.{AllByRecursion, position}, Option.{option_and_then, option_map, unwrap_or}}
 use Rattle.sqlite.specs.{Effect.Database, Held.{Held, state}, State.HasCleanDisk}
 use Rattle.sqlite_trees.specs.declared.store.Store.{Ghosts}
 use Rattle.edi_messages.specs.Purposes.{CallContent}
 use Rattle.terminal_core.specs.declared.lines.Side.{Side}
-use Rattle.office_rows.specs.{Rows.ListingContent, Stored.HasRows}
+use Rattle.office_rows.specs.{Rows.{ListingContent, Rows}, Stored.HasRows}
 use Rattle.office_history.specs.After.{AreKeptOnce}
 use Rattle.office_parts.specs.{Archives.{Archive, archive_of}, Away.lines_away, OwnLists.{ListName, list_name}}
 use Rattle.office_closing.specs.{Texts.IsTextOf, Changes.closed_with, Lists.{SettledListContent, lines_of_list, lists_among}, Sound.is_sound}
 use Rattle.office_closing.specs.{Register.{ArchiveContent, RegisterContent, SealedContent, last_closed, register_content}, declared.register.Register.Register}
-use Rattle.office_closing.specs.declared.register.Segment.{Segment}
+use Rattle.office_closing.specs.{Seals.HasSeals, declared.register.Segment.Segment}
 use Rattle.office_archives.specs.declared.opened.Opened.{Opened}
 use Rattle.office_closing.specs.Register as register
 
@@ -62,6 +62,19 @@ IsLastSound g is_known opened = IsSoundIfAny g is_known (slice_get opened (lengt
 abbrev pub IsOpenIfKnown : {S : Type 0} (g : Ghosts S) (is_known : ℕ → Type 0) → List Archive → Opened S g → Type 0
 IsOpenIfKnown g is_known list opened = is_known opened.place → IsOpenAt g list opened.place opened.archive.conn
 
+-- what a connection shows is so, as far as its disk has returned what was written, and while it is open
+abbrev pub ShowsSo : {S : Type 0} (g : Ghosts S) → Held S → (IsSo : Rows → Type 0) → Type 0
+ShowsSo g conn IsSo = HasCleanDisk (state g conn) → IsTrue (state g conn).is_open → (rows : Rows) →
+    HasRows rows (state g conn).committed → AreKeptOnce rows.interchanges → IsSo rows
+
+-- if it is said to have all its seals, it has those of this register
+abbrev pub IsSealedIfSaid : {S : Type 0} (g : Ghosts S) → RegisterContent → Opened S g → Type 0
+IsSealedIfSaid g names opened = opened.is_sealed ≡ true → ShowsSo g opened.archive.conn (HasSeals names opened.place)
+
+-- so has each that is open
+abbrev pub AreSealed : {S : Type 0} (g : Ghosts S) → RegisterContent → List (Opened S g) → Type 0
+AreSealed g names opened = AllByRecursion (IsSealedIfSaid g names) opened
+
 -- ---- what the register names
 
 -- the archives and segments of the register of a store as the archive at that place was closed: those before
@@ -99,13 +112,40 @@ pub record NamesAll (names : RegisterContent) (list : List Archive) : Type 0 whe
       (lines_away (take count list) (list_name call side))
   pub of_calls : (name : ListName) → (lines_away list name ≡ None) ⊎ IsOfCall name
 
--- These are on the shelf, and the register names them; few are open, each of them one of these, if it is known.
+-- These are on the shelf, and the register names them; few are open, each of them one of these, if it is known, and with all its
+-- seals, if that is said.
 pub record AreShelved {S F : Type 0} (g : Ghosts S) (is_known : ℕ → Type 0) (holds : List Archive → F → Type 0)
     (list : List Archive) (shelf : F) (names : Register) (opened : List (Opened S g)) : Type 0 where
   pub on_shelf : holds list shelf
   pub are_named : NamesAll (register_content names) list
   pub few_open : length opened ≤ most_open
   pub are_open : AllByRecursion (IsOpenIfKnown g is_known list) opened
+  pub are_sealed : AreSealed g (register_content names) opened
+
+-- ---- what is taken out of it
+
+-- A connection was opened to the archive at a place, if it is one of those that are known, whichever are on the shelf.
+abbrev pub OpensFor : {S F : Type 0} (g : Ghosts S) (is_known : ℕ → Type 0) (holds : List Archive → F → Type 0) → F → Register →
+    List (Opened S g) → (place : ℕ) → Held S → Type 0
+OpensFor g is_known holds shelf names opened place conn =
+    is_known place → (list : List Archive) → AreShelved g is_known holds list shelf names opened → IsOpenAt g list place conn
+
+-- The archive at a place was taken out: of the others these stay open, with the seals that they are said to have, and what is
+-- named and shelved stays so.
+pub record LeavesOpen {S F : Type 0} (g : Ghosts S) (is_known : ℕ → Type 0) (holds : List Archive → F → Type 0) (place : ℕ)
+    (shelf after : F) (names still : Register) (opened left : List (Opened S g)) : Type 0 where
+  pub named : still ≡ names
+  pub left : left ≡ left_open place opened
+  pub room : length opened ≤ most_open → length left < most_open
+  pub sealed : AreSealed g (register_content names) opened → AreSealed g (register_content still) left
+  pub same : (list : List Archive) → AreShelved g is_known holds list shelf names opened
+      → AreShelved g is_known holds list after still left
+
+-- An archive was opened that shows so, and it is given; or one that does not, and it is closed.
+abbrev pub IsTakenIf : {S : Type 0} (g : Ghosts S) (Opens : Held S → Type 0) (IsSo : Rows → Type 0) → Option (Opened S g) →
+    Type 0
+IsTakenIf {S} g Opens IsSo None = (conn : Held S) × Opens conn × ShowsSo g conn (λ rows. IsSo rows → ⊥)
+IsTakenIf g Opens IsSo (Some opened) = Opens opened.archive.conn × ShowsSo g opened.archive.conn IsSo
 
 -- ---- what a closing makes of it
 

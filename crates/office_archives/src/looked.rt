@@ -23,7 +23,7 @@ pub struct Looked<S: Alter> {
 }
 
 impl<S: Alter> Looked<S> {
-    ghost use Rattle.std.specs.Prelude.{⊤, IfErr, IfOk, IsTrue, option_map, string_bytes};
+    ghost use Rattle.std.specs.Prelude.{◌↔◌, ⊤, true, IfErr, IfOk, IsTrue, option_map, string_bytes};
     ghost use Rattle.sqlite.specs.Held.{state};
     ghost use Rattle.sqlite.specs.State.{HasCleanDisk};
     ghost use Rattle.office_archives.specs.Loading.{Loads};
@@ -32,7 +32,6 @@ impl<S: Alter> Looked<S> {
     ghost use Rattle.office_archives.specs.Texts.{HasInOrder};
     ghost use Rattle.office_closing.specs.Register.{RegisterContent, register_content};
     ghost use Rattle.office_closing.specs.Seals.{HasSealOf, HasSeals};
-    ghost use Rattle.std.specs.Prelude.{true};
     ghost use Rattle.office_closing.specs.Sound.{IsSound, is_sound};
     ghost use Rattle.office_closing.specs.Stored.{HasRegister};
     ghost use Rattle.office_history.specs.After.{AreKeptOnce};
@@ -83,24 +82,29 @@ impl<S: Alter> Looked<S> {
         read_register(alloc, &mut self.conn)
     }
 
-    /// Whether it keeps all that a register has sealed with the archive at a place, as `has_seals` tells.
+    /// Whether it keeps all that a register has sealed with the archive at a place; also if the register has no seals of that.
+    ///
+    /// Damaged if a reply is no text; Store and Memory say nothing of the rows.
     pub fn has_seals(
         &mut self,
         alloc: Global,
         register: &Register,
         place: u16,
     ) -> Result<bool, TableFault>
-        ensures has { HasCleanDisk (state S.Store self.new.conn) → IfOk result (λ has. has ≡ true → (rows : Rows) →
-            HasRows rows (state S.Store self.old.conn).committed → AreKeptOnce rows.interchanges →
-            HasSeals (register_content register.now) place rows) }
-        ensures reads { Reads (state S.Store self.old.conn) (state S.Store self.new.conn) result }
+        ensures has { HasCleanDisk (state S.Store self.new.conn) → IsTrue (state S.Store self.new.conn).is_open →
+            IfOk result (λ has. (rows : Rows) → HasRows rows (state S.Store self.old.conn).committed →
+            AreKeptOnce rows.interchanges → (has ≡ true) ↔ HasSeals (register_content register.now) place rows) }
+        ensures reads { OnlyReads (state S.Store self.old.conn) (state S.Store self.new.conn) result }
     {
         let is_idle = self.conn.is_autocommit();
         prove!(is_idle);
         has_seals(alloc, &mut self.conn, register, place)
     }
 
-    /// Whether it keeps what a register has sealed together with a partner's number, with the archive at a place, as `has_seal_of` tells.
+    /// Whether it keeps what a register has sealed together with a partner's number, with the archive at a place; also if the
+    /// register has no seals of that.
+    ///
+    /// Damaged if a reply is no text; Store and Memory say nothing of the rows.
     pub(crate) fn has_seal_of(
         &mut self,
         alloc: Global,
@@ -109,10 +113,11 @@ impl<S: Alter> Looked<S> {
         partner: u16,
         number: u32,
     ) -> Result<bool, TableFault>
-        ensures has { HasCleanDisk (state S.Store self.new.conn) → IfOk result (λ has. has ≡ true → (rows : Rows) →
-            HasRows rows (state S.Store self.old.conn).committed → AreKeptOnce rows.interchanges →
-            HasSealOf (register_content register.now) place partner number rows) }
-        ensures reads { Reads (state S.Store self.old.conn) (state S.Store self.new.conn) result }
+        ensures has { HasCleanDisk (state S.Store self.new.conn) → IsTrue (state S.Store self.new.conn).is_open →
+            IfOk result (λ has. (rows : Rows) → HasRows rows (state S.Store self.old.conn).committed →
+            AreKeptOnce rows.interchanges →
+            (has ≡ true) ↔ HasSealOf (register_content register.now) place partner number rows) }
+        ensures reads { OnlyReads (state S.Store self.old.conn) (state S.Store self.new.conn) result }
     {
         let is_idle = self.conn.is_autocommit();
         prove!(is_idle);

@@ -1,10 +1,9 @@
-ghost use Rattle.std.specs.Prelude.{◌≡◌, ◌<◌, ◌≤◌, ◌++◌, ℕ, [], ◌∷◌, IfOk, IsTrue, List, OnOk, length};
-ghost use Rattle.office_archives.specs.Shelves.{AreShelved, IsLastSound, IsOpenAt, IsOpenIfKnown, index_at, left_open, most_open, with_room};
-ghost use Rattle.office_closing.specs.{Register.register_content, Seals.HasSealOf};
-ghost use Rattle.office_history.specs.After.{AreKeptOnce};
+ghost use Rattle.std.specs.Prelude.{◌≡◌, ◌<◌, ◌≤◌, ◌++◌, ℕ, [], ◌∷◌, IfOk, IfSome, List, OnOk, length};
+ghost use Rattle.office_archives.specs.Shelves.{AreSealed, AreShelved, IsLastSound, IsOpenAt, IsOpenIfKnown, IsSealedIfSaid, IsTakenIf, LeavesOpen, OpensFor, index_at, most_open, with_room};
+ghost use Rattle.office_closing.specs.{Register.register_content, Seals.{HasSealOf, HasSeals}};
 ghost use Rattle.office_parts.specs.Archives.{Archive};
-ghost use Rattle.office_rows.specs.{Rows.Rows, Stored.HasRows};
-ghost use Rattle.sqlite.specs.{Held.state, State.HasCleanDisk};
+ghost use Rattle.office_tables.specs.DeliveryReading.{OnlyReads};
+ghost use Rattle.sqlite.specs.Held.{state};
 
 use crate::archives::Archives;
 use crate::former_store::closed_before;
@@ -34,11 +33,20 @@ pub trait Shelf<S: Alter> {
     ghost holds: { List Archive → Self → Type 0 };
 
     /// The archive at that place, the first at 1, of those that the store's register names, to be only read. Nothing on the
-    /// shelf changes.
+    /// shelf changes. Of an archive with seals nothing more is looked at than where it is.
     fn open(&mut self, names: &Register, place: u16) -> Result<Looked<S>, TableFault>
         ensures opened { IfOk result (λ archive. is_known place → (list : List Archive) → holds list self.old →
             IsOpenAt S.Store list place archive.conn) }
         ensures same { (list : List Archive) → holds list self.old → holds list self.new };
+
+    /// Whether what `open` gave for that place holds the store that the register names there, as far as no seal says so.
+    fn passes(
+        &self,
+        archive: &mut Looked<S>,
+        names: &Register,
+        place: u16,
+    ) -> Result<bool, TableFault>
+        ensures reads { OnlyReads (state S.Store archive.old.conn) (state S.Store archive.new.conn) result };
 }
 
 /// The archives of a store on a shelf. Those that were asked last stay open, up to four; then the one that was asked longest
@@ -73,14 +81,12 @@ impl<S: Alter + Drop, F: Shelf<S>> ManyArchives<S, F> {
     /// stay open as many as leave room for it.
     fn take_out(&mut self, place: u16) -> Result<Opened<S>, TableFault>
         ensures place { IfOk result (λ opened. opened.place ≡ place) }
-        ensures opened { IfOk result (λ opened. F.is_known place → (list : List Archive) →
-            AreShelved S.Store F.is_known F.holds list self.old.shelf self.old.register self.old.opened.items →
-            IsOpenAt S.Store list place opened.archive.conn) }
-        ensures left { self.new.opened.items ≡ left_open place self.old.opened.items }
-        ensures room { length self.old.opened.items ≤ most_open → length self.new.opened.items < most_open }
-        ensures same { (list : List Archive) →
-            AreShelved S.Store F.is_known F.holds list self.old.shelf self.old.register self.old.opened.items →
-            AreShelved S.Store F.is_known F.holds list self.new.shelf self.new.register self.new.opened.items }
+        ensures opened { IfOk result (λ opened. OpensFor S.Store F.is_known F.holds self.old.shelf self.old.register
+            self.old.opened.items place opened.archive.conn) }
+        ensures said { AreSealed S.Store (register_content self.old.register) self.old.opened.items →
+            IfOk result (IsSealedIfSaid S.Store (register_content self.old.register)) }
+        ensures leaves { LeavesOpen S.Store F.is_known F.holds place self.old.shelf self.new.shelf self.old.register
+            self.new.register self.old.opened.items self.new.opened.items }
     {
         match index_at(&self.opened, place) {
             Some(index) => Ok(self.opened.remove(index)),
@@ -96,62 +102,56 @@ impl<S: Alter + Drop, F: Shelf<S>> ManyArchives<S, F> {
         }
     }
 
-    /// The archive at a place, as `take_out` gives it, if it keeps what is sealed together with a partner's number: NO_ARCHIVE
-    /// if it keeps something else, and then it is closed.
-    fn take_with_seal(
+    /// The archive at a place, as `take_out` gives it, if it keeps what is sealed together with a partner's number. If not, it
+    /// is closed.
+    fn take_if_sealed(
         &mut self,
         place: u16,
         partner: u16,
         number: u32,
-    ) -> Result<Opened<S>, TableFault>
-        ensures place { IfOk result (λ opened. opened.place ≡ place) }
-        ensures sealed { IfOk result (λ opened. HasCleanDisk (state S.Store opened.archive.conn) →
-            IsTrue (state S.Store opened.archive.conn).is_open → (rows : Rows) →
-            HasRows rows (state S.Store opened.archive.conn).committed → AreKeptOnce rows.interchanges →
-            HasSealOf (register_content self.old.register) place partner number rows) }
-        ensures opened { IfOk result (λ opened. F.is_known place → (list : List Archive) →
-            AreShelved S.Store F.is_known F.holds list self.old.shelf self.old.register self.old.opened.items →
-            IsOpenAt S.Store list place opened.archive.conn) }
-        ensures left { self.new.opened.items ≡ left_open place self.old.opened.items }
-        ensures room { length self.old.opened.items ≤ most_open → length self.new.opened.items < most_open }
-        ensures same { (list : List Archive) →
-            AreShelved S.Store F.is_known F.holds list self.old.shelf self.old.register self.old.opened.items →
-            AreShelved S.Store F.is_known F.holds list self.new.shelf self.new.register self.new.opened.items }
+    ) -> Result<Option<Opened<S>>, TableFault>
+        ensures place { IfOk result (λ found. IfSome found (λ opened. opened.place ≡ place)) }
+        ensures sealed { IfOk result (IsTakenIf S.Store (OpensFor S.Store F.is_known F.holds self.old.shelf
+            self.old.register self.old.opened.items place)
+            (HasSealOf (register_content self.old.register) place partner number)) }
+        ensures said { AreSealed S.Store (register_content self.old.register) self.old.opened.items →
+            IfOk result (λ found. IfSome found (IsSealedIfSaid S.Store (register_content self.old.register))) }
+        ensures leaves { LeavesOpen S.Store F.is_known F.holds place self.old.shelf self.new.shelf self.old.register
+            self.new.register self.old.opened.items self.new.opened.items }
     {
         let mut opened = self.take_out(place)?;
         let has = opened
             .archive
             .has_seal_of(self.alloc, &self.register, place, partner, number)?;
-        if has {
-            Ok(opened)
-        } else {
-            Err(TableFault::Store(NO_ARCHIVE))
-        }
+        if has { Ok(Some(opened)) } else { Ok(None) }
     }
 
-    /// The archive at a place, as `take_out` gives it, if all its seals are right: NO_ARCHIVE if one is not, and then it is
-    /// closed. While it stays open they are looked at once.
-    fn take_with_seals(&mut self, place: u16) -> Result<Opened<S>, TableFault>
-        ensures place { IfOk result (λ opened. opened.place ≡ place) }
-        ensures opened { IfOk result (λ opened. F.is_known place → (list : List Archive) →
-            AreShelved S.Store F.is_known F.holds list self.old.shelf self.old.register self.old.opened.items →
-            IsOpenAt S.Store list place opened.archive.conn) }
-        ensures left { self.new.opened.items ≡ left_open place self.old.opened.items }
-        ensures room { length self.old.opened.items ≤ most_open → length self.new.opened.items < most_open }
-        ensures same { (list : List Archive) →
-            AreShelved S.Store F.is_known F.holds list self.old.shelf self.old.register self.old.opened.items →
-            AreShelved S.Store F.is_known F.holds list self.new.shelf self.new.register self.new.opened.items }
+    /// The archive at a place, as `take_out` gives it, if it has all its seals. If not, it is closed. While it stays open they are
+    /// looked at once. NO_ARCHIVE if it does not hold that store.
+    fn take_if_all_sealed(&mut self, place: u16) -> Result<Option<Opened<S>>, TableFault>
+        ensures place { IfOk result (λ found. IfSome found (λ opened. opened.place ≡ place)) }
+        ensures sealed { AreSealed S.Store (register_content self.old.register) self.old.opened.items →
+            IfOk result (IsTakenIf S.Store (OpensFor S.Store F.is_known F.holds self.old.shelf self.old.register
+            self.old.opened.items place) (HasSeals (register_content self.old.register) place)) }
+        ensures leaves { LeavesOpen S.Store F.is_known F.holds place self.old.shelf self.new.shelf self.old.register
+            self.new.register self.old.opened.items self.new.opened.items }
     {
         let mut opened = self.take_out(place)?;
         if opened.is_sealed {
-            return Ok(opened);
+            return Ok(Some(opened));
+        }
+        if !self
+            .shelf
+            .passes(&mut opened.archive, &self.register, place)?
+        {
+            return Err(TableFault::Store(NO_ARCHIVE));
         }
         let has = opened.archive.has_seals(self.alloc, &self.register, place)?;
         if has {
             opened.is_sealed = true;
-            Ok(opened)
+            Ok(Some(opened))
         } else {
-            Err(TableFault::Store(NO_ARCHIVE))
+            Ok(None)
         }
     }
 
@@ -161,6 +161,7 @@ impl<S: Alter + Drop, F: Shelf<S>> ManyArchives<S, F> {
         ensures same { (list : List Archive) →
             AreShelved S.Store F.is_known F.holds list self.old.shelf self.old.register self.old.opened.items →
             length self.old.opened.items < most_open → IsOpenIfKnown S.Store F.is_known list opened →
+            IsSealedIfSaid S.Store (register_content self.old.register) opened →
             AreShelved S.Store F.is_known F.holds list self.new.shelf self.new.register self.new.opened.items }
     {
         self.opened.push(opened)?;
@@ -194,7 +195,9 @@ impl<S: Alter + Drop, F: Shelf<S>> Archives for ManyArchives<S, F> {
         let Some(place) = self.register.archive_of(partner, number) else {
             return Err(TableFault::Damaged);
         };
-        let mut opened = self.take_with_seal(place, partner, number)?;
+        let Some(mut opened) = self.take_if_sealed(place, partner, number)? else {
+            return Err(TableFault::Store(NO_ARCHIVE));
+        };
         let found = opened.archive.kept(partner, number)?;
         self.put_back(opened)?;
         match found {
@@ -214,7 +217,9 @@ impl<S: Alter + Drop, F: Shelf<S>> Archives for ManyArchives<S, F> {
             return Err(TableFault::Damaged);
         };
         let closed = closed_before(alloc, &self.register, place)?;
-        let mut opened = self.take_with_seal(place, partner, number)?;
+        let Some(mut opened) = self.take_if_sealed(place, partner, number)? else {
+            return Err(TableFault::Store(NO_ARCHIVE));
+        };
         let ticket = opened
             .archive
             .ticket(alloc, &closed, code, partner, number)?;
@@ -229,7 +234,9 @@ impl<S: Alter + Drop, F: Shelf<S>> Archives for ManyArchives<S, F> {
         query: &Query,
     ) -> Result<Option<String>, TableFault> {
         let closed = closed_before(alloc, &self.register, place)?;
-        let mut opened = self.take_with_seals(place)?;
+        let Some(mut opened) = self.take_if_all_sealed(place)? else {
+            return Err(TableFault::Store(NO_ARCHIVE));
+        };
         let found = opened.archive.report(alloc, &closed, query)?;
         self.put_back(opened)?;
         Ok(found)

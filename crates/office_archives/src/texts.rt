@@ -96,7 +96,12 @@ fn write_archive<T: Alter + Drop, F: Shelf<T>, W: Write>(
     let before = closed_before(alloc, register, place)?;
     let after = closed_before(alloc, register, next)?;
     let mut archive = shelf.open(register, place)?;
-    if !archive.has_seals(alloc, register, place)? {
+    let passes = shelf.passes(&mut archive, register, place)?;
+    if !passes {
+        return Err(TableFault::Store(NO_ARCHIVE));
+    }
+    let has = archive.has_seals(alloc, register, place)?;
+    if !has {
         return Err(TableFault::Store(NO_ARCHIVE));
     }
     archive.write_part(alloc, &before, &after, rest, writer)

@@ -1,6 +1,7 @@
-use Rattle.std.{specs.{Prelude.remove, Option.unwrap_or}, proofs.Common.{◌≡◌, None, Some, ◌<◌, length, option_map, refl, sym, ap, subst, ◌∙◌}}
-use Rattle.office_archives.specs.Shelves.{IsOpenAt, IsOpenIfKnown, index_at, left_open, with_room}
-use Rattle.office_archives.proofs.Rising.{all_at, at_place, left_few, one_at, shelved_left}
+use Rattle.std.{specs.{Prelude.remove, Option.unwrap_or}, proofs.Common.{◌≡◌, None, Some, option_map, refl, sym, ap, subst, ◌∙◌}}
+use Rattle.office_closing.specs.Register.{register_content}
+use Rattle.office_archives.specs.Shelves.{IsOpenAt, IsOpenIfKnown, IsSealedIfSaid, index_at, left_open, with_room}
+use Rattle.office_archives.proofs.Rising.{all_at, at_place, leaves_open, one_at}
 use Rattle.office_archives.proofs.many_archives.ManyArchives.take_out.Goals as goal
 
 -- the one that is open
@@ -18,9 +19,8 @@ returns-in-Some g c =
       place = there;
       opened = λ known list are. subst (λ at. IsOpenAt g.S.Store list at one.archive.conn) there
           (all_at (IsOpenIfKnown g.S.Store g.F.Shelf.is_known list) items index one are.are_open (one_at g.S.Store place items index one found c.remove.ensures.value) (subst g.F.Shelf.is_known (sym there) known));
-      left = left;
-      room = λ few. subst (λ l. length l < 4) (sym left) (left_few g.S.Store place items few);
-      same = λ list are. shelved_left g.S.Store g.F.Shelf.is_known g.F.Shelf.holds list self.shelf self.shelf self.register self.register place items c.remove.new.self.items are refl are.on_shelf left;
+      said = λ are. all_at (IsSealedIfSaid g.S.Store (register_content self.register)) items index one are (one_at g.S.Store place items index one found c.remove.ensures.value);
+      leaves = leaves_open g.S.Store g.F.Shelf.is_known g.F.Shelf.holds self.shelf self.shelf self.register self.register place items c.remove.new.self.items refl (λ list holds. holds) left;
     }
 
 -- one that was opened
@@ -34,21 +34,15 @@ returns-in-None g c =
     record {
       place = refl;
       opened = λ known list are. c.in_ok-archive.ensures.opened known list are.on_shelf;
-      left = left;
-      room = λ few. subst (λ l. length l < 4) (sym left) (left_few g.S.Store place items few);
-      same = λ list are. shelved_left g.S.Store g.F.Shelf.is_known g.F.Shelf.holds list self.shelf c.open.new.self self.register self.register place items c.make_room.new.opened.items are refl (c.open.ensures.same list are.on_shelf) left;
+      said = λ are yes. absurd cc;
+      leaves = leaves_open g.S.Store g.F.Shelf.is_known g.F.Shelf.holds self.shelf c.open.new.self self.register self.register place items c.make_room.new.opened.items refl c.open.ensures.same left;
     }
 
-pub returns-in_err-archive-clause-left : goal.returns-in_err-archive-clause-left
-returns-in_err-archive-clause-left g c =
-    let items = c.args.self.now.opened.items in
-    let none : index_at c.args.place items ≡ None = ap (index_at c.args.place) (sym c.deref.ensures.value) ∙ sym c.index_at.ensures ∙ c.in-None.is in
-    c.make_room.ensures ∙ sym (ap (λ o. unwrap_or (option_map (remove items) o) (with_room items)) none)
-
-pub returns-in_err-archive-clause-room : goal.returns-in_err-archive-clause-room
-returns-in_err-archive-clause-room g c few = subst (λ l. length l < 4) (sym (returns-in_err-archive-clause-left g c)) (left_few g.S.Store c.args.place c.args.self.now.opened.items few)
-
-pub returns-in_err-archive-clause-same : goal.returns-in_err-archive-clause-same
-returns-in_err-archive-clause-same g c list are =
+pub returns-in_err-archive-clause-leaves : goal.returns-in_err-archive-clause-leaves
+returns-in_err-archive-clause-leaves g c =
     let self = c.args.self.now in
-    shelved_left g.S.Store g.F.Shelf.is_known g.F.Shelf.holds list self.shelf c.open.new.self self.register self.register c.args.place self.opened.items _ are refl (c.open.ensures.same list are.on_shelf) (returns-in_err-archive-clause-left g c)
+    let place = c.args.place in
+    let items = self.opened.items in
+    let none : index_at place items ≡ None = ap (index_at place) (sym c.deref.ensures.value) ∙ sym c.index_at.ensures ∙ c.in-None.is in
+    let left : c.make_room.new.opened.items ≡ left_open place items = c.make_room.ensures ∙ sym (ap (λ o. unwrap_or (option_map (remove items) o) (with_room items)) none) in
+    leaves_open g.S.Store g.F.Shelf.is_known g.F.Shelf.holds self.shelf c.open.new.self self.register self.register place items c.make_room.new.opened.items refl c.open.ensures.same left

@@ -1,0 +1,2 @@
+use Rattle.office_archive_files.proofs.shelf.FileShelf.is_sealed.Goals as goal
+
