@@ -2,8 +2,8 @@
 use Rattle.std.specs.{List.find, Option.{option_map, option_map_or, option_or}, Str.bytes_eq}
 use Rattle.std.proofs.Common.{◌≡◌, ◌&&◌, ◌||◌, ℕ, zero, suc, Bool, true, false, cond, IsTrue, List, [], ◌∷◌, get_or, codes, Option, Some, None, refl, sym, ap, ◌∙◌}
 use Rattle.edi_syntax.specs.{Moments.CivilMoment, Text.{Content, has_tag, component_of, element_of}}
-use Rattle.edi_messages.specs.{Orders.{digits_wanted, moment_of_length, moment_stated}, Parts.{is_qualified, states_moment}}
-use Rattle.edi_messages.specs.{Types.{type_named, message_type_of}, declared.message.MessageType.MessageType}
+use Rattle.edi_messages.specs.{Orders.{digits_wanted, moment_of_length, moment_stated}, Parts.{is_qualified, states_moment}, Types.{type_named, message_type_of}}
+use Rattle.edi_messages.specs.declared.message.MessageType.{MessageType}
 
 -- ---- what is kept of the first of what is sought
 

@@ -1,5 +1,4 @@
-ghost use Rattle.std.specs.{Option.option_map, Str.bytes_eq};
-ghost use Rattle.std.specs.Prelude.{◌≡◌, ◌++◌, ◌∷◌, ◌&&◌, [], codes, IfSome, IsSomeAnd, IfNone, None, Some, map, IfOk, IfErr, MatchResult, Ok, if◌then◌else◌};
+ghost use Rattle.std.specs.{Option.option_map, Prelude.{◌≡◌, ◌++◌, ◌∷◌, ◌&&◌, [], codes, IfSome, IsSomeAnd, IfNone, None, Some, map, IfOk, IfErr, MatchResult, Ok, if◌then◌else◌}, Str.bytes_eq};
 ghost use Rattle.edi_messages.specs.{ErrorCodes.message_error, Message.{line_of, lines_of, reading}, Owned.{call_content, line_content, message_content}};
 ghost use Rattle.edi_messages.specs.{Purposes.{kind_of, call_of}, Spans.{group_content, call_spanned, purpose_spanned}, Types.{type_named, message_type_of}};
 ghost use Rattle.edi_syntax.specs.{Segment.{content, value}, Frames.{message, message_segments_left}};

@@ -5,12 +5,12 @@ use Rattle.std.proofs.lemmas.Bool.{and_parts, true≢false, cases_Bool, le-leb, 
 use Rattle.std.proofs.lemmas.List.{drop_all, length-append, length-take, take-take, take_all, take-append-le, take_more, length-take-le, length-drop}
 use Rattle.edi_syntax.specs.Advice.{characters, advised_characters, may_be_used, default_service, service_with, has_advice, service_at, has_bad_advice, without_breaks}
 use Rattle.edi_syntax.specs.{Characters.{begins_with_advice, is_data_byte, is_tag_byte, is_release}, declared.characters.Service.Service, Tokens.token_of}
-use Rattle.edi_syntax.specs.{Positions.{position_by, position_after, is_refused, inside_by, stops, Reads, Keeps, StayInside}, declared.cutter.CutFault.CutFault}
+use Rattle.edi_syntax.specs.Positions.{position_by, position_after, is_refused, inside_by, stops, Reads, Keeps, StayInside}
 use Rattle.edi_syntax.specs.Cuts.{is_in_advice, breaks_advice, past_advice, position_of, fault_of, Cutting, is_whole, is_memory, pending_bytes, Answers, Fails, FaultsWithin, HasNoFault, IsOpen, IsOpenBefore, IsInterchange, Faults, FirstIsOne}
 use Rattle.edi_syntax.specs.{declared.position.Position.Position, declared.position.Position.TheVariants.{Between, First, Second, Tagged, Inside, Refused}}
-use Rattle.edi_syntax.{specs.declared.cutter.CutFault.TheVariants.{Segment, TooLong, Service as ServiceFault, Memory}, proofs.AdviceLemmas.same_service}
-use Rattle.edi_syntax.{specs.declared.token.Token.TheVariants.{Data, Release, Component, Element, Terminator, Invalid}, proofs.PositionLemmas.after_append}
-use Rattle.edi_syntax.proofs.SegmentsLemmas.{tag_is_no_break}
+use Rattle.edi_syntax.specs.{declared.cutter.CutFault.TheVariants.{Segment, TooLong, Service as ServiceFault, Memory}, declared.cutter.CutFault.CutFault}
+use Rattle.edi_syntax.{specs.declared.token.Token.TheVariants.{Data, Release, Component, Element, Terminator, Invalid}, proofs.AdviceLemmas.same_service}
+use Rattle.edi_syntax.proofs.{PositionLemmas.after_append, SegmentsLemmas.tag_is_no_break}
 use Rattle.edi_syntax.specs.Tokens as tokens
 use Rattle.edi_syntax.specs.Positions as positions
 

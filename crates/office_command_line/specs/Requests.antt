@@ -1,8 +1,8 @@
 -- What the words of a command line ask for.
 use Rattle.std.specs.{Prelude.{◌≡◌, ℕ, Bool, true, false, ◌&&◌, nat_le, List, [], Option, None, Some, codes, if◌then◌else◌}, Str.bytes_eq}
 use Rattle.std.specs.Option.{option_map, option_map_or, option_and_then}
-use Rattle.clap.specs.{Words.{Row, Text, first_of, subcommand_of, kind_of, fault_of, IsAmong}, declared.error.Error.Error}
-use Rattle.clap.specs.{declared.error.kind.ErrorKind.ErrorKind, declared.error.kind.ErrorKind.TheVariants.{DisplayHelp, DisplayVersion, OutOfMemory}}
+use Rattle.clap.specs.{Words.{Row, Text, first_of, subcommand_of, kind_of, fault_of, IsAmong}, declared.error.Error.Error, declared.error.kind.ErrorKind.ErrorKind}
+use Rattle.clap.specs.declared.error.kind.ErrorKind.TheVariants.{DisplayHelp, DisplayVersion, OutOfMemory}
 use Rattle.edi_syntax.specs.Numbers.{number_of}
 use Rattle.office_command_line.specs.{Commands.office_app, declared.command_reading.CommandFault.CommandFault, declared.command_reading.Request.Request}
 use Rattle.office_command_line.specs.declared.command_reading.CommandFault.TheVariants.{Words, Values, Memory}

@@ -9,7 +9,10 @@ use Rattle.edi_messages.specs.declared.codes.PartnerKind.{PartnerKind}
 use Rattle.partner_core.{specs.{Deliveries.{run, delivery}, Numbered.with_number}, proofs.Keepings.with_number-below}
 use Rattle.terminal_core.specs.State.{TerminalState}
 use Rattle.office_replies.specs.{Events.{Event, added}, declared.accounts.AccountAnswer.AccountAnswer, declared.accounts.AccountFault.TheVariants.Partner}
-use Rattle.office_replies.specs.{Bodies.answer_text, Contents.content_of, Delivering.{AreAnswered, LeadsOn, with_answered}, declared.deliver.Response.Response}
+use Rattle.office_replies.specs.Bodies.{answer_text}
+use Rattle.office_replies.specs.Contents.{content_of}
+use Rattle.office_replies.specs.Delivering.{AreAnswered, LeadsOn, with_answered}
+use Rattle.office_replies.specs.declared.deliver.Response.{Response}
 use Rattle.office_rows.specs.{Effects.with_partner, Rows.Rows, Stored.{HasRows, StoresRows}}
 use Rattle.office_admission.specs.{Kinds.kind_named, SetupAccounts.account_contents, Parties.{partner_codes, partner_from, partner_kinds}, Given.IsGiven}
 use Rattle.office_admission.specs.{declared.setup.Account.Account, PartyCodes.is_party_code, Setups.{SetupContent, setup_content, setup_with_account}}

@@ -28,8 +28,11 @@ use Rattle.terminal_core.specs.{State.{TerminalState, AreNumbered, IsWhole, last
 use Rattle.terminal_core.specs.Rows.{VisitContent, ChangeContent, visit_opened, visit_closed, placed_at, moved_to, removed_from, listed_on, line_done, unlisted}
 use Rattle.terminal_core.specs.{Changes.{TerminalRows, rows_of, rows_with, visit_with_departure, rows_with_all, IsApplicable, AreApplicable}, Versions.newest}
 use Rattle.terminal_core.proofs.Open.{kept_number}
-use Rattle.office_rows.{specs.{Rows.Rows, Values.{interchange_values, partner_values}, Stored.HasRows, Shown.{AreNexts, columns_at}}, proofs.Listed.unmapped}
-use Rattle.office_rows.specs.{Opened.{NumberKept, OpenedRows, Shows, number_kept}, Tables.partner_table as partners_table}
+use Rattle.office_rows.specs.Rows.{Rows}
+use Rattle.office_rows.specs.Values.{interchange_values, partner_values}
+use Rattle.office_rows.specs.Stored.{HasRows}
+use Rattle.office_rows.specs.Shown.{AreNexts, columns_at}
+use Rattle.office_rows.{specs.{Opened.{NumberKept, OpenedRows, Shows, number_kept}, Tables.partner_table as partners_table}, proofs.Listed.unmapped}
 use Rattle.partner_core.specs.Answers as told
 use Rattle.office_replies.specs.declared.deliver.Response.TheVariants as response
 use Rattle.office_replies.specs.declared.deliver.Worst.TheVariants as worst

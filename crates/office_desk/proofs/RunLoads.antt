@@ -16,7 +16,10 @@ use Rattle.office_history.proofs.{Afters.{once_with, pair_is, reply_with, text_w
 use Rattle.office_history.proofs.Ground.{OnGround, interchange_stays}
 use Rattle.office_parts.proofs.OwnOffices.{AreOfOwn, own_shown}
 use Rattle.office_desk.proofs.{DeliverLemmas.{keeps_accounts, interchange_keeps_own}, OwnNumbers.{KeepsBeyond, by_interchange}}
-use Rattle.partner_core.{specs.{Cascade.{TakesTexts, for_each_partner}, Machine.Taking, Order.{numbers_above, reply_among}}, proofs.Orders.some_of}
+use Rattle.partner_core.specs.Cascade.{TakesTexts, for_each_partner}
+use Rattle.partner_core.specs.Machine.{Taking}
+use Rattle.partner_core.specs.Order.{numbers_above, reply_among}
+use Rattle.partner_core.proofs.Orders.{some_of}
 
 -- ==== OfficeSteps: An office's rows in the order of their keys, and what is kept for later.
 

@@ -2,13 +2,16 @@
 use Rattle.std.specs.Str.{bytes_eq}
 use Rattle.std.proofs.Common.{◌≡◌, ℕ, zero, suc, false, Option, List, [], ◌∷◌, ◌++◌, take, drop, None, Some, refl, ap, subst, ◌∙◌, ◌⊎◌, Bool, true, cond, Result, Ok, Err, sym, inl, inr}
 use Rattle.edi_syntax.specs.{Characters.is_break, Reading.breaks_len, Advice.without_breaks, declared.cutter.CutFault.CutFault, Interchange.segments_in}
-use Rattle.edi_syntax.specs.{Cuts.{Cutting, pending_bytes, is_memory, IsInterchange, IsPending, Faults, Answers, FaultsWithin, Fails}, Text.Content}
+use Rattle.edi_syntax.specs.Cuts.{Cutting, pending_bytes, is_memory, IsInterchange, IsPending, Faults, Answers, FaultsWithin, Fails}
+use Rattle.edi_syntax.specs.Text.{Content}
 use Rattle.edi_syntax.specs.{declared.cutter.CutFault.TheVariants.{TooLong, Service as ServiceFault, Segment, Memory}, Envelope.header_of, Faults.fault_of}
 use Rattle.edi_syntax.{specs.{declared.interchange.SyntaxFault.SyntaxFault, Header.recipient}, proofs.{CutLemmas.nothing_open, PositionLemmas.no_breaks}}
 use Rattle.office_explain.specs.{Told.{BeginsWithInterchange, IsCutFor, code_to, kind_at}, Kinds.codes_of, Messages.IsFault}
 use Rattle.edi_messages.specs.{ErrorCodes.message_error, Message.MessageContent, declared.code.CodeTable.CodeTable, declared.codes.Codes.Codes}
 use Rattle.edi_messages.specs.{declared.codes.PartnerKind.PartnerKind, declared.message.MessageFault.MessageFault}
-use Rattle.office_admission.specs.{Admission.{by_header, by_recipient, number_in, sender_of}, Outcomes.IsAdmitted, Refusals.{HasNoContrl, error_of}}
+use Rattle.office_admission.specs.Admission.{by_header, by_recipient, number_in, sender_of}
+use Rattle.office_admission.specs.Outcomes.{IsAdmitted}
+use Rattle.office_admission.specs.Refusals.{HasNoContrl, error_of}
 use Rattle.office_admission.specs.{declared.admission.Admitted.Admitted, Parties.{Parties, parties_of, partner_kinds}, declared.setup.Setup.Setup}
 use Rattle.office_replies.specs.{declared.deliver.Fault.Fault, declared.deliver.Fault.TheVariants.WrongRecipient}
 

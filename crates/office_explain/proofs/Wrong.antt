@@ -1,8 +1,10 @@
 -- Fronts of the set-up files.
 use Rattle.std.proofs.Common.{◌≡◌, ◌≢◌, ℕ, ◌≤◌, ◌<◌, ◌-◌, ◌+◌, ◌++◌, List, [], ◌∷◌, length, take, map, refl, sym, ap, subst, ◌∙◌, arith, inr, append-nil, Option, None, Some, IfSome, MatchOption, All}
-use Rattle.std.proofs.{lemmas.List.{take-map, length-append, length-map}, lemmas.List.Elements.All-tail}
+use Rattle.std.proofs.lemmas.List.{take-map, length-append, length-map}
+use Rattle.std.proofs.lemmas.List.Elements.{All-tail}
 use Rattle.csv.specs.Records.{AllText}
-use Rattle.office_explain.specs.{Entries.Record, Wrong.{Shows, Brings, AreTexts, BeginsNoText, IsFirstNoText, IsRight, IsWrong}}
+use Rattle.office_explain.specs.Entries.{Record}
+use Rattle.office_explain.specs.Wrong.{Shows, Brings, AreTexts, BeginsNoText, IsFirstNoText, IsRight, IsWrong}
 use Rattle.office_explain.specs.{declared.setup_reading.SetupFault.SetupFault, declared.setup_reading.SetupFile.SetupFile}
 use Rattle.office_explain.specs.declared.setup_reading.SetupFault.TheVariants.{Csv}
 

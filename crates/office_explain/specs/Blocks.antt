@@ -1,9 +1,9 @@
 -- What is told of a file: of each of its interchanges, one after the other.
 use Rattle.std.specs.{Prelude.{◌≡◌, ◌<◌, ◌≤◌, ℕ, ◌+◌, Bool, List, [], ◌∷◌, length, take, drop, slice_range, codes, string_bytes}, List.list_all}
 use Rattle.edi_syntax.specs.Reading.{breaks_len}
-use Rattle.office_explain.specs.{Headings.ListsBlocks, Tallies.tally_said, Told.{Explains, is_faultless}, declared.explaining.Block.Block}
-use Rattle.office_explain.specs.{declared.explaining.Told.Told, declared.explaining.Told.TheVariants.{Cut, Refused, Read}, declared.partners.Partners.Partners}
-use Rattle.office_explain.specs.declared.explanation.Explanation.{Explanation}
+use Rattle.office_explain.specs.{Headings.ListsBlocks, Tallies.tally_said, Told.{Explains, is_faultless}, declared.explaining.Block.Block, declared.explaining.Told.Told}
+use Rattle.office_explain.specs.{declared.explaining.Told.TheVariants.{Cut, Refused, Read}, declared.explanation.Explanation.Explanation}
+use Rattle.office_explain.specs.declared.partners.Partners.{Partners}
 
 -- what can't be told apart is all that is left
 abbrev pub IsAllIfCut : Told → (end all : ℕ) → Type 0

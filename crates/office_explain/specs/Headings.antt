@@ -1,6 +1,7 @@
 -- What comes before all else that is said of an interchange, and in which order.
 use Rattle.std.specs.Prelude.{◌≡◌, ◌++◌, ◌+◌, ℕ, List, [], ◌∷◌, codes, decimal}
-use Rattle.office_explain.specs.{declared.explaining.Block.Block, declared.explaining.Told.Told, declared.explaining.Told.TheVariants.{Cut, Refused, Read}}
+use Rattle.office_explain.specs.{declared.explaining.Block.Block, declared.explaining.Told.Told}
+use Rattle.office_explain.specs.declared.explaining.Told.TheVariants.{Cut, Refused, Read}
 
 -- how an interchange fares; of one that is read with the number that its sender gave it
 abbrev pub faring_said : Told → List ℕ

@@ -1,6 +1,7 @@
 //! What is printed of a whole file.
 ghost use Rattle.std.specs.Prelude.{◌≡◌, ◌++◌, IfOk, OnOk, string_bytes};
-ghost use Rattle.office_explain.specs.{Blocks.{AreBlocks, IsExplanation, Says, are_faultless, none_said}, Headings.ListsBlocks, Told.is_faultless};
+ghost use Rattle.office_explain.specs.{Blocks.{AreBlocks, IsExplanation, Says, are_faultless, none_said}};
+ghost use Rattle.office_explain.specs.{Headings.ListsBlocks, Told.is_faultless};
 ghost use Rattle.office_explain.specs.Tallies.{advice_for, count_of, is_cut, is_faulty, is_refused, plural, tally_line, tally_said};
 
 use crate::explaining::{Block, explain_from};

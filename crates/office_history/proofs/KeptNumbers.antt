@@ -5,14 +5,17 @@ use Rattle.std.proofs.Common.{◌≡◌, ℕ, List, [], ◌∷◌, ◌++◌, Non
 use Rattle.std.proofs.lemmas.Bool.{cases_order, eq-eqb, ne_eqb, cond-true, cond-false}
 use Rattle.std.proofs.lemmas.List.Sorted.{IsPermutation-sym, Contains-permutation, sum_by-IsPermutation}
 use Rattle.partner_core.specs.{ByPlace.{taken_by_place, AreNumbered, FoldsByPlace}, Deliveries.Delivery, Machine.Taking, Order.{state, reply_of}}
-use Rattle.partner_core.proofs.{ByPlace.rules_by_place, Orders.option_or-none}
+use Rattle.partner_core.proofs.ByPlace.{rules_by_place}
+use Rattle.partner_core.proofs.Orders.{option_or-none}
 use Rattle.terminal_core.specs.{Changes.rows_of, Versions.newest, declared.change.Version.Version, declared.change.Version.TheVariants.{First, Second, Third}}
 use Rattle.terminal_core.proofs.{Indexed.{found_is, one_place}, Whole.contained}
 use Rattle.office_replies.specs.Events.{Event, migrated}
 use Rattle.office_admission.specs.{Setups.SetupContent, Accounts.content_after, Admission.number_said, Deliveries.deliveries_of}
 use Rattle.office_admission.{specs.Taking.{MachineState, interchange_taken_by}, proofs.Adding.{content_on, migration_adds}}
 use Rattle.office_rows.specs.{Rows.{Rows, Partner, Interchange}, Migrated.{migrated_settings, migrated_rows}, Opening.settings_in, Effects.is_pair}
-use Rattle.office_rows.specs.{Values.{number_value, interchange_values}, Opened.{NumberKept, number_kept}, Office.{AreAccounts, AreKept}}
+use Rattle.office_rows.specs.Values.{number_value, interchange_values}
+use Rattle.office_rows.specs.Opened.{NumberKept, number_kept}
+use Rattle.office_rows.specs.Office.{AreAccounts, AreKept}
 use Rattle.office_history.specs.After.{opening_of, migration_in, taking_in, AreRowsOf, AreAfterBy, AreAfter, AreKeptOnce, accounts_from, reply_if_any, reply_in}
 use Rattle.office_history.{specs.{Laws.MigrationGoesOn, Cascade.text_in}, proofs.Places.{numbered, taking_unmigrated, taking_migrated, moved}}
 use Rattle.office_history.proofs.Kept.{taken_by, Rise, Has, IsWithinRuns, IsComplete, all_kept, fewer, found_only, head_in, tail_in}

@@ -1,10 +1,19 @@
 -- The interchanges of an office: no number of a partner has two.
-use Rattle.std.{specs.Prelude.count_by, proofs.lemmas.List.Sorted.{IsPermutation-trans, sum_by-IsPermutation}}
+use Rattle.std.specs.Prelude.{count_by}
+use Rattle.std.proofs.lemmas.List.Sorted.{IsPermutation-trans, sum_by-IsPermutation}
 use Rattle.std.proofs.Common.{◌≡◌, ℕ, ◌+◌, ◌*◌, ◌-◌, ◌<◌, ◌≤◌, List, [], ◌∷◌, ◌++◌, map, true, cond, refl, ap, ap₂, subst, ◌∙◌}
 use Rattle.sqlite.specs.{Order.column, Effect.Database}
-use Rattle.office_rows.{specs.{Rows.{Interchange, Rows}, Values.interchange_values, Stored.HasRows, Effects.is_pair, Shown.columns_at}, proofs.Listed.unmapped}
+use Rattle.office_rows.specs.Rows.{Interchange, Rows}
+use Rattle.office_rows.specs.Values.{interchange_values}
+use Rattle.office_rows.specs.Stored.{HasRows}
+use Rattle.office_rows.specs.Effects.{is_pair}
+use Rattle.office_rows.specs.Shown.{columns_at}
 use Rattle.office_rows.specs.Opened.{NumberKept, OpenedRows, Shows, number_kept, reply_values}
-use Rattle.office_history.{specs.After.AreKeptOnce, proofs.{Kept.{Rises, one_at}, Loads.{number_one, text_one}, Runs.pair_of}}
+use Rattle.office_rows.proofs.Listed.{unmapped}
+use Rattle.office_history.specs.After.{AreKeptOnce}
+use Rattle.office_history.proofs.Kept.{Rises, one_at}
+use Rattle.office_history.proofs.Loads.{number_one, text_one}
+use Rattle.office_history.proofs.Runs.{pair_of}
 
 -- ---- what is kept, in the order of partners and numbers
 

@@ -1,7 +1,7 @@
 -- What becomes of a connection by several steps.
 use Rattle.std.proofs.{Common.{◌≡◌, ◌≤◌, ◌∙◌, ◌++◌, ℕ, List, [], refl, ap, sym, subst, append_assoc, arith}, lemmas.List.append-nil}
-use Rattle.office_http.specs.{Lines.{HasGrown, IsAdvanced, IsGivenUp, IsHeard, IsParted, IsSamePeer, IsTold}, declared.line.Asking.Asking}
-use Rattle.office_http.specs.{declared.line.Line.Line, declared.line.Peer.Peer}
+use Rattle.office_http.specs.Lines.{HasGrown, IsAdvanced, IsGivenUp, IsHeard, IsParted, IsSamePeer, IsTold}
+use Rattle.office_http.specs.{declared.line.Asking.Asking, declared.line.Line.Line, declared.line.Peer.Peer}
 use Rattle.office_http.specs.declared.line.Line.TheVariants as line
 
 -- ---- the same connection

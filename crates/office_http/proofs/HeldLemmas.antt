@@ -1,6 +1,6 @@
 -- What is held for the connections at the keys so far.
-use Rattle.std.{specs.List.sum_by, proofs.{Common.{◌≡◌, ℕ, ◌+◌, ◌≤◌, List, length, take, get_or, Option, None, inl, inr, refl, arith}, lemmas.Bool.cases_order}}
-use Rattle.std.proofs.{lemmas.List.{get_or_past, take_all}, lemmas.List.Sums.sum_by_more}
+use Rattle.std.proofs.{Common.{◌≡◌, ℕ, ◌+◌, ◌≤◌, List, length, take, get_or, Option, None, inl, inr, refl, arith}, lemmas.{Bool.cases_order, List.get_or_past, List.take_all, List.Sums.sum_by_more}}
+use Rattle.std.specs.List.{sum_by}
 use Rattle.office_http.specs.{Lines.held_at, declared.line.Line.Line}
 
 past : (slots : List (Option Line)) (key : ℕ) → length slots ≤ key →

@@ -1,10 +1,10 @@
 -- Connections that wait side by side, each by what is awaited of it (our own).
-use Rattle.std.specs.Prelude.{◌≡◌, ◌≤◌, ◌⊎◌, ℕ, ◌+◌, ◌-◌, nat_le, ◌++◌, Bool, true, false, min, max, List, [], take, Option, None, Some, Result, Ok, Err, if◌then◌else◌}
-use Rattle.std.specs.{Vec.vec_capacity, List.sum_by, Option.option_map_or, Time.instant_nanos, declared.time.Instant.Instant}
+use Rattle.std.specs.{Prelude.{◌≡◌, ◌≤◌, ◌⊎◌, ℕ, ◌+◌, ◌-◌, nat_le, ◌++◌, Bool, true, false, min, max, List, [], take, Option, None, Some, Result, Ok, Err, if◌then◌else◌}, Vec.vec_capacity}
 use Rattle.slab.specs.Slab.{Slab, Updates, get, slab_len}
-use Rattle.office_http.specs.{Deadlines.{nanos_left, request_seconds}, Held.most_held, declared.deadline.Deadline.Deadline, declared.line.Asking.Asking}
-use Rattle.office_http.specs.{declared.line.Line.Line, declared.line.Peer.Peer, declared.line.Ready.Ready, declared.told.Parting.Parting}
-use Rattle.office_http.specs.{declared.told.Telling.Telling, declared.wanted.Tail.TheVariants.Late}
+use Rattle.std.specs.{List.sum_by, Option.option_map_or, Time.instant_nanos, declared.time.Instant.Instant}
+use Rattle.office_http.specs.{Deadlines.{nanos_left, request_seconds}, Held.most_held, declared.deadline.Deadline.Deadline, declared.line.Asking.Asking, declared.line.Line.Line}
+use Rattle.office_http.specs.{declared.line.Peer.Peer, declared.line.Ready.Ready, declared.told.Parting.Parting, declared.told.Telling.Telling}
+use Rattle.office_http.specs.declared.wanted.Tail.TheVariants.{Late}
 use Rattle.office_http.specs.declared.line.Line.TheVariants as line
 
 -- ---- what is known of one

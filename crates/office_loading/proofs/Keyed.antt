@@ -6,8 +6,10 @@ use Rattle.std.proofs.lemmas.Option.{same_Some, slice_get_within}
 use Rattle.edi_messages.specs.{declared.codes.PartnerKind.PartnerKind, Purposes.CallContent, Owned.call_content}
 use Rattle.office_rows.specs.{Rows.{Partner, PlaceContent, listing_content}, Opened.NumberKept, Office.{taken_numbers, AreWaiting, AreKept, AreAccounts}}
 use Rattle.office_rows.specs.{Effects.{stands_for, is_line}, ByKey.{standing_by, line_entry, lines_by, ArePlacedOnce, AreListedOnce}}
-use Rattle.office_loading.{specs.{Checks.numbers_beyond, Contents.{number_content, place_content}, OwnOffice.{IsInOrder, AreInOrder}}, proofs.Kept.next_of}
-use Rattle.office_loading.specs.declared.numbers.NumberRow.{NumberRow}
+use Rattle.office_loading.specs.Checks.{numbers_beyond}
+use Rattle.office_loading.specs.Contents.{number_content, place_content}
+use Rattle.office_loading.specs.OwnOffice.{IsInOrder, AreInOrder}
+use Rattle.office_loading.{specs.declared.numbers.NumberRow.NumberRow, proofs.Kept.next_of}
 use Rattle.box6346.specs.declared.box_number.BoxNumber.{BoxNumber}
 use Rattle.terminal_core.specs.{declared.lines.Listing.Listing, declared.change.Place.Place, declared.lines.Side.Side, declared.visits.Visit.Visit}
 use Rattle.terminal_core.specs.{declared.lines.Side.TheVariants.{Load, Discharge}, Rows.visit_content, State.{line_key, side_code}, Restoring.AreOnce}

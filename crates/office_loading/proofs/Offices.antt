@@ -8,10 +8,11 @@ use Rattle.terminal_core.specs.{State.{AreNumbered, TerminalState, LineContent, 
 use Rattle.terminal_core.specs.{declared.restoring.RestoreFault.TheVariants.{Unsound, Memory}, declared.lines.Side.Side, Forms.IsFormedLine}
 use Rattle.terminal_core.{specs.{Listings.{line_content, key_of, lines_of}, Restoring.AreRowsOf}, proofs.{Formed.{by_key_lists, lists_by_key}, Whole.contained}}
 use Rattle.terminal_core.proofs.Lined.{line_first, line_none}
-use Rattle.office_loading.specs.{Checks.{visits_after, AreOwnVisits, taken_beyond, AreKeptBeyond}, Accounts.{accounts_in, AreWholeAccounts}, Said.AreSettings}
+use Rattle.office_loading.specs.Checks.{visits_after, AreOwnVisits, taken_beyond, AreKeptBeyond}
+use Rattle.office_loading.specs.Accounts.{accounts_in, AreWholeAccounts}
 use Rattle.office_loading.specs.Formed.{MayFollow, IsSoundVisit, IsSoundLine, AreSoundVisits, AreSoundLines, AreByLetter, AreTerminal, RefusesTerminal}
 use Rattle.office_loading.specs.{Closed.{ClosedContent, nothing_closed}, Contents.{partner_content, number_content, setting_content, opened_rows}}
-use Rattle.office_loading.specs.{OwnOffice.{AreOwnNumbers, IsOwnOffice, IsClosedBelow, NothingClosedIsAnOffice}, Refusals.RefusesTables}
+use Rattle.office_loading.specs.{OwnOffice.{AreOwnNumbers, IsOwnOffice, IsClosedBelow, NothingClosedIsAnOffice}, Said.AreSettings, Refusals.RefusesTables}
 use Rattle.office_loading.specs.{declared.restoring.OpenedTables.OpenedTables, declared.numbers.PartnerRow.PartnerRow}
 use Rattle.office_loading.proofs.Kept.{next_of, accounts_are, each_mapped, limit_so}
 use Rattle.office_loading.proofs.Keyed.{placed_once, typed_placed_once, listed_once, typed_listed_once, rows_same, first_or_none, key_is, side_is, line_there, kept_in_order, all_beyond}

@@ -4,7 +4,11 @@ use Rattle.std.proofs.Common.{◌≡◌, ◌==◌, ℕ, not, List, [], ◌∷◌
 use Rattle.std.proofs.{lemmas.List.{length-map, map-append}, lemmas.List.Sorted.{length_permutation, IsPermutation-sym, Contains-permutation}}
 use Rattle.std.proofs.lemmas.List.Concat.{flat_map-append}
 use Rattle.sqlite.specs.{declared.types.Value.Value, declared.types.Value.TheVariants.{Null, Int, Blob}, Order.{Row, column, value_cmp}, Ops.{binary, is_true}}
-use Rattle.sqlite.specs.{Tree.{Trees, rowid}, Collation.TheVariants.Binary, Term.{Term, col, op2}, Query.{Query, Output, IsAnswer}, Program.overlay}
+use Rattle.sqlite.specs.Tree.{Trees, rowid}
+use Rattle.sqlite.specs.Collation.TheVariants.{Binary}
+use Rattle.sqlite.specs.Term.{Term, col, op2}
+use Rattle.sqlite.specs.Query.{Query, Output, IsAnswer}
+use Rattle.sqlite.specs.Program.{overlay}
 use Rattle.sqlite.specs.{Command.Command, Command.TheVariants.Select, Listing.{understood, reads_listing}, State.{State, Shown, IsUnchanged, Begins}}
 use Rattle.sqlite.specs.{Effect.{Database, Reads, ReadsFirst}, Held.{Held, state}, Given.{HasGiven, Advances}}
 use Rattle.sqlite.proofs.Callers.{IsPlain, command_of, reads_as, given_begin, begins_as, unchanged_then}

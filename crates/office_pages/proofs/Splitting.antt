@@ -1,9 +1,12 @@
 -- The pieces of a text between bytes of one kind: its lines, and the words of a line.
-use Rattle.std.{specs.List.{join_by, onto_first, flat_map, slice_split}, proofs.{lemmas.Bool.{ne_eqb, cases_Bool}, lemmas.List.append-nil}}
+use Rattle.std.specs.List.{join_by, onto_first, flat_map, slice_split}
+use Rattle.std.proofs.lemmas.Bool.{ne_eqb, cases_Bool}
 use Rattle.std.proofs.Common.{◌≡◌, ◌≢◌, ℕ, ◌<◌, ◌==◌, false, List, [], ◌∷◌, ◌++◌, length, get_or, inl, inr, refl, sym, ap, ◌∙◌, append_assoc, eq-eqb, true, ◌&&◌, Err, if◌then◌else◌}
-use Rattle.std.proofs.{lemmas.List.Elements.All-from_get_or, lemmas.List.Splits.{slice_split_none, slice_split_at, slice_split-cons_yes, slice_split-cons_no}}
+use Rattle.std.proofs.{lemmas.List.append-nil, lemmas.List.Elements.All-from_get_or}
+use Rattle.std.proofs.lemmas.List.Splits.{slice_split_none, slice_split_at, slice_split-cons_yes, slice_split-cons_no}
 use Rattle.office_pages.specs.{Pages.count_view, Words.lines}
-use Rattle.box6346.specs.{ContainerNumber.number_of, NumberText.has_form}
+use Rattle.box6346.specs.ContainerNumber.{number_of}
+use Rattle.box6346.specs.NumberText.{has_form}
 use Rattle.box6346.specs.declared.box_number.NumberFault.TheVariants as fault
 
 module _ (c : ℕ) where

@@ -1,8 +1,10 @@
 -- What is away stays away.
-use Rattle.std.specs.{Prelude.{filter, find, not, ◌&&◌, ◌==◌, IsPermutation}, Option.{option_map, option_or}, Str.bytes_eq, Cmp.Lexicographic.bytes_decides}
-use Rattle.std.proofs.{lemmas.Bool.{and_parts, eqb-true, eq-eqb, cond-true, cases_eq}, lemmas.List.{append-nil, length-map}}
+use Rattle.std.specs.Prelude.{filter, find, not, ◌&&◌, ◌==◌, IsPermutation}
+use Rattle.std.specs.Option.{option_map, option_or}
+use Rattle.std.specs.Str.{bytes_eq}
+use Rattle.std.{specs.Cmp.Lexicographic.bytes_decides, proofs.lemmas.Bool.{and_parts, eqb-true, eq-eqb, cond-true, cases_eq}}
 use Rattle.std.proofs.Common.{◌≡◌, ℕ, ◌+◌, List, [], ◌∷◌, ◌++◌, map, Bool, true, false, cond, Option, None, Some, refl, sym, ap, subst, ◌∙◌, arith, ◌<◌, ◌≤◌, inl, inr, length}
-use Rattle.std.proofs.lemmas.List.Elements.{filter-append, All-from_recursion, recursion_from_All}
+use Rattle.std.proofs.{lemmas.List.{append-nil, length-map}, lemmas.List.Elements.{filter-append, All-from_recursion, recursion_from_All}}
 use Rattle.std.proofs.lemmas.List.Sorted.{IsPermutation-sym, IsPermutation-trans, All-permutation}
 use Rattle.box6346.specs.declared.box_number.BoxNumber.{BoxNumber}
 use Rattle.edi_messages.specs.Purposes.{CallContent}

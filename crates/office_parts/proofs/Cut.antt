@@ -7,7 +7,8 @@ use Rattle.edi_syntax.specs.{Characters.{is_break, begins_with_advice}, Intercha
 use Rattle.edi_syntax.specs.{Advice.{advised_characters, may_be_used, service_at, has_bad_advice, behind_advice, without_breaks}, Faults.fault_of}
 use Rattle.edi_syntax.specs.{Text.{Content, has_tag, SegmentText, SegmentsText}, Reading.{breaks_len, segments_of, are_segments}, Bytes.line_feed}
 use Rattle.edi_syntax.specs.{Envelope.{header_of, trailer_of}, Positions.{is_refused, GoesOn, Closes, SegmentsBehindBreaks}, Streams.{HasNone, AreCuts}}
-use Rattle.edi_syntax.specs.{Cuts.{past_advice, position_of, is_whole, IsOpen, IsOpenBefore, IsInterchange}, declared.position.Position.Position}
+use Rattle.edi_syntax.specs.Cuts.{past_advice, position_of, is_whole, IsOpen, IsOpenBefore, IsInterchange}
+use Rattle.edi_syntax.specs.declared.position.Position.{Position}
 use Rattle.edi_syntax.specs.declared.position.Position.TheVariants.{Between, First, Second, Tagged, Inside, Refused}
 use Rattle.edi_syntax.{specs.declared.interchange.SyntaxFault.SyntaxFault, proofs.SegmentsLemmas.{segments_sound, breaks_at, no_break_before, at_end_is}}
 use Rattle.edi_syntax.proofs.{CutLemmas.{no_fault, nothing_open}, PositionLemmas.{refused_where_nothing_goes_on, closed_where_a_trailer_ends}}

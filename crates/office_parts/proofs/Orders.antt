@@ -1,5 +1,8 @@
 -- An order at the store's own terminal, beside the visits that were put away.
-use Rattle.std.{specs.{Prelude.{find, count_by, filter}, Option.{option_map, option_and_then, option_or}, List.AllByRecursion}, proofs.lemmas.Bool.cases_order}
+use Rattle.std.specs.Prelude.{find, count_by, filter}
+use Rattle.std.specs.Option.{option_map, option_and_then, option_or}
+use Rattle.std.specs.List.{AllByRecursion}
+use Rattle.std.proofs.lemmas.Bool.{cases_order}
 use Rattle.std.proofs.lemmas.List.Folds.{find-append}
 use Rattle.std.proofs.Common.{◌≡◌, ℕ, ◌+◌, List, [], ◌∷◌, Bool, true, false, cond, Option, None, Some, Result, Ok, Err, refl, sym, ap, ◌∙◌, arith, nat_le, ◌<◌, ◌≤◌, inl, inr, ◌++◌, is_some, subst, ◌⊎◌, map}
 use Rattle.box6346.specs.{declared.box_number.BoxNumber.BoxNumber, declared.slot.Slot.Slot}

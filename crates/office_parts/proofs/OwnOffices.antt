@@ -1,7 +1,10 @@
 -- Rows of which some were put away: what a database shows of them are a store's own.
-use Rattle.std.specs.{Prelude.{Contains, codes, count_by, filter, not, nat_le}, List.AllByRecursion, List.Sorted.IsPermutation}
-use Rattle.std.proofs.{lemmas.Bool.{leb-true, leb-false}, lemmas.List.Elements.{All-cons, All-nil}}
+use Rattle.std.specs.Prelude.{Contains, codes, count_by, filter, not, nat_le}
+use Rattle.std.specs.List.{AllByRecursion}
+use Rattle.std.specs.List.Sorted.{IsPermutation}
+use Rattle.std.proofs.lemmas.Bool.{leb-true, leb-false}
 use Rattle.std.proofs.Common.{◌≡◌, suc, ◌⊎◌, ℕ, ◌+◌, ◌<◌, ◌≤◌, inl, inr, List, [], ◌∷◌, length, map, All, Bool, true, false, cond, refl, sym, ap, subst, ◌∙◌, arith, Equal}
+use Rattle.std.proofs.lemmas.List.Elements.{All-cons, All-nil}
 use Rattle.std.proofs.lemmas.List.Sorted.{IsPermutation-refl, IsPermutation-sym, Contains-permutation, sum_by-IsPermutation}
 use Rattle.sqlite.specs.Effect.{Database}
 use Rattle.edi_messages.specs.declared.codes.PartnerKind.{PartnerKind}

@@ -1,7 +1,10 @@
 -- Lists that are split in two by a test, of which one at most passes another.
 use Rattle.std.specs.{Prelude.{Contains, find, filter, not, count_by, ◌==◌}, Option.option_or, List.AllByRecursion, Str.bytes_eq}
 use Rattle.std.proofs.Common.{◌≡◌, ◌⊎◌, ℕ, ◌+◌, ◌≤◌, inl, inr, List, [], ◌∷◌, ◌++◌, map, Bool, true, false, cond, Option, None, Some, is_some, zero, suc, refl, sym, ap, ap₂, subst, ◌∙◌, arith, ◌<◌, is_none, length}
-use Rattle.std.proofs.{lemmas.List.Sums.sum_by-append, lemmas.Option.same_Some, lemmas.Bool.{and_parts, eqb-true}, lemmas.List.Elements.filter-append}
+use Rattle.std.proofs.lemmas.List.Sums.{sum_by-append}
+use Rattle.std.proofs.lemmas.Option.{same_Some}
+use Rattle.std.proofs.lemmas.Bool.{and_parts, eqb-true}
+use Rattle.std.proofs.lemmas.List.Elements.{filter-append}
 use Rattle.office_history.proofs.Kept.{head_in, tail_in, count_more}
 use Rattle.box6346.specs.declared.box_number.BoxNumber.{BoxNumber}
 use Rattle.terminal_core.specs.{declared.visits.Departure.Departure, State.{is_open_visit, last_from, last_number, AreNumbered}, Step.closed_visit}

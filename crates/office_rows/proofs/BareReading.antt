@@ -2,7 +2,9 @@
 use Rattle.std.proofs.Common.{◌≡◌, ℕ, List, [], ◌∷◌, codes, false, refl}
 use Rattle.sqlite.{specs.{Term.{Term, col, lit}, Command.TheVariants.Select, Listing.{understood, reads_listing}}, proofs.Callers.{IsPlain, command_of}}
 use Rattle.sqlite_tied.specs.Compute.{everything}
-use Rattle.office_rows.{specs.{Values.number_value, Layouts.bare_schema}, proofs.WriteLemmas.rows_of}
+use Rattle.office_rows.specs.Values.{number_value}
+use Rattle.office_rows.specs.Layouts.{bare_schema}
+use Rattle.office_rows.proofs.WriteLemmas.{rows_of}
 use Rattle.office_rows.proofs.Reading as texts
 
 pub select_partner_is : (command_of (understood bare_schema texts.select_partner) ≡ Select (record { lets = []; body = record (rows_of 0 [] texts.select_partner_shown) { order = texts.select_partner_order } }) texts.select_partner_names) × (reads_listing bare_schema texts.select_partner ≡ false)

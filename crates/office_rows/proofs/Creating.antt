@@ -8,10 +8,16 @@ use Rattle.sqlite_trees.{specs.{Tree.{rowid, has_rowid, put_row, without_rowid},
 use Rattle.sqlite_trees.proofs.ListLemmas.{filter_all, filter_same, all_of, ascending-filter, all-filter}
 use Rattle.sqlite_rules.{specs.{Lists.Has, Edit.{id_in, put_all, without_all, is_taken, are_fresh, have_rowids}}, proofs.TableLemmas.int_is}
 use Rattle.sqlite_rules.proofs.{ListLemmas.{all_has, all_from, some_has, some_from, has_filtered, has_kept, has_contained, contains_had}, PlaceLemmas.tied_same}
-use Rattle.sqlite.specs.{State.{State, Shows, IsUnchanged, IsRolledBack, KeepsCommit, Survives}, Effect.Database, Listing.understood, Compile.table_defined_by}
-use Rattle.sqlite.{specs.Command.TheVariants.CreateTable, proofs.{StateLemmas.survives_then, Callers.{IsPlain, command_of, statement_of}}}
-use Rattle.office_rows.specs.{Stored.{HasRows, StoresRows}, Rows.Rows, Steps.{Steps, Turns}, Opening.{partners_from, setting_row, settings_named}}
+use Rattle.sqlite.specs.State.{State, Shows, IsUnchanged, IsRolledBack, KeepsCommit, Survives}
+use Rattle.sqlite.specs.Effect.{Database}
+use Rattle.sqlite.specs.Listing.{understood}
+use Rattle.sqlite.specs.Command.TheVariants.{CreateTable}
+use Rattle.sqlite.{specs.Compile.table_defined_by, proofs.{StateLemmas.survives_then, Callers.{IsPlain, command_of, statement_of}}}
+use Rattle.office_rows.specs.Stored.{HasRows, StoresRows}
+use Rattle.office_rows.specs.Rows.{Rows}
+use Rattle.office_rows.specs.Steps.{Steps, Turns}
 use Rattle.office_rows.specs.Tables.{partner_table, interchange_table, visit_table, place_table, listing_table, setting_table, block_table, no_schema, schema_of}
+use Rattle.office_rows.specs.Opening.{partners_from, setting_row, settings_named}
 use Rattle.sqlite_tied.specs.Compute.{everything}
 use Rattle.edi_messages.specs.declared.codes.PartnerKind.{PartnerKind}
 use Rattle.sqlite_trees.specs.declared.store.Shape.TheVariants as shape

@@ -1,12 +1,21 @@
 -- From what a statement means to the rows of its table.
-use Rattle.std.specs.{List.{flat_map, filter_map, list_all}, List.Sorted.IsPermutation, Str.bytes_eq, Ordering.{nat_cmp, on}, Prelude.IsSorted}
+use Rattle.std.specs.List.{flat_map, filter_map, list_all}
+use Rattle.std.specs.List.Sorted.{IsPermutation}
+use Rattle.std.specs.Str.{bytes_eq}
+use Rattle.std.specs.Ordering.{nat_cmp, on}
+use Rattle.std.specs.Prelude.{IsSorted}
 use Rattle.std.{specs.Cmp.Lexicographic.slice_cmp, proofs.{lemmas.Bool.cases_Bool, lemmas.Bool.Decides.nat_tests, lemmas.Int.ints}}
 use Rattle.std.proofs.Common.{◌≡◌, ◌≢◌, ◌⊎◌, ℕ, ◌==◌, ℤ, pos, negsuc, inl, inr, List, [], ◌∷◌, map, filter, slice_get, Bool, true, false, cond, Some, None, Result, Ok, Err, refl, sym, ap, subst, ◌∙◌, length, ◌/◌, arith, is_eq, is_lt, int_cmp, fold, MatchBool, if◌then◌else◌, ◌++◌, append-nil, drop, not}
 use Rattle.std.proofs.{lemmas.List.Sorted.{IsPermutation-map, IsPermutation-trans, IsPermutation-cons, IsPermutation-middle}, lemmas.Map.Text.is_eq-slice_cmp}
-use Rattle.sqlite.specs.{Collation.TheVariants.Binary, declared.types.Value.Value, declared.types.Value.TheVariants.{Null, Int, Text}, Order.Row, Table.Table}
-use Rattle.sqlite.specs.{Term.{Term, lit, eval_all, holds}, Ops.{unary, binary, is_true}, Query.{Query, inner, end, IsAnswer, output, Output, key_cmp}}
-use Rattle.sqlite.specs.{Program.overlay, Kind.TheVariants.Integer, Source.TheVariants.Values, Command.TheVariants.{Insert, Update, Delete}, Tree.Trees}
-use Rattle.sqlite.specs.{Effect.{Database, IsDatabase, value_rows}, Does.{Tally, Does, OnRows, AtPlace}, State.{State, mode_of, Writes}}
+use Rattle.sqlite.specs.Collation.TheVariants.{Binary}
+use Rattle.sqlite.specs.declared.types.Value.{Value}
+use Rattle.sqlite.specs.declared.types.Value.TheVariants.{Null, Int, Text}
+use Rattle.sqlite.specs.Order.{Row}
+use Rattle.sqlite.specs.Term.{Term, lit, eval_all, holds}
+use Rattle.sqlite.specs.Ops.{unary, binary, is_true}
+use Rattle.sqlite.specs.Query.{Query, inner, end, IsAnswer, output, Output, key_cmp}
+use Rattle.sqlite.specs.{Program.overlay, Table.Table, Kind.TheVariants.Integer, Source.TheVariants.Values, Command.TheVariants.{Insert, Update, Delete}}
+use Rattle.sqlite.specs.{Tree.Trees, Effect.{Database, IsDatabase, value_rows}, Does.{Tally, Does, OnRows, AtPlace}, State.{State, mode_of, Writes}}
 use Rattle.sqlite.{specs.Rows.{Written, Task, stamped, CountsIn, count_of, higher, rowids_for, sequence, Gives}, proofs.Callers.one_step}
 use Rattle.sqlite_value.{specs.declared.keys.Key.Key, proofs.OrderLemmas.{value_cmp-Int, value_cmp-Text}}
 use Rattle.sqlite_sql.specs.{declared.ops.BinaryOp.TheVariants.Compare, declared.ops.CompareOp.TheVariants.Eq}

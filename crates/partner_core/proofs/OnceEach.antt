@@ -1,5 +1,8 @@
 -- Order has each partner's run once each, in number order.
-use Rattle.std.{specs.{Prelude.{None, Some, ◌==◌, is_some, All, AllPairs, filter}, Option.option_or, List.list_any}, proofs.lemmas.List.append-nil}
+use Rattle.std.specs.Prelude.{None, Some, ◌==◌, is_some, All, AllPairs, filter}
+use Rattle.std.specs.Option.{option_or}
+use Rattle.std.specs.List.{list_any}
+use Rattle.std.proofs.lemmas.List.{append-nil}
 use Rattle.std.proofs.Common.{◌≡◌, ◌≢◌, ℕ, ◌+◌, ◌-◌, ◌<◌, ◌≤◌, inl, inr, Bool, true, false, cond, List, [], ◌∷◌, ◌++◌, refl, sym, ◌∙◌, ap, arith, zero, suc, ◌&&◌, ◌||◌, append_assoc}
 use Rattle.std.proofs.lemmas.Bool.{cases_Bool, cases_order, cond-false, cond-true, eqb-true, eq-eqb, ne_eqb, and_parts, and_from, and_left, and_right, false_from_ne_true, cases_eq, or_cases, or_left, or_right}
 use Rattle.std.proofs.{lemmas.List.Elements.{All-nil, All-cons, All-append, All-weaker, filter-append}, lemmas.List.Kept.AllPairs-cons}

@@ -1,9 +1,13 @@
 -- The lines of rows: where one is found, one more, and one that is done.
-use Rattle.std.specs.{Option.option_map, Prelude.{slice_get, slice_set, ◌&&◌, string_bytes, count_by, find}, declared.cmp.Ordering.Ordering, Map.lookup}
+use Rattle.std.specs.Option.{option_map}
+use Rattle.std.specs.Prelude.{slice_get, slice_set, ◌&&◌, string_bytes, count_by, find}
+use Rattle.std.specs.declared.cmp.Ordering.{Ordering}
+use Rattle.std.specs.Map.{lookup}
 use Rattle.std.specs.{Ordering.{nat_cmp, eq_by_cmp, is_eq, ordering_then}, declared.cmp.Ordering.TheVariants.{Less, Equal, Greater}, Str.bytes_eq}
 use Rattle.std.{specs.{Cmp.{IsTotalOrder, eq_by_cmp_equiv}, Cmp.Lexicographic.{slice_cmp, nat_list_cmp_total, texts_ties}}, proofs.lemmas.Cmp.lists_total}
 use Rattle.std.proofs.Common.{◌≡◌, ℕ, ◌+◌, ◌≤◌, ◌<◌, List, [], ◌∷◌, ◌++◌, true, false, cond, Option, None, Some, Result, Ok, refl, sym, ap, subst, ◌∙◌, append-nil, append_assoc, zero, suc, length, map, Bool, arith, get_or, take, nat_lt, slice_index_or}
-use Rattle.std.proofs.{lemmas.Bool.{lt-leb, ltb-true, ltb-false}, lemmas.Option.{slice_get-get_or, slice_get_within, same_Some}}
+use Rattle.std.proofs.lemmas.Bool.{lt-leb, ltb-true, ltb-false}
+use Rattle.std.proofs.lemmas.Option.{slice_get-get_or, slice_get_within, same_Some}
 use Rattle.std.proofs.lemmas.List.{map-append, take_more}
 use Rattle.box6346.specs.{declared.box_number.BoxNumber.BoxNumber, declared.slot.Slot.Slot}
 use Rattle.edi_syntax.specs.Moments.{CivilMoment}

@@ -1,7 +1,11 @@
 -- Where the lines of the vessels' lists are said to stand.
-use Rattle.std.specs.{Prelude.{OnErr, ◌&&◌, ◌==◌, slice_get, string_bytes, find, reverse}, Str.bytes_eq, Map.lookup, Cmp.eq_by_cmp_equiv, Ordering.eq_by_cmp}
-use Rattle.std.{specs.Slice.IsItemAt, proofs.{lemmas.Bool.{and_parts, eqb-true, eq-eqb}, lemmas.Option.{same_Some, none-some, slice_get-map, slice_get_past}}}
+use Rattle.std.specs.Prelude.{OnErr, ◌&&◌, ◌==◌, slice_get, string_bytes, find, reverse}
+use Rattle.std.specs.Str.{bytes_eq}
+use Rattle.std.specs.Map.{lookup}
+use Rattle.std.specs.Cmp.{eq_by_cmp_equiv}
+use Rattle.std.{specs.{Ordering.eq_by_cmp, Slice.IsItemAt}, proofs.lemmas.Bool.{and_parts, eqb-true, eq-eqb}}
 use Rattle.std.proofs.Common.{◌≡◌, ℕ, ◌+◌, ◌<◌, zero, suc, List, [], ◌∷◌, ◌++◌, length, map, take, get_or, ◌⊎◌, Bool, true, false, cond, Option, None, Some, Result, Ok, Err, refl, sym, ap, ◌∙◌, arith, subst, inl, inr, option_map, Bor}
+use Rattle.std.proofs.lemmas.Option.{same_Some, none-some, slice_get-map, slice_get_past}
 use Rattle.std.proofs.lemmas.List.{take_more, length-take-le, map-append, reverse-append, length-map}
 use Rattle.box6346.specs.declared.box_number.BoxNumber.{BoxNumber}
 use Rattle.edi_messages.specs.{Purposes.CallContent, Owned.call_content, declared.call.Call.Call}

@@ -1,6 +1,6 @@
 -- A value that is longer than a name may be is kept as empty.
 use Rattle.std.{specs.List.list_all, proofs.Common.{◌≡◌, ◌&&◌, ◌<◌, ℕ, Bool, true, false, cond, nat_le, List, [], ◌∷◌, ◌++◌, length, refl, ap, ◌∙◌, arith}}
-use Rattle.std.proofs.{lemmas.Bool.lt-leb, lemmas.List.length-append}
+use Rattle.std.proofs.lemmas.{Bool.lt-leb, List.length-append}
 use Rattle.edi_syntax.specs.{Characters.is_printable, Segment.value}
 use Rattle.edi_messages.specs.Orders.{name_kept}
 use Rattle.edi_messages.proofs.part.own_name_by_bytes.Goals as goal

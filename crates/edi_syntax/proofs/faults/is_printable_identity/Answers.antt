@@ -1,5 +1,5 @@
 -- Where each value of the identifier can be printed, the first five can.
-use Rattle.std.{specs.List.list_all, proofs.{Common.{◌≡◌, ◌&&◌, ℕ, zero, suc, true, List, [], ◌∷◌, get_or, refl, sym, ◌∙◌}, lemmas.Bool.{and_parts, and_from}}}
+use Rattle.std.{specs.List.list_all, proofs.Common.{◌≡◌, ◌&&◌, ℕ, zero, suc, true, List, [], ◌∷◌, get_or, refl, sym, ◌∙◌}, proofs.lemmas.Bool.{and_parts, and_from}}
 use Rattle.edi_syntax.specs.{Characters.is_printable, Text.Content, Segment.content, Header.is_printable_element}
 use Rattle.edi_syntax.specs.Messages.{is_printable_identity, is_printable_component}
 use Rattle.edi_syntax.proofs.faults.is_printable_identity.Goals as goal

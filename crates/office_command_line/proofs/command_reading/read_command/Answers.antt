@@ -1,7 +1,6 @@
-use Rattle.std.proofs.Common.{◌≡◌, ◌∙◌, ◌⊎◌, List, [], Option, IfOk, IfErr, Some, true, false, if◌then◌else◌, inl, inr, ap, map, sym, subst}
-use Rattle.std.proofs.lemmas.Result.{IfErr-weaker, IfOk-weaker}
-use Rattle.clap.specs.{Simple.is_simple, Words.{App, Row, Text, subcommand_of, subcommand_rows_of, kind_of, fault_of, IsAmong, is_simple_and_free}}
-use Rattle.clap.specs.{declared.error.Error.Error, declared.error.kind.ErrorKind.TheVariants.OutOfMemory}
+use Rattle.std.proofs.{Common.{◌≡◌, ◌∙◌, ◌⊎◌, List, [], Option, IfOk, IfErr, Some, true, false, if◌then◌else◌, inl, inr, ap, map, sym, subst}, lemmas.Result.{IfErr-weaker, IfOk-weaker}}
+use Rattle.clap.specs.{Simple.is_simple, Words.{App, Row, Text, subcommand_of, subcommand_rows_of, kind_of, fault_of, IsAmong, is_simple_and_free}, declared.error.Error.Error}
+use Rattle.clap.specs.declared.error.kind.ErrorKind.TheVariants.{OutOfMemory}
 use Rattle.office_command_line.specs.Commands.{office_app, init_app, deliver_app, serve_app, report_app, texts_app, account_app, migrate_app, close_app, explain_app, demo_app}
 use Rattle.office_command_line.specs.Requests.{request_content, request_met, request_of_words, RefusesMet, RefusesWords, WordsAsk, fault_told, is_of_memory}
 use Rattle.office_command_line.specs.declared.command_reading.CommandFault.{CommandFault}

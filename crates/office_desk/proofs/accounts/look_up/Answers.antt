@@ -1,4 +1,5 @@
-use Rattle.std.proofs.{Common.{inl, inr, refl, sym, subst, ◌∙◌}, lemmas.Result.err_from_is_err_and}
+use Rattle.std.proofs.Common.{inl, inr, refl, sym, subst, ◌∙◌}
+use Rattle.std.proofs.lemmas.Result.{err_from_is_err_and}
 use Rattle.sqlite.specs.{Held.state, State.HasCleanDisk}
 use Rattle.office_rows.specs.Stored.{HasRows}
 use Rattle.office_tables.proofs.{WritesLemmas.of_store_weaker, MadeLemmas.{clean_first, reads_on, reads_stopped, ◌then◌}}

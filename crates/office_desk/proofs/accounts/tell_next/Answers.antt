@@ -1,6 +1,10 @@
-use Rattle.std.proofs.{Common.{ℕ, length, Option, None, Some, inl, string_bytes, refl, sym, ap, subst, ◌∙◌, arith}, lemmas.List.length-map}
+use Rattle.std.proofs.Common.{ℕ, length, Option, None, Some, inl, string_bytes, refl, sym, ap, subst, ◌∙◌, arith}
+use Rattle.std.proofs.lemmas.List.{length-map}
 use Rattle.std.proofs.lemmas.Result.{err_from_is_err_and}
-use Rattle.office_admission.{specs.{Parties.partner_codes, declared.setup.Account.Account, Setups.account_contents}, proofs.Adding.found_low}
+use Rattle.office_admission.specs.Parties.{partner_codes}
+use Rattle.office_admission.specs.declared.setup.Account.{Account}
+use Rattle.office_admission.specs.Setups.{account_contents}
+use Rattle.office_admission.proofs.Adding.{found_low}
 use Rattle.office_tables.{specs.Answers.LacksNext, proofs.WritesLemmas.of_store_weaker}
 use Rattle.office_desk.{specs.{Causes.LacksSome, Reports.TellsNext}, proofs.{PageLemmas.some_lacks, Faults.called}}
 use Rattle.office_desk.proofs.accounts.tell_next.Goals as goal

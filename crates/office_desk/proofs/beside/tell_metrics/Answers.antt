@@ -1,4 +1,6 @@
-use Rattle.std.proofs.{Common.{◌≡◌, List, length, Some, map, sym, ap, subst, ◌∙◌}, lemmas.List.length-map, lemmas.Result.err_from_is_err_and}
+use Rattle.std.proofs.Common.{◌≡◌, List, length, Some, map, sym, ap, subst, ◌∙◌}
+use Rattle.std.proofs.lemmas.List.{length-map}
+use Rattle.std.proofs.lemmas.Result.{err_from_is_err_and}
 use Rattle.office_tables.proofs.WritesLemmas.{of_store_weaker}
 use Rattle.office_rows.specs.Opening.{tables_version}
 use Rattle.office_admission.specs.{Setups.account_contents, declared.setup.Account.Account}

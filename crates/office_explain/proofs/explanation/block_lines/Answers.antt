@@ -1,6 +1,7 @@
 -- The blocks are told in order, and then how many of them fare how.
 use Rattle.std.proofs.{Common.{◌≡◌, ◌∙◌, ◌++◌, ◌∷◌, [], List, ap, sym, subst, take, string_bytes}, lemmas.List.{take_more, take_all}}
-use Rattle.office_explain.{specs.{Headings.ListsBlocks, Tallies.tally_said, declared.explaining.Block.Block}, proofs.HeadingLemmas.{listed_more, listed_to}}
+use Rattle.office_explain.specs.{Headings.ListsBlocks, Tallies.tally_said, declared.explaining.Block.Block}
+use Rattle.office_explain.proofs.HeadingLemmas.{listed_more, listed_to}
 use Rattle.office_explain.proofs.explanation.block_lines.Goals as goal
 
 pub all-preserved : goal.all-preserved

@@ -1,4 +1,5 @@
-use Rattle.std.proofs.{Common.{◌∙◌, ap, ap₂, sym, subst, List, ℕ, ◌++◌, ◌∷◌, [], append_assoc}, lemmas.List.map-append}
+use Rattle.std.proofs.Common.{◌∙◌, ap, ap₂, sym, subst, List, ℕ, ◌++◌, ◌∷◌, [], append_assoc}
+use Rattle.std.proofs.lemmas.List.{map-append}
 use Rattle.csv.specs.Records.{AllText, fields_of}
 use Rattle.office_explain.proofs.Givens.{all_more}
 use Rattle.office_explain.proofs.wrong_records.texts_of.Goals as goal

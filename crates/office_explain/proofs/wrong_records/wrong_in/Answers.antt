@@ -1,6 +1,8 @@
-use Rattle.std.proofs.{Common.{◌∙◌, map, sym, subst, List, ℕ}, lemmas.List.length-map}
+use Rattle.std.proofs.Common.{◌∙◌, map, sym, subst, List, ℕ}
+use Rattle.std.proofs.lemmas.List.{length-map}
 use Rattle.csv.specs.Records.{Row, fields_of}
-use Rattle.office_explain.{specs.Wrong.Shows, proofs.Wrong.behind_text}
+use Rattle.office_explain.specs.Wrong.{Shows}
+use Rattle.office_explain.proofs.Wrong.{behind_text}
 use Rattle.office_explain.proofs.wrong_records.wrong_in.Goals as goal
 
 pub returns : goal.returns

@@ -1,4 +1,6 @@
-use Rattle.std.{specs.Prelude.{not, nat_le}, proofs.{Common.{rules, map, ap, sym, ◌∙◌}, lemmas.Fn.filter_same}}
+use Rattle.std.specs.Prelude.{not, nat_le}
+use Rattle.std.proofs.Common.{rules, map, ap, sym, ◌∙◌}
+use Rattle.std.proofs.lemmas.Fn.{filter_same}
 use Rattle.office_loading.{specs.{Closed.last_closed, Contents.number_content, declared.numbers.NumberRow.NumberRow}, proofs.Keyed.beyond_rows}
 use Rattle.office_loading.proofs.numbers.drop_closed.Goals as goal
 

@@ -1,5 +1,8 @@
 use Rattle.std.proofs.Common.{sym, ap, ◌∙◌, arith}
-use Rattle.yard_core.{specs.{YardMap.placement_if_any, Decisions.blocker_on}, proofs.{Exact.blocker_seen, Placings.tier_low}}
+use Rattle.yard_core.specs.YardMap.{placement_if_any}
+use Rattle.yard_core.specs.Decisions.{blocker_on}
+use Rattle.yard_core.proofs.Exact.{blocker_seen}
+use Rattle.yard_core.proofs.Placings.{tier_low}
 use Rattle.yard_core.proofs.support.blocker_on.Goals as goal
 
 pub site_of-site-requires-clause-in_plan : goal.site_of-site-requires-clause-in_plan

@@ -1,7 +1,6 @@
 -- One byte to four more that stay inside.
 use Rattle.std.{specs.Option.option_map, proofs.Common.{◌≡◌, ◌+◌, ◌<◌, ℕ, Bool, true, false, List, length, get_or, drop, sym, ◌∙◌, arith}}
-use Rattle.edi_syntax.specs.{Reading.end_of, Tokens.{token_of, stays_unreleased}, declared.characters.Service.Service, declared.token.Token.Token}
-use Rattle.edi_syntax.proofs.SegmentsLemmas.{end_passed}
+use Rattle.edi_syntax.{specs.{Reading.end_of, Tokens.{token_of, stays_unreleased}, declared.characters.Service.Service, declared.token.Token.Token}, proofs.SegmentsLemmas.end_passed}
 use Rattle.edi_syntax.proofs.token.TokenTable.len_of_inside.Goals as goal
 
 -- one byte more

@@ -1,7 +1,7 @@
 use Rattle.std.{specs.Prelude.OnOk, proofs.Common.{◌≡◌, ◌++◌, [], ◌∷◌, map, List, inl, refl, sym, ap, subst, ◌∙◌, rules, string_bytes}}
 use Rattle.sqlite.specs.{Held.state, State.HasCleanDisk}
-use Rattle.office_admission.specs.{Accounts.{AccountPair, account_answer, added_as, by_number, content_after, known_as, refused_for}, Parties.partner_from}
-use Rattle.office_admission.specs.Setups.{SetupContent, setup_content, setup_with_account}
+use Rattle.office_admission.specs.Accounts.{AccountPair, account_answer, added_as, by_number, content_after, known_as, refused_for}
+use Rattle.office_admission.specs.{Parties.partner_from, Setups.{SetupContent, setup_content, setup_with_account}}
 use Rattle.office_replies.specs.{AccountAnswers.{account_added_text, account_known_text}, Events.{Event, added}}
 use Rattle.office_replies.specs.declared.accounts.AccountAnswer.TheVariants.{Added, Known, Refused, NotNow}
 use Rattle.office_replies.specs.declared.accounts.AccountFault.TheVariants.{Partner}

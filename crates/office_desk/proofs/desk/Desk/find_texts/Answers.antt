@@ -1,4 +1,5 @@
-use Rattle.std.proofs.{Common.{◌≡◌, ℕ, option_map, not, refl, sym, ap, subst, ◌∙◌}, lemmas.Result.IfErr-weaker}
+use Rattle.std.proofs.Common.{◌≡◌, ℕ, option_map, not, refl, sym, ap, subst, ◌∙◌}
+use Rattle.std.proofs.lemmas.Result.{IfErr-weaker}
 use Rattle.sqlite.specs.{Effect.Database, Held.state}
 use Rattle.office_rows.{specs.Stored.HasRows, proofs.Creating.if_ok}
 use Rattle.office_tables.proofs.WriteLemmas.{one_read, was_clean, was_open}

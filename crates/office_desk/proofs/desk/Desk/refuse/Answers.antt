@@ -2,8 +2,11 @@ use Rattle.std.proofs.Common.{◌≡◌, [], ◌∷◌, ◌++◌, ◌-◌, refl,
 use Rattle.edi_syntax.specs.Interchange.{interchange_of}
 use Rattle.office_replies.specs.Events.{delivered}
 use Rattle.office_admission.specs.Setups.{setup_content}
-use Rattle.office_desk.{specs.Leaving.LeavesOver, proofs.{PageLemmas.held_rows_leave, OwnNumbers.{refused_for, refused_so}, HoldLemmas.held_leaves}}
+use Rattle.office_desk.specs.Leaving.{LeavesOver}
+use Rattle.office_desk.proofs.PageLemmas.{held_rows_leave}
+use Rattle.office_desk.proofs.OwnNumbers.{refused_for, refused_so}
 use Rattle.office_desk.proofs.DeliverLemmas.{refusal_delivered, refusal_leaves, refusal_over, refused_at, notes_memory}
+use Rattle.office_desk.proofs.HoldLemmas.{held_leaves}
 use Rattle.office_desk.proofs.Faults.{answered_in_order, behind_in_order, committed_in_order, refused_in_order}
 use Rattle.sqlite.specs.Held.{state}
 use Rattle.office_desk.proofs.desk.Desk.refuse.Goals as goal

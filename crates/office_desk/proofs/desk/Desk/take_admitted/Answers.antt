@@ -1,10 +1,14 @@
-use Rattle.std.proofs.{Common.{◌≡◌, [], ◌∷◌, ◌++◌, Ok, Err, ◌-◌, get_or, string_bytes, arith, refl, sym, subst, ◌∙◌}, lemmas.Option.slice_get-get_or}
+use Rattle.std.proofs.Common.{◌≡◌, [], ◌∷◌, ◌++◌, Ok, Err, ◌-◌, get_or, string_bytes, arith, refl, sym, subst, ◌∙◌}
+use Rattle.std.proofs.lemmas.Option.{slice_get-get_or}
 use Rattle.edi_syntax.{specs.{Interchange.interchange_of, Envelope.header_of, Heads.head_segments}, proofs.BlockLemmas.control_number_within}
 use Rattle.office_replies.specs.declared.deliver.Response.TheVariants.{NotNow}
-use Rattle.office_admission.specs.{Parties.parties_of, Setups.setup_content, Admission.admission}
+use Rattle.office_admission.specs.Parties.{parties_of}
+use Rattle.office_admission.specs.Setups.{setup_content}
+use Rattle.office_admission.specs.Admission.{admission}
 use Rattle.office_loading.specs.Closed.{closed_content}
 use Rattle.office_desk.specs.{Crashes.Leaves, Kept.IsNotedFor, Noting.{IsNow, NotesFault}, Leaving.{LeavesIt, LeavesItOrNot, LeavesOver}}
-use Rattle.office_desk.proofs.{OwnNumbers.{code_at, admitted_surely, never_refused, numbered}, LookLemmas.{noted_fault, noted_told}}
+use Rattle.office_desk.proofs.OwnNumbers.{code_at, admitted_surely, never_refused, numbered}
+use Rattle.office_desk.proofs.LookLemmas.{noted_fault, noted_told}
 use Rattle.office_desk.proofs.DeliverLemmas.{comes_for, answers_over, not_now_surely, notes_none, taken_in, not_taken}
 use Rattle.office_desk.proofs.{HoldLemmas.{answered_behind, held_leaves}, PageLemmas.{answered_over, held_rows_leave}}
 use Rattle.office_desk.proofs.Faults.{behind_in_order, committed_in_order, now_in_order}

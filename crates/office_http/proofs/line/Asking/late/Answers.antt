@@ -1,5 +1,5 @@
-use Rattle.std.specs.{Prelude.{◌≡◌, ℕ, ◌++◌, Bool, true, false, min, List, [], length, take, Result, Ok, Err, OnOk, OnErr, if◌then◌else◌}, Result.is_ok}
-use Rattle.std.proofs.{Common.{◌∙◌, ◌⊎◌, ap, inl, inr, refl, subst, sym}, Math.Nat.min_comm, lemmas.List.take_min}
+use Rattle.std.{specs.{Prelude.{◌≡◌, ℕ, ◌++◌, Bool, true, false, min, List, [], length, take, Result, Ok, Err, OnOk, OnErr, if◌then◌else◌}, Result.is_ok}, proofs.Common.{◌∙◌, ◌⊎◌, ap, inl, inr, refl, subst, sym}}
+use Rattle.std.proofs.{Math.Nat.{min_comm}, lemmas.List.{take_min}}
 use Rattle.office_http.specs.Lines.{IsCutTo, most_kept}
 use Rattle.office_http.proofs.line.Asking.late.Goals as goal
 

@@ -1,5 +1,5 @@
 use Rattle.std.proofs.Common.{refl, subst, sym}
-use Rattle.office_http.specs.{Lines.IsGivenUp, declared.line.Line.Line}
+use Rattle.office_http.specs.{Lines.{IsGivenUp}, declared.line.Line.{Line}}
 use Rattle.office_http.specs.declared.line.Line.TheVariants as line
 use Rattle.office_http.proofs.line.Line.given_up.Goals as goal
 

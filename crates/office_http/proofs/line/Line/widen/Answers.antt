@@ -1,5 +1,6 @@
-use Rattle.std.{specs.Vec.vec_capacity, proofs.Common.{◌≡◌, ◌⊎◌, ◌+◌, ◌≤◌, Bool, true, false, inl, inr, refl, subst, sym}}
-use Rattle.office_http.specs.{Held.most_held, Lines.IsWidened, declared.line.Line.Line}
+use Rattle.std.proofs.Common.{◌≡◌, ◌⊎◌, ◌+◌, ◌≤◌, Bool, true, false, inl, inr, refl, subst, sym}
+use Rattle.std.specs.Vec.{vec_capacity}
+use Rattle.office_http.specs.{Held.{most_held}, Lines.{IsWidened}, declared.line.Line.{Line}}
 use Rattle.office_http.specs.declared.line.Line.TheVariants as line
 use Rattle.office_http.proofs.line.Line.widen.Goals as goal
 

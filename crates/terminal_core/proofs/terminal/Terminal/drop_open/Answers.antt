@@ -1,4 +1,6 @@
-use Rattle.std.{specs.Prelude.map, proofs.{Common.{◌≡◌, ◌∷◌, ◌++◌, List, length, ap, subst, ◌∙◌, arith}, lemmas.List.map-append}}
+use Rattle.std.specs.Prelude.{map}
+use Rattle.std.proofs.Common.{◌≡◌, ◌∷◌, ◌++◌, List, length, ap, subst, ◌∙◌, arith}
+use Rattle.std.proofs.lemmas.List.{map-append}
 use Rattle.box6346.specs.declared.box_number.BoxNumber.{BoxNumber}
 use Rattle.edi_messages.specs.Owned.{call_content}
 use Rattle.terminal_core.specs.{Drop.{list_drop, Drops, open_containers, without_lines_of}, Rows.{change_content, unlisted}, State.{TerminalState, Lines}}
