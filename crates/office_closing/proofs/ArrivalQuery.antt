@@ -1,5 +1,8 @@
 -- The query of the texts in the order of arrival: what it means, and what its rows say of the texts of a store and of an archive.
-use Rattle.std.{specs.{List.AllByRecursion, Prelude.◌↔◌}, proofs.{lemmas.List.map-append, lemmas.List.Elements.filter-append}}
+use Rattle.std.specs.List.{AllByRecursion}
+use Rattle.std.specs.Prelude.{◌↔◌}
+use Rattle.std.proofs.lemmas.List.{map-append}
+use Rattle.std.proofs.lemmas.List.Elements.{filter-append}
 use Rattle.std.proofs.Common.{◌≡◌, ◌⊎◌, inl, inr, ℕ, ◌+◌, ◌<◌, false, true, Bool, cond, List, [], ◌∷◌, ◌++◌, map, filter, codes, refl, sym, ap, subst, ◌∙◌}
 use Rattle.partner_core.specs.Deliveries.{Delivery}
 use Rattle.sqlite_value.specs.{declared.value.Value.Value, declared.value.Value.TheVariants.{Blob, Int, Null, Real, Text}, Keys.ascending}

@@ -1,13 +1,14 @@
 -- What reading two queries row by row leaves, and what they have shown.
-use Rattle.std.proofs.{lemmas.List.map-append, lemmas.List.Elements.filter-append}
+use Rattle.std.proofs.lemmas.List.{map-append}
+use Rattle.std.proofs.lemmas.List.Elements.{filter-append}
 use Rattle.std.proofs.Common.{◌≡◌, ◌⊎◌, inl, inr, ◌∙◌, ℕ, Bool, true, false, cond, List, [], ◌∷◌, ◌++◌, map, filter, Option, None, Some, Result, Ok, Err, IsErr, refl, sym, ap, subst, arith}
 use Rattle.sqlite_value.specs.Order.{Row}
 use Rattle.sqlite_trees.specs.declared.store.Store.{Ghosts}
 use Rattle.sqlite.specs.{declared.error.Error.Error, Held.{Held, state}, Given.{HasBegun, HasGiven, Advances}, declared.rows.stream.Rows.Rows, Clock.timed}
 use Rattle.sqlite.specs.{State.{State, HasCleanDisk, IsUnchanged, Fails, KeepsCommit, ShowsRows, Survives, Shown, CommitsShowing}, Effect.Database}
 use Rattle.sqlite.{specs.Listing.{understood, reads_listing, IsSourceOf}, proofs.Callers.unchanged_then}
-use Rattle.office_closing.specs.{Arriving.{AreCompared, GoesBeyond, IsReadOn, TellsRows, arrival_in, arrivals_in, shows_beyond, stops_at}, Files.IsRead}
-use Rattle.office_closing.specs.declared.arriving.Likeness.{Likeness}
+use Rattle.office_closing.specs.Arriving.{AreCompared, GoesBeyond, IsReadOn, TellsRows, arrival_in, arrivals_in, shows_beyond, stops_at}
+use Rattle.office_closing.specs.{declared.arriving.Likeness.Likeness, Files.IsRead}
 use Rattle.office_rows.proofs.Creating.{keep_then, on_ok, quiet_then, stops_keep}
 use Rattle.office_loading.proofs.StreamLemmas.{begun_shows}
 use Rattle.office_tables.specs.{Reading.OnlyShows, Faults.{IsOfStore, IsOfStoreOr}, declared.table_fault.TableFault.TableFault}

@@ -1,8 +1,11 @@
 -- Whether a store is of a day before a closing, by its next numbers and what had been taken then.
-use Rattle.std.{specs.List.list_any, proofs.{lemmas.Bool.Decides.nat_tests, lemmas.List.Folds.list_any-append}}
+use Rattle.std.specs.List.{list_any}
+use Rattle.std.proofs.lemmas.Bool.Decides.{nat_tests}
+use Rattle.std.proofs.lemmas.List.Folds.{list_any-append}
 use Rattle.std.proofs.Common.{◌≡◌, ℕ, ◌+◌, ◌-◌, ◌<◌, ◌≤◌, ◌++◌, ◌||◌, List, [], ◌∷◌, Bool, true, false, cond, not, filter, map, length, get_or, refl, ap, ap₂, subst, ◌∙◌, arith, nat_lt, zero, suc}
-use Rattle.office_closing.specs.{declared.register.Segment.Segment, declared.comparing.Numbers.Numbers, Laws.TakenTellsTheDay, Register.{is_passed, next_of}}
+use Rattle.office_closing.specs.{declared.register.Segment.Segment, declared.comparing.Numbers.Numbers, Laws.TakenTellsTheDay}
 use Rattle.office_closing.specs.Copies.{AreAtMost, segment_of, segments_of, closes_some, numbers_from}
+use Rattle.office_closing.specs.Register.{is_passed, next_of}
 
 module _ (place : ℕ) (others : List ℕ) where
   abbrev awaits : Segment → Bool

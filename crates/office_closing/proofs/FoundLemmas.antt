@@ -4,7 +4,9 @@ use Rattle.std.specs.{Option.option_map, Ordering.{nat_cmp, is_eq, ordering_then
 use Rattle.std.specs.{declared.cmp.Ordering.TheVariants.{Less, Equal, Greater}, Cmp.Lexicographic.{slice_cmp, nat_list_cmp_total, texts_ties}}
 use Rattle.std.proofs.Common.{◌≡◌, ◌≤◌, inl, inr, List, [], ◌∷◌, Bool, true, cond, refl, sym, subst, arith, ℕ, ◌<◌, ◌++◌, length, get_or, map, false, Option, None, Some, ap, ◌∙◌}
 use Rattle.std.proofs.lemmas.List.Sorted.{Contains-permutation, IsPermutation-cons, IsPermutation-refl, IsPermutation-remove, IsPermutation-sym, IsPermutation-trans, sum_by-IsPermutation}
-use Rattle.std.proofs.{lemmas.Map.Made.Contains-tail, lemmas.List.append-nil, lemmas.List.Elements.{Contains-push, Contains-push_cases, Contains-append_left}}
+use Rattle.std.proofs.lemmas.Map.Made.{Contains-tail}
+use Rattle.std.proofs.lemmas.List.{append-nil}
+use Rattle.std.proofs.lemmas.List.Elements.{Contains-push, Contains-push_cases, Contains-append_left}
 use Rattle.sqlite_rules.{specs.Lists.Has, proofs.ProbeLemmas.{has_mapped, mapped_has}}
 use Rattle.sqlite_rules.proofs.ListLemmas.{has_either, has_left, has_right, all_has, contains_had, has_contained, has_filtered, has_kept, some_from, some_has}
 use Rattle.terminal_core.specs.{State.{side_code, LineContent, LineKey}, declared.lines.LineState.TheVariants.Done, declared.lines.Listing.Listing}
@@ -13,8 +15,10 @@ use Rattle.terminal_core.proofs.{Indexed.{some_counted, found_is}, Lined.{same_k
 use Rattle.office_history.proofs.{Kept.{count_more, head_in, tail_in, found_only}, ByKeys.{sides, finds, key_of, line_tied, said}}
 use Rattle.edi_messages.specs.Purposes.{CallContent}
 use Rattle.office_rows.specs.{Rows.{ListingContent, listing_content}, ByKey.{AreListedOnce, line_entry, lines_by}, Effects.is_line}
-use Rattle.office_closing.specs.{Lists.{SettledListContent, list_content}, declared.settled_lists.SettledList.SettledList}
-use Rattle.office_closing.specs.{Found.{AreAllDone, HasLineOf, IsFoundAs, list_on}, Going.{AreDone, AreNamedOnce, IsAmong, lines_on, name_of}}
+use Rattle.office_closing.specs.Lists.{SettledListContent, list_content}
+use Rattle.office_closing.specs.declared.settled_lists.SettledList.{SettledList}
+use Rattle.office_closing.specs.Found.{AreAllDone, HasLineOf, IsFoundAs, list_on}
+use Rattle.office_closing.specs.Going.{AreDone, AreNamedOnce, IsAmong, lines_on, name_of}
 use Rattle.office_parts.specs.{Bringing.is_of, Named.named_list_content, OwnLists.{ListName, list_name}, declared.naming.NamedList.NamedList}
 use Rattle.sqlite_trees.proofs.ListLemmas.{map-map}
 use Rattle.std.specs.FinMap as finite_map

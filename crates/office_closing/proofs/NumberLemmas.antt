@@ -1,5 +1,8 @@
 -- Rows that are deleted in turn.
-use Rattle.std.{specs.{Prelude.{nat_le, nat_lt, Contains}, List.list_any, List.Sorted.IsPermutation}, proofs.lemmas.Bool.Decides.nat_tests}
+use Rattle.std.specs.Prelude.{nat_le, nat_lt, Contains}
+use Rattle.std.specs.List.{list_any}
+use Rattle.std.specs.List.Sorted.{IsPermutation}
+use Rattle.std.proofs.lemmas.Bool.Decides.{nat_tests}
 use Rattle.std.proofs.Common.{◌≡◌, ◌⊎◌, inl, inr, ℕ, ◌+◌, ◌≤◌, List, [], ◌∷◌, ◌++◌, Bool, true, false, cond, not, ◌&&◌, ◌||◌, ◌==◌, filter, refl, sym, ap, ◌∙◌, arith, ◌<◌, Result, Ok, Err, get_or, length, map, take, subst}
 use Rattle.std.proofs.{lemmas.List.Elements.filter_agree, lemmas.List.Folds.list_any-append, lemmas.List.{map-append, map_more, take-map}}
 use Rattle.std.proofs.lemmas.List.Sorted.{Contains-permutation, IsPermutation-sym, IsPermutation-trans}

@@ -20,7 +20,10 @@ use Rattle.office_closing.specs.Waiting.{AreWaitedFor, HasWaiting, HaveNexts, Wa
 use Rattle.office_closing.proofs.FoundLemmas.{own_list, line_under, sides_same, flat_has, has_flat}
 use Rattle.office_parts.specs.{Bringing.is_of, OwnLists.{ListName, list_name}, Naming.interchange_lists}
 use Rattle.sqlite.specs.State.{State}
-use Rattle.office_tables.specs.{Answers.IsKept, Reading.Reads, declared.interchanges.Kept.Kept, DeliveryReading.OnlyReads}
+use Rattle.office_tables.specs.Answers.{IsKept}
+use Rattle.office_tables.specs.Reading.{Reads}
+use Rattle.office_tables.specs.declared.interchanges.Kept.{Kept}
+use Rattle.office_tables.specs.DeliveryReading.{OnlyReads}
 use Rattle.office_tables.proofs.WriteLemmas.{one_read, only_on, only_then, text_kept}
 use Rattle.office_loading.specs.Waiting.{is_waiting, waiting_in, waiting_numbers}
 use Rattle.std.specs.FinMap as finite_map

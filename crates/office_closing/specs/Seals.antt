@@ -1,5 +1,5 @@
 -- Seals: what tells the texts that an archive closes, and their replies, from all others.
-use Rattle.std.specs.Prelude.{◌≡◌, ◌==◌, nat_lt, ◌<◌, ℕ, ◌+◌, ◌-◌, ◌*◌, ◌/◌, min, List, [], ◌∷◌, ◌++◌, filter, find, fold, length, map, take, drop, if◌then◌else◌, Option, None, Some, option_map, option_to_list, string_bytes, IfSome}
+use Rattle.std.specs.Prelude.{◌≡◌, ◌==◌, nat_le, nat_lt, ◌<◌, ℕ, ◌+◌, ◌-◌, ◌*◌, ◌/◌, min, List, [], ◌∷◌, ◌++◌, filter, find, fold, length, map, take, drop, if◌then◌else◌, Option, None, Some, option_map, option_to_list, string_bytes, IfSome}
 use Rattle.std.specs.{Int.{w64, to_be_bytes}, List.{flat_map, range_with_len}, Option.unwrap_or}
 use Rattle.sha2.specs.{Hashers.Holds256, Sha256.sha256}
 use Rattle.office_rows.specs.{Rows.{Interchange, Rows}, Effects.is_pair}
@@ -33,13 +33,17 @@ sealed_message kept = flat_map (λ (one : KeptContent). measured one.text ++ mea
 abbrev pub seal_of : List KeptContent → List ℕ
 seal_of kept = sha256 (sealed_message kept)
 
--- what is kept in pieces of so many, the last one of those that are left; the first piece has these already
-abbrev pub pieces_after : (piece kept : List KeptContent) → List (List KeptContent)
-pieces_after [] [] = []
-pieces_after (first ∷ piece) [] = (first ∷ piece) ∷ []
-pieces_after piece (one ∷ kept) =
-    if length piece + 1 == most_sealed then (piece ++ one ∷ []) ∷ pieces_after [] kept
-    else pieces_after (piece ++ one ∷ []) kept
+-- what is left makes the last piece
+abbrev pub last_piece : List KeptContent → List (List KeptContent)
+last_piece [] = []
+last_piece (one ∷ piece) = (one ∷ piece) ∷ []
+
+-- what is kept in pieces of so many, the last one of what is left; the first piece has these already
+abbrev pub pieces_after : (kept piece : List KeptContent) → List (List KeptContent)
+pieces_after [] piece = last_piece piece
+pieces_after (one ∷ kept) piece =
+    if length piece + 1 == most_sealed then (piece ++ one ∷ []) ∷ pieces_after kept []
+    else pieces_after kept (piece ++ one ∷ [])
 
 -- what rows keep under a partner's number, and under its numbers
 abbrev pub kept_content : Interchange → KeptContent
@@ -55,7 +59,7 @@ kept_under rows numbers =
 
 -- the seals of that, and of what is kept under the numbers of each partner
 abbrev pub seals_under : Rows → Numbers → List ℕ
-seals_under rows numbers = flat_map seal_of (pieces_after [] (kept_under rows numbers))
+seals_under rows numbers = flat_map seal_of (pieces_after (kept_under rows numbers) [])
 
 abbrev pub seals_of : Rows → List Numbers → List ℕ
 seals_of rows closing = flat_map (seals_under rows) closing
@@ -85,7 +89,7 @@ add_any sealing (Some one) = add_one sealing one
 -- a partner's numbers end
 abbrev pub end_partner : SealingContent → SealingContent
 end_partner sealing =
-    record { seals = sealing.seals ++ flat_map seal_of (pieces_after sealing.piece []); piece = [] }
+    record { seals = sealing.seals ++ flat_map seal_of (last_piece sealing.piece); piece = [] }
 
 -- with all that rows keep under a partner's numbers
 abbrev pub with_kept : Rows → SealingContent → Numbers → SealingContent
@@ -113,27 +117,34 @@ seals_count numbers = (numbers.to - numbers.from + (most_sealed - 1)) / most_sea
 abbrev pub seal_index : Numbers → ℕ → ℕ
 seal_index numbers number = (number - numbers.from - 1) / most_sealed
 
--- the numbers that have their seal together with this one
-abbrev pub piece_with : Numbers → ℕ → Numbers
-piece_with numbers number = record {
+-- the numbers that have the seal at an index
+abbrev pub piece_at : Numbers → (index : ℕ) → Numbers
+piece_at numbers index = record {
   partner = numbers.partner;
-  from = numbers.from + most_sealed * seal_index numbers number;
-  to = min (numbers.from + most_sealed * seal_index numbers number + most_sealed) numbers.to;
+  from = numbers.from + most_sealed * index;
+  to = min (numbers.from + most_sealed * index + most_sealed) numbers.to;
 }
 
--- Of the seals of these numbers, the one of this number, with the numbers that have it together.
+-- the seal of a number, with the numbers that have it together
 pub record Sealed : Type 0 where
   pub piece : Numbers
   pub seal : List ℕ
 
+-- of the seals of a partner's numbers, and of others after them; none if there are too few
+abbrev pub seal_among : Numbers → (seals : List ℕ) → (number : ℕ) → Option Sealed
+seal_among numbers seals number =
+    if nat_le (seal_bytes * (seal_index numbers number + 1)) (length seals)
+    then Some (record {
+      piece = piece_at numbers (seal_index numbers number);
+      seal = take seal_bytes (drop (seal_bytes * seal_index numbers number) seals);
+    })
+    else None
+
+-- of the seals of all these numbers; none of a number that is not one of these
 abbrev pub seal_at : List Numbers → (seals : List ℕ) → (partner number : ℕ) → Option Sealed
 seal_at [] seals partner number = None
 seal_at (numbers ∷ closing) seals partner number =
-    if is_of partner number numbers
-    then Some (record {
-      piece = piece_with numbers number;
-      seal = take seal_bytes (drop (seal_bytes * seal_index numbers number) seals);
-    })
+    if is_of partner number numbers then seal_among numbers seals number
     else seal_at closing (drop (seal_bytes * seals_count numbers) seals) partner number
 
 -- what is sealed, with these seals

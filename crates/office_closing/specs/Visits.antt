@@ -1,8 +1,7 @@
 -- Which visits go at a closing.
 use Rattle.std.specs.Prelude.{◌≡◌, ◌≢◌, ◌↔◌, ℕ, ◌<◌, true, List, Contains, is_some}
 use Rattle.terminal_core.specs.{Rows.VisitContent, State.last_number}
-use Rattle.office_closing.specs.{declared.faults.CloseFault.CloseFault, declared.visits.VisitFault.VisitFault}
-use Rattle.office_closing.specs.declared.visits.VisitFault.TheVariants.{Differs, Memory}
+use Rattle.office_closing.specs.{declared.faults.CloseFault.CloseFault, declared.visits.VisitFault.VisitFault, declared.visits.VisitFault.TheVariants.{Differs, Memory}}
 use Rattle.office_closing.specs.declared.faults.CloseFault.TheVariants as fault
 use Rattle.office_closing.specs.declared.faults.Refusal.TheVariants as refusal
 

@@ -5,7 +5,6 @@ ghost use Rattle.office_closing.specs.{Files.{AreClean, AreIdle, files}, Closes.
 ghost use Rattle.office_closing.specs.{Deleting.{Deletes, all_but, goes, is_one_of, without_interchange, without_visits}, Lists.list_content};
 ghost use Rattle.office_closing.specs.{Steps.{StepsIf, is_unmarked, is_unraised}, Changes.{closed_with, marked_for, unchanged, unmarked}};
 ghost use Rattle.office_closing.specs.Register.{archive_content, sealed_content};
-ghost use Rattle.office_tables.specs.{Writing.IsUndone, Faults.IsOfStore};
 ghost use Rattle.office_parts.specs.{Bringing.is_list, OwnLists.{list_name, rows_without_lists}, LeftOver.rows_without};
 ghost use Rattle.sqlite.specs.Held.{state};
 ghost use Rattle.office_closing.specs.declared.faults.CloseFault.TheVariants as close_fault;
@@ -177,7 +176,7 @@ fn clear_all<S: Alter>(conn: &mut Connection<S>, plan: &Plan) -> Result<(), Tabl
     clear_lists(conn, &plan.gone)
 }
 
-/// The most rows that one transaction deletes.
+/// The most interchanges that one transaction deletes.
 const BATCH: u32 = 1000;
 
 /// Deletes the interchanges under these numbers, in short transactions. What was deleted stays so if it fails, and it may be

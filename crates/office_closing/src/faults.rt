@@ -44,7 +44,7 @@ pub enum Refusal {
     Register,
     /// The archive keeps something else under this number.
     Interchange(Difference),
-    /// The texts that the archive has, closed or waiting, are not the first of the store's in the order in which they arrived.
+    /// The texts that the archive has, closed or waiting, are not the first of the store's in the order in which they arrived, or not all of them, where all are wanted.
     Order,
     /// The archive keeps something else than the store's register has sealed with it.
     Seals,

@@ -1,8 +1,8 @@
-ghost use Rattle.office_loading.specs.{Decoded.{IsSaid, Decodes, DecodesAll, ReadsAs, fault_of_column, itself}, Columns.{SaysNumber, SaysSide, SaysText}};
-ghost use Rattle.office_closing.specs.{Lists.list_content, Reading.{SaysArchive, SaysSegment, SaysFile, SaysList, closed_for_file, SaysBytes, SaysSealed}};
+ghost use Rattle.std.specs.Prelude.{◌≡◌};
+ghost use Rattle.office_loading.specs.Decoded.{IsSaid, ReadsAs, fault_of_column};
+ghost use Rattle.office_closing.specs.{Lists.list_content, Reading.{SaysArchive, SaysBytes, SaysFile, SaysList, SaysSealed, SaysSegment, closed_for_file}};
 ghost use Rattle.office_closing.specs.Register.{archive_content, sealed_content};
-ghost use Rattle.std.specs.Prelude.{◌≡◌, ◌++◌, ◌∷◌, [], ◌^◌, OnOk, string_bytes};
-ghost use Rattle.sqlite.specs.Order.{Row as Columns, column};
+ghost use Rattle.sqlite.specs.Order.{column};
 
 use crate::register::{Archive, Segment};
 use crate::sealed_archives::SealedArchive;
@@ -10,7 +10,7 @@ use crate::settled_lists::SettledList;
 use edi_messages::Call;
 use office_loading::{Record, number_at, short_at, side_at, text_at};
 use office_tables::TableFault;
-use sqlite::Row;
+use sqlite::{Error, ErrorCode, Row};
 
 impl Record for Archive {
     ghost says = { λ row read. SaysArchive row (archive_content read) };
@@ -80,6 +80,26 @@ impl Record for SealedArchive {
             terminal,
             seals,
         })
+    }
+}
+
+/// The bytes in a column.
+fn bytes_at(row: &Row, at: usize) -> Result<Vec<u8>, TableFault>
+    ensures { ReadsAs (λ bytes. bytes.items) SaysBytes (column row.now at) result }
+{
+    match row.get(at) {
+        Ok(bytes) => Ok(bytes),
+        Err(error) => Err(fault_of_column(error)),
+    }
+}
+
+/// What a column that can't be read is to a caller of the tables.
+fn fault_of_column(error: Error) -> TableFault
+    ensures { result ≡ fault_of_column error }
+{
+    match error {
+        Error::SqliteFailure(ErrorCode::OutOfMemory) => TableFault::Memory,
+        _ => TableFault::Damaged,
     }
 }
 

@@ -1,6 +1,7 @@
-ghost use Rattle.std.specs.{Prelude.{◌≡◌, ◌↔◌, ◌++◌, ◌∷◌, [], true, IfOk, OnOk, map, filter}, Option.option_map};
+ghost use Rattle.std.specs.{Prelude.{◌≡◌, ◌↔◌, ◌++◌, true, IfOk, OnOk, map, filter}, Option.option_map};
 ghost use Rattle.office_closing.specs.{Register.sealed_content, Seals.sealed_with, Copies.is_sealed_with};
 
+use office_loading::append;
 use std::alloc::{AllocError, Global};
 
 /// What tells an archive from those of other stores: the terminal's code, and the seals of what it closes, of each partner's
@@ -57,14 +58,6 @@ pub(crate) fn append_sealed(
     for one in more {
         append(sealed, copied(alloc, one)?)?;
     }
-    Ok(())
-}
-
-/// One more at the end.
-fn append(sealed: &mut Vec<SealedArchive>, one: SealedArchive) -> Result<(), AllocError>
-    ensures { OnOk result (sealed.new.items ≡ sealed.old.items ++ one ∷ []) }
-{
-    sealed.push(one)?;
     Ok(())
 }
 

@@ -1,7 +1,7 @@
 //! Whether a file keeps what a register has sealed with an archive.
-ghost use Rattle.std.specs.Prelude.{◌≡◌, IfOk, IfSome, Some, ◌<◌, ◌*◌, drop, filter, nat_lt, take, true};
+ghost use Rattle.std.specs.Prelude.{◌≡◌, ◌↔◌, IfNone, IfOk, IfSome, None, Some, ◌<◌, ◌+◌, ◌*◌, ◌^◌, drop, filter, nat_lt, true};
 ghost use Rattle.office_closing.specs.{Deleting.is_of, Register.{last_closed, register_content}, declared.register.Segment.Segment};
-ghost use Rattle.office_closing.specs.Seals.{HasSealOf, HasSeals, closed_at, piece_with, seal_at, seal_bytes, seal_index, seals_count};
+ghost use Rattle.office_closing.specs.Seals.{HasSealOf, HasSeals, closed_at, most_sealed, piece_at, seal_among, seal_at, seal_bytes, seals_count};
 ghost use Rattle.office_history.specs.After.{AreKeptOnce};
 ghost use Rattle.office_rows.specs.{Rows.Rows, Stored.HasRows};
 ghost use Rattle.office_tables.specs.Reading.{Reads};
@@ -25,9 +25,9 @@ pub fn has_seals<S: Alter>(
     register: &Register,
     place: u16,
 ) -> Result<bool, TableFault>
-    ensures has { HasCleanDisk (state S.Store conn.new) → IfOk result (λ has. has ≡ true → (rows : Rows) →
+    ensures has { HasCleanDisk (state S.Store conn.new) → IfOk result (λ has. (rows : Rows) →
         HasRows rows (state S.Store conn.old).now → AreKeptOnce rows.interchanges →
-        HasSeals (register_content register.now) place rows) }
+        (has ≡ true) ↔ HasSeals (register_content register.now) place rows) }
     ensures reads { Reads (state S.Store conn.old) (state S.Store conn.new) result }
 {
     let Some(sealed) = sealed_with(&register.sealed, place) else {
@@ -49,9 +49,9 @@ pub fn has_seal_of<S: Alter>(
     partner: u16,
     number: u32,
 ) -> Result<bool, TableFault>
-    ensures has { HasCleanDisk (state S.Store conn.new) → IfOk result (λ has. has ≡ true → (rows : Rows) →
+    ensures has { HasCleanDisk (state S.Store conn.new) → IfOk result (λ has. (rows : Rows) →
         HasRows rows (state S.Store conn.old).now → AreKeptOnce rows.interchanges →
-        HasSealOf (register_content register.now) place partner number rows) }
+        (has ≡ true) ↔ HasSealOf (register_content register.now) place partner number rows) }
     ensures reads { Reads (state S.Store conn.old) (state S.Store conn.new) result }
 {
     let Some(sealed) = sealed_with(&register.sealed, place) else {
@@ -102,17 +102,27 @@ fn seal_at<'a>(
     partner: u16,
     number: u32,
 ) -> Option<(Numbers, &'a [u8])>
-    ensures { IfSome result (λ found. seal_at closing.now seals.now partner number
+    ensures found { IfSome result (λ found. seal_at closing.now seals.now partner number
         ≡ Some (record { piece = found.0; seal = found.1.now })) }
+    ensures none { IfNone result (seal_at closing.now seals.now partner number ≡ None) }
 {
     let mut rest = seals;
     for numbers in closing {
         if is_of(*numbers, partner, number) {
-            return sealed_among(*numbers, rest, number);
+            return seal_among(*numbers, rest, number);
         }
-        rest = rest.get(SEAL_BYTES * seals_count(*numbers)..)?;
+        rest = after(rest, seals_count(*numbers));
     }
     None
+}
+
+/// The seals after so many.
+fn after(seals: &[u8], count: usize) -> &[u8]
+    requires { seal_bytes * count < 2 ^ 64 }
+    ensures { result.now ≡ drop (seal_bytes * count) seals.now }
+{
+    let end = (SEAL_BYTES * count).min(seals.len());
+    &seals[end..]
 }
 
 /// Whether a partner's number is one of these.
@@ -130,21 +140,28 @@ fn seals_count(numbers: Numbers) -> usize
     (count + (MOST_SEALED as usize - 1)) / MOST_SEALED as usize
 }
 
-/// Of the seals of a partner's numbers, and others after them, the one of this number.
-fn sealed_among(numbers: Numbers, seals: &[u8], number: u32) -> Option<(Numbers, &[u8])>
+/// Of the seals of a partner's numbers, and of others after them, the one of this number; none if there are too few.
+fn seal_among(numbers: Numbers, seals: &[u8], number: u32) -> Option<(Numbers, &[u8])>
     requires { numbers.from < number }
-    ensures piece { IfSome result (λ found. found.0 ≡ piece_with numbers number) }
-    ensures seal { IfSome result (λ found.
-        found.1.now ≡ take seal_bytes (drop (seal_bytes * seal_index numbers number) seals.now)) }
+    ensures found { IfSome result (λ found. seal_among numbers seals.now number
+        ≡ Some (record { piece = found.0; seal = found.1.now })) }
+    ensures none { IfNone result (seal_among numbers seals.now number ≡ None) }
 {
     let index = (number - numbers.from - 1) / MOST_SEALED;
+    let at = SEAL_BYTES * index as usize;
+    let seal = seals.get(at..at + SEAL_BYTES)?;
+    Some((piece_at(numbers, index), seal))
+}
+
+/// Of a partner's numbers those that have the seal at an index.
+fn piece_at(numbers: Numbers, index: u32) -> Numbers
+    requires { numbers.from + most_sealed * index < 2 ^ 32 }
+    ensures { result ≡ piece_at numbers index }
+{
     let from = numbers.from + MOST_SEALED * index;
-    let piece = Numbers {
+    Numbers {
         partner: numbers.partner,
         from,
         to: from.saturating_add(MOST_SEALED).min(numbers.to),
-    };
-    let at = SEAL_BYTES * index as usize;
-    let seal = seals.get(at..at + SEAL_BYTES)?;
-    Some((piece, seal))
+    }
 }

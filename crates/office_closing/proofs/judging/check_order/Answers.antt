@@ -1,4 +1,6 @@
-use Rattle.std.{specs.Prelude.{ℕ, false, true}, proofs.{Common.{◌≡◌, ap, sym, subst, ◌∙◌}, lemmas.Result.err_from_is_err_and}}
+use Rattle.std.specs.Prelude.{ℕ, false, true}
+use Rattle.std.proofs.Common.{◌≡◌, ap, sym, subst, ◌∙◌}
+use Rattle.std.proofs.lemmas.Result.{err_from_is_err_and}
 use Rattle.sqlite.specs.Held.{state}
 use Rattle.office_loading.specs.Closed.{ClosedContent}
 use Rattle.office_closing.{specs.{Arriving.HasTexts, Judging.WantsAll}, proofs.JudgeLemmas.{failed, passed, untouched_err}}

@@ -1,6 +1,7 @@
 use Rattle.std.proofs.lemmas.Result.{err_from_is_err_and}
 use Rattle.office_closing.specs.{Copies.{FileNames, OfficeContent, office_content}, Planning.IsRefused, Visits.{IsCauseOf, fault_of_visit}}
-use Rattle.office_closing.specs.{declared.visits.VisitFault.VisitFault, declared.visits.VisitFault.TheVariants.{Differs, Memory}}
+use Rattle.office_closing.specs.declared.visits.VisitFault.{VisitFault}
+use Rattle.office_closing.specs.declared.visits.VisitFault.TheVariants.{Differs, Memory}
 use Rattle.office_closing.proofs.planning.gone_visits.Goals as goal
 
 -- the cause is a reason to refuse the archive, or memory was refused

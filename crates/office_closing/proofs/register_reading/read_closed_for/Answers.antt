@@ -1,7 +1,8 @@
 use Rattle.sqlite.specs.Held.{state}
 use Rattle.std.proofs.lemmas.Result.{err_from_is_err_and}
 use Rattle.office_tables.proofs.MadeLemmas.{reads_on, reads_stopped}
-use Rattle.office_closing.{specs.Reading.closed_for_file, proofs.WriteTexts.{reads_mark, mark_fails}}
+use Rattle.office_closing.specs.Reading.{closed_for_file}
+use Rattle.office_closing.proofs.WriteTexts.{reads_mark, mark_fails}
 use Rattle.office_closing.proofs.register_reading.read_closed_for.Goals as goal
 
 pub returns-in_err-rows-clause-read : goal.returns-in_err-rows-clause-read
