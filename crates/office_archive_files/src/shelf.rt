@@ -177,7 +177,10 @@ impl<'a, B: ArchiveStart> FileShelf<'a, B> {
     {
         let named = self.named(names, place)?;
         let (setup, beside) = archive.load(self.rt.alloc(), &named.closed)?;
-        Ok(is_same_office(&setup, &self.setup) && reaches(&beside, &named.segments, named.visits))
+        if !is_same_office(&setup, &self.setup) {
+            return Ok(false);
+        }
+        Ok(reaches(&beside, &named.segments, named.visits))
     }
 
     /// The archive at a place as the store's register and its own say, if its own is that of this place.
@@ -272,8 +275,13 @@ impl<B: ArchiveStart> Finds for FileShelf<'_, B> {
             return Ok(Found::Nothing);
         }
         match self.is_sealed(names, place) {
-            Ok(true) => Ok(Found::Archive),
-            Ok(false) => Ok(Found::Other),
+            Ok(is_sealed) => {
+                if is_sealed {
+                    Ok(Found::Archive)
+                } else {
+                    Ok(Found::Other)
+                }
+            }
             Err(fault) => as_other(&fault),
         }
     }
