@@ -3,7 +3,7 @@ use Rattle.std.specs.Prelude.{◌≡◌, ℕ, ◌==◌, true, false, cond, List,
 use Rattle.office_reports.specs.Names.{line}
 use Rattle.sqlite.specs.{Held.{Held, state}, Recovery.Image, State.HasCleanDisk}
 use Rattle.sqlite_trees.specs.declared.store.Store.{Ghosts}
-use Rattle.office_closing.specs.{Register.{ArchiveContent, RegisterContent, closed_by}, Sound.is_sound}
+use Rattle.office_closing.specs.{Register.{ArchiveContent, RegisterContent, closed_by, is_of_terminal}, Sound.is_sound}
 use Rattle.office_admission.specs.Setups.{SetupContent}
 use Rattle.office_commands.specs.Beside.{IsOfDayHeld, IsSetUpHeld}
 use Rattle.office_archive_files.specs.{Archives.IsSealedAt, declared.shelf.Found.Found}
@@ -41,7 +41,7 @@ abbrev pub listing_status : (count : ℕ) → ℕ
 listing_status count = cond (count == 0) 1 0
 
 -- The lines of the archives that a sound register names are printed: of the store at a path, whose set-up is what its files held,
--- and which is of no day before that register.
+-- and which is of no day before that register, and of no other terminal.
 pub record IsListed {S T : Type 0} (g : Ghosts S) (h : Ghosts T) (held image : Image) (path : List ℕ)
     (prints : (text : List ℕ) (wanted : ℕ) → Type 0) : Type 0 where
   pub store : SetupContent
@@ -50,6 +50,7 @@ pub record IsListed {S T : Type 0} (g : Ghosts S) (h : Ghosts T) (held image : I
   pub looked : Held S
   pub store_is : HasCleanDisk (state g looked) → IsSetUpHeld held (closed_by names) store
   pub of_day : HasCleanDisk (state g looked) → IsOfDayHeld held names
+  pub of_terminal : is_of_terminal store.terminal names ≡ true
   pub lines : List ℕ
   pub follow : FollowIn (IsFoundAt h image path store names) names.archives [] lines
   pub printed : prints (listing_text (length names.archives) lines) (listing_status (length names.archives))

@@ -1,5 +1,5 @@
 -- Why a store is not opened.
-use Rattle.std.{specs.Prelude.IfErr, proofs.Common.{refl, not, Bool, ◌≡◌, ℕ, List, true, false, inl, inr, subst, Result, Ok, Err, IsTrue}}
+use Rattle.std.{specs.Prelude.IfErr, proofs.Common.{◌≡◌, ℕ, List, true, false, inl, inr, ap, subst, ◌∙◌, Result, Ok, Err, IsTrue}}
 use Rattle.sqlite.specs.{Effect.Database, Held.{Held, state}, Recovery.Image, State.HasCleanDisk}
 use Rattle.sqlite_trees.specs.declared.store.Store.{Ghosts}
 use Rattle.office_rows.specs.{Rows.Rows, Shown.AreNexts, Stored.HasRows, Tables.office_schema}
@@ -87,6 +87,9 @@ other_over g image found last names setup terminal shows sound reads loads other
   other = λ clean schema. (setup, terminal, loads clean schema, other);
 }
 
-pub off_if : (b : Bool) → not b ≡ true → b ≡ false
-off_if true e = absurd cc
-off_if false e = refl
+-- the same of what was loaded by the register that was read
+pub other_loaded : {S X : Type 0} (g : Ghosts S) (image : Image) (found last : Held S) (names its : RegisterContent) (closed : ClosedContent) (setup : SetupContent) (terminal : TerminalState) {read : X} → Shows g image found → IsTrue (is_sound names) → OnlyReads (state g found) (state g last) (Ok read)
+    → its ≡ names → closed ≡ closed_by its → (HasCleanDisk (state g last) → (state g found).committed.schema ≡ office_schema → LoadsOwn closed (state g found).committed setup terminal) → is_of_terminal setup.terminal its ≡ false → IsOfOtherOver g image
+other_loaded g image found last names its closed setup terminal shows sound reads same closed_is loads other =
+    other_over g image found last names setup terminal shows sound reads (λ clean schema. subst (λ k. LoadsOwn k (state g found).committed setup terminal) (closed_is ∙ ap closed_by same) (loads clean schema))
+    (subst (λ r. is_of_terminal setup.terminal r ≡ false) same other)

@@ -1,4 +1,4 @@
-ghost use Rattle.std.specs.Prelude.{◌≡◌, not, IfErr, IfOk, IsTrue, string_bytes};
+ghost use Rattle.std.specs.Prelude.{◌≡◌, IfErr, IfOk, IsTrue, string_bytes};
 ghost use Rattle.sqlite.specs.{Held.state, State.HasCleanDisk};
 ghost use Rattle.office_admission.specs.{Given.IsGiven, Setups.setup_content};
 ghost use Rattle.office_closing.specs.{Register.{closed_by, is_newer_than, is_of_terminal, register_content}, Sound.is_sound};
@@ -44,11 +44,11 @@ impl Loaded {
         self.register.is_newer_than(&self.there.nexts)
     }
 
-    /// Whether its register is of another terminal's store.
-    pub(crate) fn is_of_other(&self) -> bool
-        ensures { result ≡ not (is_of_terminal (setup_content self.now.setup).terminal (register_content self.now.register)) }
+    /// Whether its register is of its terminal.
+    pub(crate) fn is_of_terminal(&self) -> bool
+        ensures { result ≡ is_of_terminal (setup_content self.now.setup).terminal (register_content self.now.register) }
     {
-        !self.register.is_of_terminal(self.setup.terminal.as_str())
+        self.register.is_of_terminal(self.setup.terminal.as_str())
     }
 }
 

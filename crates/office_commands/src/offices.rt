@@ -2,7 +2,7 @@ ghost use Rattle.std.specs.{Prelude.{◌≡◌, ◌≢◌, false, List, [], IfEr
 ghost use Rattle.office_archives.specs.Shelves.{NamesAll};
 ghost use Rattle.office_commands.specs.{Beside.{IsLoaded, IsOfDayHeld, IsSetUpHeld, OpensWith}, Opening.{Shows, ShowsHeld}};
 ghost use Rattle.office_commands.specs.Refusing.{IsMarked, IsOfRegister, IsRefused, IsUnloaded, IsUnopened};
-ghost use Rattle.office_closing.specs.{Changes.empty_register, Register.{RegisterContent, closed_by, is_newer_than, register_content}, Sound.is_sound};
+ghost use Rattle.office_closing.specs.{Changes.empty_register, Register.{RegisterContent, closed_by, is_newer_than, is_of_terminal, register_content}, Sound.is_sound};
 ghost use Rattle.office_loading.specs.{Closed.closed_content, Tables.LoadsOwn};
 ghost use Rattle.office_parts.specs.Archives.{Archive};
 ghost use Rattle.office_admission.specs.Setups.{setup_content};
@@ -77,9 +77,15 @@ pub fn open_office<S: Start, A: Archives, M: ArchivesBeside<A>>(
     let mut looked = look_at_store(rt, store, start)?;
     let register = read_unmarked(rt, store)?;
     match load_office(rt.alloc(), store, &mut looked, register) {
-        Ok(loaded) if loaded.is_of_other() => Err(OpenFault::Other),
-        Ok(loaded) if loaded.is_older() => Err(OpenFault::Older),
-        Ok(loaded) => Ok(join(looked, loaded, beside)),
+        Ok(loaded) => {
+            if !loaded.is_of_terminal() {
+                return Err(OpenFault::Other);
+            }
+            if loaded.is_older() {
+                return Err(OpenFault::Older);
+            }
+            Ok(join(looked, loaded, beside))
+        }
         Err(fault) => Err(OpenFault::Store(fault)),
     }
 }
@@ -100,9 +106,15 @@ pub fn open_to_look<S: Start, A: Archives, M: ArchivesBeside<A>>(
     let mut looked = look_at_store(rt, store, start)?;
     let register = read_names(rt, store)?;
     match load_office(rt.alloc(), store, &mut looked, register) {
-        Ok(loaded) if loaded.is_of_other() => Err(OpenFault::Other),
-        Ok(loaded) if loaded.is_older() => Err(OpenFault::Older),
-        Ok(loaded) => Ok(join(looked, loaded, beside)),
+        Ok(loaded) => {
+            if !loaded.is_of_terminal() {
+                return Err(OpenFault::Other);
+            }
+            if loaded.is_older() {
+                return Err(OpenFault::Older);
+            }
+            Ok(join(looked, loaded, beside))
+        }
         Err(fault) => Err(OpenFault::Store(fault)),
     }
 }
@@ -168,6 +180,8 @@ pub fn look_at_office<S: Start>(
         IsSetUpHeld (image_at S.Start) (closed_by (register_content looked.1)) (setup_content looked.2)) }
     ensures of_day { IfOk result (λ looked. HasCleanDisk (file_state looked.0.conn) →
         IsOfDayHeld (image_at S.Start) (register_content looked.1)) }
+    ensures of_terminal { IfOk result (λ looked.
+        is_of_terminal (setup_content looked.2).terminal (register_content looked.1) ≡ true) }
     ensures refused { IfErr result (IsRefused ⟦<FileStore<FileFrom<S>> as sqlite_trees::store::Store>⟧ (image_at S.Start) ⊥) }
 {
     let mut looked = match look_there(rt, store, start) {
@@ -175,14 +189,17 @@ pub fn look_at_office<S: Start>(
         Err(fault) => return Err(OpenFault::Store(fault)),
     };
     let register = read_names(rt, store)?;
-    match read_setup(rt.alloc(), &mut looked, &register) {
-        Ok((setup, _)) if !register.is_of_terminal(setup.terminal.as_str()) => {
-            Err(OpenFault::Other)
-        }
-        Ok((_, there)) if register.is_newer_than(&there.nexts) => Err(OpenFault::Older),
-        Ok((setup, _)) => Ok((looked, register, setup)),
-        Err(fault) => Err(OpenFault::Store(fault)),
+    let (setup, there) = match read_setup(rt.alloc(), &mut looked, &register) {
+        Ok(read) => read,
+        Err(fault) => return Err(OpenFault::Store(fault)),
+    };
+    if !register.is_of_terminal(setup.terminal.as_str()) {
+        return Err(OpenFault::Other);
     }
+    if register.is_newer_than(&there.nexts) {
+        return Err(OpenFault::Older);
+    }
+    Ok((looked, register, setup))
 }
 
 /// The set-up that the tables of a store hold, of which its register says what is closed, and what is kept in memory beside
@@ -218,7 +235,8 @@ fn join<S: Alter + Drop, A: Archives, M: ArchivesBeside<A>>(
     loaded: Loaded,
     beside: &M,
 ) -> ArchivedDesk<S, A>
-    requires { is_newer_than loaded.there.nexts.items (register_content loaded.register) ≡ false }
+    requires of_day { is_newer_than loaded.there.nexts.items (register_content loaded.register) ≡ false }
+    requires of_terminal { is_of_terminal (setup_content loaded.setup).terminal (register_content loaded.register) ≡ true }
     ensures { (found : _) (image : Image) → Shows S.Store image found →
         IsLoaded S.Store found looked.inner.conn (closed_content loaded.closed) (setup_content loaded.setup) loaded.there →
         OpensWith S.Store M.hold A.are image (register_content loaded.register) (result.desk, result.archives) }

@@ -2,13 +2,13 @@ use Rattle.std.proofs.{Common.{◌≡◌, false, inl, inr, ap, sym, subst, ◌�
 use Rattle.sqlite.specs.{Files.over_files, WalFiles.image_at}
 use Rattle.office_rows.specs.{Stored.HasRows, Tables.office_schema}
 use Rattle.office_tables.proofs.WriteLemmas.{was_clean}
-use Rattle.office_closing.specs.Register.{is_newer_than, register_content, is_of_terminal}
-use Rattle.office_commands.proofs.RefusingLemmas.{older_over, refused_names, unloaded_over, other_over}
 use Rattle.office_admission.specs.Setups.{setup_content}
+use Rattle.office_closing.specs.Register.{is_newer_than, is_of_terminal, register_content}
+use Rattle.office_commands.proofs.RefusingLemmas.{older_over, other_over, refused_names, unloaded_over}
 use Rattle.office_commands.proofs.offices.look_at_office.Goals as goal
 
-pub returns-in-Ok-read_setup-3-clause-setup : goal.returns-in-Ok-read_setup-3-clause-setup
-returns-in-Ok-read_setup-3-clause-setup g c = c.in-Ok-read_setup-3.ensures.setup (image_at g.S.Start) c.in-Ok.ensures.found
+pub returns-clause-setup : goal.returns-clause-setup
+returns-clause-setup g c = c.in-Ok-read_setup.ensures.setup (image_at g.S.Start) c.in-Ok.ensures.found
 
 -- What it awaits had not been taken as an archive was closed.
 pub returns-clause-of_day : goal.returns-clause-of_day
@@ -18,6 +18,11 @@ returns-clause-of_day g c = λ clean db rows held has.
     let is = c.in-Ok.ensures.found (was_clean c.in-Ok-read_setup.ensures.reads clean) db office_schema held.held held.lists in
     let of_day : is_newer_than nexts names ≡ false = ap (λ n. is_newer_than n names) (sym c.deref.ensures.value) ∙ sym c.is_newer_than.ensures ∙ c.if-is_newer_than.false in
     (nexts, c.in-Ok-read_setup.ensures.nexts clean rows (subst (HasRows rows) (sym is) has), of_day)
+
+pub returns-clause-of_terminal : goal.returns-clause-of_terminal
+returns-clause-of_terminal g c =
+    let names = register_content c.in_ok-register.register in
+    ap (λ code. is_of_terminal code names) (sym c.as_str.ensures.value) ∙ sym c.is_of_terminal.ensures ∙ c.if-not-is_of_terminal.false
 
 -- ---- why it is not opened
 
@@ -34,17 +39,17 @@ returns-in-Err-read_setup-clause-refused g c =
     inr (unloaded_over over_files (image_at g.S.Start) c.in-Ok.looked.conn c.read_setup.new.looked.conn (register_content c.in_ok-register.register) c.read_setup.result c.in-Err-read_setup.fault c.in-Ok.ensures.found c.in_ok-register.ensures.sound c.read_setup.ensures.reads c.in-Err-read_setup.ensures.refused)
 
 -- the register that was read is of another terminal
-pub returns-in-Ok-read_setup-clause-refused : goal.returns-in-Ok-read_setup-clause-refused
-returns-in-Ok-read_setup-clause-refused g c =
+pub returns-then-not-is_of_terminal-clause-refused : goal.returns-then-not-is_of_terminal-clause-refused
+returns-then-not-is_of_terminal-clause-refused g c =
     let names = register_content c.in_ok-register.register in
-    let setup = setup_content c.in-Ok-read_setup.setup in
-    let other = ap (λ code. is_of_terminal code names) (sym c.as_str.ensures.value) ∙ sym c.is_of_terminal.ensures ∙ c.if-not-branch.true in
-    other_over over_files (image_at g.S.Start) c.in-Ok.looked.conn c.read_setup.new.looked.conn names setup c.in-Ok-read_setup.field-1.terminal c.in-Ok.ensures.found c.in_ok-register.ensures.sound c.in-Ok-read_setup.ensures.reads c.in-Ok-read_setup.ensures.loads other
+    let read = c.in-Ok-read_setup.read in
+    let other = ap (λ code. is_of_terminal code names) (sym c.as_str.ensures.value) ∙ sym c.is_of_terminal.ensures ∙ c.if-not-is_of_terminal.true in
+    other_over over_files (image_at g.S.Start) c.in-Ok.looked.conn c.read_setup.new.looked.conn names (setup_content read.0) read.1.terminal c.in-Ok.ensures.found c.in_ok-register.ensures.sound c.in-Ok-read_setup.ensures.reads c.in-Ok-read_setup.ensures.loads other
 
 -- the store awaits a number that had been taken
-pub returns-in-Ok-read_setup-2-clause-refused : goal.returns-in-Ok-read_setup-2-clause-refused
-returns-in-Ok-read_setup-2-clause-refused g c =
+pub returns-then-is_newer_than-clause-refused : goal.returns-then-is_newer_than-clause-refused
+returns-then-is_newer_than-clause-refused g c =
     let names = register_content c.in_ok-register.register in
-    let nexts = c.in-Ok-read_setup-2.there.nexts.items in
+    let nexts = c.in-Ok-read_setup.read.1.nexts.items in
     let newer = ap (λ n. is_newer_than n names) (sym c.deref.ensures.value) ∙ sym c.is_newer_than.ensures ∙ c.if-is_newer_than.true in
-    older_over over_files (image_at g.S.Start) c.in-Ok.looked.conn c.read_setup.new.looked.conn names nexts c.in-Ok.ensures.found c.in_ok-register.ensures.sound c.in-Ok-read_setup-2.ensures.reads c.in-Ok-read_setup-2.ensures.nexts newer
+    older_over over_files (image_at g.S.Start) c.in-Ok.looked.conn c.read_setup.new.looked.conn names nexts c.in-Ok.ensures.found c.in_ok-register.ensures.sound c.in-Ok-read_setup.ensures.reads c.in-Ok-read_setup.ensures.nexts newer
