@@ -5,7 +5,7 @@ use Rattle.std.proofs.lemmas.Bool.{eqb-true, eq-eqb, le-leb, leb-true, lt-ltb, l
 use Rattle.std.proofs.lemmas.List.Elements.{Contains-append_cases, Contains-append_left, Contains-append_right}
 use Rattle.office_rows.specs.{Rows.{Interchange, Rows}, Stored.HasRows}
 use Rattle.office_history.specs.{After.{AreKeptOnce, reply_if_any, reply_in}, Cascade.text_in}
-use Rattle.office_tables.specs.{Answers.{IsKept, RepliesAs}, Faults.IsOfStoreOr, declared.interchanges.Kept.Kept, declared.table_fault.TableFault.TableFault}
+use Rattle.office_tables.specs.{Answers.{HasUnfitReply, IsKept, RepliesAs}, Faults.IsOfStoreOr, declared.interchanges.Kept.Kept, declared.table_fault.TableFault.TableFault}
 use Rattle.office_tables.specs.declared.table_fault.TableFault.TheVariants.{Store, Damaged, Version, Memory}
 use Rattle.office_tables.proofs.WriteLemmas.{none_kept, one_kept, no_text, text_kept}
 use Rattle.office_closing.specs.{declared.faults.File.File, declared.faults.FileFault.FileFault, declared.comparing.Numbers.Numbers, Planning.AreInBoth}
@@ -121,6 +121,9 @@ module _ (before : List Numbers) (one : Numbers) (after : List Numbers) (is : af
   among_all behind all whole e =
       ap (λ l. is_among l partner number) whole ∙ list_any-append (is_of partner number) after behind
       ∙ ap (λ b. b || is_among behind partner number) (after_is ∙ or_right (is_among before partner number) (is_among (one ∷ []) partner number) e)
+
+pub unfit_one : (numbers : Numbers) (number : ℕ) (rows : Rows) → is_among (numbers ∷ []) numbers.partner number ≡ true → HasUnfitReply numbers.partner number rows → HasUnfitAmong (numbers ∷ []) rows
+unfit_one numbers number rows among unfit = record { partner = numbers.partner; number = number; among = among; unfit = unfit }
 
 pub unfit_of_all : (before : List Numbers) (one : Numbers) (after behind all : List Numbers) → after ≡ before ++ one ∷ [] → all ≡ after ++ behind → (rows : Rows) → HasUnfitAmong (one ∷ []) rows → HasUnfitAmong all rows
 unfit_of_all before one after behind all is whole rows it = record { partner = it.partner; number = it.number; among = among_all before one after is it.partner it.number behind all whole it.among; unfit = it.unfit }
