@@ -13,7 +13,7 @@ use Rattle.office_closing.specs.Comparing.{kept_text, kept_reply, IsSameKept, Is
 use Rattle.office_closing.specs.{Deleting.{is_of, is_among, all_but, goes, is_one_of, with_visits_that, without_visits}, Stored.HasRegister, Copies.FileNames}
 use Rattle.office_closing.specs.{Lists.{SettledListContent, list_content}, Changes.{closed_with, marked_for, unchanged, unmarked}, Transactions.IsSettled}
 use Rattle.office_closing.specs.{Register.{RegisterContent, archive_content, sealed_content}, declared.faults.CloseFault.CloseFault}
-use Rattle.office_closing.specs.{declared.planning.Plan.Plan, declared.planning.Stage.Stage, Files.{AreClean, AreRead, Files}}
+use Rattle.office_closing.specs.{declared.planning.Plan.Plan, declared.planning.Stage.Stage, Files.{AreClean, AreRead, Files}, Refusing.HasUnfit}
 use Rattle.office_closing.specs.{Clearing.{Clears, IsWithoutSome, IsWithoutSomeLists, IsWithoutSomeVisits}, Judging.{AreResting, IsJudged, IsResting}}
 use Rattle.office_closing.specs.Closes.{AreHeld, Closing, HasArchive, Held, IsAtStage, IsLeft, IsMarkedNow, StoresLeftRows, StoresMarked, StoresRaised, cleared, closing_content, raised_register}
 use Rattle.office_closing.{specs.Steps.{IsAsBefore, StepsIf, is_unmarked, is_unraised}, proofs.ClearLemmas.{clears_failed, clears_then, clears_weaker}}
@@ -127,6 +127,9 @@ unfit_one numbers number rows among unfit = record { partner = numbers.partner; 
 
 pub unfit_of_all : (before : List Numbers) (one : Numbers) (after behind all : List Numbers) → after ≡ before ++ one ∷ [] → all ≡ after ++ behind → (rows : Rows) → HasUnfitAmong (one ∷ []) rows → HasUnfitAmong all rows
 unfit_of_all before one after behind all is whole rows it = record { partner = it.partner; number = it.number; among = among_all before one after is it.partner it.number behind all whole it.among; unfit = it.unfit }
+
+pub has_unfit : (numbers : List Numbers) (rows : Rows) → HasUnfitAmong numbers rows → HasUnfit rows
+has_unfit numbers rows unfit = (unfit.partner, unfit.number, unfit.unfit)
 
 pub compared_more : (before : List Numbers) (one : Numbers) (after : List Numbers) → after ≡ before ++ one ∷ [] → (own copy : Rows) → IsComparedAs before own copy None → IsComparedAs (one ∷ []) own copy None → IsComparedAs after own copy None
 compared_more before one after is own copy first second partner number e = elim (among_either before one after is partner number e) [
