@@ -1,10 +1,18 @@
--- Seals: what adding one interchange after the other comes to, and which seal is that of a number.
-use Rattle.std.specs.{Prelude.option_to_list, List.{flat_map, range_with_len}}
-use Rattle.std.proofs.Common.{◌≡◌, ℕ, zero, suc, ◌+◌, ◌-◌, ◌≤◌, List, [], ◌∷◌, ◌++◌, Bool, true, false, cond, eqb, Option, None, Some, length, fold, refl, sym, ap, ◌∙◌, append_assoc, arith}
-use Rattle.std.proofs.lemmas.{List.append-nil, List.Sums.fold-append, Grind.flat_map-append}
-use Rattle.office_rows.specs.Rows.{Rows}
-use Rattle.office_closing.specs.declared.comparing.Numbers.{Numbers}
-use Rattle.office_closing.specs.Seals.{KeptContent, SealingContent, add_any, add_one, end_partner, kept_at, kept_under, most_sealed, pieces_after, seal_of, seals_of, seals_under, with_kept}
+-- Seals: what adding one interchange after the other comes to, of a partner's numbers and then of the next one's.
+use Rattle.std.specs.{Prelude.{◌↔◌, IfSome, OnOk, is_ok, option_map, option_to_list, string_bytes}, List.{flat_map, range_with_len}, Option.unwrap_or}
+use Rattle.std.proofs.Common.{◌≡◌, ℕ, zero, suc, ◌+◌, ◌-◌, ◌<◌, ◌≤◌, List, [], ◌∷◌, ◌++◌, Bool, true, false, cond, eqb, Option, None, Some, Result, Ok, Err, String, length, fold, refl, sym, ap, subst, ◌∙◌, append_assoc, arith}
+use Rattle.std.proofs.lemmas.{Bool.{eq-eqb, eqb-true}, List.{append-nil, length_push}, List.Sums.fold-append, Grind.flat_map-append}
+use Rattle.sha2.specs.{Hashers.Holds256, Sha256.sha256}
+use Rattle.office_rows.specs.Rows.{Interchange, Rows}
+use Rattle.office_history.specs.After.{AreKeptOnce}
+use Rattle.office_tables.{specs.{Answers.{IsKept, RepliesAs}, declared.interchanges.Kept.Kept}, proofs.WriteLemmas.{none_kept, one_kept}}
+use Rattle.office_closing.specs.{declared.comparing.Numbers.Numbers, declared.sealing.Sealing.Sealing, Register.{RegisterContent, SealedContent}}
+use Rattle.office_closing.specs.Seals.{HasSealOf, HasSeals, HoldsSealing, KeptContent, Sealed, SealingContent, add_any, add_one, closed_at, content_of_kept, end_partner, kept_at, kept_content, kept_under, measured, most_sealed, pieces_after, seal_at, seal_of, sealed_message, sealed_with, seals_of, seals_under, with_kept}
+
+-- what a call that did not fail has done
+pub on_ok_is : {T E P : Type 0} (result : Result T E) → OnOk result P → is_ok result ≡ true → P
+on_ok_is (Ok value) done e = done
+on_ok_is (Err error) done e = absurd cc
 
 -- ---- pieces
 
@@ -23,9 +31,64 @@ add_then true one kept seals piece all =
 add_then false one kept seals piece all = all (record { seals = seals; piece = piece ++ one ∷ [] })
 
 -- all that is kept is added, and a partner's numbers end: each piece has its seal
-pub ended : (kept : List KeptContent) (sealing : SealingContent) → end_partner (fold add_one sealing kept) ≡ sealed_then sealing.seals (pieces_after kept sealing.piece)
+ended : (kept : List KeptContent) (sealing : SealingContent) → end_partner (fold add_one sealing kept) ≡ sealed_then sealing.seals (pieces_after kept sealing.piece)
 ended [] sealing = refl
 ended (one ∷ kept) sealing = add_then (eqb (length sealing.piece + 1) most_sealed) one kept sealing.seals sealing.piece (λ next. ended kept next)
+
+-- ---- what a hasher holds
+
+message_more : (piece : List KeptContent) (one : KeptContent) → sealed_message (piece ++ one ∷ []) ≡ (sealed_message piece ++ measured one.text) ++ measured one.reply
+message_more piece one =
+    flat_map-append (λ (kept : KeptContent). measured kept.text ++ measured kept.reply) piece (one ∷ [])
+    ∙ ap (λ l. sealed_message piece ++ l) append-nil ∙ sym append_assoc
+
+module _ (sealing : SealingContent) (one : KeptContent) (next : Sealing) where
+  abbrev message : List ℕ
+  message = (sealed_message sealing.piece ++ measured one.text) ++ measured one.reply
+
+  -- one more, and its piece is not full
+  pub added_open : next.seals.items ≡ sealing.seals → next.count ≡ length sealing.piece + 1 → next.count < most_sealed → Holds256 next.hasher message → HoldsSealing next (add_one sealing one)
+  added_open seals count below holds = by (eqb (length sealing.piece + 1) most_sealed) refl
+    where
+      by : (b : Bool) → eqb (length sealing.piece + 1) most_sealed ≡ b
+          → HoldsSealing next (cond b (record { seals = sealing.seals ++ seal_of (sealing.piece ++ one ∷ []); piece = [] }) (record { seals = sealing.seals; piece = sealing.piece ++ one ∷ [] }))
+      by true e = absurd (omega (arith, eqb-true (length sealing.piece + 1) most_sealed e, count, below))
+      by false e = record {
+        seals = seals;
+        count = omega (arith, count, length_push sealing.piece one);
+        below = omega (arith, count, below, length_push sealing.piece one);
+        holds = subst (Holds256 next.hasher) (sym (message_more sealing.piece one)) holds;
+      }
+
+  -- one more, with which its piece is full
+  pub added_full : next.seals.items ≡ sealing.seals ++ sha256 message → next.count ≡ 0 → length sealing.piece + 1 ≡ most_sealed → Holds256 next.hasher [] → HoldsSealing next (add_one sealing one)
+  added_full seals count full holds = by (eqb (length sealing.piece + 1) most_sealed) (eq-eqb (length sealing.piece + 1) most_sealed full)
+    where
+      by : (b : Bool) → b ≡ true
+          → HoldsSealing next (cond b (record { seals = sealing.seals ++ seal_of (sealing.piece ++ one ∷ []); piece = [] }) (record { seals = sealing.seals; piece = sealing.piece ++ one ∷ [] }))
+      by true e = record {
+        seals = seals ∙ ap (λ m. sealing.seals ++ sha256 m) (sym (message_more sealing.piece one));
+        count = count;
+        below = omega arith;
+        holds = holds;
+      }
+      by false e = absurd cc
+
+-- a partner's numbers end where none is left without a seal
+pub ended_none : (next : Sealing) (seals : List ℕ) (piece : List KeptContent) → HoldsSealing next (record { seals = seals; piece = piece }) → next.count ≡ 0 → HoldsSealing next (end_partner (record { seals = seals; piece = piece }))
+ended_none next seals [] is none = record { seals = is.seals ∙ sym append-nil; count = is.count; below = is.below; holds = is.holds }
+ended_none next seals (one ∷ piece) is none = absurd (omega (arith, is.count, none))
+
+-- and where those that are left get theirs
+pub ended_some : (old next : Sealing) (seals : List ℕ) (piece : List KeptContent) → HoldsSealing old (record { seals = seals; piece = piece }) → 0 < old.count
+    → next.seals.items ≡ old.seals.items ++ sha256 (sealed_message piece) → next.count ≡ 0 → Holds256 next.hasher [] → HoldsSealing next (end_partner (record { seals = seals; piece = piece }))
+ended_some old next seals [] is some all count holds = absurd (omega (arith, is.count, some))
+ended_some old next seals (one ∷ piece) is some all count holds = record {
+  seals = all ∙ ap (λ s. s ++ seal_of (one ∷ piece)) is.seals ∙ ap (λ l. seals ++ l) (sym append-nil);
+  count = count;
+  below = omega arith;
+  holds = holds;
+}
 
 -- ---- a partner's numbers, one after the other
 
@@ -33,33 +96,40 @@ range_more : (a n : ℕ) → range_with_len a (n + 1) ≡ range_with_len a n ++ 
 range_more a zero = ap (λ k. k ∷ []) (omega arith)
 range_more a (suc n) = ap (λ l. a ∷ l) (range_more (suc a) n ∙ ap (λ k. range_with_len (suc a) n ++ k ∷ []) (omega arith))
 
-abbrev up_to : Numbers → ℕ → Numbers
+abbrev pub up_to : Numbers → ℕ → Numbers
 up_to numbers to = record numbers { to = to }
 
--- one more number
-pub under_more : (rows : Rows) (numbers : Numbers) (number : ℕ) → numbers.from ≤ number → kept_under rows (up_to numbers (number + 1)) ≡ kept_under rows (up_to numbers number) ++ option_to_list (kept_at rows numbers.partner (number + 1))
-under_more rows numbers number above =
-    let at = λ (k : ℕ). option_to_list (kept_at rows numbers.partner k) in
-    let span = number - numbers.from in
-    let more : range_with_len (numbers.from + 1) (number + 1 - numbers.from) ≡ range_with_len (numbers.from + 1) span ++ (number + 1) ∷ [] =
-        ap (range_with_len (numbers.from + 1)) (omega arith) ∙ range_more (numbers.from + 1) span ∙ ap (λ k. range_with_len (numbers.from + 1) span ++ k ∷ []) (omega arith) in
-    ap (flat_map at) more ∙ flat_map-append at (range_with_len (numbers.from + 1) span) ((number + 1) ∷ []) ∙ ap (λ l. flat_map at (range_with_len (numbers.from + 1) span) ++ l) append-nil
+module _ (rows : Rows) (numbers : Numbers) where
+  abbrev at : ℕ → List KeptContent
+  at number = option_to_list (kept_at rows numbers.partner number)
 
--- none yet
-pub under_none : (rows : Rows) (numbers : Numbers) → kept_under rows (up_to numbers numbers.from) ≡ []
-under_none rows numbers = ap (λ n. flat_map (λ k. option_to_list (kept_at rows numbers.partner k)) (range_with_len (numbers.from + 1) n)) (omega arith)
+  -- one more number
+  under_more : (number : ℕ) → numbers.from ≤ number → kept_under rows (up_to numbers (number + 1)) ≡ kept_under rows (up_to numbers number) ++ at (number + 1)
+  under_more number above =
+      let span = number - numbers.from in
+      let more : range_with_len (numbers.from + 1) (number + 1 - numbers.from) ≡ range_with_len (numbers.from + 1) span ++ (number + 1) ∷ [] =
+          ap (range_with_len (numbers.from + 1)) (omega arith) ∙ range_more (numbers.from + 1) span ∙ ap (λ k. range_with_len (numbers.from + 1) span ++ k ∷ []) (omega arith) in
+      ap (flat_map at) more ∙ flat_map-append at (range_with_len (numbers.from + 1) span) ((number + 1) ∷ [])
+      ∙ ap (λ l. flat_map at (range_with_len (numbers.from + 1) span) ++ l) append-nil
 
--- what is kept under one more is added
-any_is : (sealing : SealingContent) (any : Option KeptContent) → add_any sealing any ≡ fold add_one sealing (option_to_list any)
-any_is sealing None = refl
-any_is sealing (Some one) = refl
+  -- none yet
+  pub under_none : kept_under rows (up_to numbers numbers.from) ≡ []
+  under_none = ap (λ n. flat_map at (range_with_len (numbers.from + 1) n)) (omega arith)
 
-pub added_more : (rows : Rows) (numbers : Numbers) (number : ℕ) (sealing : SealingContent) → numbers.from ≤ number
-    → add_any (fold add_one sealing (kept_under rows (up_to numbers number))) (kept_at rows numbers.partner (number + 1)) ≡ fold add_one sealing (kept_under rows (up_to numbers (number + 1)))
-added_more rows numbers number sealing above =
-    let before = kept_under rows (up_to numbers number) in
-    let any = kept_at rows numbers.partner (number + 1) in
-    any_is (fold add_one sealing before) any ∙ sym (fold-append add_one sealing before (option_to_list any)) ∙ ap (fold add_one sealing) (sym (under_more rows numbers number above))
+  -- all of them
+  pub under_all : (number : ℕ) → numbers.from ≤ number → number - numbers.from ≤ numbers.to - numbers.from → numbers.to ≤ number → kept_under rows (up_to numbers number) ≡ kept_under rows numbers
+  under_all number above within end = ap (λ n. flat_map at (range_with_len (numbers.from + 1) n)) (omega arith)
+
+  -- what is kept under one more is added
+  pub added_more : (number : ℕ) (sealing : SealingContent) → numbers.from ≤ number
+      → add_any (fold add_one sealing (kept_under rows (up_to numbers number))) (kept_at rows numbers.partner (number + 1)) ≡ fold add_one sealing (kept_under rows (up_to numbers (number + 1)))
+  added_more number sealing above =
+      let before = kept_under rows (up_to numbers number) in
+      any_is (fold add_one sealing before) (kept_at rows numbers.partner (number + 1)) ∙ sym (fold-append add_one sealing before (at (number + 1))) ∙ ap (fold add_one sealing) (sym (under_more number above))
+    where
+      any_is : (so_far : SealingContent) (any : Option KeptContent) → add_any so_far any ≡ fold add_one so_far (option_to_list any)
+      any_is so_far None = refl
+      any_is so_far (Some one) = refl
 
 -- ---- the numbers of one partner after the other
 
@@ -71,3 +141,66 @@ sealed_more rows before numbers after is =
     ended (kept_under rows numbers) (so_far rows before)
     ∙ ap (λ s. record { seals = s; piece = [] })
       (ap (λ l. seals_of rows before ++ l) (sym append-nil) ∙ sym (flat_map-append (seals_under rows) before (numbers ∷ [])) ∙ ap (seals_of rows) (sym is))
+
+-- ---- what is read
+
+reply_text : {Z : Type 0} (reply : Option (String Z)) (text : List ℕ) → RepliesAs reply text → unwrap_or (option_map (λ (r : String Z). string_bytes r) reply) [] ≡ text
+reply_text None text is = sym is
+reply_text (Some reply) text is = sym is.0
+
+-- what is read under a number is what the rows keep there
+pub kept_is : (partner number : ℕ) (rows : Rows) (kept : Option Kept) → AreKeptOnce rows.interchanges → IsKept partner number rows kept → option_map content_of_kept kept ≡ kept_at rows partner number
+kept_is partner number rows None once is = sym (ap (option_map kept_content) (none_kept partner number rows is))
+kept_is partner number rows (Some kept) once is =
+    let i : Interchange = is.0 in
+    let same : content_of_kept kept ≡ kept_content i = λ j. record { text = is.2 j; reply = reply_text kept.reply i.reply is.3 j } in
+    ap Some same ∙ sym (ap (option_map kept_content) (one_kept partner number rows i once is.1))
+
+-- ---- whether they are the same
+
+module _ (register : RegisterContent) (place : ℕ) (rows : Rows) where
+  -- of the archive nothing is sealed
+  pub has_none : None ≡ sealed_with place register.sealed → (true ≡ true) ↔ HasSeals register place rows
+  has_none none = (λ e. subst (λ any. IfSome any (λ one. seals_of rows (closed_at place register.segments) ≡ one.seals)) none tt, λ has. refl)
+
+  pub has_none_of : (partner number : ℕ) → None ≡ sealed_with place register.sealed → (true ≡ true) ↔ HasSealOf register place partner number rows
+  has_none_of partner number none =
+      (λ e. subst (λ any. IfSome any (λ one. (sealed : Sealed) × (seal_at (closed_at place register.segments) one.seals partner number ≡ Some sealed) × (seals_of rows (sealed.piece ∷ []) ≡ sealed.seal))) none tt, λ has. refl)
+
+  module _ (one : SealedContent) (some : Some one ≡ sealed_with place register.sealed) where
+    -- all that the rows keep has the seals
+    pub has_all : (seals : List ℕ) (answer : Bool) → seals ≡ seals_of rows (closed_at place register.segments) → (answer ≡ true) ↔ (seals ≡ one.seals) → (answer ≡ true) ↔ HasSeals register place rows
+    has_all seals answer are tells = (
+      λ yes. subst (λ any. IfSome any (λ one. seals_of rows (closed_at place register.segments) ≡ one.seals)) some (sym are ∙ tells.0 yes),
+      λ has. tells.1 (are ∙ subst (λ any. IfSome any (λ one. seals_of rows (closed_at place register.segments) ≡ one.seals)) (sym some) has),
+    )
+
+    module _ (partner number : ℕ) where
+      abbrev found_seal : Option Sealed
+      found_seal = seal_at (closed_at place register.segments) one.seals partner number
+
+      abbrev HasThis : SealedContent → Type 0
+      HasThis one =
+          (sealed : Sealed) × (seal_at (closed_at place register.segments) one.seals partner number ≡ Some sealed) × (seals_of rows (sealed.piece ∷ []) ≡ sealed.seal)
+
+      -- the number has no seal
+      pub has_no_seal : found_seal ≡ None → (false ≡ true) ↔ HasSealOf register place partner number rows
+      has_no_seal none = (
+        λ e. absurd cc,
+        λ has.
+            let it = subst (λ any. IfSome any HasThis) (sym some) has in
+            let both = sym none ∙ it.1 in
+            absurd cc,
+      )
+
+      -- what the rows keep together with the number has its seal
+      pub has_one : (sealed : Sealed) (seals : List ℕ) (answer : Bool) → found_seal ≡ Some sealed → seals ≡ seals_of rows (sealed.piece ∷ []) → (answer ≡ true) ↔ (seals ≡ sealed.seal)
+          → (answer ≡ true) ↔ HasSealOf register place partner number rows
+      has_one sealed seals answer found are tells = (
+        λ yes. subst (λ any. IfSome any HasThis) some (sealed, found, sym are ∙ tells.0 yes),
+        λ has.
+            let it = subst (λ any. IfSome any HasThis) (sym some) has in
+            let both : Some it.0 ≡ Some sealed = sym it.1 ∙ found in
+            let same : it.0 ≡ sealed = cc in
+            tells.1 (are ∙ subst (λ (s : Sealed). seals_of rows (s.piece ∷ []) ≡ s.seal) same it.2),
+      )

@@ -1,5 +1,5 @@
 -- What a closing is to do, as the opened offices and their registers tell.
-use Rattle.std.specs.Prelude.{◌≡◌, ◌≢◌, ◌↔◌, ℕ, Bool, true, Option, None, Some, List, Contains, filter, map}
+use Rattle.std.specs.Prelude.{◌≡◌, ◌≢◌, ◌↔◌, ℕ, Bool, true, Option, None, Some, List, [], Contains, filter, map}
 use Rattle.office_parts.specs.OwnLists.{ListName}
 use Rattle.office_closing.specs.{Changes.unmarked, Lists.{SettledListContent, list_content}, Register.{SealedContent, archive_content, sealed_content}}
 use Rattle.office_closing.specs.{declared.register.Segment.Segment, declared.faults.CloseFault.CloseFault, declared.planning.ClosingLists.ClosingLists}

@@ -1,5 +1,5 @@
-ghost use Rattle.std.specs.Prelude.{◌≡◌, ◌↔◌, [], ◌∷◌, true, IfOk, IfErr, IfSome, None, OnOk, is_ok, option_map};
-ghost use Rattle.office_closing.specs.{Seals.{HoldsSealing, add_any, content_of_kept, kept_at, seals_of, with_kept}, Files.{IsRead, IsReadIfOpen}};
+ghost use Rattle.std.specs.Prelude.{◌≡◌, ◌↔◌, [], ◌∷◌, true, IfOk, IfErr, IfSome, None, OnOk, is_ok};
+ghost use Rattle.office_closing.specs.{Seals.{HoldsSealing, SealingContent, add_any, kept_at, seals_of, with_kept}, Files.{IsRead, IsReadIfOpen}};
 ghost use Rattle.office_closing.specs.Comparing.{HasUnfitAmong, IsComparedAs, IsOfEither, IsSameKept, IsToldAlike, difference_in, seals_in};
 ghost use Rattle.office_history.specs.After.{AreKeptOnce};
 ghost use Rattle.office_rows.specs.{Rows.Rows, Stored.HasRows};
@@ -85,7 +85,7 @@ fn compare_numbers<S: Alter, A: Alter>(
         IsComparedAs (numbers ∷ []) own copy found) }
     ensures sealed { HasCleanDisk (state S.Store store.new) → HasCleanDisk (state A.Store archive.new) →
         IfOk result (λ found. found ≡ None → (copy : Rows) → HasRows copy (state A.Store archive.old).now →
-        AreKeptOnce copy.interchanges → (sealed : _) → HoldsSealing sealing.old sealed →
+        AreKeptOnce copy.interchanges → (sealed : SealingContent) → HoldsSealing sealing.old sealed →
         HoldsSealing sealing.new (with_kept copy sealed numbers)) }
     ensures fault { HasCleanDisk (state S.Store store.new) → HasCleanDisk (state A.Store archive.new) →
         IfErr result (λ fault. (own copy : Rows) → HasRows own (state S.Store store.old).now →
@@ -122,7 +122,7 @@ fn is_kept_alike<S: Alter, A: Alter>(
         ((alike ≡ true) ↔ IsToldAlike partner number own copy)) }
     ensures sealed { HasCleanDisk (state S.Store store.new) → HasCleanDisk (state A.Store archive.new) →
         IfOk result (λ alike. alike ≡ true → (copy : Rows) → HasRows copy (state A.Store archive.old).now →
-        AreKeptOnce copy.interchanges → (sealed : _) → HoldsSealing sealing.old sealed →
+        AreKeptOnce copy.interchanges → (sealed : SealingContent) → HoldsSealing sealing.old sealed →
         HoldsSealing sealing.new (add_any sealed (kept_at copy partner number))) }
     ensures fault { HasCleanDisk (state S.Store store.new) → HasCleanDisk (state A.Store archive.new) →
         IfErr result (λ fault. (own copy : Rows) → HasRows own (state S.Store store.old).now →
@@ -136,20 +136,8 @@ fn is_kept_alike<S: Alter, A: Alter>(
     if !is_same(&own, &copy) {
         return Ok(false);
     }
-    seal_kept(sealing, &copy)?;
+    sealed_in_memory(sealing.add(&copy))?;
     Ok(true)
-}
-
-/// Adds what an archive keeps under a number, if anything, to what is sealed.
-fn seal_kept(sealing: &mut Sealing, kept: &Option<Kept>) -> Result<(), FileFault>
-    ensures sealed { OnOk result ((sealed : _) → HoldsSealing sealing.old sealed →
-        HoldsSealing sealing.new (add_any sealed (option_map content_of_kept kept.now))) }
-    ensures fault { IfErr result (IsOfEither ⊥ ⊥) }
-{
-    match kept {
-        Some(kept) => sealed_in_memory(sealing.add(kept)),
-        None => Ok(()),
-    }
 }
 
 /// Whether there was memory to seal what an archive keeps.

@@ -338,8 +338,8 @@ fn with_seals(
     mut sealed: Vec<SealedArchive>,
     seals: Vec<u8>,
 ) -> Result<Vec<SealedArchive>, AllocError>
-    ensures { IfOk result (λ all. length sealed.entry.items ≤ 1 → map sealed_content all.items
-        ≡ map (λ one. with_seals seals.items (sealed_content one)) sealed.entry.items) }
+    ensures { IfOk result (λ all. length sealed.items ≤ 1 → map sealed_content all.items
+        ≡ map (λ one. with_seals seals.items (sealed_content one)) sealed.items) }
 {
     if let Some(one) = sealed.pop() {
         let SealedArchive {

@@ -18,7 +18,7 @@ pub struct SealedArchive {
 
 /// What was sealed with the archive at a place, if anything was.
 pub(crate) fn sealed_with(sealed: &[SealedArchive], place: u16) -> Option<&SealedArchive>
-    ensures { option_map (λ one. sealed_content one.now) result.entry ≡ sealed_with place (map sealed_content sealed.now) }
+    ensures { option_map (λ one. sealed_content one.now) result ≡ sealed_with place (map sealed_content sealed.now) }
 {
     for one in sealed {
         if one.archive == place {

@@ -1,11 +1,11 @@
 //! Seals: what tells the texts that an archive closes, and their replies, from all others.
-ghost use Rattle.std.specs.Prelude.{◌≡◌, [], ◌∷◌, ◌++◌, ℕ, List, IfErr, IfOk, OnOk};
+ghost use Rattle.std.specs.Prelude.{◌≡◌, [], ◌∷◌, ◌++◌, ℕ, List, IfErr, IfOk, OnOk, option_map};
 ghost use Rattle.sha2.specs.{Hashers.Holds256, Sha256.sha256};
-ghost use Rattle.office_closing.specs.Seals.{HoldsSealing, add_one, content_of_kept, end_partner, measured, no_seals, seals_of, with_kept};
+ghost use Rattle.office_closing.specs.Seals.{HoldsSealing, SealingContent, add_any, add_one, content_of_kept, end_partner, measured, no_seals, seals_of, with_kept};
 ghost use Rattle.office_closing.specs.Comparing.{HasUnfitAmong};
 ghost use Rattle.office_history.specs.After.{AreKeptOnce};
 ghost use Rattle.office_rows.specs.{Rows.Rows, Stored.HasRows};
-ghost use Rattle.office_tables.specs.{Faults.IsOfStoreOr, Reading.Reads};
+ghost use Rattle.office_tables.specs.{DeliveryReading.OnlyReads, Faults.IsOfStoreOr};
 ghost use Rattle.sqlite.specs.{Held.state, State.HasCleanDisk};
 
 use crate::comparing::Numbers;
@@ -42,16 +42,24 @@ impl Sealing {
         }
     }
 
+    /// What is kept under a number of the same partner, if anything is.
+    pub(crate) fn add(&mut self, kept: &Option<Kept>) -> Result<(), AllocError>
+        ensures { OnOk result ((sealing : SealingContent) → HoldsSealing self.old sealing →
+            HoldsSealing self.new (add_any sealing (option_map content_of_kept kept.now))) }
+    {
+        match kept {
+            Some(kept) => self.add_one(kept),
+            None => Ok(()),
+        }
+    }
+
     /// One more of the same partner's.
-    pub(crate) fn add(&mut self, kept: &Kept) -> Result<(), AllocError>
-        ensures { OnOk result ((sealing : _) → HoldsSealing self.old sealing →
+    fn add_one(&mut self, kept: &Kept) -> Result<(), AllocError>
+        ensures { OnOk result ((sealing : SealingContent) → HoldsSealing self.old sealing →
             HoldsSealing self.new (add_one sealing (content_of_kept kept.now))) }
     {
         absorb(&mut self.hasher, &kept.text);
-        match &kept.reply {
-            Some(reply) => absorb(&mut self.hasher, reply.as_bytes()),
-            None => absorb(&mut self.hasher, &[]),
-        }
+        absorb(&mut self.hasher, reply_of(kept));
         self.count = self.count.saturating_add(1);
         if self.count >= MOST_SEALED {
             self.seal()?;
@@ -61,7 +69,7 @@ impl Sealing {
 
     /// All of a partner's were added.
     pub(crate) fn end_partner(&mut self) -> Result<(), AllocError>
-        ensures { OnOk result ((sealing : _) → HoldsSealing self.old sealing →
+        ensures { OnOk result ((sealing : SealingContent) → HoldsSealing self.old sealing →
             HoldsSealing self.new (end_partner sealing)) }
     {
         if self.count > 0 {
@@ -83,7 +91,7 @@ impl Sealing {
 
     /// The seals.
     pub(crate) fn into_seals(self) -> Vec<u8>
-        ensures { (sealing : _) → HoldsSealing self sealing → result.items ≡ sealing.seals }
+        ensures { (sealing : SealingContent) → HoldsSealing self sealing → result.items ≡ sealing.seals }
     {
         let Sealing {
             seals,
@@ -91,6 +99,16 @@ impl Sealing {
             count: _,
         } = self;
         seals
+    }
+}
+
+/// The reply that is kept, empty while it waits.
+fn reply_of(kept: &Kept) -> &[u8]
+    ensures { result.now ≡ (content_of_kept kept.now).reply }
+{
+    match &kept.reply {
+        Some(reply) => reply.as_bytes(),
+        None => &[],
     }
 }
 
@@ -117,7 +135,7 @@ pub fn seals_of<S: Alter>(
         seals.items ≡ seals_of rows closing.now) }
     ensures fault { HasCleanDisk (state S.Store conn.new) → IfErr result (λ fault. (rows : Rows) →
         HasRows rows (state S.Store conn.old).now → IsOfStoreOr (HasUnfitAmong closing.now rows) fault) }
-    ensures reads { Reads (state S.Store conn.old) (state S.Store conn.new) result }
+    ensures reads { OnlyReads (state S.Store conn.old) (state S.Store conn.new) result }
 {
     let mut sealing = Sealing::new(alloc);
     for numbers in closing {
@@ -133,18 +151,17 @@ fn seal_partner<S: Alter>(
     sealing: &mut Sealing,
 ) -> Result<(), TableFault>
     ensures seals { HasCleanDisk (state S.Store conn.new) → OnOk result ((rows : Rows) →
-        HasRows rows (state S.Store conn.old).now → AreKeptOnce rows.interchanges → (sealed : _) →
+        HasRows rows (state S.Store conn.old).now → AreKeptOnce rows.interchanges → (sealed : SealingContent) →
         HoldsSealing sealing.old sealed → HoldsSealing sealing.new (with_kept rows sealed numbers)) }
     ensures fault { HasCleanDisk (state S.Store conn.new) → IfErr result (λ fault. (rows : Rows) →
         HasRows rows (state S.Store conn.old).now → IsOfStoreOr (HasUnfitAmong (numbers ∷ []) rows) fault) }
-    ensures reads { Reads (state S.Store conn.old) (state S.Store conn.new) result }
+    ensures reads { OnlyReads (state S.Store conn.old) (state S.Store conn.new) result }
 {
     let mut number = numbers.from;
     while number < numbers.to {
         number += 1;
-        if let Some(kept) = kept(conn, numbers.partner, number)? {
-            sealing.add(&kept)?;
-        }
+        let kept = kept(conn, numbers.partner, number)?;
+        sealing.add(&kept)?;
     }
     sealing.end_partner()?;
     Ok(())

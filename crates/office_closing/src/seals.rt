@@ -4,7 +4,7 @@ ghost use Rattle.office_closing.specs.{Deleting.is_of, Register.{last_closed, re
 ghost use Rattle.office_closing.specs.Seals.{HasSealOf, HasSeals, closed_at, most_sealed, piece_at, seal_among, seal_at, seal_bytes, seals_count};
 ghost use Rattle.office_history.specs.After.{AreKeptOnce};
 ghost use Rattle.office_rows.specs.{Rows.Rows, Stored.HasRows};
-ghost use Rattle.office_tables.specs.Reading.{Reads};
+ghost use Rattle.office_tables.specs.DeliveryReading.{OnlyReads};
 ghost use Rattle.sqlite.specs.{Held.state, State.HasCleanDisk};
 
 use crate::comparing::Numbers;
@@ -28,7 +28,7 @@ pub fn has_seals<S: Alter>(
     ensures has { HasCleanDisk (state S.Store conn.new) → IfOk result (λ has. (rows : Rows) →
         HasRows rows (state S.Store conn.old).now → AreKeptOnce rows.interchanges →
         (has ≡ true) ↔ HasSeals (register_content register.now) place rows) }
-    ensures reads { Reads (state S.Store conn.old) (state S.Store conn.new) result }
+    ensures reads { OnlyReads (state S.Store conn.old) (state S.Store conn.new) result }
 {
     let Some(sealed) = sealed_with(&register.sealed, place) else {
         return Ok(true);
@@ -52,7 +52,7 @@ pub fn has_seal_of<S: Alter>(
     ensures has { HasCleanDisk (state S.Store conn.new) → IfOk result (λ has. (rows : Rows) →
         HasRows rows (state S.Store conn.old).now → AreKeptOnce rows.interchanges →
         (has ≡ true) ↔ HasSealOf (register_content register.now) place partner number rows) }
-    ensures reads { Reads (state S.Store conn.old) (state S.Store conn.new) result }
+    ensures reads { OnlyReads (state S.Store conn.old) (state S.Store conn.new) result }
 {
     let Some(sealed) = sealed_with(&register.sealed, place) else {
         return Ok(true);

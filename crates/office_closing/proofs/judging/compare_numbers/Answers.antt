@@ -1,11 +1,5 @@
-use Rattle.std.proofs.Common.{List}
-use Rattle.office_rows.specs.Rows.{Rows}
-use Rattle.office_closing.{specs.{declared.comparing.Numbers.Numbers, Comparing.HasUnfitAmong, Refusing.HasUnfit}, proofs.FileLemmas.either_more}
-use Rattle.office_closing.proofs.JudgeLemmas.{if_open_failed, if_open_passed}
+use Rattle.office_closing.proofs.{FileLemmas.{either_more, has_unfit}, JudgeLemmas.{if_open_failed, if_open_passed}}
 use Rattle.office_closing.proofs.judging.compare_numbers.Goals as goal
-
-unfit_of : (numbers : List Numbers) (rows : Rows) → HasUnfitAmong numbers rows → HasUnfit rows
-unfit_of numbers rows unfit = (unfit.partner, unfit.number, unfit.unfit)
 
 pub returns-in-Ok-Alike-clause-compared : goal.returns-in-Ok-Alike-clause-compared
 returns-in-Ok-Alike-clause-compared g c here there own copy own_has copy_has own_once copy_once =
@@ -35,7 +29,7 @@ returns-in-Ok-Differs-clause-fault g c here there own copy own_has copy_has own_
 
 pub returns-in-Err-clause-fault : goal.returns-in-Err-clause-fault
 returns-in-Err-clause-fault g c here there own copy own_has copy_has own_once copy_once =
-    either_more (unfit_of c.args.numbers.now own) (unfit_of c.args.numbers.now copy) _ _ (c.in-Err.ensures.fault here there own copy own_has copy_has)
+    either_more (has_unfit c.args.numbers.now own) (has_unfit c.args.numbers.now copy) _ _ (c.in-Err.ensures.fault here there own copy own_has copy_has)
 
 pub returns-in-Ok-Alike-clause-sealed : goal.returns-in-Ok-Alike-clause-sealed
 returns-in-Ok-Alike-clause-sealed g c here there copy copy_has copy_once =

@@ -1,5 +1,5 @@
-use Rattle.std.proofs.Common.{◌≡◌, ◌==◌, filter, map, nat_lt, take}
-use Rattle.office_closing.specs.{Register.last_closed, Seals.numbers_by, declared.register.Segment.Segment}
+use Rattle.std.proofs.Common.{◌≡◌, ◌==◌, filter, map, take}
+use Rattle.office_closing.specs.{Seals.numbers_by, declared.register.Segment.Segment}
 use Rattle.office_closing.proofs.seals.closed_at.Given as goal
 
 abbrev pub invariant-loop-segment : goal.invariant-loop-segment
