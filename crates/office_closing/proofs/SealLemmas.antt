@@ -1,13 +1,12 @@
 -- Seals: what adding one interchange after the other comes to, of a partner's numbers and then of the next one's.
 use Rattle.std.specs.{Prelude.{◌↔◌, IfSome, OnOk, is_ok, option_map, option_to_list, string_bytes}, List.{flat_map, range_with_len}, Option.unwrap_or}
-use Rattle.std.proofs.Common.{◌≡◌, ℕ, zero, suc, ◌+◌, ◌-◌, ◌<◌, ◌≤◌, List, [], ◌∷◌, ◌++◌, Bool, true, false, cond, eqb, Option, None, Some, Result, Ok, Err, String, length, fold, refl, sym, ap, subst, ◌∙◌, append_assoc, arith}
-use Rattle.std.proofs.lemmas.{Bool.{eq-eqb, eqb-true}, List.{append-nil, length_push}, List.Sums.fold-append, Grind.flat_map-append}
-use Rattle.sha2.specs.{Hashers.Holds256, Sha256.sha256}
+use Rattle.std.proofs.Common.{◌≡◌, ℕ, zero, suc, ◌+◌, ◌-◌, ◌≤◌, List, [], ◌∷◌, ◌++◌, Bool, true, false, cond, eqb, Option, None, Some, Result, Ok, Err, String, length, fold, refl, sym, ap, subst, ◌∙◌, append_assoc, arith}
+use Rattle.std.proofs.lemmas.{List.append-nil, List.Sums.fold-append, Grind.flat_map-append}
 use Rattle.office_rows.specs.Rows.{Interchange, Rows}
 use Rattle.office_history.specs.After.{AreKeptOnce}
 use Rattle.office_tables.{specs.{Answers.{IsKept, RepliesAs}, declared.interchanges.Kept.Kept}, proofs.WriteLemmas.{none_kept, one_kept}}
-use Rattle.office_closing.specs.{declared.comparing.Numbers.Numbers, declared.sealing.Sealing.Sealing, Register.{RegisterContent, SealedContent}}
-use Rattle.office_closing.specs.Seals.{HasSealOf, HasSeals, HoldsSealing, KeptContent, Sealed, SealingContent, add_any, add_one, closed_at, content_of_kept, end_partner, kept_at, kept_content, kept_under, measured, most_sealed, pieces_after, seal_at, seal_of, sealed_message, sealed_with, seals_of, seals_under, with_kept}
+use Rattle.office_closing.specs.{declared.comparing.Numbers.Numbers, Register.{RegisterContent, SealedContent}}
+use Rattle.office_closing.specs.Seals.{HasSealOf, HasSeals, KeptContent, Sealed, SealingContent, add_any, add_one, closed_at, content_of_kept, end_partner, kept_at, kept_content, kept_under, most_sealed, pieces_after, seal_at, seal_of, sealed_with, seals_of, seals_under, with_kept}
 
 -- what a call that did not fail has done
 pub on_ok_is : {T E P : Type 0} (result : Result T E) → OnOk result P → is_ok result ≡ true → P
@@ -26,8 +25,8 @@ add_then : (is_full : Bool) (one : KeptContent) (kept : List KeptContent) (seals
     → end_partner (fold add_one (cond is_full (record { seals = seals ++ seal_of (piece ++ one ∷ []); piece = [] }) (record { seals = seals; piece = piece ++ one ∷ [] })) kept)
     ≡ sealed_then seals (cond is_full ((piece ++ one ∷ []) ∷ pieces_after kept []) (pieces_after kept (piece ++ one ∷ [])))
 add_then true one kept seals piece all =
-    all (record { seals = seals ++ seal_of (piece ++ one ∷ []); piece = [] })
-    ∙ ap (λ s. record { seals = s; piece = [] }) append_assoc
+    let regrouped = append_assoc seals (seal_of (piece ++ one ∷ [])) (flat_map seal_of (pieces_after kept [])) in
+    all (record { seals = seals ++ seal_of (piece ++ one ∷ []); piece = [] }) ∙ (λ i. record { seals = regrouped i; piece = [] })
 add_then false one kept seals piece all = all (record { seals = seals; piece = piece ++ one ∷ [] })
 
 -- all that is kept is added, and a partner's numbers end: each piece has its seal
@@ -35,66 +34,17 @@ ended : (kept : List KeptContent) (sealing : SealingContent) → end_partner (fo
 ended [] sealing = refl
 ended (one ∷ kept) sealing = add_then (eqb (length sealing.piece + 1) most_sealed) one kept sealing.seals sealing.piece (λ next. ended kept next)
 
--- ---- what a hasher holds
-
-message_more : (piece : List KeptContent) (one : KeptContent) → sealed_message (piece ++ one ∷ []) ≡ (sealed_message piece ++ measured one.text) ++ measured one.reply
-message_more piece one =
-    flat_map-append (λ (kept : KeptContent). measured kept.text ++ measured kept.reply) piece (one ∷ [])
-    ∙ ap (λ l. sealed_message piece ++ l) append-nil ∙ sym append_assoc
-
-module _ (sealing : SealingContent) (one : KeptContent) (next : Sealing) where
-  abbrev message : List ℕ
-  message = (sealed_message sealing.piece ++ measured one.text) ++ measured one.reply
-
-  -- one more, and its piece is not full
-  pub added_open : next.seals.items ≡ sealing.seals → next.count ≡ length sealing.piece + 1 → next.count < most_sealed → Holds256 next.hasher message → HoldsSealing next (add_one sealing one)
-  added_open seals count below holds = by (eqb (length sealing.piece + 1) most_sealed) refl
-    where
-      by : (b : Bool) → eqb (length sealing.piece + 1) most_sealed ≡ b
-          → HoldsSealing next (cond b (record { seals = sealing.seals ++ seal_of (sealing.piece ++ one ∷ []); piece = [] }) (record { seals = sealing.seals; piece = sealing.piece ++ one ∷ [] }))
-      by true e = absurd (omega (arith, eqb-true (length sealing.piece + 1) most_sealed e, count, below))
-      by false e = record {
-        seals = seals;
-        count = omega (arith, count, length_push sealing.piece one);
-        below = omega (arith, count, below, length_push sealing.piece one);
-        holds = subst (Holds256 next.hasher) (sym (message_more sealing.piece one)) holds;
-      }
-
-  -- one more, with which its piece is full
-  pub added_full : next.seals.items ≡ sealing.seals ++ sha256 message → next.count ≡ 0 → length sealing.piece + 1 ≡ most_sealed → Holds256 next.hasher [] → HoldsSealing next (add_one sealing one)
-  added_full seals count full holds = by (eqb (length sealing.piece + 1) most_sealed) (eq-eqb (length sealing.piece + 1) most_sealed full)
-    where
-      by : (b : Bool) → b ≡ true
-          → HoldsSealing next (cond b (record { seals = sealing.seals ++ seal_of (sealing.piece ++ one ∷ []); piece = [] }) (record { seals = sealing.seals; piece = sealing.piece ++ one ∷ [] }))
-      by true e = record {
-        seals = seals ∙ ap (λ m. sealing.seals ++ sha256 m) (sym (message_more sealing.piece one));
-        count = count;
-        below = omega arith;
-        holds = holds;
-      }
-      by false e = absurd cc
-
--- a partner's numbers end where none is left without a seal
-pub ended_none : (next : Sealing) (seals : List ℕ) (piece : List KeptContent) → HoldsSealing next (record { seals = seals; piece = piece }) → next.count ≡ 0 → HoldsSealing next (end_partner (record { seals = seals; piece = piece }))
-ended_none next seals [] is none = record { seals = is.seals ∙ sym append-nil; count = is.count; below = is.below; holds = is.holds }
-ended_none next seals (one ∷ piece) is none = absurd (omega (arith, is.count, none))
-
--- and where those that are left get theirs
-pub ended_some : (old next : Sealing) (seals : List ℕ) (piece : List KeptContent) → HoldsSealing old (record { seals = seals; piece = piece }) → 0 < old.count
-    → next.seals.items ≡ old.seals.items ++ sha256 (sealed_message piece) → next.count ≡ 0 → Holds256 next.hasher [] → HoldsSealing next (end_partner (record { seals = seals; piece = piece }))
-ended_some old next seals [] is some all count holds = absurd (omega (arith, is.count, some))
-ended_some old next seals (one ∷ piece) is some all count holds = record {
-  seals = all ∙ ap (λ s. s ++ seal_of (one ∷ piece)) is.seals ∙ ap (λ l. seals ++ l) (sym append-nil);
-  count = count;
-  below = omega arith;
-  holds = holds;
-}
-
 -- ---- a partner's numbers, one after the other
 
-range_more : (a n : ℕ) → range_with_len a (n + 1) ≡ range_with_len a n ++ (a + n) ∷ []
-range_more a zero = ap (λ k. k ∷ []) (omega arith)
-range_more a (suc n) = ap (λ l. a ∷ l) (range_more (suc a) n ∙ ap (λ k. range_with_len (suc a) n ++ k ∷ []) (omega arith))
+range_more : (a n : ℕ) → range_with_len a (suc n) ≡ range_with_len a n ++ (a + n) ∷ []
+range_more a zero = ap (λ k. k ∷ []) (plus_none a)
+  where
+    plus_none : (k : ℕ) → k ≡ k + 0
+    plus_none k = omega arith
+range_more a (suc n) = ap (λ l. a ∷ l) (range_more (suc a) n ∙ ap (λ k. range_with_len (suc a) n ++ k ∷ []) (moved a n))
+  where
+    moved : (k m : ℕ) → suc k + m ≡ k + suc m
+    moved k m = omega arith
 
 abbrev pub up_to : Numbers → ℕ → Numbers
 up_to numbers to = record numbers { to = to }
@@ -107,18 +57,23 @@ module _ (rows : Rows) (numbers : Numbers) where
   under_more : (number : ℕ) → numbers.from ≤ number → kept_under rows (up_to numbers (number + 1)) ≡ kept_under rows (up_to numbers number) ++ at (number + 1)
   under_more number above =
       let span = number - numbers.from in
-      let more : range_with_len (numbers.from + 1) (number + 1 - numbers.from) ≡ range_with_len (numbers.from + 1) span ++ (number + 1) ∷ [] =
-          ap (range_with_len (numbers.from + 1)) (omega arith) ∙ range_more (numbers.from + 1) span ∙ ap (λ k. range_with_len (numbers.from + 1) span ++ k ∷ []) (omega arith) in
-      ap (flat_map at) more ∙ flat_map-append at (range_with_len (numbers.from + 1) span) ((number + 1) ∷ [])
-      ∙ ap (λ l. flat_map at (range_with_len (numbers.from + 1) span) ++ l) append-nil
+      let longer : number + 1 - numbers.from ≡ suc span = omega arith in
+      let last : numbers.from + 1 + span ≡ number + 1 = omega arith in
+      let before = range_with_len (numbers.from + 1) span in
+      ap (λ n. flat_map at (range_with_len (numbers.from + 1) n)) longer ∙ ap (flat_map at) (range_more (numbers.from + 1) span)
+      ∙ ap (λ k. flat_map at (before ++ k ∷ [])) last ∙ flat_map-append at before ((number + 1) ∷ []) ∙ ap (λ l. flat_map at before ++ l) (append-nil (at (number + 1)))
 
   -- none yet
   pub under_none : kept_under rows (up_to numbers numbers.from) ≡ []
-  under_none = ap (λ n. flat_map at (range_with_len (numbers.from + 1) n)) (omega arith)
+  under_none =
+      let none : numbers.from - numbers.from ≡ 0 = omega arith in
+      ap (λ n. flat_map at (range_with_len (numbers.from + 1) n)) none
 
   -- all of them
   pub under_all : (number : ℕ) → numbers.from ≤ number → number - numbers.from ≤ numbers.to - numbers.from → numbers.to ≤ number → kept_under rows (up_to numbers number) ≡ kept_under rows numbers
-  under_all number above within end = ap (λ n. flat_map at (range_with_len (numbers.from + 1) n)) (omega arith)
+  under_all number above within end =
+      let all : number - numbers.from ≡ numbers.to - numbers.from = omega arith in
+      ap (λ n. flat_map at (range_with_len (numbers.from + 1) n)) all
 
   -- what is kept under one more is added
   pub added_more : (number : ℕ) (sealing : SealingContent) → numbers.from ≤ number
@@ -139,8 +94,10 @@ so_far rows closing = record { seals = seals_of rows closing; piece = [] }
 pub sealed_more : (rows : Rows) (before : List Numbers) (numbers : Numbers) (after : List Numbers) → after ≡ before ++ numbers ∷ [] → with_kept rows (so_far rows before) numbers ≡ so_far rows after
 sealed_more rows before numbers after is =
     ended (kept_under rows numbers) (so_far rows before)
-    ∙ ap (λ s. record { seals = s; piece = [] })
-      (ap (λ l. seals_of rows before ++ l) (sym append-nil) ∙ sym (flat_map-append (seals_under rows) before (numbers ∷ [])) ∙ ap (seals_of rows) (sym is))
+    ∙ (λ i. record { seals = more i; piece = [] })
+  where
+    more : seals_of rows before ++ seals_under rows numbers ≡ seals_of rows after
+    more = ap (λ l. seals_of rows before ++ l) (sym (append-nil (seals_under rows numbers))) ∙ sym (flat_map-append (seals_under rows) before (numbers ∷ [])) ∙ ap (seals_of rows) (sym is)
 
 -- ---- what is read
 
