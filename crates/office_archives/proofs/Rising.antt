@@ -3,7 +3,7 @@ use Rattle.std.specs.{Prelude.{IsTrue, filter, ◌&&◌, ◌==◌, fold, nat_le,
 use Rattle.std.specs.{Option.{option_and_then, option_or, unwrap_or}, List.{AllByRecursion, list_all, position, position_or_len}, Str.bytes_eq}
 use Rattle.std.specs.{Cmp.Lexicographic.{bytes_decides, slice_cmp}, Ordering.{is_lt, nat_cmp, ordering_reverse, ordering_then}, Cmp.IsTotalOrder}
 use Rattle.std.proofs.{lemmas.Bool.{and_parts, eqb-true, leb-true, le-leb, leb-false, ltb-true}, lemmas.Bool.Decides.nat_tests, lemmas.List.Edits.length-remove}
-use Rattle.std.proofs.Common.{◌≡◌, ℕ, ◌≤◌, List, true, Option, None, Some, is_some, option_map, string_bytes, String, Result, refl, sym, ap, subst, ◌∙◌, [], ◌∷◌, ◌++◌, Bool, map, false, cond, arith, Ordering, Less, Equal, Greater, is_gt, ◌<◌, drop, length, take, zero, suc}
+use Rattle.std.proofs.Common.{◌≡◌, ℕ, ◌≤◌, List, true, Option, None, Some, is_some, option_map, string_bytes, String, Result, Ok, Err, IfOk, refl, sym, ap, subst, ◌∙◌, [], ◌∷◌, ◌++◌, Bool, map, false, cond, arith, Ordering, Less, Equal, Greater, is_gt, ◌<◌, drop, length, take, zero, suc}
 use Rattle.std.proofs.{lemmas.Cmp.{nat_cmp_total, nat_list_cmp_total, tied_itself, upto, on_total, then_total}, lemmas.List.{length-append, length-drop}}
 use Rattle.std.proofs.{lemmas.List.Quantifiers.position-Some, lemmas.Option.{cond_some, same_Some, slice_get_read}}
 use Rattle.sqlite.specs.{Held.{Held, state}, State.HasCleanDisk}
@@ -17,7 +17,7 @@ use Rattle.office_closing.specs.{Register.register_content, Seals.HasSeals, decl
 use Rattle.office_closing.specs.Lists.{SettledListContent, comes_before, is_of_list, lines_of_list, list_cmp, lists_among, put_list, put_lists}
 use Rattle.office_closing.proofs.SoundLemmas.{list_total}
 use Rattle.office_desk.{specs.Reports.{TellsOf, TellsNext, partner_called}, proofs.Faults.reply_of_kept}
-use Rattle.office_archives.specs.Shelves.{AreSealed, AreShelved, IsLastSound, IsOpenAt, IsOpenIfKnown, IsSealedIfSaid, IsSoundIfAny, LeavesOpen, NamesAll, ShowsSo, archive_at, left_open, with_room}
+use Rattle.office_archives.specs.Shelves.{AreSealed, AreShelved, IsLastSound, IsOpenAt, IsOpenIfKnown, IsSealedIfSaid, IsSoundIfAny, IsToldBy, LeavesOpen, NamesAll, OpensFor, ShowsSo, archive_at, left_open, with_room}
 use Rattle.office_archives.specs.{declared.opened.Opened.Opened, Reporting.{IsOfWhatStands, WhatStandsIsToldAlike}}
 use Rattle.box6346.specs.declared.box_number.BoxNumber.{BoxNumber}
 use Rattle.edi_messages.specs.{Owned.call_content, declared.call.Call.Call, Purposes.CallContent, Texts.is_name}
@@ -177,6 +177,22 @@ module _ {S : Type 0} (g : Ghosts S) (opened : Opened S g) (after : Held S) (fir
   sealed_still names still named sealed said =
       subst (λ r. ShowsSo g after (HasSeals (register_content r) opened.place)) (sym named)
       (shows_still g (HasSeals (register_content names) opened.place) opened.archive.conn after first was_open_ same (sealed said))
+
+-- of an archive that is known what it told is so of the archive itself, if it is sound
+pub told_archive : {S F : Type 0} (g : Ghosts S) (is_known : ℕ → Type 0) (holds : List Archive → F → Type 0) (list : List Archive) (shelf : F) (names : Register) (opened now : List (Opened S g)) (place : ℕ) (IsSo : Rows → Type 0) (archive : Archive)
+    → IsToldBy g (OpensFor g is_known holds shelf names opened place) place now IsSo → IsLastSound g is_known now → AreShelved g is_known holds list shelf names opened → archive_at list place ≡ Some archive → IsSo archive.rows × AreKeptOnce archive.rows.interchanges
+told_archive g is_known holds list shelf names opened now place IsSo archive told last are at =
+    let sound = asked_last g is_known told.before now told.one told.last last in
+    let there = told.opens (subst is_known told.at sound.2) list are sound.0 sound.1 archive at in
+    (told.shows sound.0 sound.1 archive.rows there.has there.kept_once, there.kept_once)
+
+-- so it is of each, if its seals were found since it was opened
+pub told_report : {S F T : Type 0} (g : Ghosts S) (is_known : ℕ → Type 0) (holds : List Archive → F → Type 0) (shelf : F) (names : Register) (opened now : List (Opened S g)) (place : ℕ) (IsSo : T → Rows → Type 0) (result : Result T TableFault)
+    → (AreSealed g (register_content names) opened → IfOk result (λ found. IsToldBy g (OpensFor g is_known holds shelf names opened place) place now (IsSo found))) → IsLastSound g is_known now
+    → IfOk result (λ found. (list : List Archive) → AreShelved g is_known holds list shelf names opened → (archive : Archive) → archive_at list place ≡ Some archive → IsSo found archive.rows)
+told_report g is_known holds shelf names opened now place IsSo (Ok found) told last list are archive at =
+    (told_archive g is_known holds list shelf names opened now place (IsSo found) archive (told are.are_sealed) last are at).0
+told_report g is_known holds shelf names opened now place IsSo (Err fault) told last = tt
 
 -- so it does if it was only read
 pub open_read : {S X : Type 0} (g : Ghosts S) (list : List Archive) (place : ℕ) (before after : Held S) {result : Result X TableFault} → OnlyReads (state g before) (state g after) result → IsOpenAt g list place before → IsOpenAt g list place after

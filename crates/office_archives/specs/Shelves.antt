@@ -133,19 +133,29 @@ OpensFor g is_known holds shelf names opened place conn =
 -- The archive at a place was taken out: of the others these stay open, with the seals that they are said to have, and what is
 -- named and shelved stays so.
 pub record LeavesOpen {S F : Type 0} (g : Ghosts S) (is_known : ℕ → Type 0) (holds : List Archive → F → Type 0) (place : ℕ)
-    (shelf after : F) (names still : Register) (opened left : List (Opened S g)) : Type 0 where
+    (shelf after : F) (names still : Register) (opened stay : List (Opened S g)) : Type 0 where
   pub named : still ≡ names
-  pub left : left ≡ left_open place opened
-  pub room : length opened ≤ most_open → length left < most_open
-  pub sealed : AreSealed g (register_content names) opened → AreSealed g (register_content still) left
+  pub left : stay ≡ left_open place opened
+  pub room : length opened ≤ most_open → length stay < most_open
+  pub sealed : AreSealed g (register_content names) opened → AreSealed g (register_content still) stay
   pub same : (list : List Archive) → AreShelved g is_known holds list shelf names opened
-      → AreShelved g is_known holds list after still left
+      → AreShelved g is_known holds list after still stay
 
 -- An archive was opened that shows so, and it is given; or one that does not, and it is closed.
 abbrev pub IsTakenIf : {S : Type 0} (g : Ghosts S) (Opens : Held S → Type 0) (IsSo : Rows → Type 0) → Option (Opened S g) →
     Type 0
 IsTakenIf {S} g Opens IsSo None = (conn : Held S) × Opens conn × ShowsSo g conn (λ rows. IsSo rows → ⊥)
 IsTakenIf g Opens IsSo (Some opened) = Opens opened.archive.conn × ShowsSo g opened.archive.conn IsSo
+
+-- The archive at a place was opened and asked, and is the last of those that are open: what it shows is so.
+pub record IsToldBy {S : Type 0} (g : Ghosts S) (Opens : Held S → Type 0) (place : ℕ) (opened : List (Opened S g))
+    (IsSo : Rows → Type 0) : Type 0 where
+  pub before : List (Opened S g)
+  pub one : Opened S g
+  pub last : opened ≡ before ++ one ∷ []
+  pub at : one.place ≡ place
+  pub opens : Opens one.archive.conn
+  pub shows : ShowsSo g one.archive.conn IsSo
 
 -- ---- what a closing makes of it
 

@@ -1,8 +1,9 @@
-ghost use Rattle.std.specs.Prelude.{◌≡◌, ◌<◌, ◌≤◌, ◌++◌, ℕ, [], ◌∷◌, IfOk, IfSome, List, OnOk, length};
-ghost use Rattle.office_archives.specs.Shelves.{AreSealed, AreShelved, IsLastSound, IsOpenAt, IsOpenIfKnown, IsSealedIfSaid, IsTakenIf, LeavesOpen, OpensFor, index_at, most_open, with_room};
+ghost use Rattle.std.specs.Prelude.{◌≡◌, ◌<◌, ◌≤◌, ◌++◌, ℕ, [], ◌∷◌, IfOk, IfSome, List, OnOk, length, option_map, string_bytes};
+ghost use Rattle.office_archives.specs.Shelves.{AreSealed, AreShelved, IsLastSound, IsOpenAt, IsOpenIfKnown, IsSealedIfSaid, IsTakenIf, IsToldBy, LeavesOpen, OpensFor, index_at, most_open, with_room};
+ghost use Rattle.office_archives.specs.Keeping.{IsReportOf, IsTicketOf};
 ghost use Rattle.office_closing.specs.{Register.register_content, Seals.{HasSealOf, HasSeals}};
 ghost use Rattle.office_parts.specs.Archives.{Archive};
-ghost use Rattle.office_tables.specs.DeliveryReading.{OnlyReads};
+ghost use Rattle.office_tables.specs.{Answers.IsKept, DeliveryReading.OnlyReads};
 ghost use Rattle.sqlite.specs.Held.{state};
 
 use crate::archives::Archives;
@@ -169,6 +170,86 @@ impl<S: Alter + Drop, F: Shelf<S>> ManyArchives<S, F> {
     }
 }
 
+impl<S: Alter + Drop, F: Shelf<S>> ManyArchives<S, F> {
+    /// The interchange that the archive at a place keeps under a partner's number, if it keeps what is sealed together with that:
+    /// NO_ARCHIVE if not.
+    fn kept_at(
+        &mut self,
+        place: u16,
+        partner: u16,
+        number: u32,
+    ) -> Result<Option<Kept>, TableFault>
+        ensures told { IfOk result (λ found. IsToldBy S.Store (OpensFor S.Store F.is_known F.holds self.old.shelf
+            self.old.register self.old.opened.items place) place self.new.opened.items (λ rows.
+            HasSealOf (register_content self.old.register) place partner number rows
+            × IsKept partner number rows found)) }
+        ensures same { (list : List Archive) →
+            AreShelved S.Store F.is_known F.holds list self.old.shelf self.old.register self.old.opened.items →
+            AreShelved S.Store F.is_known F.holds list self.new.shelf self.new.register self.new.opened.items }
+    {
+        let Some(mut opened) = self.take_if_sealed(place, partner, number)? else {
+            return Err(TableFault::Store(NO_ARCHIVE));
+        };
+        let found = opened.archive.kept(partner, number)?;
+        self.put_back(opened)?;
+        Ok(found)
+    }
+
+    /// The ticket that the archive at a place reports of a number of the partner with a code, if it keeps what is sealed together
+    /// with that: NO_ARCHIVE if not.
+    fn ticket_at(
+        &mut self,
+        alloc: Global,
+        place: u16,
+        code: &str,
+        partner: u16,
+        number: u32,
+    ) -> Result<String, TableFault>
+        ensures told { IfOk result (λ ticket. IsToldBy S.Store (OpensFor S.Store F.is_known F.holds self.old.shelf
+            self.old.register self.old.opened.items place) place self.new.opened.items (λ rows.
+            HasSealOf (register_content self.old.register) place partner number rows
+            × IsTicketOf rows code.now partner number (string_bytes ticket))) }
+        ensures same { (list : List Archive) →
+            AreShelved S.Store F.is_known F.holds list self.old.shelf self.old.register self.old.opened.items →
+            AreShelved S.Store F.is_known F.holds list self.new.shelf self.new.register self.new.opened.items }
+    {
+        let closed = closed_before(alloc, &self.register, place)?;
+        let Some(mut opened) = self.take_if_sealed(place, partner, number)? else {
+            return Err(TableFault::Store(NO_ARCHIVE));
+        };
+        let ticket = opened
+            .archive
+            .ticket(alloc, &closed, code, partner, number)?;
+        self.put_back(opened)?;
+        Ok(ticket)
+    }
+
+    /// What the archive at a place reports for a query, as the store that it was, if it has all its seals: NO_ARCHIVE if not.
+    fn report_at(
+        &mut self,
+        alloc: Global,
+        place: u16,
+        query: &Query,
+    ) -> Result<Option<String>, TableFault>
+        ensures told { AreSealed S.Store (register_content self.old.register) self.old.opened.items →
+            IfOk result (λ found. IsToldBy S.Store (OpensFor S.Store F.is_known F.holds self.old.shelf self.old.register
+            self.old.opened.items place) place self.new.opened.items (λ rows.
+            HasSeals (register_content self.old.register) place rows
+            × IsReportOf rows query.now (option_map string_bytes found))) }
+        ensures same { (list : List Archive) →
+            AreShelved S.Store F.is_known F.holds list self.old.shelf self.old.register self.old.opened.items →
+            AreShelved S.Store F.is_known F.holds list self.new.shelf self.new.register self.new.opened.items }
+    {
+        let closed = closed_before(alloc, &self.register, place)?;
+        let Some(mut opened) = self.take_if_all_sealed(place)? else {
+            return Err(TableFault::Store(NO_ARCHIVE));
+        };
+        let found = opened.archive.report(alloc, &closed, query)?;
+        self.put_back(opened)?;
+        Ok(found)
+    }
+}
+
 /// The index of the archive at a place among those that are open.
 fn index_at<S: Alter>(opened: &[Opened<S>], place: u16) -> Option<usize>
     ensures { result ≡ index_at place opened.now }
@@ -195,12 +276,7 @@ impl<S: Alter + Drop, F: Shelf<S>> Archives for ManyArchives<S, F> {
         let Some(place) = self.register.archive_of(partner, number) else {
             return Err(TableFault::Damaged);
         };
-        let Some(mut opened) = self.take_if_sealed(place, partner, number)? else {
-            return Err(TableFault::Store(NO_ARCHIVE));
-        };
-        let found = opened.archive.kept(partner, number)?;
-        self.put_back(opened)?;
-        match found {
+        match self.kept_at(place, partner, number)? {
             Some(kept) => Ok(kept),
             None => Err(TableFault::Damaged),
         }
@@ -216,15 +292,7 @@ impl<S: Alter + Drop, F: Shelf<S>> Archives for ManyArchives<S, F> {
         let Some(place) = self.register.archive_of(partner, number) else {
             return Err(TableFault::Damaged);
         };
-        let closed = closed_before(alloc, &self.register, place)?;
-        let Some(mut opened) = self.take_if_sealed(place, partner, number)? else {
-            return Err(TableFault::Store(NO_ARCHIVE));
-        };
-        let ticket = opened
-            .archive
-            .ticket(alloc, &closed, code, partner, number)?;
-        self.put_back(opened)?;
-        Ok(ticket)
+        self.ticket_at(alloc, place, code, partner, number)
     }
 
     fn report(
@@ -233,13 +301,7 @@ impl<S: Alter + Drop, F: Shelf<S>> Archives for ManyArchives<S, F> {
         place: u16,
         query: &Query,
     ) -> Result<Option<String>, TableFault> {
-        let closed = closed_before(alloc, &self.register, place)?;
-        let Some(mut opened) = self.take_if_all_sealed(place)? else {
-            return Err(TableFault::Store(NO_ARCHIVE));
-        };
-        let found = opened.archive.report(alloc, &closed, query)?;
-        self.put_back(opened)?;
-        Ok(found)
+        self.report_at(alloc, place, query)
     }
 
     fn place_of(&self, partner: u16, number: u32) -> Option<u16> {

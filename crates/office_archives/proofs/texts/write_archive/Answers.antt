@@ -15,7 +15,7 @@ returns-clause-added g c =
     let reads = c.in_ok-has.ensures.reads in
     let opens : OpensOn g.T.Store g.F.Shelf.is_known g.F.Shelf.holds c.args.shelf.now c.args.place shown = λ known list holds.
     open_read g.T.Store list c.args.place c.passes.new.archive.conn shown reads
-    (open_read g.T.Store list c.args.place c.in_ok-archive.archive.conn c.passes.new.archive.conn c.passes.ensures (c.in_ok-archive.ensures.opened known list holds))
+    (open_read g.T.Store list c.args.place c.in_ok-archive.archive.conn c.passes.new.archive.conn c.passes.ensures.reads (c.in_ok-archive.ensures.opened known list holds))
     in
     let sealed : ShowsSo g.T.Store shown (HasSeals names c.args.place) = λ clean now_open rows has once.
     (c.in_ok-has.ensures.has clean now_open rows (subst (HasRows rows) ((reads.reads.keeps clean).committed now_open) has) once).0 c.if-not-has.false

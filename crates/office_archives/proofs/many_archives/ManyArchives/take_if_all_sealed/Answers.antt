@@ -19,7 +19,7 @@ pub returns-then-has-clause-sealed : goal.returns-then-has-clause-sealed
 returns-then-has-clause-sealed g c are =
     let reads = c.in_ok-has.ensures.reads in (
       λ known list are. open_read g.S.Store list c.args.place c.passes.new.archive.conn c.has_seals.new.self.conn reads
-          (open_read g.S.Store list c.args.place c.in_ok-opened.opened.archive.conn c.passes.new.archive.conn c.passes.ensures (c.in_ok-opened.ensures.opened known list are)),
+          (open_read g.S.Store list c.args.place c.in_ok-opened.opened.archive.conn c.passes.new.archive.conn c.passes.ensures.reads (c.in_ok-opened.ensures.opened known list are)),
       λ clean is_open rows has once. (c.in_ok-has.ensures.has clean is_open rows (subst (HasRows rows) ((reads.reads.keeps clean).committed is_open) has) once).0 c.if-has.true,
     )
 
@@ -28,7 +28,7 @@ returns-else-has-clause-sealed g c are =
     let reads = c.in_ok-has.ensures.reads in (
       c.has_seals.new.self.conn,
       λ known list are. open_read g.S.Store list c.args.place c.passes.new.archive.conn c.has_seals.new.self.conn reads
-          (open_read g.S.Store list c.args.place c.in_ok-opened.opened.archive.conn c.passes.new.archive.conn c.passes.ensures (c.in_ok-opened.ensures.opened known list are)),
+          (open_read g.S.Store list c.args.place c.in_ok-opened.opened.archive.conn c.passes.new.archive.conn c.passes.ensures.reads (c.in_ok-opened.ensures.opened known list are)),
       λ clean is_open rows has once seals.
           let does = (c.in_ok-has.ensures.has clean is_open rows (subst (HasRows rows) ((reads.reads.keeps clean).committed is_open) has) once).1 seals in
           let lacks = c.if-has.false in
