@@ -173,12 +173,7 @@ impl<S: Alter + Drop, F: Shelf<S>> ManyArchives<S, F> {
 impl<S: Alter + Drop, F: Shelf<S>> ManyArchives<S, F> {
     /// The interchange that the archive at a place keeps under a partner's number, if it keeps what is sealed together with that:
     /// NO_ARCHIVE if not.
-    fn kept_at(
-        &mut self,
-        place: u16,
-        partner: u16,
-        number: u32,
-    ) -> Result<Option<Kept>, TableFault>
+    fn kept_at(&mut self, place: u16, partner: u16, number: u32) -> Result<Option<Kept>, TableFault>
         ensures told { IfOk result (λ found. IsToldBy S.Store (OpensFor S.Store F.is_known F.holds self.old.shelf
             self.old.register self.old.opened.items place) place self.new.opened.items (λ rows.
             HasSealOf (register_content self.old.register) place partner number rows

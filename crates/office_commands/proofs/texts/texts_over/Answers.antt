@@ -31,9 +31,11 @@ returns-in-Err-clause-refused g c = (
 -- the register that was read is of another terminal than what was loaded
 pub returns-then-not-is_of_terminal-clause-refused : goal.returns-then-not-is_of_terminal-clause-refused
 returns-then-not-is_of_terminal-clause-refused g c =
-    let loaded = c.in-Ok.loaded in
-    (other_loaded over_files (image_at g.S.Start) c.in_ok-looked.looked.inner.conn c.load_office.new.looked.inner.conn (register_content c.in_ok-register.register) (register_content loaded.register) (closed_content loaded.closed) (setup_content loaded.setup) loaded.there.terminal
-    c.in_ok-looked.ensures.found c.in_ok-register.ensures.sound c.in-Ok.ensures.reads (ap register_content c.in-Ok.ensures.register) loaded.closed_is c.in-Ok.ensures.loaded.loads (sym c.is_of_terminal.ensures ∙ c.if-not-is_of_terminal.true), refl)
+    let loaded = c.in-Ok.loaded in (
+      other_loaded over_files (image_at g.S.Start) c.in_ok-looked.looked.inner.conn c.load_office.new.looked.inner.conn (register_content c.in_ok-register.register) (register_content loaded.register) (closed_content loaded.closed) (setup_content loaded.setup) loaded.there.terminal
+          c.in_ok-looked.ensures.found c.in_ok-register.ensures.sound c.in-Ok.ensures.reads (ap register_content c.in-Ok.ensures.register) loaded.closed_is c.in-Ok.ensures.loaded.loads (sym c.is_of_terminal.ensures ∙ c.if-not-is_of_terminal.true),
+      refl,
+    )
 
 -- what was loaded awaits a number that had been taken
 pub returns-then-is_older-clause-refused : goal.returns-then-is_older-clause-refused
