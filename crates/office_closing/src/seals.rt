@@ -120,17 +120,16 @@ fn seal_at<'a>(
         if is_of(*numbers, partner, number) {
             return seal_among(*numbers, rest, number);
         }
-        rest = after(rest, seals_count(*numbers));
+        rest = after(rest, *numbers);
     }
     None
 }
 
-/// The seals after so many.
-fn after(seals: &[u8], count: usize) -> &[u8]
-    requires { seal_bytes * count < 2 ^ 64 }
-    ensures { result.now ≡ drop (seal_bytes * count) seals.now }
+/// The seals after those of a partner's numbers.
+fn after(seals: &[u8], numbers: Numbers) -> &[u8]
+    ensures { result.now ≡ drop (seal_bytes * seals_count numbers) seals.now }
 {
-    let end = (SEAL_BYTES * count).min(seals.len());
+    let end = (SEAL_BYTES * seals_count(numbers)).min(seals.len());
     &seals[end..]
 }
 
