@@ -162,10 +162,13 @@ one_without seals (one ∷ sealed) e = by (bytes_eq one.seals seals) refl e
     by true is off =
         let rest = one_without seals sealed off in
         (rest.0, tail_in one rest.0 sealed rest.1, rest.2)
-    by false is off =
-        (one, head_in one sealed, λ same.
-        let yes = (bytes_eq-Decides one.seals seals).1 same in
-        absurd cc)
+    by false is off = (
+      one,
+      head_in one sealed,
+      λ same.
+          let yes = (bytes_eq-Decides one.seals seals).1 same in
+          absurd cc,
+    )
 
 -- a plan with its seals
 pub plan_sealed : (own copy : OfficeContent) (names : FileNames) (named : List ListName) (seals : List ℕ) (plan sealed : Plan) → IsPlan own copy names named [] plan → IsSealedPlan plan seals sealed → IsPlan own copy names named seals sealed
