@@ -232,7 +232,7 @@ any_default (x ∷ xs) (suc i) a b h = any_default xs i a b (omega arith)
 higher : (m n : ℕ) → m < n → max m n ≡ n
 higher m n h = grind (arith, nat_tests)
 
-no_higher : (m : ℕ) → max m 0 ≡ m
+pub no_higher : (m : ℕ) → max m 0 ≡ m
 no_higher m = grind (arith, nat_tests)
 
 same_of : (m n : ℕ) → (m == n) ≡ true → m ≡ n

@@ -1,6 +1,6 @@
 -- What a plan says of the rows and the registers of store and archive.
-use Rattle.std.{specs.{Prelude.{slice_index_or, Contains, IsPermutation, IsUtf8}, List.{AllByRecursion, list_all}}, proofs.lemmas.List.length-map}
-use Rattle.std.proofs.Common.{suc, zero, nat_lt, ◌≡◌, ◌⊎◌, inl, inr, ℕ, ◌+◌, ◌==◌, ◌<◌, ◌≤◌, List, [], ◌∷◌, ◌++◌, ◌&&◌, None, Bool, true, false, cond, if◌then◌else◌, filter, map, length, refl, sym, ap, ap₂, subst, ◌∙◌, arith, Result, Ok, Err}
+use Rattle.std.{specs.{Prelude.{slice_index_or, Contains, IsPermutation, IsUtf8}, List.{AllByRecursion, list_all}, Str.bytes_eq}, proofs.{lemmas.List.length-map, lemmas.Slice.Eq.bytes_eq-Decides}}
+use Rattle.std.proofs.Common.{suc, zero, nat_lt, ◌≡◌, ◌≢◌, ◌⊎◌, inl, inr, ℕ, ◌+◌, ◌==◌, ◌<◌, ◌≤◌, List, [], ◌∷◌, ◌++◌, ◌&&◌, None, Bool, true, false, cond, if◌then◌else◌, filter, map, length, refl, sym, ap, ap₂, subst, ◌∙◌, arith, Result, Ok, Err}
 use Rattle.std.proofs.{lemmas.Bool.{and_parts, cases_Bool, eqb-true}, lemmas.Str.IsUtf8-string_bytes}
 use Rattle.std.proofs.lemmas.List.Sorted.{Contains-permutation, IsPermutation-sym}
 use Rattle.sqlite_trees.proofs.ListLemmas.{map-map}
@@ -146,6 +146,29 @@ one_due : (own : OfficeContent) (place : ℕ) (s : Stage) → is_unraised s ≡ 
 one_due own place stage.New due = refl
 one_due own place stage.Marked due = refl
 one_due own place stage.Raised due = absurd cc
+
+-- all have these seals, or one has others
+pub all_with : (seals : List ℕ) (sealed : List SealedContent) → list_all (λ (one : SealedContent). bytes_eq one.seals seals) sealed ≡ true → AllByRecursion (λ (one : SealedContent). one.seals ≡ seals) sealed
+all_with seals [] e = tt
+all_with seals (one ∷ sealed) e =
+    let both = and_parts (bytes_eq one.seals seals) (list_all (λ (one : SealedContent). bytes_eq one.seals seals) sealed) e in
+    ((bytes_eq-Decides one.seals seals).0 both.0, all_with seals sealed both.1)
+
+pub one_without : (seals : List ℕ) (sealed : List SealedContent) → list_all (λ (one : SealedContent). bytes_eq one.seals seals) sealed ≡ false → (one : SealedContent) × Contains sealed one × (one.seals ≢ seals)
+one_without seals [] e = absurd cc
+one_without seals (one ∷ sealed) e = by (bytes_eq one.seals seals) refl e
+  where
+    by : (b : Bool) → bytes_eq one.seals seals ≡ b → (b && list_all (λ (one : SealedContent). bytes_eq one.seals seals) sealed) ≡ false → (other : SealedContent) × Contains (one ∷ sealed) other × (other.seals ≢ seals)
+    by true is off =
+        let rest = one_without seals sealed off in
+        (rest.0, tail_in one rest.0 sealed rest.1, rest.2)
+    by false is off = (
+      one,
+      head_in one sealed,
+      λ same.
+          let yes = (bytes_eq-Decides one.seals seals).1 same in
+          absurd cc,
+    )
 
 -- a plan with its seals
 pub plan_sealed : (own copy : OfficeContent) (names : FileNames) (named : List ListName) (seals : List ℕ) (plan sealed : Plan) → IsPlan own copy names named [] plan → IsSealedPlan plan seals sealed → IsPlan own copy names named seals sealed

@@ -1,6 +1,6 @@
 //! Whether a file keeps what a register has sealed with an archive.
-ghost use Rattle.std.specs.Prelude.{◌≡◌, ◌↔◌, IfNone, IfOk, IfSome, None, Some, ◌<◌, ◌+◌, ◌*◌, ◌^◌, drop, filter, nat_lt, true};
-ghost use Rattle.office_closing.specs.{Deleting.is_of, Register.{last_closed, register_content}, declared.register.Segment.Segment};
+ghost use Rattle.std.specs.Prelude.{◌≡◌, ◌↔◌, IfNone, IfOk, IfSome, None, Some, ◌<◌, ◌+◌, ◌*◌, ◌^◌, ◌&&◌, drop, filter, if◌then◌else◌, nat_lt, true};
+ghost use Rattle.office_closing.specs.{Register.{is_of, last_closed, register_content}, declared.register.Segment.Segment, Deleting.is_of as is_number_of};
 ghost use Rattle.office_closing.specs.Seals.{HasSealOf, HasSeals, closed_at, most_sealed, piece_at, seal_among, seal_at, seal_bytes, seals_count};
 ghost use Rattle.office_history.specs.After.{AreKeptOnce};
 ghost use Rattle.office_rows.specs.{Rows.Rows, Stored.HasRows};
@@ -88,11 +88,20 @@ fn last_before(segments: &[Segment], place: u16, partner: u16) -> u32
 {
     let mut last = 0;
     for segment in segments {
-        if segment.archive < place && segment.partner == partner && segment.last > last {
-            last = segment.last;
-        }
+        last = last.max(last_if_before(*segment, place, partner));
     }
     last
+}
+
+/// The last number of a segment if it is that partner's and of an archive before the one at a place, else 0.
+fn last_if_before(segment: Segment, place: u16, partner: u16) -> u32
+    ensures { result ≡ if nat_lt segment.archive place && is_of partner segment then segment.last else 0 }
+{
+    if segment.archive < place && segment.partner == partner {
+        segment.last
+    } else {
+        0
+    }
 }
 
 /// Of the seals of these numbers the one of a partner's number, with the numbers that have it together; none if there is none.
@@ -111,23 +120,22 @@ fn seal_at<'a>(
         if is_of(*numbers, partner, number) {
             return seal_among(*numbers, rest, number);
         }
-        rest = after(rest, seals_count(*numbers));
+        rest = after(rest, *numbers);
     }
     None
 }
 
-/// The seals after so many.
-fn after(seals: &[u8], count: usize) -> &[u8]
-    requires { seal_bytes * count < 2 ^ 64 }
-    ensures { result.now ≡ drop (seal_bytes * count) seals.now }
+/// The seals after those of a partner's numbers.
+fn after(seals: &[u8], numbers: Numbers) -> &[u8]
+    ensures { result.now ≡ drop (seal_bytes * seals_count numbers) seals.now }
 {
-    let end = (SEAL_BYTES * count).min(seals.len());
+    let end = (SEAL_BYTES * seals_count(numbers)).min(seals.len());
     &seals[end..]
 }
 
 /// Whether a partner's number is one of these.
 fn is_of(numbers: Numbers, partner: u16, number: u32) -> bool
-    ensures { result ≡ is_of partner number numbers }
+    ensures { result ≡ is_number_of partner number numbers }
 {
     partner == numbers.partner && numbers.from < number && number <= numbers.to
 }
