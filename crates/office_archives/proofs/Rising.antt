@@ -67,7 +67,7 @@ module _ {S : Type 0} (g : Ghosts S) (place : ℕ) (opened : List (Opened S g)) 
   abbrev is_there : Opened S g → Bool
   is_there one = one.place == place
 
-  within : (i : ℕ) → position is_there opened ≡ Some i → i < length opened
+  pub within : (i : ℕ) → position is_there opened ≡ Some i → i < length opened
   within i e =
       let first = position_or_len is_there opened in
       let both = cond_some (nat_lt first (length opened)) first i e in

@@ -1,4 +1,4 @@
-ghost use Rattle.std.specs.{Prelude.{◌≡◌, ◌≢◌, false, List, [], IfErr, IfOk, IsTrue, None}, Option.{option_map, unwrap_or}};
+ghost use Rattle.std.specs.{Prelude.{◌≡◌, ◌≢◌, true, false, List, [], IfErr, IfOk, IsTrue, None}, Option.{option_map, unwrap_or}};
 ghost use Rattle.office_archives.specs.Shelves.{NamesAll};
 ghost use Rattle.office_commands.specs.{Beside.{IsLoaded, IsOfDayHeld, IsSetUpHeld, OpensWith}, Opening.{Shows, ShowsHeld}};
 ghost use Rattle.office_commands.specs.Refusing.{IsMarked, IsOfRegister, IsRefused, IsUnloaded, IsUnopened};

@@ -1,4 +1,4 @@
-ghost use Rattle.std.specs.Prelude.{◌≡◌, ⊤, false, IfOk, IfErr, IsTrue};
+ghost use Rattle.std.specs.Prelude.{◌≡◌, ⊤, true, false, IfOk, IfErr, IsTrue};
 ghost use Rattle.office_archives.specs.Texts.{OpensOn};
 ghost use Rattle.office_closing.specs.{Register.{is_newer_than, is_of_terminal, register_content}, Sound.is_sound};
 ghost use Rattle.office_admission.specs.Setups.{setup_content};

@@ -1,8 +1,13 @@
 use Rattle.std.{specs.{Prelude.remove, Option.unwrap_or}, proofs.Common.{◌≡◌, None, Some, option_map, refl, sym, ap, subst, ◌∙◌}}
 use Rattle.office_closing.specs.Register.{register_content}
 use Rattle.office_archives.specs.Shelves.{IsOpenAt, IsOpenIfKnown, IsSealedIfSaid, index_at, left_open, with_room}
-use Rattle.office_archives.proofs.Rising.{all_at, at_place, leaves_open, one_at}
+use Rattle.office_archives.proofs.Rising.{all_at, at_place, leaves_open, one_at, within}
 use Rattle.office_archives.proofs.many_archives.ManyArchives.take_out.Goals as goal
+
+pub remove-requires : goal.remove-requires
+remove-requires g c =
+    let place = c.args.place in
+    within g.S.Store place c.args.self.now.opened.items c.in-Some.index (ap (index_at place) (sym c.deref.ensures.value) ∙ sym c.index_at.ensures ∙ c.in-Some.is)
 
 -- the one that is open
 pub returns-in-Some : goal.returns-in-Some
