@@ -64,9 +64,9 @@ range_more a zero = ap (λ k. k ∷ []) (plus_none a)
   where
     plus_none : (k : ℕ) → k ≡ k + 0
     plus_none k = omega arith
-range_more a (suc n) = ap (λ l. a ∷ l) (range_more (suc a) n ∙ ap (λ k. range_with_len (suc a) n ++ k ∷ []) (moved a n))
+range_more a (suc n) = ap (λ l. a ∷ l) (range_more (a + 1) n ∙ ap (λ k. range_with_len (a + 1) n ++ k ∷ []) (moved a n))
   where
-    moved : (k m : ℕ) → suc k + m ≡ k + suc m
+    moved : (k m : ℕ) → k + 1 + m ≡ k + suc m
     moved k m = omega arith
 
 abbrev pub up_to : Numbers → ℕ → Numbers
@@ -107,7 +107,7 @@ module _ (rows : Rows) (numbers : Numbers) where
     where
       any_is : (so_far : SealingContent) (any : Option KeptContent) → add_any so_far any ≡ fold add_one so_far (option_to_list any)
       any_is so_far None = refl
-      any_is so_far (Some one) = refl
+      any_is so_far (Some kept) = refl
 
 -- ---- the numbers of one partner after the other
 
